@@ -8,10 +8,10 @@ ghost use Rattle.ccsl_edge.specs.FileSystem.{file_state, tells_nothing};
 use crate::channel::Channel;
 use crate::slot::Slot;
 use crate::world::{Failed, World};
+use std::fs;
 use std::io::{Read, Write};
 use std::marker::Model;
 use std::rt::Files;
-use std::{fs, io};
 
 /// Files of the system by name, standard input under `Input` and standard output under `Report`. Each slot has at
 /// most one open file.

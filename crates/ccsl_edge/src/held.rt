@@ -27,6 +27,7 @@ impl Model for HeldFile {
 }
 
 impl HeldFile {
+    /// A file of this name with these bytes. It takes no memory.
     pub fn new(name: String, bytes: Vec<u8>) -> HeldFile
         ensures { result ≡ (string_bytes name, bytes.items) }
     {
