@@ -1,5 +1,5 @@
 -- One more letter at the front of a text.
-use Rattle.std.proofs.Common.{◌≡◌, ℕ, ◌+◌, ◌<◌, List, [], ◌∷◌, ◌++◌, length, get_or, take, drop, Bool, refl, sym, ap, ap₂, ◌∙◌}
+use Rattle.std.proofs.Common.{◌≡◌, ℕ, ◌+◌, ◌<◌, List, [], ◌∷◌, ◌++◌, length, get_or, take, drop, Bool, sym, ap, ap₂, ◌∙◌}
 use Rattle.std.proofs.lemmas.List.{take-append-drop, take_more, length_push, map_push}
 use Rattle.ccsl_words.specs.Spelling.{digit, digits}
 use Rattle.ccsl_words.specs.Front.{BeginsWith, HasLetters}

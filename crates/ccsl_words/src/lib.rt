@@ -8,3 +8,6 @@ pub mod word;
 
 pub use fault::WordFault;
 pub use word::Word;
+
+#[cfg(test)]
+mod tests;

@@ -65,13 +65,13 @@ impl Word {
     {
         let period = letters_at_front(alloc, inside, MAX_LETTERS - prefix.len())?;
         let end = prefix.len() + 1 + period.len();
-        let Some(behind) = inside[period.len()..].strip_prefix(b")") else {
+        let Some(after) = inside[period.len()..].strip_prefix(b")") else {
             return Err(WordFault::BadLetter(end));
         };
         if period.is_empty() {
             return Err(WordFault::Empty);
         }
-        if !behind.is_empty() {
+        if !after.is_empty() {
             return Err(WordFault::BadLetter(end + 1));
         }
         Ok(Word {
@@ -88,7 +88,7 @@ impl Word {
         let period = self.period.members();
         if k < prefix.len() as u64 {
             prefix[k as usize]
-        } else if period.is_empty() {
+        } else if self.is_finite() {
             false
         } else {
             let turn = (k - prefix.len() as u64) % period.len() as u64;

@@ -1,4 +1,4 @@
-use Rattle.std.proofs.Common.{◌≡◌, ℕ, ◌+◌, get_or, sym, ap, ◌∙◌, subst}
+use Rattle.std.proofs.Common.{◌≡◌, ℕ, ◌+◌, get_or, ap, subst}
 use Rattle.ccsl_words.specs.Spelling.{digit}
 use Rattle.ccsl_words.specs.Front.{HasLetters}
 use Rattle.ccsl_words.proofs.OneMore.{one_more}

@@ -1,5 +1,5 @@
-use Rattle.std.proofs.Common.{◌≡◌, ℕ, ◌+◌, ◌-◌, ◌<◌, ◌≤◌, ◌++◌, ◌∷◌, List, [], length, drop, sym, ap, subst, ◌∙◌, arith, vec_len}
-use Rattle.std.specs.Prelude.{IfOk, IfErr, ◌≢◌, Ok, Err}
+use Rattle.std.proofs.Common.{◌≡◌, ℕ, ◌++◌, ◌∷◌, List, sym, subst, arith, vec_len}
+use Rattle.std.specs.Prelude.{IfOk, IfErr, ◌≢◌, Err}
 use Rattle.std.proofs.lemmas.Result.{err_from_is_err_and}
 use Rattle.ccsl_words.specs.declared.fault.WordFault.TheVariants as fault
 use Rattle.ccsl_words.specs.Spelling.{Reads, digits}

@@ -1,4 +1,4 @@
-use Rattle.std.proofs.Common.{◌≡◌, ℕ, ◌+◌, ◌-◌, ◌<◌, ◌≤◌, length, drop, sym, ap, ◌∙◌, arith, vec_len}
+use Rattle.std.proofs.Common.{◌-◌, length, ap, arith, vec_len}
 use Rattle.std.proofs.lemmas.Result.{err_from_is_err_and}
 use Rattle.ccsl_words.proofs.Stripped.{not_closed, closed_empty, closed_early, period_long, none_long, some_long}
 use Rattle.ccsl_words.proofs.word.Word.with_period.Goals as goal
@@ -24,4 +24,4 @@ pub returns-then-not-is_empty-clause-fault : goal.returns-then-not-is_empty-clau
 returns-then-not-is_empty-clause-fault c =
     λ _. closed_early c.args.prefix.items c.args.inside.now c.in_ok-period.period.items c.len-4.result c.in_ok-period.ensures.letters (omega arith)
     (omega (arith, c.in_ok-period.ensures.few, c.requires)) c.in-Some.ensures.cases.0 (omega (arith, some_long (vec_len c.in_ok-period.period) c.is_empty.result c.is_empty.ensures c.if-is_empty.false))
-    (omega (arith, some_long (length c.in-Some.behind.now) c.is_empty-2.result c.is_empty-2.ensures c.if-not-is_empty.true, ap length c.in-Some.ensures.cases.1)) _ (omega arith)
+    (omega (arith, some_long (length c.in-Some.after.now) c.is_empty-2.result c.is_empty-2.ensures c.if-not-is_empty.true, ap length c.in-Some.ensures.cases.1)) _ (omega arith)
