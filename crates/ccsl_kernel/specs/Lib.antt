@@ -10,3 +10,4 @@ pub mod Runs
 pub mod Guarded
 pub mod Scope
 pub mod Rows
+pub mod Laws

@@ -5,6 +5,7 @@ pub mod actual;
 pub mod constraint;
 pub mod expr;
 pub mod group;
+pub mod laws;
 
 pub use actual::Actual;
 pub use constraint::Constraint;
