@@ -11,3 +11,6 @@ pub mod Guarded
 pub mod Scope
 pub mod Rows
 pub mod Laws
+pub mod Coded
+pub mod Cells
+pub mod Accepted

@@ -6,6 +6,8 @@ pub mod constraint;
 pub mod expr;
 pub mod group;
 pub mod laws;
+pub mod parts;
+pub mod system;
 
 pub use actual::Actual;
 pub use constraint::Constraint;
@@ -22,3 +24,5 @@ pub use expr::WordPlace;
 pub use group::Body;
 pub use group::Group;
 pub use group::ParamKind;
+pub use parts::Parts;
+pub use system::System;
