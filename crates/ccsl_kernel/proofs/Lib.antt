@@ -7,3 +7,5 @@ pub mod Words
 pub mod Quiet
 pub mod Silent
 pub mod Scope
+pub mod Sets
+pub mod Completion
