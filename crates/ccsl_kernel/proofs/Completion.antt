@@ -1,6 +1,7 @@
 -- The completion of declared ticks obeys the definitions, has those declared ticks, and is the only such list.
 use Rattle.std.proofs.Common.{⊎_elim, ◌≡◌, ℕ, zero, suc, ◌+◌, ◌-◌, ◌<◌, ◌≤◌, List, [], ◌∷◌, ◌++◌, length, map, filter, drop, Bool, true, false, ◌||◌, ◌&&◌, Some, None, slice_get, nat_eq, nat_lt, eq-eqb, lt-ltb, refl, sym, ap, ap₂, ◌∙◌, subst, arith, append-nil, append_assoc, length-append, if◌then◌else◌}
 use Rattle.std.specs.List.{list_all}
+use Rattle.std.proofs.lemmas.List.Folds.{list_all-append}
 use Rattle.std.proofs.lemmas.Bool.{cases_lt, ne_eqb, and_parts, and_from}
 use Rattle.std.proofs.Math.ListN.{get_or-append}
 use Rattle.std.proofs.Math.Seq.{get_or-append_seam}
@@ -234,3 +235,15 @@ module _ (K : System) where
   pub length-completed : (R T : List Step) → length (completed_after K T R) ≡ length T + length R
   length-completed [] T = omega arith
   length-completed (s ∷ R) T = let e = length-completed R (T ++ full_step K T s ∷ []) in omega (arith, e, length-append T (full_step K T s ∷ []))
+
+  completed_named : (R T : List Step) → list_all (is_declared K) R ≡ true → list_all (is_named K) T ≡ true → list_all (is_named K) (completed_after K T R) ≡ true
+  completed_named [] T h t = t
+  completed_named (s ∷ R) T h t =
+      let w = and_parts (is_declared K s) (list_all (is_declared K) R) h in
+      let f = full_named T s w.0 in
+      completed_named R (T ++ full_step K T s ∷ []) w.1
+      (list_all-append (is_named K) T (full_step K T s ∷ [])
+      ∙ ap₂ (λ a b. a && b) t (and_from (is_named K (full_step K T s)) true f refl))
+
+  pub completion_named : (R : List Step) → list_all (is_declared K) R ≡ true → list_all (is_named K) (completed K R) ≡ true
+  completion_named R h = completed_named R [] h refl

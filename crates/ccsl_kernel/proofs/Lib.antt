@@ -9,3 +9,4 @@ pub mod Silent
 pub mod Scope
 pub mod Sets
 pub mod Completion
+pub mod Empty
