@@ -10,3 +10,4 @@ pub mod Scope
 pub mod Sets
 pub mod Completion
 pub mod Empty
+pub mod Examples
