@@ -11,3 +11,4 @@ pub mod Sets
 pub mod Completion
 pub mod Empty
 pub mod Examples
+pub mod Follows

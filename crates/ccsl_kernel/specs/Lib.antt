@@ -15,3 +15,4 @@ pub mod Coded
 pub mod Cells
 pub mod Accepted
 pub mod Verdict
+pub mod Course
