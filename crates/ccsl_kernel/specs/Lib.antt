@@ -16,3 +16,4 @@ pub mod Cells
 pub mod Accepted
 pub mod Verdict
 pub mod Course
+pub mod AcceptedPlaces

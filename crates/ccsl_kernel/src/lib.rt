@@ -1,6 +1,7 @@
 //! Systems, and what their expressions mean over the whole history.
 #![tactic(auto)]
 
+mod accepted;
 pub mod actual;
 pub mod constraint;
 pub mod expr;

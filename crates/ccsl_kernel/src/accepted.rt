@@ -1,0 +1,5 @@
+//! Which parts make a system.
+
+mod calls;
+mod depth;
+mod known;
