@@ -12,3 +12,7 @@ pub mod Completion
 pub mod Empty
 pub mod Examples
 pub mod Follows
+pub mod Greatest
+pub mod GroupLevels
+pub mod CellCounts
+pub mod EachOne

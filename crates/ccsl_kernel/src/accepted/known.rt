@@ -121,13 +121,15 @@ fn are_arguments(here: &Nameable<'_>, params: &[ParamKind], arguments: &[Value])
         IsTrue result ↔ AreArguments groups here.now.words.now here.now.clocks here.now.params.now params.now arguments.now
     }
 {
-    match (params.split_first(), arguments.split_first()) {
-        (None, None) => true,
-        (Some((kind, params)), Some((argument, arguments))) => {
-            is_argument(here, *kind, argument) && are_arguments(here, params, arguments)
-        }
-        _ => false,
+    if params.len() != arguments.len() {
+        return false;
     }
+    for (i, kind) in params.iter().enumerate() {
+        if !is_argument(here, *kind, &arguments[i]) {
+            return false;
+        }
+    }
+    true
 }
 
 /// The member of a group.
