@@ -16,3 +16,4 @@ pub mod Greatest
 pub mod GroupLevels
 pub mod CellCounts
 pub mod EachOne
+pub mod Arguments
