@@ -21,3 +21,10 @@ no-fits false h = refl
 
 pub no_false : (f : Formula) (p : Part) (v : Assignment) → Agrees v p → kleene f p ≡ No → truth f v ≡ false
 no_false f p v a e = let h : Fits (kleene f p) (truth f v) = kleene_fits f p v a in no-fits (truth f v) (rw e at h)
+
+yes-fits : (x : Bool) → Fits Yes x → x ≡ true
+yes-fits true h = refl
+yes-fits false h = ⊎_elim (λ e. absurd (cc)) (λ e. absurd (cc)) h
+
+pub yes_true : (f : Formula) (p : Part) (v : Assignment) → Agrees v p → kleene f p ≡ Yes → truth f v ≡ true
+yes_true f p v a e = let h : Fits (kleene f p) (truth f v) = kleene_fits f p v a in yes-fits (truth f v) (rw e at h)

@@ -7,6 +7,7 @@ pub mod laws;
 pub mod partial;
 pub mod scope;
 pub mod truth3;
+mod word;
 
 pub use formula::Formula;
 pub use partial::Partial;
