@@ -1,5 +1,5 @@
 -- What the connectives of operands that are no constants have in common.
-use Rattle.std.proofs.Common.{◌≡◌, Bool, true, false, not, ◌&&◌, ◌||◌, refl, ap, ◌∙◌}
+use Rattle.std.proofs.Common.{◌≡◌, Bool, true, false, not, ◌&&◌, refl, ◌∙◌}
 use Rattle.ccsl_formula.specs.declared.formula.Formula.{Formula as Boxed, Not', And', Or', Iff'}
 use Rattle.ccsl_formula.specs.declared.formula.Formula.TheVariants.{True, False, Var}
 use Rattle.ccsl_formula.specs.declared.truth3.Truth3.{Truth3}

@@ -1,6 +1,5 @@
 -- What a formula says depends on its variables alone.
 use Rattle.std.proofs.Common.{◌≡◌, ℕ, Bool, true, false, not, ◌&&◌, ◌||◌, refl, ap, ap₂, ◌∙◌}
-use Rattle.ccsl_formula.specs.declared.truth3.Truth3.{Truth3}
 use Rattle.ccsl_formula.specs.Truth.{known_as, not3, and3, or3, iff3, Part, Assignment}
 use Rattle.ccsl_formula.specs.Formula.{Formula, FTrue, FFalse, FVar, FNot, FAnd, FOr, FIff, truth, kleene, reads, same}
 use Rattle.std.proofs.lemmas.Bool.{eq-eqb}

@@ -45,29 +45,18 @@ impl Formula {
             Formula::True => Truth3::Yes,
             Formula::False => Truth3::No,
             Formula::Var(x) => part.value(*x),
-            Formula::Not(f) => f.kleene(part).negated(),
+            Formula::Not(f) => f.kleene(part).not(),
             Formula::And(f, g) => match f.kleene(part) {
-                Truth3::Yes => g.kleene(part),
                 Truth3::No => Truth3::No,
-                Truth3::Open => match g.kleene(part) {
-                    Truth3::No => Truth3::No,
-                    Truth3::Yes => Truth3::Open,
-                    Truth3::Open => Truth3::Open,
-                },
+                left => left.and(g.kleene(part)),
             },
             Formula::Or(f, g) => match f.kleene(part) {
                 Truth3::Yes => Truth3::Yes,
-                Truth3::No => g.kleene(part),
-                Truth3::Open => match g.kleene(part) {
-                    Truth3::Yes => Truth3::Yes,
-                    Truth3::No => Truth3::Open,
-                    Truth3::Open => Truth3::Open,
-                },
+                left => left.or(g.kleene(part)),
             },
             Formula::Iff(f, g) => match f.kleene(part) {
-                Truth3::Yes => g.kleene(part),
-                Truth3::No => g.kleene(part).negated(),
                 Truth3::Open => Truth3::Open,
+                left => left.iff(g.kleene(part)),
             },
         }
     }

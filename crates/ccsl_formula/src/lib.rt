@@ -13,3 +13,6 @@ pub use formula::Formula;
 pub use partial::Partial;
 pub use scope::Scope;
 pub use truth3::Truth3;
+
+#[cfg(test)]
+mod tests;

@@ -1,4 +1,4 @@
-use Rattle.std.proofs.Common.{◌≡◌, ap, sym, ◌∙◌, arith, cond}
+use Rattle.std.proofs.Common.{ap, sym, ◌∙◌, arith, cond}
 use Rattle.ccsl_base.specs.Bits.{is_set}
 use Rattle.ccsl_formula.specs.declared.truth3.Truth3.TheVariants.{Open}
 use Rattle.ccsl_formula.specs.Truth.{known_as}

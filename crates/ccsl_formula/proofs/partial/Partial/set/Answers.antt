@@ -1,4 +1,4 @@
-use Rattle.std.proofs.Common.{◌≡◌, ap, ap₂, sym, ◌∙◌, arith, cond}
+use Rattle.std.proofs.Common.{ap, ap₂, ◌∙◌, cond}
 use Rattle.ccsl_formula.specs.declared.truth3.Truth3.TheVariants.{Open}
 use Rattle.ccsl_formula.specs.Truth.{known_as}
 use Rattle.ccsl_formula.specs.Known.{known, with_value}

@@ -1,4 +1,4 @@
-use Rattle.std.proofs.Common.{◌≡◌, ap, sym, ◌∙◌}
+use Rattle.std.proofs.Common.{ap, sym, ◌∙◌}
 use Rattle.ccsl_formula.specs.Known.{known, with_truth}
 use Rattle.ccsl_formula.proofs.partial.Partial.take.Goals as goal
 

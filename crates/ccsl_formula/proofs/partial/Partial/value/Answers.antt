@@ -1,4 +1,4 @@
-use Rattle.std.proofs.Common.{◌≡◌, ap, sym, ◌∙◌, arith, cond, Bool}
+use Rattle.std.proofs.Common.{ap, sym, ◌∙◌, cond}
 use Rattle.ccsl_base.specs.Bits.{is_set}
 use Rattle.ccsl_base.specs.Clocks.{is_ascending, are_below}
 use Rattle.ccsl_formula.specs.declared.truth3.Truth3.TheVariants.{Open}
