@@ -7,6 +7,8 @@ pub mod memory;
 pub mod names;
 pub mod rows;
 pub mod seq;
+#[cfg(test)]
+mod tests;
 pub mod text;
 
 pub use clock_set::ClockSet;
