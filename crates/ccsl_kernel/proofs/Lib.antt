@@ -12,3 +12,4 @@ pub mod Completion
 pub mod Empty
 pub mod Examples
 pub mod Follows
+pub mod Fits

@@ -14,5 +14,6 @@ pub mod Laws
 pub mod Coded
 pub mod Cells
 pub mod Accepted
+pub mod Fit
 pub mod Verdict
 pub mod Course

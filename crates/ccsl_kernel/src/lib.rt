@@ -9,7 +9,7 @@ pub mod laws;
 pub mod parts;
 pub mod system;
 
-pub use actual::Actual;
+pub use actual::{Actual, Spot};
 pub use constraint::Constraint;
 pub use constraint::RelationKind;
 pub use expr::Expr;
