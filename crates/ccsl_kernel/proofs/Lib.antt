@@ -13,3 +13,4 @@ pub mod Empty
 pub mod Examples
 pub mod Follows
 pub mod Fits
+pub mod TickWords

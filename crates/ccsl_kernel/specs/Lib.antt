@@ -17,3 +17,4 @@ pub mod Accepted
 pub mod Fit
 pub mod Verdict
 pub mod Course
+pub mod Since

@@ -8,6 +8,7 @@ pub mod group;
 pub mod laws;
 pub mod parts;
 pub mod system;
+pub mod ticks;
 
 pub use actual::{Actual, Spot};
 pub use constraint::Constraint;
