@@ -18,3 +18,4 @@ pub mod Fit
 pub mod Verdict
 pub mod Course
 pub mod Since
+pub mod Asked

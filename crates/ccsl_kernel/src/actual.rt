@@ -3,8 +3,8 @@
 //! The actual parameter number `i` stands at place `i` of a slice. One that is missing, or is of another kind, reads as the number
 //! 0 and as an empty word; in accepted systems there is none such.
 
-ghost use Rattle.std.specs.Prelude.{◌≡◌, ◌+◌, ◌<◌, ◌^◌, ◌&&◌, length, nat_le, slice_get};
-ghost use Rattle.ccsl_words.specs.Word.{letter, is_finite};
+ghost use Rattle.std.specs.Prelude.{◌≡◌, ◌&&◌, length, nat_le, slice_get};
+ghost use Rattle.ccsl_words.specs.Word.{letter, is_finite, has_ended};
 ghost use Rattle.ccsl_kernel.specs.Actuals.{place_of, prim_of, number_of, spot_of, spot_in, word_of, tail_of, value_of, test_of};
 ghost use Rattle.ccsl_kernel.specs.Fit.{PlaceFits, SpotFits, ActualFits, ActualsFit, TestFits, ValueFits};
 
@@ -84,28 +84,34 @@ fn param_spot(actuals: &[Actual], i: u32) -> Spot
     }
 }
 
-impl Spot {
-    /// The letter at so many places behind the spot.
-    pub fn letter(&self, words: &[Word], behind: u64) -> bool
-        requires fits { SpotFits words.now self.now }
-        requires few { behind < 2 ^ 63 }
-        ensures { result ≡ letter (word_of words.now self.now.word) (self.now.offset + behind) }
-    {
-        match words.get(self.word as usize) {
-            Some(word) => word.letter(self.offset.min(word.len()) + behind),
-            None => false,
-        }
+/// The letter number `k` of a word of the table.
+pub fn letter_at(words: &[Word], word: u32, k: u64) -> bool
+    ensures { result ≡ letter (word_of words.now word) k }
+{
+    match words.get(word as usize) {
+        Some(word) => word.letter(k),
+        None => false,
     }
+}
 
-    /// Whether the word is finite and has no letter at so many places behind the spot.
-    pub fn is_past_end(&self, words: &[Word], behind: u64) -> bool
-        requires fits { SpotFits words.now self.now }
-        requires few { behind < 2 ^ 63 }
-        ensures { result ≡ (is_finite (word_of words.now self.now.word) && nat_le (length (word_of words.now self.now.word).prefix) (self.now.offset + behind)) }
+/// Whether a word of the table is finite and has no letter number `k`.
+pub fn is_past_end(words: &[Word], word: u32, k: u64) -> bool
+    ensures { result ≡ (is_finite (word_of words.now word) && nat_le (length (word_of words.now word).prefix) k) }
+{
+    match words.get(word as usize) {
+        Some(word) => word.is_finite() && word.len() <= k,
+        None => true,
+    }
+}
+
+impl Spot {
+    /// Whether the offset is the end of a finite word.
+    pub fn has_ended(&self, words: &[Word]) -> bool
+        ensures { result ≡ has_ended (word_of words.now self.now.word) self.now.offset }
     {
         match words.get(self.word as usize) {
-            Some(word) => word.is_finite() && word.len() <= self.offset.min(word.len()) + behind,
-            None => true,
+            Some(word) => word.is_finite() && self.offset == word.len(),
+            None => self.offset == 0,
         }
     }
 
@@ -171,8 +177,11 @@ impl ExprTest {
         match self {
             ExprTest::Equal(t, u) => t.number(actuals) == u.number(actuals),
             ExprTest::Less(t, u) => t.number(actuals) < u.number(actuals),
-            ExprTest::Head(place) => place.spot(words, actuals).letter(words, 0),
-            ExprTest::Ended(place) => place.spot(words, actuals).is_past_end(words, 0),
+            ExprTest::Head(place) => {
+                let spot = place.spot(words, actuals);
+                letter_at(words, spot.word, spot.offset)
+            }
+            ExprTest::Ended(place) => place.spot(words, actuals).has_ended(words),
         }
     }
 }

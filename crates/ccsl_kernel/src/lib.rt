@@ -7,6 +7,7 @@ pub mod expr;
 pub mod group;
 pub mod laws;
 pub mod parts;
+pub mod row;
 pub mod system;
 pub mod ticks;
 
