@@ -14,3 +14,4 @@ pub mod Examples
 pub mod Follows
 pub mod Fits
 pub mod TickWords
+pub mod AcceptedParts

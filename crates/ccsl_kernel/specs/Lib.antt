@@ -19,3 +19,4 @@ pub mod Verdict
 pub mod Course
 pub mod Since
 pub mod Asked
+pub mod Deep
