@@ -3,6 +3,8 @@
 
 pub mod actual;
 pub mod constraint;
+pub mod course;
+pub mod deaths;
 pub mod expr;
 pub mod group;
 pub mod laws;
