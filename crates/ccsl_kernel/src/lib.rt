@@ -8,6 +8,7 @@ pub mod deaths;
 pub mod expr;
 pub mod group;
 pub mod laws;
+pub mod opening;
 pub mod parts;
 pub mod row;
 pub mod system;
