@@ -2,6 +2,7 @@
 #![tactic(auto)]
 
 pub mod actual;
+pub mod advance;
 pub mod constraint;
 pub mod course;
 pub mod deaths;
