@@ -17,3 +17,7 @@ pub mod GroupLevels
 pub mod CellCounts
 pub mod EachOne
 pub mod Arguments
+pub mod Fits
+pub mod TickWords
+pub mod AcceptedParts
+pub mod OpenCalls

@@ -14,6 +14,11 @@ pub mod Laws
 pub mod Coded
 pub mod Cells
 pub mod Accepted
+pub mod Fit
 pub mod Verdict
 pub mod Course
 pub mod AcceptedPlaces
+pub mod Since
+pub mod Asked
+pub mod Deep
+pub mod Held

@@ -3,14 +3,20 @@
 
 mod accepted;
 pub mod actual;
+pub mod advance;
 pub mod constraint;
+pub mod course;
+pub mod deaths;
 pub mod expr;
 pub mod group;
 pub mod laws;
+pub mod opening;
 pub mod parts;
+pub mod row;
 pub mod system;
+pub mod ticks;
 
-pub use actual::Actual;
+pub use actual::{Actual, Spot};
 pub use constraint::Constraint;
 pub use constraint::RelationKind;
 pub use expr::Expr;
