@@ -22,3 +22,4 @@ pub mod Since
 pub mod Asked
 pub mod Deep
 pub mod Held
+pub mod AcceptedCounts
