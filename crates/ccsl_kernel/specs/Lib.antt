@@ -22,4 +22,4 @@ pub mod Since
 pub mod Asked
 pub mod Deep
 pub mod Held
-pub mod AcceptedCounts
+pub mod AcceptedPieces

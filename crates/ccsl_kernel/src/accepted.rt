@@ -3,7 +3,7 @@
 ghost use Rattle.std.specs.Prelude.{◌≡◌, ◌+◌, ◌^◌, ◌<◌, ◌≤◌, ◌↔◌, IsTrue, IfOk, All, map, length};
 ghost use Rattle.ccsl_kernel.specs.Plain.{plain_expr, plain_body, plain_group, plain_system};
 ghost use Rattle.ccsl_kernel.specs.Accepted.{Each, IsBody, IsDefinition, IsAccepted};
-ghost use Rattle.ccsl_kernel.specs.AcceptedCounts.{IsCounted};
+ghost use Rattle.ccsl_kernel.specs.AcceptedPieces.{IsCounted, IsWellFormed};
 
 use std::alloc::Global;
 
@@ -126,19 +126,33 @@ fn are_constraints(constraints: &[Constraint], clocks: u32) -> bool
     constraints.iter().all(|c| c.left < clocks && c.right < clocks)
 }
 
+/// Whether the parts are as they have to be, but for the levels of groups and the count of cells.
+fn are_well_formed(parts: &Parts) -> bool
+    ensures { IsTrue result ↔ IsWellFormed (plain_system parts.now) }
+{
+    if !are_counted(parts) {
+        return false;
+    }
+    if !are_named(&parts.names, parts.written) {
+        return false;
+    }
+    if !are_bodies(parts, parts.groups.members()) {
+        return false;
+    }
+    if !are_definitions(parts, parts.declared, parts.definitions.members()) {
+        return false;
+    }
+    are_constraints(parts.constraints.members(), parts.names.len())
+}
+
 impl Parts {
     /// Whether the parts make a system.
     pub fn accepted(&self, alloc: Global) -> Result<bool, Memory>
         ensures { IfOk result (λ accepted. IsTrue accepted ↔ IsAccepted (plain_system self.now)) }
     {
-        let fits = are_counted(self)
-            && are_named(&self.names, self.written)
-            && are_bodies(self, self.groups.members())
-            && are_definitions(self, self.declared, self.definitions.members())
-            && are_constraints(self.constraints.members(), self.names.len());
-        if !fits {
+        if !are_well_formed(self) || !are_low(alloc, self.groups.members())? {
             return Ok(false);
         }
-        Ok(are_low(alloc, self.groups.members())? && cells(alloc, self)? <= MAX_CELLS)
+        Ok(cells(alloc, self)? <= MAX_CELLS)
     }
 }
