@@ -10,7 +10,7 @@ use std::alloc::Global;
 use ccsl_base::{MAX_CLOCKS, Memory};
 
 use crate::accepted::calls::{TailPlace, is_allowed};
-use crate::accepted::cells::{MAX_CELLS, cells};
+use crate::accepted::cells::MAX_CELLS;
 use crate::accepted::depth::is_shallow;
 use crate::accepted::known::{Nameable, is_known};
 use crate::accepted::levels::are_low;
@@ -26,6 +26,8 @@ mod depth;
 mod known;
 mod levels;
 mod names;
+#[cfg(test)]
+mod tests;
 
 /// The most constraints of a system.
 const MAX_CONSTRAINTS: usize = 4096;
@@ -153,6 +155,6 @@ impl Parts {
         if !are_well_formed(self) || !are_low(alloc, self.groups.members())? {
             return Ok(false);
         }
-        Ok(cells(alloc, self)? <= MAX_CELLS)
+        Ok(self.cells(alloc)? <= MAX_CELLS)
     }
 }

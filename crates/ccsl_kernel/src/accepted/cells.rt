@@ -111,12 +111,14 @@ fn definitions_cells(definitions: &[Expr], earlier: &[u32]) -> u32
     total
 }
 
-/// The cells of the states of a system of these parts.
-pub fn cells(alloc: Global, parts: &Parts) -> Result<u32, Memory>
-    ensures { IfOk result (λ n. n ≡ min 32769 (cells (plain_system parts.now))) }
-{
-    let earlier = groups_cells(alloc, parts.groups.members())?;
-    let definitions = definitions_cells(parts.definitions.members(), earlier.as_slice());
-    let constraints = capped(parts.constraints.members().len() as u64);
-    Ok(capped(u64::from(definitions) + 2 * u64::from(constraints)))
+impl Parts {
+    /// The cells of the states of a system of these parts, or 32,769 where there are more.
+    pub fn cells(&self, alloc: Global) -> Result<u32, Memory>
+        ensures { IfOk result (λ n. n ≡ min 32769 (cells (plain_system self.now))) }
+    {
+        let earlier = groups_cells(alloc, self.groups.members())?;
+        let definitions = definitions_cells(self.definitions.members(), earlier.as_slice());
+        let constraints = capped(self.constraints.members().len() as u64);
+        Ok(capped(u64::from(definitions) + 2 * u64::from(constraints)))
+    }
 }

@@ -5,11 +5,11 @@ use Rattle.ccsl_kernel.specs.declared.group.Group.{Group}
 use Rattle.ccsl_kernel.specs.Plain.{plain_expr, plain_group}
 use Rattle.ccsl_kernel.specs.Cells.{cells_in, groups_cells}
 use Rattle.ccsl_kernel.proofs.CellCounts.{cap, capped_all}
-use Rattle.ccsl_kernel.proofs.accepted.cells.cells.Goals as goal
+use Rattle.ccsl_kernel.proofs.parts.Parts.cells.Goals as goal
 
 pub returns : goal.returns
 returns c =
-    let parts = c.args.parts.now in
+    let parts = c.args.self.now in
     let groups = groups_cells [] (map plain_group parts.groups) in
     let expressions = map plain_expr parts.definitions in
     let earlier : c.as_slice.result.now ≡ map cap groups =
