@@ -11,9 +11,10 @@ each_at {A} P i (x ∷ xs) (suc k) d l h = subst (λ (n : ℕ). P n (get_or xs k
 
 pub each_from : {A : Type 0} (P : ℕ → A → Type 0) (i : ℕ) (xs : List A) → ((k : ℕ) (d : A) → k < length xs → P (i + k) (get_or xs k d)) → Each P i xs
 each_from P i [] h = tt
-each_from {A} P i (x ∷ xs) h =
-    (subst (λ (n : ℕ). P n x) (let s : i + 0 ≡ i = omega arith in s) (h 0 x (omega arith)),
-    each_from P (suc i) xs (λ k d l. subst (λ (n : ℕ). P n (get_or xs k d)) (let s : i + suc k ≡ suc i + k = omega arith in s) (h (suc k) d (let s : suc k < suc (length xs) = omega (arith, l) in s))))
+each_from {A} P i (x ∷ xs) h = (
+  subst (λ (n : ℕ). P n x) (let s : i + 0 ≡ i = omega arith in s) (h 0 x (omega arith)),
+  each_from P (suc i) xs (λ k d l. subst (λ (n : ℕ). P n (get_or xs k d)) (let s : i + suc k ≡ suc i + k = omega arith in s) (h (suc k) d (let s : suc k < suc (length xs) = omega (arith, l) in s))),
+)
 
 -- the same from 0 on
 pub each_zero_at : {A : Type 0} (P : ℕ → A → Type 0) (xs : List A) (k : ℕ) (d : A) → k < length xs → Each P 0 xs → P k (get_or xs k d)
@@ -36,10 +37,11 @@ each_made_at P f i (x ∷ xs) (suc k) d l h =
 
 pub each_made_from : {A B : Type 0} (P : ℕ → B → Type 0) (f : A → B) (i : ℕ) (xs : List A) → ((k : ℕ) (d : A) → k < length xs → P (i + k) (f (get_or xs k d))) → Each P i (map f xs)
 each_made_from P f i [] h = tt
-each_made_from {A} P f i (x ∷ xs) h =
-    (subst (λ (n : ℕ). P n (f x)) (let s : i + 0 ≡ i = omega arith in s) (h 0 x (omega arith)),
-    each_made_from P f (suc i) xs
-    (λ k d l. subst (λ (n : ℕ). P n (f (get_or xs k d))) (let s : i + suc k ≡ suc i + k = omega arith in s) (h (suc k) d (let s : suc k < suc (length xs) = omega (arith, l) in s))))
+each_made_from {A} P f i (x ∷ xs) h = (
+  subst (λ (n : ℕ). P n (f x)) (let s : i + 0 ≡ i = omega arith in s) (h 0 x (omega arith)),
+  each_made_from P f (suc i) xs
+      (λ k d l. subst (λ (n : ℕ). P n (f (get_or xs k d))) (let s : i + suc k ≡ suc i + k = omega arith in s) (h (suc k) d (let s : suc k < suc (length xs) = omega (arith, l) in s))),
+)
 
 pub all_made_at : {A B : Type 0} (P : B → Type 0) (f : A → B) (xs : List A) → All P (map f xs) → All (λ x. P (f x)) xs
 all_made_at P f xs all = λ k d l. subst P (get_or-map f xs k d (f d) l) (all k (f d) (let s : k < length (map f xs) = omega (arith, l, length-map xs f) in s))

@@ -25,7 +25,7 @@ pub level_stays : (P : ℕ → Type 0) (levels : List ℕ) (n : ℕ) (groups : L
 level_stays P levels n groups all =
     let r = levels_added (levels ++ n ∷ []) groups in
     let within : length levels < length (group_levels (levels ++ n ∷ []) groups) =
-      omega (arith, ap length r.1, length-append (levels ++ n ∷ []) r.0, length_push levels n) in
+    omega (arith, ap length r.1, length-append (levels ++ n ∷ []) r.0, length_push levels n) in
     subst P
     (ap (λ (xs : List ℕ). get_or xs (length levels) 0) r.1
     ∙ get_or_append_left (levels ++ n ∷ []) r.0 0 (length levels) (omega (arith, length_push levels n))

@@ -5,10 +5,6 @@ ghost use Rattle.ccsl_kernel.specs.Plain.{plain_expr, plain_body, plain_group, p
 ghost use Rattle.ccsl_kernel.specs.Accepted.{Each, IsBody, IsDefinition, IsAccepted};
 ghost use Rattle.ccsl_kernel.specs.AcceptedPieces.{IsCounted, IsWellFormed};
 
-use std::alloc::Global;
-
-use ccsl_base::{MAX_CLOCKS, Memory};
-
 use crate::accepted::calls::{TailPlace, is_allowed};
 use crate::accepted::cells::MAX_CELLS;
 use crate::accepted::depth::is_shallow;
@@ -19,6 +15,8 @@ use crate::constraint::Constraint;
 use crate::expr::Expr;
 use crate::group::{Body, Group};
 use crate::parts::Parts;
+use ccsl_base::{MAX_CLOCKS, Memory};
+use std::alloc::Global;
 
 mod calls;
 mod cells;
@@ -69,18 +67,14 @@ fn is_body(parts: &Parts, group: usize, body: &Body) -> bool
 
 /// Whether each member of group number `group` is as it has to be.
 fn are_members(parts: &Parts, group: usize, members: &[Body]) -> bool
-    ensures {
-        IsTrue result ↔ All (λ body. IsBody (plain_system parts.now) group (plain_body body)) members.now
-    }
+    ensures { IsTrue result ↔ All (λ body. IsBody (plain_system parts.now) group (plain_body body)) members.now }
 {
     members.iter().all(|body| is_body(parts, group, body))
 }
 
 /// Whether each member of each group is as it has to be.
 fn are_bodies(parts: &Parts, groups: &[Group]) -> bool
-    ensures {
-        IsTrue result ↔ Each (λ g members. All (IsBody (plain_system parts.now) g) members) 0 (map plain_group groups.now)
-    }
+    ensures { IsTrue result ↔ Each (λ g members. All (IsBody (plain_system parts.now) g) members) 0 (map plain_group groups.now) }
 {
     for (i, group) in groups.iter().enumerate() {
         if !are_members(parts, i, group.members.members()) {
@@ -109,9 +103,7 @@ fn is_definition(parts: &Parts, clock: u32, definition: &Expr) -> bool
 /// Whether each definition is as it has to be, the first one being that of clock number `declared`.
 fn are_definitions(parts: &Parts, declared: u32, definitions: &[Expr]) -> bool
     requires { declared + length definitions.now < 2 ^ 32 }
-    ensures {
-        IsTrue result ↔ Each (IsDefinition (plain_system parts.now)) declared (map plain_expr definitions.now)
-    }
+    ensures { IsTrue result ↔ Each (IsDefinition (plain_system parts.now)) declared (map plain_expr definitions.now) }
 {
     for (i, definition) in definitions.iter().enumerate() {
         if !is_definition(parts, declared + i as u32, definition) {
@@ -125,7 +117,9 @@ fn are_definitions(parts: &Parts, declared: u32, definitions: &[Expr]) -> bool
 fn are_constraints(constraints: &[Constraint], clocks: u32) -> bool
     ensures { IsTrue result ↔ All (λ c. (c.left < clocks) × (c.right < clocks)) constraints.now }
 {
-    constraints.iter().all(|c| c.left < clocks && c.right < clocks)
+    constraints
+        .iter()
+        .all(|c| c.left < clocks && c.right < clocks)
 }
 
 /// Whether the parts are as they have to be, but for the levels of groups and the count of cells.

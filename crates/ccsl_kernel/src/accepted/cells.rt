@@ -4,13 +4,11 @@ ghost use Rattle.std.specs.Prelude.{◌≡◌, [], map, min, length, sum, IfOk};
 ghost use Rattle.ccsl_kernel.specs.Plain.{plain_expr, plain_group, plain_body, plain_system};
 ghost use Rattle.ccsl_kernel.specs.Cells.{greatest, cells_of_two, cells_in, group_cells, groups_cells, cells};
 
-use std::alloc::Global;
-
-use ccsl_base::Memory;
-
 use crate::expr::{Expr, ExprOp};
 use crate::group::{Body, Group};
 use crate::parts::Parts;
+use ccsl_base::Memory;
+use std::alloc::Global;
 
 /// The most cells of a system.
 pub const MAX_CELLS: u32 = 32_768;
@@ -68,9 +66,7 @@ fn most_params(members: &[Body]) -> u32
 
 /// The greatest count of the bodies of a group.
 fn most_cells(members: &[Body], earlier: &[u32]) -> u32
-    ensures {
-        result ≡ min 32769 (greatest (map (λ b. cells_in earlier.now b.root) (map plain_body members.now)))
-    }
+    ensures { result ≡ min 32769 (greatest (map (λ b. cells_in earlier.now b.root) (map plain_body members.now))) }
 {
     let mut most: u32 = 0;
     for member in members {
@@ -89,9 +85,7 @@ fn group_cells(group: &Group, earlier: &[u32]) -> u32
 
 /// The cells of a call to each group.
 fn groups_cells(alloc: Global, groups: &[Group]) -> Result<Vec<u32>, Memory>
-    ensures {
-        IfOk result (λ v. v.items ≡ map (min 32769) (groups_cells [] (map plain_group groups.now)))
-    }
+    ensures { IfOk result (λ v. v.items ≡ map (min 32769) (groups_cells [] (map plain_group groups.now))) }
 {
     let mut earlier = Vec::new(alloc);
     for group in groups {

@@ -16,7 +16,10 @@ pub fn is_shallow(e: &Expr, limit: u32) -> bool
     }
     match e {
         Expr::Name(_) | Expr::Call { .. } | Expr::Never => true,
-        Expr::Delay(a, _) | Expr::Await(a, _) | Expr::Filter(a, _) => is_shallow_operand(a, limit - 1),
+        Expr::Delay(a, _) | Expr::Await(a, _) | Expr::Filter(a, _) => is_shallow_operand(
+            a,
+            limit - 1,
+        ),
         Expr::Binary(_, a, d) | Expr::Delayed(a, _, d) => {
             is_shallow_operand(a, limit - 1) && is_shallow_operand(d, limit - 1)
         }
@@ -27,9 +30,7 @@ pub fn is_shallow(e: &Expr, limit: u32) -> bool
 /// The same of an operand: a name, a call and `never` add nothing.
 #[cycle(depth)]
 fn is_shallow_operand(e: &Expr, limit: u32) -> bool
-    ensures {
-        IsTrue result ↔ (operand_depth (is_leaf (plain_expr e.now)) (depth (plain_expr e.now)) ≤ limit)
-    }
+    ensures { IsTrue result ↔ (operand_depth (is_leaf (plain_expr e.now)) (depth (plain_expr e.now)) ≤ limit) }
 {
     match e {
         Expr::Name(_) | Expr::Call { .. } | Expr::Never => true,

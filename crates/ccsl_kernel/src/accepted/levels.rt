@@ -5,12 +5,10 @@ ghost use Rattle.ccsl_kernel.specs.Plain.{plain_expr, plain_group, plain_body};
 ghost use Rattle.ccsl_kernel.specs.Cells.{greatest};
 ghost use Rattle.ccsl_kernel.specs.Accepted.{height, group_levels};
 
-use std::alloc::Global;
-
-use ccsl_base::Memory;
-
 use crate::expr::Expr;
 use crate::group::{Body, Group};
+use ccsl_base::Memory;
+use std::alloc::Global;
 
 /// The highest level of the groups that an expression calls.
 fn height(e: &Expr, levels: &[u32]) -> u32
@@ -39,9 +37,7 @@ fn members_height(members: &[Body], levels: &[u32]) -> u32
 
 /// Whether no group stands on a level above 8.
 pub fn are_low(alloc: Global, groups: &[Group]) -> Result<bool, Memory>
-    ensures {
-        IfOk result (λ low. IsTrue low ↔ All (λ n. n ≤ 8) (group_levels [] (map plain_group groups.now)))
-    }
+    ensures { IfOk result (λ low. IsTrue low ↔ All (λ n. n ≤ 8) (group_levels [] (map plain_group groups.now))) }
 {
     let mut levels = Vec::new(alloc);
     for group in groups {

@@ -19,10 +19,42 @@ fn is_reserved(word: &[u8]) -> bool
     ensures { result ≡ is_reserved word.now }
 {
     let words: [&[u8]; 36] = [
-        b"ccsl", b"relation", b"expression", b"and", b"system", b"clock", b"number", b"word", b"define",
-        b"if", b"use", b"else", b"never", b"union", b"inter", b"minus", b"inf", b"sup", b"delay", b"await",
-        b"filter", b"upto", b"sampled", b"weakly", b"on", b"delayed", b"then", b"tail", b"head", b"ended",
-        b"subclock", b"coincides", b"excludes", b"precedes", b"within", b"from",
+        b"ccsl",
+        b"relation",
+        b"expression",
+        b"and",
+        b"system",
+        b"clock",
+        b"number",
+        b"word",
+        b"define",
+        b"if",
+        b"use",
+        b"else",
+        b"never",
+        b"union",
+        b"inter",
+        b"minus",
+        b"inf",
+        b"sup",
+        b"delay",
+        b"await",
+        b"filter",
+        b"upto",
+        b"sampled",
+        b"weakly",
+        b"on",
+        b"delayed",
+        b"then",
+        b"tail",
+        b"head",
+        b"ended",
+        b"subclock",
+        b"coincides",
+        b"excludes",
+        b"precedes",
+        b"within",
+        b"from",
     ];
     is_among(word, &words)
 }
@@ -103,14 +135,16 @@ fn is_hidden(text: &[u8]) -> bool
 fn fits_clock(name: &[u8], i: u32, written: u32) -> bool
     ensures { result ≡ (if nat_lt i written then is_name name.now else is_hidden name.now) }
 {
-    if i < written { is_name(name) } else { is_hidden(name) }
+    if i < written {
+        is_name(name)
+    } else {
+        is_hidden(name)
+    }
 }
 
 /// Whether each name is one for its clock.
 pub fn are_named(names: &Names, written: u32) -> bool
-    ensures {
-        IsTrue result ↔ Each (λ i name. IsTrue (if nat_lt i written then is_name name else is_hidden name)) 0 names.now
-    }
+    ensures { IsTrue result ↔ Each (λ i name. IsTrue (if nat_lt i written then is_name name else is_hidden name)) 0 names.now }
 {
     for i in 0..names.len() {
         if !fits_clock(names.get(i), i, written) {

@@ -1,15 +1,13 @@
 //! Parts that make a system, and parts with one sentence broken.
 
-use std::alloc::Global;
-use std::test::Fail;
-
-use ccsl_base::{Names, Seq, Text};
-use ccsl_words::Word;
-
 use crate::constraint::{Constraint, RelationKind};
 use crate::expr::{Expr, ExprOp, NumPrim, NumTerm, Place, Value, WordPlace};
 use crate::group::{Body, Group, ParamKind};
 use crate::parts::Parts;
+use ccsl_base::{Names, Seq, Text};
+use ccsl_words::Word;
+use std::alloc::Global;
+use std::test::Fail;
 
 fn clock(x: u32) -> Expr {
     Expr::Name(Place::Clock(x))
@@ -68,7 +66,12 @@ fn group(alloc: Global, root: Expr) -> Result<Group, Fail> {
 /// An operator between a filter and a call of group number `called` with the tail of the word.
 fn round(alloc: Global, op: ExprOp, called: u32) -> Result<Group, Fail> {
     let head = filter(alloc, param(0), WordPlace::Param(1))?;
-    let again = call(alloc, called, Place::Param(0), Value::Word(WordPlace::Tail(1)))?;
+    let again = call(
+        alloc,
+        called,
+        Place::Param(0),
+        Value::Word(WordPlace::Tail(1)),
+    )?;
     group(alloc, binary(alloc, op, head, again)?)
 }
 
@@ -114,7 +117,12 @@ fn parts_of(alloc: Global, x: Expr) -> Result<Parts, Fail> {
 }
 
 fn sample(alloc: Global) -> Result<Parts, Fail> {
-    let x = call(alloc, 0, Place::Clock(0), Value::Word(WordPlace::Word(0, 2)))?;
+    let x = call(
+        alloc,
+        0,
+        Place::Clock(0),
+        Value::Word(WordPlace::Word(0, 2)),
+    )?;
     parts_of(alloc, x)
 }
 
@@ -148,8 +156,19 @@ fn definitions_name_what_is_there(rt: HostRuntime) -> Result<(), Fail> {
         ("129 operators", tower(alloc, 129)?),
         ("delayed 0", delayed(alloc, clock(0), 0, clock(1))?),
         ("delayed 4097", delayed(alloc, clock(0), 4097, clock(1))?),
-        ("no such group", call(alloc, 1, Place::Clock(0), Value::Word(WordPlace::Word(0, 0)))?),
-        ("a clock for a word", call(alloc, 0, Place::Clock(0), Value::Clock(Place::Clock(1)))?),
+        (
+            "no such group",
+            call(
+                alloc,
+                1,
+                Place::Clock(0),
+                Value::Word(WordPlace::Word(0, 0)),
+            )?,
+        ),
+        (
+            "a clock for a word",
+            call(alloc, 0, Place::Clock(0), Value::Clock(Place::Clock(1)))?,
+        ),
     ];
     for (what, x) in refused {
         assert!(rt; !parts_of(alloc, x)?.accepted(alloc)?, "{what}");
@@ -161,10 +180,16 @@ fn definitions_name_what_is_there(rt: HostRuntime) -> Result<(), Fail> {
 fn groups_call_earlier_ones_or_go_on(rt: HostRuntime) -> Result<(), Fail> {
     let alloc = rt.alloc();
     let refused = [
-        ("a call of the own group within an operator", round(alloc, ExprOp::Union, 0)?),
+        (
+            "a call of the own group within an operator",
+            round(alloc, ExprOp::Union, 0)?,
+        ),
         ("a call of a later group", round(alloc, ExprOp::Then, 1)?),
         ("a member that names a clock", group(alloc, clock(0))?),
-        ("a member that names no such parameter", group(alloc, param(2))?),
+        (
+            "a member that names no such parameter",
+            group(alloc, param(2))?,
+        ),
         ("a word for a clock", group(alloc, param(1))?),
     ];
     for (what, member) in refused {
@@ -178,7 +203,11 @@ fn groups_call_earlier_ones_or_go_on(rt: HostRuntime) -> Result<(), Fail> {
         for called in 1..levels {
             groups.push(round(alloc, ExprOp::Union, called - 1)?)?;
         }
-        assert_eq!(rt; parts(alloc, groups, clock(0))?.accepted(alloc)?, accepted, "{levels} levels");
+        assert_eq!(rt;
+            parts(alloc, groups, clock(0))?.accepted(alloc)?,
+            accepted,
+            "{levels} levels"
+        );
     }
     Ok(())
 }
@@ -190,7 +219,10 @@ fn numbers_agree(rt: HostRuntime) -> Result<(), Fail> {
         let mut parts = sample(alloc)?;
         parts.declared = declared;
         parts.written = written;
-        assert!(rt; !parts.accepted(alloc)?, "{declared} declared, {written} written");
+        assert!(rt;
+            !parts.accepted(alloc)?,
+            "{declared} declared, {written} written"
+        );
     }
     for (count, accepted) in [(4096, true), (4097, false)] {
         let mut constraints = Vec::new(alloc);

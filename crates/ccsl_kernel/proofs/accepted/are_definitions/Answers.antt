@@ -9,14 +9,15 @@ use Rattle.ccsl_kernel.proofs.accepted.are_definitions.Goals as goal
 pub returns-then-not-is_definition : goal.returns-then-not-is_definition
 returns-then-not-is_definition c =
     let K = plain_system c.args.parts.now in
-    let i = c.loop-i.i in
-    (λ h. absurd (false≢true h),
-    λ all. absurd
-    (false≢true
-    (sym c.if-not-is_definition.true
-    ∙ c.is_definition.ensures.1
-    (subst (λ (e : Expr). IsDefinition K (c.args.declared + i) (plain_expr e)) (sym c.index-definitions-i.is)
-    (each_made_at (IsDefinition K) plain_expr c.args.declared c.args.definitions.now i c.index-definitions-i.result c.loop-i-test.true all)))))
+    let i = c.loop-i.i in (
+      λ h. absurd (false≢true h),
+      λ all. absurd
+          (false≢true
+          (sym c.if-not-is_definition.true
+          ∙ c.is_definition.ensures.1
+          (subst (λ (e : Expr). IsDefinition K (c.args.declared + i) (plain_expr e)) (sym c.index-definitions-i.is)
+          (each_made_at (IsDefinition K) plain_expr c.args.declared c.args.definitions.now i c.index-definitions-i.result c.loop-i-test.true all)))),
+    )
 
 pub returns : goal.returns
 returns c =

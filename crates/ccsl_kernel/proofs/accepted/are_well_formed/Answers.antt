@@ -12,12 +12,13 @@ pub returns : goal.returns
 returns c =
     let bodies = rw c.members.ensures at c.are_bodies.ensures in
     let definitions = rw c.members-2.ensures at c.are_definitions.ensures in
-    let constraints = rw (c.members-3.ensures, c.len.ensures) at c.are_constraints.ensures in
-    (λ h. record {
-      counted = c.are_counted.ensures.0 c.if-not-are_counted.false;
-      names = c.are_named.ensures.0 c.if-not-are_named.false;
-      bodies = bodies.0 c.if-not-are_bodies.false;
-      definitions = definitions.0 c.if-not-are_definitions.false;
-      constraints = constraints.0 h;
-    },
-    λ ok. constraints.1 ok.constraints)
+    let constraints = rw (c.members-3.ensures, c.len.ensures) at c.are_constraints.ensures in (
+      λ h. record {
+        counted = c.are_counted.ensures.0 c.if-not-are_counted.false;
+        names = c.are_named.ensures.0 c.if-not-are_named.false;
+        bodies = bodies.0 c.if-not-are_bodies.false;
+        definitions = definitions.0 c.if-not-are_definitions.false;
+        constraints = constraints.0 h;
+      },
+      λ ok. constraints.1 ok.constraints,
+    )

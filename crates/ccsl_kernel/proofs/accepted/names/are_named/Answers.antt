@@ -14,14 +14,15 @@ Fits written i name = IsTrue (cond (nat_lt i written) (is_name name) (is_hidden 
 pub returns-then-not-fits_clock : goal.returns-then-not-fits_clock
 returns-then-not-fits_clock c =
     let i = c.loop-i.i in
-    let name : get_or c.args.names.now i [] ≡ c.get.result.now = get_or_from_slice_get c.args.names.now i c.get.result.now [] c.get.ensures.name in
-    (λ h. absurd (false≢true h),
-    λ all. absurd
-    (false≢true
-    (sym c.if-not-fits_clock.true
-    ∙ c.fits_clock.ensures
-    ∙ ap (λ (n : List ℕ). cond (nat_lt i c.args.written) (is_name n) (is_hidden n)) (sym name)
-    ∙ each_zero_at (Fits c.args.written) c.args.names.now i [] (omega (arith, c.loop-i-test.true, c.len-i-end.ensures)) all)))
+    let name : get_or c.args.names.now i [] ≡ c.get.result.now = get_or_from_slice_get c.args.names.now i c.get.result.now [] c.get.ensures.name in (
+      λ h. absurd (false≢true h),
+      λ all. absurd
+          (false≢true
+          (sym c.if-not-fits_clock.true
+          ∙ c.fits_clock.ensures
+          ∙ ap (λ (n : List ℕ). cond (nat_lt i c.args.written) (is_name n) (is_hidden n)) (sym name)
+          ∙ each_zero_at (Fits c.args.written) c.args.names.now i [] (omega (arith, c.loop-i-test.true, c.len-i-end.ensures)) all)),
+    )
 
 pub loop-i-preserved : goal.loop-i-preserved
 loop-i-preserved c =
@@ -32,6 +33,7 @@ loop-i-preserved c =
     ∙ c.if-not-fits_clock.false)
 
 pub returns : goal.returns
-returns c =
-    (λ _. each_zero_from (Fits c.args.written) c.args.names.now (λ k d l. c.loop-i.invariant k d (omega (arith, l, c.loop-i-test.false, c.len-i-end.ensures))),
-    λ _. refl)
+returns c = (
+  λ _. each_zero_from (Fits c.args.written) c.args.names.now (λ k d l. c.loop-i.invariant k d (omega (arith, l, c.loop-i-test.false, c.len-i-end.ensures))),
+  λ _. refl,
+)

@@ -13,11 +13,11 @@ returns c =
     let groups = groups_cells [] (map plain_group parts.groups) in
     let expressions = map plain_expr parts.definitions in
     let earlier : c.as_slice.result.now ≡ map cap groups =
-      c.as_slice.ensures.value ∙ c.in_ok-earlier.ensures ∙ ap (λ (gs : List Group). map cap (groups_cells [] (map plain_group gs))) c.members.ensures in
+    c.as_slice.ensures.value ∙ c.in_ok-earlier.ensures ∙ ap (λ (gs : List Group). map cap (groups_cells [] (map plain_group gs))) c.members.ensures in
     let definitions : c.definitions_cells-definitions.result ≡ cap (sum (map (cells_in groups) expressions)) =
-      c.definitions_cells-definitions.ensures
-      ∙ ap₂ (λ (ns : List ℕ) (ds : List Expr). cap (sum (map (cells_in ns) (map plain_expr ds)))) earlier c.members-2.ensures
-      ∙ capped_all groups expressions in
+    c.definitions_cells-definitions.ensures
+    ∙ ap₂ (λ (ns : List ℕ) (ds : List Expr). cap (sum (map (cells_in ns) (map plain_expr ds)))) earlier c.members-2.ensures
+    ∙ capped_all groups expressions in
     let constraints : c.capped-constraints.result ≡ cap (length parts.constraints) =
-      c.capped-constraints.ensures ∙ ap (λ (cs : List Constraint). cap (length cs)) c.members-3.ensures in
+    c.capped-constraints.ensures ∙ ap (λ (cs : List Constraint). cap (length cs)) c.members-3.ensures in
     omega (arith, definitions, constraints)
