@@ -16,3 +16,5 @@ pub mod Fits
 pub mod TickWords
 pub mod AcceptedParts
 pub mod OpenCalls
+pub mod DeathTable
+pub mod WalkSteps

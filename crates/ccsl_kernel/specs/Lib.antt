@@ -21,3 +21,4 @@ pub mod Since
 pub mod Asked
 pub mod Deep
 pub mod Held
+pub mod Columns

@@ -14,6 +14,7 @@ pub mod parts;
 pub mod row;
 pub mod system;
 pub mod ticks;
+pub mod walk;
 
 pub use actual::{Actual, Spot};
 pub use constraint::Constraint;
