@@ -4,18 +4,20 @@ use Rattle.std.proofs.lemmas.Bool.{cases_lt, ne_eqb}
 use Rattle.std.proofs.lemmas.List.{get_or_past}
 use Rattle.std.proofs.Math.ListN.{get_or-append}
 use Rattle.std.proofs.Math.Seq.{get_or-append_seam}
-use Rattle.ccsl_formula.specs.Formula.{Formula}
+use Rattle.ccsl_formula.specs.Formula.{Formula, FVar, FIff}
 use Rattle.ccsl_kernel.specs.Syntax.{Expression, System, definition_of}
 use Rattle.ccsl_kernel.specs.Table.{Now}
 use Rattle.ccsl_kernel.specs.Lives.{Step, steps}
 use Rattle.ccsl_kernel.specs.Meaning.{life_given, definition_dead, dead_below, meaning, formula_at}
 use Rattle.ccsl_kernel.specs.Guarded.{IsGuarded}
-use Rattle.ccsl_kernel.specs.Course.{course_life}
+use Rattle.ccsl_kernel.specs.Course.{Course, now_of, opening, grown, course_life}
 use Rattle.ccsl_kernel.specs.Held.{gone_at}
+use Rattle.ccsl_kernel.specs.Items.{item_formula}
 use Rattle.ccsl_kernel.specs.Columns.{column, columns}
 use Rattle.ccsl_kernel.proofs.Steps.{map-steps, map-steps-suc}
 use Rattle.ccsl_kernel.proofs.TableHolds.{first_steps_matter}
 use Rattle.ccsl_kernel.proofs.Definitions.{choice, definitions-are, dead_below-at, definition_allowed}
+use Rattle.ccsl_kernel.proofs.ItemCases.{item-definition}
 use Rattle.ccsl_kernel.proofs.Follows.{course_is}
 
 -- one value for each step
@@ -94,3 +96,24 @@ module _ (K : System) (T : List Step) where
 
     pub followed_formula : (course_life K T (gone_at K.declared (columns K T j)) e [] 0 (length T)).formula ≡ formula_at K T (K.declared + j) e [] 0 (length T)
     followed_formula = ap (λ (now : Now). now.formula) (followed_is (length T) (omega arith))
+
+    -- one more column, where the table is held under other names
+    pub column_step : (declared : ℕ) (held old new : List (List Bool)) (more : List Bool) → declared ≡ K.declared → held ≡ old → old ≡ columns K T j →
+        more ≡ map (λ n. (course_life K T (gone_at declared held) e [] 0 n).dead) (steps 0 (suc (length T))) → new ≡ old ++ more ∷ [] → new ≡ columns K T (j + 1)
+    column_step declared held old new more d h o m n =
+        let one : suc j ≡ j + 1 = omega arith in
+        n
+        ∙ ap₂ (λ xs x. xs ++ x ∷ []) o (m ∙ ap₂ (λ d h. map (λ n. (course_life K T (gone_at d h) e [] 0 n).dead) (steps 0 (suc (length T)))) d (h ∙ o) ∙ followed_column)
+        ∙ ap (columns K T) one
+
+    -- the formula of the definition, from that of the course that was followed
+    pub formula_step : (declared : ℕ) (held : List (List Bool)) (asked : Formula) (c : Course) → declared ≡ K.declared → held ≡ columns K T j →
+        c ≡ grown K T (gone_at declared held) (opening K e []) 0 (length T) → ((gone : ℕ → Bool) → asked ≡ (now_of gone c).formula) →
+        FIff (FVar (declared + j)) asked ≡ item_formula K T (length T) j
+    formula_step declared held asked c d h at f =
+        ap₂ (λ x g. FIff (FVar (x + j)) g) d
+        (f (gone_at declared held (length T))
+        ∙ ap (λ c. (now_of (gone_at declared held (length T)) c).formula) at
+        ∙ ap₂ (λ d h. (course_life K T (gone_at d h) e [] 0 (length T)).formula) d h
+        ∙ followed_formula)
+        ∙ sym (item-definition K T (length T) j e is)

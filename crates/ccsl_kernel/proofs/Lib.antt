@@ -18,3 +18,4 @@ pub mod AcceptedParts
 pub mod OpenCalls
 pub mod DeathTable
 pub mod WalkSteps
+pub mod ItemCases
