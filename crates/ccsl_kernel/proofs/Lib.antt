@@ -19,3 +19,4 @@ pub mod OpenCalls
 pub mod DeathTable
 pub mod WalkSteps
 pub mod ItemCases
+pub mod FirstViolation
