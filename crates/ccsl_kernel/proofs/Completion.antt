@@ -1,5 +1,5 @@
 -- The completion of declared ticks obeys the definitions, has those declared ticks, and is the only such list.
-use Rattle.std.proofs.Common.{⊎_elim, ◌≡◌, ℕ, zero, suc, ◌+◌, ◌-◌, ◌<◌, ◌≤◌, List, [], ◌∷◌, ◌++◌, length, map, filter, drop, Bool, true, false, ◌||◌, ◌&&◌, Some, None, slice_get, nat_eq, nat_lt, eq-eqb, lt-ltb, refl, sym, ap, ap₂, ◌∙◌, subst, arith, append-nil, append_assoc, length-append, if◌then◌else◌}
+use Rattle.std.proofs.Common.{⊎_elim, ◌≡◌, ℕ, zero, suc, ◌+◌, ◌-◌, ◌<◌, ◌≤◌, List, [], ◌∷◌, ◌++◌, length, map, Bool, true, false, ◌||◌, ◌&&◌, Some, None, slice_get, eq-eqb, lt-ltb, refl, sym, ap, ap₂, ◌∙◌, subst, arith, append-nil, append_assoc, length-append, if◌then◌else◌}
 use Rattle.std.specs.List.{list_all}
 use Rattle.std.proofs.lemmas.List.Folds.{list_all-append}
 use Rattle.std.proofs.lemmas.Bool.{cases_lt, ne_eqb, and_parts, and_from}
@@ -11,11 +11,11 @@ use Rattle.ccsl_formula.specs.Formula.{Formula, eval, same}
 use Rattle.ccsl_kernel.specs.Syntax.{Expression, System, item_count, definition_of}
 use Rattle.ccsl_kernel.specs.Lives.{Step, step_at}
 use Rattle.ccsl_kernel.specs.Table.{Now}
-use Rattle.ccsl_kernel.specs.Meaning.{dead_below, meaning, formula_at}
+use Rattle.ccsl_kernel.specs.Meaning.{dead_below, formula_at}
 use Rattle.ccsl_kernel.specs.Items.{item_or_constraint}
 use Rattle.ccsl_kernel.specs.Runs.{IsRun, ObeysDefinitions, derived_from, full_step, completed_after, completed, declared_part, is_declared, is_named}
 use Rattle.ccsl_kernel.specs.Guarded.{IsGuarded}
-use Rattle.ccsl_kernel.specs.Scope.{NamesBelow, IsScoped}
+use Rattle.ccsl_kernel.specs.Scope.{IsScoped}
 use Rattle.ccsl_kernel.proofs.Sets.{NoneFrom, NoneFrom-are_below, below, ticks_in-with_clock, with_clock-last, below-with_clock, below-all, below-suc, ticks_in-below, ascending-last, are_below-last, are_below-more}
 use Rattle.ccsl_kernel.proofs.Scope.{ReadsOnly, eval_same, reads_below}
 use Rattle.ccsl_kernel.proofs.TableHolds.{first_steps_matter}

@@ -1,5 +1,5 @@
 -- The table of deaths, and what is followed with it.
-use Rattle.std.proofs.Common.{◌≡◌, ℕ, zero, suc, ◌+◌, ◌-◌, ◌<◌, ◌≤◌, ⊎_elim, List, [], ◌∷◌, ◌++◌, map, length, get_or, Bool, true, false, Option, Some, None, slice_get, nat_lt, nat_eq, if◌then◌else◌, refl, sym, ap, ap₂, ◌∙◌, arith, length-append, lt-ltb, le-ltb}
+use Rattle.std.proofs.Common.{◌≡◌, ℕ, zero, suc, ◌+◌, ◌-◌, ◌<◌, ◌≤◌, ⊎_elim, List, [], ◌∷◌, ◌++◌, map, length, get_or, Bool, false, Some, None, slice_get, if◌then◌else◌, refl, sym, ap, ap₂, ◌∙◌, arith, length-append, lt-ltb, le-ltb}
 use Rattle.std.proofs.lemmas.Bool.{cases_lt, ne_eqb}
 use Rattle.std.proofs.lemmas.List.{get_or_past}
 use Rattle.std.proofs.Math.ListN.{get_or-append}
@@ -8,7 +8,7 @@ use Rattle.ccsl_formula.specs.Formula.{Formula, FVar, FIff}
 use Rattle.ccsl_kernel.specs.Syntax.{Expression, System, definition_of}
 use Rattle.ccsl_kernel.specs.Table.{Now}
 use Rattle.ccsl_kernel.specs.Lives.{Step, steps}
-use Rattle.ccsl_kernel.specs.Meaning.{life_given, definition_dead, dead_below, meaning, formula_at}
+use Rattle.ccsl_kernel.specs.Meaning.{definition_dead, dead_below, meaning, formula_at}
 use Rattle.ccsl_kernel.specs.Guarded.{IsGuarded}
 use Rattle.ccsl_kernel.specs.Course.{Course, now_of, opening, grown, course_life}
 use Rattle.ccsl_kernel.specs.Held.{gone_at}

@@ -1,11 +1,11 @@
 -- The verdict is the first violation, where there is one, and a run where there is none.
-use Rattle.std.proofs.Common.{◌≡◌, ℕ, zero, suc, ◌<◌, ◌≤◌, ⊎_elim, List, map, length, get_or, find, Bool, true, false, Option, Some, None, unwrap_or, refl, sym, ap, ap₂, ◌∙◌, arith}
+use Rattle.std.proofs.Common.{◌≡◌, ℕ, zero, suc, ◌<◌, ◌≤◌, ⊎_elim, List, map, length, get_or, find, Bool, true, false, Some, None, unwrap_or, refl, sym, ap, ap₂, ◌∙◌, arith}
 use Rattle.std.specs.Prelude.{is_some}
 use Rattle.std.proofs.lemmas.Bool.{cases_lt}
 use Rattle.ccsl_base.specs.declared.rows.Row.{Row}
 use Rattle.ccsl_kernel.specs.Syntax.{System, item_count}
 use Rattle.ccsl_kernel.specs.Lives.{steps}
-use Rattle.ccsl_kernel.specs.Verdict.{Run, Violated, is_violated, first_item, first_step, verdict_at, verdict, IsFirstViolation}
+use Rattle.ccsl_kernel.specs.Verdict.{Run, Violated, is_violated, first_item, verdict_at, verdict, IsFirstViolation}
 use Rattle.ccsl_kernel.proofs.Steps.{find-steps-suc, or_else, if_at}
 
 pub find-nowhere : (f : ℕ → Bool) (n : ℕ) → ((i : ℕ) → i < n → f i ≡ false) → find f (steps 0 n) ≡ None

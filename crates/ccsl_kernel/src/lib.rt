@@ -2,36 +2,25 @@
 #![tactic(auto)]
 
 pub mod actual;
-pub mod advance;
+mod advance;
 pub mod constraint;
-pub mod course;
-pub mod deaths;
+mod course;
+mod deaths;
 pub mod expr;
 pub mod group;
 pub mod laws;
-pub mod opening;
+mod opening;
 pub mod parts;
-pub mod plain;
-pub mod row;
+mod plain;
+mod row;
 pub mod system;
-pub mod ticks;
-pub mod walk;
+mod ticks;
+mod walk;
 
 pub use actual::{Actual, Spot};
-pub use constraint::Constraint;
-pub use constraint::RelationKind;
-pub use expr::Expr;
-pub use expr::ExprOp;
-pub use expr::ExprTest;
-pub use expr::NumPrim;
-pub use expr::NumSign;
-pub use expr::NumTerm;
-pub use expr::Place;
-pub use expr::Value;
-pub use expr::WordPlace;
-pub use group::Body;
-pub use group::Group;
-pub use group::ParamKind;
+pub use constraint::{Constraint, RelationKind};
+pub use expr::{Expr, ExprOp, ExprTest, NumPrim, NumSign, NumTerm, Place, Value, WordPlace};
+pub use group::{Body, Group, ParamKind};
 pub use parts::Parts;
 pub use plain::plain_formula;
 pub use system::System;

@@ -34,14 +34,10 @@ pub fn followed<'s>(
 ) -> Result<Walk<'s>, Memory>
     requires shallow { deep (plain_expr e.now) ≤ 129 }
     requires offsets { ExprFits system.now.words (plain_expr e.now) }
-    ensures course {
-        IfOk result (λ walk. held system.now.words walk.course ≡
-            grown system.now list.now (gone_in deaths.now) (opening system.now (plain_expr e.now) []) 0 (length list.now))
-    }
-    ensures deaths {
-        IfOk result (λ walk. walk.deaths.items ≡
-            map (λ n. (course_life system.now list.now (gone_in deaths.now) (plain_expr e.now) [] 0 n).dead) (steps 0 (suc (length list.now))))
-    }
+    ensures course { IfOk result (λ walk. held system.now.words walk.course ≡
+        grown system.now list.now (gone_in deaths.now) (opening system.now (plain_expr e.now) []) 0 (length list.now)) }
+    ensures deaths { IfOk result (λ walk. walk.deaths.items ≡
+        map (λ n. (course_life system.now list.now (gone_in deaths.now) (plain_expr e.now) [] 0 n).dead) (steps 0 (suc (length list.now)))) }
 {
     let words = system.words();
     let mut course = opened(alloc, system, system.groups().len(), e, &[])?;

@@ -12,8 +12,8 @@ loop-i-preserved c =
     let K = c.args.system.now in
     let birth = opening K (plain_expr c.args.e.now) [] in
     let later =
-        walk_course K c.args.list.now (gone_in c.args.deaths.now) birth c.loop-i.i (held K.words c.loop-i.course) (held K.words c.in_ok-course-2.course) c.index-list-i.result
-        c.loop-i.invariant.course (get_or_read c.args.list.now c.loop-i.i c.index-list-i.result (omega arith) c.index-list-i.is []) (c.in_ok-course-2.ensures.next (gone_in c.args.deaths.now c.loop-i.i)) in
+    walk_course K c.args.list.now (gone_in c.args.deaths.now) birth c.loop-i.i (held K.words c.loop-i.course) (held K.words c.in_ok-course-2.course) c.index-list-i.result
+    c.loop-i.invariant.course (get_or_read c.args.list.now c.loop-i.i c.index-list-i.result (omega arith) c.index-list-i.is []) (c.in_ok-course-2.ensures.next (gone_in c.args.deaths.now c.loop-i.i)) in
     record {
       course = later;
       ready = c.in_ok-course-2.ensures.ready;
