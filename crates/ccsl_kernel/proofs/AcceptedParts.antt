@@ -1,5 +1,5 @@
 -- What the parts of an accepted system obey: guarded calls, scopes, offsets that fit, and bounded depth.
-use Rattle.std.proofs.Common.{◌≡◌, ℕ, zero, suc, ◌+◌, ◌-◌, ◌<◌, ◌≤◌, List, [], ◌∷◌, length, get_or, max, All, Bool, true, false, Option, Some, None, slice_get, nat_lt, if◌then◌else◌, refl, sym, ap, ◌∙◌, subst, arith, ltb-false}
+use Rattle.std.proofs.Common.{◌≡◌, ℕ, zero, suc, ◌+◌, ◌-◌, ◌≤◌, List, [], ◌∷◌, All, Bool, true, false, Option, Some, None, slice_get, nat_lt, if◌then◌else◌, refl, sym, ap, subst, arith, ltb-false}
 use Rattle.std.proofs.lemmas.List.Elements.{All-nil, All-cons}
 use Rattle.std.proofs.lemmas.Option.{slice_get_within, get_or_from_slice_get}
 use Rattle.ccsl_words.specs.Word.{BinaryWord}
@@ -14,8 +14,8 @@ use Rattle.ccsl_kernel.specs.declared.expr.ExprTest.TheVariants as test
 use Rattle.ccsl_kernel.specs.declared.group.ParamKind.{ParamKind}
 use Rattle.ccsl_kernel.specs.declared.group.ParamKind.TheVariants as kind
 use Rattle.ccsl_kernel.specs.Syntax.{Expression, EName, ECall, ENever, EBinary, EDelay, EAwait, EFilter, EDelayed, EIf, Body, System, body_of, root_or_never, root_of, definition_of}
-use Rattle.ccsl_kernel.specs.Actuals.{word_or_empty, word_of}
-use Rattle.ccsl_kernel.specs.Guarded.{Tail, Allowed, AreGuarded, AreAllowed, IsGuarded}
+use Rattle.ccsl_kernel.specs.Actuals.{word_or_empty}
+use Rattle.ccsl_kernel.specs.Guarded.{Tail, Allowed, AreAllowed, IsGuarded}
 use Rattle.ccsl_kernel.specs.Scope.{PlaceBelow, ArgsBelow, NamesBelow, IsScoped}
 use Rattle.ccsl_kernel.specs.Accepted.{IsOffset, IsKnown, IsClock, IsWord, IsTest, IsArgument, AreArguments, depth, is_leaf, operand_depth, IsBody, IsDefinition, Each, IsAccepted}
 use Rattle.ccsl_kernel.specs.Fit.{PlaceFits, TestFits, ValueFits, ValuesFit, ExprFits}

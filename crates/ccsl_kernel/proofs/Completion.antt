@@ -1,19 +1,21 @@
 -- The completion of declared ticks obeys the definitions, has those declared ticks, and is the only such list.
-use Rattle.std.proofs.Common.{⊎_elim, ◌≡◌, ℕ, zero, suc, ◌+◌, ◌-◌, ◌<◌, ◌≤◌, List, [], ◌∷◌, ◌++◌, length, map, filter, drop, Bool, true, false, ◌||◌, ◌&&◌, Some, None, slice_get, nat_eq, nat_lt, eq-eqb, lt-ltb, refl, sym, ap, ap₂, ◌∙◌, subst, arith, append-nil, append_assoc, length-append, if◌then◌else◌}
+use Rattle.std.proofs.Common.{⊎_elim, ◌≡◌, ℕ, zero, suc, ◌+◌, ◌-◌, ◌<◌, ◌≤◌, List, [], ◌∷◌, ◌++◌, length, map, Bool, true, false, ◌||◌, ◌&&◌, Some, None, slice_get, eq-eqb, lt-ltb, refl, sym, ap, ap₂, ◌∙◌, subst, arith, append-nil, append_assoc, length-append, if◌then◌else◌}
 use Rattle.std.specs.List.{list_all}
 use Rattle.std.proofs.lemmas.List.Folds.{list_all-append}
 use Rattle.std.proofs.lemmas.Bool.{cases_lt, ne_eqb, and_parts, and_from}
+use Rattle.std.proofs.lemmas.Option.{slice_get_within}
 use Rattle.std.proofs.Math.ListN.{get_or-append}
 use Rattle.std.proofs.Math.Seq.{get_or-append_seam}
 use Rattle.ccsl_base.specs.Clocks.{ticks_in, with_clock, is_ascending, are_below}
-use Rattle.ccsl_formula.specs.Formula.{Formula, eval}
-use Rattle.ccsl_kernel.specs.Syntax.{Expression, System, definition_of}
+use Rattle.ccsl_formula.specs.Formula.{Formula, eval, same}
+use Rattle.ccsl_kernel.specs.Syntax.{Expression, System, item_count, definition_of}
 use Rattle.ccsl_kernel.specs.Lives.{Step, step_at}
 use Rattle.ccsl_kernel.specs.Table.{Now}
-use Rattle.ccsl_kernel.specs.Meaning.{dead_below, meaning, formula_at}
-use Rattle.ccsl_kernel.specs.Runs.{ObeysDefinitions, derived_from, full_step, completed_after, completed, declared_part, is_declared, is_named}
+use Rattle.ccsl_kernel.specs.Meaning.{dead_below, formula_at}
+use Rattle.ccsl_kernel.specs.Items.{item_or_constraint}
+use Rattle.ccsl_kernel.specs.Runs.{IsRun, ObeysDefinitions, derived_from, full_step, completed_after, completed, declared_part, is_declared, is_named}
 use Rattle.ccsl_kernel.specs.Guarded.{IsGuarded}
-use Rattle.ccsl_kernel.specs.Scope.{NamesBelow, IsScoped}
+use Rattle.ccsl_kernel.specs.Scope.{IsScoped}
 use Rattle.ccsl_kernel.proofs.Sets.{NoneFrom, NoneFrom-are_below, below, ticks_in-with_clock, with_clock-last, below-with_clock, below-all, below-suc, ticks_in-below, ascending-last, are_below-last, are_below-more}
 use Rattle.ccsl_kernel.proofs.Scope.{ReadsOnly, eval_same, reads_below}
 use Rattle.ccsl_kernel.proofs.TableHolds.{first_steps_matter}
@@ -96,6 +98,17 @@ module _ (K : System) (T : List Step) where
       (λ i d h. subst (λ k. ticks_in k s ≡ eval (asked k d) s) (let at : x + suc i ≡ suc x + i = omega arith in at) (obeys (suc i) d h))
       ∙ ap (λ k. below k s) (omega arith)
 
+-- a defined clock is not below the declared ones
+past_declared : (K : System) (x : ℕ) (e : Expression) → definition_of K x ≡ Some e → K.declared ≤ x
+past_declared K x e is =
+    ⊎_elim
+    (λ (l : x < K.declared). let z : ⊥ = none (ap (λ t. if t then None else slice_get K.definitions (x - K.declared)) (lt-ltb x K.declared l)) is in absurd z)
+    (λ l. l)
+    (cases_lt x K.declared)
+  where
+    none : definition_of K x ≡ None → definition_of K x ≡ Some e → ⊥
+    none a b = cc
+
 module _ (K : System) (ok : IsGuarded K) (scoped : IsScoped K) where
   reads_at : (T : List Step) (x : ℕ) (e : Expression) → definition_of K x ≡ Some e → (n : ℕ) → n ≤ length T → ReadsOnly x (formula_at K T x e [] 0 n)
   reads_at T x e is n u = reads_below x K T (dead_below K T x) ok.bodies scoped.bodies e [] 0 (definition_allowed K ok x e is) (omega arith) (scoped.definitions x e is) tt n (omega arith) u
@@ -130,21 +143,10 @@ module _ (K : System) (ok : IsGuarded K) (scoped : IsScoped K) where
       ∙ sym (ap₂ eval (ap (formula_at K (T ++ s ∷ []) x e [] 0) at ∙ asked_before T s x e (length T) is (omega arith)) last))
       (cases_lt n (length T))
 
-  -- a defined clock is not below the declared ones
-  past_declared : (x : ℕ) (e : Expression) → definition_of K x ≡ Some e → K.declared ≤ x
-  past_declared x e is =
-      ⊎_elim
-      (λ (l : x < K.declared). let z : ⊥ = none (ap (λ t. if t then None else slice_get K.definitions (x - K.declared)) (lt-ltb x K.declared l)) is in absurd z)
-      (λ l. l)
-      (cases_lt x K.declared)
-    where
-      none : definition_of K x ≡ None → definition_of K x ≡ Some e → ⊥
-      none a b = cc
-
   -- by the place of a definition
   by_place : (P : ℕ → Expression → Type 0) → ((j : ℕ) (e : Expression) → slice_get K.definitions j ≡ Some e → P (K.declared + j) e) → (x : ℕ) (e : Expression) → definition_of K x ≡ Some e → P x e
   by_place P each x e is =
-      let l = past_declared x e is in
+      let l = past_declared K x e is in
       let at : K.declared + (x - K.declared) ≡ x = omega arith in
       subst (λ k. P k e) at (each (x - K.declared) e (definitions-are K (x - K.declared) ∙ ap (definition_of K) at ∙ is))
 
@@ -247,3 +249,21 @@ module _ (K : System) where
 
   pub completion_named : (R : List Step) → list_all (is_declared K) R ≡ true → list_all (is_named K) (completed K R) ≡ true
   completion_named R h = completed_named R [] h refl
+
+-- A RUN OBEYS THE DEFINITIONS, which are items of it
+module _ (K : System) where
+  pub runs_obey : (T : List Step) → IsRun K T → ObeysDefinitions K T
+  runs_obey T run x e n is u =
+      let j = x - K.declared in
+      let at : K.declared + j ≡ x = (let l = past_declared K x e is in omega arith) in
+      let here : slice_get K.definitions j ≡ Some e = definitions-are K j ∙ ap (definition_of K) at ∙ is in
+      let within : j < item_count K = (let l = slice_get_within K.definitions j e here in omega arith) in
+      same_values (ticks_in x (step_at T n)) (eval (formula_at K T x e [] 0 n) (step_at T n))
+      (ap (λ k. same (ticks_in k (step_at T n)) (eval (formula_at K T k e [] 0 n) (step_at T n))) (sym at)
+      ∙ ap (λ f. eval f (step_at T n)) (sym (ap (item_or_constraint K T n j) here))
+      ∙ run n j u within)
+    where
+      same_values : (a b : Bool) → same a b ≡ true → a ≡ b
+      same_values true b h = sym h
+      same_values false true h = let z : ⊥ = cc in absurd z
+      same_values false false h = refl

@@ -1,5 +1,5 @@
 -- The empty set satisfies the formula of every item at every step: no expression asks for a tick where nothing ticks.
-use Rattle.std.proofs.Common.{◌≡◌, ℕ, suc, ◌+◌, ◌-◌, ◌<◌, ◌≤◌, List, [], length, Bool, true, false, ◌&&◌, ◌||◌, Option, Some, None, slice_get, nat_eq, nat_lt, nat_le, refl, sym, ap, ap₂, ◌∙◌, subst, arith, if◌then◌else◌}
+use Rattle.std.proofs.Common.{◌≡◌, ℕ, suc, ◌+◌, ◌-◌, ◌<◌, ◌≤◌, List, [], length, Bool, true, false, ◌&&◌, ◌||◌, Option, Some, None, slice_get, nat_eq, nat_lt, nat_le, refl, sym, ap, ap₂, ◌∙◌, arith, if◌then◌else◌}
 use Rattle.ccsl_formula.specs.Formula.{Formula, FTrue, FFalse, FVar, FAnd, FOr, FNot, eval, same}
 use Rattle.ccsl_words.specs.Word.{letter}
 use Rattle.ccsl_kernel.specs.declared.expr.ExprOp.{ExprOp}
@@ -9,12 +9,12 @@ use Rattle.ccsl_kernel.specs.declared.constraint.RelationKind.{RelationKind}
 use Rattle.ccsl_kernel.specs.declared.expr.ExprOp.TheVariants as op
 use Rattle.ccsl_kernel.specs.declared.actual.Actual.TheVariants as actual
 use Rattle.ccsl_kernel.specs.declared.constraint.RelationKind.TheVariants as kind
-use Rattle.ccsl_kernel.specs.Syntax.{Expression, System, definition_of}
+use Rattle.ccsl_kernel.specs.Syntax.{Expression, System}
 use Rattle.ccsl_kernel.specs.Actuals.{place_of, number_of, spot_of, test_of, word_of}
 use Rattle.ccsl_kernel.specs.Ticks.{count, ever, waits, waits_weakly, waits_since}
-use Rattle.ccsl_kernel.specs.Table.{Now, Operand}
+use Rattle.ccsl_kernel.specs.Table.{Now}
 use Rattle.ccsl_kernel.specs.Lives.{Step, Life, operand, end_of, at_end, joined}
-use Rattle.ccsl_kernel.specs.Meaning.{named, life_given, dead_below, formula_at}
+use Rattle.ccsl_kernel.specs.Meaning.{named, life_given, dead_below}
 use Rattle.ccsl_kernel.specs.Items.{relation_formula, clock_count, constraint_or_true, item_or_constraint, item_formula}
 use Rattle.ccsl_kernel.specs.Guarded.{AreGuarded, IsAllowed, IsGuarded}
 use Rattle.ccsl_kernel.proofs.Steps.{find-within}

@@ -1,8 +1,7 @@
 -- Worked examples of the meaning, by computing.
-use Rattle.std.specs.Prelude.{zero, suc, ◌≡◌, ℕ, ◌+◌, List, [], ◌∷◌, Bool, true, false, map, length, codes, refl}
+use Rattle.std.specs.Prelude.{zero, suc, ◌≡◌, ℕ, List, [], ◌∷◌, Bool, true, false, map, length, refl}
 use Rattle.ccsl_base.specs.declared.rows.Row.{Row}
-use Rattle.ccsl_formula.specs.Formula.{Formula, FTrue, FVar, FNot, eval}
-use Rattle.ccsl_words.specs.Word.{BinaryWord}
+use Rattle.ccsl_formula.specs.Formula.{FTrue, FVar, FNot}
 use Rattle.ccsl_kernel.specs.declared.expr.NumTerm.{NumTerm}
 use Rattle.ccsl_kernel.specs.declared.constraint.Constraint.{Constraint}
 use Rattle.ccsl_kernel.specs.declared.constraint.RelationKind.{RelationKind}
@@ -14,12 +13,12 @@ use Rattle.ccsl_kernel.specs.declared.expr.WordPlace.TheVariants as word
 use Rattle.ccsl_kernel.specs.declared.expr.ExprOp.TheVariants as op
 use Rattle.ccsl_kernel.specs.declared.group.ParamKind.TheVariants as kind
 use Rattle.ccsl_kernel.specs.declared.constraint.RelationKind.TheVariants.{Precedes, PrecedesWeakly}
-use Rattle.ccsl_kernel.specs.Syntax.{Body, Expression, EName, ECall, ENever, EBinary, EDelay, EAwait, EFilter, EDelayed, EIf, System}
-use Rattle.ccsl_kernel.specs.Lives.{Step, steps, step_at}
-use Rattle.ccsl_kernel.specs.Meaning.{formula_at, dead_at}
+use Rattle.ccsl_kernel.specs.Syntax.{Body, Expression, EName, ECall, ENever, EBinary, EDelay, EAwait, EFilter, EDelayed, System}
+use Rattle.ccsl_kernel.specs.Lives.{Step, steps}
+use Rattle.ccsl_kernel.specs.Meaning.{dead_at}
 use Rattle.ccsl_kernel.specs.Items.{item_formula}
 use Rattle.ccsl_kernel.specs.Runs.{completed}
-use Rattle.ccsl_kernel.specs.Verdict.{Verdict, Run, Violated, verdict}
+use Rattle.ccsl_kernel.specs.Verdict.{Run, Violated, verdict}
 use Rattle.ccsl_kernel.specs.Cells.{cells, cells_in}
 
 abbrev num : ℕ → NumTerm

@@ -2,7 +2,6 @@
 use Rattle.std.proofs.Common.{◌≡◌, ℕ, zero, suc, ◌<◌, ◌≤◌, inl, inr, List, [], ◌∷◌, ◌++◌, map, find, length, Bool, true, false, Option, Some, None, refl, sym, ap, ap₂, ◌∙◌, arith, le-leb, if◌then◌else◌}
 use Rattle.std.proofs.lemmas.Bool.{lt-leb}
 use Rattle.ccsl_kernel.specs.declared.expr.ExprOp.{ExprOp}
-use Rattle.ccsl_kernel.specs.declared.expr.Value.{Value}
 use Rattle.ccsl_kernel.specs.declared.actual.Actual.{Actual}
 use Rattle.ccsl_kernel.specs.declared.expr.ExprOp.TheVariants as op
 use Rattle.ccsl_kernel.specs.declared.actual.Actual.TheVariants as actual

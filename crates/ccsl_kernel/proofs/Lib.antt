@@ -21,3 +21,7 @@ pub mod Fits
 pub mod TickWords
 pub mod AcceptedParts
 pub mod OpenCalls
+pub mod DeathTable
+pub mod WalkSteps
+pub mod ItemCases
+pub mod FirstViolation

@@ -1,5 +1,5 @@
 -- Opening a call, at a level above 0: the body is opened at the level below.
-use Rattle.std.proofs.Common.{◌≡◌, ℕ, zero, suc, ◌-◌, ◌<◌, List, map, Some, refl, ap, ap₂, ◌∙◌, arith}
+use Rattle.std.proofs.Common.{◌≡◌, ℕ, zero, suc, ◌-◌, ◌<◌, List, map, Some, ap₂, arith}
 use Rattle.ccsl_kernel.specs.declared.expr.Value.{Value}
 use Rattle.ccsl_kernel.specs.declared.actual.Actual.{Actual}
 use Rattle.ccsl_kernel.specs.Syntax.{ECall, Body, System, body_of, root_or_never}

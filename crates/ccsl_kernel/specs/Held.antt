@@ -1,5 +1,5 @@
 -- The course that boxed nodes hold, and the deaths of clocks that a table holds.
-use Rattle.std.specs.Prelude.{ℕ, ◌-◌, ◌≤◌, List, [], Bool, false, Option, Some, None, slice_get, slice_index_or, nat_lt, if◌then◌else◌}
+use Rattle.std.specs.Prelude.{ℕ, ◌-◌, ◌≤◌, List, [], Bool, false, slice_index_or, nat_lt, if◌then◌else◌}
 use Rattle.ccsl_words.specs.Word.{BinaryWord}
 use Rattle.ccsl_kernel.specs.declared.course.Course.{Course as Node, One', Two', Then'}
 use Rattle.ccsl_kernel.specs.declared.course.Course.TheVariants.{Name, Never}

@@ -1,14 +1,16 @@
 -- The laws of the meaning, as statements on a system.
-use Rattle.std.specs.Prelude.{◌≡◌, ℕ, ◌+◌, ◌<◌, ◌≤◌, List, [], true, false, Some, length, map}
+use Rattle.std.specs.Prelude.{◌≡◌, ℕ, ◌+◌, ◌<◌, ◌≤◌, List, [], true, false, Some, length, map, slice_index}
 use Rattle.std.specs.List.{list_all}
+use Rattle.ccsl_base.specs.declared.rows.Row.{Row}
 use Rattle.ccsl_formula.specs.Formula.{eval, ReadsBelow}
 use Rattle.ccsl_kernel.specs.declared.actual.Actual.{Actual}
-use Rattle.ccsl_kernel.specs.Syntax.{Expression, System, definition_of}
+use Rattle.ccsl_kernel.specs.Syntax.{Expression, System, item_count, definition_of}
 use Rattle.ccsl_kernel.specs.Lives.{Step, Life, step_at}
 use Rattle.ccsl_kernel.specs.Meaning.{dead_below, meaning, formula_at, dead_at}
 use Rattle.ccsl_kernel.specs.Guarded.{IsAllowed}
-use Rattle.ccsl_kernel.specs.Runs.{ObeysDefinitions, declared_part, is_declared, is_named, completed}
+use Rattle.ccsl_kernel.specs.Runs.{IsRun, ObeysDefinitions, declared_part, is_declared, is_named, completed}
 use Rattle.ccsl_kernel.specs.Items.{item_formula}
+use Rattle.ccsl_kernel.specs.Verdict.{Run, Violated, is_violated, verdict, IsFirstViolation}
 use Rattle.ccsl_kernel.specs.Rows.{IsTable, CallsAreBodies}
 
 -- a meaning of the expressions in the definition of clock x that obeys each row of the table, calls included
@@ -59,3 +61,14 @@ CompletionOnly K = (R T : List Step) → Completes K R T → T ≡ completed K R
 -- THE EMPTY SET SATISFIES EVERY ITEM'S FORMULA at every step
 abbrev pub EmptyHolds : System → Type 0
 EmptyHolds K = (T : List Step) (n i : ℕ) → n ≤ length T → eval (item_formula K T n i) [] ≡ true
+
+-- A RUN OBEYS THE DEFINITIONS
+abbrev pub RunsObey : System → Type 0
+RunsObey K = (T : List Step) → IsRun K T → ObeysDefinitions K T
+
+-- THE VERDICT IS THE FIRST VIOLATION, with the row's time, or a run where there is none
+pub record VerdictIsFirst (K : System) : Type 0 where
+  pub run : (bound : List ℕ) (rows : List Row) → ((n j : ℕ) → n < length rows → j < item_count K → is_violated K bound rows n j ≡ false) →
+      verdict K bound rows ≡ Run (length rows)
+  pub violated : (bound : List ℕ) (rows : List Row) (s i : ℕ) → IsFirstViolation K bound rows s i →
+      verdict K bound rows ≡ Violated s (slice_index (map (λ row. row.time) rows) s) i

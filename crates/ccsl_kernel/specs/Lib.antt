@@ -23,3 +23,4 @@ pub mod Asked
 pub mod Deep
 pub mod Held
 pub mod AcceptedPieces
+pub mod Columns

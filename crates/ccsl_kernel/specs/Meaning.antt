@@ -8,7 +8,7 @@ use Rattle.ccsl_kernel.specs.declared.actual.Actual.{Actual}
 use Rattle.ccsl_kernel.specs.declared.actual.Actual.TheVariants as actual
 use Rattle.ccsl_kernel.specs.Syntax.{Expression, EName, ECall, ENever, EBinary, EDelay, EAwait, EFilter, EDelayed, EIf, System, root_of, definition_of}
 use Rattle.ccsl_kernel.specs.Actuals.{place_of, number_of, spot_of, value_of, test_of, word_of}
-use Rattle.ccsl_kernel.specs.Table.{Now, never_row, delay_row, await_row, filter_row, delayed_row}
+use Rattle.ccsl_kernel.specs.Table.{never_row, delay_row, await_row, filter_row, delayed_row}
 use Rattle.ccsl_kernel.specs.Lives.{Step, Life, over_one, over_two, joined}
 
 -- gone n x: whether clock x is dead at n

@@ -22,10 +22,8 @@ pub fn advanced<'s>(
     at: usize,
 ) -> Result<Course<'s>, Memory>
     requires { IsReady system.now.words (held system.now.words course) }
-    ensures next {
-        IfOk result (λ c. (gone : ℕ → Bool) → held system.now.words c ≡
-            next system.now step.now gone (gone_in deaths.now at) (held system.now.words course.entry))
-    }
+    ensures next { IfOk result (λ c. (gone : ℕ → Bool) → held system.now.words c ≡
+        next system.now step.now gone (gone_in deaths.now at) (held system.now.words course.entry)) }
     ensures ready { IfOk result (λ c. IsReady system.now.words (held system.now.words c)) }
 {
     let words = system.words();

@@ -28,9 +28,7 @@ pub enum Course<'s> {
 impl<'s> Course<'s> {
     /// The formula at the present step.
     pub fn formula(&self, alloc: Global, words: &[Word]) -> Result<Formula, Memory>
-        ensures {
-            IfOk result (λ f. (gone : ℕ → Bool) → plain f ≡ (now_of gone (held words.now self.now)).formula)
-        }
+        ensures { IfOk result (λ f. (gone : ℕ → Bool) → plain f ≡ (now_of gone (held words.now self.now)).formula) }
     {
         match self {
             Course::Name(x) => Ok(Formula::Var(*x)),

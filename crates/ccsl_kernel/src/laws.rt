@@ -2,7 +2,7 @@
 
 ghost use Rattle.ccsl_kernel.specs.Syntax.{System};
 ghost use Rattle.ccsl_kernel.specs.Accepted.{IsAccepted};
-ghost use Rattle.ccsl_kernel.specs.Laws.{RowsHold, NamesDie, RowsDetermine, FirstStepsMatter, ReadsLower, DeadStays, CompletionExists, CompletionOnly, EmptyHolds};
+ghost use Rattle.ccsl_kernel.specs.Laws.{RowsHold, NamesDie, RowsDetermine, FirstStepsMatter, ReadsLower, DeadStays, CompletionExists, CompletionOnly, RunsObey, EmptyHolds, VerdictIsFirst};
 
 /// Each row of the table holds of the meaning as an equation, calls of earlier groups and of the own one included.
 pub fn rows_hold()
@@ -44,7 +44,17 @@ pub fn completion_only()
     ensures { (K : System) → IsAccepted K → CompletionOnly K }
 {}
 
+/// A run obeys the definitions. So it is the completion of its declared part.
+pub fn runs_obey()
+    ensures { (K : System) → RunsObey K }
+{}
+
 /// The empty set satisfies every item's formula at every step, so a step of a simulation must be nonempty.
 pub fn empty_holds()
     ensures { (K : System) → IsAccepted K → EmptyHolds K }
+{}
+
+/// The verdict is the least violated step and the least item there, or a run where nothing is violated.
+pub fn verdict_is_first()
+    ensures { (K : System) → VerdictIsFirst K }
 {}

@@ -80,9 +80,7 @@ fn all_actuals(
 
 // An operator of one operand that has not ticked yet.
 fn over_one<'s>(alloc: Global, row: OneRow, a: Course<'s>) -> Result<Course<'s>, Memory>
-    ensures {
-        IfOk result (λ c. (words : List BinaryWord) → held words c ≡ COne (one_row words row) (held words a.entry) [])
-    }
+    ensures { IfOk result (λ c. (words : List BinaryWord) → held words c ≡ COne (one_row words row) (held words a.entry) []) }
 {
     Ok(Course::One(row, Box::new(alloc, a)?, Vec::new(alloc)))
 }
@@ -94,10 +92,8 @@ fn over_two<'s>(
     a: Course<'s>,
     d: Course<'s>,
 ) -> Result<Course<'s>, Memory>
-    ensures {
-        IfOk result (λ c. (words : List BinaryWord) →
-            held words c ≡ CTwo (two_row row) (held words a.entry) (held words d.entry) [] [])
-    }
+    ensures { IfOk result (λ c. (words : List BinaryWord) →
+        held words c ≡ CTwo (two_row row) (held words a.entry) (held words d.entry) [] []) }
 {
     Ok(Course::Two(
         row,
@@ -119,10 +115,8 @@ pub fn opened<'s>(
     requires shallow { deep (plain_expr e.now) ≤ 129 }
     requires offsets { ExprFits system.now.words (plain_expr e.now) }
     requires actuals { ActualsFit system.now.words actuals.now }
-    ensures course {
-        IfOk result (λ c. held system.now.words c ≡
-            open_with system.now (open_bodies system.now level) (plain_expr e.now) actuals.now)
-    }
+    ensures course { IfOk result (λ c. held system.now.words c ≡
+        open_with system.now (open_bodies system.now level) (plain_expr e.now) actuals.now) }
     ensures ready { IfOk result (λ c. IsReady system.now.words (held system.now.words c)) }
 {
     match e {

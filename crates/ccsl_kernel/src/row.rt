@@ -21,23 +21,23 @@ pub enum OneRow {
 impl OneRow {
     /// Whether the operator lets its operand's formula through, after these ticks of it.
     pub fn is_open(self, words: &[Word], ticks: &[bool]) -> bool
-        ensures {
-            (a : Now) →
-            (one_row words.now self (operand_of a ticks.now)).formula ≡ (if result then a.formula else FFalse)
-        }
+        ensures { (a : Now) →
+            (one_row words.now self (operand_of a ticks.now)).formula ≡ (if result then a.formula else FFalse) }
     {
         match self {
             OneRow::Delay(m) => u64::from(m) <= count(ticks),
             OneRow::Await(m) => count(ticks) + 1 == u64::from(m),
-            OneRow::Filter(word, offset) => letter_at(words, word, u64::from(offset) + count(ticks)),
+            OneRow::Filter(word, offset) => letter_at(
+                words,
+                word,
+                u64::from(offset) + count(ticks),
+            ),
         }
     }
 
     /// Whether the operator is dead, where its operand is or not.
     pub fn is_dead(self, words: &[Word], dead: bool, ticks: &[bool]) -> bool
-        ensures {
-            (a : Now) → a.dead ≡ dead → result ≡ (one_row words.now self (operand_of a ticks.now)).dead
-        }
+        ensures { (a : Now) → a.dead ≡ dead → result ≡ (one_row words.now self (operand_of a ticks.now)).dead }
     {
         match self {
             OneRow::Delay(_) => dead,
@@ -79,10 +79,8 @@ pub enum Asked {
 impl TwoRow {
     /// What the operator asks for, after these ticks of its operands.
     pub fn asked(self, p: &[bool], q: &[bool]) -> Asked
-        ensures {
-            (a d : Now) →
-            (two_row self (operand_of a p.now) (operand_of d q.now)).formula ≡ asked_formula result a.formula d.formula
-        }
+        ensures { (a d : Now) →
+            (two_row self (operand_of a p.now) (operand_of d q.now)).formula ≡ asked_formula result a.formula d.formula }
     {
         match self {
             TwoRow::Union => Asked::Either,
@@ -92,10 +90,18 @@ impl TwoRow {
             TwoRow::Sup => ahead(count(q), count(p), Asked::Both),
             TwoRow::Upto => either(ever(q), Asked::Nothing, Asked::LeftAlone),
             TwoRow::Sampled => {
-                either(some_waits(Since::NoneAfter, p, q), Asked::Right, Asked::Nothing)
+                either(
+                    some_waits(Since::NoneAfter, p, q),
+                    Asked::Right,
+                    Asked::Nothing,
+                )
             }
             TwoRow::SampledWeakly => {
-                either(some_waits(Since::NoneFrom, p, q), Asked::Right, Asked::RightAndLeft)
+                either(
+                    some_waits(Since::NoneFrom, p, q),
+                    Asked::Right,
+                    Asked::RightAndLeft,
+                )
             }
             TwoRow::Delayed(m) => {
                 let since = Since::Just(u64::from(m).saturating_sub(1));
@@ -106,10 +112,8 @@ impl TwoRow {
 
     /// Whether the operator is dead, where its operands are or not.
     pub fn is_dead(self, x: bool, p: &[bool], y: bool, q: &[bool]) -> bool
-        ensures {
-            (a d : Now) → a.dead ≡ x → d.dead ≡ y →
-            result ≡ (two_row self (operand_of a p.now) (operand_of d q.now)).dead
-        }
+        ensures { (a d : Now) → a.dead ≡ x → d.dead ≡ y →
+            result ≡ (two_row self (operand_of a p.now) (operand_of d q.now)).dead }
     {
         match self {
             TwoRow::Union | TwoRow::Inf => x && y,

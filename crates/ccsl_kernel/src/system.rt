@@ -92,7 +92,8 @@ impl System {
     /// The expression that defines clock number `declared + i`.
     pub fn definition(&self, i: u32) -> &Expr
         requires { i < length self.now.definitions }
-        ensures { slice_get self.now.definitions i ≡ Some (plain_expr result.now) }
+        ensures definition { slice_get self.now.definitions i ≡ Some (plain_expr result.now) }
+        ensures accepted { IsAccepted self.now }
     {
         &self.parts.definitions.members()[i as usize]
     }

@@ -1,5 +1,4 @@
 -- The rows determine it, and so do the deaths of clocks.
-use Rattle.std.proofs.Common.{arith}
 use Rattle.ccsl_kernel.specs.Meaning.{dead_below}
 use Rattle.ccsl_kernel.proofs.TableHolds.{first_steps_matter}
 use Rattle.ccsl_kernel.proofs.Definitions.{dead_below-same}

@@ -3,7 +3,7 @@ use Rattle.std.proofs.Common.{rules, ◌≡◌, ◌-◌, ◌≤◌, ◌<◌, Som
 use Rattle.ccsl_kernel.specs.Syntax.{body_of}
 use Rattle.ccsl_kernel.specs.Plain.{plain_expr, plain_body}
 use Rattle.ccsl_kernel.specs.Actuals.{value_of}
-use Rattle.ccsl_kernel.specs.Course.{Course, open_with, open_bodies}
+use Rattle.ccsl_kernel.specs.Course.{open_with, open_bodies}
 use Rattle.ccsl_kernel.specs.Held.{held}
 use Rattle.ccsl_kernel.specs.Fit.{ActualsFit}
 use Rattle.ccsl_kernel.specs.Deep.{deep}
@@ -30,7 +30,7 @@ returns-in_ok-actuals-in-Some-clause-course t c =
     let above : 0 < c.args.level = omega arith in
     rw c.in-Call.is
     (let down =
-        opened_call K c.args.level c.in-Call.group c.in-Call.member c.in-Call.args c.args.actuals.now (plain_body c.in-Some.body.now) above (called t s)
-        ∙ ap (open_with K (open_bodies K (c.args.level - 1)) (plain_expr c.in-Some.body.now.root))
-        (sym (c.deref.ensures.value ∙ c.in_ok-actuals-in-Some.ensures.values ∙ ap₂ (λ w vs. map (value_of w c.args.actuals.now) vs) c.words.ensures c.members.ensures)) in
+    opened_call K c.args.level c.in-Call.group c.in-Call.member c.in-Call.args c.args.actuals.now (plain_body c.in-Some.body.now) above (called t s)
+    ∙ ap (open_with K (open_bodies K (c.args.level - 1)) (plain_expr c.in-Some.body.now.root))
+    (sym (c.deref.ensures.value ∙ c.in_ok-actuals-in-Some.ensures.values ∙ ap₂ (λ w vs. map (value_of w c.args.actuals.now) vs) c.words.ensures c.members.ensures)) in
     subst (λ t. IfOk c.opened.result (λ c'. held K.words c' ≡ t)) (sym down) c.opened.ensures.course)
