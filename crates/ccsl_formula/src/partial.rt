@@ -1,0 +1,104 @@
+//! Partial assignments.
+
+ghost use Rattle.std.specs.Prelude.{◌≡◌, ◌<◌, ◌≤◌, [], IsTrue, MatchOption};
+ghost use Rattle.ccsl_base.specs.Clocks.{is_ascending, are_below};
+ghost use Rattle.ccsl_formula.specs.Known.{known, clocks, with_value, with_truth};
+ghost use Rattle.ccsl_formula.specs.Truth.{known_as};
+ghost use Rattle.ccsl_formula.specs.declared.truth3.Truth3.TheVariants.{Open};
+
+use crate::truth3::Truth3;
+use crate::word::{has_bit, with_bit};
+use ccsl_base::MAX_CLOCKS;
+use std::marker::Model;
+
+/// Truth values of some clocks below [`MAX_CLOCKS`].
+#[derive(Drop)]
+pub struct Partial {
+    valued: u64,
+    truth: u64,
+}
+
+impl Model for Partial {
+    ghost use Rattle.std.specs.Prelude.{List, ℕ, Bool};
+    ghost use Rattle.ccsl_formula.specs.Kept.{pairs_of};
+
+    ghost Value = { List (ℕ × Bool) };
+
+    ghost view = { λ p. pairs_of p.valued p.truth };
+}
+
+impl Partial {
+    /// No clock has a value.
+    pub fn empty() -> Partial
+        ensures { result ≡ [] }
+    {
+        Partial {
+            valued: 0,
+            truth: 0,
+        }
+    }
+
+    /// The value of a clock. A number past the limit has none.
+    pub fn value(&self, clock: u32) -> Truth3
+        ensures value { result ≡ known self.now clock }
+        ensures past { MAX_CLOCKS ≤ clock → result ≡ Open }
+        ensures ascending { IsTrue (is_ascending (clocks self.now)) }
+        ensures below { IsTrue (are_below MAX_CLOCKS (clocks self.now)) }
+    {
+        if clock < MAX_CLOCKS && has_bit(self.valued, clock) {
+            Truth3::known_as(has_bit(self.truth, clock))
+        } else {
+            Truth3::Open
+        }
+    }
+
+    /// The value of a clock, where it has one.
+    pub fn get(&self, clock: u32) -> Option<bool>
+        ensures { MatchOption result (known self.now clock ≡ Open) (λ b. known self.now clock ≡ known_as b) }
+    {
+        match self.value(clock) {
+            Truth3::Yes => Some(true),
+            Truth3::No => Some(false),
+            Truth3::Open => None,
+        }
+    }
+
+    /// Gives a clock a value, in place of the one that it may have had.
+    pub fn set(&mut self, clock: u32, value: bool)
+        requires { clock < MAX_CLOCKS }
+        ensures { known self.new ≡ with_value (known self.old) clock value }
+    {
+        self.valued = with_bit(self.valued, clock, true);
+        self.truth = with_bit(self.truth, clock, value);
+    }
+
+    /// Takes away the value of a clock.
+    pub fn forget(&mut self, clock: u32)
+        ensures { known self.new ≡ with_truth (known self.old) clock Open }
+    {
+        if clock < MAX_CLOCKS {
+            self.valued = with_bit(self.valued, clock, false);
+        }
+    }
+
+    /// Takes over what another one says of a clock, also that it has no value.
+    pub fn take(&mut self, other: &Partial, clock: u32)
+        ensures { known self.new ≡ with_truth (known self.old) clock (known other.now clock) }
+    {
+        match other.value(clock) {
+            Truth3::Yes => self.set(clock, true),
+            Truth3::No => self.set(clock, false),
+            Truth3::Open => self.forget(clock),
+        }
+    }
+
+    /// The same values.
+    pub fn copy(&self) -> Partial
+        ensures { result ≡ self.now }
+    {
+        Partial {
+            valued: self.valued,
+            truth: self.truth,
+        }
+    }
+}

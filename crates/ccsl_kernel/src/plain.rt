@@ -1,0 +1,129 @@
+//! The slow evaluation of an item's formula, over a whole list of steps.
+
+ghost use Rattle.std.specs.Prelude.{◌≡◌, ◌<◌, ◌≤◌, IfOk, length};
+ghost use Rattle.ccsl_formula.specs.Formula.{FVar, FNot, FOr};
+ghost use Rattle.ccsl_formula.specs.Plain.{plain};
+ghost use Rattle.ccsl_kernel.specs.Syntax.{item_count};
+ghost use Rattle.ccsl_kernel.specs.Items.{clock_count, constraint_formula, item_formula};
+ghost use Rattle.ccsl_kernel.specs.Columns.{columns};
+
+use crate::constraint::{Constraint, RelationKind};
+use crate::deaths::Deaths;
+use crate::system::System;
+use crate::walk::followed;
+use ccsl_base::{ClockSet, Memory, Seq};
+use ccsl_formula::Formula;
+use std::alloc::Global;
+
+/// The formula of an item at the step after `steps`, as the table of expressions and that of relations give it, with nothing
+/// folded. Each expression is followed from its birth on with all its operands' ticks, so the time is about that of the square
+/// of the number of steps, for each of the item's cells and those of the definitions before it.
+pub fn plain_formula(
+    alloc: Global,
+    system: &System,
+    item: u32,
+    steps: &[ClockSet],
+) -> Result<Formula, Memory>
+    requires { item < item_count system.now }
+    ensures { IfOk result (λ f. plain f ≡ item_formula system.now steps.now (length steps.now) item) }
+{
+    let definitions = system.definitions();
+    if item < definitions {
+        definition_formula(alloc, system, item, steps)
+    } else {
+        constraint_formula(alloc, system.constraint(item - definitions), steps)
+    }
+}
+
+// The formula of the definition of clock number `declared + i`.
+fn definition_formula(
+    alloc: Global,
+    system: &System,
+    i: u32,
+    list: &[ClockSet],
+) -> Result<Formula, Memory>
+    requires { i < length system.now.definitions }
+    ensures { IfOk result (λ f. plain f ≡ item_formula system.now list.now (length list.now) i) }
+{
+    let columns = deaths_before(alloc, system, i, list)?;
+    let declared = system.scope().declared;
+    let deaths = Deaths {
+        declared,
+        columns: &columns,
+    };
+    let walk = followed(alloc, system, system.definition(i), list, &deaths)?;
+    let asked = walk.course.formula(alloc, system.words())?;
+    let clock = Box::new(alloc, Formula::Var(declared + i))?;
+    Ok(Formula::Iff(clock, Box::new(alloc, asked)?))
+}
+
+// When each of the first `count` defined clocks is dead.
+fn deaths_before(
+    alloc: Global,
+    system: &System,
+    count: u32,
+    list: &[ClockSet],
+) -> Result<Vec<Seq<bool>>, Memory>
+    requires { count ≤ length system.now.definitions }
+    ensures { IfOk result (λ v. v.items ≡ columns system.now list.now count) }
+{
+    let declared = system.scope().declared;
+    let mut columns = Vec::with_capacity(alloc, count as usize)?;
+    for i in 0..count {
+        let deaths = Deaths {
+            declared,
+            columns: &columns,
+        };
+        let walk = followed(alloc, system, system.definition(i), list, &deaths)?;
+        columns.push(Seq::new(walk.deaths))?;
+    }
+    Ok(columns)
+}
+
+// The formula of a constraint after a list of steps.
+fn constraint_formula(
+    alloc: Global,
+    constraint: &Constraint,
+    list: &[ClockSet],
+) -> Result<Formula, Memory>
+    ensures { IfOk result (λ f. plain f ≡ constraint_formula list.now (length list.now) constraint.now) }
+{
+    let (a, b) = (constraint.left, constraint.right);
+    let level = clock_count(list, a) == clock_count(list, b);
+    match constraint.kind {
+        RelationKind::Subclock => either(alloc, without(alloc, a)?, Formula::Var(b)),
+        RelationKind::Coincides => {
+            let left = Box::new(alloc, Formula::Var(a))?;
+            Ok(Formula::Iff(left, Box::new(alloc, Formula::Var(b))?))
+        }
+        RelationKind::Excludes => {
+            let left = Box::new(alloc, Formula::Var(a))?;
+            let both = Formula::And(left, Box::new(alloc, Formula::Var(b))?);
+            Ok(Formula::Not(Box::new(alloc, both)?))
+        }
+        RelationKind::Precedes if level => without(alloc, b),
+        RelationKind::PrecedesWeakly if level => {
+            either(alloc, without(alloc, b)?, Formula::Var(a))
+        }
+        RelationKind::Precedes | RelationKind::PrecedesWeakly => Ok(Formula::True),
+    }
+}
+
+fn without(alloc: Global, clock: u32) -> Result<Formula, Memory>
+    ensures { IfOk result (λ f. plain f ≡ FNot (FVar clock)) }
+{
+    Ok(Formula::Not(Box::new(alloc, Formula::Var(clock))?))
+}
+
+fn either(alloc: Global, f: Formula, g: Formula) -> Result<Formula, Memory>
+    ensures { IfOk result (λ r. plain r ≡ FOr (plain f) (plain g)) }
+{
+    Ok(Formula::Or(Box::new(alloc, f)?, Box::new(alloc, g)?))
+}
+
+// How often a clock ticks in a list of steps.
+fn clock_count(list: &[ClockSet], x: u32) -> usize
+    ensures { result ≡ clock_count list.now x (length list.now) }
+{
+    list.iter().filter(|step| step.has(x)).count()
+}

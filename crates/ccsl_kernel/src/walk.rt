@@ -1,0 +1,54 @@
+//! An expression followed over a list of steps.
+
+ghost use Rattle.std.specs.Prelude.{◌≡◌, ◌≤◌, [], IfOk, map, length, suc};
+ghost use Rattle.ccsl_kernel.specs.Plain.{plain_expr};
+ghost use Rattle.ccsl_kernel.specs.Lives.{steps};
+ghost use Rattle.ccsl_kernel.specs.Course.{opening, grown, course_life};
+ghost use Rattle.ccsl_kernel.specs.Held.{held, gone_in};
+ghost use Rattle.ccsl_kernel.specs.Fit.{ExprFits};
+ghost use Rattle.ccsl_kernel.specs.Deep.{deep};
+
+use crate::advance::advanced;
+use crate::course::Course;
+use crate::deaths::Deaths;
+use crate::expr::Expr;
+use crate::opening::opened;
+use crate::system::System;
+use ccsl_base::{ClockSet, Memory};
+use std::alloc::Global;
+
+/// Where an expression has come to, and whether it was dead at each position from 0 on.
+#[derive(Drop)]
+pub struct Walk<'s> {
+    pub course: Course<'s>,
+    pub deaths: Vec<bool>,
+}
+
+/// Follows an expression that is born at 0, where it is known when clocks are dead.
+pub fn followed<'s>(
+    alloc: Global,
+    system: &'s System,
+    e: &'s Expr,
+    list: &[ClockSet],
+    deaths: &Deaths,
+) -> Result<Walk<'s>, Memory>
+    requires shallow { deep (plain_expr e.now) ≤ 129 }
+    requires offsets { ExprFits system.now.words (plain_expr e.now) }
+    ensures course { IfOk result (λ walk. held system.now.words walk.course ≡
+        grown system.now list.now (gone_in deaths.now) (opening system.now (plain_expr e.now) []) 0 (length list.now)) }
+    ensures deaths { IfOk result (λ walk. walk.deaths.items ≡
+        map (λ n. (course_life system.now list.now (gone_in deaths.now) (plain_expr e.now) [] 0 n).dead) (steps 0 (suc (length list.now)))) }
+{
+    let words = system.words();
+    let mut course = opened(alloc, system, system.groups().len(), e, &[])?;
+    let mut column = Vec::with_capacity(alloc, list.len() + 1)?;
+    column.push(course.is_dead(words, deaths, 0))?;
+    for (i, step) in list.iter().enumerate() {
+        course = advanced(alloc, system, course, step, deaths, i + 1)?;
+        column.push(course.is_dead(words, deaths, i + 1))?;
+    }
+    Ok(Walk {
+        course,
+        deaths: column,
+    })
+}

@@ -1,0 +1,5 @@
+use Rattle.ccsl_words.proofs.Splits.{spelling_apart}
+use Rattle.ccsl_words.proofs.laws.spellings_differ.Goals as goal
+
+pub returns : goal.returns
+returns c = spelling_apart
