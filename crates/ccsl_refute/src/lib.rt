@@ -1,0 +1,13 @@
+//! Certificates that no set of clocks satisfies some formulas, and a checker that knows nothing of a solver.
+#![tactic(auto)]
+
+pub mod checker;
+pub mod clause;
+pub mod laws;
+pub mod line;
+
+pub use checker::{CheckFault, check};
+pub use line::{Line, Lit};
+
+#[cfg(test)]
+mod tests;
