@@ -4,3 +4,6 @@ pub mod Bad
 pub mod Meaning
 pub mod Answer
 pub mod Below
+pub mod Text
+pub mod Reading
+pub mod Read

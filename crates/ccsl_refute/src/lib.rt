@@ -3,10 +3,14 @@
 
 pub mod checker;
 pub mod clause;
+pub mod fault;
 pub mod laws;
 pub mod line;
+mod number;
+mod token;
 
 pub use checker::{CheckFault, check};
+pub use fault::CertFault;
 pub use line::{Line, Lit};
 
 #[cfg(test)]
