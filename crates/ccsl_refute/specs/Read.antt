@@ -1,5 +1,5 @@
 -- That a call answers as a reading says, or for want of memory.
-use Rattle.std.specs.Prelude.{ℕ, ◌≡◌, List, Ok, Err}
+use Rattle.std.specs.Prelude.{ℕ, ◌≡◌, List, [], ◌∷◌, Option, Some, None, Ok, Err}
 use Rattle.std.specs.declared.result.Result.{Result}
 use Rattle.ccsl_refute.specs.declared.fault.CertFault.{CertFault}
 use Rattle.ccsl_refute.specs.declared.fault.CertFault.TheVariants.{Syntax, UnknownName, Memory}
@@ -10,3 +10,7 @@ Reads f expected (Ok x) = expected ≡ Ok (f x)
 Reads f expected (Err (Syntax at)) = expected ≡ Err (Syntax at)
 Reads f expected (Err (UnknownName at)) = expected ≡ Err (UnknownName at)
 Reads f expected (Err Memory) = Unit {0}
+
+abbrev pub members : {A : Type 0} → Option A → List A
+members None = []
+members (Some x) = x ∷ []

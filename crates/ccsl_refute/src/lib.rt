@@ -7,6 +7,7 @@ pub mod fault;
 pub mod laws;
 pub mod line;
 mod number;
+pub mod reader;
 mod token;
 
 pub use checker::{CheckFault, check};

@@ -24,7 +24,7 @@ pub fn number(text: &[u8]) -> Option<u64>
     }
     let mut value = 0u64;
     let mut rest = text;
-    while let [digit, tail @ ..] = rest {
+    'digits: while let [digit, tail @ ..] = rest {
         if !digit.is_ascii_digit() {
             return None;
         }

@@ -1,6 +1,6 @@
 //! The tokens of a line.
 
-ghost use Rattle.std.specs.Prelude.{◌≡◌, ◌+◌, ◌<◌, ◌^◌, [], ◌∷◌, not, MatchOption, length};
+ghost use Rattle.std.specs.Prelude.{◌≡◌, ◌+◌, ◌<◌, ◌≤◌, ◌^◌, [], ◌∷◌, not, MatchOption, length};
 ghost use Rattle.std.specs.List.{prefix_len};
 ghost use Rattle.ccsl_refute.specs.Text.{is_blank, tokens};
 
@@ -80,14 +80,16 @@ fn is_blank(byte: u8) -> bool
 
 /// How many blanks and tabs the bytes begin with.
 fn blanks(bytes: &[u8]) -> usize
-    ensures { result ≡ prefix_len is_blank bytes.now }
+    ensures count { result ≡ prefix_len is_blank bytes.now }
+    ensures within { result ≤ length bytes.now }
 {
     bytes.iter().take_while(|b| is_blank(**b)).count()
 }
 
 /// How many other bytes they begin with.
 fn letters(bytes: &[u8]) -> usize
-    ensures { result ≡ prefix_len (λ b. not (is_blank b)) bytes.now }
+    ensures count { result ≡ prefix_len (λ b. not (is_blank b)) bytes.now }
+    ensures within { result ≤ length bytes.now }
 {
     bytes.iter().take_while(|b| !is_blank(**b)).count()
 }
