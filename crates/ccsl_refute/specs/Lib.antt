@@ -7,3 +7,4 @@ pub mod Below
 pub mod Text
 pub mod Reading
 pub mod Read
+pub mod Writing

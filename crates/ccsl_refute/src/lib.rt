@@ -9,6 +9,7 @@ pub mod line;
 mod number;
 pub mod reader;
 mod token;
+pub mod writer;
 
 pub use checker::{CheckFault, check};
 pub use fault::CertFault;
