@@ -5,3 +5,5 @@ pub mod Tokens
 pub mod Numbers
 pub mod InOrder
 pub mod Lines
+pub mod Words
+pub mod ReadBack

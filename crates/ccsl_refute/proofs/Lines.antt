@@ -14,7 +14,7 @@ use Rattle.ccsl_refute.proofs.InOrder.{put_before, put_before-more}
 use Rattle.ccsl_refute.proofs.Tokens.{split-last}
 
 -- a line that ends at a line feed: another one follows
-followed : (at : ℕ) (w : List ℕ) (k : ℕ) (parts : List (List ℕ)) → 0 < length parts →
+pub followed : (at : ℕ) (w : List ℕ) (k : ℕ) (parts : List (List ℕ)) → 0 < length parts →
     without_returns ((at, w) ∷ placed k parts) ≡ (at, strip_carriage_return w) ∷ without_returns (placed k parts)
 followed at w k [] l = absurd (omega arith)
 followed at w k (v ∷ parts) l = refl

@@ -1,10 +1,15 @@
 //! Laws of certificates, each as a function without a body.
 
-ghost use Rattle.std.specs.Prelude.{◌≡◌, ℕ, List, true, Some, None};
+ghost use Rattle.std.specs.Prelude.{◌≡◌, ℕ, List, true, Some, None, Ok, All, length};
 ghost use Rattle.ccsl_formula.specs.declared.scope.Scope.{Scope};
 ghost use Rattle.ccsl_formula.specs.Formula.{Formula};
 ghost use Rattle.ccsl_formula.specs.Truth.{Assignment};
 ghost use Rattle.ccsl_refute.specs.declared.line.Line.{Line};
+ghost use Rattle.ccsl_base.specs.Names.{are_distinct};
+ghost use Rattle.ccsl_refute.specs.CertNames.{are_cert_names, NumbersFit};
+ghost use Rattle.ccsl_refute.specs.Below.{AreBelow};
+ghost use Rattle.ccsl_refute.specs.Reading.{reading};
+ghost use Rattle.ccsl_refute.specs.Writing.{lines_text, literals};
 ghost use Rattle.ccsl_refute.specs.Bad.{IsFirstBad};
 ghost use Rattle.ccsl_refute.specs.Meaning.{Solves, ClausesHold, Blocks};
 ghost use Rattle.ccsl_refute.specs.Validity.{are_valid, is_certificate, first_bad_line};
@@ -31,3 +36,14 @@ pub fn first_bad_line_is_first()
     ensures certificate { (scope : Scope) (formulas : List Formula) (lines : List Line) →
         is_certificate scope formulas lines ≡ true → first_bad_line scope formulas lines ≡ None }
 {}
+
+/// What is written reads back as the same lines.
+pub fn written_lines_read_back()
+    ensures {
+        (names : List (List ℕ)) (lines : List Line) →
+            are_distinct names ≡ true → are_cert_names names ≡ true →
+            All (λ line. AreBelow (length names) (literals line)) lines → All NumbersFit lines →
+            reading names (lines_text names lines) ≡ Ok lines
+    }
+{
+}
