@@ -7,3 +7,4 @@ pub mod InOrder
 pub mod Lines
 pub mod Words
 pub mod ReadBack
+pub mod Written

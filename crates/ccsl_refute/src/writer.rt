@@ -1,6 +1,9 @@
 //! Writing the text of a certificate.
 
-ghost use Rattle.std.specs.Prelude.{◌≡◌, [], ◌∷◌, ◌++◌, ◌<◌, All, IfOk, decimal, length, map};
+ghost use Rattle.std.specs.Prelude.{◌≡◌, ◌<◌, ◌^◌, [], ◌∷◌, ◌++◌, true, All, IfOk, Ok, decimal, length, map};
+ghost use Rattle.ccsl_base.specs.Names.{are_distinct};
+ghost use Rattle.ccsl_refute.specs.CertNames.{are_cert_names, AllBelow, NumbersFit};
+ghost use Rattle.ccsl_refute.specs.Reading.{reading};
 ghost use Rattle.ccsl_refute.specs.Below.{AreBelow};
 ghost use Rattle.ccsl_refute.specs.Writing.{spaced, literal_text, line_text, lines_text, literals};
 
@@ -48,7 +51,8 @@ fn write_literals(text: &mut Vec<u8>, lits: &[Lit], names: &Names) -> Result<(),
 }
 
 fn write_hints(text: &mut Vec<u8>, hints: &[u64]) -> Result<(), Memory>
-    ensures {
+    ensures fit { IfOk result (λ _. AllBelow (2 ^ 64) hints.now) }
+    ensures text {
         IfOk result (λ _. text.new.items ≡ text.old.items ++ spaced (map decimal hints.now))
     }
 {
@@ -63,7 +67,8 @@ fn write_hints(text: &mut Vec<u8>, hints: &[u64]) -> Result<(), Memory>
 
 fn write_line(text: &mut Vec<u8>, line: &Line, names: &Names) -> Result<(), Memory>
     requires { AreBelow (length names.now) (literals line.now) }
-    ensures { IfOk result (λ _. text.new.items ≡ text.old.items ++ line_text names.now line.now) }
+    ensures fit { IfOk result (λ _. NumbersFit line.now) }
+    ensures text { IfOk result (λ _. text.new.items ≡ text.old.items ++ line_text names.now line.now) }
 {
     match line {
         Line::Nonempty => text.push(b'n')?,
@@ -85,7 +90,11 @@ fn write_line(text: &mut Vec<u8>, line: &Line, names: &Names) -> Result<(), Memo
 /// The text of the lines of a certificate.
 pub fn write(alloc: Global, lines: &[Line], names: &Names) -> Result<Vec<u8>, Memory>
     requires { All (λ line. AreBelow (length names.now) (literals line)) lines.now }
-    ensures { IfOk result (λ text. text.items ≡ lines_text names.now lines.now) }
+    ensures text { IfOk result (λ text. text.items ≡ lines_text names.now lines.now) }
+    ensures reads_back {
+        are_distinct names.now ≡ true → are_cert_names names.now ≡ true →
+            IfOk result (λ text. reading names.now text.items ≡ Ok lines.now)
+    }
 {
     let mut text = Vec::new(alloc);
     'lines: for line in lines {
