@@ -1,12 +1,12 @@
 -- The checker's first bad line is the first one.
 use Rattle.std.proofs.Common.{◌≡◌, ℕ, zero, suc, ◌+◌, ◌-◌, ◌<◌, ◌≤◌, List, [], ◌∷◌, ◌++◌, length, take, Bool, true, false, not, ◌&&◌, cond, Option, Some, None, refl, sym, ap, ◌∙◌, subst, arith, slice_get, append_assoc, append-nil, length-append}
 use Rattle.std.proofs.lemmas.List.{take_at, take_all}
+use Rattle.std.proofs.lemmas.Bool.{and_parts}
 use Rattle.ccsl_formula.specs.declared.scope.Scope.{Scope}
 use Rattle.ccsl_formula.specs.Formula.{Formula}
 use Rattle.ccsl_refute.specs.declared.line.Line.{Line}
 use Rattle.ccsl_refute.specs.Bad.{is_bad, IsFirstBad}
 use Rattle.ccsl_refute.specs.Validity.{line_at, is_valid, ends_empty, valid_from, are_valid, is_certificate, bad_from, first_bad_line}
-use Rattle.ccsl_refute.proofs.Clauses.{and-left, and-right}
 use Rattle.ccsl_refute.proofs.Sound.{good-lines}
 
 -- one more valid line
@@ -14,8 +14,8 @@ valid-snoc : (scope : Scope) (fs : List Formula) (earlier lines : List Line) (x 
     valid_from scope fs earlier (lines ++ x ∷ []) ≡ true
 valid-snoc scope fs earlier [] x v h = ap (λ b. b && true) (ap (λ ls. is_valid scope fs ls x) (sym (append-nil earlier)) ∙ h)
 valid-snoc scope fs earlier (y ∷ lines) x v h =
-    ap (λ b. b && valid_from scope fs (earlier ++ y ∷ []) (lines ++ x ∷ [])) (and-left (is_valid scope fs earlier y) (valid_from scope fs (earlier ++ y ∷ []) lines) v)
-    ∙ valid-snoc scope fs (earlier ++ y ∷ []) lines x (and-right (is_valid scope fs earlier y) (valid_from scope fs (earlier ++ y ∷ []) lines) v)
+    ap (λ b. b && valid_from scope fs (earlier ++ y ∷ []) (lines ++ x ∷ [])) ((and_parts (is_valid scope fs earlier y) (valid_from scope fs (earlier ++ y ∷ []) lines) v).0)
+    ∙ valid-snoc scope fs (earlier ++ y ∷ []) lines x ((and_parts (is_valid scope fs earlier y) (valid_from scope fs (earlier ++ y ∷ []) lines) v).1)
     (ap (λ ls. is_valid scope fs ls x) (append_assoc earlier (y ∷ []) lines) ∙ h)
 
 line-behind : (earlier lines : List Line) → slice_get (earlier ++ lines) (length earlier) ≡ slice_get lines 0
@@ -63,10 +63,10 @@ certificate-from : (scope : Scope) (fs : List Formula) (earlier lines : List Lin
 certificate-from scope fs earlier [] v e = ap (λ b. cond b None (Some (suc (length earlier)))) (ap (ends_empty scope.declared) (sym (append-nil earlier)) ∙ e)
 certificate-from scope fs earlier (x ∷ lines) v e =
     ap (λ b. elim b [ true ↦ bad_from scope fs (earlier ++ x ∷ []) lines | false ↦ Some (suc (length earlier)) ])
-    (and-left (is_valid scope fs earlier x) (valid_from scope fs (earlier ++ x ∷ []) lines) v)
-    ∙ certificate-from scope fs (earlier ++ x ∷ []) lines (and-right (is_valid scope fs earlier x) (valid_from scope fs (earlier ++ x ∷ []) lines) v)
+    ((and_parts (is_valid scope fs earlier x) (valid_from scope fs (earlier ++ x ∷ []) lines) v).0)
+    ∙ certificate-from scope fs (earlier ++ x ∷ []) lines ((and_parts (is_valid scope fs earlier x) (valid_from scope fs (earlier ++ x ∷ []) lines) v).1)
     (ap (ends_empty scope.declared) (append_assoc earlier (x ∷ []) lines) ∙ e)
 
 pub certificate-none : (scope : Scope) (fs : List Formula) (lines : List Line) → is_certificate scope fs lines ≡ true → first_bad_line scope fs lines ≡ None
 certificate-none scope fs lines e =
-    certificate-from scope fs [] lines (and-left (are_valid scope fs lines) (ends_empty scope.declared lines) e) (and-right (are_valid scope fs lines) (ends_empty scope.declared lines) e)
+    certificate-from scope fs [] lines ((and_parts (are_valid scope fs lines) (ends_empty scope.declared lines) e).0) ((and_parts (are_valid scope fs lines) (ends_empty scope.declared lines) e).1)

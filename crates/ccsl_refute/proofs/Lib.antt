@@ -1,4 +1,9 @@
-pub mod Clauses
+pub mod Cases
+pub mod Lists
+pub mod Proper
+pub mod Closing
+pub mod Bounds
+pub mod Checking
 pub mod Sound
 pub mod FirstBad
 pub mod Tokens

@@ -60,9 +60,10 @@ line-one : (names : List (List ℕ)) (end : ℕ) (ts : List Piece) (rest : Resul
     read_line names end ts (Ok []) ≡ Ok (l ∷ []) → put_before before (read_line names end ts rest) ≡ put_before (before ++ l ∷ []) rest
 line-one names end [] rest before l e = absurd (cc)
 line-one names end (t ∷ ts) rest before l e =
-    (elim (read_tokens names end t ts) as (λ r. read_more r (Ok []) ≡ Ok (l ∷ []) → put_before before (read_more r rest) ≡ put_before (before ++ l ∷ []) rest)
-    [ Ok line ↦ λ h. let same : line ≡ l = cc in put_before-more before line rest ∙ ap (λ (x : Line). put_before (before ++ x ∷ []) rest) same
-    | Err fault ↦ λ h. absurd (cc) ]) e
+    (elim (read_tokens names end t ts) as (λ r. read_more r (Ok []) ≡ Ok (l ∷ []) → put_before before (read_more r rest) ≡ put_before (before ++ l ∷ []) rest) [
+      | Ok line ↦ λ h. let same : line ≡ l = cc in put_before-more before line rest ∙ ap (λ (x : Line). put_before (before ++ x ∷ []) rest) same
+      | Err fault ↦ λ h. absurd (cc)
+    ]) e
 
 line-fault : (names : List (List ℕ)) (end : ℕ) (ts : List Piece) (rest : Result (List Line) CertFault) (fault : CertFault) →
     read_line names end ts (Ok []) ≡ Err fault → read_line names end ts rest ≡ Err fault
@@ -78,7 +79,6 @@ later names text at n = read_lines names (lines_from (at + (n + 1)) (drop (at + 
 module _ (names : List (List ℕ)) (text : List ℕ) (at n : ℕ) (rest w : List ℕ) (before : List Line)
     (is_rest : rest ≡ drop at text) (len : n ≡ position_or_len is_line_feed rest) (inside : n ≤ length rest) (line : w ≡ line_before n rest)
     (same : put_before before (read_lines names (lines_from at (drop at text))) ≡ reading names text) where
-
   step : put_before before (read_line names (at + length w) (tokens at w) (later names text at n)) ≡ reading names text
   step =
       let there : suc (at + n) ≡ at + (n + 1) = omega arith in

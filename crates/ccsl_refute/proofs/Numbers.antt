@@ -3,7 +3,7 @@ use Rattle.std.proofs.Common.{◌≡◌, ℕ, ◌+◌, ◌*◌, ◌-◌, ◌^◌
 use Rattle.std.specs.List.{list_all}
 use Rattle.std.specs.Char.{digit_value}
 use Rattle.std.specs.Str.Parse.{digits_value_after}
-use Rattle.std.proofs.lemmas.Bool.{cases_lt, le-ltb, lt-ltb, leb-true}
+use Rattle.std.proofs.lemmas.Bool.{cases_lt, le-ltb, lt-ltb, leb-true, and_parts, and_right}
 use Rattle.std.proofs.lemmas.Str.{digit_value_digit}
 use Rattle.ccsl_base.specs.Name.{is_digit}
 use Rattle.ccsl_refute.specs.Reading.{number_below}
@@ -12,22 +12,10 @@ use Rattle.ccsl_refute.specs.Reading.{number_below}
 abbrev pub number_after : ℕ → ℕ → List ℕ → Option ℕ
 number_after limit n ds = cond (list_all is_digit ds && nat_lt (digits_value_after 10 n ds) limit) (Some (digits_value_after 10 n ds)) None
 
-and-left : (a b : Bool) → (a && b) ≡ true → a ≡ true
-and-left true b e = refl
-and-left false b e = e
-
-and-right : (a b : Bool) → (a && b) ≡ true → b ≡ true
-and-right true b e = e
-and-right false b e = absurd (cc)
-
-and-false : (a : Bool) → (a && false) ≡ false
-and-false true = refl
-and-false false = refl
-
 digit-is : (d : ℕ) → is_digit d ≡ true → digit_value d ≡ d - 48
 digit-is d e =
-    let low : 48 ≤ d = leb-true 48 d (and-left (nat_le 48 d) (nat_le d 57) e) in
-    let high : d ≤ 57 = leb-true d 57 (and-right (nat_le 48 d) (nat_le d 57) e) in
+    let low : 48 ≤ d = leb-true 48 d ((and_parts (nat_le 48 d) (nat_le d 57) e).0) in
+    let high : d ≤ 57 = leb-true d 57 ((and_parts (nat_le 48 d) (nat_le d 57) e).1) in
     omega (arith, digit_value_digit d (low, high))
 
 pub number-digit : (limit n d : ℕ) (ds : List ℕ) → is_digit d ≡ true → number_after limit n (d ∷ ds) ≡ number_after limit (n * 10 + (d - 48)) ds
@@ -46,7 +34,7 @@ grows n (d ∷ ds) = omega (arith, grows (n * 10 + digit_value d) ds)
 pub number-large : (limit n : ℕ) (ds : List ℕ) → limit ≤ n → number_after limit n ds ≡ None
 number-large limit n ds l =
     ap (λ b. cond (list_all is_digit ds && b) (Some (digits_value_after 10 n ds)) None) (le-ltb (digits_value_after 10 n ds) limit (omega (arith, grows n ds)))
-    ∙ ap (λ b. cond b (Some (digits_value_after 10 n ds)) None) (and-false (list_all is_digit ds))
+    ∙ ap (λ b. cond b (Some (digits_value_after 10 n ds)) None) (and_right (list_all is_digit ds) false refl)
 
 pub number-end : (limit n : ℕ) → n < limit → number_after limit n [] ≡ Some n
 number-end limit n l = ap (λ b. cond b (Some n) None) (lt-ltb n limit l)

@@ -4,7 +4,7 @@ use Rattle.std.specs.List.{All, list_all, list_any, position_or_len, slice_split
 use Rattle.std.specs.Str.{bytes_eq}
 use Rattle.std.specs.Str.Parse.{AllDigits, IsNumeral, digits_value}
 use Rattle.std.specs.Str.Lines.{strip_carriage_return}
-use Rattle.std.proofs.lemmas.Bool.{lt-ltb, le-leb}
+use Rattle.std.proofs.lemmas.Bool.{lt-ltb, le-leb, and_parts, not-true, or_right}
 use Rattle.std.proofs.lemmas.Fmt.{decimal_is_IsNumeral}
 use Rattle.std.proofs.lemmas.Str.Parse.{digit_from_value}
 use Rattle.std.proofs.lemmas.List.Elements.{All-head, All-tail}
@@ -22,27 +22,16 @@ use Rattle.ccsl_refute.specs.CertNames.{is_visible, is_cert_name, are_cert_names
 use Rattle.ccsl_refute.specs.Text.{Piece, placed, is_line_feed, without_returns, lines_from, tokens}
 use Rattle.ccsl_refute.specs.Reading.{are_digits, number_below, literal_of, literal, read_first, read_literals, read_numbers, is_from, before_from, after_from, read_hints, item_line, derived_line, read_item, read_derived, read_tokens, read_more, read_line, read_lines, reading}
 use Rattle.ccsl_refute.specs.Writing.{spaced, name_of, literal_text, line_text, lines_text, literals}
-use Rattle.ccsl_refute.proofs.Clauses.{and-left, and-right}
+use Rattle.ccsl_refute.proofs.Cases.{by_cases}
 use Rattle.ccsl_refute.proofs.Lines.{followed}
 use Rattle.ccsl_refute.proofs.Words.{is_word, are_words, tokens-spaced, line-clear, line-kept}
-
-by_cases : (b : Bool) (P : Type 0) → (b ≡ true → P) → (b ≡ false → P) → P
-by_cases b P yes_ no_ = (elim b as (λ t. b ≡ t → P) [ true ↦ yes_ | false ↦ no_ ]) refl
-
-not-true : (b : Bool) → not b ≡ true → b ≡ false
-not-true true e = sym e
-not-true false e = refl
 
 -- a name is found at its place
 
 there-among : (names : List (List ℕ)) (x : ℕ) (name : List ℕ) → slice_get names x ≡ Some name → is_among name names ≡ true
 there-among [] x name e = absurd (cc)
 there-among (n ∷ ns) zero name e = let same : n ≡ name = cc in ap (λ t. t || is_among name ns) (bytes_eq-refl name n (sym same))
-there-among (n ∷ ns) (suc x) name e = or-right (bytes_eq name n) (is_among name ns) (there-among ns x name e)
-  where
-    or-right : (a b : Bool) → b ≡ true → (a || b) ≡ true
-    or-right true b e = refl
-    or-right false b e = e
+there-among (n ∷ ns) (suc x) name e = or_right (bytes_eq name n) (is_among name ns) (there-among ns x name e)
 
 place-own : (names : List (List ℕ)) (x : ℕ) (name : List ℕ) → are_distinct names ≡ true → slice_get names x ≡ Some name → position_or_len (bytes_eq name) names ≡ x
 place-own [] x name d e = absurd (cc)
@@ -52,11 +41,11 @@ place-own (n ∷ ns) zero name d e =
 place-own (n ∷ ns) (suc x) name d e =
     by_cases (bytes_eq name n) _
     (λ same.
-    let fresh : is_among n ns ≡ false = not-true (is_among n ns) (and-left (not (is_among n ns)) (are_distinct ns) d) in
+    let fresh : is_among n ns ≡ false = not-true (is_among n ns) ((and_parts (not (is_among n ns)) (are_distinct ns) d).0) in
     let among : is_among n ns ≡ true = ap (λ w. is_among w ns) (sym (bytes_eq-true name n same)) ∙ there-among ns x name e in
     absurd (cc))
     (λ other.
-    let later : position_or_len (bytes_eq name) ns ≡ x = place-own ns x name (and-right (not (is_among n ns)) (are_distinct ns) d) e in
+    let later : position_or_len (bytes_eq name) ns ≡ x = place-own ns x name ((and_parts (not (is_among n ns)) (are_distinct ns) d).1) e in
     ap (λ b. cond (not b) (1 + position_or_len (bytes_eq name) ns) 0) other ∙ omega arith)
 
 find-own : (names : List (List ℕ)) (x : ℕ) (name : List ℕ) → are_distinct names ≡ true → x < length names → slice_get names x ≡ Some name → find_name name names ≡ Some x
@@ -66,8 +55,8 @@ find-own names x name d l e =
 
 each-name : (names : List (List ℕ)) (x : ℕ) (name : List ℕ) → are_cert_names names ≡ true → slice_get names x ≡ Some name → is_cert_name name ≡ true
 each-name [] x name c e = absurd (cc)
-each-name (n ∷ ns) zero name c e = let same : n ≡ name = cc in ap is_cert_name (sym same) ∙ and-left (is_cert_name n) (are_cert_names ns) c
-each-name (n ∷ ns) (suc x) name c e = each-name ns x name (and-right (is_cert_name n) (are_cert_names ns) c) e
+each-name (n ∷ ns) zero name c e = let same : n ≡ name = cc in ap is_cert_name (sym same) ∙ (and_parts (is_cert_name n) (are_cert_names ns) c).0
+each-name (n ∷ ns) (suc x) name c e = each-name ns x name ((and_parts (is_cert_name n) (are_cert_names ns) c).1) e
 
 -- a number
 
@@ -114,18 +103,18 @@ name-read : (names : List (List ℕ)) (x : ℕ) (name : List ℕ) → is_cert_na
 name-read names x [] c e = absurd (cc)
 name-read names x (b ∷ bs) c e =
     let sign : nat_eq b 45 ≡ false =
-      not-true (nat_eq b 45) (and-left (not (nat_eq b 45)) (not (bytes_eq (b ∷ bs) (codes "from"))) (and-right (list_all is_visible (b ∷ bs)) _ c)) in
+    not-true (nat_eq b 45) ((and_parts (not (nat_eq b 45)) (not (bytes_eq (b ∷ bs) (codes "from"))) ((and_parts (list_all is_visible (b ∷ bs)) _ c).1)).0) in
     ap (λ t. cond t (literal_of false (find_name bs names)) (literal_of true (find_name (b ∷ bs) names))) sign
     ∙ ap (literal_of true) e
 
 name-word : (name : List ℕ) → is_cert_name name ≡ true → is_word name ≡ true
 name-word [] c = absurd (cc)
-name-word (b ∷ bs) c = and-left (list_all is_visible (b ∷ bs)) _ c
+name-word (b ∷ bs) c = (and_parts (list_all is_visible (b ∷ bs)) _ c).0
 
 name-other : (name : List ℕ) → is_cert_name name ≡ true → bytes_eq name (codes "from") ≡ false
 name-other [] c = refl
 name-other (b ∷ bs) c =
-    not-true (bytes_eq (b ∷ bs) (codes "from")) (and-right (not (nat_eq b 45)) (not (bytes_eq (b ∷ bs) (codes "from"))) (and-right (list_all is_visible (b ∷ bs)) _ c))
+    not-true (bytes_eq (b ∷ bs) (codes "from")) ((and_parts (not (nat_eq b 45)) (not (bytes_eq (b ∷ bs) (codes "from"))) ((and_parts (list_all is_visible (b ∷ bs)) _ c).1)).1)
 
 minus-word : (name : List ℕ) → is_word name ≡ true → is_word (45 ∷ name) ≡ true
 minus-word [] e = absurd (cc)
@@ -160,7 +149,6 @@ first-is_word (Item item lits) = refl
 first-is_word (Derived lits hints) = refl
 
 module _ (names : List (List ℕ)) (distinct : are_distinct names ≡ true) (proper : are_cert_names names ≡ true) where
-
   literal-reads : (l : Lit) → l.clock < length names → Reads names l (literal_text names l)
   literal-reads l below =
       let x = l.clock in
@@ -205,9 +193,11 @@ module _ (names : List (List ℕ)) (distinct : are_distinct names ≡ true) (pro
   after-back [] ws at b = (suc (at + 4), refl)
   after-back (l ∷ ls) ws at b =
       let w = literal_text names l in
-      let rest = after-back ls ws (suc (at + length w)) b.1 in
-      (rest.0, ap (λ t. cond t (Some (placed (suc (at + length w)) (map (literal_text names) ls ++ codes "from" ∷ ws)))
-        (after_from (placed (suc (at + length w)) (map (literal_text names) ls ++ codes "from" ∷ ws)))) (literal-reads l b.0).other ∙ rest.1)
+      let rest = after-back ls ws (suc (at + length w)) b.1 in (
+        rest.0,
+        ap (λ t. cond t (Some (placed (suc (at + length w)) (map (literal_text names) ls ++ codes "from" ∷ ws)))
+            (after_from (placed (suc (at + length w)) (map (literal_text names) ls ++ codes "from" ∷ ws)))) (literal-reads l b.0).other ∙ rest.1,
+      )
 
   later-are_words : (line : Line) → AreBelow (length names) (literals line) → NumbersFit line → are_words (later_words names line) ≡ true
   later-are_words Nonempty b f = refl

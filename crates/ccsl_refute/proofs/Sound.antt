@@ -1,6 +1,6 @@
 -- Valid lines hold of all values that satisfy the formulas.
 use Rattle.std.proofs.Common.{◌≡◌, ◌⊎◌, ℕ, zero, suc, ◌<◌, ◌≤◌, List, [], ◌∷◌, ◌++◌, length, Bool, true, false, not, ◌&&◌, ◌||◌, cond, Option, Some, None, nat_eq, refl, sym, ap, ◌∙◌, ⊎_elim, inl, inr, subst, arith, slice_get, append_assoc, append-nil}
-use Rattle.std.proofs.lemmas.Bool.{cases_eq}
+use Rattle.std.proofs.lemmas.Bool.{cases_eq, and_parts, or_parts, cases_Bool}
 use Rattle.std.proofs.lemmas.Bool.Decides.{eqb_tells}
 use Rattle.ccsl_formula.specs.declared.truth3.Truth3.{Truth3}
 use Rattle.ccsl_formula.specs.declared.truth3.Truth3.TheVariants.{Yes, No, Open}
@@ -16,18 +16,8 @@ use Rattle.ccsl_refute.specs.declared.line.Line.{Line}
 use Rattle.ccsl_refute.specs.declared.line.Line.TheVariants.{Nonempty, Item, Derived}
 use Rattle.ccsl_refute.specs.Validity.{clause, line_at, fails_at, unit_at, fails_line, unit_line, closes, is_refuted, refutes_item, is_valid, is_empty, ends_empty, bad_from, first_bad_line, valid_from, are_valid}
 use Rattle.ccsl_refute.specs.Meaning.{holds, AllTrue, Solves, ClausesHold, Blocks}
-use Rattle.ccsl_refute.proofs.Clauses.{snoc-get, and-left, and-right}
-
-absurd_bool : {A : Type 0} (b : Bool) → b ≡ true → b ≡ false → A
-absurd_bool b t f = absurd (cc)
-
-or-false_left : (a b : Bool) → (a || b) ≡ false → a ≡ false
-or-false_left false b e = refl
-or-false_left true b e = e
-
-or-false_right : (a b : Bool) → (a || b) ≡ false → b ≡ false
-or-false_right false b e = e
-or-false_right true b e = absurd (cc)
+use Rattle.ccsl_refute.proofs.Cases.{not_both}
+use Rattle.ccsl_refute.proofs.Lists.{snoc-get}
 
 other-sign : (a b : Bool) → same a b ≡ false → a ≡ not b
 other-sign true true e = e
@@ -45,8 +35,8 @@ same-sign false false e = refl
 pub agrees-falsified : (v : Assignment) (ls : List Lit) → holds v ls ≡ false → Agrees v (falsified ls)
 agrees-falsified v [] h = record { fits = λ x. inl refl }
 agrees-falsified v (l ∷ ls) h =
-    let rest = agrees-falsified v ls (or-false_right (same (v l.clock) l.positive) (holds v ls) h) in
-    let here = other-sign (v l.clock) l.positive (or-false_left (same (v l.clock) l.positive) (holds v ls) h) in
+    let rest = agrees-falsified v ls ((or_parts (same (v l.clock) l.positive) (holds v ls) h).1) in
+    let here = other-sign (v l.clock) l.positive ((or_parts (same (v l.clock) l.positive) (holds v ls) h).0) in
     record {
       fits = λ x.
           ⊎_elim
@@ -86,11 +76,11 @@ false-lit v p l a e = no-value (lit_value p l) (same (v l.clock) l.positive) e (
 pub all-false : (v : Assignment) (p : Part) (ls : List Lit) → Agrees v p → all_false p ls ≡ true → holds v ls ≡ false
 all-false v p [] a h = refl
 all-false v p (l ∷ ls) a h =
-    ap (λ b. b || holds v ls) (false-lit v p l a (is-no (lit_value p l) (and-left _ _ h))) ∙ all-false v p ls a (and-right _ _ h)
+    ap (λ b. b || holds v ls) (false-lit v p l a (is-no (lit_value p l) ((and_parts _ _ h).0))) ∙ all-false v p ls a ((and_parts _ _ h).1)
 
 or-none : (a b : Bool) → (a || b) ≡ true → b ≡ false → a ≡ true
 or-none true b e f = refl
-or-none false b e f = absurd_bool b e f
+or-none false b e f = not_both b e f
 
 pub unit-true : (v : Assignment) (p : Part) (ls : List Lit) (l : Lit) → Agrees v p → holds v ls ≡ true → unit p ls ≡ Some l → same (v l.clock) l.positive ≡ true
 unit-true v p [] l a h u = absurd (cc)
@@ -118,7 +108,7 @@ fails-false v d lines p zero h a e = absurd (cc)
 fails-false v d lines p (suc i) h a e =
     (elim (slice_get lines i) as (λ o. slice_get lines i ≡ o → fails_line d p o ≡ true → ⊥) [
       | None ↦ λ q f. absurd (cc)
-      | Some x ↦ λ q f. absurd_bool (holds v (clause d x)) (h.at i x q) (all-false v p (clause d x) a f)
+      | Some x ↦ λ q f. not_both (holds v (clause d x)) (h.at i x q) (all-false v p (clause d x) a f)
     ]) refl e
 
 unit_at-true : (v : Assignment) (d : ℕ) (lines : List Line) (p : Part) (j : ℕ) (l : Lit) → ClausesHold d lines v → Agrees v p → unit_at d lines p j ≡ Some l →
@@ -150,7 +140,7 @@ no-refuted : (fs : List Formula) (v : Assignment) (p : Part) (k : ℕ) → AllTr
 no-refuted fs v p k t a e =
     (elim (slice_get fs k) as (λ o. slice_get fs k ≡ o → is_refuted p o ≡ true → ⊥) [
       | None ↦ λ q f. absurd (cc)
-      | Some g ↦ λ q f. absurd_bool (truth g v) (item-true fs v k g t q) (no_false g p v a (is-no (kleene g p) f))
+      | Some g ↦ λ q f. not_both (truth g v) (item-true fs v k g t q) (no_false g p v a (is-no (kleene g p) f))
     ]) refl e
 
 holds-append : (v : Assignment) (ls ks : List Lit) → holds v ls ≡ true → holds v (ls ++ ks) ≡ true
@@ -172,21 +162,17 @@ member-holds v (suc d) x l h =
     (λ n. holds-append v (positives d) _ (member-holds v d x (omega arith) h))
     (cases_eq x d)
 
-true-or-false : (b : Bool) → (b ≡ true) ⊎ (b ≡ false)
-true-or-false true = inl refl
-true-or-false false = inr refl
-
 -- a valid line holds where the earlier ones do
 pub valid-holds : (scope : Scope) (fs : List Formula) (lines : List Line) (e : Line) (v : Assignment) → Solves scope fs v → ClausesHold scope.declared lines v →
     is_valid scope fs lines e ≡ true → holds v (clause scope.declared e) ≡ true
 valid-holds scope fs lines Nonempty v s h e = member-holds v scope.declared s.member.0 s.member.1 s.member.2
 valid-holds scope fs lines (Item k lits) v s h e =
-    ⊎_elim (λ t. t) (λ t. absurd (no-refuted fs v (falsified lits) k s.all (agrees-falsified v lits t) (and-right (are_proper scope.named lits) _ e)))
-    (true-or-false (holds v lits))
+    ⊎_elim (λ t. t) (λ t. absurd (no-refuted fs v (falsified lits) k s.all (agrees-falsified v lits t) ((and_parts (are_proper scope.named lits) _ e).1)))
+    (cases_Bool (holds v lits))
 valid-holds scope fs lines (Derived lits hints) v s h e =
     ⊎_elim (λ t. t)
-    (λ t. absurd (no-closing v scope.declared lines (falsified lits) hints h (agrees-falsified v lits t) (and-right (are_proper scope.named lits) _ e)))
-    (true-or-false (holds v lits))
+    (λ t. absurd (no-closing v scope.declared lines (falsified lits) hints h (agrees-falsified v lits t) ((and_parts (are_proper scope.named lits) _ e).1)))
+    (cases_Bool (holds v lits))
 
 holds-snoc : (d : ℕ) (lines : List Line) (e : Line) (v : Assignment) → ClausesHold d lines v → holds v (clause d e) ≡ true → ClausesHold d (lines ++ e ∷ []) v
 holds-snoc d lines e v h t = record {
@@ -200,8 +186,8 @@ valid-all scope fs earlier [] v s h e = subst (λ (ls : List Line). ClausesHold 
 valid-all scope fs earlier (x ∷ lines) v s h e =
     subst (λ (ls : List Line). ClausesHold scope.declared ls v) (append_assoc earlier (x ∷ []) lines)
     (valid-all scope fs (earlier ++ x ∷ []) lines v s
-    (holds-snoc scope.declared earlier x v h (valid-holds scope fs earlier x v s h (and-left _ _ e)))
-    (and-right (is_valid scope fs earlier x) _ e))
+    (holds-snoc scope.declared earlier x v h (valid-holds scope fs earlier x v s h ((and_parts _ _ e).0)))
+    ((and_parts (is_valid scope fs earlier x) _ e).1))
 
 pub valid-clauses : (scope : Scope) (fs : List Formula) (lines : List Line) (v : Assignment) → Solves scope fs v → are_valid scope fs lines ≡ true → ClausesHold scope.declared lines v
 valid-clauses scope fs lines v s e = valid-all scope fs [] lines v s (record { at = λ i x g. absurd (cc) }) e

@@ -6,10 +6,8 @@ use Rattle.std.proofs.lemmas.Bool.{cases_lt}
 use Rattle.std.proofs.lemmas.List.{take_all, drop_all}
 use Rattle.std.proofs.lemmas.List.Sums.{fails_before_first, passes_at_first}
 use Rattle.std.proofs.lemmas.List.Splits.{slice_split_first, slice_split-cons_yes, slice_split-cons_no}
+use Rattle.ccsl_refute.proofs.Cases.{by_cases}
 use Rattle.ccsl_refute.specs.Text.{Piece, placed, is_blank, has_bytes, tokens}
-
-by_cases : (b : Bool) (P : Type 0) → (b ≡ true → P) → (b ≡ false → P) → P
-by_cases b P yes_ no_ = (elim b as (λ t. b ≡ t → P) [ true ↦ yes_ | false ↦ no_ ]) refl
 
 -- how many elements pass from the front on
 prefix-yes : (p : ℕ → Bool) (x : ℕ) (xs : List ℕ) → p x ≡ true → prefix_len p (x ∷ xs) ≡ suc (prefix_len p xs)

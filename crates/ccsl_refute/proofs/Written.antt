@@ -6,7 +6,7 @@ use Rattle.std.proofs.lemmas.List.Elements.{All-append}
 use Rattle.ccsl_refute.specs.declared.line.Line.{Line}
 use Rattle.ccsl_refute.specs.CertNames.{AllBelow}
 use Rattle.ccsl_refute.specs.Writing.{line_text, lines_text}
-use Rattle.ccsl_refute.proofs.Clauses.{take-at}
+use Rattle.ccsl_refute.proofs.Lists.{take-at}
 
 pub all-below : (limit : ℕ) (xs : List ℕ) → ((i : ℕ) → get_or xs i 0 < limit) → AllBelow limit xs
 all-below limit [] h = tt

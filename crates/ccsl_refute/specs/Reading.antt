@@ -87,10 +87,10 @@ read_derived names end ts = derived_line (read_literals names (before_from ts)) 
 -- a line that has tokens, of which the first one says what it is
 abbrev pub read_tokens : List (List ℕ) → ℕ → Piece → List Piece → Result Line CertFault
 read_tokens names end t ts =
-  if bytes_eq t.1 (codes "n") then read_nonempty ts
-  else if bytes_eq t.1 (codes "i") then read_item names end ts
-  else if bytes_eq t.1 (codes "r") then read_derived names end ts
-  else Err (Syntax t.0)
+    if bytes_eq t.1 (codes "n") then read_nonempty ts
+    else if bytes_eq t.1 (codes "i") then read_item names end ts
+    else if bytes_eq t.1 (codes "r") then read_derived names end ts
+    else Err (Syntax t.0)
 
 -- one more line in front
 abbrev pub read_more : Result Line CertFault → Result (List Line) CertFault → Result (List Line) CertFault

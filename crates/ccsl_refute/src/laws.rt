@@ -37,13 +37,17 @@ pub fn first_bad_line_is_first()
         is_certificate scope formulas lines ≡ true → first_bad_line scope formulas lines ≡ None }
 {}
 
+/// The literals of valid lines name clocks of the scope.
+pub fn valid_lines_name_clocks()
+    ensures { (scope : Scope) (formulas : List Formula) (lines : List Line) →
+        are_valid scope formulas lines ≡ true →
+        All (λ line. AreBelow scope.named (literals line)) lines }
+{}
+
 /// What is written reads back as the same lines.
 pub fn written_lines_read_back()
-    ensures {
-        (names : List (List ℕ)) (lines : List Line) →
-            are_distinct names ≡ true → are_cert_names names ≡ true →
-            All (λ line. AreBelow (length names) (literals line)) lines → All NumbersFit lines →
-            reading names (lines_text names lines) ≡ Ok lines
-    }
-{
-}
+    ensures { (names : List (List ℕ)) (lines : List Line) →
+        are_distinct names ≡ true → are_cert_names names ≡ true →
+        All (λ line. AreBelow (length names) (literals line)) lines → All NumbersFit lines →
+        reading names (lines_text names lines) ≡ Ok lines }
+{}

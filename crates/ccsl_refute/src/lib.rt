@@ -14,6 +14,8 @@ pub mod writer;
 pub use checker::{CheckFault, check};
 pub use fault::CertFault;
 pub use line::{Line, Lit};
+pub use reader::read;
+pub use writer::write;
 
 #[cfg(test)]
 mod tests;

@@ -7,10 +7,8 @@ ghost use Rattle.ccsl_refute.specs.Reading.{number_below};
 /// The number with one more digit behind it, where it is below 2^64.
 fn with_digit(value: u64, digit: u8) -> Option<u64>
     requires { is_digit digit ≡ true }
-    ensures {
-        result ≡ (if nat_lt (value * 10 + (digit - 48)) (2 ^ 64)
-            then Some (value * 10 + (digit - 48)) else None)
-    }
+    ensures { result ≡ (if nat_lt (value * 10 + (digit - 48)) (2 ^ 64)
+        then Some (value * 10 + (digit - 48)) else None) }
 {
     value.checked_mul(10)?.checked_add(u64::from(digit - b'0'))
 }

@@ -54,11 +54,13 @@ fn numbers(alloc: Global, tokens: &mut Tokens) -> Result<Vec<u64>, CertFault>
 }
 
 /// The literals before `from`, and whether it is there. The tokens behind it are left.
-fn literals_before_from(alloc: Global, tokens: &mut Tokens, names: &Names) -> Result<(Vec<Lit>, bool), CertFault>
+fn literals_before_from(
+    alloc: Global,
+    tokens: &mut Tokens,
+    names: &Names,
+) -> Result<(Vec<Lit>, bool), CertFault>
     ensures literals { Reads (λ r. r.0.items) (read_literals names.now (before_from tokens.old.0)) result }
-    ensures from {
-        IfOk result (λ r. after_from tokens.old.0 ≡ (if r.1 then Some tokens.new.0 else None))
-    }
+    ensures from { IfOk result (λ r. after_from tokens.old.0 ≡ (if r.1 then Some tokens.new.0 else None)) }
     ensures end { tokens.new.1 ≡ tokens.old.1 }
 {
     let mut lits = Vec::new(alloc);
@@ -118,11 +120,14 @@ fn derived(alloc: Global, tokens: &mut Tokens, names: &Names) -> Result<Line, Ce
 }
 
 /// A line that has tokens, of which the first one says what it is.
-fn line_of(alloc: Global, first: Token, tokens: &mut Tokens, names: &Names) -> Result<Line, CertFault>
-    ensures {
-        Reads (λ line. line)
-            (read_tokens names.now tokens.old.1 (first.entry.at, first.entry.bytes.now) tokens.old.0) result
-    }
+fn line_of(
+    alloc: Global,
+    first: Token,
+    tokens: &mut Tokens,
+    names: &Names,
+) -> Result<Line, CertFault>
+    ensures { Reads (λ line. line)
+        (read_tokens names.now tokens.old.1 (first.entry.at, first.entry.bytes.now) tokens.old.0) result }
 {
     if first.bytes == b"n".as_slice() {
         nonempty(tokens)
@@ -158,10 +163,8 @@ fn first_line(text: &[u8], len: usize) -> &[u8]
 /// The line at a place of the text, or `None` where it has no token.
 fn line_at(alloc: Global, at: usize, line: &[u8], names: &Names) -> Result<Option<Line>, CertFault>
     requires { at + length line.now < 2 ^ 64 }
-    ensures {
-        Reads members
-            (read_line names.now (at + length line.now) (tokens at line.now) (Ok [])) result
-    }
+    ensures { Reads members
+        (read_line names.now (at + length line.now) (tokens at line.now) (Ok [])) result }
 {
     let mut tokens = Tokens::of(at, line);
     match tokens.next() {

@@ -2,7 +2,7 @@
 
 use super::*;
 use crate::checker::CheckFault;
-use ccsl_base::Seq;
+use ccsl_base::{Names, Seq};
 use ccsl_formula::{Formula, Scope};
 use std::alloc::{AllocError, Global};
 use std::test::*;
@@ -78,4 +78,61 @@ fn no_lines_are_no_certificate(rt: HostRuntime) {
         named: 0,
     };
     assert_eq!(rt; check(rt.alloc(), &[Line::Nonempty], &[], &none), Ok(()));
+}
+
+fn two_names(alloc: Global) -> Result<Names, ccsl_base::Memory> {
+    let mut names = Names::new(alloc);
+    names.add(b"a")?;
+    names.add(b"from_b")?;
+    Ok(names)
+}
+
+/// How many lines a text reads as, or its first fault.
+fn count(alloc: Global, names: &Names, text: &str) -> Result<usize, CertFault> {
+    let lines = read(alloc, text.as_bytes(), names)?;
+    Ok(lines.len())
+}
+
+#[test]
+fn texts_and_their_first_faults(rt: HostRuntime) -> Result<(), Fail> {
+    let names = two_names(rt.alloc())?;
+    let syntax = |at: usize| Err(CertFault::Syntax(at));
+    let unknown = |at: usize| Err(CertFault::UnknownName(at));
+    let table = [
+        ("", Ok(0)),
+        ("n\ni 0 -a\nr from 1 2\n", Ok(3)),
+        ("n\r\n\n \t\r\n\tr a  -from_b\tfrom\t007", Ok(2)),
+        ("i 0004294967295 a a", Ok(1)),
+        ("r from 00018446744073709551615", Ok(1)),
+        ("n\nx", syntax(2)),
+        ("n n", syntax(2)),
+        ("n\r", syntax(0)),
+        ("from", syntax(0)),
+        ("i\r\nn", syntax(1)),
+        ("i 4294967296 a", syntax(2)),
+        ("i +1", syntax(2)),
+        ("r a\r\nn", syntax(3)),
+        ("r from 18446744073709551616", syntax(7)),
+        ("r from 1 a", syntax(9)),
+        ("i 0 a b", unknown(6)),
+        ("i 0 -", unknown(4)),
+        ("i 0 from", unknown(4)),
+        ("r c", unknown(2)),
+    ];
+    for (text, expected) in table {
+        assert_eq!(rt; count(rt.alloc(), &names, text), expected, "at {text}");
+    }
+    Ok(())
+}
+
+#[test]
+fn lines_are_written_with_one_blank(rt: HostRuntime) -> Result<(), Fail> {
+    let alloc = rt.alloc();
+    let names = two_names(alloc)?;
+    assert_eq!(rt; names.len(), 2);
+    let item = Line::Item(10, lits(alloc, &[(1, false)])?);
+    let lines = vec![in alloc; Line::Nonempty, item]?;
+    let text = write(alloc, &lines, &names)?;
+    assert_eq!(rt; text.as_slice(), b"n\ni 10 -from_b\n".as_slice());
+    Ok(())
 }

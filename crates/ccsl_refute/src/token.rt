@@ -50,10 +50,8 @@ impl<'a> Tokens<'a> {
 
     /// The next token.
     pub fn next(&mut self) -> Option<Token<'a>>
-        ensures next {
-            MatchOption result ((self.old.0 ≡ []) × (self.new.0 ≡ []))
-                (λ t. self.old.0 ≡ (t.at, t.bytes.now) ∷ self.new.0)
-        }
+        ensures next { MatchOption result ((self.old.0 ≡ []) × (self.new.0 ≡ []))
+            (λ t. self.old.0 ≡ (t.at, t.bytes.now) ∷ self.new.0) }
         ensures end { self.new.1 ≡ self.old.1 }
     {
         let start = blanks(self.rest);

@@ -23,9 +23,7 @@ fn write_word(text: &mut Vec<u8>, word: &[u8]) -> Result<(), Memory>
 
 fn write_literal(text: &mut Vec<u8>, lit: Lit, names: &Names) -> Result<(), Memory>
     requires { lit.clock < length names.now }
-    ensures {
-        IfOk result (λ _. text.new.items ≡ text.old.items ++ spaced (literal_text names.now lit ∷ []))
-    }
+    ensures { IfOk result (λ _. text.new.items ≡ text.old.items ++ spaced (literal_text names.now lit ∷ [])) }
 {
     text.push(b' ')?;
     if !lit.positive {
@@ -37,10 +35,8 @@ fn write_literal(text: &mut Vec<u8>, lit: Lit, names: &Names) -> Result<(), Memo
 
 fn write_literals(text: &mut Vec<u8>, lits: &[Lit], names: &Names) -> Result<(), Memory>
     requires { AreBelow (length names.now) lits.now }
-    ensures {
-        IfOk result (λ _. text.new.items
-            ≡ text.old.items ++ spaced (map (literal_text names.now) lits.now))
-    }
+    ensures { IfOk result (λ _. text.new.items
+        ≡ text.old.items ++ spaced (map (literal_text names.now) lits.now)) }
 {
     let mut rest = lits;
     'literals: while let [lit, more @ ..] = rest {
@@ -52,9 +48,7 @@ fn write_literals(text: &mut Vec<u8>, lits: &[Lit], names: &Names) -> Result<(),
 
 fn write_hints(text: &mut Vec<u8>, hints: &[u64]) -> Result<(), Memory>
     ensures fit { IfOk result (λ _. AllBelow (2 ^ 64) hints.now) }
-    ensures text {
-        IfOk result (λ _. text.new.items ≡ text.old.items ++ spaced (map decimal hints.now))
-    }
+    ensures text { IfOk result (λ _. text.new.items ≡ text.old.items ++ spaced (map decimal hints.now)) }
 {
     let mut digits = Buffer::new();
     let mut rest = hints;
@@ -91,10 +85,8 @@ fn write_line(text: &mut Vec<u8>, line: &Line, names: &Names) -> Result<(), Memo
 pub fn write(alloc: Global, lines: &[Line], names: &Names) -> Result<Vec<u8>, Memory>
     requires { All (λ line. AreBelow (length names.now) (literals line)) lines.now }
     ensures text { IfOk result (λ text. text.items ≡ lines_text names.now lines.now) }
-    ensures reads_back {
-        are_distinct names.now ≡ true → are_cert_names names.now ≡ true →
-            IfOk result (λ text. reading names.now text.items ≡ Ok lines.now)
-    }
+    ensures reads_back { are_distinct names.now ≡ true → are_cert_names names.now ≡ true →
+        IfOk result (λ text. reading names.now text.items ≡ Ok lines.now) }
 {
     let mut text = Vec::new(alloc);
     'lines: for line in lines {

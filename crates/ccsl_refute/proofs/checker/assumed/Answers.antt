@@ -4,7 +4,7 @@ use Rattle.ccsl_formula.specs.Truth.{is_open}
 use Rattle.ccsl_formula.specs.declared.truth3.Truth3.TheVariants.{Yes, No, Open}
 use Rattle.ccsl_refute.specs.Literals.{falsified, are_proper, names, all_false, unit}
 use Rattle.ccsl_refute.specs.Validity.{clause, closes, fails_at, unit_at, line_at}
-use Rattle.ccsl_refute.proofs.Clauses.{proper-at, falsified-at, improper-large, improper-twice}
+use Rattle.ccsl_refute.proofs.Proper.{proper-at, falsified-at, improper-large, improper-twice}
 use Rattle.ccsl_refute.proofs.checker.assumed.Goals as goal
 
 pub loop-i-preserved : goal.loop-i-preserved

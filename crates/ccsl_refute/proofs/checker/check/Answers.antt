@@ -7,7 +7,9 @@ use Rattle.ccsl_refute.specs.declared.line.Line.{Line}
 use Rattle.ccsl_refute.specs.declared.line.Lit.{Lit}
 use Rattle.ccsl_refute.specs.Literals.{falsified, are_proper, names, all_false, unit, is_no}
 use Rattle.ccsl_refute.specs.Validity.{clause, closes, fails_at, unit_at, line_at, is_refuted, is_empty, ends_empty, is_valid, bad_from, first_bad_line}
-use Rattle.ccsl_refute.proofs.Clauses.{drop-at, take-at, bad-step, below-snoc, valid-below, bad-end}
+use Rattle.ccsl_refute.proofs.Lists.{drop-at, take-at}
+use Rattle.ccsl_refute.proofs.Checking.{bad-step, bad-end}
+use Rattle.ccsl_refute.proofs.Bounds.{below-snoc, valid-below}
 use Rattle.ccsl_refute.proofs.Sound.{sound}
 use Rattle.ccsl_formula.specs.Formula.{in_set}
 use Rattle.ccsl_refute.specs.Below.{ClausesBelow}

@@ -1,7 +1,7 @@
 use Rattle.std.proofs.Common.{◌≡◌, ◌<◌, ◌-◌, suc, List, length, sym, ap, ◌∙◌, arith, nat_eq}
 use Rattle.ccsl_refute.specs.declared.line.Lit.{Lit}
 use Rattle.ccsl_refute.specs.Validity.{clause}
-use Rattle.ccsl_refute.proofs.Clauses.{ends-last, empty-length}
+use Rattle.ccsl_refute.proofs.Checking.{ends-last, empty-length}
 use Rattle.ccsl_refute.proofs.checker.ends_empty.Goals as goal
 
 pub returns-in-Some : goal.returns-in-Some

@@ -16,10 +16,10 @@ returns-in_err-found c =
     let w = c.first_line.result.now in
     rw (p.1, p.2)
     (Reads-fault members (λ (v : Vec Line Global). v.items) (read_line c.args.names.now (c.lines.at + length w) (tokens c.lines.at w) (Ok [])) (reading c.args.names.now c.args.text.now)
-      c.in_err-found.field-0.0
-      (step-fault c.args.names.now c.args.text.now c.lines.at c.line_len-len.result _ w c.lines.lines.items
-        (rest-all c.lines.at c.args.text.now) c.line_len-len.ensures.len c.line_len-len.ensures.within c.first_line.ensures.line c.lines.invariant.same)
-      c.in_err-found.ensures)
+    c.in_err-found.field-0.0
+    (step-fault c.args.names.now c.args.text.now c.lines.at c.line_len-len.result _ w c.lines.lines.items
+    (rest-all c.lines.at c.args.text.now) c.line_len-len.ensures.len c.line_len-len.ensures.within c.first_line.ensures.line c.lines.invariant.same)
+    c.in_err-found.ensures)
 
 pub lines-preserved : goal.lines-preserved
 lines-preserved c =
@@ -35,15 +35,15 @@ lines-preserved c =
     record {
       within = omega (arith, inside, length-rest at text);
       same =
-        elim c.match-found.branch [
-          in-Some+in_ok-push v ↦
-            ap (λ (ls : Vec Line Global). put_before ls.items (later names text at n)) v.lines-is
-            ∙ ap (λ ls. put_before ls (later names text at n)) v.in_ok-push.ensures.items
-            ∙ step-one names text at n _ w c.lines.lines.items rest len inside line c.lines.invariant.same v.in-Some.line
-              (c.in_ok-found.ensures ∙ ap (λ o. Ok (members {A = Line} o)) v.in-Some.is)
-        | in_default v ↦
-            ap (λ (ls : Vec Line Global). put_before ls.items (later names text at n)) v.lines-is
-            ∙ step-none names text at n _ w c.lines.lines.items rest len inside line c.lines.invariant.same
-              (c.in_ok-found.ensures ∙ ap (λ o. Ok (members {A = Line} o)) v.in_default.is)
-        ];
+          elim c.match-found.branch [
+            | in-Some+in_ok-push v ↦
+                ap (λ (ls : Vec Line Global). put_before ls.items (later names text at n)) v.lines-is
+                ∙ ap (λ ls. put_before ls (later names text at n)) v.in_ok-push.ensures.items
+                ∙ step-one names text at n _ w c.lines.lines.items rest len inside line c.lines.invariant.same v.in-Some.line
+                (c.in_ok-found.ensures ∙ ap (λ o. Ok (members {A = Line} o)) v.in-Some.is)
+            | in_default v ↦
+                ap (λ (ls : Vec Line Global). put_before ls.items (later names text at n)) v.lines-is
+                ∙ step-none names text at n _ w c.lines.lines.items rest len inside line c.lines.invariant.same
+                (c.in_ok-found.ensures ∙ ap (λ o. Ok (members {A = Line} o)) v.in_default.is)
+          ];
     }

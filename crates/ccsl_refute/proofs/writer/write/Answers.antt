@@ -18,9 +18,9 @@ lines-preserved c =
     record {
       fit = All-more NumbersFit lines i line c.lines.invariant.fit c.lines-test.true c.line-item.is c.in_ok-write_line.ensures.fit;
       text =
-        c.in_ok-push.ensures.items
-        ∙ ap (λ t. t ++ 10 ∷ []) (c.in_ok-write_line.ensures.text ∙ ap (λ t. t ++ line_text names line) c.lines.invariant.text)
-        ∙ sym (lines_text-more names lines i line c.lines-test.true c.line-item.is);
+          c.in_ok-push.ensures.items
+          ∙ ap (λ t. t ++ 10 ∷ []) (c.in_ok-write_line.ensures.text ∙ ap (λ t. t ++ line_text names line) c.lines.invariant.text)
+          ∙ sym (lines_text-more names lines i line c.lines-test.true c.line-item.is);
     }
 
 pub returns-clause-reads_back : goal.returns-clause-reads_back

@@ -8,8 +8,8 @@ returns-then-len-eq0-clause-next c =
     let xs = c.self.inside.rest.now in
     let n = c.blanks-start.result in
     let none : c.args.self.now.0 ≡ [] =
-      ap (λ (v : List (ℕ × List ℕ) × ℕ). v.0) (sym c.self.view_is)
-      ∙ tokens-end c.self.inside.at n c.letters-len.result xs _ c.blanks-start.ensures.count (rest-all n xs) c.letters-len.ensures.count c.if-len-eq0.true in
+    ap (λ (v : List (ℕ × List ℕ) × ℕ). v.0) (sym c.self.view_is)
+    ∙ tokens-end c.self.inside.at n c.letters-len.result xs _ c.blanks-start.ensures.count (rest-all n xs) c.letters-len.ensures.count c.if-len-eq0.true in
     (none, none)
 
 pub returns-clause-next : goal.returns-clause-next
