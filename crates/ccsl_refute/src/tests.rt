@@ -130,8 +130,12 @@ fn lines_are_written_with_one_blank(rt: HostRuntime) -> Result<(), Fail> {
     let alloc = rt.alloc();
     let names = two_names(alloc)?;
     assert_eq!(rt; names.len(), 2);
-    let item = Line::Item(10, lits(alloc, &[(1, false)])?);
-    let lines = vec![in alloc; Line::Nonempty, item]?;
+    let mut members = Vec::new(alloc);
+    members.push(Lit {
+        clock: 1,
+        positive: false,
+    })?;
+    let lines = [Line::Nonempty, Line::Item(10, Seq::new(members))];
     let text = write(alloc, &lines, &names)?;
     assert_eq!(rt; text.as_slice(), b"n\ni 10 -from_b\n".as_slice());
     Ok(())
