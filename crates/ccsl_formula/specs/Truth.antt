@@ -1,4 +1,4 @@
--- Strong Kleene logic: a truth value that may be open.
+-- Strong Kleene logic: a truth value that may be open (S. C. Kleene, Introduction to Metamathematics, 1952, section 64).
 use Rattle.std.specs.Prelude.{ℕ, Bool, true, false, ◌≡◌, ◌⊎◌}
 use Rattle.ccsl_formula.specs.declared.truth3.Truth3.{Truth3}
 use Rattle.ccsl_formula.specs.declared.truth3.Truth3.TheVariants.{Yes, No, Open}

@@ -9,7 +9,7 @@ use crate::partial::Partial;
 use crate::truth3::Truth3;
 use ccsl_base::ClockSet;
 
-/// A formula over clocks.
+/// A formula of propositional logic, whose variables are clock numbers.
 #[derive(Drop)]
 pub enum Formula {
     True,

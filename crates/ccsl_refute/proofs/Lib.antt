@@ -1,0 +1,15 @@
+pub mod Cases
+pub mod Lists
+pub mod Proper
+pub mod Closing
+pub mod Bounds
+pub mod Checking
+pub mod Sound
+pub mod FirstBad
+pub mod Tokens
+pub mod Numbers
+pub mod InOrder
+pub mod Lines
+pub mod Words
+pub mod ReadBack
+pub mod Written

@@ -1,0 +1,23 @@
+use Rattle.std.proofs.Common.{◌≡◌, ◌<◌, ◌≤◌, ◌-◌, ◌+◌, ℕ, zero, suc, true, false, length, drop, get_or, map, Some, None, sym, ap, ◌∙◌, refl, arith, rules}
+use Rattle.ccsl_formula.specs.Known.{known, with_value}
+use Rattle.ccsl_refute.specs.Validity.{closes, unit_at}
+use Rattle.ccsl_refute.proofs.Closing.{unit_at-below, closes-at_unit, closes-at_none, closes-at_end}
+use Rattle.ccsl_refute.proofs.checker.closes.Goals as goal
+
+pub set-requires : goal.set-requires
+set-requires c =
+    unit_at-below 64 c.args.scope.now.declared c.args.lines.now (known c.loop-i.part) _ c.in-Some.lit c.requires.below (sym c.unit_at.ensures ∙ c.in-Some.is)
+
+pub loop-i-preserved : goal.loop-i-preserved
+loop-i-preserved c =
+    let d = c.args.scope.now.declared in
+    let lines = c.args.lines.now in
+    record {
+      within = omega arith;
+      same =
+          ap (λ q. closes d lines q (drop (c.loop-i.i + 1) c.args.hints.now)) c.set.ensures
+          ∙ sym
+          (closes-at_unit d lines (known c.loop-i.part) c.args.hints.now c.loop-i.i (c.loop-i.i + 1) c.in-Some.lit (omega arith) (omega arith) c.if-i-hints.false
+          (sym c.unit_at.ensures ∙ c.in-Some.is))
+          ∙ c.loop-i.invariant.same;
+    }

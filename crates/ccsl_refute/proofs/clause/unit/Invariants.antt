@@ -1,0 +1,10 @@
+use Rattle.std.proofs.Common.{◌≡◌, ℕ, length}
+use Rattle.ccsl_formula.specs.Known.{known}
+use Rattle.ccsl_refute.specs.Literals.{all_false, unit, names}
+use Rattle.ccsl_refute.proofs.clause.unit.Given as goal
+
+abbrev pub invariant-loop-rest : goal.invariant-loop-rest
+invariant-loop-rest l = unit (known l.part) l.rest ≡ unit (known l.part) l.lits
+
+abbrev pub decreases-loop-rest : goal.decreases-loop-rest
+decreases-loop-rest l = length l.rest

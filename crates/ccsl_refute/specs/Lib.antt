@@ -1,0 +1,11 @@
+pub mod Literals
+pub mod Validity
+pub mod Bad
+pub mod Meaning
+pub mod Answer
+pub mod Below
+pub mod Text
+pub mod Reading
+pub mod Read
+pub mod Writing
+pub mod CertNames
