@@ -4,3 +4,4 @@ pub mod Kept
 pub mod Files
 pub mod Levels
 pub mod Worked
+pub use Rattle.ccsl_base.specs.Name

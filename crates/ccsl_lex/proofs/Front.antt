@@ -5,7 +5,7 @@ use Rattle.std.specs.List.{list_all, prefix_len}
 use Rattle.std.proofs.lemmas.List.{take-append-drop, length-take, length-drop, get_or-drop}
 use Rattle.std.proofs.Math.Seq.{take-suc}
 use Rattle.std.proofs.lemmas.List.Sums.{prefix_len-le-length}
-use Rattle.std.proofs.lemmas.Bool.{le-leb, lt-ltb}
+use Rattle.std.proofs.lemmas.Bool.{le-leb, lt-leb, lt-ltb}
 use Rattle.std.proofs.lemmas.Bool.Decides.{eqb_tells}
 use Rattle.ccsl_base.specs.Name.{is_letter, is_digit, is_inner, is_name, is_word}
 use Rattle.ccsl_lex.specs.declared.reserved.Reserved.{Reserved}
@@ -13,9 +13,9 @@ use Rattle.ccsl_lex.specs.declared.token.TokenKind.{TokenKind}
 use Rattle.ccsl_lex.specs.declared.token.TokenKind.TheVariants.{Name, Num, Quoted, Word, Symbol}
 use Rattle.ccsl_lex.specs.Kept.{kind_kept, is_quotable}
 use Rattle.ccsl_lex.specs.Words.{reserved}
-use Rattle.ccsl_lex.specs.Tokens.{Piece, blank, comment, letters, digits, quoted, mark, text_of, starts, is_piece, is_remark, Stands, value, fits, is_white, is_mark, kind_of, IsTooLong, IsTooLarge, IsOpen}
+use Rattle.ccsl_lex.specs.Tokens.{Piece, blank, comment, letters, digits, quoted, mark, text_of, starts, is_piece, is_remark, Stands, value, fits, is_white, is_mark, kind_of, IsPastLimit, IsOpen}
 use Rattle.ccsl_lex.specs.Found.{Found, IsKept}
-use Rattle.ccsl_lex.proofs.Runs.{run_passes, run_ends}
+use Rattle.ccsl_lex.proofs.RunLists.{run_passes, run_ends}
 use Rattle.ccsl_lex.proofs.WordLists.{not_reserved}
 
 -- the run in front of a text whose first byte belongs to it
@@ -75,13 +75,13 @@ module _ (text : List ℕ) (h : starts is_letter text ≡ true) where
   pub found_name : prefix_len is_inner text ≤ 64 → reserved (take (prefix_len is_inner text) text) ≡ None → Found text (prefix_len is_inner text) (Some (Name (take (prefix_len is_inner text) text)))
   found_name l r = found_letters (Name (take (prefix_len is_inner text) text)) l (rw r refl) (name_is (take (prefix_len is_inner text) text) letters_stand.is (omega (arith, letters_long)) r)
 
-  pub long_name : 64 < prefix_len is_inner text → IsTooLong text
+  pub long_name : 64 < prefix_len is_inner text → IsPastLimit letters text
   long_name l = record {
     bytes = take (prefix_len is_inner text) text;
     behind = drop (prefix_len is_inner text) text;
     whole = sym (take-append-drop (prefix_len is_inner text) text);
     stands = letters_stand;
-    long = omega (arith, letters_long);
+    past = lt-leb (length (take (prefix_len is_inner text) text)) 64 (omega (arith, letters_long));
   }
 
 -- a number
@@ -94,13 +94,13 @@ module _ (text : List ℕ) (h : starts is_digit text ≡ true) where
       (prefix_len-le-length is_digit text) (run_some is_digit is_digit (λ b i. i) text h) digits_stand
       (rw (← e) (le-leb n 4294967295 l)) (rw (← e) refl) (lt-ltb n 4294967296 (omega arith))
 
-  pub large_number : 4294967295 < value (take (prefix_len is_digit text) text) → IsTooLarge text
+  pub large_number : 4294967295 < value (take (prefix_len is_digit text) text) → IsPastLimit digits text
   large_number l = record {
     bytes = take (prefix_len is_digit text) text;
     behind = drop (prefix_len is_digit text) text;
     whole = sym (take-append-drop (prefix_len is_digit text) text);
     stands = digits_stand;
-    large = l;
+    past = lt-leb (value (take (prefix_len is_digit text) text)) 4294967295 l;
   }
 
 never_starts : (rest : List ℕ) → starts (λ c. false) rest ≡ false

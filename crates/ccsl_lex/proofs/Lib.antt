@@ -1,4 +1,4 @@
-pub mod Runs
+pub mod RunLists
 pub mod WordLists
 pub mod Front
 pub mod Values

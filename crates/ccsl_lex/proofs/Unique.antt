@@ -4,12 +4,11 @@ use Rattle.std.specs.Prelude.{nat_eq}
 use Rattle.std.specs.List.{list_all, flat_map}
 use Rattle.std.proofs.lemmas.List.{append-nil}
 use Rattle.std.proofs.lemmas.List.Folds.{list_all-append}
-use Rattle.std.proofs.lemmas.Bool.{lt-leb}
 use Rattle.ccsl_base.specs.Name.{is_letter, is_digit, is_inner}
 use Rattle.ccsl_lex.specs.declared.fault.LexFault.{LexFault}
 use Rattle.ccsl_lex.specs.declared.fault.LexFault.TheVariants.{BadByte, NameTooLong, NumberTooLarge, OpenText, Memory}
 use Rattle.ccsl_lex.specs.Kept.{is_quotable}
-use Rattle.ccsl_lex.specs.Tokens.{Piece, blank, comment, letters, digits, quoted, mark, text_of, starts, is_piece, Stands, AreCut, is_white, is_mark, fits, value, PlainToken, tokens_of, AreTokens, CutAt, is_bad, IsBad, IsOpen, IsFirstFault}
+use Rattle.ccsl_lex.specs.Tokens.{Piece, blank, comment, letters, digits, quoted, mark, text_of, starts, is_piece, Stands, AreCut, is_white, is_mark, fits, PlainToken, tokens_of, AreTokens, CutAt, is_bad, IsBad, IsOpen, IsPastLimit, IsFirstFault}
 use Rattle.ccsl_lex.specs.Laws.{OneTokens, OneFault, NotBoth}
 use Rattle.ccsl_lex.proofs.Classes.{both, clash, class_of, class_at, class_is, bad_class, quote_class, piece_some}
 use Rattle.ccsl_lex.proofs.Longest.{first_same, run_longest, split_same}
@@ -66,12 +65,15 @@ not_broken text ts at r t y g = both_as (ahead t.pieces [] y.pieces r t.cut y.cu
     both_as (behind m ms h i j) = piece_some m (flat_map text_of ms ++ r) j.is (sym i)
     both_as (before m ms h i j) = g.none m (flat_map text_of ms ++ []) i j (fit_in y.pieces m ms t.pieces h t.fit)
 
--- where a piece past a limit stands, none within the limits does
-past_is_broken : (p : Piece) (rest : List ℕ) → Stands p rest → fits p ≡ false → IsBroken (text_of p ++ rest)
-past_is_broken p rest s l = record {
-  none = λ m z e t f. let n = first_same p m rest z s t e in clash (fits m) f (ap fits (sym n.0) ∙ l);
-  some = piece_some p rest s.is;
+-- where a piece past its limit stands, none within the limits does
+past_limit_is_broken : (kind : List ℕ → Piece) (r : List ℕ) → IsPastLimit kind r → IsBroken r
+past_limit_is_broken kind r h = record {
+  none = λ m z e t f. let n = first_same (kind h.bytes) m h.behind z h.stands t (sym h.whole ∙ e) in clash (fits m) f (ap fits (sym n.0) ∙ h.past);
+  some = λ e. piece_some (kind h.bytes) h.behind h.stands.is (sym h.whole ∙ e);
 }
+
+past_limit_class : (kind : List ℕ → Piece) (r : List ℕ) (h : IsPastLimit kind r) → class_at r ≡ class_of (kind h.bytes)
+past_limit_class kind r h = ap class_at h.whole ∙ class_is (kind h.bytes) h.behind h.stands.is
 
 or_right : (a b : Bool) → b ≡ true → (a || b) ≡ true
 or_right true b h = refl
@@ -150,18 +152,8 @@ record IsBrokenBy (text : List ℕ) (e : LexFault) : Type 0 where
 broken_by : (text : List ℕ) (e : LexFault) → IsFirstFault e text → IsBrokenBy text e
 unfolding fault_class place_of
 broken_by text (BadByte at) x = record { rest = x.rest; before = x.before; broken = bad_is_broken x.rest x.fault; class = bad_class x.rest x.fault }
-broken_by text (NameTooLong at) x = record {
-  rest = x.rest;
-  before = x.before;
-  broken = rw x.fault.whole (past_is_broken (letters x.fault.bytes) x.fault.behind x.fault.stands (lt-leb (length x.fault.bytes) 64 x.fault.long));
-  class = ap class_at x.fault.whole ∙ class_is (letters x.fault.bytes) x.fault.behind x.fault.stands.is;
-}
-broken_by text (NumberTooLarge at) x = record {
-  rest = x.rest;
-  before = x.before;
-  broken = rw x.fault.whole (past_is_broken (digits x.fault.bytes) x.fault.behind x.fault.stands (lt-leb (value x.fault.bytes) 4294967295 x.fault.large));
-  class = ap class_at x.fault.whole ∙ class_is (digits x.fault.bytes) x.fault.behind x.fault.stands.is;
-}
+broken_by text (NameTooLong at) x = record { rest = x.rest; before = x.before; broken = past_limit_is_broken letters x.rest x.fault; class = past_limit_class letters x.rest x.fault }
+broken_by text (NumberTooLarge at) x = record { rest = x.rest; before = x.before; broken = past_limit_is_broken digits x.rest x.fault; class = past_limit_class digits x.rest x.fault }
 broken_by text (OpenText at) x = record {
   rest = x.rest;
   before = x.before;

@@ -4,7 +4,7 @@ use Rattle.ccsl_lex.specs.declared.token.TokenKind.{TokenKind}
 use Rattle.ccsl_lex.specs.declared.fault.LexFault.{LexFault}
 use Rattle.ccsl_lex.specs.declared.fault.LexFault.TheVariants.{BadByte, NameTooLong, NumberTooLarge, OpenText, Memory}
 use Rattle.ccsl_lex.specs.Kept.{kind_kept}
-use Rattle.ccsl_lex.specs.Tokens.{Piece, text_of, Stands, fits, kind_of, IsBad, IsTooLong, IsTooLarge, IsOpen}
+use Rattle.ccsl_lex.specs.Tokens.{Piece, letters, digits, text_of, Stands, fits, kind_of, IsBad, IsPastLimit, IsOpen}
 
 -- a fact of a fault, where it is not want of memory
 abbrev pub UnlessMemory : LexFault → Type 0 → Type 0
@@ -29,7 +29,7 @@ pub record Found (text : List ℕ) (len : ℕ) (kind : Option TokenKind) : Type 
 -- the text, which begins at byte at, begins with this fault
 abbrev pub BeginsFault : LexFault → ℕ → List ℕ → Type 0
 BeginsFault (BadByte a) at text = (a ≡ at) × IsBad text
-BeginsFault (NameTooLong a) at text = (a ≡ at) × IsTooLong text
-BeginsFault (NumberTooLarge a) at text = (a ≡ at) × IsTooLarge text
+BeginsFault (NameTooLong a) at text = (a ≡ at) × IsPastLimit letters text
+BeginsFault (NumberTooLarge a) at text = (a ≡ at) × IsPastLimit digits text
 BeginsFault (OpenText a) at text = (a ≡ at) × IsOpen text
 BeginsFault Memory at text = Unit {0}

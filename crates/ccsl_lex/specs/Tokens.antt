@@ -2,7 +2,7 @@
 --
 -- A text is cut into pieces: tokens, comments and bytes of white space. The table says what a piece is, and which byte behind
 -- it would still belong to it. The tokens of a text are those of its pieces, and each is as long as possible.
-use Rattle.std.specs.Prelude.{◌≡◌, ℕ, ◌+◌, ◌-◌, ◌*◌, ◌<◌, Bool, true, false, ◌&&◌, ◌||◌, not, List, [], ◌∷◌, ◌++◌, length, Option, Some, None, nat_eq, nat_le, codes}
+use Rattle.std.specs.Prelude.{◌≡◌, ℕ, ◌+◌, ◌-◌, ◌*◌, Bool, true, false, ◌&&◌, ◌||◌, not, List, [], ◌∷◌, ◌++◌, length, Option, Some, None, nat_eq, nat_le, codes}
 use Rattle.std.specs.List.{list_all, list_any, flat_map}
 use Rattle.ccsl_base.specs.Name.{is_letter, is_digit, is_inner}
 use Rattle.ccsl_lex.specs.declared.reserved.Reserved.{Reserved}
@@ -148,21 +148,13 @@ is_bad (b ∷ bytes) = not (is_white b || is_letter b || is_digit b || is_mark b
 abbrev pub IsBad : List ℕ → Type 0
 IsBad rest = is_bad rest ≡ true
 
--- in front stands a name or a word of letters of more than 64 bytes
-pub record IsTooLong (rest : List ℕ) : Type 0 where
+-- in front stands a piece of this kind that is past its limit
+pub record IsPastLimit (kind : List ℕ → Piece) (rest : List ℕ) : Type 0 where
   pub bytes : List ℕ
   pub behind : List ℕ
-  pub whole : rest ≡ bytes ++ behind
-  pub stands : Stands (letters bytes) behind
-  pub long : 64 < length bytes
-
--- in front stand digits with a value above 4294967295
-pub record IsTooLarge (rest : List ℕ) : Type 0 where
-  pub bytes : List ℕ
-  pub behind : List ℕ
-  pub whole : rest ≡ bytes ++ behind
-  pub stands : Stands (digits bytes) behind
-  pub large : 4294967295 < value bytes
+  pub whole : rest ≡ text_of (kind bytes) ++ behind
+  pub stands : Stands (kind bytes) behind
+  pub past : fits (kind bytes) ≡ false
 
 -- in front stands a quote, and behind it the end, or a byte that can't stand between quotes, comes before the next quote
 pub record IsOpen (rest : List ℕ) : Type 0 where
@@ -181,7 +173,7 @@ pub record StandsFirst (BeginsFault : List ℕ → Type 0) (text : List ℕ) (at
 -- THE FIRST FAULT OF A TEXT
 abbrev pub IsFirstFault : LexFault → List ℕ → Type 0
 IsFirstFault (BadByte at) text = StandsFirst IsBad text at
-IsFirstFault (NameTooLong at) text = StandsFirst IsTooLong text at
-IsFirstFault (NumberTooLarge at) text = StandsFirst IsTooLarge text at
+IsFirstFault (NameTooLong at) text = StandsFirst (IsPastLimit letters) text at
+IsFirstFault (NumberTooLarge at) text = StandsFirst (IsPastLimit digits) text at
 IsFirstFault (OpenText at) text = StandsFirst IsOpen text at
 IsFirstFault Memory text = ⊥

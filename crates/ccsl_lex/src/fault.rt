@@ -10,16 +10,16 @@ use thiserror::Error;
 #[derive(Clone, Copy, Debug, PartialEq, Eq, Error)]
 pub enum LexFault {
     /// A byte that begins no token, a single `/` among them.
-    #[error("no token begins at byte {0}")]
+    #[error("bad byte at byte {0}")]
     BadByte(usize),
     /// A name or a word of letters of more than 64 bytes, at its first byte.
-    #[error("the name at byte {0} has more than 64 bytes")]
+    #[error("name too long at byte {0}")]
     NameTooLong(usize),
     /// A number above 4294967295, at its first digit.
-    #[error("the number at byte {0} is above 4294967295")]
+    #[error("number too large at byte {0}")]
     NumberTooLarge(usize),
     /// A quoted text that isn't closed, or holds a byte outside 32 to 126, at its opening quote.
-    #[error("the text at byte {0} isn't closed")]
+    #[error("open text at byte {0}")]
     OpenText(usize),
     #[error("no memory")]
     Memory,

@@ -1,7 +1,16 @@
 //! What is true of the tokens and the faults of every text. Each function does nothing: its contract is the law.
 
+ghost use Rattle.std.specs.Prelude.{IsTrue};
+ghost use Rattle.ccsl_lex.specs.Kept.{kind_kept};
 ghost use Rattle.ccsl_lex.specs.Laws.{OneTokens, OneFault, NotBoth, TokensOrFault, NoneLonger, TextAgain};
 ghost use Rattle.ccsl_lex.specs.Words.{WordsAreReserved, WordsReadBack};
+
+use crate::token::Token;
+
+/// Every token's name is a name of the grammar, and its quoted text has only bytes that may stand between quotes.
+pub fn every_token_is_kept(token: &Token)
+    ensures { IsTrue (kind_kept token.now.kind) }
+{}
 
 /// A text has at most one list of tokens.
 pub fn one_tokens()

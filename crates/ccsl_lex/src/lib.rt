@@ -7,6 +7,7 @@ pub mod laws;
 mod lexer;
 mod piece;
 pub mod reserved;
+mod run;
 pub mod token;
 
 pub use fault::LexFault;

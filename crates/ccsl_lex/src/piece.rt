@@ -6,11 +6,10 @@ ghost use Rattle.ccsl_base.specs.Name.{is_digit, is_letter};
 ghost use Rattle.ccsl_lex.specs.Tokens.{value, starts};
 ghost use Rattle.ccsl_lex.specs.Found.{Found, BeginsFault};
 
-use crate::byte::{
-    digit_run, is_digit, is_letter, is_mark, is_white, name_run, quoted_run, remark_run,
-};
+use crate::byte::{is_digit, is_letter, is_mark, is_white};
 use crate::fault::LexFault;
 use crate::reserved::Reserved;
+use crate::run::Run;
 use crate::token::TokenKind;
 use ccsl_base::text::Text;
 use std::alloc::Global;
@@ -43,7 +42,7 @@ fn name_piece(alloc: Global, at: usize, text: &[u8]) -> Result<Piece, LexFault>
     ensures found { IfOk result (λ piece. Found text.now piece.len piece.kind) }
     ensures fault { IfErr result (λ e. BeginsFault e at text.now) }
 {
-    let len = name_run(text);
+    let len = Run::Inner.len(text);
     if len > 64 {
         return Err(LexFault::NameTooLong(at));
     }
@@ -69,7 +68,7 @@ fn number_piece(at: usize, text: &[u8]) -> Result<Piece, LexFault>
     ensures found { IfOk result (λ piece. Found text.now piece.len piece.kind) }
     ensures fault { IfErr result (λ e. BeginsFault e at text.now) }
 {
-    let len = digit_run(text);
+    let len = Run::Digits.len(text);
     match number(&text[..len]) {
         Some(value) => Ok(Piece {
             len,
@@ -84,7 +83,7 @@ fn quoted_piece(alloc: Global, at: usize, rest: &[u8]) -> Result<Piece, LexFault
     ensures found { IfOk result (λ piece. Found (34 ∷ rest.now) piece.len piece.kind) }
     ensures fault { IfErr result (λ e. BeginsFault e at (34 ∷ rest.now)) }
 {
-    let len = quoted_run(rest);
+    let len = Run::Quotable.len(rest);
     if len < rest.len() && rest[len] == b'"' {
         let bytes = Vec::from_slice(alloc, &rest[..len])?;
         Ok(Piece {
@@ -101,7 +100,7 @@ fn comment_piece(rest: &[u8]) -> Piece
     ensures { Found (47 ∷ 47 ∷ rest.now) result.len result.kind }
 {
     Piece {
-        len: remark_run(rest) + 2,
+        len: Run::Remark.len(rest) + 2,
         kind: None,
     }
 }

@@ -100,7 +100,7 @@ fn texts(rt: HostRuntime) -> Result<(), Fail> {
 fn names_have_64_bytes_at_most(rt: HostRuntime) -> Result<(), Fail> {
     let letters = vec![in rt.alloc(); b'z'; 65]?;
     match tokens(rt.alloc(), letters.as_slice()) {
-        Ok(_) => assert!(rt; false),
+        Ok(_) => assert!(rt; false, "65 bytes"),
         Err(fault) => assert_eq!(rt; fault, LexFault::NameTooLong(0)),
     }
     let name = tokens(rt.alloc(), &letters.as_slice()[..64])
