@@ -1,0 +1,7 @@
+pub mod Trees
+pub mod Depth
+pub mod Kept
+pub mod Files
+pub mod Levels
+pub mod Worked
+pub use Rattle.ccsl_base.specs.Name

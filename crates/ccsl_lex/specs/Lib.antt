@@ -1,0 +1,7 @@
+pub mod Kept
+pub mod Words
+pub mod Tokens
+pub mod Runs
+pub mod Laws
+pub mod Found
+pub use Rattle.ccsl_base.specs.Name

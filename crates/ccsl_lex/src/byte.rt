@@ -1,0 +1,51 @@
+//! Kinds of bytes.
+
+ghost use Rattle.std.specs.Prelude.{◌≡◌};
+ghost use Rattle.ccsl_base.specs.Name.{is_letter, is_digit, is_inner};
+ghost use Rattle.ccsl_lex.specs.Kept.{is_quotable};
+ghost use Rattle.ccsl_lex.specs.Tokens.{is_white, is_mark, is_remark};
+
+pub fn is_white(b: u8) -> bool
+    ensures { result ≡ is_white b }
+{
+    matches!(b, b' ' | b'\t' | b'\n' | b'\r')
+}
+
+pub fn is_letter(b: u8) -> bool
+    ensures { result ≡ is_letter b }
+{
+    matches!(b, b'A'..=b'Z' | b'a'..=b'z' | b'_')
+}
+
+pub fn is_digit(b: u8) -> bool
+    ensures { result ≡ is_digit b }
+{
+    matches!(b, b'0'..=b'9')
+}
+
+pub fn is_inner(b: u8) -> bool
+    ensures { result ≡ is_inner b }
+{
+    is_letter(b) || is_digit(b)
+}
+
+pub fn is_mark(b: u8) -> bool
+    ensures { result ≡ is_mark b }
+{
+    matches!(
+        b,
+        b'(' | b')' | b'{' | b'}' | b',' | b';' | b'=' | b'<' | b'+' | b'-'
+    )
+}
+
+pub fn is_quotable(b: u8) -> bool
+    ensures { result ≡ is_quotable b }
+{
+    matches!(b, 32..=126) && b != b'"'
+}
+
+pub fn is_remark(b: u8) -> bool
+    ensures { result ≡ is_remark b }
+{
+    b != b'\n'
+}
