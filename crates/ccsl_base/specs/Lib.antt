@@ -1,2 +1,3 @@
 pub mod Clocks
+pub mod Bits
 pub mod Name

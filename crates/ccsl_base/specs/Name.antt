@@ -16,12 +16,12 @@ is_inner b = is_letter b || is_digit b
 -- the words that the language keeps for itself
 abbrev pub reserved_words : List (List ℕ)
 reserved_words =
-  codes "ccsl" ∷ codes "relation" ∷ codes "expression" ∷ codes "and" ∷ codes "system" ∷ codes "clock" ∷ codes "number"
-  ∷ codes "word" ∷ codes "define" ∷ codes "if" ∷ codes "use" ∷ codes "else" ∷ codes "never" ∷ codes "union" ∷ codes "inter"
-  ∷ codes "minus" ∷ codes "inf" ∷ codes "sup" ∷ codes "delay" ∷ codes "await" ∷ codes "filter" ∷ codes "upto"
-  ∷ codes "sampled" ∷ codes "weakly" ∷ codes "on" ∷ codes "delayed" ∷ codes "then" ∷ codes "tail" ∷ codes "head"
-  ∷ codes "ended" ∷ codes "subclock" ∷ codes "coincides" ∷ codes "excludes" ∷ codes "precedes" ∷ codes "within"
-  ∷ codes "from" ∷ []
+    codes "ccsl" ∷ codes "relation" ∷ codes "expression" ∷ codes "and" ∷ codes "system" ∷ codes "clock" ∷ codes "number"
+    ∷ codes "word" ∷ codes "define" ∷ codes "if" ∷ codes "use" ∷ codes "else" ∷ codes "never" ∷ codes "union" ∷ codes "inter"
+    ∷ codes "minus" ∷ codes "inf" ∷ codes "sup" ∷ codes "delay" ∷ codes "await" ∷ codes "filter" ∷ codes "upto"
+    ∷ codes "sampled" ∷ codes "weakly" ∷ codes "on" ∷ codes "delayed" ∷ codes "then" ∷ codes "tail" ∷ codes "head"
+    ∷ codes "ended" ∷ codes "subclock" ∷ codes "coincides" ∷ codes "excludes" ∷ codes "precedes" ∷ codes "within"
+    ∷ codes "from" ∷ []
 
 abbrev pub is_reserved : List ℕ → Bool
 is_reserved bytes = list_any (bytes_eq bytes) reserved_words

@@ -1,10 +1,12 @@
 //! The small types that every layer shares: sets of clocks, rows of a trace, lists, texts and names.
 #![tactic(auto)]
 
+pub mod clock_set;
 pub mod memory;
 pub mod seq;
 pub mod text;
 
+pub use clock_set::ClockSet;
 pub use memory::Memory;
 pub use seq::Seq;
 pub use text::Text;
