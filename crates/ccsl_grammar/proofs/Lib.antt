@@ -1,1 +1,5 @@
+mod Good
+mod Parts
+mod Many
+mod Steps
 mod Examples
