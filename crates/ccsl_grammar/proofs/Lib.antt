@@ -2,4 +2,6 @@ mod Good
 mod Parts
 mod Many
 mod Steps
+mod Leaves
+mod Exprs
 mod Examples
