@@ -4,4 +4,6 @@ mod Many
 mod Steps
 mod Leaves
 mod Exprs
+mod Lines
+mod Definitions
 mod Examples
