@@ -6,4 +6,5 @@ mod Leaves
 mod Exprs
 mod Lines
 mod Definitions
+mod Files
 mod Examples
