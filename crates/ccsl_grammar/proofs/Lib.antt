@@ -7,4 +7,6 @@ mod Exprs
 mod Lines
 mod Definitions
 mod Files
+mod Outcome
+mod CompleteLeaves
 mod Examples
