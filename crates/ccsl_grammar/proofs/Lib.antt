@@ -9,4 +9,5 @@ mod Definitions
 mod Files
 mod Outcome
 mod CompleteLeaves
+mod CompleteExprs
 mod Examples
