@@ -10,4 +10,5 @@ mod Files
 mod Outcome
 mod CompleteLeaves
 mod CompleteExprs
+mod CompleteLines
 mod Examples
