@@ -85,3 +85,6 @@ pub record PlainFile : Type 0 where
   pub version : ℕ
   pub definitions : List PlainDefinition
   pub lines : List SLine
+
+abbrev pub plain_parts : ℕ → List Definition → List SystemLine → PlainFile
+plain_parts version definitions lines = record { version = version; definitions = map plain_definition definitions; lines = map plain_sline lines }

@@ -2,12 +2,14 @@
 #![tactic(auto)]
 
 pub mod definition;
+pub mod file;
 pub mod line;
 pub mod spot;
 pub mod term;
 pub mod tree;
 
 pub use definition::{Definition, Kind, Member, Param};
+pub use file::File;
 pub use line::{Relation, RelationLine, SystemLine};
 pub use spot::Spot;
 pub use term::{Argument, Prim, Primary, Sign, Term, Test, WordTerm};
