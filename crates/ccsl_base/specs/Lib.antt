@@ -1,3 +1,5 @@
 pub mod Clocks
 pub mod Bits
+pub mod Rows
 pub mod Name
+pub mod Names

@@ -1,0 +1,83 @@
+//! Tables of names.
+
+ghost use Rattle.std.specs.Prelude.{◌≡◌, ◌<◌, ◌≤◌, ◌↔◌, [], ◌∷◌, ◌++◌, IsTrue, IsNone, IfOk, IfSome, OnErr, length, slice_get, Some, None};
+ghost use Rattle.ccsl_base.specs.Names.{find_name, IsAdded, are_distinct};
+
+use crate::Memory;
+use indexmap::IndexSet;
+use std::alloc::Global;
+use std::marker::Model;
+
+/// A list of distinct byte texts, each with its number in the order of addition. A look-up takes constant time.
+#[derive(Drop)]
+pub struct Names {
+    alloc: Global,
+    texts: IndexSet<Vec<u8>>,
+}
+
+impl Model for Names {
+    ghost use Rattle.std.specs.Prelude.{List, ℕ, map, length, ◌<◌, ◌^◌, IsTrue};
+    ghost use Rattle.ccsl_base.specs.Names.{are_distinct};
+
+    ghost Value = { List (List ℕ) };
+
+    ghost view = { λ n. map (λ t. t.items) n.texts.keys };
+
+    ghost invariant = { λ n. (length n.texts.keys < 2 ^ 32) × IsTrue (are_distinct (map (λ t. t.items) n.texts.keys)) };
+}
+
+impl Names {
+    /// A table without names.
+    pub fn new(alloc: Global) -> Names
+        ensures { result ≡ [] }
+    {
+        Names {
+            alloc,
+            texts: IndexSet::new(alloc),
+        }
+    }
+
+    /// Adds a name, and answers its number, or `None` where the name is there. On `None` and on `Memory` the table is as before.
+    pub fn add(&mut self, name: &[u8]) -> Result<Option<u32>, Memory>
+        requires room { length self.old < 4294967295 }
+        ensures added { IfOk result (λ number. IsAdded self.old self.new name.now number) }
+        ensures memory { OnErr result (self.new ≡ self.old) }
+    {
+        if self.texts.contains(name) {
+            return Ok(None);
+        }
+        let number = self.texts.len();
+        self.texts.insert(Vec::from_slice(self.alloc, name)?)?;
+        Ok(Some(number as u32))
+    }
+
+    /// The number of a name, or `None` where it is not there.
+    pub fn find(&self, name: &[u8]) -> Option<u32>
+        ensures place { result ≡ find_name name.now self.now }
+        ensures there { IfSome result (λ i. slice_get self.now i ≡ Some name.now) }
+    {
+        let place = self.texts.get_index_of(name)?;
+        Some(place as u32)
+    }
+
+    /// The name of a number.
+    pub fn get(&self, i: u32) -> &[u8]
+        requires { i < length self.now }
+        ensures name { slice_get self.now i ≡ Some result.now }
+        ensures distinct { IsTrue (are_distinct self.now) }
+    {
+        self.texts.as_slice()[i as usize].as_slice()
+    }
+
+    pub fn len(&self) -> u32
+        ensures { result ≡ length self.now }
+    {
+        self.texts.len() as u32
+    }
+
+    pub fn is_empty(&self) -> bool
+        ensures { IsTrue result ↔ (self.now ≡ []) }
+    {
+        self.texts.is_empty()
+    }
+}
