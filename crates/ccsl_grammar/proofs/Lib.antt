@@ -11,4 +11,6 @@ mod Outcome
 mod CompleteLeaves
 mod CompleteExprs
 mod CompleteLines
+mod Depth
+pub mod Verdict
 mod Examples

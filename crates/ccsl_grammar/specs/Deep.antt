@@ -1,8 +1,9 @@
 -- Levels. The expression of a define or of a member has level 1; the expression in parentheses and each branch of an if have
 -- a level one greater than the expression in which they stand.
-use Rattle.std.specs.Prelude.{ℕ, zero, suc, max, List, [], ◌∷◌, ◌++◌, Option, Some, None}
+use Rattle.std.specs.Prelude.{ℕ, zero, suc, max, List, [], ◌∷◌, ◌++◌, map, Option, Some, None}
 use Rattle.std.specs.List.{flat_map}
 use Rattle.ccsl_lex.specs.declared.reserved.Reserved.TheVariants as w
+use Rattle.ccsl_ast.specs.Depth.{greatest}
 use Rattle.ccsl_grammar.specs.Terminals.{Terminal, word, number}
 use Rattle.ccsl_grammar.specs.Grammar.{closing, semicolon, right_brace, binop_spelled, term_spelled, wterm_spelled, Expr, alone, binary, delay, await, filter, delayed, choice, Operand, named, called, never, parens, expr_spelled, operand_spelled, Rline, define, constrain, call, rline_spelled, Sline, clocks, line, sline_spelled, Member, further_member, Definition, relation, group, definition_spelled, Derivation, system_spelled}
 
@@ -73,10 +74,6 @@ abbrev mutual
   operand_depth never = 0
   operand_depth (parens e) = expr_depth e
 
-abbrev pub greatest : {C : Type 0} → (C → ℕ) → List C → ℕ
-greatest depth [] = 0
-greatest depth (c ∷ cs) = max (depth c) (greatest depth cs)
-
 abbrev pub rline_depth : Rline → ℕ
 rline_depth (define x e) = expr_depth e
 rline_depth (constrain a r b) = 0
@@ -90,8 +87,8 @@ abbrev pub member_depth : Member → ℕ
 member_depth m = expr_depth m.body
 
 abbrev pub definition_depth : Definition → ℕ
-definition_depth (relation x params l ls) = greatest rline_depth (l ∷ ls)
-definition_depth (group m ms) = greatest member_depth (m ∷ ms)
+definition_depth (relation x params l ls) = greatest (map rline_depth (l ∷ ls))
+definition_depth (group m ms) = greatest (map member_depth (m ∷ ms))
 
 abbrev pub derivation_depth : Derivation → ℕ
-derivation_depth d = max (greatest definition_depth d.definitions) (greatest sline_depth d.lines)
+derivation_depth d = max (greatest (map definition_depth d.definitions)) (greatest (map sline_depth d.lines))

@@ -9,3 +9,5 @@ pub mod File
 pub mod Faults
 pub mod Canonical
 pub mod Bare
+pub mod Kept
+pub mod Laws
