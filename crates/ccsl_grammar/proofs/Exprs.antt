@@ -1,6 +1,7 @@
 -- Expressions: what the reader takes is a derivation, and where it stops a derivation can be continued.
 use Rattle.std.proofs.Common.{◌≡◌, ℕ, zero, suc, ◌+◌, Bool, true, false, List, [], ◌∷◌, ◌++◌, Option, Some, None, refl, sym, ap, ◌∙◌, append_assoc, inl, inr, ◌||◌, ◌⊎◌}
 use Rattle.std.proofs.lemmas.List.{append-nil}
+use Rattle.std.proofs.lemmas.Bool.{or_cases}
 use Rattle.ccsl_lex.specs.declared.reserved.Reserved.{Reserved}
 use Rattle.ccsl_lex.specs.declared.reserved.Reserved.TheVariants as w
 use Rattle.ccsl_ast.specs.declared.spot.Spot.{Spot}
@@ -23,10 +24,6 @@ use Rattle.ccsl_grammar.proofs.Leaves.{some_spot, some_term, closed_spelled, lis
 
 stop : {A : Type 0} (S : Fault → List Terminal → List Terminal → Type 0) (Q : A → List Terminal → Type 0) (k : Fault) (ts : List Terminal) → S k [] ts → Good S Q (stopped k) ts
 stop S Q k ts h = record { is = record { front = []; whole = refl; holds = h; again = λ t us more e. refl } }
-
-or_true : (a b : Bool) → (a || b) ≡ true → (a ≡ true) ⊎ (b ≡ true)
-or_true true b h = inl refl
-or_true false b h = inr h
 
 -- a derivation of an expression that begins with t
 record First (t : Terminal) : Type 0 where
@@ -52,9 +49,9 @@ first_if : (t : Terminal) → is_word w.If t ≡ true → First t
 first_if t h = record { whole = choice (Head some_spot) (alone never) (alone never); more = some_choice; is = rw (word_is w.If t h) refl }
 
 first : (t : Terminal) → is_expr t ≡ true → First t
-first t h = elim (or_true (is_name t || is_word w.Never t || is_symbol 40 t) (is_word w.If t) h) [
-  | inl i ↦ elim (or_true (is_name t || is_word w.Never t) (is_symbol 40 t) i) [
-    | inl j ↦ elim (or_true (is_name t) (is_word w.Never t) j) [ inl k ↦ first_name t k | inr k ↦ first_never t k ]
+first t h = elim (or_cases (is_name t || is_word w.Never t || is_symbol 40 t) (is_word w.If t) h) [
+  | inl i ↦ elim (or_cases (is_name t || is_word w.Never t) (is_symbol 40 t) i) [
+    | inl j ↦ elim (or_cases (is_name t) (is_word w.Never t) j) [ inl k ↦ first_name t k | inr k ↦ first_never t k ]
     | inr j ↦ first_opening t j ]
   | inr i ↦ first_if t i ]
 

@@ -13,4 +13,5 @@ mod CompleteExprs
 mod CompleteLines
 mod Depth
 pub mod Verdict
+pub mod Canonical
 mod Examples

@@ -1,7 +1,7 @@
 -- The same reader again and again.
 use Rattle.std.proofs.Common.{◌≡◌, ℕ, zero, suc, ◌+◌, ◌<◌, ◌≤◌, Bool, true, false, List, [], ◌∷◌, ◌++◌, length, map, Option, Some, None, refl, sym, ap, subst, ◌∙◌, append_assoc, arith, length-append}
 use Rattle.std.specs.List.{flat_map}
-use Rattle.std.proofs.lemmas.List.{append-nil}
+use Rattle.std.proofs.lemmas.List.{append-nil, map-id}
 use Rattle.ccsl_grammar.specs.Terminals.{Terminal}
 use Rattle.ccsl_grammar.specs.Reader.{Fault, no_syntax, too_deep, Reply, took, stopped, Reader, followed, ◌>>=◌, given, begins, picked, choose, many_within, many}
 use Rattle.ccsl_grammar.specs.Deep.{or_else, all_deep}
@@ -100,10 +100,6 @@ module _ {C T : Type 0} (spelled : C → List Terminal) (deep : C → List Termi
 
 -- ---- lists of parts in which nothing stands deep
 
-pub map_self : {C : Type 0} (cs : List C) → map (λ c. c) cs ≡ cs
-map_self [] = refl
-map_self (c ∷ cs) = ap (λ q. c ∷ q) (map_self cs)
-
 pub none_deep : {C : Type 0} (spelled : C → List Terminal) (cs : List C) (after : List Terminal) → all_deep spelled shallow cs after ≡ None
 none_deep spelled [] after = refl
 none_deep spelled (c ∷ cs) after = none_deep spelled cs after
@@ -114,6 +110,6 @@ lists_stop spelled too_deep p z h = let n = none_deep spelled h.whole [] in let 
 
 pub many_self : {C : Type 0} (spelled : C → List Terminal) (test : Terminal → Bool) (f : Reader C) → ((c : C) → 0 < length (spelled c)) → Self spelled f → Self (flat_map spelled) (many test f)
 many_self spelled test f nonempty h = record {
-  at = λ ts. weaker _ _ _ _ (many test f) ts (lists_stop spelled) (λ v p i. record { whole = i.whole; is = i.is; tree_is = sym (map_self i.whole) ∙ i.tree_is; deep_is = λ after. refl })
+  at = λ ts. weaker _ _ _ _ (many test f) ts (lists_stop spelled) (λ v p i. record { whole = i.whole; is = i.is; tree_is = sym (map-id i.whole) ∙ i.tree_is; deep_is = λ after. refl })
     ((many_reads spelled shallow (λ c. c) test f nonempty h).at ts)
 }

@@ -1,12 +1,13 @@
 -- What a reader does with a derivation in front of a list: it takes the derivation, or stops at the first expression that stands too deep.
 use Rattle.std.proofs.Common.{◌≡◌, ◌<◌, Bool, true, false, List, [], ◌∷◌, ◌++◌, length, map, Option, Some, None, refl, ◌∙◌, append_assoc}
 use Rattle.std.specs.List.{flat_map}
+use Rattle.std.proofs.lemmas.List.{map-id}
 use Rattle.ccsl_grammar.specs.Terminals.{Terminal}
 use Rattle.ccsl_grammar.specs.Reader.{Fault, too_deep, Reply, took, stopped, Reader, followed, ◌>>=◌, given, begins, choose, many}
 use Rattle.ccsl_grammar.specs.Deep.{or_else, all_deep}
 use Rattle.ccsl_grammar.specs.Places.{shallow}
 use Rattle.ccsl_grammar.proofs.Parts.{Reads, Self}
-use Rattle.ccsl_grammar.proofs.Many.{step, item_falls, none_deep, map_self}
+use Rattle.ccsl_grammar.proofs.Many.{step, item_falls, none_deep}
 
 abbrev pub outcome : {A : Type 0} → Option (List Terminal) → A → List Terminal → Reply A
 outcome None v rest = took v rest
@@ -50,4 +51,4 @@ module _ {C : Type 0} (spelled : C → List Terminal) (test : Terminal → Bool)
   pub many_self_complete : (cs : List C) (rest : List Terminal) → begins test rest ≡ false → Follows rest → many test f (flat_map spelled cs ++ rest) ≡ took cs rest
   many_self_complete cs rest b h =
       many_complete spelled shallow (λ c. c) test f Follows nonempty self goes_on follows complete cs rest b h
-      ∙ rw (none_deep spelled cs rest, map_self cs) refl
+      ∙ rw (none_deep spelled cs rest, map-id cs) refl
