@@ -14,4 +14,5 @@ mod CompleteLines
 mod Depth
 pub mod Verdict
 pub mod Canonical
+pub mod Keeps
 mod Examples
