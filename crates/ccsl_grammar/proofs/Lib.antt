@@ -15,4 +15,6 @@ mod Depth
 pub mod Verdict
 pub mod Canonical
 pub mod Keeps
+mod Blind
+pub mod Bare
 mod Examples
