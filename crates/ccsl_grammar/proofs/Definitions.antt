@@ -22,7 +22,7 @@ use Rattle.ccsl_grammar.proofs.Leaves.{some_spot, closed_spelled, list_reads, pa
 use Rattle.ccsl_grammar.proofs.Exprs.{expr_reads}
 use Rattle.ccsl_grammar.proofs.Lines.{rline_nonempty, rline_reads, sline_nonempty, sline_reads}
 
-abbrev some_param : Param
+abbrev pub some_param : Param
 some_param = record { kind = kind.Clock; name = some_spot }
 
 abbrev some_member : Member

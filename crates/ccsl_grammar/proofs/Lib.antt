@@ -17,4 +17,6 @@ pub mod Canonical
 pub mod Keeps
 mod Blind
 pub mod Bare
+pub mod Loop
+pub mod Parsed
 mod Examples
