@@ -1,20 +1,12 @@
 -- Readers that do not look at places: on terminals without places they do the same, and their values have none.
-use Rattle.std.proofs.Common.{◌≡◌, ℕ, zero, suc, Bool, true, false, List, [], ◌∷◌, length, map, Option, Some, None, refl, sym, ap, ◌∙◌, eqb, cond, not, ◌||◌}
+use Rattle.std.proofs.Common.{◌≡◌, ℕ, zero, suc, Bool, true, false, List, [], ◌∷◌, length, map, Option, Some, None, refl, ap, not, ◌||◌}
 use Rattle.std.proofs.lemmas.List.{length-map}
 use Rattle.ccsl_lex.specs.declared.reserved.Reserved.{Reserved}
 use Rattle.ccsl_lex.specs.declared.reserved.Reserved.TheVariants as w
-use Rattle.ccsl_ast.specs.declared.spot.Spot.{Spot}
-use Rattle.ccsl_ast.specs.declared.term.Sign.{Sign}
-use Rattle.ccsl_ast.specs.declared.term.Primary.{Primary}
-use Rattle.ccsl_ast.specs.declared.term.Term.{Term}
-use Rattle.ccsl_ast.specs.declared.tree.BinaryOp.{BinaryOp}
-use Rattle.ccsl_ast.specs.declared.line.Relation.{Relation}
-use Rattle.ccsl_ast.specs.declared.definition.Kind.{Kind}
-use Rattle.ccsl_ast.specs.Trees.{Expression, Line, SLine, PlainMember, PlainDefinition, PlainFile}
-use Rattle.ccsl_grammar.specs.Terminals.{Terminal, word, symbol, name, number, quoted, is_word, is_symbol, is_name, is_quoted}
+use Rattle.ccsl_grammar.specs.Terminals.{Terminal, word, symbol, name, quoted, is_word, is_symbol, is_name, is_quoted}
 use Rattle.ccsl_grammar.specs.Reader.{Fault, Reply, took, stopped, Reader, followed, ◌>>=◌, ◌>>◌, given, valued, accept, begins, picked, choose, many_within, many}
-use Rattle.ccsl_grammar.specs.Parser.{passed, word_at, symbol_at, name_of, name_at, num_of, num_at, quoted_of, quoted_at, further_at, list_at, prim_of, prim_at, sign_of, sign_at, is_sign, signed_at, term_at, wterm_at, comparison_at, test_at, arg_at, kind_of, kind_at, param_at, relop_of, precedes_at, relop_at, binop_of, sampled_at, binop_at, is_binop, named_at, parens_at, operand_at, binary_at, delayed_at, rest_at, choice_at, expr_with, is_expr, no_room, expr_at, define_at, call_at, constraint_at, rline_at, clocks_at, sline_at, no_brace, relation_at, member_at, further_member_at, group_at, definition_at, is_definition, one_of, version_at, system_at, ends, file_at}
-use Rattle.ccsl_grammar.specs.Bare.{bare_spot, bare, bares, bare_prim, bare_signed, bare_term, bare_wterm, bare_test, bare_arg, bare_param, bare_expression, bare_line, bare_sline, bare_member, bare_definition, bare_file}
+use Rattle.ccsl_grammar.specs.Parser.{passed, word_at, symbol_at, name_of, name_at, is_sign, is_binop, is_expr, no_brace, is_definition}
+use Rattle.ccsl_grammar.specs.Bare.{bare_spot, bare, bares}
 
 -- a reply without places, where b takes them from the value
 abbrev pub bared : {A : Type 0} → (A → A) → Reply A → Reply A
@@ -73,8 +65,8 @@ module _ {A : Type 0} (b : A → A) (test : Terminal → Bool) (same : (t : Term
   turns : (n : ℕ) → Blind (map b) (many_within n test f) (many_within n test f)
   turns zero = give (map b) []
   turns (suc n) = either (map b) test same _ _ _ _
-    (bind b (map b) f f _ _ h (λ v. bind (map b) (map b) _ _ _ _ (turns n) (λ vs. give (map b) (v ∷ vs))))
-    (give (map b) [])
+      (bind b (map b) f f _ _ h (λ v. bind (map b) (map b) _ _ _ _ (turns n) (λ vs. give (map b) (v ∷ vs))))
+      (give (map b) [])
 
   pub again : Blind (map b) (many test f) (many test f)
   unfolding many

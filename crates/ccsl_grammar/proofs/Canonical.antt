@@ -1,6 +1,6 @@
 -- The canonical derivation has the tree it was made from, its depth is the tree's, and no derivation of that tree is less deep.
-use Rattle.std.proofs.Common.{◌≡◌, ℕ, suc, Bool, true, false, ◌&&◌, ◌+◌, ◌≤◌, max, List, [], ◌∷◌, map, refl, sym, ap, ◌∙◌, arith}
-use Rattle.std.specs.Prelude.{if◌then◌else◌, nat_eq}
+use Rattle.std.proofs.Common.{◌≡◌, ℕ, suc, Bool, true, false, ◌&&◌, ◌≤◌, List, [], ◌∷◌, map, refl, ap, arith}
+use Rattle.std.specs.Prelude.{nat_eq}
 use Rattle.std.specs.List.{list_all}
 use Rattle.std.proofs.lemmas.Bool.{eqb-true, and_parts}
 use Rattle.ccsl_ast.specs.declared.spot.Spot.{Spot}
@@ -8,9 +8,9 @@ use Rattle.ccsl_ast.specs.declared.definition.Param.{Param}
 use Rattle.ccsl_ast.specs.Trees.{Expression, EName, ECall, ENever, EBinary, EDelay, EAwait, EFilter, EDelayed, EIf, Line, LDefine, LConstraint, LCall, SLine, SClocks, SLineOf, PlainMember, PlainDefinition, DRelation, DGroup, PlainFile}
 use Rattle.ccsl_ast.specs.Depth as tree
 use Rattle.ccsl_ast.specs.Depth.{depth, greatest}
-use Rattle.ccsl_ast.specs.Kept.{spot_kept, line_kept, sline_kept, param_kept, member_kept, definition_kept, has_member, file_kept}
-use Rattle.ccsl_grammar.specs.Grammar.{Expr, alone, binary, delay, await, filter, delayed, choice, Operand, named, called, never, parens, expr_tree, operand_tree, Rline, define, constrain, call, rline_tree, Sline, clocks, line, sline_tree, Member, member_tree, Definition, relation, group, definition_tree, Derivation, file_tree}
-use Rattle.ccsl_grammar.specs.Deep.{expr_depth, operand_depth, rline_depth, sline_depth, member_depth, definition_depth, derivation_depth}
+use Rattle.ccsl_ast.specs.Kept.{spot_kept, line_kept, sline_kept, param_kept, member_kept, definition_kept, file_kept}
+use Rattle.ccsl_grammar.specs.Grammar.{Expr, alone, binary, delay, await, filter, delayed, choice, Operand, named, called, never, parens, expr_tree, operand_tree, Rline, define, constrain, call, rline_tree, Sline, clocks, line, sline_tree, Member, member_tree, Definition, relation, group, definition_tree, file_tree}
+use Rattle.ccsl_grammar.specs.Deep.{expr_depth, operand_depth, rline_depth, sline_depth, member_depth, definition_depth}
 use Rattle.ccsl_grammar.specs.Canonical.{expr_of, operand_of, rline_of, sline_of, member_of, definition_of, file_of}
 use Rattle.ccsl_grammar.specs.Laws.{CanonicalDepth, LeastDepth, CanonicalParses}
 

@@ -1,5 +1,5 @@
 -- The reader of expressions on what is spelled from them: it takes them, or stops at the first that stands too deep.
-use Rattle.std.proofs.Common.{◌≡◌, ℕ, zero, suc, Bool, true, false, List, [], ◌∷◌, ◌++◌, Option, Some, None, refl, ◌∙◌, append_assoc, ◌||◌}
+use Rattle.std.proofs.Common.{◌≡◌, ℕ, zero, suc, true, false, List, [], ◌∷◌, ◌++◌, Option, refl, ◌∙◌, append_assoc}
 use Rattle.ccsl_lex.specs.declared.reserved.Reserved.TheVariants as w
 use Rattle.ccsl_ast.specs.declared.spot.Spot.{Spot}
 use Rattle.ccsl_ast.specs.declared.term.Term.{Term}
@@ -9,10 +9,10 @@ use Rattle.ccsl_ast.specs.declared.term.Argument.{Argument}
 use Rattle.ccsl_ast.specs.declared.tree.BinaryOp.{BinaryOp}
 use Rattle.ccsl_ast.specs.declared.tree.BinaryOp.TheVariants as op
 use Rattle.ccsl_ast.specs.Trees.{Expression, EName, ECall, ENever, EBinary, EDelay, EAwait, EFilter, EDelayed, EIf}
-use Rattle.ccsl_grammar.specs.Terminals.{Terminal, word, symbol, name, number, is_word, is_symbol}
-use Rattle.ccsl_grammar.specs.Reader.{Fault, too_deep, Reply, took, stopped, Reader, followed, ◌>>=◌, ◌>>◌, given, begins, choose}
+use Rattle.ccsl_grammar.specs.Terminals.{Terminal, word, name, number, is_word, is_symbol}
+use Rattle.ccsl_grammar.specs.Reader.{too_deep, took, stopped, Reader, followed, ◌>>=◌, ◌>>◌, given, begins}
 use Rattle.ccsl_grammar.specs.Deep.{or_else, expr_deep, operand_deep}
-use Rattle.ccsl_grammar.specs.Grammar.{opening, closing, semicolon, list_spelled, arg_spelled, binop_spelled, term_spelled, wterm_spelled, test_spelled, Expr, alone, binary, delay, await, filter, delayed, choice, Operand, named, called, never, parens, expr_spelled, operand_spelled, expr_tree, operand_tree}
+use Rattle.ccsl_grammar.specs.Grammar.{opening, closing, semicolon, arg_spelled, binop_spelled, term_spelled, wterm_spelled, test_spelled, Expr, alone, binary, delay, await, filter, delayed, choice, Operand, named, called, never, parens, expr_spelled, operand_spelled, expr_tree, operand_tree}
 use Rattle.ccsl_grammar.specs.Parser.{word_at, symbol_at, name_at, num_at, is_sign, sampled_at, binop_at, is_binop, named_at, parens_at, operand_at, binary_at, delayed_at, rest_at, choice_at, expr_with, is_expr, no_room, expr_at}
 use Rattle.ccsl_grammar.proofs.Leaves.{closed_spelled}
 use Rattle.ccsl_grammar.proofs.Outcome.{outcome, outcome_then, outcome_last}
@@ -161,7 +161,7 @@ mutual
       let z : List Terminal = operand_spelled d ++ rest in
       rw (append_assoc (operand_spelled a) (binop_spelled op ++ operand_spelled d) rest, append_assoc (binop_spelled op) (operand_spelled d) rest)
       (operand_then room a (binop_spelled op ++ z) (operand_complete room a (binop_spelled op ++ z) (binop_first op z)) (operand_deep room d rest) (EBinary op (operand_tree a) (operand_tree d)) rest
-        (rest_binary (expr_at room) (operand_tree a) op z ∙ operand_second room d rest (operand_complete room d rest h.call) (λ t. EBinary op (operand_tree a) t)))
+      (rest_binary (expr_at room) (operand_tree a) op z ∙ operand_second room d rest (operand_complete room d rest h.call) (λ t. EBinary op (operand_tree a) t)))
   expr_complete (suc room) (delay a m) rest h =
       let z : List Terminal = word w.Delay ∷ (term_spelled m ++ rest) in
       rw (append_assoc (operand_spelled a) (word w.Delay ∷ term_spelled m) rest)
@@ -178,15 +178,15 @@ mutual
       let z : List Terminal = word w.Delayed ∷ number at n ∷ word w.On ∷ (operand_spelled d ++ rest) in
       rw (append_assoc (operand_spelled a) (word w.Delayed ∷ number at n ∷ word w.On ∷ operand_spelled d) rest)
       (operand_then room a z (operand_complete room a z refl) (operand_deep room d rest) (EDelayed (operand_tree a) at n (operand_tree d)) rest
-        (rest_delayed (expr_at room) (operand_tree a) at n (operand_spelled d ++ rest) ∙ operand_second room d rest (operand_complete room d rest h.call) (λ t. EDelayed (operand_tree a) at n t)))
+      (rest_delayed (expr_at room) (operand_tree a) at n (operand_spelled d ++ rest) ∙ operand_second room d rest (operand_complete room d rest h.call) (λ t. EDelayed (operand_tree a) at n t)))
   expr_complete (suc room) (choice q a d) rest h =
       let z : List Terminal = word w.Else ∷ (expr_spelled d ++ rest) in
       rw (append_assoc (test_spelled q) (word w.Use ∷ (expr_spelled a ++ word w.Else ∷ expr_spelled d)) rest, append_assoc (expr_spelled a) (word w.Else ∷ expr_spelled d) rest)
       (expr_choice room q (expr_spelled a ++ z)
       ∙ rw (expr_complete room a z (ends_else (expr_spelled d ++ rest)))
-        (outcome_then (expr_deep room a z) (expr_deep room d rest) (expr_tree a) z (λ a. word_at w.Else >> expr_at room >>= λ d. given (EIf q a d)) (EIf q (expr_tree a) (expr_tree d)) rest
-          (choice_middle (expr_at room) q (expr_tree a) (expr_spelled d ++ rest)
-          ∙ rw (expr_complete room d rest h) (outcome_last (expr_deep room d rest) (expr_tree d) rest (λ t. given (EIf q (expr_tree a) t)) (EIf q (expr_tree a) (expr_tree d)) rest refl))))
+      (outcome_then (expr_deep room a z) (expr_deep room d rest) (expr_tree a) z (λ a. word_at w.Else >> expr_at room >>= λ d. given (EIf q a d)) (EIf q (expr_tree a) (expr_tree d)) rest
+      (choice_middle (expr_at room) q (expr_tree a) (expr_spelled d ++ rest)
+      ∙ rw (expr_complete room d rest h) (outcome_last (expr_deep room d rest) (expr_tree d) rest (λ t. given (EIf q (expr_tree a) t)) (EIf q (expr_tree a) (expr_tree d)) rest refl))))
 
   pub operand_complete : (room : ℕ) (o : Operand) (rest : List Terminal) → begins (is_symbol 40) rest ≡ false → operand_at (expr_at room) (operand_spelled o ++ rest) ≡ outcome (operand_deep room o rest) (operand_tree o) rest
   operand_complete room (named x) rest h = named_complete (expr_at room) x rest h

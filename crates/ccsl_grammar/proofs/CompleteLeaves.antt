@@ -1,5 +1,5 @@
 -- The readers of the parts in which no expression stands, on what is spelled from them.
-use Rattle.std.proofs.Common.{◌≡◌, ℕ, ◌<◌, Bool, true, false, List, [], ◌∷◌, ◌++◌, length, Option, Some, None, refl, ◌∙◌, append_assoc, arith, ◌||◌}
+use Rattle.std.proofs.Common.{◌≡◌, ℕ, Bool, true, false, List, [], ◌∷◌, ◌++◌, refl, ◌∙◌, append_assoc, arith}
 use Rattle.std.specs.List.{flat_map}
 use Rattle.ccsl_lex.specs.declared.reserved.Reserved.TheVariants as w
 use Rattle.ccsl_ast.specs.declared.spot.Spot.{Spot}
@@ -17,9 +17,9 @@ use Rattle.ccsl_ast.specs.declared.term.Argument.TheVariants as arg
 use Rattle.ccsl_ast.specs.declared.definition.Kind.TheVariants as kind
 use Rattle.ccsl_ast.specs.declared.definition.Kind.{Kind}
 use Rattle.ccsl_ast.specs.declared.definition.Param.{Param}
-use Rattle.ccsl_grammar.specs.Terminals.{Terminal, word, symbol, name, number, quoted, is_word, is_symbol, is_name, is_quoted}
-use Rattle.ccsl_grammar.specs.Reader.{Reply, took, Reader, followed, ◌>>=◌, ◌>>◌, given, begins, choose, many}
-use Rattle.ccsl_grammar.specs.Grammar.{comma, closing, equals, below, further_spelled, list_spelled, prim_spelled, sign_spelled, signed_spelled, term_spelled, wterm_spelled, test_spelled, arg_spelled, kind_spelled, param_spelled, clock_spelled}
+use Rattle.ccsl_grammar.specs.Terminals.{Terminal, word, name, number, is_word, is_symbol, is_quoted}
+use Rattle.ccsl_grammar.specs.Reader.{took, Reader, followed, ◌>>=◌, ◌>>◌, given, begins, many}
+use Rattle.ccsl_grammar.specs.Grammar.{comma, closing, equals, below, further_spelled, prim_spelled, signed_spelled, term_spelled, wterm_spelled, test_spelled, arg_spelled, kind_spelled, param_spelled, clock_spelled}
 use Rattle.ccsl_grammar.specs.Parser.{word_at, symbol_at, name_at, quoted_at, further_at, list_at, prim_at, sign_at, is_sign, signed_at, term_at, wterm_at, comparison_at, test_at, arg_at, kind_at, param_at}
 use Rattle.ccsl_grammar.proofs.Parts.{Self}
 use Rattle.ccsl_grammar.proofs.Leaves.{some_spot, signed_reads, further_reads, closed_spelled, arg_reads, param_reads, clock_reads}
@@ -43,8 +43,11 @@ signed_goes_on (Minus, p) z = refl
 
 pub term_complete : (t : Term) (rest : List Terminal) → begins is_sign rest ≡ false → term_at (term_spelled t ++ rest) ≡ took t rest
 unfolding term_at
-term_complete t rest b = rw (append_assoc (prim_spelled t.first) (flat_map signed_spelled t.rest) rest, prim_complete t.first (flat_map signed_spelled t.rest ++ rest),
-    many_self_complete signed_spelled is_sign signed_at (λ z. Unit {0}) (λ c. omega arith) signed_reads signed_goes_on (λ c z. tt) (λ c z u. signed_complete c z) t.rest rest b tt) refl
+term_complete t rest b = rw (
+  append_assoc (prim_spelled t.first) (flat_map signed_spelled t.rest) rest,
+  prim_complete t.first (flat_map signed_spelled t.rest ++ rest),
+  many_self_complete signed_spelled is_sign signed_at (λ z. Unit {0}) (λ c. omega arith) signed_reads signed_goes_on (λ c z. tt) (λ c z u. signed_complete c z) t.rest rest b tt,
+) refl
 
 -- a sum begins with a number or a name
 prim_first : (test : Terminal → Bool) → ((at n : ℕ) → test (number at n) ≡ false) → ((x : Spot) → test (name x) ≡ false) → (p : Primary) (ps z : List Terminal) → begins test ((prim_spelled p ++ ps) ++ z) ≡ false
@@ -57,8 +60,7 @@ term_first test h i t z = prim_first test h i t.first (flat_map signed_spelled t
 -- ---- lists
 
 module _ {C : Type 0} (spelled : C → List Terminal) (item : Reader C) (some : C) (reads : Self spelled item) (Follows : List Terminal → Type 0)
-  (follows_comma : (z : List Terminal) → Follows (comma ∷ z)) (complete : (c : C) (z : List Terminal) → Follows z → item (spelled c ++ z) ≡ took c z) where
-
+    (follows_comma : (z : List Terminal) → Follows (comma ∷ z)) (complete : (c : C) (z : List Terminal) → Follows z → item (spelled c ++ z) ≡ took c z) where
   further_complete : (c : C) (z : List Terminal) → Follows z → further_at item (further_spelled spelled c ++ z) ≡ took c z
   unfolding further_at symbol_at
   further_complete c z h = complete c z h

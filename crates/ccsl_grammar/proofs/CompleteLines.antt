@@ -1,5 +1,5 @@
 -- The readers of lines, definitions and files on what is spelled from them.
-use Rattle.std.proofs.Common.{◌≡◌, ℕ, ◌<◌, Bool, true, false, List, [], ◌∷◌, ◌++◌, length, map, Option, Some, None, refl, sym, ap, ◌∙◌, append_assoc, arith}
+use Rattle.std.proofs.Common.{◌≡◌, ℕ, true, false, List, [], ◌∷◌, ◌++◌, map, Option, refl, sym, ap, ◌∙◌, append_assoc, arith}
 use Rattle.std.specs.List.{flat_map}
 use Rattle.std.proofs.lemmas.List.{append-nil}
 use Rattle.ccsl_lex.specs.declared.reserved.Reserved.TheVariants as w
@@ -9,9 +9,9 @@ use Rattle.ccsl_ast.specs.declared.line.Relation.{Relation}
 use Rattle.ccsl_ast.specs.declared.line.Relation.TheVariants as rel
 use Rattle.ccsl_ast.specs.declared.definition.Param.{Param}
 use Rattle.ccsl_ast.specs.Trees.{Expression, Line, LDefine, LConstraint, LCall, SLine, SClocks, SLineOf, PlainMember, PlainDefinition, DRelation, DGroup, PlainFile}
-use Rattle.ccsl_grammar.specs.Terminals.{Terminal, word, symbol, name, number, is_word, is_symbol}
-use Rattle.ccsl_grammar.specs.Reader.{Reply, took, Reader, followed, ◌>>=◌, ◌>>◌, given, begins, choose, many}
-use Rattle.ccsl_grammar.specs.Deep.{or_else, all_deep, expr_deep, rline_deep, sline_deep, member_deep, definition_deep, file_deep}
+use Rattle.ccsl_grammar.specs.Terminals.{Terminal, word, name, number, is_word}
+use Rattle.ccsl_grammar.specs.Reader.{took, Reader, followed, ◌>>=◌, ◌>>◌, given, begins, many}
+use Rattle.ccsl_grammar.specs.Deep.{all_deep, expr_deep, rline_deep, sline_deep, member_deep, definition_deep, file_deep}
 use Rattle.ccsl_grammar.specs.Grammar.{opening, closing, semicolon, equals, left_brace, right_brace, further_spelled, list_spelled, arg_spelled, param_spelled, relop_spelled, expr_spelled, expr_tree, Rline, define, constrain, call, rline_spelled, rline_tree, Sline, clocks, line, clock_spelled, sline_spelled, sline_tree, Member, member_spelled, further_member, member_tree, Definition, relation, group, definition_spelled, definition_tree, Derivation, system_spelled, file_spelled, file_tree}
 use Rattle.ccsl_grammar.specs.Parser.{word_at, symbol_at, name_at, precedes_at, relop_at, expr_at, define_at, call_at, constraint_at, rline_at, clocks_at, sline_at, no_brace, relation_at, member_at, further_member_at, group_at, definition_at, is_definition, version_at, system_at, ends, file_at}
 use Rattle.ccsl_grammar.proofs.Leaves.{closed_spelled}
@@ -83,7 +83,7 @@ member_open room x ps z = rw (params_complete ps (equals ∷ z)) refl
 member_complete : (room : ℕ) (m : Member) (rest : List Terminal) → EndsExpr rest → member_at room (member_spelled m ++ rest) ≡ outcome (member_deep room m rest) (member_tree m) rest
 member_complete room m rest h =
     ap (λ q. member_at room (name m.name ∷ opening ∷ q)) (append_assoc (list_spelled param_spelled m.params) (closing ∷ equals ∷ expr_spelled m.body) rest
-      ∙ sym (append_assoc (list_spelled param_spelled m.params) (closing ∷ []) (equals ∷ (expr_spelled m.body ++ rest))))
+    ∙ sym (append_assoc (list_spelled param_spelled m.params) (closing ∷ []) (equals ∷ (expr_spelled m.body ++ rest))))
     ∙ member_open room m.name m.params (expr_spelled m.body ++ rest)
     ∙ rw (expr_complete room m.body rest h) (outcome_last (expr_deep room m.body rest) (expr_tree m.body) rest (λ e. given (record { name = m.name; params = m.params; body = e })) (member_tree m) rest refl)
 
@@ -120,9 +120,9 @@ group_complete room m ms rest =
     rw (append_assoc (member_spelled m) (flat_map further_member ms ++ semicolon ∷ []) rest, append_assoc (flat_map further_member ms) (semicolon ∷ []) rest)
     (group_open room (member_spelled m ++ z)
     ∙ rw (member_complete room m z (members_end ms rest))
-      (outcome_then (member_deep room m z) o (member_tree m) z (members_at room) (DGroup (member_tree m ∷ map member_tree ms)) rest
-        (rw (members_complete room ms rest) (outcome_last o (map member_tree ms) (semicolon ∷ rest) (λ vs. symbol_at 59 >> given (DGroup (member_tree m ∷ vs))) (DGroup (member_tree m ∷ map member_tree ms)) rest
-          (group_close (member_tree m) (map member_tree ms) rest)))))
+    (outcome_then (member_deep room m z) o (member_tree m) z (members_at room) (DGroup (member_tree m ∷ map member_tree ms)) rest
+    (rw (members_complete room ms rest) (outcome_last o (map member_tree ms) (semicolon ∷ rest) (λ vs. symbol_at 59 >> given (DGroup (member_tree m ∷ vs))) (DGroup (member_tree m ∷ map member_tree ms)) rest
+    (group_close (member_tree m) (map member_tree ms) rest)))))
 
 -- ---- relations
 
@@ -157,9 +157,9 @@ relation_complete room x ps l ls rest =
     ap (λ q. definition_at room (word w.Relation ∷ name x ∷ opening ∷ q)) (relation_regrouped (list_spelled param_spelled ps) (rline_spelled l) (flat_map rline_spelled ls) rest)
     ∙ relation_open room x ps (rline_spelled l ++ z)
     ∙ rw (rline_complete room l z)
-      (outcome_then (rline_deep room l z) o (rline_tree l) z (body_at room x ps) (DRelation x ps (rline_tree l ∷ map rline_tree ls)) rest
-        (rw (lines_complete room ls rest) (outcome_last o (map rline_tree ls) (right_brace ∷ rest) (λ vs. symbol_at 125 >> given (DRelation x ps (rline_tree l ∷ vs))) (DRelation x ps (rline_tree l ∷ map rline_tree ls)) rest
-          (relation_close x ps (rline_tree l) (map rline_tree ls) rest))))
+    (outcome_then (rline_deep room l z) o (rline_tree l) z (body_at room x ps) (DRelation x ps (rline_tree l ∷ map rline_tree ls)) rest
+    (rw (lines_complete room ls rest) (outcome_last o (map rline_tree ls) (right_brace ∷ rest) (λ vs. symbol_at 125 >> given (DRelation x ps (rline_tree l ∷ vs))) (DRelation x ps (rline_tree l ∷ map rline_tree ls)) rest
+    (relation_close x ps (rline_tree l) (map rline_tree ls) rest))))
 
 -- ---- files
 
@@ -187,7 +187,7 @@ system_close ls z = refl
 system_complete : (room : ℕ) (ls : List Sline) → system_at room (system_spelled ls) ≡ outcome (all_deep sline_spelled (sline_deep room) ls (right_brace ∷ [])) (map sline_tree ls) []
 system_complete room ls = system_open room (flat_map sline_spelled ls ++ right_brace ∷ [])
     ∙ rw (many_complete sline_spelled (sline_deep room) sline_tree no_brace (sline_at room) (λ z. Unit {0}) sline_nonempty (sline_reads room) sline_first (λ l z. tt) (λ l z h. sline_complete room l z) ls (right_brace ∷ []) refl tt)
-      (outcome_last (all_deep sline_spelled (sline_deep room) ls (right_brace ∷ [])) (map sline_tree ls) (right_brace ∷ []) (λ v. symbol_at 125 >> given v) (map sline_tree ls) [] (system_close (map sline_tree ls) []))
+    (outcome_last (all_deep sline_spelled (sline_deep room) ls (right_brace ∷ [])) (map sline_tree ls) (right_brace ∷ []) (λ v. symbol_at 125 >> given v) (map sline_tree ls) [] (system_close (map sline_tree ls) []))
 
 -- behind the definitions
 abbrev end_at : ℕ → List PlainDefinition → Reader PlainFile
@@ -203,5 +203,5 @@ file_complete room d =
     let o : Option (List Terminal) = all_deep sline_spelled (sline_deep room) d.lines (right_brace ∷ []) in
     file_open room d.at (flat_map definition_spelled d.definitions ++ s)
     ∙ rw (definitions_complete room d.definitions d.lines, append-nil s)
-      (outcome_then (all_deep definition_spelled (definition_deep room) d.definitions s) o (map definition_tree d.definitions) s (end_at room) (file_tree d) []
-        (rw (system_complete room d.lines) (outcome_last o (map sline_tree d.lines) [] (λ ls. ends (record { version = 1; definitions = map definition_tree d.definitions; lines = ls })) (file_tree d) [] refl)))
+    (outcome_then (all_deep definition_spelled (definition_deep room) d.definitions s) o (map definition_tree d.definitions) s (end_at room) (file_tree d) []
+    (rw (system_complete room d.lines) (outcome_last o (map sline_tree d.lines) [] (λ ls. ends (record { version = 1; definitions = map definition_tree d.definitions; lines = ls })) (file_tree d) [] refl)))

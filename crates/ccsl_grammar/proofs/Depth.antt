@@ -1,5 +1,5 @@
 -- Nothing stands too deep exactly where the depth is within the levels.
-use Rattle.std.proofs.Common.{◌≡◌, ℕ, zero, suc, ◌+◌, ◌≤◌, max, List, [], ◌∷◌, ◌++◌, map, Option, Some, None, refl, arith}
+use Rattle.std.proofs.Common.{◌≡◌, ℕ, zero, suc, ◌≤◌, List, [], ◌∷◌, ◌++◌, map, Option, Some, None, refl, arith}
 use Rattle.std.specs.List.{flat_map}
 use Rattle.ccsl_lex.specs.declared.reserved.Reserved.TheVariants as w
 use Rattle.ccsl_ast.specs.Depth.{greatest}
@@ -104,7 +104,7 @@ module _ (room : ℕ) where
   pub file_shallow : (d : Derivation) (after : List Terminal) → derivation_depth d ≤ room → file_deep room d after ≡ None
   file_shallow d after h =
       rw (all_shallow definition_spelled (definition_deep room) definition_depth room definition_shallow d.definitions (system_spelled d.lines ++ after) (omega arith))
-        (all_shallow sline_spelled (sline_deep room) sline_depth room sline_shallow d.lines (right_brace ∷ after) (omega arith))
+      (all_shallow sline_spelled (sline_deep room) sline_depth room sline_shallow d.lines (right_brace ∷ after) (omega arith))
 
   rline_within : (l : Rline) (after : List Terminal) → rline_deep room l after ≡ None → rline_depth l ≤ room
   rline_within (define x e) after h = expr_within room e (semicolon ∷ after) h

@@ -1,14 +1,12 @@
 -- Files: what the reader takes is a derivation, and where it stops a derivation can be continued.
-use Rattle.std.proofs.Common.{◌≡◌, ℕ, ◌<◌, Bool, true, false, List, [], ◌∷◌, ◌++◌, length, map, Option, Some, None, refl, sym, ap, ◌∙◌, append_assoc, arith, eqb, cond}
+use Rattle.std.proofs.Common.{◌≡◌, ℕ, Bool, true, false, List, [], ◌∷◌, ◌++◌, map, Option, Some, None, refl, sym, ap, ◌∙◌, append_assoc, eqb, cond}
 use Rattle.std.specs.List.{flat_map}
 use Rattle.std.proofs.lemmas.List.{append-nil}
 use Rattle.std.proofs.lemmas.Bool.{eqb-true}
 use Rattle.ccsl_lex.specs.declared.reserved.Reserved.TheVariants as w
-use Rattle.ccsl_ast.specs.Trees.{PlainDefinition, SLine, PlainFile}
-use Rattle.ccsl_grammar.specs.Terminals.{Terminal, word, symbol, name, number, quoted}
-use Rattle.ccsl_grammar.specs.Reader.{Fault, no_syntax, Reader, ◌>>=◌, ◌>>◌, given, accept, many}
-use Rattle.ccsl_grammar.specs.Deep.{or_else, all_deep, sline_deep, definition_deep, file_deep}
-use Rattle.ccsl_grammar.specs.Places.{Stops, Is, shallow}
+use Rattle.ccsl_grammar.specs.Terminals.{Terminal, word, number}
+use Rattle.ccsl_grammar.specs.Reader.{Fault, no_syntax, many}
+use Rattle.ccsl_grammar.specs.Deep.{all_deep, sline_deep, definition_deep, file_deep}
 use Rattle.ccsl_grammar.specs.Grammar.{semicolon, left_brace, right_brace, Sline, sline_spelled, sline_tree, Definition, definition_spelled, definition_tree, Derivation, system_spelled, file_spelled, file_tree}
 use Rattle.ccsl_grammar.specs.Parser.{sline_at, no_brace, definition_at, is_definition, one_of, version_at, system_at, ends, file_at}
 use Rattle.ccsl_grammar.proofs.Good.{Good, give}
@@ -33,9 +31,11 @@ one_is _ v e = absurd cc
 
 version_reads : Self version_spelled version_at
 unfolding version_at
-version_reads = record { at = λ ts. word_then _ _ w.Ccsl _ ts (λ z. begun 0 (version_spelled 0) refl)
-  (λ z. one _ _ one_of _ z (λ z. begun 0 (number 0 1 ∷ semicolon ∷ []) refl)
-  (λ u at z e. rw (one_is u at e) (symbol_then _ _ 59 _ z (λ z. begun at (semicolon ∷ []) refl) (λ z. give _ _ at z (itself refl))))) }
+version_reads = record {
+  at = λ ts. word_then _ _ w.Ccsl _ ts (λ z. begun 0 (version_spelled 0) refl)
+      (λ z. one _ _ one_of _ z (λ z. begun 0 (number 0 1 ∷ semicolon ∷ []) refl)
+      (λ u at z e. rw (one_is u at e) (symbol_then _ _ 59 _ z (λ z. begun at (semicolon ∷ []) refl) (λ z. give _ _ at z (itself refl)))));
+}
 
 module _ (room : ℕ) where
   -- ---- the system
@@ -48,12 +48,14 @@ module _ (room : ℕ) where
 
   system_reads : Reads system_spelled system_deep (map sline_tree) (system_at room)
   unfolding system_at
-  system_reads = record { at = λ ts. word_then _ _ w.System _ ts (λ z. begun [] (system_spelled []) refl)
-    (λ z. symbol_then _ _ 123 _ z (λ z. begun [] (left_brace ∷ right_brace ∷ []) refl)
-    (λ z. part_then lines_read _ _ _ z
-      (within (flat_map sline_spelled) (all_deep sline_spelled (sline_deep room)) system_spelled system_deep (λ ls. ls) (λ q. word w.System ∷ left_brace ∷ q) (right_brace ∷ []) (λ x y. refl) (λ ls. refl) (λ ls z after h. h))
-    (λ ls d y. symbol_then _ _ 125 _ y (λ z. begun ls (right_brace ∷ []) (rw (append-nil (flat_map sline_spelled ls)) refl))
-    (λ z. give _ _ (map sline_tree ls) z (built ls refl (λ after. d (right_brace ∷ after))))))) }
+  system_reads = record {
+    at = λ ts. word_then _ _ w.System _ ts (λ z. begun [] (system_spelled []) refl)
+        (λ z. symbol_then _ _ 123 _ z (λ z. begun [] (left_brace ∷ right_brace ∷ []) refl)
+        (λ z. part_then lines_read _ _ _ z
+        (within (flat_map sline_spelled) (all_deep sline_spelled (sline_deep room)) system_spelled system_deep (λ ls. ls) (λ q. word w.System ∷ left_brace ∷ q) (right_brace ∷ []) (λ x y. refl) (λ ls. refl) (λ ls z after h. h))
+        (λ ls d y. symbol_then _ _ 125 _ y (λ z. begun ls (right_brace ∷ []) (rw (append-nil (flat_map sline_spelled ls)) refl))
+        (λ z. give _ _ (map sline_tree ls) z (built ls refl (λ after. d (right_brace ∷ after)))))));
+  }
 
   -- ---- the file
 
@@ -73,15 +75,17 @@ module _ (room : ℕ) where
 
   pub file_reads : Reads file_spelled (file_deep room) file_tree (file_at room)
   unfolding file_at
-  file_reads = record { at = λ ts. part_then version_reads _ _ _ ts
-      (inside version_spelled file_spelled (file_deep room) (λ at. whole_of at [] []) (λ q. q) (system_spelled []) (λ x y. refl) (λ at. refl))
-    (λ at d z. part_then definitions_read _ _ _ z
-      (within (flat_map definition_spelled) (all_deep definition_spelled (definition_deep room)) file_spelled (file_deep room) (λ ds. whole_of at ds []) (λ q. version_spelled at ++ q) (system_spelled []) (λ x y. refl) (λ ds. refl) (λ ds z after h. rw h refl))
-    (λ ds i z. part_then system_reads _ _ _ z
-      (within system_spelled system_deep file_spelled (file_deep room) (λ ls. whole_of at ds ls) (λ q. version_spelled at ++ (flat_map definition_spelled ds ++ q)) []
+  file_reads = record {
+    at = λ ts. part_then version_reads _ _ _ ts
+        (inside version_spelled file_spelled (file_deep room) (λ at. whole_of at [] []) (λ q. q) (system_spelled []) (λ x y. refl) (λ at. refl))
+        (λ at d z. part_then definitions_read _ _ _ z
+        (within (flat_map definition_spelled) (all_deep definition_spelled (definition_deep room)) file_spelled (file_deep room) (λ ds. whole_of at ds []) (λ q. version_spelled at ++ q) (system_spelled []) (λ x y. refl) (λ ds. refl) (λ ds z after h. rw h refl))
+        (λ ds i z. part_then system_reads _ _ _ z
+        (within system_spelled system_deep file_spelled (file_deep room) (λ ls. whole_of at ds ls) (λ q. version_spelled at ++ (flat_map definition_spelled ds ++ q)) []
         (λ x y. ap (λ q. version_spelled at ++ q) (sym (append_assoc (flat_map definition_spelled ds) x y)))
         (λ ls. ap (λ q. version_spelled at ++ (flat_map definition_spelled ds ++ q)) (sym (append-nil (system_spelled ls))))
         (λ ls z after h. rw (i (system_spelled ls ++ after)) h))
-    (λ ls j z. ends_good _ _ (file_tree (whole_of at ds ls)) z
-      (λ z. begun (whole_of at ds ls) [] (sym (append-nil (version_spelled at ++ (body_spelled ds ls))) ∙ ap (λ q. (version_spelled at ++ (flat_map definition_spelled ds ++ q)) ++ []) (sym (append-nil (system_spelled ls)))))
-      (built (whole_of at ds ls) (ap (λ q. version_spelled at ++ (flat_map definition_spelled ds ++ q)) (sym (append-nil (system_spelled ls)))) (λ after. rw (i (system_spelled ls ++ after)) (j after)))))) }
+        (λ ls j z. ends_good _ _ (file_tree (whole_of at ds ls)) z
+        (λ z. begun (whole_of at ds ls) [] (sym (append-nil (version_spelled at ++ (body_spelled ds ls))) ∙ ap (λ q. (version_spelled at ++ (flat_map definition_spelled ds ++ q)) ++ []) (sym (append-nil (system_spelled ls)))))
+        (built (whole_of at ds ls) (ap (λ q. version_spelled at ++ (flat_map definition_spelled ds ++ q)) (sym (append-nil (system_spelled ls)))) (λ after. rw (i (system_spelled ls ++ after)) (j after))))));
+  }

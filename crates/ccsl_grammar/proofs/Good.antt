@@ -3,9 +3,9 @@
 --     Stop        it stopped behind the terminals p; so it does wherever the same terminals, and the next one, stand in front
 --     Good        whichever of the two it did
 -- The values taken obey Q, and the places of faults obey S.
-use Rattle.std.proofs.Common.{◌≡◌, ℕ, zero, suc, ◌+◌, ◌<◌, ◌≤◌, Bool, true, false, List, [], ◌∷◌, ◌++◌, length, Option, Some, None, refl, sym, ap, subst, ◌∙◌, append_assoc, arith, inl, inr}
+use Rattle.std.proofs.Common.{◌≡◌, Bool, true, false, List, [], ◌∷◌, ◌++◌, Option, Some, None, refl, sym, ap, subst, ◌∙◌, append_assoc}
 use Rattle.ccsl_grammar.specs.Terminals.{Terminal}
-use Rattle.ccsl_grammar.specs.Reader.{Fault, no_syntax, too_deep, Reply, took, stopped, Reader, followed, ◌>>=◌, ◌>>◌, given, valued, accept, begins, picked, choose}
+use Rattle.ccsl_grammar.specs.Reader.{Fault, no_syntax, Reply, took, stopped, Reader, followed, ◌>>=◌, given, valued, accept, begins, picked, choose}
 
 abbrev pub Places : Type 1
 Places = Fault → List Terminal → List Terminal → Type 0
@@ -38,8 +38,7 @@ through f v front rest h [] t us more e = h t us more e
 through f v front rest h (u ∷ p) t us more e = h u (p ++ t ∷ us) (p ++ t ∷ more) e
 
 module _ {A B : Type 0} (S : Fault → List Terminal → List Terminal → Type 0) (Q : A → List Terminal → Type 0) (S' : Fault → List Terminal → List Terminal → Type 0) (Q' : B → List Terminal → Type 0)
-  (f : Reader A) (g : A → Reader B) (ts : List Terminal) where
-
+    (f : Reader A) (g : A → Reader B) (ts : List Terminal) where
   then_as : (v : A) (rest : List Terminal) (h : Took Q f ts v rest) (r : Reply B) → GoodAs (λ k q z. S' k (h.front ++ q) z) (λ w q. Q' w (h.front ++ q)) (g v) rest r → GoodAs S' Q' (f >>= g) ts r
   then_as v rest h (took w z) n = record {
     front = h.front ++ n.front;
@@ -96,18 +95,33 @@ begins_again test [] rest t us more e = rw e refl
 begins_again test (u ∷ p) rest t us more e = refl
 
 module _ {A : Type 0} (S : Fault → List Terminal → List Terminal → Type 0) (Q : A → List Terminal → Type 0) (test : Terminal → Bool) (f g : Reader A) (ts : List Terminal) where
-
   choose_true : begins test ts ≡ true → (r : Reply A) → GoodAs S Q f ts r → GoodAs S Q (choose test f g) ts r
-  choose_true b (took v rest) h = record { front = h.front; whole = h.whole; holds = h.holds;
-    again = λ t us more e. rw (begins_again test h.front rest t us more e, ← h.whole, b) (h.again t us more e) }
-  choose_true b (stopped k rest) h = record { front = h.front; whole = h.whole; holds = h.holds;
-    again = λ t us more e. rw (begins_again test h.front rest t us more e, ← h.whole, b) (h.again t us more e) }
+  choose_true b (took v rest) h = record {
+    front = h.front;
+    whole = h.whole;
+    holds = h.holds;
+    again = λ t us more e. rw (begins_again test h.front rest t us more e, ← h.whole, b) (h.again t us more e);
+  }
+  choose_true b (stopped k rest) h = record {
+    front = h.front;
+    whole = h.whole;
+    holds = h.holds;
+    again = λ t us more e. rw (begins_again test h.front rest t us more e, ← h.whole, b) (h.again t us more e);
+  }
 
   choose_false : begins test ts ≡ false → (r : Reply A) → GoodAs S Q g ts r → GoodAs S Q (choose test f g) ts r
-  choose_false b (took v rest) h = record { front = h.front; whole = h.whole; holds = h.holds;
-    again = λ t us more e. rw (begins_again test h.front rest t us more e, ← h.whole, b) (h.again t us more e) }
-  choose_false b (stopped k rest) h = record { front = h.front; whole = h.whole; holds = h.holds;
-    again = λ t us more e. rw (begins_again test h.front rest t us more e, ← h.whole, b) (h.again t us more e) }
+  choose_false b (took v rest) h = record {
+    front = h.front;
+    whole = h.whole;
+    holds = h.holds;
+    again = λ t us more e. rw (begins_again test h.front rest t us more e, ← h.whole, b) (h.again t us more e);
+  }
+  choose_false b (stopped k rest) h = record {
+    front = h.front;
+    whole = h.whole;
+    holds = h.holds;
+    again = λ t us more e. rw (begins_again test h.front rest t us more e, ← h.whole, b) (h.again t us more e);
+  }
 
   choose_as : (b : Bool) → begins test ts ≡ b → (begins test ts ≡ true → Good S Q f ts) → (begins test ts ≡ false → Good S Q g ts) → GoodAs S Q (choose test f g) ts (picked b f g ts)
   choose_as true e in_true in_false = choose_true e (f ts) (in_true e).is

@@ -1,6 +1,6 @@
 -- What the terminals of a file keep, its tree keeps.
-use Rattle.std.proofs.Common.{◌≡◌, ℕ, Bool, true, false, ◌&&◌, List, [], ◌∷◌, ◌++◌, map, refl, sym, ap, subst, ◌∙◌}
-use Rattle.std.specs.Prelude.{IsTrue, nat_eq}
+use Rattle.std.proofs.Common.{◌≡◌, ℕ, Bool, true, ◌&&◌, List, [], ◌∷◌, ◌++◌, map, refl, sym, ap, subst, ◌∙◌}
+use Rattle.std.specs.Prelude.{IsTrue}
 use Rattle.std.specs.List.{flat_map, list_all}
 use Rattle.std.proofs.lemmas.Bool.{and_parts, and_from}
 use Rattle.std.proofs.lemmas.List.Folds.{list_all-append}
@@ -25,8 +25,8 @@ use Rattle.ccsl_ast.specs.declared.definition.Kind.{Kind}
 use Rattle.ccsl_ast.specs.declared.definition.Kind.TheVariants as kind
 use Rattle.ccsl_ast.specs.declared.definition.Param.{Param}
 use Rattle.ccsl_ast.specs.Trees.{PlainFile}
-use Rattle.ccsl_ast.specs.Kept.{has_member, text_kept, spot_kept, number_kept, prim_kept, signed_kept, term_kept, word_kept, test_kept, argument_kept, expression_kept, line_kept, sline_kept, param_kept, member_kept, definition_kept, file_kept}
-use Rattle.ccsl_grammar.specs.Terminals.{Terminal, word, symbol, name, number, quoted, seen_as, terminals}
+use Rattle.ccsl_ast.specs.Kept.{text_kept, spot_kept, number_kept, prim_kept, signed_kept, term_kept, word_kept, test_kept, argument_kept, expression_kept, line_kept, sline_kept, param_kept, member_kept, definition_kept, file_kept}
+use Rattle.ccsl_grammar.specs.Terminals.{Terminal, word, name, number, seen_as, terminals}
 use Rattle.ccsl_grammar.specs.Grammar.{closing, semicolon, equals, below, left_brace, right_brace, further_spelled, list_spelled, prim_spelled, signed_spelled, term_spelled, wterm_spelled, test_spelled, arg_spelled, kind_spelled, param_spelled, relop_spelled, binop_spelled, Expr, alone, binary, delay, await, filter, delayed, choice, Operand, named, called, never, parens, expr_spelled, operand_spelled, expr_tree, operand_tree, Rline, define, constrain, call, rline_spelled, rline_tree, Sline, clocks, line, clock_spelled, sline_spelled, sline_tree, Member, member_spelled, further_member, member_tree, Definition, relation, group, definition_spelled, definition_tree, Derivation, system_spelled, file_spelled, file_tree}
 use Rattle.ccsl_grammar.specs.Kept.{terminal_kept, kept}
 use Rattle.ccsl_grammar.specs.Laws.{FileKeeps}
@@ -120,7 +120,7 @@ mutual
       let p = parts (test_spelled q) (word w.Use ∷ (expr_spelled a ++ word w.Else ∷ expr_spelled d)) h in
       let r = parts (expr_spelled a) (word w.Else ∷ expr_spelled d) p.1 in
       and_from (test_kept q) (expression_kept (expr_tree a) && expression_kept (expr_tree d)) (test_keeps q p.0)
-        (and_from (expression_kept (expr_tree a)) (expression_kept (expr_tree d)) (expr_keeps a r.0) (expr_keeps d r.1))
+      (and_from (expression_kept (expr_tree a)) (expression_kept (expr_tree d)) (expr_keeps a r.0) (expr_keeps d r.1))
 
   operand_keeps : (c : Operand) → kept (operand_spelled c) ≡ true → expression_kept (operand_tree c) ≡ true
   operand_keeps (named x) h = one_more (spot_kept x) h
@@ -159,7 +159,7 @@ member_keeps m h =
     let p = and_parts (spot_kept m.name) (kept (list_spelled param_spelled m.params ++ closing ∷ equals ∷ expr_spelled m.body)) h in
     let q = parts (list_spelled param_spelled m.params) (closing ∷ equals ∷ expr_spelled m.body) p.1 in
     and_from (spot_kept m.name) (list_all param_kept m.params && expression_kept (expr_tree m.body)) p.0
-      (and_from (list_all param_kept m.params) (expression_kept (expr_tree m.body)) (params_keep m.params q.0) (expr_keeps m.body q.1))
+    (and_from (list_all param_kept m.params) (expression_kept (expr_tree m.body)) (params_keep m.params q.0) (expr_keeps m.body q.1))
 
 definition_keeps : (d : Definition) → kept (definition_spelled d) ≡ true → definition_kept (definition_tree d) ≡ true
 definition_keeps (relation x ps l ls) h =
@@ -168,8 +168,8 @@ definition_keeps (relation x ps l ls) h =
     let r = parts (rline_spelled l) (flat_map rline_spelled ls ++ right_brace ∷ []) q.1 in
     let s = parts (flat_map rline_spelled ls) (right_brace ∷ []) r.1 in
     and_from (spot_kept x) (list_all param_kept ps && (line_kept (rline_tree l) && list_all line_kept (map rline_tree ls))) p.0
-      (and_from (list_all param_kept ps) (line_kept (rline_tree l) && list_all line_kept (map rline_tree ls)) (params_keep ps q.0)
-        (and_from (line_kept (rline_tree l)) (list_all line_kept (map rline_tree ls)) (rline_keeps l r.0) (each_tree rline_spelled rline_tree line_kept rline_keeps ls s.0)))
+    (and_from (list_all param_kept ps) (line_kept (rline_tree l) && list_all line_kept (map rline_tree ls)) (params_keep ps q.0)
+    (and_from (line_kept (rline_tree l)) (list_all line_kept (map rline_tree ls)) (rline_keeps l r.0) (each_tree rline_spelled rline_tree line_kept rline_keeps ls s.0)))
 definition_keeps (group m ms) h =
     let p = parts (member_spelled m) (flat_map further_member ms ++ semicolon ∷ []) h in
     let q = parts (flat_map further_member ms) (semicolon ∷ []) p.1 in
@@ -182,7 +182,7 @@ derivation_keeps d h =
     let p = parts (flat_map definition_spelled d.definitions) (system_spelled d.lines) h in
     let q = parts (flat_map sline_spelled d.lines) (right_brace ∷ []) p.1 in
     and_from (list_all definition_kept (map definition_tree d.definitions)) (list_all sline_kept (map sline_tree d.lines))
-      (each_tree definition_spelled definition_tree definition_kept definition_keeps d.definitions p.0) (each_tree sline_spelled sline_tree sline_kept sline_keeps d.lines q.0)
+    (each_tree definition_spelled definition_tree definition_kept definition_keeps d.definitions p.0) (each_tree sline_spelled sline_tree sline_kept sline_keeps d.lines q.0)
 
 seen_kept : (k : TokenKind) (at : ℕ) → IsTrue (kind_kept k) → terminal_kept (seen_as at k) ≡ true
 seen_kept (token.Name text) at h = h

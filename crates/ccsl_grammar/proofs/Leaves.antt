@@ -1,5 +1,5 @@
 -- The parts in which no expression stands: lists, sums, words, tests, arguments, parameters, relations, operators.
-use Rattle.std.proofs.Common.{◌≡◌, ℕ, ◌<◌, Bool, true, false, List, [], ◌∷◌, ◌++◌, length, Option, Some, None, refl, sym, append_assoc, arith, eqb, cond}
+use Rattle.std.proofs.Common.{◌≡◌, ℕ, Bool, true, false, List, [], ◌∷◌, ◌++◌, Some, None, refl, sym, append_assoc, arith, eqb, cond}
 use Rattle.std.specs.List.{flat_map}
 use Rattle.std.proofs.lemmas.List.{append-nil}
 use Rattle.std.proofs.lemmas.Bool.{eqb-true}
@@ -14,7 +14,6 @@ use Rattle.ccsl_ast.specs.declared.term.Term.{Term}
 use Rattle.ccsl_ast.specs.declared.term.WordTerm.TheVariants as wterm
 use Rattle.ccsl_ast.specs.declared.term.Test.{Test}
 use Rattle.ccsl_ast.specs.declared.term.Test.TheVariants.{Equal, Less, Head, Ended}
-use Rattle.ccsl_ast.specs.declared.term.Argument.{Argument}
 use Rattle.ccsl_ast.specs.declared.term.Argument.TheVariants as arg
 use Rattle.ccsl_ast.specs.declared.tree.BinaryOp.{BinaryOp}
 use Rattle.ccsl_ast.specs.declared.tree.BinaryOp.TheVariants as op
@@ -22,14 +21,13 @@ use Rattle.ccsl_ast.specs.declared.line.Relation.{Relation}
 use Rattle.ccsl_ast.specs.declared.line.Relation.TheVariants as rel
 use Rattle.ccsl_ast.specs.declared.definition.Kind.{Kind}
 use Rattle.ccsl_ast.specs.declared.definition.Kind.TheVariants as kind
-use Rattle.ccsl_ast.specs.declared.definition.Param.{Param}
 use Rattle.ccsl_grammar.specs.Terminals.{Terminal, word, symbol, name, number, quoted, is_word, is_symbol, is_name, is_quoted}
-use Rattle.ccsl_grammar.specs.Reader.{Fault, no_syntax, Reader, ◌>>=◌, ◌>>◌, given, accept, choose, many}
+use Rattle.ccsl_grammar.specs.Reader.{Fault, no_syntax, Reader, ◌>>=◌, ◌>>◌, given, many}
 use Rattle.ccsl_grammar.specs.Places.{Stops, Is, shallow}
-use Rattle.ccsl_grammar.specs.Grammar.{comma, closing, equals, below, further_spelled, list_spelled, prim_spelled, sign_spelled, signed_spelled, term_spelled, wterm_spelled, test_spelled, arg_spelled, kind_spelled, param_spelled, relop_spelled, binop_spelled, clock_spelled}
+use Rattle.ccsl_grammar.specs.Grammar.{comma, closing, equals, further_spelled, list_spelled, prim_spelled, sign_spelled, signed_spelled, term_spelled, wterm_spelled, test_spelled, arg_spelled, kind_spelled, param_spelled, relop_spelled, binop_spelled, clock_spelled}
 use Rattle.ccsl_grammar.specs.Parser.{word_at, symbol_at, name_of, name_at, quoted_of, quoted_at, further_at, list_at, prim_of, prim_at, sign_of, sign_at, is_sign, signed_at, term_at, wterm_at, comparison_at, test_at, arg_at, kind_of, kind_at, param_at, relop_of, precedes_at, relop_at, binop_of, sampled_at, binop_at}
 use Rattle.ccsl_grammar.proofs.Good.{Good, give, either, take_one}
-use Rattle.ccsl_grammar.proofs.Parts.{Reads, Self, itself, begun, inside, part_then, part_last}
+use Rattle.ccsl_grammar.proofs.Parts.{Self, itself, begun, inside, part_then, part_last}
 use Rattle.ccsl_grammar.proofs.Many.{many_self}
 use Rattle.ccsl_grammar.proofs.Steps.{one, word_then, symbol_then, name_then, name_of_is}
 
@@ -103,25 +101,31 @@ module _ {B : Type 0} (S : Fault → List Terminal → List Terminal → Type 0)
 
 pub signed_reads : Self signed_spelled signed_at
 unfolding signed_at sign_at
-signed_reads = record { at = λ ts. one _ _ sign_of _ ts (λ z. begun (Plus, prim.Num 0 0) (symbol 43 ∷ number 0 0 ∷ []) refl)
-  (λ u s z e. part_then prim_reads _ _ _ z
-    (inside prim_spelled signed_spelled shallow (λ p. (s, p)) (λ q. u ∷ q) [] (λ x y. refl) (λ c. rw (sign_is u s e, append-nil (prim_spelled c)) refl))
-    (λ p d y. give _ _ (s, p) y (itself (rw (sign_is u s e, append-nil (prim_spelled p)) refl)))) }
+signed_reads = record {
+  at = λ ts. one _ _ sign_of _ ts (λ z. begun (Plus, prim.Num 0 0) (symbol 43 ∷ number 0 0 ∷ []) refl)
+      (λ u s z e. part_then prim_reads _ _ _ z
+      (inside prim_spelled signed_spelled shallow (λ p. (s, p)) (λ q. u ∷ q) [] (λ x y. refl) (λ c. rw (sign_is u s e, append-nil (prim_spelled c)) refl))
+      (λ p d y. give _ _ (s, p) y (itself (rw (sign_is u s e, append-nil (prim_spelled p)) refl))));
+}
 
 pub term_reads : Self term_spelled term_at
 unfolding term_at
-term_reads = record { at = λ ts. part_then prim_reads _ _ _ ts
-  (inside prim_spelled term_spelled shallow (λ p. record { first = p; rest = [] }) (λ q. q) [] (λ x y. refl) (λ c. refl))
-  (λ p d y. part_then (many_self signed_spelled is_sign signed_at (λ c. omega arith) signed_reads) _ _ _ y
-    (inside (flat_map signed_spelled) term_spelled shallow (λ ps. record { first = p; rest = ps }) (λ q. prim_spelled p ++ q) [] (λ x y. sym (append_assoc (prim_spelled p) x y)) (λ ps. rw (append-nil (flat_map signed_spelled ps)) refl))
-    (λ ps d z. give _ _ (record { first = p; rest = ps }) z (itself (rw (append-nil (flat_map signed_spelled ps)) refl)))) }
+term_reads = record {
+  at = λ ts. part_then prim_reads _ _ _ ts
+      (inside prim_spelled term_spelled shallow (λ p. record { first = p; rest = [] }) (λ q. q) [] (λ x y. refl) (λ c. refl))
+      (λ p d y. part_then (many_self signed_spelled is_sign signed_at (λ c. omega arith) signed_reads) _ _ _ y
+      (inside (flat_map signed_spelled) term_spelled shallow (λ ps. record { first = p; rest = ps }) (λ q. prim_spelled p ++ q) [] (λ x y. sym (append_assoc (prim_spelled p) x y)) (λ ps. rw (append-nil (flat_map signed_spelled ps)) refl))
+      (λ ps d z. give _ _ (record { first = p; rest = ps }) z (itself (rw (append-nil (flat_map signed_spelled ps)) refl))));
+}
 
 -- ---- lists
 
 pub further_reads : {C : Type 0} (spelled : C → List Terminal) (item : Reader C) (some : C) → Self spelled item → Self (further_spelled spelled) (further_at item)
 unfolding further_at
-further_reads spelled item some reads = record { at = λ ts. symbol_then _ _ 44 item ts (λ z. begun some (comma ∷ spelled some) refl)
-  (λ z. part_last reads _ _ z (inside spelled (further_spelled spelled) shallow (λ c. c) (λ q. comma ∷ q) [] (λ x y. refl) (λ c. rw (append-nil (spelled c)) refl)) (λ c d. itself refl)) }
+further_reads spelled item some reads = record {
+  at = λ ts. symbol_then _ _ 44 item ts (λ z. begun some (comma ∷ spelled some) refl)
+      (λ z. part_last reads _ _ z (inside spelled (further_spelled spelled) shallow (λ c. c) (λ q. comma ∷ q) [] (λ x y. refl) (λ c. rw (append-nil (spelled c)) refl)) (λ c d. itself refl));
+}
 
 pub further_some : {C : Type 0} (spelled : C → List Terminal) (item : Reader C) (some : C) → Self spelled item → Self (flat_map (further_spelled spelled)) (many (is_symbol 44) (further_at item))
 further_some spelled item some reads = many_self (further_spelled spelled) (is_symbol 44) (further_at item) (λ c. omega arith) (further_reads spelled item some reads)
@@ -132,16 +136,18 @@ closed_spelled spelled cs = list_spelled spelled cs ++ closing ∷ []
 
 pub list_reads : {C : Type 0} (spelled : C → List Terminal) (item : Reader C) (some : C) → Self spelled item → Self (closed_spelled spelled) (list_at item)
 unfolding list_at
-list_reads spelled item some reads = record { at = λ ts. either _ _ (is_symbol 41) _ _ ts
-  (λ b. symbol_then _ _ 41 (given []) ts (λ z. begun [] (closing ∷ []) refl) (λ z. give _ _ [] z (itself refl)))
-  (λ b. part_then reads _ _ _ ts
-    (inside spelled (closed_spelled spelled) shallow (λ c. c ∷ []) (λ q. q) (closing ∷ []) (λ x y. refl) (λ c. rw (append-nil (spelled c)) refl))
-    (λ c d y. part_then (further_some spelled item some reads) _ _ _ y
+list_reads spelled item some reads = record {
+  at = λ ts. either _ _ (is_symbol 41) _ _ ts
+      (λ b. symbol_then _ _ 41 (given []) ts (λ z. begun [] (closing ∷ []) refl) (λ z. give _ _ [] z (itself refl)))
+      (λ b. part_then reads _ _ _ ts
+      (inside spelled (closed_spelled spelled) shallow (λ c. c ∷ []) (λ q. q) (closing ∷ []) (λ x y. refl) (λ c. rw (append-nil (spelled c)) refl))
+      (λ c d y. part_then (further_some spelled item some reads) _ _ _ y
       (inside (flat_map (further_spelled spelled)) (closed_spelled spelled) shallow (λ cs. c ∷ cs) (λ q. spelled c ++ q) (closing ∷ []) (λ x y. sym (append_assoc (spelled c) x y))
-        (λ cs. append_assoc (spelled c) (flat_map (further_spelled spelled) cs) (closing ∷ [])))
+      (λ cs. append_assoc (spelled c) (flat_map (further_spelled spelled) cs) (closing ∷ [])))
       (λ cs d x. symbol_then _ _ 41 (given (c ∷ cs)) x
-        (λ z. begun (c ∷ cs) (closing ∷ []) (rw (append-nil (flat_map (further_spelled spelled) cs)) refl))
-        (λ z. give _ _ (c ∷ cs) z (itself (append_assoc (spelled c) (flat_map (further_spelled spelled) cs) (closing ∷ []))))))) }
+      (λ z. begun (c ∷ cs) (closing ∷ []) (rw (append-nil (flat_map (further_spelled spelled) cs)) refl))
+      (λ z. give _ _ (c ∷ cs) z (itself (append_assoc (spelled c) (flat_map (further_spelled spelled) cs) (closing ∷ [])))))));
+}
 
 -- ---- words, tests, arguments
 
@@ -149,69 +155,81 @@ list_reads spelled item some reads = record { at = λ ts. either _ _ (is_symbol 
 word_name : {C : Type 0} (spelled : C → List Terminal) (v : Reserved) (whole : Spot → C) → ((x : Spot) → spelled (whole x) ≡ word v ∷ name x ∷ [])
     → (ts : List Terminal) → Good (Stops spelled shallow) (Is spelled shallow (λ c. c)) (word_at v >> name_at >>= λ x. given (whole x)) ts
 word_name spelled v whole is ts = word_then _ _ v _ ts (λ z. begun (whole some_spot) (word v ∷ name some_spot ∷ []) (is some_spot))
-  (λ z. name_then _ _ _ z (λ z. begun (whole some_spot) (name some_spot ∷ []) (is some_spot)) (λ x z. give _ _ (whole x) z (itself (is x))))
+    (λ z. name_then _ _ _ z (λ z. begun (whole some_spot) (name some_spot ∷ []) (is some_spot)) (λ x z. give _ _ (whole x) z (itself (is x))))
 
 pub wterm_reads : Self wterm_spelled wterm_at
 unfolding wterm_at
-wterm_reads = record { at = λ ts. either _ _ is_name _ _ ts
-  (λ b. name_then _ _ _ ts (λ z. begun (wterm.Name some_spot) (name some_spot ∷ []) refl) (λ x z. give _ _ (wterm.Name x) z (itself refl)))
-  (λ b. either _ _ (is_word w.Tail) _ _ ts
-    (λ b. word_name wterm_spelled w.Tail (λ x. wterm.Tail x) (λ x. refl) ts)
-    (λ b. quoted_then _ _ _ ts (λ z. begun (wterm.Name some_spot) (name some_spot ∷ []) refl) (λ q z. give _ _ (wterm.Text q.0 q.1) z (itself refl)))) }
+wterm_reads = record {
+  at = λ ts. either _ _ is_name _ _ ts
+      (λ b. name_then _ _ _ ts (λ z. begun (wterm.Name some_spot) (name some_spot ∷ []) refl) (λ x z. give _ _ (wterm.Name x) z (itself refl)))
+      (λ b. either _ _ (is_word w.Tail) _ _ ts
+      (λ b. word_name wterm_spelled w.Tail (λ x. wterm.Tail x) (λ x. refl) ts)
+      (λ b. quoted_then _ _ _ ts (λ z. begun (wterm.Name some_spot) (name some_spot ∷ []) refl) (λ q z. give _ _ (wterm.Text q.0 q.1) z (itself refl))));
+}
 
 pub arg_reads : Self arg_spelled arg_at
 unfolding arg_at
-arg_reads = record { at = λ ts. either _ _ is_quoted _ _ ts
-  (λ b. quoted_then _ _ _ ts (λ z. begun (arg.Text 0 []) (quoted 0 [] ∷ []) refl) (λ q z. give _ _ (arg.Text q.0 q.1) z (itself refl)))
-  (λ b. either _ _ (is_word w.Tail) _ _ ts
-    (λ b. word_name arg_spelled w.Tail (λ x. arg.Tail x) (λ x. refl) ts)
-    (λ b. part_then term_reads _ _ _ ts
+arg_reads = record {
+  at = λ ts. either _ _ is_quoted _ _ ts
+      (λ b. quoted_then _ _ _ ts (λ z. begun (arg.Text 0 []) (quoted 0 [] ∷ []) refl) (λ q z. give _ _ (arg.Text q.0 q.1) z (itself refl)))
+      (λ b. either _ _ (is_word w.Tail) _ _ ts
+      (λ b. word_name arg_spelled w.Tail (λ x. arg.Tail x) (λ x. refl) ts)
+      (λ b. part_then term_reads _ _ _ ts
       (inside term_spelled arg_spelled shallow (λ t. arg.Term t) (λ q. q) [] (λ x y. refl) (λ t. sym (append-nil (term_spelled t))))
-      (λ t d z. give _ _ (arg.Term t) z (itself (sym (append-nil (term_spelled t))))))) }
+      (λ t d z. give _ _ (arg.Term t) z (itself (sym (append-nil (term_spelled t)))))));
+}
 
 -- what stands behind a test's first term
 compared : (a : Term) (b : ℕ) (whole : Term → Test) → ((t : Term) → test_spelled (whole t) ≡ term_spelled a ++ symbol b ∷ term_spelled t)
     → (ts : List Terminal) → Good (λ k q z. Stops test_spelled shallow k (term_spelled a ++ q) z) (λ v q. Is test_spelled shallow (λ c. c) v (term_spelled a ++ q)) (symbol_at b >> term_at >>= λ t. given (whole t)) ts
 compared a b whole is ts = symbol_then _ _ b _ ts (λ z. begun (whole some_term) (symbol b ∷ number 0 0 ∷ []) (rw (append-nil (term_spelled a)) (is some_term)))
-  (λ z. part_then term_reads _ _ _ z
+    (λ z. part_then term_reads _ _ _ z
     (inside term_spelled test_spelled shallow whole (λ q. term_spelled a ++ symbol b ∷ q) [] (λ x y. sym (append_assoc (term_spelled a) (symbol b ∷ x) y)) (λ t. rw (append-nil (term_spelled t)) (is t)))
     (λ t d z. give _ _ (whole t) z (itself (rw (append-nil (term_spelled t)) (is t)))))
 
 pub test_reads : Self test_spelled test_at
 unfolding test_at comparison_at
-test_reads = record { at = λ ts. either _ _ (is_word w.Head) _ _ ts
-  (λ b. word_name test_spelled w.Head (λ x. Head x) (λ x. refl) ts)
-  (λ b. either _ _ (is_word w.Ended) _ _ ts
-    (λ b. word_name test_spelled w.Ended (λ x. Ended x) (λ x. refl) ts)
-    (λ b. part_then term_reads _ _ _ ts
+test_reads = record {
+  at = λ ts. either _ _ (is_word w.Head) _ _ ts
+      (λ b. word_name test_spelled w.Head (λ x. Head x) (λ x. refl) ts)
+      (λ b. either _ _ (is_word w.Ended) _ _ ts
+      (λ b. word_name test_spelled w.Ended (λ x. Ended x) (λ x. refl) ts)
+      (λ b. part_then term_reads _ _ _ ts
       (inside term_spelled test_spelled shallow (λ t. Equal t some_term) (λ q. q) (equals ∷ number 0 0 ∷ []) (λ x y. refl) (λ t. refl))
       (λ a d z. either _ _ (is_symbol 61) _ _ z
-        (λ b. compared a 61 (λ t. Equal a t) (λ t. refl) z)
-        (λ b. compared a 60 (λ t. Less a t) (λ t. refl) z)))) }
+      (λ b. compared a 61 (λ t. Equal a t) (λ t. refl) z)
+      (λ b. compared a 60 (λ t. Less a t) (λ t. refl) z))));
+}
 
 pub param_reads : Self param_spelled param_at
 unfolding param_at kind_at
-param_reads = record { at = λ ts. one _ _ kind_of _ ts (λ z. begun (record { kind = kind.Clock; name = some_spot }) (word w.Clock ∷ name some_spot ∷ []) refl)
-  (λ u k z e. name_then _ _ _ z (λ z. begun (record { kind = k; name = some_spot }) (name some_spot ∷ []) (rw (kind_is u k e) refl))
-    (λ x z. give _ _ (record { kind = k; name = x }) z (itself (rw (kind_is u k e) refl)))) }
+param_reads = record {
+  at = λ ts. one _ _ kind_of _ ts (λ z. begun (record { kind = kind.Clock; name = some_spot }) (word w.Clock ∷ name some_spot ∷ []) refl)
+      (λ u k z e. name_then _ _ _ z (λ z. begun (record { kind = k; name = some_spot }) (name some_spot ∷ []) (rw (kind_is u k e) refl))
+      (λ x z. give _ _ (record { kind = k; name = x }) z (itself (rw (kind_is u k e) refl))));
+}
 
 -- ---- relations, operators
 
 pub relop_reads : Self relop_spelled relop_at
 unfolding relop_at precedes_at
-relop_reads = record { at = λ ts. either _ _ (is_word w.Precedes) _ _ ts
-  (λ b. word_then _ _ w.Precedes _ ts (λ z. begun rel.Precedes (word w.Precedes ∷ []) refl)
-    (λ z. either _ _ (is_word w.Weakly) _ _ z
+relop_reads = record {
+  at = λ ts. either _ _ (is_word w.Precedes) _ _ ts
+      (λ b. word_then _ _ w.Precedes _ ts (λ z. begun rel.Precedes (word w.Precedes ∷ []) refl)
+      (λ z. either _ _ (is_word w.Weakly) _ _ z
       (λ b. word_then _ _ w.Weakly _ z (λ z. begun rel.PrecedesWeakly (word w.Weakly ∷ []) refl) (λ z. give _ _ rel.PrecedesWeakly z (itself refl)))
       (λ b. give _ _ rel.Precedes z (itself refl))))
-  (λ b. take_one _ _ relop_of ts (λ z. begun rel.Subclock (word w.Subclock ∷ []) refl) (λ u r e. itself (relop_is u r e))) }
+      (λ b. take_one _ _ relop_of ts (λ z. begun rel.Subclock (word w.Subclock ∷ []) refl) (λ u r e. itself (relop_is u r e)));
+}
 
 pub binop_reads : Self binop_spelled binop_at
 unfolding binop_at sampled_at
-binop_reads = record { at = λ ts. either _ _ (is_word w.Sampled) _ _ ts
-  (λ b. word_then _ _ w.Sampled _ ts (λ z. begun op.Sampled (word w.Sampled ∷ word w.On ∷ []) refl)
-    (λ z. either _ _ (is_word w.Weakly) _ _ z
+binop_reads = record {
+  at = λ ts. either _ _ (is_word w.Sampled) _ _ ts
+      (λ b. word_then _ _ w.Sampled _ ts (λ z. begun op.Sampled (word w.Sampled ∷ word w.On ∷ []) refl)
+      (λ z. either _ _ (is_word w.Weakly) _ _ z
       (λ b. word_then _ _ w.Weakly _ z (λ z. begun op.SampledWeakly (word w.Weakly ∷ word w.On ∷ []) refl)
-        (λ z. word_then _ _ w.On _ z (λ z. begun op.SampledWeakly (word w.On ∷ []) refl) (λ z. give _ _ op.SampledWeakly z (itself refl))))
+      (λ z. word_then _ _ w.On _ z (λ z. begun op.SampledWeakly (word w.On ∷ []) refl) (λ z. give _ _ op.SampledWeakly z (itself refl))))
       (λ b. word_then _ _ w.On _ z (λ z. begun op.Sampled (word w.On ∷ []) refl) (λ z. give _ _ op.Sampled z (itself refl)))))
-  (λ b. take_one _ _ binop_of ts (λ z. begun op.Union (word w.Union ∷ []) refl) (λ u o e. itself (binop_is u o e))) }
+      (λ b. take_one _ _ binop_of ts (λ z. begun op.Union (word w.Union ∷ []) refl) (λ u o e. itself (binop_is u o e)));
+}

@@ -1,10 +1,10 @@
 -- The same reader again and again.
-use Rattle.std.proofs.Common.{◌≡◌, ℕ, zero, suc, ◌+◌, ◌<◌, ◌≤◌, Bool, true, false, List, [], ◌∷◌, ◌++◌, length, map, Option, Some, None, refl, sym, ap, subst, ◌∙◌, append_assoc, arith, length-append}
+use Rattle.std.proofs.Common.{◌≡◌, ℕ, zero, suc, ◌<◌, ◌≤◌, Bool, true, false, List, [], ◌∷◌, ◌++◌, length, map, Option, None, refl, sym, ap, subst, ◌∙◌, append_assoc, arith, length-append}
 use Rattle.std.specs.List.{flat_map}
 use Rattle.std.proofs.lemmas.List.{append-nil, map-id}
 use Rattle.ccsl_grammar.specs.Terminals.{Terminal}
 use Rattle.ccsl_grammar.specs.Reader.{Fault, no_syntax, too_deep, Reply, took, stopped, Reader, followed, ◌>>=◌, given, begins, picked, choose, many_within, many}
-use Rattle.ccsl_grammar.specs.Deep.{or_else, all_deep}
+use Rattle.ccsl_grammar.specs.Deep.{all_deep}
 use Rattle.ccsl_grammar.specs.Places.{Stops, Is, shallow}
 use Rattle.ccsl_grammar.proofs.Good.{Took, Good, GoodAs, bind, give, either, same, weaker}
 use Rattle.ccsl_grammar.proofs.Parts.{within, Reads, Self}
@@ -12,7 +12,6 @@ use Rattle.ccsl_grammar.proofs.Parts.{within, Reads, Self}
 -- ---- the number of turns allowed does not matter, where there is enough of it
 
 module _ {A : Type 0} (test : Terminal → Bool) (f : Reader A) (falls : (ts : List Terminal) (v : A) (rest : List Terminal) → f ts ≡ took v rest → length rest < length ts) where
-
   enough_reply : (n m : ℕ) → ((us : List Terminal) → length us ≤ n → length us ≤ m → many_within n test f us ≡ many_within m test f us)
       → (r : Reply A) (ts : List Terminal) → f ts ≡ r → length ts ≤ suc n → length ts ≤ suc m
       → followed r (λ v. many_within n test f >>= λ vs. given (v ∷ vs)) ≡ followed r (λ v. many_within m test f >>= λ vs. given (v ∷ vs))
@@ -55,8 +54,7 @@ module _ {A : Type 0} (test : Terminal → Bool) (f : Reader A) (falls : (ts : L
   step (t ∷ ts) = step_picked t ts (test t)
 
 module _ {C T : Type 0} (spelled : C → List Terminal) (deep : C → List Terminal → Option (List Terminal)) (tree : C → T) (test : Terminal → Bool) (f : Reader T)
-  (nonempty : (c : C) → 0 < length (spelled c)) (item : Reads spelled deep tree f) where
-
+    (nonempty : (c : C) → 0 < length (spelled c)) (item : Reads spelled deep tree f) where
   falls_as : (ts : List Terminal) (v : T) (rest : List Terminal) → Took (Is spelled deep tree) f ts v rest → length rest < length ts
   falls_as ts v rest h =
       let n : 0 < length h.front = subst (λ (q : List Terminal). 0 < length q) h.holds.is (nonempty h.holds.whole) in
@@ -84,12 +82,12 @@ module _ {C T : Type 0} (spelled : C → List Terminal) (deep : C → List Termi
       → Good (Stops (flat_map spelled) (all_deep spelled deep)) (Is (flat_map spelled) (all_deep spelled deep) (map tree)) (many test f) ts
   turn_good ts ih = same _ _ (many test f) (choose test (f >>= λ v. many test f >>= λ vs. given (v ∷ vs)) (given [])) ts (step test f item_falls)
       (either _ _ test _ _ ts
-        (λ b. bind (Stops spelled deep) (Is spelled deep tree) _ _ f _ ts (item.at ts) one_stops
-          (λ v p z i e. bind (Stops (flat_map spelled) (all_deep spelled deep)) (Is (flat_map spelled) (all_deep spelled deep) (map tree)) _ _ (many test f) _ z
-            (ih z (let n : 0 < length p = subst (λ (q : List Terminal). 0 < length q) i.is (nonempty i.whole) in omega (arith, ap length e, length-append p z)))
-            (further_stops v p i)
-            (λ vs q y j d. give _ _ (v ∷ vs) y (further_is v p i vs q j))))
-        (λ b. give _ _ [] ts (record { whole = []; is = refl; tree_is = refl; deep_is = λ after. refl })))
+      (λ b. bind (Stops spelled deep) (Is spelled deep tree) _ _ f _ ts (item.at ts) one_stops
+      (λ v p z i e. bind (Stops (flat_map spelled) (all_deep spelled deep)) (Is (flat_map spelled) (all_deep spelled deep) (map tree)) _ _ (many test f) _ z
+      (ih z (let n : 0 < length p = subst (λ (q : List Terminal). 0 < length q) i.is (nonempty i.whole) in omega (arith, ap length e, length-append p z)))
+      (further_stops v p i)
+      (λ vs q y j d. give _ _ (v ∷ vs) y (further_is v p i vs q j))))
+      (λ b. give _ _ [] ts (record { whole = []; is = refl; tree_is = refl; deep_is = λ after. refl })))
 
   within_good : (n : ℕ) (ts : List Terminal) → length ts < n → Good (Stops (flat_map spelled) (all_deep spelled deep)) (Is (flat_map spelled) (all_deep spelled deep) (map tree)) (many test f) ts
   within_good zero ts h = absurd (omega arith)
@@ -111,5 +109,5 @@ lists_stop spelled too_deep p z h = let n = none_deep spelled h.whole [] in let 
 pub many_self : {C : Type 0} (spelled : C → List Terminal) (test : Terminal → Bool) (f : Reader C) → ((c : C) → 0 < length (spelled c)) → Self spelled f → Self (flat_map spelled) (many test f)
 many_self spelled test f nonempty h = record {
   at = λ ts. weaker _ _ _ _ (many test f) ts (lists_stop spelled) (λ v p i. record { whole = i.whole; is = i.is; tree_is = sym (map-id i.whole) ∙ i.tree_is; deep_is = λ after. refl })
-    ((many_reads spelled shallow (λ c. c) test f nonempty h).at ts)
+      ((many_reads spelled shallow (λ c. c) test f nonempty h).at ts);
 }

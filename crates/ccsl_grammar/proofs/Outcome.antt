@@ -3,7 +3,7 @@ use Rattle.std.proofs.Common.{◌≡◌, ◌<◌, Bool, true, false, List, [], �
 use Rattle.std.specs.List.{flat_map}
 use Rattle.std.proofs.lemmas.List.{map-id}
 use Rattle.ccsl_grammar.specs.Terminals.{Terminal}
-use Rattle.ccsl_grammar.specs.Reader.{Fault, too_deep, Reply, took, stopped, Reader, followed, ◌>>=◌, given, begins, choose, many}
+use Rattle.ccsl_grammar.specs.Reader.{too_deep, Reply, took, stopped, Reader, followed, ◌>>=◌, given, begins, many}
 use Rattle.ccsl_grammar.specs.Deep.{or_else, all_deep}
 use Rattle.ccsl_grammar.specs.Places.{shallow}
 use Rattle.ccsl_grammar.proofs.Parts.{Reads, Self}
@@ -24,11 +24,10 @@ outcome_last (Some y) v z g w rest e = refl
 -- ---- again and again
 
 module _ {C T : Type 0} (spelled : C → List Terminal) (deep : C → List Terminal → Option (List Terminal)) (tree : C → T) (test : Terminal → Bool) (f : Reader T) (Follows : List Terminal → Type 0)
-  (nonempty : (c : C) → 0 < length (spelled c)) (item : Reads spelled deep tree f)
-  (goes_on : (c : C) (z : List Terminal) → begins test (spelled c ++ z) ≡ true)
-  (follows : (c : C) (z : List Terminal) → Follows (spelled c ++ z))
-  (complete : (c : C) (z : List Terminal) → Follows z → f (spelled c ++ z) ≡ outcome (deep c z) (tree c) z) where
-
+    (nonempty : (c : C) → 0 < length (spelled c)) (item : Reads spelled deep tree f)
+    (goes_on : (c : C) (z : List Terminal) → begins test (spelled c ++ z) ≡ true)
+    (follows : (c : C) (z : List Terminal) → Follows (spelled c ++ z))
+    (complete : (c : C) (z : List Terminal) → Follows z → f (spelled c ++ z) ≡ outcome (deep c z) (tree c) z) where
   -- what stands behind the first of them
   pub next : (cs : List C) (rest : List Terminal) → Follows rest → Follows (flat_map spelled cs ++ rest)
   next [] rest h = h
@@ -39,15 +38,14 @@ module _ {C T : Type 0} (spelled : C → List Terminal) (deep : C → List Termi
   many_complete (c ∷ cs) rest b h =
       step test f (item_falls spelled deep tree test f nonempty item) ((spelled c ++ flat_map spelled cs) ++ rest)
       ∙ rw (append_assoc (spelled c) (flat_map spelled cs) rest, goes_on c (flat_map spelled cs ++ rest), complete c (flat_map spelled cs ++ rest) (next cs rest h))
-        (outcome_then (deep c (flat_map spelled cs ++ rest)) (all_deep spelled deep cs rest) (tree c) (flat_map spelled cs ++ rest) (λ v. many test f >>= λ vs. given (v ∷ vs)) (tree c ∷ map tree cs) rest
-          (rw (many_complete cs rest b h) (outcome_last (all_deep spelled deep cs rest) (map tree cs) rest (λ vs. given (tree c ∷ vs)) (tree c ∷ map tree cs) rest refl)))
+      (outcome_then (deep c (flat_map spelled cs ++ rest)) (all_deep spelled deep cs rest) (tree c) (flat_map spelled cs ++ rest) (λ v. many test f >>= λ vs. given (v ∷ vs)) (tree c ∷ map tree cs) rest
+      (rw (many_complete cs rest b h) (outcome_last (all_deep spelled deep cs rest) (map tree cs) rest (λ vs. given (tree c ∷ vs)) (tree c ∷ map tree cs) rest refl)))
 
 module _ {C : Type 0} (spelled : C → List Terminal) (test : Terminal → Bool) (f : Reader C) (Follows : List Terminal → Type 0)
-  (nonempty : (c : C) → 0 < length (spelled c)) (self : Self spelled f)
-  (goes_on : (c : C) (z : List Terminal) → begins test (spelled c ++ z) ≡ true)
-  (follows : (c : C) (z : List Terminal) → Follows (spelled c ++ z))
-  (complete : (c : C) (z : List Terminal) → Follows z → f (spelled c ++ z) ≡ took c z) where
-
+    (nonempty : (c : C) → 0 < length (spelled c)) (self : Self spelled f)
+    (goes_on : (c : C) (z : List Terminal) → begins test (spelled c ++ z) ≡ true)
+    (follows : (c : C) (z : List Terminal) → Follows (spelled c ++ z))
+    (complete : (c : C) (z : List Terminal) → Follows z → f (spelled c ++ z) ≡ took c z) where
   pub many_self_complete : (cs : List C) (rest : List Terminal) → begins test rest ≡ false → Follows rest → many test f (flat_map spelled cs ++ rest) ≡ took cs rest
   many_self_complete cs rest b h =
       many_complete spelled shallow (λ c. c) test f Follows nonempty self goes_on follows complete cs rest b h

@@ -1,5 +1,5 @@
 -- What a file keeps, of the tree of tokens.
-use Rattle.std.proofs.Common.{◌≡◌, ℕ, ◌≤◌, List, subst, arith}
+use Rattle.std.proofs.Common.{ℕ, ◌≤◌, List, subst, arith}
 use Rattle.std.specs.Prelude.{IsTrue}
 use Rattle.ccsl_lex.specs.declared.token.Token.{Token}
 use Rattle.ccsl_ast.specs.Trees.{PlainFile}

@@ -1,24 +1,23 @@
 -- One step of a reader: a word, a symbol, a name.
-use Rattle.std.proofs.Common.{◌≡◌, ℕ, zero, suc, ◌+◌, ◌<◌, ◌≤◌, Bool, true, false, List, [], ◌∷◌, ◌++◌, length, map, Option, Some, None, refl, sym, ap, subst, ◌∙◌, append_assoc, arith, eqb, get_or}
-use Rattle.std.specs.List.{flat_map}
+use Rattle.std.proofs.Common.{◌≡◌, ℕ, Bool, true, false, List, [], ◌∷◌, ◌++◌, Option, Some, refl, sym, ap, subst, ◌∙◌, get_or}
 use Rattle.std.proofs.lemmas.Bool.{eqb-true}
 use Rattle.ccsl_lex.specs.declared.reserved.Reserved.{Reserved}
 use Rattle.ccsl_lex.specs.declared.reserved.Reserved.TheVariants as w
 use Rattle.ccsl_ast.specs.declared.spot.Spot.{Spot}
 use Rattle.ccsl_grammar.specs.Terminals.{Terminal, word, symbol, name, number, quoted, is_word, is_symbol, same_word, number_of}
-use Rattle.ccsl_grammar.specs.Reader.{Fault, no_syntax, too_deep, Reply, took, stopped, Reader, ◌>>=◌, ◌>>◌, given, accept, choose, many}
+use Rattle.ccsl_grammar.specs.Reader.{Fault, no_syntax, Reader, ◌>>=◌, ◌>>◌, accept}
 use Rattle.ccsl_grammar.specs.Parser.{passed, word_at, symbol_at, name_of, name_at}
-use Rattle.ccsl_grammar.proofs.Good.{Took, Stop, Good, GoodAs, bind, give, either, take_one}
+use Rattle.ccsl_grammar.proofs.Good.{Good, bind, take_one}
 
 -- ---- what passed a test
 
 -- the words, each at its number
 abbrev words : List Reserved
 words =
-  w.Ccsl ∷ w.Relation ∷ w.Expression ∷ w.And ∷ w.System ∷ w.Clock ∷ w.Number ∷ w.Word ∷ w.Define
-  ∷ w.If ∷ w.Use ∷ w.Else ∷ w.Never ∷ w.Union ∷ w.Inter ∷ w.Minus ∷ w.Inf ∷ w.Sup
-  ∷ w.Delay ∷ w.Await ∷ w.Filter ∷ w.Upto ∷ w.Sampled ∷ w.Weakly ∷ w.On ∷ w.Delayed ∷ w.Then
-  ∷ w.Tail ∷ w.Head ∷ w.Ended ∷ w.Subclock ∷ w.Coincides ∷ w.Excludes ∷ w.Precedes ∷ w.Within ∷ w.From ∷ []
+    w.Ccsl ∷ w.Relation ∷ w.Expression ∷ w.And ∷ w.System ∷ w.Clock ∷ w.Number ∷ w.Word ∷ w.Define
+    ∷ w.If ∷ w.Use ∷ w.Else ∷ w.Never ∷ w.Union ∷ w.Inter ∷ w.Minus ∷ w.Inf ∷ w.Sup
+    ∷ w.Delay ∷ w.Await ∷ w.Filter ∷ w.Upto ∷ w.Sampled ∷ w.Weakly ∷ w.On ∷ w.Delayed ∷ w.Then
+    ∷ w.Tail ∷ w.Head ∷ w.Ended ∷ w.Subclock ∷ w.Coincides ∷ w.Excludes ∷ w.Precedes ∷ w.Within ∷ w.From ∷ []
 
 numbered_back : (v : Reserved) → get_or words (number_of v) w.Ccsl ≡ v
 numbered_back w.Ccsl = refl

@@ -1,16 +1,16 @@
 -- The reply of the reader is what the grammar says, and the grammar says one reply alone.
-use Rattle.std.proofs.Common.{◌≡◌, ℕ, zero, suc, ◌+◌, ◌<◌, ◌≤◌, max, List, [], ◌∷◌, ◌++◌, length, length-append, Option, Some, None, refl, sym, ap, subst, ◌∙◌, arith, append_assoc, ◌⊎◌, inl, inr}
+use Rattle.std.proofs.Common.{◌≡◌, ℕ, max, List, [], ◌∷◌, ◌++◌, length, length-append, Option, Some, None, refl, sym, ap, subst, ◌∙◌, arith, append_assoc}
 use Rattle.std.proofs.lemmas.List.{append-nil}
 use Rattle.ccsl_grammar.specs.Terminals.{Terminal}
 use Rattle.ccsl_ast.specs.Trees.{PlainFile}
-use Rattle.ccsl_grammar.specs.Reader.{Fault, no_syntax, too_deep, Reply, took, stopped, Reader, followed, ◌>>=◌, ◌>>◌, many}
+use Rattle.ccsl_grammar.specs.Reader.{no_syntax, too_deep, Reply, took, stopped, Reader, followed, many}
 use Rattle.ccsl_grammar.specs.Grammar.{Derivation, file_spelled, file_tree}
 use Rattle.ccsl_grammar.specs.Deep.{file_deep, derivation_depth}
-use Rattle.ccsl_grammar.specs.Places.{Stops, Is, Begins, BeginsDeep}
+use Rattle.ccsl_grammar.specs.Places.{Stops, Is, Begins}
 use Rattle.ccsl_grammar.specs.Parser.{is_definition, definition_at, version_at, system_at, ends, file_at}
-use Rattle.ccsl_grammar.specs.File.{IsFile, CanGoOn, Parses, DeepAt, FailsAt, Verdict}
+use Rattle.ccsl_grammar.specs.File.{IsFile, CanGoOn, DeepAt, FailsAt, Verdict}
 use Rattle.ccsl_grammar.specs.Laws.{OneTree, ReaderIsRight, OneVerdict}
-use Rattle.ccsl_grammar.proofs.Good.{Took, Stop, Good, GoodAs}
+use Rattle.ccsl_grammar.proofs.Good.{GoodAs}
 use Rattle.ccsl_grammar.proofs.Files.{file_reads}
 use Rattle.ccsl_grammar.proofs.Outcome.{outcome}
 use Rattle.ccsl_grammar.proofs.CompleteLines.{file_complete}
@@ -94,21 +94,35 @@ verdict_as : (room : ℕ) (ts : List Terminal) (r : Reply PlainFile) → file_at
 verdict_as room ts (took f rest) e h =
     let z : rest ≡ [] = file_ends room ts f rest e in
     (record { derivation = h.holds.whole; spelled = h.holds.is ∙ sym (append-nil h.front) ∙ ap (λ q. h.front ++ q) (sym z) ∙ sym h.whole; tree = h.holds.tree_is; depth = file_within room h.holds.whole [] (h.holds.deep_is []) }, z)
-verdict_as room ts (stopped too_deep rest) e h = (h.front, h.whole, record {
-  derivation = h.holds.whole; first = h.holds.first; behind = h.holds.behind; more = h.holds.more; rest_is = h.holds.rest_is; spelled = h.holds.is;
-  deep = h.holds.deep_is [] ∙ ap (λ q. Some (h.holds.first ∷ q)) (append-nil h.holds.more) })
-verdict_as room ts (stopped no_syntax rest) e h = (h.front, h.whole, record {
-  before = can_go_on h.front h.holds;
-  no_more = λ t us i c.
-    let w : file_spelled c.is.derivation ≡ h.front ++ t ∷ c.more = c.is.spelled ∙ append_assoc h.front (t ∷ []) c.more in
-    never_syntax (file_deep room c.is.derivation []) (file_tree c.is.derivation) [] (t ∷ c.more) (sym (spelled_reply room c.is.derivation (h.front ++ t ∷ c.more) w) ∙ h.again t us c.more i);
-  no_end = λ f i c.
-    let w : file_spelled c.derivation ≡ ts = c.spelled ∙ sym (append-nil h.front) ∙ ap (λ q. h.front ++ q) (sym i) ∙ sym h.whole in
-    never_syntax (file_deep room c.derivation []) (file_tree c.derivation) [] rest (sym (spelled_reply room c.derivation ts w) ∙ e);
-  none_deep = λ x y i d.
-    let r : stopped too_deep y ≡ stopped no_syntax rest = sym (deep_replies room x y d) ∙ ap (file_at room) (sym i ∙ sym h.whole) ∙ e in
-    cc;
-})
+verdict_as room ts (stopped too_deep rest) e h = (
+  h.front,
+  h.whole,
+  record {
+    derivation = h.holds.whole;
+    first = h.holds.first;
+    behind = h.holds.behind;
+    more = h.holds.more;
+    rest_is = h.holds.rest_is;
+    spelled = h.holds.is;
+    deep = h.holds.deep_is [] ∙ ap (λ q. Some (h.holds.first ∷ q)) (append-nil h.holds.more);
+  },
+)
+verdict_as room ts (stopped no_syntax rest) e h = (
+  h.front,
+  h.whole,
+  record {
+    before = can_go_on h.front h.holds;
+    no_more = λ t us i c.
+        let w : file_spelled c.is.derivation ≡ h.front ++ t ∷ c.more = c.is.spelled ∙ append_assoc h.front (t ∷ []) c.more in
+        never_syntax (file_deep room c.is.derivation []) (file_tree c.is.derivation) [] (t ∷ c.more) (sym (spelled_reply room c.is.derivation (h.front ++ t ∷ c.more) w) ∙ h.again t us c.more i);
+    no_end = λ f i c.
+        let w : file_spelled c.derivation ≡ ts = c.spelled ∙ sym (append-nil h.front) ∙ ap (λ q. h.front ++ q) (sym i) ∙ sym h.whole in
+        never_syntax (file_deep room c.derivation []) (file_tree c.derivation) [] rest (sym (spelled_reply room c.derivation ts w) ∙ e);
+    none_deep = λ x y i d.
+        let r : stopped too_deep y ≡ stopped no_syntax rest = sym (deep_replies room x y d) ∙ ap (file_at room) (sym i ∙ sym h.whole) ∙ e in
+        cc;
+  },
+)
 
 pub reader_is_right : ReaderIsRight
 reader_is_right room ts = verdict_as room ts (file_at room ts) refl ((file_reads room).at ts).is
@@ -128,8 +142,15 @@ one_tree ts f g h i =
 -- ---- ONE VERDICT
 
 goes_on : (front : List Terminal) (t : Terminal) (us : List Terminal) → CanGoOn (front ++ t ∷ us) → CanGoOn (front ++ t ∷ [])
-goes_on front t us c = record { more = us ++ c.more; tree = c.tree; is = record { derivation = c.is.derivation; tree = c.is.tree;
-  spelled = c.is.spelled ∙ append_assoc front (t ∷ us) c.more ∙ sym (append_assoc front (t ∷ []) (us ++ c.more)) } }
+goes_on front t us c = record {
+  more = us ++ c.more;
+  tree = c.tree;
+  is = record {
+    derivation = c.is.derivation;
+    tree = c.is.tree;
+    spelled = c.is.spelled ∙ append_assoc front (t ∷ us) c.more ∙ sym (append_assoc front (t ∷ []) (us ++ c.more));
+  };
+}
 
 -- two places of a fault of syntax are one
 fails_once : (room : ℕ) (x y p q : List Terminal) → FailsAt room x y → FailsAt room p q → Cuts x y p q → y ≡ q

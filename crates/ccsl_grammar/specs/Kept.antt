@@ -2,7 +2,7 @@
 use Rattle.std.specs.Prelude.{Bool, true, List}
 use Rattle.std.specs.List.{list_all}
 use Rattle.ccsl_ast.specs.Kept.{spot_kept, number_kept, text_kept}
-use Rattle.ccsl_grammar.specs.Terminals.{Terminal, word, symbol, name, number, quoted}
+use Rattle.ccsl_grammar.specs.Terminals.{Terminal, name, number, quoted}
 
 abbrev pub terminal_kept : Terminal → Bool
 terminal_kept (name x) = spot_kept x
