@@ -19,12 +19,15 @@ abbrev mutual
   pub expr_deep : ℕ → Expr → List Terminal → Option (List Terminal)
   expr_deep zero e after = Some (expr_spelled e ++ after)
   expr_deep (suc room) (alone o) after = operand_deep room o after
-  expr_deep (suc room) (binary op a d) after = or_else (operand_deep room a (binop_spelled op ++ (operand_spelled d ++ after))) (operand_deep room d after)
+  expr_deep (suc room) (binary op a d) after =
+      or_else (operand_deep room a (binop_spelled op ++ (operand_spelled d ++ after))) (operand_deep room d after)
   expr_deep (suc room) (delay a m) after = operand_deep room a (word w.Delay ∷ (term_spelled m ++ after))
   expr_deep (suc room) (await a m) after = operand_deep room a (word w.Await ∷ (term_spelled m ++ after))
   expr_deep (suc room) (filter a m) after = operand_deep room a (word w.Filter ∷ (wterm_spelled m ++ after))
-  expr_deep (suc room) (delayed a at n d) after = or_else (operand_deep room a (word w.Delayed ∷ number at n ∷ word w.On ∷ (operand_spelled d ++ after))) (operand_deep room d after)
-  expr_deep (suc room) (choice q a d) after = or_else (expr_deep room a (word w.Else ∷ (expr_spelled d ++ after))) (expr_deep room d after)
+  expr_deep (suc room) (delayed a at n d) after =
+      or_else (operand_deep room a (word w.Delayed ∷ number at n ∷ word w.On ∷ (operand_spelled d ++ after))) (operand_deep room d after)
+  expr_deep (suc room) (choice q a d) after =
+      or_else (expr_deep room a (word w.Else ∷ (expr_spelled d ++ after))) (expr_deep room d after)
 
   pub operand_deep : ℕ → Operand → List Terminal → Option (List Terminal)
   operand_deep room (named x) after = None
@@ -33,7 +36,8 @@ abbrev mutual
   operand_deep room (parens e) after = expr_deep room e (closing ∷ after)
 
 -- of several derivations, one behind the other
-abbrev pub all_deep : {C : Type 0} (spelled : C → List Terminal) (deep : C → List Terminal → Option (List Terminal)) → List C → List Terminal → Option (List Terminal)
+abbrev pub all_deep : {C : Type 0} (spelled : C → List Terminal) (deep : C → List Terminal → Option (List Terminal))
+    → List C → List Terminal → Option (List Terminal)
 all_deep spelled deep [] after = None
 all_deep spelled deep (c ∷ cs) after = or_else (deep c (flat_map spelled cs ++ after)) (all_deep spelled deep cs after)
 
@@ -50,11 +54,15 @@ abbrev pub member_deep : ℕ → Member → List Terminal → Option (List Termi
 member_deep room m after = expr_deep room m.body after
 
 abbrev pub definition_deep : ℕ → Definition → List Terminal → Option (List Terminal)
-definition_deep room (relation x params l ls) after = or_else (rline_deep room l (flat_map rline_spelled ls ++ right_brace ∷ after)) (all_deep rline_spelled (rline_deep room) ls (right_brace ∷ after))
-definition_deep room (group m ms) after = or_else (member_deep room m (flat_map further_member ms ++ semicolon ∷ after)) (all_deep further_member (member_deep room) ms (semicolon ∷ after))
+definition_deep room (relation x params l ls) after =
+    or_else (rline_deep room l (flat_map rline_spelled ls ++ right_brace ∷ after)) (all_deep rline_spelled (rline_deep room) ls (right_brace ∷ after))
+definition_deep room (group m ms) after =
+    or_else (member_deep room m (flat_map further_member ms ++ semicolon ∷ after)) (all_deep further_member (member_deep room) ms (semicolon ∷ after))
 
 abbrev pub file_deep : ℕ → Derivation → List Terminal → Option (List Terminal)
-file_deep room d after = or_else (all_deep definition_spelled (definition_deep room) d.definitions (system_spelled d.lines ++ after)) (all_deep sline_spelled (sline_deep room) d.lines (right_brace ∷ after))
+file_deep room d after =
+    or_else (all_deep definition_spelled (definition_deep room) d.definitions (system_spelled d.lines ++ after))
+    (all_deep sline_spelled (sline_deep room) d.lines (right_brace ∷ after))
 
 -- ---- the depth of a derivation: the greatest level of an expression in it
 

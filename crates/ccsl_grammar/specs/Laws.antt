@@ -43,5 +43,6 @@ CanonicalParses = (f : PlainFile) → IsTrue (file_kept f) → file_depth f ≤ 
 
 -- terminals that are the canonical ones but for their places have a tree, not too deep, that is the file but for its places
 abbrev pub CanonicalReadsBack : Type 0
-CanonicalReadsBack = (f : PlainFile) → IsTrue (file_kept f) → file_depth f ≤ 128 → (ts : List Terminal) → bares ts ≡ bares (canonical_terminals f)
+CanonicalReadsBack = (f : PlainFile) → IsTrue (file_kept f) → file_depth f ≤ 128
+    → (ts : List Terminal) → bares ts ≡ bares (canonical_terminals f)
     → (g : PlainFile) × Parses 128 ts g × (bare_file g ≡ bare_file f)
