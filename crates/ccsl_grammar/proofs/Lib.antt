@@ -17,6 +17,7 @@ pub mod Canonical
 pub mod Keeps
 mod Blind
 pub mod Bare
+pub mod Spelled
 pub mod Loop
 pub mod Parsed
 mod Examples

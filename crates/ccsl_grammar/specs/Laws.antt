@@ -11,6 +11,7 @@ use Rattle.ccsl_grammar.specs.Reader.{Reply}
 use Rattle.ccsl_grammar.specs.Parser.{file_at}
 use Rattle.ccsl_grammar.specs.File.{IsFile, Parses, Verdict}
 use Rattle.ccsl_grammar.specs.Canonical.{file_of, canonical_terminals}
+use Rattle.ccsl_grammar.specs.Kept.{kept}
 use Rattle.ccsl_grammar.specs.Bare.{bares, bare_file}
 
 -- a list of terminals has at most one tree, whatever its depth
@@ -36,6 +37,10 @@ LeastDepth = (d : Derivation) → file_depth (file_tree d) ≤ derivation_depth 
 -- what the tokens of a file keep, the file keeps
 abbrev pub FileKeeps : Type 0
 FileKeeps = (ts : List Token) (f : PlainFile) → IsFile (terminals ts) f → IsTrue (file_kept f)
+
+-- what a file keeps, its canonical terminals keep
+abbrev pub CanonicalKeeps : Type 0
+CanonicalKeeps = (f : PlainFile) → IsTrue (file_kept f) → IsTrue (kept (canonical_terminals f))
 
 -- the canonical terminals of a file have the tree that they were made from, and are not too deep
 abbrev pub CanonicalParses : Type 0

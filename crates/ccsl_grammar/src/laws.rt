@@ -1,6 +1,6 @@
 //! The laws of the grammar. Each function does nothing; its contract is the law.
 
-ghost use Rattle.ccsl_grammar.specs.Laws.{OneTree, ReaderIsRight, OneVerdict, CanonicalDepth, LeastDepth, FileKeeps, CanonicalParses, CanonicalReadsBack};
+ghost use Rattle.ccsl_grammar.specs.Laws.{OneTree, ReaderIsRight, OneVerdict, CanonicalDepth, LeastDepth, FileKeeps, CanonicalKeeps, CanonicalParses, CanonicalReadsBack};
 
 /// A list of terminals has at most one tree, whatever its depth.
 pub fn one_tree()
@@ -32,6 +32,11 @@ pub fn least_depth()
 /// the grammar wants a member.
 pub fn file_keeps()
     ensures { FileKeeps }
+{}
+
+/// What a file keeps of names, numbers and quoted texts, the terminals of its canonical text keep.
+pub fn canonical_keeps()
+    ensures { CanonicalKeeps }
 {}
 
 /// The canonical terminals of a file have the tree that they were made from, and no expression of theirs stands too deep.
