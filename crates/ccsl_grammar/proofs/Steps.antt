@@ -3,6 +3,7 @@ use Rattle.std.proofs.Common.{◌≡◌, ℕ, Bool, true, false, List, [], ◌�
 use Rattle.std.proofs.lemmas.Bool.{eqb-true}
 use Rattle.ccsl_lex.specs.declared.reserved.Reserved.{Reserved}
 use Rattle.ccsl_lex.specs.declared.reserved.Reserved.TheVariants as w
+use Rattle.ccsl_lex.specs.Words.{all_words}
 use Rattle.ccsl_ast.specs.declared.spot.Spot.{Spot}
 use Rattle.ccsl_grammar.specs.Terminals.{Terminal, word, symbol, name, number, quoted, is_word, is_symbol, same_word, number_of}
 use Rattle.ccsl_grammar.specs.Reader.{Fault, no_syntax, Reader, ◌>>=◌, ◌>>◌, accept}
@@ -11,20 +12,13 @@ use Rattle.ccsl_grammar.proofs.Good.{Good, bind, take_one}
 
 -- ---- what passed a test
 
--- the words, each at its number
-abbrev words : List Reserved
-words =
-    w.Ccsl ∷ w.Relation ∷ w.Expression ∷ w.And ∷ w.System ∷ w.Clock ∷ w.Number ∷ w.Word ∷ w.Define
-    ∷ w.If ∷ w.Use ∷ w.Else ∷ w.Never ∷ w.Union ∷ w.Inter ∷ w.Minus ∷ w.Inf ∷ w.Sup
-    ∷ w.Delay ∷ w.Await ∷ w.Filter ∷ w.Upto ∷ w.Sampled ∷ w.Weakly ∷ w.On ∷ w.Delayed ∷ w.Then
-    ∷ w.Tail ∷ w.Head ∷ w.Ended ∷ w.Subclock ∷ w.Coincides ∷ w.Excludes ∷ w.Precedes ∷ w.Within ∷ w.From ∷ []
-
-numbered_back : (v : Reserved) → get_or words (number_of v) w.Ccsl ≡ v
+-- each word stands at its number
+numbered_back : (v : Reserved) → get_or all_words (number_of v) w.Ccsl ≡ v
 numbered_back w.Ccsl = refl
 numbered_back _ = refl
 
 pub same_word_is : (v u : Reserved) → same_word v u ≡ true → v ≡ u
-same_word_is v u e = sym (numbered_back v) ∙ ap (λ n. get_or words n w.Ccsl) (eqb-true (number_of v) (number_of u) e) ∙ numbered_back u
+same_word_is v u e = sym (numbered_back v) ∙ ap (λ n. get_or all_words n w.Ccsl) (eqb-true (number_of v) (number_of u) e) ∙ numbered_back u
 
 pub word_is : (w : Reserved) (t : Terminal) → is_word w t ≡ true → t ≡ word w
 word_is w (word v) e = ap word (same_word_is v w e)
