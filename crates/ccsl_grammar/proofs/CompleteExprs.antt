@@ -1,0 +1,198 @@
+-- The reader of expressions on what is spelled from them: it takes them, or stops at the first that stands too deep.
+use Rattle.std.proofs.Common.{◌≡◌, ℕ, zero, suc, true, false, List, [], ◌∷◌, ◌++◌, Option, refl, ◌∙◌, append_assoc}
+use Rattle.ccsl_lex.specs.declared.reserved.Reserved.TheVariants as w
+use Rattle.ccsl_ast.specs.declared.spot.Spot.{Spot}
+use Rattle.ccsl_ast.specs.declared.term.Term.{Term}
+use Rattle.ccsl_ast.specs.declared.term.WordTerm.{WordTerm}
+use Rattle.ccsl_ast.specs.declared.term.Test.{Test}
+use Rattle.ccsl_ast.specs.declared.term.Argument.{Argument}
+use Rattle.ccsl_ast.specs.declared.tree.BinaryOp.{BinaryOp}
+use Rattle.ccsl_ast.specs.declared.tree.BinaryOp.TheVariants as op
+use Rattle.ccsl_ast.specs.Trees.{Expression, EName, ECall, ENever, EBinary, EDelay, EAwait, EFilter, EDelayed, EIf}
+use Rattle.ccsl_grammar.specs.Terminals.{Terminal, word, name, number, is_word, is_symbol}
+use Rattle.ccsl_grammar.specs.Reader.{too_deep, took, stopped, Reader, followed, ◌>>=◌, ◌>>◌, given, begins}
+use Rattle.ccsl_grammar.specs.Deep.{or_else, expr_deep, operand_deep}
+use Rattle.ccsl_grammar.specs.Grammar.{opening, closing, semicolon, arg_spelled, binop_spelled, term_spelled, wterm_spelled, test_spelled, Expr, alone, binary, delay, await, filter, delayed, choice, Operand, named, called, never, parens, expr_spelled, operand_spelled, expr_tree, operand_tree}
+use Rattle.ccsl_grammar.specs.Parser.{word_at, symbol_at, name_at, num_at, is_sign, sampled_at, binop_at, is_binop, named_at, parens_at, operand_at, binary_at, delayed_at, rest_at, choice_at, expr_with, is_expr, no_room, expr_at}
+use Rattle.ccsl_grammar.proofs.Leaves.{closed_spelled}
+use Rattle.ccsl_grammar.proofs.Outcome.{outcome, outcome_then, outcome_last}
+use Rattle.ccsl_grammar.proofs.CompleteLeaves.{term_complete, wterm_complete, test_complete, args_complete}
+
+-- ---- what may stand behind an expression: nothing that goes on with it
+
+pub record EndsExpr (rest : List Terminal) : Type 0 where
+  pub call : begins (is_symbol 40) rest ≡ false
+  pub operator : begins is_binop rest ≡ false
+  pub delay : begins (is_word w.Delay) rest ≡ false
+  pub await : begins (is_word w.Await) rest ≡ false
+  pub filter : begins (is_word w.Filter) rest ≡ false
+  pub delayed : begins (is_word w.Delayed) rest ≡ false
+  pub sign : begins is_sign rest ≡ false
+
+pub ends_closing : (z : List Terminal) → EndsExpr (closing ∷ z)
+ends_closing z = record { call = refl; operator = refl; delay = refl; await = refl; filter = refl; delayed = refl; sign = refl }
+
+pub ends_else : (z : List Terminal) → EndsExpr (word w.Else ∷ z)
+ends_else z = record { call = refl; operator = refl; delay = refl; await = refl; filter = refl; delayed = refl; sign = refl }
+
+pub ends_and : (z : List Terminal) → EndsExpr (word w.And ∷ z)
+ends_and z = record { call = refl; operator = refl; delay = refl; await = refl; filter = refl; delayed = refl; sign = refl }
+
+pub ends_semicolon : (z : List Terminal) → EndsExpr (semicolon ∷ z)
+ends_semicolon z = record { call = refl; operator = refl; delay = refl; await = refl; filter = refl; delayed = refl; sign = refl }
+
+-- ---- what an expression begins with
+
+binop_first : (o : BinaryOp) (z : List Terminal) → begins (is_symbol 40) (binop_spelled o ++ z) ≡ false
+binop_first op.Union z = refl
+binop_first _ z = refl
+
+operand_first : (o : Operand) (z : List Terminal) → (begins (is_word w.If) (operand_spelled o ++ z) ≡ false) × (begins is_expr (operand_spelled o ++ z) ≡ true)
+operand_first (named x) z = (refl, refl)
+operand_first (called x args) z = (refl, refl)
+operand_first never z = (refl, refl)
+operand_first (parens e) z = (refl, refl)
+
+expr_first : (e : Expr) (z : List Terminal) → begins is_expr (expr_spelled e ++ z) ≡ true
+expr_first (alone o) z = (operand_first o z).1
+expr_first (binary op a d) z = rw (append_assoc (operand_spelled a) (binop_spelled op ++ operand_spelled d) z) (operand_first a ((binop_spelled op ++ operand_spelled d) ++ z)).1
+expr_first (delay a m) z = rw (append_assoc (operand_spelled a) (word w.Delay ∷ term_spelled m) z) (operand_first a (word w.Delay ∷ (term_spelled m ++ z))).1
+expr_first (await a m) z = rw (append_assoc (operand_spelled a) (word w.Await ∷ term_spelled m) z) (operand_first a (word w.Await ∷ (term_spelled m ++ z))).1
+expr_first (filter a m) z = rw (append_assoc (operand_spelled a) (word w.Filter ∷ wterm_spelled m) z) (operand_first a (word w.Filter ∷ (wterm_spelled m ++ z))).1
+expr_first (delayed a at n d) z = rw (append_assoc (operand_spelled a) (word w.Delayed ∷ number at n ∷ word w.On ∷ operand_spelled d) z) (operand_first a (word w.Delayed ∷ number at n ∷ word w.On ∷ (operand_spelled d ++ z))).1
+expr_first (choice q a d) z = refl
+
+no_room_complete : (e : Expr) (rest : List Terminal) → no_room (expr_spelled e ++ rest) ≡ stopped too_deep (expr_spelled e ++ rest)
+unfolding no_room
+no_room_complete e rest = rw (expr_first e rest) refl
+
+-- ---- what the reader does on each first terminal
+
+module _ (inner : Reader Expression) where
+  rest_binary : (a : Expression) (o : BinaryOp) (z : List Terminal) → rest_at inner a (binop_spelled o ++ z) ≡ followed (operand_at inner z) (λ d. given (EBinary o a d))
+  unfolding rest_at binary_at binop_at sampled_at word_at
+  rest_binary a op.Union z = refl
+  rest_binary a _ z = refl
+
+  rest_delay : (a : Expression) (m : Term) (rest : List Terminal) → begins is_sign rest ≡ false → rest_at inner a (word w.Delay ∷ (term_spelled m ++ rest)) ≡ took (EDelay a m) rest
+  unfolding rest_at word_at
+  rest_delay a m rest h = rw (term_complete m rest h) refl
+
+  rest_await : (a : Expression) (m : Term) (rest : List Terminal) → begins is_sign rest ≡ false → rest_at inner a (word w.Await ∷ (term_spelled m ++ rest)) ≡ took (EAwait a m) rest
+  unfolding rest_at word_at
+  rest_await a m rest h = rw (term_complete m rest h) refl
+
+  rest_filter : (a : Expression) (m : WordTerm) (rest : List Terminal) → rest_at inner a (word w.Filter ∷ (wterm_spelled m ++ rest)) ≡ took (EFilter a m) rest
+  unfolding rest_at word_at
+  rest_filter a m rest = rw (wterm_complete m rest) refl
+
+  rest_delayed : (a : Expression) (at n : ℕ) (z : List Terminal) → rest_at inner a (word w.Delayed ∷ number at n ∷ word w.On ∷ z) ≡ followed (operand_at inner z) (λ d. given (EDelayed a at n d))
+  unfolding rest_at delayed_at word_at num_at
+  rest_delayed a at n z = refl
+
+  rest_nothing : (a : Expression) (rest : List Terminal) → EndsExpr rest → rest_at inner a rest ≡ took a rest
+  unfolding rest_at
+  rest_nothing a rest h = rw (h.operator, h.delay, h.await, h.filter, h.delayed) refl
+
+  named_complete : (x : Spot) (rest : List Terminal) → begins (is_symbol 40) rest ≡ false → operand_at inner (name x ∷ rest) ≡ took (EName x) rest
+  unfolding operand_at name_at named_at
+  named_complete x rest h = rw h refl
+
+  called_complete : (x : Spot) (args : List Argument) (rest : List Terminal) → operand_at inner (name x ∷ opening ∷ (closed_spelled arg_spelled args ++ rest)) ≡ took (ECall x args) rest
+  unfolding operand_at name_at named_at symbol_at
+  called_complete x args rest = rw (args_complete args rest) refl
+
+  never_complete : (rest : List Terminal) → operand_at inner (word w.Never ∷ rest) ≡ took ENever rest
+  unfolding operand_at word_at
+  never_complete rest = refl
+
+  parens_open : (z : List Terminal) → operand_at inner (opening ∷ z) ≡ followed (inner z) (λ e. symbol_at 41 >> given e)
+  unfolding operand_at parens_at symbol_at
+  parens_open z = refl
+
+  parens_close : (e : Expression) (rest : List Terminal) → (symbol_at 41 >> given e) (closing ∷ rest) ≡ took e rest
+  unfolding symbol_at
+  parens_close e rest = refl
+
+  with_operand : (o : Operand) (z : List Terminal) → expr_with inner (operand_spelled o ++ z) ≡ followed (operand_at inner (operand_spelled o ++ z)) (λ a. rest_at inner a)
+  unfolding expr_with
+  with_operand o z = rw (operand_first o z).0 refl
+
+  choice_open : (q : Test) (z : List Terminal) → expr_with inner (word w.If ∷ (test_spelled q ++ word w.Use ∷ z)) ≡ followed (inner z) (λ a. word_at w.Else >> inner >>= λ d. given (EIf q a d))
+  unfolding expr_with choice_at word_at
+  choice_open q z = rw (test_complete q (word w.Use ∷ z) refl) refl
+
+  choice_middle : (q : Test) (a : Expression) (z : List Terminal) → (word_at w.Else >> inner >>= λ d. given (EIf q a d)) (word w.Else ∷ z) ≡ followed (inner z) (λ d. given (EIf q a d))
+  unfolding word_at
+  choice_middle q a z = refl
+
+expr_zero : (ts : List Terminal) → expr_at zero ts ≡ no_room ts
+unfolding expr_at
+expr_zero ts = refl
+
+expr_operand : (room : ℕ) (o : Operand) (z : List Terminal) → expr_at (suc room) (operand_spelled o ++ z) ≡ followed (operand_at (expr_at room) (operand_spelled o ++ z)) (λ a. rest_at (expr_at room) a)
+unfolding expr_at
+expr_operand room o z = with_operand (expr_at room) o z
+
+expr_choice : (room : ℕ) (q : Test) (z : List Terminal) → expr_at (suc room) (word w.If ∷ (test_spelled q ++ word w.Use ∷ z)) ≡ followed (expr_at room z) (λ a. word_at w.Else >> expr_at room >>= λ d. given (EIf q a d))
+unfolding expr_at
+expr_choice room q z = choice_open (expr_at room) q z
+
+-- ---- the first operand of an expression, and the second
+
+module _ (room : ℕ) (a : Operand) (z : List Terminal) (first : operand_at (expr_at room) (operand_spelled a ++ z) ≡ outcome (operand_deep room a z) (operand_tree a) z) where
+  operand_then : (o : Option (List Terminal)) (w : Expression) (rest : List Terminal) → rest_at (expr_at room) (operand_tree a) z ≡ outcome o w rest
+      → expr_at (suc room) (operand_spelled a ++ z) ≡ outcome (or_else (operand_deep room a z) o) w rest
+  operand_then o w rest e = expr_operand room a z ∙ rw first (outcome_then (operand_deep room a z) o (operand_tree a) z (λ v. rest_at (expr_at room) v) w rest e)
+
+  operand_last : (w : Expression) (rest : List Terminal) → rest_at (expr_at room) (operand_tree a) z ≡ took w rest → expr_at (suc room) (operand_spelled a ++ z) ≡ outcome (operand_deep room a z) w rest
+  operand_last w rest e = expr_operand room a z ∙ rw first (outcome_last (operand_deep room a z) (operand_tree a) z (λ v. rest_at (expr_at room) v) w rest e)
+
+  operand_second : (make : Expression → Expression) → followed (operand_at (expr_at room) (operand_spelled a ++ z)) (λ t. given (make t)) ≡ outcome (operand_deep room a z) (make (operand_tree a)) z
+  operand_second make = rw first (outcome_last (operand_deep room a z) (operand_tree a) z (λ t. given (make t)) (make (operand_tree a)) z refl)
+
+-- ---- expressions and operands together
+
+mutual
+  pub expr_complete : (room : ℕ) (e : Expr) (rest : List Terminal) → EndsExpr rest → expr_at room (expr_spelled e ++ rest) ≡ outcome (expr_deep room e rest) (expr_tree e) rest
+  expr_complete zero e rest h = expr_zero (expr_spelled e ++ rest) ∙ no_room_complete e rest
+  expr_complete (suc room) (alone o) rest h = operand_last room o rest (operand_complete room o rest h.call) (operand_tree o) rest (rest_nothing (expr_at room) (operand_tree o) rest h)
+  expr_complete (suc room) (binary op a d) rest h =
+      let z : List Terminal = operand_spelled d ++ rest in
+      rw (append_assoc (operand_spelled a) (binop_spelled op ++ operand_spelled d) rest, append_assoc (binop_spelled op) (operand_spelled d) rest)
+      (operand_then room a (binop_spelled op ++ z) (operand_complete room a (binop_spelled op ++ z) (binop_first op z)) (operand_deep room d rest) (EBinary op (operand_tree a) (operand_tree d)) rest
+      (rest_binary (expr_at room) (operand_tree a) op z ∙ operand_second room d rest (operand_complete room d rest h.call) (λ t. EBinary op (operand_tree a) t)))
+  expr_complete (suc room) (delay a m) rest h =
+      let z : List Terminal = word w.Delay ∷ (term_spelled m ++ rest) in
+      rw (append_assoc (operand_spelled a) (word w.Delay ∷ term_spelled m) rest)
+      (operand_last room a z (operand_complete room a z refl) (EDelay (operand_tree a) m) rest (rest_delay (expr_at room) (operand_tree a) m rest h.sign))
+  expr_complete (suc room) (await a m) rest h =
+      let z : List Terminal = word w.Await ∷ (term_spelled m ++ rest) in
+      rw (append_assoc (operand_spelled a) (word w.Await ∷ term_spelled m) rest)
+      (operand_last room a z (operand_complete room a z refl) (EAwait (operand_tree a) m) rest (rest_await (expr_at room) (operand_tree a) m rest h.sign))
+  expr_complete (suc room) (filter a m) rest h =
+      let z : List Terminal = word w.Filter ∷ (wterm_spelled m ++ rest) in
+      rw (append_assoc (operand_spelled a) (word w.Filter ∷ wterm_spelled m) rest)
+      (operand_last room a z (operand_complete room a z refl) (EFilter (operand_tree a) m) rest (rest_filter (expr_at room) (operand_tree a) m rest))
+  expr_complete (suc room) (delayed a at n d) rest h =
+      let z : List Terminal = word w.Delayed ∷ number at n ∷ word w.On ∷ (operand_spelled d ++ rest) in
+      rw (append_assoc (operand_spelled a) (word w.Delayed ∷ number at n ∷ word w.On ∷ operand_spelled d) rest)
+      (operand_then room a z (operand_complete room a z refl) (operand_deep room d rest) (EDelayed (operand_tree a) at n (operand_tree d)) rest
+      (rest_delayed (expr_at room) (operand_tree a) at n (operand_spelled d ++ rest) ∙ operand_second room d rest (operand_complete room d rest h.call) (λ t. EDelayed (operand_tree a) at n t)))
+  expr_complete (suc room) (choice q a d) rest h =
+      let z : List Terminal = word w.Else ∷ (expr_spelled d ++ rest) in
+      rw (append_assoc (test_spelled q) (word w.Use ∷ (expr_spelled a ++ word w.Else ∷ expr_spelled d)) rest, append_assoc (expr_spelled a) (word w.Else ∷ expr_spelled d) rest)
+      (expr_choice room q (expr_spelled a ++ z)
+      ∙ rw (expr_complete room a z (ends_else (expr_spelled d ++ rest)))
+      (outcome_then (expr_deep room a z) (expr_deep room d rest) (expr_tree a) z (λ a. word_at w.Else >> expr_at room >>= λ d. given (EIf q a d)) (EIf q (expr_tree a) (expr_tree d)) rest
+      (choice_middle (expr_at room) q (expr_tree a) (expr_spelled d ++ rest)
+      ∙ rw (expr_complete room d rest h) (outcome_last (expr_deep room d rest) (expr_tree d) rest (λ t. given (EIf q (expr_tree a) t)) (EIf q (expr_tree a) (expr_tree d)) rest refl))))
+
+  pub operand_complete : (room : ℕ) (o : Operand) (rest : List Terminal) → begins (is_symbol 40) rest ≡ false → operand_at (expr_at room) (operand_spelled o ++ rest) ≡ outcome (operand_deep room o rest) (operand_tree o) rest
+  operand_complete room (named x) rest h = named_complete (expr_at room) x rest h
+  operand_complete room (called x args) rest h = called_complete (expr_at room) x args rest
+  operand_complete room never rest h = never_complete (expr_at room) rest
+  operand_complete room (parens e) rest h =
+      rw (append_assoc (expr_spelled e) (closing ∷ []) rest)
+      (parens_open (expr_at room) (expr_spelled e ++ closing ∷ rest)
+      ∙ rw (expr_complete room e (closing ∷ rest) (ends_closing rest)) (outcome_last (expr_deep room e (closing ∷ rest)) (expr_tree e) (closing ∷ rest) (λ v. symbol_at 41 >> given v) (expr_tree e) rest (parens_close (expr_at room) (expr_tree e) rest)))

@@ -1,0 +1,13 @@
+pub mod Terminals
+pub mod Grammar
+pub mod Deep
+pub mod Reader
+pub mod Parser
+pub mod Loop
+pub mod Places
+pub mod File
+pub mod Faults
+pub mod Canonical
+pub mod Bare
+pub mod Kept
+pub mod Laws

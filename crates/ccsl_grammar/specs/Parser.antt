@@ -1,0 +1,369 @@
+-- The grammar read from the left, production by production, with the first fault.
+use Rattle.std.specs.Prelude.{ℕ, zero, suc, Bool, true, false, cond, List, [], ◌∷◌, Option, Some, None, is_some, ◌||◌, not, nat_eq}
+use Rattle.ccsl_lex.specs.declared.reserved.Reserved.{Reserved}
+use Rattle.ccsl_lex.specs.declared.reserved.Reserved.TheVariants as w
+use Rattle.ccsl_ast.specs.declared.spot.Spot.{Spot}
+use Rattle.ccsl_ast.specs.declared.term.Sign.{Sign}
+use Rattle.ccsl_ast.specs.declared.term.Sign.TheVariants.{Plus, Minus}
+use Rattle.ccsl_ast.specs.declared.term.Primary.{Primary}
+use Rattle.ccsl_ast.specs.declared.term.Primary.TheVariants as prim
+use Rattle.ccsl_ast.specs.declared.term.Term.{Term}
+use Rattle.ccsl_ast.specs.declared.term.WordTerm.{WordTerm}
+use Rattle.ccsl_ast.specs.declared.term.WordTerm.TheVariants as wterm
+use Rattle.ccsl_ast.specs.declared.term.Test.{Test}
+use Rattle.ccsl_ast.specs.declared.term.Test.TheVariants.{Equal, Less, Head, Ended}
+use Rattle.ccsl_ast.specs.declared.term.Argument.{Argument}
+use Rattle.ccsl_ast.specs.declared.term.Argument.TheVariants as arg
+use Rattle.ccsl_ast.specs.declared.tree.BinaryOp.{BinaryOp}
+use Rattle.ccsl_ast.specs.declared.tree.BinaryOp.TheVariants as op
+use Rattle.ccsl_ast.specs.declared.line.Relation.{Relation}
+use Rattle.ccsl_ast.specs.declared.line.Relation.TheVariants as rel
+use Rattle.ccsl_ast.specs.declared.definition.Kind.{Kind}
+use Rattle.ccsl_ast.specs.declared.definition.Kind.TheVariants as kind
+use Rattle.ccsl_ast.specs.declared.definition.Param.{Param}
+use Rattle.ccsl_ast.specs.Trees.{Expression, EName, ECall, ENever, EBinary, EDelay, EAwait, EFilter, EDelayed, EIf, Line, LDefine, LConstraint, LCall, SLine, SClocks, SLineOf, PlainMember, PlainDefinition, DRelation, DGroup, PlainFile}
+use Rattle.ccsl_grammar.specs.Terminals.{Terminal, word, symbol, name, number, quoted, is_word, is_symbol, is_name, is_quoted}
+use Rattle.ccsl_grammar.specs.Reader.{no_syntax, too_deep, took, stopped, Reader, ◌>>=◌, ◌>>◌, given, accept, choose, many}
+
+-- ---- one terminal
+
+abbrev pub passed : Bool → Option Bool
+passed true = Some true
+passed false = None
+
+unfoldable pub word_at : Reserved → Reader Bool
+word_at w = accept (λ t. passed (is_word w t))
+
+unfoldable pub symbol_at : ℕ → Reader Bool
+symbol_at b = accept (λ t. passed (is_symbol b t))
+
+abbrev pub name_of : Terminal → Option Spot
+name_of (name x) = Some x
+name_of _ = None
+
+unfoldable pub name_at : Reader Spot
+name_at = accept name_of
+
+-- a number's place and value
+abbrev pub num_of : Terminal → Option (ℕ × ℕ)
+num_of (number at n) = Some (at, n)
+num_of _ = None
+
+unfoldable pub num_at : Reader (ℕ × ℕ)
+num_at = accept num_of
+
+-- a quoted text's place and bytes
+abbrev pub quoted_of : Terminal → Option (ℕ × List ℕ)
+quoted_of (quoted at bytes) = Some (at, bytes)
+quoted_of _ = None
+
+unfoldable pub quoted_at : Reader (ℕ × List ℕ)
+quoted_at = accept quoted_of
+
+-- ---- the parts in which no expression stands
+
+-- what follows a comma
+unfoldable pub further_at : {A : Type 0} → Reader A → Reader A
+further_at item = do
+  symbol_at 44
+  item
+
+-- a list with commas that may be empty, and the parenthesis behind it
+unfoldable pub list_at : {A : Type 0} → Reader A → Reader (List A)
+list_at item = choose (is_symbol 41) (do symbol_at 41; given []) (do
+  v ← item
+  vs ← many (is_symbol 44) (further_at item)
+  symbol_at 41
+  given (v ∷ vs))
+
+abbrev pub prim_of : Terminal → Option Primary
+prim_of (name x) = Some (prim.Name x)
+prim_of (number at n) = Some (prim.Num at n)
+prim_of _ = None
+
+unfoldable pub prim_at : Reader Primary
+prim_at = accept prim_of
+
+abbrev pub sign_of : Terminal → Option Sign
+sign_of (symbol b) = cond (is_symbol 43 (symbol b)) (Some Plus) (cond (is_symbol 45 (symbol b)) (Some Minus) None)
+sign_of _ = None
+
+unfoldable pub sign_at : Reader Sign
+sign_at = accept sign_of
+
+abbrev pub is_sign : Terminal → Bool
+is_sign t = is_symbol 43 t || is_symbol 45 t
+
+unfoldable pub signed_at : Reader (Sign × Primary)
+signed_at = do
+  s ← sign_at
+  p ← prim_at
+  given (s, p)
+
+unfoldable pub term_at : Reader Term
+term_at = do
+  p ← prim_at
+  ps ← many is_sign signed_at
+  given (record { first = p; rest = ps })
+
+unfoldable pub wterm_at : Reader WordTerm
+wterm_at =
+    choose is_name (do x ← name_at; given (wterm.Name x))
+    (choose (is_word w.Tail) (do word_at w.Tail; x ← name_at; given (wterm.Tail x))
+    (do q ← quoted_at; given (wterm.Text q.0 q.1)))
+
+-- what stands behind a test's first term
+unfoldable pub comparison_at : Term → Reader Test
+comparison_at a = choose (is_symbol 61) (do symbol_at 61; b ← term_at; given (Equal a b)) (do symbol_at 60; b ← term_at; given (Less a b))
+
+unfoldable pub test_at : Reader Test
+test_at =
+    choose (is_word w.Head) (do word_at w.Head; x ← name_at; given (Head x))
+    (choose (is_word w.Ended) (do word_at w.Ended; x ← name_at; given (Ended x))
+    (do a ← term_at; comparison_at a))
+
+unfoldable pub arg_at : Reader Argument
+arg_at =
+    choose is_quoted (do q ← quoted_at; given (arg.Text q.0 q.1))
+    (choose (is_word w.Tail) (do word_at w.Tail; x ← name_at; given (arg.Tail x))
+    (do t ← term_at; given (arg.Term t)))
+
+abbrev pub kind_of : Terminal → Option Kind
+kind_of (word w.Clock) = Some kind.Clock
+kind_of (word w.Number) = Some kind.Number
+kind_of (word w.Word) = Some kind.Word
+kind_of _ = None
+
+unfoldable pub kind_at : Reader Kind
+kind_at = accept kind_of
+
+unfoldable pub param_at : Reader Param
+param_at = do
+  k ← kind_at
+  x ← name_at
+  given (record { kind = k; name = x })
+
+-- the relations of one word that no other begins
+abbrev pub relop_of : Terminal → Option Relation
+relop_of (word w.Subclock) = Some rel.Subclock
+relop_of (word w.Coincides) = Some rel.Coincides
+relop_of (word w.Excludes) = Some rel.Excludes
+relop_of _ = None
+
+unfoldable pub precedes_at : Reader Relation
+precedes_at = do
+  word_at w.Precedes
+  choose (is_word w.Weakly) (do word_at w.Weakly; given rel.PrecedesWeakly) (given rel.Precedes)
+
+unfoldable pub relop_at : Reader Relation
+relop_at = choose (is_word w.Precedes) precedes_at (accept relop_of)
+
+-- the operators of one word
+abbrev pub binop_of : Terminal → Option BinaryOp
+binop_of (word w.Union) = Some op.Union
+binop_of (word w.Inter) = Some op.Inter
+binop_of (word w.Minus) = Some op.Minus
+binop_of (word w.Inf) = Some op.Inf
+binop_of (word w.Sup) = Some op.Sup
+binop_of (word w.Upto) = Some op.Upto
+binop_of (word w.Then) = Some op.Then
+binop_of _ = None
+
+unfoldable pub sampled_at : Reader BinaryOp
+sampled_at = do
+  word_at w.Sampled
+  choose (is_word w.Weakly) (do word_at w.Weakly; word_at w.On; given op.SampledWeakly) (do word_at w.On; given op.Sampled)
+
+unfoldable pub binop_at : Reader BinaryOp
+binop_at = choose (is_word w.Sampled) sampled_at (accept binop_of)
+
+abbrev pub is_binop : Terminal → Bool
+is_binop t = is_word w.Sampled t || is_some (binop_of t)
+
+-- ---- expressions
+
+-- what stands behind an operand's name
+unfoldable pub named_at : Spot → Reader Expression
+named_at x = choose (is_symbol 40) (do symbol_at 40; args ← list_at arg_at; given (ECall x args)) (given (EName x))
+
+module _ (inner : Reader Expression) where
+  unfoldable pub parens_at : Reader Expression
+  parens_at = do
+    symbol_at 40
+    e ← inner
+    symbol_at 41
+    given e
+
+  unfoldable pub operand_at : Reader Expression
+  operand_at =
+      choose is_name (do x ← name_at; named_at x)
+      (choose (is_word w.Never) (do word_at w.Never; given ENever) parens_at)
+
+  unfoldable pub binary_at : Expression → Reader Expression
+  binary_at a = do
+    op ← binop_at
+    d ← operand_at
+    given (EBinary op a d)
+
+  unfoldable pub delayed_at : Expression → Reader Expression
+  delayed_at a = do
+    word_at w.Delayed
+    n ← num_at
+    word_at w.On
+    d ← operand_at
+    given (EDelayed a n.0 n.1 d)
+
+  -- what stands behind the first operand
+  unfoldable pub rest_at : Expression → Reader Expression
+  rest_at a =
+      choose is_binop (binary_at a)
+      (choose (is_word w.Delay) (do word_at w.Delay; m ← term_at; given (EDelay a m))
+      (choose (is_word w.Await) (do word_at w.Await; m ← term_at; given (EAwait a m))
+      (choose (is_word w.Filter) (do word_at w.Filter; m ← wterm_at; given (EFilter a m))
+      (choose (is_word w.Delayed) (delayed_at a)
+      (given a)))))
+
+  unfoldable pub choice_at : Reader Expression
+  choice_at = do
+    word_at w.If
+    q ← test_at
+    word_at w.Use
+    a ← inner
+    word_at w.Else
+    d ← inner
+    given (EIf q a d)
+
+  unfoldable pub expr_with : Reader Expression
+  expr_with = choose (is_word w.If) choice_at (do a ← operand_at; rest_at a)
+
+abbrev pub is_expr : Terminal → Bool
+is_expr t = is_name t || is_word w.Never t || is_symbol 40 t || is_word w.If t
+
+-- an expression for which there is no level left
+unfoldable pub no_room : Reader Expression
+no_room = choose is_expr (stopped too_deep) (stopped no_syntax)
+
+-- an expression, where so many levels are left
+unfoldable pub expr_at : ℕ → Reader Expression
+expr_at zero = no_room
+expr_at (suc room) = expr_with (expr_at room)
+
+-- ---- lines
+
+unfoldable pub define_at : ℕ → Reader Line
+define_at room = do
+  word_at w.Define
+  x ← name_at
+  symbol_at 61
+  e ← expr_at room
+  symbol_at 59
+  given (LDefine x e)
+
+unfoldable pub call_at : Spot → Reader Line
+call_at x = do
+  symbol_at 40
+  args ← list_at arg_at
+  symbol_at 59
+  given (LCall x args)
+
+unfoldable pub constraint_at : Spot → Reader Line
+constraint_at a = do
+  r ← relop_at
+  b ← name_at
+  symbol_at 59
+  given (LConstraint a r b)
+
+unfoldable pub rline_at : ℕ → Reader Line
+rline_at room = choose (is_word w.Define) (define_at room) (do
+  x ← name_at
+  choose (is_symbol 40) (call_at x) (constraint_at x))
+
+unfoldable pub clocks_at : Reader SLine
+clocks_at = do
+  word_at w.Clock
+  x ← name_at
+  xs ← many (is_symbol 44) (further_at name_at)
+  symbol_at 59
+  given (SClocks (x ∷ xs))
+
+unfoldable pub sline_at : ℕ → Reader SLine
+sline_at room = choose (is_word w.Clock) clocks_at (do l ← rline_at room; given (SLineOf l))
+
+abbrev pub no_brace : Terminal → Bool
+no_brace t = not (is_symbol 125 t)
+
+-- ---- definitions
+
+unfoldable pub relation_at : ℕ → Reader PlainDefinition
+relation_at room = do
+  word_at w.Relation
+  x ← name_at
+  symbol_at 40
+  params ← list_at param_at
+  symbol_at 123
+  l ← rline_at room
+  ls ← many no_brace (rline_at room)
+  symbol_at 125
+  given (DRelation x params (l ∷ ls))
+
+unfoldable pub member_at : ℕ → Reader PlainMember
+member_at room = do
+  x ← name_at
+  symbol_at 40
+  params ← list_at param_at
+  symbol_at 61
+  e ← expr_at room
+  given (record { name = x; params = params; body = e })
+
+unfoldable pub further_member_at : ℕ → Reader PlainMember
+further_member_at room = do
+  word_at w.And
+  member_at room
+
+unfoldable pub group_at : ℕ → Reader PlainDefinition
+group_at room = do
+  word_at w.Expression
+  m ← member_at room
+  ms ← many (is_word w.And) (further_member_at room)
+  symbol_at 59
+  given (DGroup (m ∷ ms))
+
+unfoldable pub definition_at : ℕ → Reader PlainDefinition
+definition_at room = choose (is_word w.Relation) (relation_at room) (group_at room)
+
+abbrev pub is_definition : Terminal → Bool
+is_definition t = is_word w.Relation t || is_word w.Expression t
+
+-- ---- files
+
+-- the place of a number whose value is 1
+abbrev pub one_of : Terminal → Option ℕ
+one_of (number at n) = cond (nat_eq n 1) (Some at) None
+one_of _ = None
+
+unfoldable pub version_at : Reader ℕ
+version_at = do
+  word_at w.Ccsl
+  at ← accept one_of
+  symbol_at 59
+  given at
+
+unfoldable pub system_at : ℕ → Reader (List SLine)
+system_at room = do
+  word_at w.System
+  symbol_at 123
+  ls ← many no_brace (sline_at room)
+  symbol_at 125
+  given ls
+
+-- nothing may follow
+abbrev pub ends : {A : Type 0} → A → Reader A
+ends v [] = took v []
+ends v (t ∷ ts) = stopped no_syntax (t ∷ ts)
+
+unfoldable pub file_at : ℕ → Reader PlainFile
+file_at room = do
+  version_at
+  ds ← many is_definition (definition_at room)
+  ls ← system_at room
+  ends (record { version = 1; definitions = ds; lines = ls })
