@@ -11,5 +11,7 @@ mod list;
 mod page;
 mod printer;
 mod term;
+#[cfg(test)]
+mod tests;
 
 pub use printer::print;
