@@ -1,0 +1,7 @@
+pub mod Steps
+pub mod Turns
+pub mod Height
+pub mod PageText
+pub mod Pieces
+pub mod Cut
+pub mod ReadBack

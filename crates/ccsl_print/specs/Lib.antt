@@ -1,0 +1,3 @@
+pub mod CanonicalText
+pub mod Pages
+pub mod ReadsBack

@@ -1,0 +1,17 @@
+//! The printer of specifications: the canonical text of a file.
+#![tactic(auto)]
+
+mod definition;
+mod edge;
+mod expression;
+pub mod laws;
+mod line;
+mod lines;
+mod list;
+mod page;
+mod printer;
+mod term;
+#[cfg(test)]
+mod tests;
+
+pub use printer::print;

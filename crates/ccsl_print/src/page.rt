@@ -1,0 +1,158 @@
+//! The page that the printer writes on, token by token.
+
+ghost use Rattle.std.specs.Prelude.{◌≡◌, ◌<◌, ◌++◌, OnOk, string_bytes};
+ghost use Rattle.std.specs.Fmt.{decimal};
+ghost use Rattle.std.specs.Str.{IsUtf8};
+
+use crate::edge::Edge;
+use ccsl_ast::Spot;
+use ccsl_base::{Memory, Text};
+use ccsl_lex::Reserved;
+use std::alloc::Global;
+use std::marker::Model;
+
+/// The text so far, and what its last line ends with.
+#[derive(Drop)]
+pub struct Page {
+    text: Vec<u8>,
+    edge: Edge,
+}
+
+impl Model for Page {
+    ghost use Rattle.ccsl_print.specs.Pages.{PlainPage};
+
+    ghost Value = { PlainPage };
+
+    ghost view = { λ p. record { text = p.text.items; edge = p.edge } };
+}
+
+/// Writes the digits of a number, without leading zeros.
+#[tactic(auto, using(std::proofs::lemmas::Fmt::decimal_digit))]
+fn put_digits(text: &mut Vec<u8>, number: u32) -> Result<(), Memory>
+    ensures { OnOk result (text.new.items ≡ text.old.items ++ decimal number) }
+{
+    if number < 10 {
+        text.push(b'0' + number as u8)?;
+        Ok(())
+    } else {
+        put_digits(text, number / 10)?;
+        text.push(b'0' + (number % 10) as u8)?;
+        Ok(())
+    }
+}
+
+impl Page {
+    ghost use Rattle.ccsl_grammar.specs.Terminals as t;
+    ghost use Rattle.ccsl_print.specs.Pages.{PlainPage, empty_page, blank_if, step, begun, ended};
+
+    pub fn new(alloc: Global) -> Page
+        ensures { result ≡ empty_page }
+    {
+        Page {
+            text: Vec::new(alloc),
+            edge: Edge::Start,
+        }
+    }
+
+    /// The text as it stands.
+    pub fn into_text(self) -> String
+        requires { IsUtf8 self.text }
+        ensures { string_bytes result ≡ self.text }
+    {
+        let Page { text, edge: _ } = self;
+        match String::from_utf8(text) {
+            Ok(text) => text,
+            Err(_) => unreachable!(),
+        }
+    }
+
+    fn begin_token(&mut self, parted: bool, edge: Edge) -> Result<(), Memory>
+        ensures { OnOk result (self.new ≡ record { text = self.old.text ++ blank_if parted; edge = edge }) }
+    {
+        if parted {
+            self.text.push(b' ')?;
+        }
+        self.edge = edge;
+        Ok(())
+    }
+
+    fn put(&mut self, parted: bool, edge: Edge, token: &[u8]) -> Result<(), Memory>
+        ensures { OnOk result (self.new ≡ record { text = self.old.text ++ (blank_if parted ++ token.now); edge = edge }) }
+    {
+        self.begin_token(parted, edge)?;
+        self.text.extend_from_slice(token)?;
+        Ok(())
+    }
+
+    #[tactic(auto, unfolding(crate::specs::Pages::step))]
+    pub fn word(&mut self, word: Reserved) -> Result<(), Memory>
+        ensures { OnOk result (self.new ≡ step self.old (t.word word)) }
+    {
+        let parted = self.edge.is_parted();
+        self.put(parted, Edge::Other, word.spelling())
+    }
+
+    #[tactic(auto, unfolding(crate::specs::Pages::step))]
+    pub fn symbol(&mut self, symbol: u8) -> Result<(), Memory>
+        ensures { OnOk result (self.new ≡ step self.old (t.symbol symbol)) }
+    {
+        let parted = self.edge.is_parted_symbol(symbol);
+        self.put(parted, Edge::behind(symbol), &[symbol])
+    }
+
+    #[tactic(auto, unfolding(crate::specs::Pages::step))]
+    pub fn name(&mut self, name: &Spot) -> Result<(), Memory>
+        ensures { OnOk result (self.new ≡ step self.old (t.name name.now)) }
+    {
+        let parted = self.edge.is_parted();
+        self.put(parted, Edge::Named, name.name.bytes())
+    }
+
+    #[tactic(auto, unfolding(crate::specs::Pages::step))]
+    pub fn number(&mut self, number: u32) -> Result<(), Memory>
+        ensures { OnOk result (self.new ≡ step self.old (t.number 0 number)) }
+    {
+        let parted = self.edge.is_parted();
+        self.begin_token(parted, Edge::Other)?;
+        put_digits(&mut self.text, number)
+    }
+
+    #[tactic(auto, unfolding(crate::specs::Pages::step))]
+    pub fn quoted(&mut self, bytes: &Text) -> Result<(), Memory>
+        ensures { OnOk result (self.new ≡ step self.old (t.quoted 0 bytes.now)) }
+    {
+        let parted = self.edge.is_parted();
+        self.put(parted, Edge::Other, b"\"")?;
+        self.text.extend_from_slice(bytes.bytes())?;
+        self.text.push(b'"')?;
+        Ok(())
+    }
+
+    /// Begins a line, with two blanks where it stands in a body.
+    #[tactic(auto, unfolding(crate::specs::Pages::begun))]
+    pub fn begin_line(&mut self, inside: bool) -> Result<(), Memory>
+        ensures { OnOk result (self.new ≡ begun self.old inside) }
+    {
+        if inside {
+            self.text.extend_from_slice(b"  ")?;
+        }
+        self.edge = Edge::Start;
+        Ok(())
+    }
+
+    #[tactic(auto, unfolding(crate::specs::Pages::ended))]
+    pub fn end_line(&mut self) -> Result<(), Memory>
+        ensures { OnOk result (self.new ≡ ended self.old) }
+    {
+        self.text.push(b'\n')?;
+        self.edge = Edge::Start;
+        Ok(())
+    }
+}
+
+#[cfg(test)]
+impl Page {
+    pub fn bytes(&self) -> &[u8] {
+        self.text.as_slice()
+    }
+}
