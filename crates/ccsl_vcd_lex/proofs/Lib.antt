@@ -7,3 +7,4 @@ pub mod Told
 pub mod Pieces
 pub mod Further
 pub mod Longest
+pub mod Rooms

@@ -1,12 +1,12 @@
 -- What a tokenizer stands for, step by step. A step takes some bytes that are not white, or some white space.
-use Rattle.std.proofs.Common.{◌≡◌, ℕ, ◌+◌, ◌≤◌, ◌<◌, List, [], ◌∷◌, ◌++◌, length, Bool, true, false, Some, None, nat_lt, refl, sym, ap, ◌∙◌, append_assoc, arith, length-append, filter, zero-add, subst}
+use Rattle.std.proofs.Common.{◌≡◌, ℕ, ◌+◌, ◌≤◌, ◌<◌, List, [], ◌∷◌, ◌++◌, length, Bool, true, false, Some, None, nat_lt, refl, sym, ap, ◌∙◌, append_assoc, arith, length-append, filter, zero-add}
 use Rattle.std.proofs.lemmas.List.{append-nil}
 use Rattle.std.proofs.lemmas.Grind.{common_steps}
 use Rattle.std.proofs.lemmas.Bool.{lt-ltb}
 use Rattle.ccsl_vcd_lex.specs.Tokens.{Token, token, run, tokens_from, tokens, closed, is_long, first_long}
 use Rattle.ccsl_vcd_lex.specs.Runs.{fresh_after}
 use Rattle.ccsl_vcd_lex.specs.Lexing.{Dark, Lexing, StandsFor, GoesOn}
-use Rattle.ccsl_vcd_lex.proofs.Cuts.{White, one, fresh-behind, run-dark, tokens-cut, tokens-parts, closed-parts, dark-append, long-append, one-token-more, from-behind}
+use Rattle.ccsl_vcd_lex.proofs.Cuts.{White, one, fresh-behind, tokens-cut, tokens-parts, closed-parts, dark-append, long-append, one-token-more, from-behind}
 
 -- the bytes that a tokenizer stands for, while no token was too long
 pub parts : (v : Lexing) (bytes : List ℕ) (s : StandsFor v bytes) → v.failed ≡ false → bytes ≡ s.before ++ v.open_text

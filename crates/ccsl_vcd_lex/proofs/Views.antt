@@ -1,7 +1,7 @@
 -- The changes of a tokenizer's fields as steps.
 use Rattle.std.proofs.Common.{◌≡◌, ℕ, ◌+◌, ◌≤◌, ◌<◌, List, [], ◌∷◌, ◌++◌, length, take, Bool, true, false, refl, sym, ap, ◌∙◌, arith}
 use Rattle.std.proofs.lemmas.List.{length-take-le}
-use Rattle.ccsl_vcd_lex.specs.Tokens.{is_white, token, Heard, word}
+use Rattle.ccsl_vcd_lex.specs.Tokens.{is_white, token, word}
 use Rattle.ccsl_vcd_lex.specs.Lexing.{Dark, Lexing}
 use Rattle.ccsl_vcd_lex.proofs.Cuts.{White}
 use Rattle.ccsl_vcd_lex.proofs.Steps.{Grows, Ends, Breaks}

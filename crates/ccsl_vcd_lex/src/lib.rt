@@ -8,3 +8,6 @@ pub mod tokenizer;
 
 pub use span::{Fed, Span, TokenTooLong};
 pub use tokenizer::Tokenizer;
+
+#[cfg(test)]
+mod tests;

@@ -1,6 +1,6 @@
-//! A tokenizer that takes the bytes of a file one by one.
+//! The tokenizer, fed byte by byte or piece by piece.
 
-ghost use Rattle.std.specs.Prelude.{◌≡◌, ℕ, List, [], ◌∷◌, ◌++◌, length, take, ◌+◌, ◌-◌, ◌<◌, ◌≤◌, ◌^◌, IsSome, OnSome, IfOk, IfErr, slice_range, Some, None, true, vec_len};
+ghost use Rattle.std.specs.Prelude.{◌≡◌, ℕ, List, [], ◌∷◌, ◌++◌, length, take, ◌+◌, ◌-◌, ◌<◌, ◌≤◌, ◌^◌, IsSome, OnSome, IfNone, IfOk, IfErr, MatchResult, slice_range, Some, None, true, vec_len};
 ghost use Rattle.std.specs.List.{prefix_len};
 ghost use Rattle.ccsl_vcd_lex.specs.Tokens.{is_white, tokens, heard, settled, first_long, too_long};
 ghost use Rattle.ccsl_vcd_lex.specs.Lexing.{StandsFor, BreaksWithin, named, Spans};
@@ -164,6 +164,8 @@ impl Tokenizer {
         ensures settled { IfOk result (λ found. (bytes : List ℕ) → StandsFor self.old bytes →
             settled (bytes ++ byte ∷ []) ≡ settled bytes ++ named found self.new.last) }
         ensures span { IfOk result (λ found. Spans found self.new.last) }
+        ensures keeps { MatchResult result (λ found. IfNone found (self.new.last ≡ self.old.last))
+            (λ _. self.new.last ≡ self.old.last) }
         ensures short { IfOk result (λ _. (bytes : List ℕ) → StandsFor self.old bytes →
             first_long (tokens (bytes ++ byte ∷ [])) ≡ None) }
 
@@ -205,6 +207,8 @@ impl Tokenizer {
         ensures by_last { IfOk result (λ fed. OnSome fed.ended ((bytes : List ℕ) → StandsFor self.old bytes →
             settled (bytes ++ take (fed.bytes - 1) piece.now) ≡ settled bytes)) }
         ensures span { IfOk result (λ fed. Spans fed.ended self.new.last) }
+        ensures keeps { MatchResult result (λ fed. IfNone fed.ended (self.new.last ≡ self.old.last))
+            (λ _. self.new.last ≡ self.old.last) }
         ensures short { IfOk result (λ fed. (bytes : List ℕ) → StandsFor self.old bytes →
             first_long (tokens (bytes ++ take fed.bytes piece.now)) ≡ None) }
 
@@ -243,6 +247,7 @@ impl Tokenizer {
         ensures all { (bytes : List ℕ) → StandsFor self.old bytes →
             heard bytes ≡ settled bytes ++ named result self.new.last }
         ensures span { Spans result self.new.last }
+        ensures keeps { IfNone result (self.new.last ≡ self.old.last) }
     {
         if self.current_len == 0 {
             return None;

@@ -1,4 +1,4 @@
-use Rattle.std.proofs.Common.{◌≡◌, ℕ, ◌+◌, ◌<◌, ◌≤◌, [], ◌∷◌, length, Some, None, true, false, arith, sym, ap, ◌∙◌, subst}
+use Rattle.std.proofs.Common.{◌≡◌, ℕ, ◌+◌, ◌<◌, ◌≤◌, [], ◌∷◌, length, Some, true, false, refl, arith, sym, ap, ◌∙◌, subst}
 use Rattle.ccsl_vcd_lex.specs.Lexing.{Lexing}
 use Rattle.ccsl_vcd_lex.proofs.Steps.{long-now}
 use Rattle.ccsl_vcd_lex.proofs.Views.{seen, nothing-open, pushed, skipped, ended, refused, same-word}
@@ -16,6 +16,7 @@ returns-then-self c =
       stands = r.stands;
       settled = tt;
       span = tt;
+      keeps = refl;
       short = tt;
       long = r.long;
       broke = r.broke;
@@ -34,6 +35,7 @@ returns-then-self-eq0 c =
       stands = r.stands;
       settled = r.settles;
       span = tt;
+      keeps = ap (λ (v : Lexing). v.last) c.skip.ensures;
       short = r.short;
       long = tt;
       broke = tt;
@@ -56,6 +58,7 @@ returns-then-is_space c =
       stands = r.stands;
       settled = r.settles;
       span = (ap (λ s. s.len) c.end_token.ensures.span ∙ ap length (sym last), rw last fits);
+      keeps = tt;
       short = r.short;
       long = tt;
       broke = tt;
@@ -76,6 +79,7 @@ returns-then-self-eq-MAX_TOKEN c =
       stands = r.stands;
       settled = tt;
       span = tt;
+      keeps = ap (λ (v : Lexing). v.last) c.refuse.ensures.after;
       short = tt;
       long = r.long;
       broke = r.broke;
@@ -95,6 +99,7 @@ returns c =
       stands = r.stands;
       settled = r.settles;
       span = tt;
+      keeps = ap (λ (v : Lexing). v.last) c.push.ensures;
       short = r.short;
       long = tt;
       broke = tt;

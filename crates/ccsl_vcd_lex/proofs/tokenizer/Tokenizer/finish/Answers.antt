@@ -1,4 +1,4 @@
-use Rattle.std.proofs.Common.{◌≡◌, ◌++◌, ◌<◌, length, false, arith, sym, ap, ◌∙◌}
+use Rattle.std.proofs.Common.{◌++◌, ◌<◌, length, arith, ap, ◌∙◌}
 use Rattle.ccsl_vcd_lex.specs.Tokens.{settled}
 use Rattle.ccsl_vcd_lex.specs.Lexing.{Lexing}
 use Rattle.ccsl_vcd_lex.proofs.Steps.{runs}
