@@ -1,5 +1,5 @@
 -- Members that are read one after another.
-use Rattle.std.proofs.Common.{◌≡◌, List, [], ◌∷◌, ◌++◌, Option, Some, None, Ok, Err, refl, sym, ap, append_assoc, append-nil}
+use Rattle.std.proofs.Common.{◌≡◌, List, [], ◌∷◌, ◌++◌, Some, Ok, Err, refl, sym, ap, append_assoc, append-nil}
 use Rattle.std.specs.declared.result.Result.{Result}
 use Rattle.ccsl_refute.specs.declared.fault.CertFault.{CertFault}
 use Rattle.ccsl_refute.specs.declared.fault.CertFault.TheVariants.{Syntax, UnknownName, Memory}

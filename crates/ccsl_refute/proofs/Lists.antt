@@ -1,20 +1,6 @@
 -- Lists that are read from the left, element by element.
-use Rattle.std.proofs.Common.{◌≡◌, ◌≢◌, ◌⊎◌, ℕ, zero, suc, ◌<◌, ◌≤◌, List, [], ◌∷◌, ◌++◌, length, map, drop, get_or, Bool, true, false, cond, not, ◌&&◌, ◌||◌, Option, Some, None, nat_eq, nat_lt, refl, sym, ap, ◌∙◌, ⊎_elim, inl, inr, subst, arith, slice_get, length-drop, ◌-◌, le_trans, take, ◌+◌, ap₂}
+use Rattle.std.proofs.Common.{◌≡◌, ◌⊎◌, ℕ, zero, suc, ◌<◌, List, [], ◌∷◌, ◌++◌, length, drop, get_or, Some, sym, ap, ◌∙◌, inl, inr, slice_get, take}
 use Rattle.std.proofs.Math.Seq.{drop-cons, take-suc}
-use Rattle.std.proofs.lemmas.List.{take_all, drop_all}
-use Rattle.std.proofs.lemmas.Bool.{cases_eq, eq-eqb, ne_eqb, eqb-false, lt-ltb, le-ltb, ltb-true}
-use Rattle.ccsl_formula.specs.declared.truth3.Truth3.{Truth3}
-use Rattle.ccsl_formula.specs.declared.truth3.Truth3.TheVariants.{Yes, No, Open}
-use Rattle.ccsl_formula.specs.Truth.{known_as, not3, is_open, Part}
-use Rattle.ccsl_formula.specs.Known.{with_value}
-use Rattle.ccsl_refute.specs.declared.line.Lit.{Lit}
-use Rattle.ccsl_refute.specs.declared.line.Line.{Line}
-use Rattle.ccsl_refute.specs.Literals.{falsified, is_no, lit_value, all_false, unit, names, are_proper, positives}
-use Rattle.ccsl_refute.specs.declared.line.Line.TheVariants.{Nonempty, Item, Derived}
-use Rattle.ccsl_refute.specs.Validity.{clause, line_at, fails_at, unit_at, closes, fails_line, unit_line, ends_empty, is_empty, is_valid, bad_from, first_bad_line}
-use Rattle.ccsl_formula.specs.declared.scope.Scope.{Scope}
-use Rattle.ccsl_refute.specs.Below.{AreBelow, ClausesBelow}
-use Rattle.ccsl_formula.specs.Formula.{Formula}
 
 pub drop-read : {A : Type 0} (xs : List A) (i k : ℕ) (d : A) → i < length xs → k ≡ suc i → drop i xs ≡ get_or xs i d ∷ drop k xs
 drop-read xs i k d l e = rw e (drop-cons xs i d l)

@@ -1,9 +1,8 @@
 -- What is written reads back.
-use Rattle.std.proofs.Common.{◌≡◌, ◌≢◌, ◌⊎◌, ℕ, zero, suc, ◌+◌, ◌-◌, ◌<◌, ◌≤◌, ◌^◌, List, [], ◌∷◌, ◌++◌, length, map, get_or, cond, Bool, true, false, not, ◌&&◌, ◌||◌, Option, Some, None, Ok, Err, nat_eq, nat_lt, nat_le, codes, decimal, refl, sym, ap, ap₂, ◌∙◌, ⊎_elim, subst, slice_get, unwrap_or, arith, append_assoc, append-nil}
-use Rattle.std.specs.List.{All, list_all, list_any, position_or_len, slice_split, slice_index_or}
+use Rattle.std.proofs.Common.{◌≡◌, ℕ, zero, suc, ◌+◌, ◌<◌, ◌^◌, List, [], ◌∷◌, ◌++◌, length, map, get_or, cond, Bool, true, false, not, ◌&&◌, ◌||◌, Some, None, Ok, nat_eq, nat_lt, codes, decimal, refl, sym, ap, ap₂, ◌∙◌, subst, slice_get, arith, append_assoc, append-nil}
+use Rattle.std.specs.List.{All, list_all, position_or_len, slice_split}
 use Rattle.std.specs.Str.{bytes_eq}
 use Rattle.std.specs.Str.Parse.{AllDigits, IsNumeral, digits_value}
-use Rattle.std.specs.Str.Lines.{strip_carriage_return}
 use Rattle.std.proofs.lemmas.Bool.{lt-ltb, le-leb, and_parts, not-true, or_right}
 use Rattle.std.proofs.lemmas.Fmt.{decimal_is_IsNumeral}
 use Rattle.std.proofs.lemmas.Str.Parse.{digit_from_value}
@@ -19,8 +18,8 @@ use Rattle.ccsl_refute.specs.declared.line.Line.{Line}
 use Rattle.ccsl_refute.specs.declared.line.Line.TheVariants.{Nonempty, Item, Derived}
 use Rattle.ccsl_refute.specs.Below.{AreBelow}
 use Rattle.ccsl_refute.specs.CertNames.{is_visible, is_cert_name, are_cert_names, AllBelow, NumbersFit}
-use Rattle.ccsl_refute.specs.Text.{Piece, placed, is_line_feed, without_returns, lines_from, tokens}
-use Rattle.ccsl_refute.specs.Reading.{are_digits, number_below, literal_of, literal, read_first, read_literals, read_numbers, is_from, before_from, after_from, read_hints, item_line, derived_line, read_item, read_derived, read_tokens, read_more, read_line, read_lines, reading}
+use Rattle.ccsl_refute.specs.Text.{placed, is_line_feed, without_returns, lines_from, tokens}
+use Rattle.ccsl_refute.specs.Reading.{number_below, literal_of, literal, read_first, read_literals, read_numbers, before_from, after_from, read_hints, item_line, derived_line, read_tokens, read_more, read_line, read_lines}
 use Rattle.ccsl_refute.specs.Writing.{spaced, name_of, literal_text, line_text, lines_text, literals}
 use Rattle.ccsl_refute.proofs.Cases.{by_cases}
 use Rattle.ccsl_refute.proofs.Lines.{followed}

@@ -1,5 +1,5 @@
 -- Valid lines hold of all values that satisfy the formulas.
-use Rattle.std.proofs.Common.{◌≡◌, ◌⊎◌, ℕ, zero, suc, ◌<◌, ◌≤◌, List, [], ◌∷◌, ◌++◌, length, Bool, true, false, not, ◌&&◌, ◌||◌, cond, Option, Some, None, nat_eq, refl, sym, ap, ◌∙◌, ⊎_elim, inl, inr, subst, arith, slice_get, append_assoc, append-nil}
+use Rattle.std.proofs.Common.{◌≡◌, ℕ, zero, suc, ◌<◌, List, [], ◌∷◌, ◌++◌, length, Bool, true, false, not, ◌&&◌, ◌||◌, cond, Some, None, refl, sym, ap, ◌∙◌, ⊎_elim, inl, inr, subst, arith, slice_get, append_assoc, append-nil}
 use Rattle.std.proofs.lemmas.Bool.{cases_eq, and_parts, or_parts, cases_Bool}
 use Rattle.std.proofs.lemmas.Bool.Decides.{eqb_tells}
 use Rattle.ccsl_formula.specs.declared.truth3.Truth3.{Truth3}
@@ -7,15 +7,15 @@ use Rattle.ccsl_formula.specs.declared.truth3.Truth3.TheVariants.{Yes, No, Open}
 use Rattle.ccsl_formula.specs.declared.scope.Scope.{Scope}
 use Rattle.ccsl_formula.specs.Truth.{known_as, not3, Part, Assignment, Agrees, Fits}
 use Rattle.ccsl_formula.specs.Known.{with_value}
-use Rattle.ccsl_formula.specs.Formula.{Formula, truth, kleene, same, in_set}
+use Rattle.ccsl_formula.specs.Formula.{Formula, truth, kleene, same}
 use Rattle.ccsl_formula.proofs.Kleene.{no_false}
 use Rattle.ccsl_formula.proofs.Tables.{not-fits}
 use Rattle.ccsl_refute.specs.declared.line.Lit.{Lit}
-use Rattle.ccsl_refute.specs.Literals.{falsified, is_no, lit_value, all_false, unit, names, are_proper, positives}
+use Rattle.ccsl_refute.specs.Literals.{falsified, is_no, lit_value, all_false, unit, are_proper, positives}
 use Rattle.ccsl_refute.specs.declared.line.Line.{Line}
 use Rattle.ccsl_refute.specs.declared.line.Line.TheVariants.{Nonempty, Item, Derived}
-use Rattle.ccsl_refute.specs.Validity.{clause, line_at, fails_at, unit_at, fails_line, unit_line, closes, is_refuted, refutes_item, is_valid, is_empty, ends_empty, bad_from, first_bad_line, valid_from, are_valid}
-use Rattle.ccsl_refute.specs.Meaning.{holds, AllTrue, Solves, ClausesHold, Blocks}
+use Rattle.ccsl_refute.specs.Validity.{clause, fails_at, unit_at, fails_line, unit_line, closes, is_refuted, is_valid, is_empty, ends_empty, bad_from, first_bad_line, valid_from, are_valid}
+use Rattle.ccsl_refute.specs.Meaning.{holds, AllTrue, Solves, ClausesHold}
 use Rattle.ccsl_refute.proofs.Cases.{not_both}
 use Rattle.ccsl_refute.proofs.Lists.{snoc-get}
 

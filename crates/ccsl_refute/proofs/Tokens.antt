@@ -1,10 +1,10 @@
 -- The tokens of a line, one after another.
-use Rattle.std.proofs.Common.{◌≡◌, ℕ, zero, suc, ◌+◌, ◌-◌, ◌<◌, ◌≤◌, List, [], ◌∷◌, length, take, drop, filter, get_or, Bool, true, false, not, cond, refl, sym, ap, ap₂, ◌∙◌, subst, ⊎_elim, arith, add-zero, length-take, length-drop}
+use Rattle.std.proofs.Common.{◌≡◌, ℕ, suc, ◌+◌, ◌-◌, ◌<◌, ◌≤◌, List, [], ◌∷◌, length, take, drop, filter, get_or, Bool, true, false, not, cond, refl, sym, ap, ap₂, ◌∙◌, ⊎_elim, arith, add-zero, length-take, length-drop}
 use Rattle.std.specs.List.{slice_split, onto_first, prefix_len, position_or_len}
 use Rattle.std.proofs.Math.Seq.{drop-cons}
 use Rattle.std.proofs.lemmas.Bool.{cases_lt}
 use Rattle.std.proofs.lemmas.List.{take_all, drop_all}
-use Rattle.std.proofs.lemmas.List.Sums.{fails_before_first, passes_at_first}
+use Rattle.std.proofs.lemmas.List.Sums.{passes_at_first}
 use Rattle.std.proofs.lemmas.List.Splits.{slice_split_first, slice_split-cons_yes, slice_split-cons_no}
 use Rattle.ccsl_refute.proofs.Cases.{by_cases}
 use Rattle.ccsl_refute.specs.Text.{Piece, placed, is_blank, has_bytes, tokens}

@@ -1,11 +1,11 @@
 -- Words of visible bytes with blanks between them are the tokens of their line.
-use Rattle.std.proofs.Common.{◌≡◌, ◌≢◌, ℕ, zero, suc, ◌+◌, ◌-◌, ◌<◌, ◌≤◌, List, [], ◌∷◌, ◌++◌, length, take, filter, cond, Bool, true, false, not, ◌&&◌, ◌||◌, nat_eq, nat_le, refl, sym, ap, ap₂, ◌∙◌, arith, append-nil, get_or}
-use Rattle.std.specs.List.{All, list_all, slice_split, slice_index_or}
+use Rattle.std.proofs.Common.{◌≡◌, ℕ, zero, suc, ◌+◌, ◌-◌, ◌<◌, ◌≤◌, List, [], ◌∷◌, ◌++◌, length, take, filter, cond, Bool, true, false, not, ◌&&◌, ◌||◌, nat_eq, nat_le, refl, ap, ap₂, ◌∙◌, arith, append-nil, get_or}
+use Rattle.std.specs.List.{All, list_all, slice_split}
 use Rattle.std.specs.Str.Lines.{strip_carriage_return}
 use Rattle.std.proofs.lemmas.Bool.{ne_eqb, leb-true, and_parts, not-true}
 use Rattle.std.proofs.lemmas.List.Splits.{slice_split_none, slice_split_at}
 use Rattle.ccsl_refute.specs.CertNames.{is_visible}
-use Rattle.ccsl_refute.specs.Text.{Piece, placed, is_blank, is_line_feed, has_bytes, tokens}
+use Rattle.ccsl_refute.specs.Text.{placed, is_blank, is_line_feed, has_bytes, tokens}
 use Rattle.ccsl_refute.specs.Writing.{spaced}
 
 -- a word: not empty, and of visible bytes

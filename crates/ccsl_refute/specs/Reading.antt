@@ -2,7 +2,7 @@
 --   n                   Nonempty
 --   i K LITS            Item K LITS
 --   r LITS from J ..    Derived LITS J ..
-use Rattle.std.specs.Prelude.{ℕ, ◌+◌, ◌^◌, ◌≡◌, List, [], ◌∷◌, ◌++◌, Bool, true, false, not, ◌&&◌, Option, Some, None, Ok, Err, if◌then◌else◌, nat_eq, nat_lt, length, codes}
+use Rattle.std.specs.Prelude.{ℕ, ◌+◌, ◌^◌, List, [], ◌∷◌, Bool, true, false, ◌&&◌, Option, Some, None, Ok, Err, if◌then◌else◌, nat_eq, nat_lt, length, codes}
 use Rattle.std.specs.declared.result.Result.{Result}
 use Rattle.std.specs.List.{list_all}
 use Rattle.std.specs.Str.{bytes_eq}

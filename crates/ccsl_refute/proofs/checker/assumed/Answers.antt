@@ -1,9 +1,6 @@
-use Rattle.std.proofs.Common.{◌≡◌, ◌<◌, ◌≤◌, ◌-◌, ℕ, zero, suc, true, false, length, drop, get_or, map, Some, None, sym, ap, ◌∙◌, refl, arith, rules}
-use Rattle.ccsl_formula.specs.Known.{known, with_value}
+use Rattle.std.proofs.Common.{◌≡◌, ◌<◌, ◌-◌, suc, false, length, sym, ap, ◌∙◌, arith}
+use Rattle.ccsl_formula.specs.Known.{known}
 use Rattle.ccsl_formula.specs.Truth.{is_open}
-use Rattle.ccsl_formula.specs.declared.truth3.Truth3.TheVariants.{Yes, No, Open}
-use Rattle.ccsl_refute.specs.Literals.{falsified, are_proper, names, all_false, unit}
-use Rattle.ccsl_refute.specs.Validity.{clause, closes, fails_at, unit_at, line_at}
 use Rattle.ccsl_refute.proofs.Proper.{proper-at, falsified-at, improper-large, improper-twice}
 use Rattle.ccsl_refute.proofs.checker.assumed.Goals as goal
 

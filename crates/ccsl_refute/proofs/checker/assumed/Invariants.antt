@@ -1,4 +1,4 @@
-use Rattle.std.proofs.Common.{◌≡◌, ◌≤◌, ℕ, true, length, drop}
+use Rattle.std.proofs.Common.{◌≡◌, ◌≤◌, true, length, drop}
 use Rattle.ccsl_formula.specs.Known.{known}
 use Rattle.ccsl_refute.specs.Literals.{are_proper, falsified}
 use Rattle.ccsl_refute.proofs.checker.assumed.Given as goal

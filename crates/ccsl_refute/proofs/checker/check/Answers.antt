@@ -1,12 +1,7 @@
-use Rattle.std.proofs.Common.{◌≡◌, ◌<◌, ◌≤◌, ◌-◌, ◌+◌, ◌++◌, ◌∷◌, [], ℕ, List, zero, suc, true, false, Bool, ◌&&◌, cond, length, drop, take, get_or, map, Some, None, sym, ap, ap₂, subst, ◌∙◌, refl, arith, rules, nat_eq}
-use Rattle.std.proofs.lemmas.List.{length-map}
-use Rattle.ccsl_formula.specs.Known.{known, with_value}
-use Rattle.ccsl_formula.specs.Truth.{Part}
+use Rattle.std.proofs.Common.{◌≡◌, ◌+◌, List, true, drop, take, map, sym, ap, subst, ◌∙◌, arith}
 use Rattle.ccsl_formula.specs.Plain.{plain}
 use Rattle.ccsl_refute.specs.declared.line.Line.{Line}
-use Rattle.ccsl_refute.specs.declared.line.Lit.{Lit}
-use Rattle.ccsl_refute.specs.Literals.{falsified, are_proper, names, all_false, unit, is_no}
-use Rattle.ccsl_refute.specs.Validity.{clause, closes, fails_at, unit_at, line_at, is_refuted, is_empty, ends_empty, is_valid, bad_from, first_bad_line}
+use Rattle.ccsl_refute.specs.Validity.{is_valid, bad_from}
 use Rattle.ccsl_refute.proofs.Lists.{drop-at, take-at}
 use Rattle.ccsl_refute.proofs.Checking.{bad-step, bad-end}
 use Rattle.ccsl_refute.proofs.Bounds.{below-snoc, valid-below}

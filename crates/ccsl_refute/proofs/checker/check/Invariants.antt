@@ -1,4 +1,4 @@
-use Rattle.std.proofs.Common.{◌≡◌, ◌≤◌, ℕ, length, drop, take, map, ◌-◌}
+use Rattle.std.proofs.Common.{◌≡◌, ◌≤◌, length, drop, take, map, ◌-◌}
 use Rattle.ccsl_formula.specs.Plain.{plain}
 use Rattle.ccsl_refute.specs.Validity.{bad_from, first_bad_line}
 use Rattle.ccsl_refute.specs.Below.{ClausesBelow}

@@ -1,7 +1,7 @@
-use Rattle.std.proofs.Common.{◌≡◌, ◌<◌, ◌≤◌, ◌-◌, ◌+◌, ℕ, zero, suc, true, false, length, drop, get_or, map, Some, None, sym, ap, ◌∙◌, refl, arith, rules}
-use Rattle.ccsl_formula.specs.Known.{known, with_value}
-use Rattle.ccsl_refute.specs.Validity.{closes, unit_at}
-use Rattle.ccsl_refute.proofs.Closing.{unit_at-below, closes-at_unit, closes-at_none, closes-at_end}
+use Rattle.std.proofs.Common.{◌+◌, drop, sym, ap, ◌∙◌, arith}
+use Rattle.ccsl_formula.specs.Known.{known}
+use Rattle.ccsl_refute.specs.Validity.{closes}
+use Rattle.ccsl_refute.proofs.Closing.{unit_at-below, closes-at_unit}
 use Rattle.ccsl_refute.proofs.checker.closes.Goals as goal
 
 pub set-requires : goal.set-requires

@@ -1,4 +1,4 @@
-use Rattle.std.proofs.Common.{◌≡◌, ◌≤◌, ℕ, length, drop, map, ◌-◌}
+use Rattle.std.proofs.Common.{◌≡◌, ◌≤◌, length, drop, ◌-◌}
 use Rattle.ccsl_formula.specs.Known.{known}
 use Rattle.ccsl_refute.specs.Validity.{closes}
 use Rattle.ccsl_refute.proofs.checker.closes.Given as goal

@@ -1,7 +1,6 @@
-use Rattle.std.proofs.Common.{◌≡◌, ◌<◌, map, Some, None, slice_get, get_or, sym, ap, ◌∙◌}
+use Rattle.std.proofs.Common.{Some, sym, ap, ◌∙◌}
 use Rattle.std.proofs.lemmas.Option.{slice_get-map, slice_get-get_or}
 use Rattle.std.specs.Option.{option_map}
-use Rattle.ccsl_formula.specs.Formula.{Formula}
 use Rattle.ccsl_formula.specs.Known.{known}
 use Rattle.ccsl_formula.specs.Plain.{plain}
 use Rattle.ccsl_refute.specs.Literals.{is_no}

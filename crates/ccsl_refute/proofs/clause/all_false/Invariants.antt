@@ -1,6 +1,6 @@
-use Rattle.std.proofs.Common.{◌≡◌, ℕ, length}
+use Rattle.std.proofs.Common.{◌≡◌, length}
 use Rattle.ccsl_formula.specs.Known.{known}
-use Rattle.ccsl_refute.specs.Literals.{all_false, unit, names}
+use Rattle.ccsl_refute.specs.Literals.{all_false}
 use Rattle.ccsl_refute.proofs.clause.all_false.Given as goal
 
 abbrev pub invariant-loop-rest : goal.invariant-loop-rest

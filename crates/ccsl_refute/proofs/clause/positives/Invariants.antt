@@ -1,4 +1,4 @@
-use Rattle.std.proofs.Common.{◌≡◌, ℕ, length}
+use Rattle.std.proofs.Common.{◌≡◌}
 use Rattle.ccsl_refute.specs.Literals.{positives}
 use Rattle.ccsl_refute.proofs.clause.positives.Given as goal
 

@@ -1,4 +1,4 @@
-use Rattle.std.proofs.Common.{◌≡◌, ◌^◌, true, get_or, sym, ap, ◌∙◌, rules, arith}
+use Rattle.std.proofs.Common.{◌≡◌, ◌^◌, true, get_or, sym, ◌∙◌, rules, arith}
 use Rattle.ccsl_base.specs.Name.{is_digit}
 use Rattle.ccsl_refute.proofs.Numbers.{number-over, number-done, number-some}
 use Rattle.ccsl_refute.proofs.number.number.Goals as goal

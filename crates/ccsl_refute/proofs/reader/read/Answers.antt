@@ -1,4 +1,4 @@
-use Rattle.std.proofs.Common.{◌≡◌, ◌+◌, ◌++◌, [], ◌∷◌, List, Vec, Global, Ok, length, sym, ap, ◌∙◌, arith}
+use Rattle.std.proofs.Common.{◌+◌, [], Vec, Global, Ok, length, ap, ◌∙◌, arith}
 use Rattle.std.proofs.lemmas.Result.{err_from_is_err_and}
 use Rattle.ccsl_refute.specs.declared.line.Line.{Line}
 use Rattle.ccsl_refute.specs.Read.{members}

@@ -1,7 +1,6 @@
 use Rattle.std.proofs.Common.{◌≡◌, ℕ, zero, suc, ◌<◌, List, [], ◌∷◌, ◌++◌, ◌∙◌, length, ap, subst, sym, false, arith}
 use Rattle.std.specs.List.{All}
 use Rattle.ccsl_refute.specs.declared.line.Lit.{Lit}
-use Rattle.ccsl_refute.specs.declared.line.Line.{Line}
 use Rattle.ccsl_refute.specs.declared.line.Line.TheVariants.{Nonempty, Item}
 use Rattle.ccsl_refute.specs.Below.{AreBelow}
 use Rattle.ccsl_refute.specs.Writing.{literals}

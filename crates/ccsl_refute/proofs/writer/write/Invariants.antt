@@ -1,4 +1,4 @@
-use Rattle.std.proofs.Common.{◌≡◌, length, take}
+use Rattle.std.proofs.Common.{◌≡◌, take}
 use Rattle.std.specs.List.{All}
 use Rattle.ccsl_refute.specs.CertNames.{NumbersFit}
 use Rattle.ccsl_refute.specs.Writing.{lines_text}

@@ -1,5 +1,4 @@
-use Rattle.std.proofs.Common.{◌≡◌, ◌+◌, ◌-◌, [], ◌∷◌, List, ℕ, length, take, drop, sym, ap, ◌∙◌}
-use Rattle.ccsl_refute.specs.Text.{tokens}
+use Rattle.std.proofs.Common.{◌≡◌, ◌-◌, [], List, ℕ, length, take, drop, sym, ap, ◌∙◌}
 use Rattle.ccsl_refute.proofs.Tokens.{tokens-end, tokens-next, rest-all}
 use Rattle.ccsl_refute.proofs.token.Tokens.next.Goals as goal
 
