@@ -1,0 +1,11 @@
+//! The edge of the program: a world of slots through which every file, standard input and standard output is
+//! reached, and the two calls by which the layers above read a whole slot and write a whole text.
+#![tactic(auto)]
+
+pub mod slot;
+pub mod whole;
+pub mod world;
+
+pub use slot::Slot;
+pub use whole::{ReadFault, read_all, write_all};
+pub use world::{Failed, World};

@@ -1,0 +1,20 @@
+//! The places at which the program reads and writes.
+
+/// A place at which the program reads or writes: four are read, three are written.
+#[derive(Clone, Copy, Debug, PartialEq, Eq)]
+pub enum Slot {
+    /// The specification's file.
+    Spec,
+    /// The trace that is read.
+    Trace,
+    /// The certificate that is read.
+    Cert,
+    /// Standard input.
+    Input,
+    /// Standard output.
+    Report,
+    /// The trace that is written.
+    TraceOut,
+    /// The certificate that is written.
+    CertOut,
+}
