@@ -1,0 +1,4 @@
+//! The program as one call: from the words of its command line and a world of files to a report and a status.
+#![tactic(auto)]
+
+mod words;
