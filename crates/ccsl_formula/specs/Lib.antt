@@ -1,0 +1,5 @@
+pub mod Truth
+pub mod Known
+pub mod Formula
+pub mod Plain
+pub mod Folded

@@ -1,0 +1,84 @@
+//! Formulas, their truth under a set of clocks, their Kleene value under a partial assignment, and what they read.
+
+ghost use Rattle.std.specs.Prelude.{◌≡◌};
+ghost use Rattle.ccsl_formula.specs.Formula.{eval, kleene, reads};
+ghost use Rattle.ccsl_formula.specs.Known.{known};
+ghost use Rattle.ccsl_formula.specs.Truth.{not3};
+ghost use Rattle.ccsl_formula.specs.Plain.{plain};
+
+use crate::partial::Partial;
+use crate::truth3::Truth3;
+
+/// A formula over clocks.
+#[derive(Drop)]
+pub enum Formula {
+    True,
+    False,
+    Var(u32),
+    Not(Box<Formula>),
+    And(Box<Formula>, Box<Formula>),
+    Or(Box<Formula>, Box<Formula>),
+    Iff(Box<Formula>, Box<Formula>),
+}
+
+impl Formula {
+    /// The strong Kleene value.
+    pub fn kleene(&self, part: &Partial) -> Truth3
+        ensures { result ≡ kleene (plain self.now) (known part.now) }
+    {
+        match self {
+            Formula::True => Truth3::Yes,
+            Formula::False => Truth3::No,
+            Formula::Var(x) => part.value(*x),
+            Formula::Not(f) => negated(f.kleene(part)),
+            Formula::And(f, g) => match f.kleene(part) {
+                Truth3::Yes => g.kleene(part),
+                Truth3::No => Truth3::No,
+                Truth3::Open => match g.kleene(part) {
+                    Truth3::No => Truth3::No,
+                    Truth3::Yes => Truth3::Open,
+                    Truth3::Open => Truth3::Open,
+                },
+            },
+            Formula::Or(f, g) => match f.kleene(part) {
+                Truth3::Yes => Truth3::Yes,
+                Truth3::No => g.kleene(part),
+                Truth3::Open => match g.kleene(part) {
+                    Truth3::Yes => Truth3::Yes,
+                    Truth3::No => Truth3::Open,
+                    Truth3::Open => Truth3::Open,
+                },
+            },
+            Formula::Iff(f, g) => match f.kleene(part) {
+                Truth3::Yes => g.kleene(part),
+                Truth3::No => negated(g.kleene(part)),
+                Truth3::Open => Truth3::Open,
+            },
+        }
+    }
+
+    /// Whether a variable occurs.
+    pub fn reads(&self, v: u32) -> bool
+        ensures { result ≡ reads (plain self.now) v }
+    {
+        match self {
+            Formula::True => false,
+            Formula::False => false,
+            Formula::Var(x) => v == *x,
+            Formula::Not(f) => f.reads(v),
+            Formula::And(f, g) => f.reads(v) || g.reads(v),
+            Formula::Or(f, g) => f.reads(v) || g.reads(v),
+            Formula::Iff(f, g) => f.reads(v) || g.reads(v),
+        }
+    }
+}
+
+fn negated(value: Truth3) -> Truth3
+    ensures { result ≡ not3 value }
+{
+    match value {
+        Truth3::Yes => Truth3::No,
+        Truth3::No => Truth3::Yes,
+        Truth3::Open => Truth3::Open,
+    }
+}

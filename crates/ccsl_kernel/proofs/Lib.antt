@@ -1,0 +1,9 @@
+pub mod Steps
+pub mod Induction
+pub mod Agree
+pub mod TableHolds
+pub mod Definitions
+pub mod Words
+pub mod Quiet
+pub mod Silent
+pub mod Scope

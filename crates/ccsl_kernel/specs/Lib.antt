@@ -1,0 +1,16 @@
+pub mod Syntax
+pub mod Plain
+pub mod Actuals
+pub mod Ticks
+pub mod Table
+pub mod Lives
+pub mod Meaning
+pub mod Items
+pub mod Runs
+pub mod Guarded
+pub mod Scope
+pub mod Rows
+pub mod Laws
+pub mod Coded
+pub mod Cells
+pub mod Accepted

@@ -1,0 +1,36 @@
+//! The laws of the meaning. Each function does nothing; its contract is the law.
+
+ghost use Rattle.ccsl_kernel.specs.Syntax.{System};
+ghost use Rattle.ccsl_kernel.specs.Guarded.{IsGuarded};
+ghost use Rattle.ccsl_kernel.specs.Scope.{IsScoped};
+ghost use Rattle.ccsl_kernel.specs.Laws.{RowsHold, NamesDie, RowsDetermine, FirstStepsMatter, ReadsLower, DeadStays};
+
+/// Each row of the table holds of the meaning as an equation, calls of earlier groups and of the own one included.
+pub fn rows_hold()
+    ensures { (K : System) → IsGuarded K → RowsHold K }
+{}
+
+/// A clock is dead where its definition, born at 0, is.
+pub fn names_die()
+    ensures { (K : System) → NamesDie K }
+{}
+
+/// What obeys each row of the table is the meaning.
+pub fn rows_determine()
+    ensures { (K : System) → IsGuarded K → RowsDetermine K }
+{}
+
+/// Later steps don't change what an expression meant.
+pub fn first_steps_matter()
+    ensures { (K : System) → IsGuarded K → FirstStepsMatter K }
+{}
+
+/// The formula of a definition reads clocks below its own.
+pub fn reads_lower()
+    ensures { (K : System) → IsGuarded K → IsScoped K → ReadsLower K }
+{}
+
+/// In a list that obeys the definitions, what is dead does not tick and stays dead.
+pub fn dead_stays()
+    ensures { (K : System) → IsGuarded K → DeadStays K }
+{}

@@ -1,0 +1,28 @@
+//! Systems, and what their expressions mean over the whole history.
+#![tactic(auto)]
+
+pub mod actual;
+pub mod constraint;
+pub mod expr;
+pub mod group;
+pub mod laws;
+pub mod parts;
+pub mod system;
+
+pub use actual::Actual;
+pub use constraint::Constraint;
+pub use constraint::RelationKind;
+pub use expr::Expr;
+pub use expr::ExprOp;
+pub use expr::ExprTest;
+pub use expr::NumPrim;
+pub use expr::NumSign;
+pub use expr::NumTerm;
+pub use expr::Place;
+pub use expr::Value;
+pub use expr::WordPlace;
+pub use group::Body;
+pub use group::Group;
+pub use group::ParamKind;
+pub use parts::Parts;
+pub use system::System;
