@@ -1,0 +1,52 @@
+-- What a tokenizer stands for.
+use Rattle.std.specs.Prelude.{◌≡◌, ℕ, ◌<◌, ◌≤◌, List, [], ◌∷◌, ◌++◌, length, Bool, true, false, Option, Some, None}
+use Rattle.std.specs.List.{AllByRecursion}
+use Rattle.ccsl_vcd_lex.specs.Tokens.{is_white, token, tokens, first_long, Heard, word}
+use Rattle.ccsl_vcd_lex.specs.Runs.{fresh_after}
+use Rattle.ccsl_vcd_lex.specs.declared.span.Span.{Span}
+
+-- a tokenizer as contracts see it
+pub record Lexing : Type 0 where
+  -- the place of the open token, or of the next byte where none is open
+  pub begin : ℕ
+  -- the bytes of the token that has not ended
+  pub open_text : List ℕ
+  -- the bytes of the token that ended last
+  pub last : List ℕ
+  -- whether a token was too long
+  pub failed : Bool
+
+-- none of the bytes is white
+abbrev pub Dark : List ℕ → Type 0
+Dark bytes = AllByRecursion (λ b. is_white b ≡ false) bytes
+
+-- the open token goes on with bytes that are not kept, so that it has more than 65,536, and whatever follows
+pub record GoesOn (text more : List ℕ) : Type 0 where
+  pub next : List ℕ
+  pub rest : List ℕ
+  pub is : more ≡ next ++ rest
+  pub dark : Dark next
+  pub long : 65536 < length (text ++ next)
+
+-- The bytes are those before the open token, its own, and nothing else, unless it is too long.
+pub record StandsFor (v : Lexing) (bytes : List ℕ) : Type 0 where
+  pub before : List ℕ
+  pub more : List ℕ
+  pub whole : bytes ≡ before ++ (v.open_text ++ more)
+  pub fresh : fresh_after true before ≡ true
+  pub short : first_long (tokens before) ≡ None
+  pub dark : Dark v.open_text
+  pub fits : length v.open_text ≤ 65536
+  pub begin : v.begin ≡ length before
+  pub running : v.failed ≡ false → more ≡ []
+  pub too_long : v.failed ≡ true → GoesOn v.open_text more
+
+-- the token that an answer names, with its text
+abbrev pub named : Option Span → List ℕ → List Heard
+named None text = []
+named (Some span) text = word (token span.at text) ∷ []
+
+-- the length that an answer gives is that of the text
+abbrev pub Spans : Option Span → List ℕ → Type 0
+Spans None text = Unit {0}
+Spans (Some span) text = (span.len ≡ length text) × (length text ≤ 65536)

@@ -1,0 +1,9 @@
+//! The tokens of a value change dump, over any cutting of its bytes.
+#![tactic(auto)]
+
+pub mod laws;
+pub mod span;
+pub mod tokenizer;
+
+pub use span::{Span, TokenTooLong};
+pub use tokenizer::Tokenizer;

@@ -1,0 +1,14 @@
+//! What a tokenizer answers.
+
+/// A token that ended: the place of its first byte, counted from 0, and how many bytes it has.
+#[derive(Clone, Copy, Debug, PartialEq, Eq)]
+pub struct Span {
+    pub at: u64,
+    pub len: u32,
+}
+
+/// The place of the first byte of a token with more than 65,536 bytes.
+#[derive(Clone, Copy, Debug, PartialEq, Eq)]
+pub struct TokenTooLong {
+    pub at: u64,
+}

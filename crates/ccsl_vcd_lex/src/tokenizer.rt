@@ -1,0 +1,185 @@
+//! A tokenizer that takes the bytes of a file one by one.
+
+ghost use Rattle.std.specs.Prelude.{◌≡◌, ℕ, List, [], ◌∷◌, ◌++◌, length, ◌+◌, ◌<◌, ◌^◌, IfOk, IfErr, Some, None, true, vec_len};
+ghost use Rattle.ccsl_vcd_lex.specs.Tokens.{is_white, tokens, heard, settled, first_long, too_long};
+ghost use Rattle.ccsl_vcd_lex.specs.Lexing.{StandsFor, named, Spans};
+
+use crate::span::{Span, TokenTooLong};
+use ccsl_base::Memory;
+use std::alloc::{AllocError, Global};
+use std::marker::Model;
+use std::mem;
+
+const MAX_TOKEN: usize = 65536;
+
+/// Takes the bytes of a file, and says which tokens end. It keeps the token that is open and the one that ended last.
+#[derive(Drop)]
+pub struct Tokenizer {
+    // the open token's bytes are the first `current_len`
+    current: Vec<u8>,
+    current_len: usize,
+    // those of the token that ended last are the first `last_len`
+    last: Vec<u8>,
+    last_len: usize,
+    begin: u64,
+    failed: bool,
+}
+
+impl Model for Tokenizer {
+    ghost use Rattle.std.specs.Prelude.{◌≡◌, ◌≤◌, take, vec_len};
+    ghost use Rattle.ccsl_vcd_lex.specs.Lexing.{Lexing};
+
+    ghost Value = { Lexing };
+
+    ghost view = { λ t. record {
+      begin = t.begin;
+      open_text = take t.current_len t.current.items;
+      last = take t.last_len t.last.items;
+      failed = t.failed;
+    } };
+
+    ghost invariant = { λ t. (vec_len t.current ≡ 65536) × (t.current_len ≤ 65536) × (vec_len t.last ≡ 65536) × (t.last_len ≤ 65536) };
+}
+
+#[tactic(auto, unfolding(crate::specs::Tokens::is_white))]
+fn is_space(b: u8) -> bool
+    ensures { result ≡ is_white b }
+{
+    (b >= 9 && b <= 13) || b == 32
+}
+
+// A buffer with room for the longest token.
+fn room(alloc: Global) -> Result<Vec<u8>, AllocError>
+    ensures { IfOk result (λ v. vec_len v ≡ 65536) }
+{
+    vec![in alloc; 0; MAX_TOKEN]
+}
+
+impl Tokenizer {
+    /// A tokenizer before the first byte.
+    pub fn open(alloc: Global) -> Result<Tokenizer, Memory>
+        ensures { IfOk result (λ t. StandsFor t []) }
+    {
+        let current = room(alloc)?;
+        let last = room(alloc)?;
+        Ok(Tokenizer {
+            current,
+            current_len: 0,
+            last,
+            last_len: 0,
+            begin: 0,
+            failed: false,
+        })
+    }
+
+    // One more byte of the open token.
+    fn push(&mut self, byte: u8)
+        requires { length self.old.open_text < 65536 }
+        ensures { self.new ≡ record self.old { open_text = self.old.open_text ++ byte ∷ [] } }
+    {
+        self.current[self.current_len] = byte;
+        self.current_len += 1;
+    }
+
+    // White space where no token is open.
+    fn skip(&mut self, count: u64)
+        requires { self.old.begin + count < 2 ^ 64 }
+        ensures { self.new ≡ record self.old { begin = self.old.begin + count } }
+    {
+        self.begin += count;
+    }
+
+    // The open token becomes the one that ended last.
+    fn close(&mut self) -> Span
+        ensures span { result ≡ record { at = self.old.begin; len = length self.old.open_text } }
+        ensures after { self.new ≡ record self.old { open_text = []; last = self.old.open_text } }
+    {
+        let span = Span {
+            at: self.begin,
+            len: self.current_len as u32,
+        };
+        mem::swap(&mut self.current, &mut self.last);
+        self.last_len = self.current_len;
+        self.current_len = 0;
+        span
+    }
+
+    // A byte of white space behind the open token.
+    fn end_token(&mut self) -> Span
+        requires { self.old.begin + length self.old.open_text + 1 < 2 ^ 64 }
+        ensures span { result ≡ record { at = self.old.begin; len = length self.old.open_text } }
+        ensures after { self.new ≡ record self.old {
+          begin = self.old.begin + length self.old.open_text + 1;
+          open_text = [];
+          last = self.old.open_text;
+        } }
+    {
+        let span = self.close();
+        self.begin += u64::from(span.len) + 1;
+        span
+    }
+
+    // The open token has more than 65,536 bytes.
+    fn refuse(&mut self) -> TokenTooLong
+        ensures at { result ≡ record { at = self.old.begin } }
+        ensures after { self.new ≡ record self.old { failed = true } }
+    {
+        self.failed = true;
+        TokenTooLong { at: self.begin }
+    }
+
+    /// Takes the next byte, and says which token it ends. Once a token was too long every call says so again.
+    pub fn feed(&mut self, byte: u8) -> Result<Option<Span>, TokenTooLong>
+        requires { (bytes : List ℕ) × StandsFor self.old bytes × (length bytes + 1 < 2 ^ 64) }
+        ensures stands { (bytes : List ℕ) → StandsFor self.old bytes → StandsFor self.new (bytes ++ byte ∷ []) }
+
+        ensures settled { IfOk result (λ found. (bytes : List ℕ) → StandsFor self.old bytes →
+            settled (bytes ++ byte ∷ []) ≡ settled bytes ++ named found self.new.last) }
+        ensures span { IfOk result (λ found. Spans found self.new.last) }
+        ensures short { IfOk result (λ _. (bytes : List ℕ) → StandsFor self.old bytes →
+            first_long (tokens (bytes ++ byte ∷ [])) ≡ None) }
+
+        ensures long { IfErr result (λ e. (bytes : List ℕ) → StandsFor self.old bytes →
+            first_long (tokens (bytes ++ byte ∷ [])) ≡ Some e.at) }
+        ensures broke { IfErr result (λ e. (bytes : List ℕ) → StandsFor self.old bytes → first_long (tokens bytes) ≡ None →
+            settled (bytes ++ byte ∷ []) ≡ settled bytes ++ too_long e.at ∷ []) }
+        ensures again { (bytes : List ℕ) (at : ℕ) → StandsFor self.old bytes → first_long (tokens bytes) ≡ Some at →
+            result ≡ Err (record { at = at }) }
+    {
+        if self.failed {
+            return Err(TokenTooLong { at: self.begin });
+        }
+        if is_space(byte) {
+            if self.current_len == 0 {
+                self.skip(1);
+                return Ok(None);
+            }
+            return Ok(Some(self.end_token()));
+        }
+        if self.current_len == MAX_TOKEN {
+            return Err(self.refuse());
+        }
+        self.push(byte);
+        Ok(None)
+    }
+
+    /// Ends the token that is open, if there is one, at the end of the file. After it only `token` is called.
+    pub fn finish(&mut self) -> Option<Span>
+        requires { (bytes : List ℕ) × StandsFor self.old bytes × (first_long (tokens bytes) ≡ None) }
+        ensures all { (bytes : List ℕ) → StandsFor self.old bytes →
+            heard bytes ≡ settled bytes ++ named result self.new.last }
+        ensures span { Spans result self.new.last }
+    {
+        if self.current_len == 0 {
+            return None;
+        }
+        Some(self.close())
+    }
+
+    /// The bytes of the token that ended last.
+    pub fn token(&self) -> &[u8]
+        ensures { result.now ≡ self.now.last }
+    {
+        &self.last[..self.last_len]
+    }
+}
