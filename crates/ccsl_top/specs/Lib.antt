@@ -1,1 +1,3 @@
 pub mod Words
+pub mod Numbers
+pub mod Trace

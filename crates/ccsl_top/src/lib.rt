@@ -1,4 +1,6 @@
 //! The program as one call: from the words of its command line and a world of files to a report and a status.
 #![tactic(auto)]
 
+mod number;
+mod trace;
 mod words;
