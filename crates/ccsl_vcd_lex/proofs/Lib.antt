@@ -1,6 +1,9 @@
 pub mod Cuts
+pub mod Lanes
+pub mod Parts
 pub mod Steps
 pub mod Views
 pub mod Told
+pub mod Pieces
 pub mod Further
 pub mod Longest

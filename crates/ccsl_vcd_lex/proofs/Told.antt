@@ -90,3 +90,7 @@ end-one v bytes s f some =
 pub end-none : (v : Lexing) (bytes : List ℕ) → StandsFor v bytes → v.failed ≡ false → v.open_text ≡ [] → heard bytes ≡ settled bytes ++ []
 end-none v bytes s f none =
     ap (map hear) (all-now v bytes s f ∙ ap (λ (text : List ℕ). closed bytes ++ one v.begin text) none) ∙ map-append hear (closed bytes) []
+
+-- while no token was too long, the bytes have none that is
+pub none-long : (v : Lexing) → v.failed ≡ false → (bytes : List ℕ) (at : ℕ) → StandsFor v bytes → first_long (tokens bytes) ≡ Some at → ⊥
+none-long v f bytes at s e = let p : None ≡ Some at = sym (short-now v bytes s f) ∙ e in cc

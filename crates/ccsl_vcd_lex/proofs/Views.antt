@@ -13,7 +13,7 @@ pub record Seen (v : Lexing) (at n : ℕ) (stopped : Bool) : Type 0 where
   pub failed : v.failed ≡ stopped
 
 pub seen : (v : Lexing) (begin n : ℕ) (buf last : List ℕ) (failed : Bool) → record { begin = begin; open_text = take n buf; last = last; failed = failed } ≡ v
-    → length buf ≡ 65536 → n ≤ 65536 → Seen v begin n failed
+    → length buf ≡ 65552 → n ≤ 65536 → Seen v begin n failed
 seen v begin n buf last failed e room le =
     let text : v.open_text ≡ take n buf = ap (λ (x : Lexing). x.open_text) (sym e) in
     record {

@@ -1,7 +1,7 @@
 -- What a tokenizer stands for.
-use Rattle.std.specs.Prelude.{◌≡◌, ℕ, ◌<◌, ◌≤◌, List, [], ◌∷◌, ◌++◌, length, Bool, true, false, Option, Some, None}
+use Rattle.std.specs.Prelude.{◌≡◌, ℕ, ◌+◌, ◌<◌, ◌≤◌, List, [], ◌∷◌, ◌++◌, length, take, Bool, true, false, not, Option, Some, None}
 use Rattle.std.specs.List.{AllByRecursion}
-use Rattle.ccsl_vcd_lex.specs.Tokens.{is_white, token, tokens, first_long, Heard, word}
+use Rattle.ccsl_vcd_lex.specs.Tokens.{is_white, token, tokens, first_long, settled, Heard, word, too_long}
 use Rattle.ccsl_vcd_lex.specs.Runs.{fresh_after}
 use Rattle.ccsl_vcd_lex.specs.declared.span.Span.{Span}
 
@@ -15,6 +15,9 @@ pub record Lexing : Type 0 where
   pub last : List ℕ
   -- whether a token was too long
   pub failed : Bool
+
+abbrev pub is_dark : ℕ → Bool
+is_dark b = not (is_white b)
 
 -- none of the bytes is white
 abbrev pub Dark : List ℕ → Type 0
@@ -50,3 +53,10 @@ named (Some span) text = word (token span.at text) ∷ []
 abbrev pub Spans : Option Span → List ℕ → Type 0
 Spans None text = Unit {0}
 Spans (Some span) text = (span.len ≡ length text) × (length text ≤ 65536)
+
+-- The front of a piece settles nothing, and the byte behind it that a token is too long.
+pub record BreaksWithin (bytes piece : List ℕ) (at : ℕ) : Type 0 where
+  pub taken : ℕ
+  pub within : taken < length piece
+  pub before : settled (bytes ++ take taken piece) ≡ settled bytes
+  pub broke : settled (bytes ++ take (taken + 1) piece) ≡ settled bytes ++ too_long at ∷ []

@@ -2,8 +2,9 @@
 #![tactic(auto)]
 
 pub mod laws;
+mod scan;
 pub mod span;
 pub mod tokenizer;
 
-pub use span::{Span, TokenTooLong};
+pub use span::{Fed, Span, TokenTooLong};
 pub use tokenizer::Tokenizer;

@@ -12,3 +12,10 @@ pub struct Span {
 pub struct TokenTooLong {
     pub at: u64,
 }
+
+/// How many bytes of a piece were taken, and which token the last of them ended.
+#[derive(Clone, Copy, Debug, PartialEq, Eq)]
+pub struct Fed {
+    pub bytes: usize,
+    pub ended: Option<Span>,
+}

@@ -1,10 +1,12 @@
 //! A tokenizer that takes the bytes of a file one by one.
 
-ghost use Rattle.std.specs.Prelude.{◌≡◌, ℕ, List, [], ◌∷◌, ◌++◌, length, ◌+◌, ◌<◌, ◌^◌, IfOk, IfErr, Some, None, true, vec_len};
+ghost use Rattle.std.specs.Prelude.{◌≡◌, ℕ, List, [], ◌∷◌, ◌++◌, length, take, ◌+◌, ◌-◌, ◌<◌, ◌≤◌, ◌^◌, IsSome, OnSome, IfOk, IfErr, slice_range, Some, None, true, vec_len};
+ghost use Rattle.std.specs.List.{prefix_len};
 ghost use Rattle.ccsl_vcd_lex.specs.Tokens.{is_white, tokens, heard, settled, first_long, too_long};
-ghost use Rattle.ccsl_vcd_lex.specs.Lexing.{StandsFor, named, Spans};
+ghost use Rattle.ccsl_vcd_lex.specs.Lexing.{StandsFor, BreaksWithin, named, Spans};
 
-use crate::span::{Span, TokenTooLong};
+use crate::scan::{LANES, copy_part, is_space, run_end, white_end};
+use crate::span::{Fed, Span, TokenTooLong};
 use ccsl_base::Memory;
 use std::alloc::{AllocError, Global};
 use std::marker::Model;
@@ -38,21 +40,14 @@ impl Model for Tokenizer {
       failed = t.failed;
     } };
 
-    ghost invariant = { λ t. (vec_len t.current ≡ 65536) × (t.current_len ≤ 65536) × (vec_len t.last ≡ 65536) × (t.last_len ≤ 65536) };
+    ghost invariant = { λ t. (vec_len t.current ≡ 65552) × (t.current_len ≤ 65536) × (vec_len t.last ≡ 65552) × (t.last_len ≤ 65536) };
 }
 
-#[tactic(auto, unfolding(crate::specs::Tokens::is_white))]
-fn is_space(b: u8) -> bool
-    ensures { result ≡ is_white b }
-{
-    (b >= 9 && b <= 13) || b == 32
-}
-
-// A buffer with room for the longest token.
+// A buffer with room for the longest token, and for one vector behind it.
 fn room(alloc: Global) -> Result<Vec<u8>, AllocError>
-    ensures { IfOk result (λ v. vec_len v ≡ 65536) }
+    ensures { IfOk result (λ v. vec_len v ≡ 65552) }
 {
-    vec![in alloc; 0; MAX_TOKEN]
+    vec![in alloc; 0; MAX_TOKEN + LANES]
 }
 
 impl Tokenizer {
@@ -81,12 +76,45 @@ impl Tokenizer {
         self.current_len += 1;
     }
 
+    // A part of a piece, as more bytes of the open token.
+    fn append(&mut self, piece: &[u8], start: usize, end: usize)
+        requires ordered { start ≤ end }
+        requires within { end ≤ length piece.now }
+        requires room { length self.old.open_text + (end - start) ≤ 65536 }
+        ensures { self.new ≡ record self.old { open_text = self.old.open_text ++ slice_range piece.now start end } }
+    {
+        copy_part(
+            self.current.as_mut_slice(),
+            self.current_len,
+            piece,
+            start,
+            end,
+        );
+        self.current_len += end - start;
+    }
+
     // White space where no token is open.
     fn skip(&mut self, count: u64)
         requires { self.old.begin + count < 2 ^ 64 }
         ensures { self.new ≡ record self.old { begin = self.old.begin + count } }
     {
         self.begin += count;
+    }
+
+    // The white space at the front of a piece, where no token is open.
+    fn skip_front(&mut self, piece: &[u8]) -> usize
+        requires { self.old.begin + length piece.now < 2 ^ 64 }
+        ensures after { self.new ≡ record self.old { begin = self.old.begin + result } }
+        ensures within { result ≤ length piece.now }
+        ensures open { 0 < length self.old.open_text → result ≡ 0 }
+        ensures none { self.old.open_text ≡ [] → result ≡ prefix_len is_white piece.now }
+    {
+        if self.current_len > 0 {
+            return 0;
+        }
+        let count = white_end(piece, 0);
+        self.skip(count as u64);
+        count
     }
 
     // The open token becomes the one that ended last.
@@ -161,6 +189,52 @@ impl Tokenizer {
         }
         self.push(byte);
         Ok(None)
+    }
+
+    /// Takes the bytes of a piece up to the first by which a token ends, or all of them, as `feed` takes one.
+    pub fn feed_run(&mut self, piece: &[u8]) -> Result<Fed, TokenTooLong>
+        requires { (bytes : List ℕ) × StandsFor self.old bytes × (length bytes + length piece.now < 2 ^ 64) }
+        ensures within { IfOk result (λ fed. fed.bytes ≤ length piece.now) }
+        ensures moves { IfOk result (λ fed. 0 < length piece.now → 0 < fed.bytes) }
+        ensures stops { IfOk result (λ fed. fed.bytes < length piece.now → IsSome fed.ended) }
+
+        ensures stands { IfOk result (λ fed. (bytes : List ℕ) → StandsFor self.old bytes →
+            StandsFor self.new (bytes ++ take fed.bytes piece.now)) }
+        ensures settled { IfOk result (λ fed. (bytes : List ℕ) → StandsFor self.old bytes →
+            settled (bytes ++ take fed.bytes piece.now) ≡ settled bytes ++ named fed.ended self.new.last) }
+        ensures by_last { IfOk result (λ fed. OnSome fed.ended ((bytes : List ℕ) → StandsFor self.old bytes →
+            settled (bytes ++ take (fed.bytes - 1) piece.now) ≡ settled bytes)) }
+        ensures span { IfOk result (λ fed. Spans fed.ended self.new.last) }
+        ensures short { IfOk result (λ fed. (bytes : List ℕ) → StandsFor self.old bytes →
+            first_long (tokens (bytes ++ take fed.bytes piece.now)) ≡ None) }
+
+        ensures still { IfErr result (λ _. (bytes : List ℕ) → StandsFor self.old bytes → StandsFor self.new (bytes ++ piece.now)) }
+        ensures long { IfErr result (λ e. (bytes : List ℕ) → StandsFor self.old bytes →
+            first_long (tokens (bytes ++ piece.now)) ≡ Some e.at) }
+        ensures broke { IfErr result (λ e. (bytes : List ℕ) → StandsFor self.old bytes → first_long (tokens bytes) ≡ None →
+            BreaksWithin bytes piece.now e.at) }
+        ensures again { (bytes : List ℕ) (at : ℕ) → StandsFor self.old bytes → first_long (tokens bytes) ≡ Some at →
+            result ≡ Err (record { at = at }) }
+    {
+        if self.failed {
+            return Err(TokenTooLong { at: self.begin });
+        }
+        let start = self.skip_front(piece);
+        let end = run_end(piece, start);
+        if end - start > MAX_TOKEN - self.current_len {
+            return Err(self.refuse());
+        }
+        self.append(piece, start, end);
+        if end == piece.len() {
+            return Ok(Fed {
+                bytes: end,
+                ended: None,
+            });
+        }
+        Ok(Fed {
+            bytes: end + 1,
+            ended: Some(self.end_token()),
+        })
     }
 
     /// Ends the token that is open, if there is one, at the end of the file. After it only `token` is called.

@@ -1,8 +1,8 @@
 use Rattle.std.proofs.Common.{◌≡◌, ℕ, ◌+◌, ◌<◌, ◌≤◌, [], ◌∷◌, length, Some, None, true, false, arith, sym, ap, ◌∙◌, subst}
 use Rattle.ccsl_vcd_lex.specs.Lexing.{Lexing}
-use Rattle.ccsl_vcd_lex.proofs.Steps.{short-now, long-now}
+use Rattle.ccsl_vcd_lex.proofs.Steps.{long-now}
 use Rattle.ccsl_vcd_lex.proofs.Views.{seen, nothing-open, pushed, skipped, ended, refused, same-word}
-use Rattle.ccsl_vcd_lex.proofs.Told.{Told, Refused, goes-on, ends-one, ends-none, goes-past, stays-refused}
+use Rattle.ccsl_vcd_lex.proofs.Told.{Told, Refused, goes-on, ends-one, ends-none, goes-past, stays-refused, none-long}
 use Rattle.ccsl_vcd_lex.proofs.tokenizer.Tokenizer.feed.Goals as goal
 
 -- a token was too long before
@@ -11,14 +11,14 @@ returns-then-self c =
     let old = c.args.self.now in
     let v = seen old _ _ _ _ _ c.self.view_is (omega (arith, c.self.inside.current.ok.0)) (omega arith) in
     let f : old.failed ≡ true = v.failed ∙ c.if-self.true in
-    let r = stays-refused old (c.args.byte ∷ []) f in
+    let r = subst (Refused old old (c.args.byte ∷ [])) v.begin (stays-refused old (c.args.byte ∷ []) f) in
     record {
       stands = r.stands;
       settled = tt;
       span = tt;
       short = tt;
-      long = λ bytes s. r.long bytes s ∙ ap (λ (k : ℕ). Some k) v.begin;
-      broke = λ bytes s none. absurd (let e : None ≡ Some old.begin = sym none ∙ long-now old bytes s f in cc);
+      long = r.long;
+      broke = r.broke;
       again = λ bytes at s e. let p : Some at ≡ Some c.self.inside.begin = sym e ∙ long-now old bytes s f ∙ ap (λ (k : ℕ). Some k) v.begin in cc;
     }
 
@@ -37,7 +37,7 @@ returns-then-self-eq0 c =
       short = r.short;
       long = tt;
       broke = tt;
-      again = λ bytes at s e. absurd (let p : None ≡ Some at = sym (short-now old bytes s f) ∙ e in cc);
+      again = λ bytes at s e. absurd (none-long old f bytes at s e);
     }
 
 -- white space behind a token
@@ -59,7 +59,7 @@ returns-then-is_space c =
       short = r.short;
       long = tt;
       broke = tt;
-      again = λ bytes at s e. absurd (let p : None ≡ Some at = sym (short-now old bytes s f) ∙ e in cc);
+      again = λ bytes at s e. absurd (none-long old f bytes at s e);
     }
 
 -- byte 65,537 of a token
@@ -79,7 +79,7 @@ returns-then-self-eq-MAX_TOKEN c =
       short = tt;
       long = r.long;
       broke = r.broke;
-      again = λ bytes at s e. absurd (let p : None ≡ Some at = sym (short-now old bytes s f) ∙ e in cc);
+      again = λ bytes at s e. absurd (none-long old f bytes at s e);
     }
 
 -- one more byte of a token
@@ -98,5 +98,5 @@ returns c =
       short = r.short;
       long = tt;
       broke = tt;
-      again = λ bytes at s e. absurd (let p : None ≡ Some at = sym (short-now old bytes s f) ∙ e in cc);
+      again = λ bytes at s e. absurd (none-long old f bytes at s e);
     }
