@@ -73,9 +73,7 @@ pub record AddsFront (told : Told) (slot : Slot) (bytes : List ℕ) (old new : S
 pub record Closes (told : Told) (slot : Slot) (old new : State) : Type 0 where
   pub others : (other : Slot) → other ≢ slot → new.slot_of other ≡ old.slot_of other
   pub here : new.slot_of slot ≡ record (old.slot_of slot) { is_open = false }
-  pub file :
-    IsTrue told.files → IsTrue told.written
-    → file_at new.files (old.slot_of slot).name ≡ Some (old.slot_of slot).written
+  pub file : IsTrue told.files → IsTrue told.written → file_at new.files (old.slot_of slot).name ≡ Some (old.slot_of slot).written
   pub other_files :
     IsTrue told.files → IsTrue told.written
     → (other : List ℕ) → other ≢ (old.slot_of slot).name → file_at new.files other ≡ file_at old.files other

@@ -1,3 +1,4 @@
 pub mod Slots
 pub mod World
 pub mod Calls
+pub mod Memory

@@ -1,5 +1,7 @@
 -- What clauses know of a world: the files, and each slot's bytes, name and count of faults.
-use Rattle.std.specs.Prelude.{◌≡◌, ℕ, ◌+◌, ◌-◌, ◌^◌, ◌≤◌, min, Bool, List, [], ◌∷◌, Option, Some, None, unwrap_or, if◌then◌else◌}
+use Rattle.std.specs.Prelude.{ℕ, ◌+◌, ◌-◌, ◌^◌, ◌≤◌, min, Bool, List, [], Option, unwrap_or}
+use Rattle.std.specs.List.{find}
+use Rattle.std.specs.Option.{option_map}
 use Rattle.std.specs.Str.{bytes_eq}
 use Rattle.ccsl_edge.specs.declared.slot.Slot.{Slot}
 
@@ -27,8 +29,7 @@ pub record Told : Type 0 where
 
 -- the content of the first file of this name, if there is one
 abbrev pub file_at : List (List ℕ × List ℕ) → List ℕ → Option (List ℕ)
-file_at [] name = None
-file_at (file ∷ files) name = if bytes_eq file.0 name then Some file.1 else file_at files name
+file_at files name = option_map (λ file. file.1) (find (λ file. bytes_eq file.0 name) files)
 
 -- what is read under this name, which is nothing where there is no such file
 abbrev pub held : List (List ℕ × List ℕ) → List ℕ → List ℕ

@@ -2,10 +2,15 @@
 //! reached, and the two calls by which the layers above read a whole slot and write a whole text.
 #![tactic(auto)]
 
+pub mod held;
+pub(crate) mod place;
+pub mod plan;
 pub mod slot;
 pub mod whole;
 pub mod world;
 
+pub use held::HeldFile;
+pub use plan::CallKind;
 pub use slot::Slot;
 pub use whole::{ReadFault, read_all, write_all};
 pub use world::{Failed, World};
