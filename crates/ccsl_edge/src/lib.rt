@@ -3,6 +3,7 @@
 #![tactic(auto)]
 
 pub mod held;
+pub mod memory;
 pub(crate) mod place;
 pub mod plan;
 pub mod slot;
@@ -10,6 +11,7 @@ pub mod whole;
 pub mod world;
 
 pub use held::HeldFile;
+pub use memory::MemoryWorld;
 pub use plan::CallKind;
 pub use slot::Slot;
 pub use whole::{ReadFault, read_all, write_all};
