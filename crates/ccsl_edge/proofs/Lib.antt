@@ -1,4 +1,6 @@
+pub mod Files
 pub mod Frames
+pub mod OneSlot
 pub mod Reading
 pub mod Slots
 pub mod Writing

@@ -55,7 +55,7 @@ slot_in slots slot = slice_index_or slots (index_of slot) (unused false)
 -- the slots at the start: of the output slots only `Report` is open
 abbrev pub slots_at_start : List SlotState
 slots_at_start =
-  unused false ∷ unused false ∷ unused false ∷ unused false ∷ unused true ∷ unused false ∷ unused false ∷ []
+    unused false ∷ unused false ∷ unused false ∷ unused false ∷ unused true ∷ unused false ∷ unused false ∷ []
 
 -- a world in memory at the start
 abbrev pub memory_at_start : List (List ℕ × List ℕ) → List (CallKind × ℕ) → ℕ → MemoryState
@@ -64,12 +64,13 @@ memory_at_start files failing piece = record {
   slots = slots_at_start;
   plan = record { failing = failing; calls = 0 ∷ 0 ∷ 0 ∷ 0 ∷ 0 ∷ [] };
   piece = piece;
-  starved = 0 }
+  starved = 0;
+}
 
 -- the same world with these bytes left in `Input`
 abbrev pub with_bytes : MemoryState → List ℕ → MemoryState
 with_bytes w bytes =
-  record w { slots = slice_set w.slots (index_of Input) (record (slot_in w.slots Input) { left = bytes }) }
+    record w { slots = slice_set w.slots (index_of Input) (record (slot_in w.slots Input) { left = bytes }) }
 
 -- what a world in memory tells: everything
 abbrev pub memory_state : MemoryState → State

@@ -1,5 +1,5 @@
 -- What clauses know of a world: the files, and each slot's bytes, name and count of faults.
-use Rattle.std.specs.Prelude.{ℕ, ◌+◌, ◌-◌, ◌^◌, ◌≤◌, min, Bool, List, [], Option, unwrap_or}
+use Rattle.std.specs.Prelude.{◌≡◌, ◌≢◌, Some, ℕ, ◌+◌, ◌-◌, ◌^◌, ◌≤◌, min, Bool, List, [], Option, unwrap_or}
 use Rattle.std.specs.List.{find}
 use Rattle.std.specs.Option.{option_map}
 use Rattle.std.specs.Str.{bytes_eq}
@@ -34,6 +34,11 @@ file_at files name = option_map (λ file. file.1) (find (λ file. bytes_eq file.
 -- what is read under this name, which is nothing where there is no such file
 abbrev pub held : List (List ℕ × List ℕ) → List ℕ → List ℕ
 held files name = unwrap_or (file_at files name) []
+
+-- A file of this name was made to hold this content, and every other is as it was.
+pub record Stores (name content : List ℕ) (old new : List (List ℕ × List ℕ)) : Type 0 where
+  pub file : file_at new name ≡ Some content
+  pub others : (other : List ℕ) → other ≢ name → file_at new other ≡ file_at old other
 
 -- the last value of a counter of 64 bits
 abbrev pub last_count : ℕ

@@ -2,7 +2,7 @@
 
 ghost use Rattle.std.specs.Prelude.{◌≡◌, [], ◌++◌, length, take, drop, min, true, false, OnOk, OnErr};
 ghost use Rattle.std.specs.String.{string_bytes};
-ghost use Rattle.ccsl_edge.specs.World.{risen};
+ghost use Rattle.ccsl_edge.specs.World.{risen, Rose};
 ghost use Rattle.ccsl_edge.specs.Memory.{unused};
 
 use crate::world::Failed;
@@ -28,15 +28,13 @@ impl Model for Place {
 
     ghost Value = { SlotState };
 
-    ghost view = {
-        λ p. record {
-            left = drop p.taken p.input.items;
-            written = p.written.items;
-            name = string_bytes p.name;
-            is_open = p.is_open;
-            faults = p.faults
-        }
-    };
+    ghost view = { λ p. record {
+      left = drop p.taken p.input.items;
+      written = p.written.items;
+      name = string_bytes p.name;
+      is_open = p.is_open;
+      faults = p.faults;
+    } };
 
     ghost invariant = { λ p. p.taken ≤ length p.input.items };
 }
@@ -57,7 +55,8 @@ impl Place {
 
     /// Counts a call that failed.
     pub(crate) fn fail(&mut self) -> Failed
-        ensures { self.new ≡ record self.old { faults = risen self.old.faults } }
+        ensures after { self.new ≡ record self.old { faults = risen self.old.faults } }
+        ensures rose { Rose self.old.faults self.new.faults }
     {
         self.faults = self.faults.saturating_add(1);
         Failed

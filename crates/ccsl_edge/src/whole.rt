@@ -46,7 +46,12 @@ const BUFFER: u64 = 65536;
 
 /// Reads all the bytes that an input slot has left. It asks the world for no byte behind the first one that is
 /// past the limit, and takes memory by what it reads.
-pub fn read_all<W: World>(alloc: Global, world: &mut W, slot: Slot, limit: u64) -> Result<Vec<u8>, ReadFault>
+pub fn read_all<W: World>(
+    alloc: Global,
+    world: &mut W,
+    slot: Slot,
+    limit: u64,
+) -> Result<Vec<u8>, ReadFault>
     requires input { IsInput slot }
     ensures ok { IfOk result (λ all. ReadsAll W.told slot limit all.items (W.state world.old) (W.state world.new)) }
     ensures err { IfErr result (λ fault. ReadsUntil fault W.told slot limit (W.state world.old) (W.state world.new)) }
