@@ -51,3 +51,11 @@ risen count = min (count + 1) last_count
 -- the count did not fall, and it rose or stands at its last value
 abbrev pub Rose : ℕ → ℕ → Type 0
 Rose before now = (before ≤ now) × (risen before ≤ now)
+
+-- every count of faults is as it was
+pub record SameCounts (old new : State) : Type 0 where
+  pub same : (slot : Slot) → (new.slot_of slot).faults ≡ (old.slot_of slot).faults
+
+-- no count of faults fell
+pub record NoCountFalls (old new : State) : Type 0 where
+  pub rises : (slot : Slot) → (old.slot_of slot).faults ≤ (new.slot_of slot).faults

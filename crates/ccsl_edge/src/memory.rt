@@ -121,7 +121,7 @@ impl MemoryWorld {
 
 impl World for MemoryWorld {
     ghost use Rattle.std.specs.Prelude.{⊤, OnOk, OnErr, IfOk, ◌≡◌, ◌<◌, ◌≤◌, min, length, take, IsTrue, IsNone};
-    ghost use Rattle.ccsl_edge.specs.Slots.{IsInput, IsInputFile, IsOutputFile};
+    ghost use Rattle.ccsl_edge.specs.Slots.{IsInput, IsInputFile, IsOutput, IsOutputFile};
     ghost use Rattle.ccsl_edge.specs.World.{file_at, risen};
     ghost use Rattle.ccsl_edge.specs.Calls.{Fails, OpensIn, Takes, OpensOut, Adds, Closes};
     ghost use Rattle.ccsl_edge.specs.Memory.{memory_state, tells_all, slot_in, Counts, Succeeds, FailsByCause, FailsOrStarves};
@@ -201,6 +201,7 @@ impl World for MemoryWorld {
     }
 
     fn write(&mut self, slot: Slot, bytes: &[u8]) -> Result<usize, Failed>
+        requires output { IsOutput slot }
         requires opened { IsTrue (slot_in self.old.slots slot).is_open }
         requires some { 0 < length bytes.now }
         ensures within { IfOk result (λ count. (0 < count) × (count ≤ length bytes.now)) }
