@@ -1,6 +1,6 @@
 -- The order of the slots.
-use Rattle.std.proofs.Common.{◌≡◌, ◌≢◌, ◌⊎◌, ℕ, ◌<◌, zero, suc, true, false, nat_eq, refl, sym, ap, ◌∙◌, lit<, inl, inr}
-use Rattle.std.proofs.lemmas.Bool.{eqb-true, eqb-false}
+use Rattle.std.proofs.Common.{◌≡◌, ◌≢◌, ◌⊎◌, ℕ, ◌<◌, zero, suc, refl, sym, ap, ◌∙◌, lit<, inl, inr}
+use Rattle.std.proofs.lemmas.Bool.Decides.{eqb_tells}
 use Rattle.ccsl_edge.specs.declared.slot.Slot.{Slot}
 use Rattle.ccsl_edge.specs.declared.slot.Slot.TheVariants.{Spec, Trace, Cert, Input, Report, TraceOut, CertOut}
 use Rattle.ccsl_edge.specs.Slots.{index_of}
@@ -39,7 +39,6 @@ same_slot a b same = sym (slot_with-index_of a) ∙ ap slot_with same ∙ slot_w
 
 pub slot_cases : (a b : Slot) → (a ≡ b) ⊎ (a ≢ b)
 slot_cases a b =
-  (elim (nat_eq (index_of a) (index_of b))
-    as (λ t. nat_eq (index_of a) (index_of b) ≡ t → (a ≡ b) ⊎ (a ≢ b))
-    [ true ↦ λ same. inl (same_slot a b (eqb-true _ _ same))
-    | false ↦ λ apart. inr (λ same. eqb-false _ _ apart (ap index_of same)) ]) refl
+  elim (eqb_tells (index_of a) (index_of b))
+    [ inl same ↦ inl (same_slot a b same.1)
+    | inr apart ↦ inr (λ same. apart.1 (ap index_of same)) ]

@@ -136,6 +136,7 @@ impl World for MemoryWorld {
         requires input { IsInputFile slot }
         ensures ok { OnOk result (OpensIn tells_all slot name.now (memory_state self.old) (memory_state self.new)) }
         ensures err { OnErr result (Fails slot (memory_state self.old) (memory_state self.new)) }
+        ensures once { OnErr result ((slot_in self.new.slots slot).faults ≡ risen (slot_in self.old.slots slot).faults) }
         ensures counts { Counts CallKind.OpenIn self.old self.new }
         ensures succeeds { OnOk result (Succeeds CallKind.OpenIn (IsNone (file_at self.old.files name.now)) self.old self.new) }
         ensures fails { OnErr result (FailsOrStarves CallKind.OpenIn (IsNone (file_at self.old.files name.now)) self.old self.new) }
@@ -163,6 +164,7 @@ impl World for MemoryWorld {
         requires output { IsOutputFile slot }
         ensures ok { OnOk result (OpensOut tells_all slot name.now (memory_state self.old) (memory_state self.new)) }
         ensures err { OnErr result (Fails slot (memory_state self.old) (memory_state self.new)) }
+        ensures once { OnErr result ((slot_in self.new.slots slot).faults ≡ risen (slot_in self.old.slots slot).faults) }
         ensures counts { Counts CallKind.OpenOut self.old self.new }
         ensures succeeds { OnOk result (Succeeds CallKind.OpenOut ⊥ self.old self.new) }
         ensures fails { OnErr result (FailsOrStarves CallKind.OpenOut ⊥ self.old self.new) }
@@ -189,6 +191,7 @@ impl World for MemoryWorld {
         ensures ok { IfOk result (λ count. Takes tells_all slot count (memory_state self.old) (memory_state self.new) buf.new) }
         ensures err { OnErr result (Fails slot (memory_state self.old) (memory_state self.new)) }
         ensures count { IfOk result (λ count. count ≡ min self.old.piece (min (length buf.old) (length (slot_in self.old.slots slot).left))) }
+        ensures once { OnErr result ((slot_in self.new.slots slot).faults ≡ risen (slot_in self.old.slots slot).faults) }
         ensures counts { Counts CallKind.Read self.old self.new }
         ensures succeeds { OnOk result (Succeeds CallKind.Read ⊥ self.old self.new) }
         ensures fails { OnErr result (FailsByCause CallKind.Read ⊥ self.old self.new) }
@@ -208,6 +211,7 @@ impl World for MemoryWorld {
         ensures ok { IfOk result (λ count. Adds tells_all slot (take count bytes.now) (memory_state self.old) (memory_state self.new)) }
         ensures err { OnErr result (Fails slot (memory_state self.old) (memory_state self.new)) }
         ensures count { IfOk result (λ count. count ≡ min self.old.piece (length bytes.now)) }
+        ensures once { OnErr result ((slot_in self.new.slots slot).faults ≡ risen (slot_in self.old.slots slot).faults) }
         ensures counts { Counts CallKind.Write self.old self.new }
         ensures succeeds { OnOk result (Succeeds CallKind.Write ⊥ self.old self.new) }
         ensures fails { OnErr result (FailsOrStarves CallKind.Write ⊥ self.old self.new) }
@@ -231,6 +235,7 @@ impl World for MemoryWorld {
         requires opened { IsTrue (slot_in self.old.slots slot).is_open }
         ensures ok { OnOk result (Closes tells_all slot (memory_state self.old) (memory_state self.new)) }
         ensures err { OnErr result (Fails slot (memory_state self.old) (memory_state self.new)) }
+        ensures once { OnErr result ((slot_in self.new.slots slot).faults ≡ risen (slot_in self.old.slots slot).faults) }
         ensures counts { Counts CallKind.CloseOut self.old self.new }
         ensures succeeds { OnOk result (Succeeds CallKind.CloseOut ⊥ self.old self.new) }
         ensures fails { OnErr result (FailsOrStarves CallKind.CloseOut ⊥ self.old self.new) }
