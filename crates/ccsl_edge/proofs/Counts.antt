@@ -21,18 +21,24 @@ NoCountFalls-then s t u p q = record { rises = λ slot. omega (arith, p.rises sl
 
 -- where the other slots are as they were, the counts stand by this slot's
 same_by_slot : (slot : Slot) (s t : State) → ((other : Slot) → other ≢ slot → t.slot_of other ≡ s.slot_of other)
-  → (t.slot_of slot).faults ≡ (s.slot_of slot).faults → SameCounts s t
-same_by_slot slot s t others here = record { same = λ any.
-  elim (slot_cases any slot)
-    [ inl same ↦ ap (λ k. (t.slot_of k).faults) same ∙ here ∙ ap (λ k. (s.slot_of k).faults) (sym same)
-    | inr apart ↦ ap (λ (x : SlotState). x.faults) (others any apart) ] }
+    → (t.slot_of slot).faults ≡ (s.slot_of slot).faults → SameCounts s t
+same_by_slot slot s t others here = record {
+  same = λ any.
+      elim (slot_cases any slot) [
+        | inl same ↦ ap (λ k. (t.slot_of k).faults) same ∙ here ∙ ap (λ k. (s.slot_of k).faults) (sym same)
+        | inr apart ↦ ap (λ (x : SlotState). x.faults) (others any apart)
+      ];
+}
 
 rises_by_slot : (slot : Slot) (s t : State) → ((other : Slot) → other ≢ slot → t.slot_of other ≡ s.slot_of other)
-  → (s.slot_of slot).faults ≤ (t.slot_of slot).faults → NoCountFalls s t
-rises_by_slot slot s t others here = record { rises = λ any.
-  elim (slot_cases any slot)
-    [ inl same ↦ rw same here
-    | inr apart ↦ omega (arith, ap (λ (x : SlotState). x.faults) (others any apart)) ] }
+    → (s.slot_of slot).faults ≤ (t.slot_of slot).faults → NoCountFalls s t
+rises_by_slot slot s t others here = record {
+  rises = λ any.
+      elim (slot_cases any slot) [
+        | inl same ↦ rw same here
+        | inr apart ↦ omega (arith, ap (λ (x : SlotState). x.faults) (others any apart))
+      ];
+}
 
 pub OpensIn-SameCounts : (told : Told) (slot : Slot) (name : List ℕ) (s t : State) → OpensIn told slot name s t → SameCounts s t
 OpensIn-SameCounts told slot name s t p = same_by_slot slot s t p.only.others (ap (λ (x : SlotState). x.faults) p.here)
@@ -53,24 +59,24 @@ pub Fails-NoCountFalls : (slot : Slot) (s t : State) → Fails slot s t → NoCo
 Fails-NoCountFalls slot s t p = rises_by_slot slot s t p.only.others p.rose.0
 
 pub ReadsThenFails-NoCountFalls : (told : Told) (slot : Slot) (bytes : List ℕ) (s t : State)
-  → ReadsThenFails told slot bytes s t → NoCountFalls s t
+    → ReadsThenFails told slot bytes s t → NoCountFalls s t
 ReadsThenFails-NoCountFalls told slot bytes s t p = rises_by_slot slot s t p.only.others p.rose.0
 
 pub AddsFront-NoCountFalls : (told : Told) (slot : Slot) (bytes : List ℕ) (s t : State)
-  → AddsFront told slot bytes s t → NoCountFalls s t
+    → AddsFront told slot bytes s t → NoCountFalls s t
 AddsFront-NoCountFalls told slot bytes s t p = rises_by_slot slot s t p.only.others p.rose.0
 
 -- reading that was given up changed no other slot, and no count fell
 pub ReadsUntil-ChangesOnly : (fault : ReadFault) (told : Told) (slot : Slot) (limit : ℕ) (s t : State)
-  → ReadsUntil fault told slot limit s t → ChangesOnly slot s t
+    → ReadsUntil fault told slot limit s t → ChangesOnly slot s t
 ReadsUntil-ChangesOnly Fault told slot limit s t p = p.fails.only
 ReadsUntil-ChangesOnly TooLong told slot limit s t p = p.reads.only
 ReadsUntil-ChangesOnly Memory told slot limit s t p = p.reads.only
 
 pub ReadsUntil-NoCountFalls : (fault : ReadFault) (told : Told) (slot : Slot) (limit : ℕ) (s t : State)
-  → ReadsUntil fault told slot limit s t → NoCountFalls s t
+    → ReadsUntil fault told slot limit s t → NoCountFalls s t
 ReadsUntil-NoCountFalls Fault told slot limit s t p = ReadsThenFails-NoCountFalls told slot p.bytes s t p.fails
 ReadsUntil-NoCountFalls TooLong told slot limit s t p =
-  SameCounts-NoCountFalls s t (Reads-SameCounts told slot p.bytes s t p.reads)
+    SameCounts-NoCountFalls s t (Reads-SameCounts told slot p.bytes s t p.reads)
 ReadsUntil-NoCountFalls Memory told slot limit s t p =
-  SameCounts-NoCountFalls s t (Reads-SameCounts told slot p.bytes s t p.reads)
+    SameCounts-NoCountFalls s t (Reads-SameCounts told slot p.bytes s t p.reads)

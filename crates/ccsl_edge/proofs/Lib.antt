@@ -4,4 +4,5 @@ pub mod Frames
 pub mod OneSlot
 pub mod Reading
 pub mod Slots
+pub mod Untold
 pub mod Writing

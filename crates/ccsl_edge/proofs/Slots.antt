@@ -39,6 +39,7 @@ same_slot a b same = sym (slot_with-index_of a) ∙ ap slot_with same ∙ slot_w
 
 pub slot_cases : (a b : Slot) → (a ≡ b) ⊎ (a ≢ b)
 slot_cases a b =
-  elim (eqb_tells (index_of a) (index_of b))
-    [ inl same ↦ inl (same_slot a b same.1)
-    | inr apart ↦ inr (λ same. apart.1 (ap index_of same)) ]
+    elim (eqb_tells (index_of a) (index_of b)) [
+      | inl same ↦ inl (same_slot a b same.1)
+      | inr apart ↦ inr (λ same. apart.1 (ap index_of same))
+    ]

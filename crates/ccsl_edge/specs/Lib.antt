@@ -2,3 +2,4 @@ pub mod Slots
 pub mod World
 pub mod Calls
 pub mod Memory
+pub mod FileSystem
