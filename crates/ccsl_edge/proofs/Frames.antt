@@ -12,7 +12,8 @@ ChangesOnly-same slot s = record { files = refl; others = λ _ _. refl }
 pub ChangesOnly-then : (slot : Slot) (s t u : State) → ChangesOnly slot s t → ChangesOnly slot t u → ChangesOnly slot s u
 ChangesOnly-then slot s t u p q = record {
   files = q.files ∙ p.files;
-  others = λ other apart. q.others other apart ∙ p.others other apart }
+  others = λ other apart. q.others other apart ∙ p.others other apart;
+}
 
 -- a count that rose from a count that had stayed
 pub Rose-after_same : (a b c : ℕ) → b ≡ a → Rose b c → Rose a c

@@ -1,3 +1,8 @@
+pub mod Counts
+pub mod Files
 pub mod Frames
+pub mod OneSlot
 pub mod Reading
+pub mod Slots
+pub mod Untold
 pub mod Writing

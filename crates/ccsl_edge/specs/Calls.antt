@@ -4,7 +4,7 @@ use Rattle.std.specs.Prelude.{◌≡◌, ◌≢◌, ℕ, ◌+◌, ◌≤◌, Lis
 use Rattle.ccsl_edge.specs.declared.slot.Slot.{Slot}
 use Rattle.ccsl_edge.specs.declared.whole.ReadFault.{ReadFault}
 use Rattle.ccsl_edge.specs.declared.whole.ReadFault.TheVariants.{Fault, TooLong, Memory}
-use Rattle.ccsl_edge.specs.World.{State, Told, Rose, held, file_at}
+use Rattle.ccsl_edge.specs.World.{State, Told, Rose, held, Stores}
 
 -- nothing but this slot has changed
 pub record ChangesOnly (slot : Slot) (old new : State) : Type 0 where
@@ -39,8 +39,8 @@ pub record Takes (told : Told) (slot : Slot) (count : ℕ) (old new : State) (bu
 pub record ReadsThenFails (told : Told) (slot : Slot) (bytes : List ℕ) (old new : State) : Type 0 where
   pub only : ChangesOnly slot old new
   pub here :
-    new.slot_of slot
-    ≡ record (old.slot_of slot) { left = (new.slot_of slot).left; faults = (new.slot_of slot).faults }
+      new.slot_of slot
+      ≡ record (old.slot_of slot) { left = (new.slot_of slot).left; faults = (new.slot_of slot).faults }
   pub taken : IsTrue told.left → (old.slot_of slot).left ≡ bytes ++ (new.slot_of slot).left
   pub rose : Rose (old.slot_of slot).faults (new.slot_of slot).faults
 
@@ -48,8 +48,8 @@ pub record ReadsThenFails (told : Told) (slot : Slot) (bytes : List ℕ) (old ne
 pub record OpensOut (told : Told) (slot : Slot) (name : List ℕ) (old new : State) : Type 0 where
   pub only : ChangesOnly slot old new
   pub here :
-    new.slot_of slot
-    ≡ record (old.slot_of slot) { written = (new.slot_of slot).written; name = (new.slot_of slot).name; is_open = true }
+      new.slot_of slot
+      ≡ record (old.slot_of slot) { written = (new.slot_of slot).written; name = (new.slot_of slot).name; is_open = true }
   pub empty : IsTrue told.written → (new.slot_of slot).written ≡ []
   pub named : IsTrue told.written → (new.slot_of slot).name ≡ name
 
@@ -63,8 +63,8 @@ pub record Adds (told : Told) (slot : Slot) (bytes : List ℕ) (old new : State)
 pub record AddsFront (told : Told) (slot : Slot) (bytes : List ℕ) (old new : State) : Type 0 where
   pub only : ChangesOnly slot old new
   pub here :
-    new.slot_of slot
-    ≡ record (old.slot_of slot) { written = (new.slot_of slot).written; faults = (new.slot_of slot).faults }
+      new.slot_of slot
+      ≡ record (old.slot_of slot) { written = (new.slot_of slot).written; faults = (new.slot_of slot).faults }
   pub count : ℕ
   pub front : IsTrue told.written → (new.slot_of slot).written ≡ (old.slot_of slot).written ++ take count bytes
   pub rose : Rose (old.slot_of slot).faults (new.slot_of slot).faults
@@ -74,11 +74,8 @@ pub record Closes (told : Told) (slot : Slot) (old new : State) : Type 0 where
   pub others : (other : Slot) → other ≢ slot → new.slot_of other ≡ old.slot_of other
   pub here : new.slot_of slot ≡ record (old.slot_of slot) { is_open = false }
   pub file :
-    IsTrue told.files → IsTrue told.written
-    → file_at new.files (old.slot_of slot).name ≡ Some (old.slot_of slot).written
-  pub other_files :
-    IsTrue told.files → IsTrue told.written
-    → (other : List ℕ) → other ≢ (old.slot_of slot).name → file_at new.files other ≡ file_at old.files other
+      IsTrue told.files → IsTrue told.written
+      → Stores (old.slot_of slot).name (old.slot_of slot).written old.files new.files
 
 -- All that was left was read: at most so many bytes, and none are left.
 pub record ReadsAll (told : Told) (slot : Slot) (limit : ℕ) (all : List ℕ) (old new : State) : Type 0 where

@@ -1,3 +1,5 @@
 pub mod Slots
 pub mod World
 pub mod Calls
+pub mod Memory
+pub mod FileSystem

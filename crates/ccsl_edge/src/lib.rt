@@ -2,10 +2,23 @@
 //! reached, and the two calls by which the layers above read a whole slot and write a whole text.
 #![tactic(auto)]
 
+pub(crate) mod channel;
+pub mod file_world;
+pub mod held;
+pub mod memory;
+pub(crate) mod place;
+pub mod plan;
 pub mod slot;
 pub mod whole;
 pub mod world;
 
+pub use file_world::FileWorld;
+pub use held::HeldFile;
+pub use memory::MemoryWorld;
+pub use plan::CallKind;
 pub use slot::Slot;
 pub use whole::{ReadFault, read_all, write_all};
 pub use world::{Failed, World};
+
+#[cfg(test)]
+mod tests;

@@ -1,5 +1,8 @@
 //! The places at which the program reads and writes.
 
+ghost use Rattle.std.specs.Prelude.{◌≡◌};
+ghost use Rattle.ccsl_edge.specs.Slots.{index_of};
+
 /// A place at which the program reads or writes: four are read, three are written.
 #[derive(Clone, Copy, Debug, PartialEq, Eq)]
 pub enum Slot {
@@ -17,4 +20,13 @@ pub enum Slot {
     TraceOut,
     /// The certificate that is written.
     CertOut,
+}
+
+impl Slot {
+    /// Its place in a table of all the slots.
+    pub(crate) fn index(self) -> usize
+        ensures { result ≡ index_of self }
+    {
+        self as usize
+    }
 }

@@ -1,7 +1,7 @@
 //! Reading all that a slot has left, and writing a whole text.
 
 ghost use Rattle.std.specs.Prelude.{IsTrue, OnOk, OnErr, IfOk, IfErr};
-ghost use Rattle.ccsl_edge.specs.Slots.{IsInput};
+ghost use Rattle.ccsl_edge.specs.Slots.{IsInput, IsOutput};
 ghost use Rattle.ccsl_edge.specs.Calls.{Adds, AddsFront, ReadsAll, ReadsUntil};
 
 use crate::slot::Slot;
@@ -46,7 +46,12 @@ const BUFFER: u64 = 65536;
 
 /// Reads all the bytes that an input slot has left. It asks the world for no byte behind the first one that is
 /// past the limit, and takes memory by what it reads.
-pub fn read_all<W: World>(alloc: Global, world: &mut W, slot: Slot, limit: u64) -> Result<Vec<u8>, ReadFault>
+pub fn read_all<W: World>(
+    alloc: Global,
+    world: &mut W,
+    slot: Slot,
+    limit: u64,
+) -> Result<Vec<u8>, ReadFault>
     requires input { IsInput slot }
     ensures ok { IfOk result (λ all. ReadsAll W.told slot limit all.items (W.state world.old) (W.state world.new)) }
     ensures err { IfErr result (λ fault. ReadsUntil fault W.told slot limit (W.state world.old) (W.state world.new)) }
@@ -70,6 +75,7 @@ pub fn read_all<W: World>(alloc: Global, world: &mut W, slot: Slot, limit: u64) 
 
 /// Adds all the bytes to an output slot. Where a call fails, a front of them was added.
 pub fn write_all<W: World>(world: &mut W, slot: Slot, bytes: &[u8]) -> Result<(), Failed>
+    requires output { IsOutput slot }
     requires opened { IsTrue ((W.state world.old).slot_of slot).is_open }
     ensures ok { OnOk result (Adds W.told slot bytes.now (W.state world.old) (W.state world.new)) }
     ensures err { OnErr result (AddsFront W.told slot bytes.now (W.state world.old) (W.state world.new)) }

@@ -1,7 +1,7 @@
 //! The world that a program reads and writes: named files, standard input and standard output, by slots.
 
 ghost use Rattle.std.specs.Prelude.{ℕ, ◌<◌, ◌≤◌, length, take, IsTrue, IfOk, OnOk, OnErr};
-ghost use Rattle.ccsl_edge.specs.Slots.{IsInput, IsInputFile, IsOutputFile};
+ghost use Rattle.ccsl_edge.specs.Slots.{IsInput, IsInputFile, IsOutput, IsOutputFile};
 ghost use Rattle.ccsl_edge.specs.Calls.{Fails, OpensIn, Takes, OpensOut, Adds, Closes};
 
 use crate::slot::Slot;
@@ -52,6 +52,7 @@ pub trait World {
 
     /// Adds at least one of the first of these bytes and answers how many.
     fn write(&mut self, slot: Slot, bytes: &[u8]) -> Result<usize, Failed>
+        requires output { IsOutput slot }
         requires opened { IsTrue ((state self.old).slot_of slot).is_open }
         requires some { 0 < length bytes.now }
         ensures within { IfOk result (λ count. (0 < count) × (count ≤ length bytes.now)) }

@@ -6,7 +6,8 @@ use Rattle.ccsl_edge.proofs.whole.read_all.Given as goal
 abbrev pub invariant-loop-all : goal.invariant-loop-all
 invariant-loop-all g l = record {
   reading : IsReading g.W.World.told l.slot l.limit l.all.items (g.W.World.state l.fn.world) (g.W.World.state l.world);
-  room : length l.buffer ≡ min l.limit 65535 + 1 }
+  room : length l.buffer ≡ min l.limit 65535 + 1;
+}
 
 abbrev pub decreases-loop-all : goal.decreases-loop-all
 decreases-loop-all g l = l.limit - length l.all.items
