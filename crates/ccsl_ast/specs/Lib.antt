@@ -1,0 +1,4 @@
+pub mod Trees
+pub mod Depth
+pub mod Kept
+pub mod Files

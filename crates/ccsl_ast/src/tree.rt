@@ -1,0 +1,34 @@
+//! Expressions.
+
+use crate::spot::Spot;
+use crate::term::{Argument, Term, Test, WordTerm};
+use ccsl_base::seq::Seq;
+
+/// An operator between two operands; `Sampled` is `sampled on`, `SampledWeakly` is `sampled weakly on`.
+#[derive(Clone, Copy, Debug, PartialEq, Eq)]
+pub enum BinaryOp {
+    Union,
+    Inter,
+    Minus,
+    Inf,
+    Sup,
+    Upto,
+    Then,
+    Sampled,
+    SampledWeakly,
+}
+
+/// An expression. Parentheses leave no trace in it: `(a)` has the tree of `a`.
+#[derive(Drop)]
+pub enum Tree {
+    Name(Spot),
+    Call(Spot, Seq<Argument>),
+    Never,
+    Binary(BinaryOp, Box<Tree>, Box<Tree>),
+    Delay(Box<Tree>, Term),
+    Await(Box<Tree>, Term),
+    Filter(Box<Tree>, WordTerm),
+    /// The operand, the offset of the number's first digit, the number, the base.
+    Delayed(Box<Tree>, usize, u32, Box<Tree>),
+    If(Test, Box<Tree>, Box<Tree>),
+}

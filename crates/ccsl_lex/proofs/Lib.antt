@@ -1,0 +1,10 @@
+pub mod Runs
+pub mod WordLists
+pub mod Front
+pub mod Values
+pub mod Cutting
+pub mod Classes
+pub mod Longest
+pub mod Unique
+pub mod Again
+pub mod Answered

@@ -1,0 +1,15 @@
+//! The lexer of a specification's text: its tokens, longest from the left, or its first lexical fault.
+#![tactic(auto)]
+
+mod byte;
+pub mod fault;
+pub mod laws;
+mod lexer;
+mod piece;
+pub mod reserved;
+pub mod token;
+
+pub use fault::LexFault;
+pub use lexer::tokens;
+pub use reserved::Reserved;
+pub use token::{Token, TokenKind};
