@@ -7,3 +7,8 @@ pub mod Words
 pub mod Quiet
 pub mod Silent
 pub mod Scope
+pub mod Sets
+pub mod Completion
+pub mod Empty
+pub mod Examples
+pub mod Follows

@@ -1,12 +1,14 @@
 -- The laws of the meaning, as statements on a system.
-use Rattle.std.specs.Prelude.{◌≡◌, ℕ, ◌+◌, ◌<◌, ◌≤◌, List, [], true, false, Some, length}
+use Rattle.std.specs.Prelude.{◌≡◌, ℕ, ◌+◌, ◌<◌, ◌≤◌, List, [], true, false, Some, length, map}
+use Rattle.std.specs.List.{list_all}
 use Rattle.ccsl_formula.specs.Formula.{eval, ReadsBelow}
 use Rattle.ccsl_kernel.specs.declared.actual.Actual.{Actual}
 use Rattle.ccsl_kernel.specs.Syntax.{Expression, System, definition_of}
 use Rattle.ccsl_kernel.specs.Lives.{Step, Life, step_at}
 use Rattle.ccsl_kernel.specs.Meaning.{dead_below, meaning, formula_at, dead_at}
 use Rattle.ccsl_kernel.specs.Guarded.{IsAllowed}
-use Rattle.ccsl_kernel.specs.Runs.{ObeysDefinitions}
+use Rattle.ccsl_kernel.specs.Runs.{ObeysDefinitions, declared_part, is_declared, is_named, completed}
+use Rattle.ccsl_kernel.specs.Items.{item_formula}
 use Rattle.ccsl_kernel.specs.Rows.{IsTable, CallsAreBodies}
 
 -- a meaning of the expressions in the definition of clock x that obeys each row of the table, calls included
@@ -40,3 +42,20 @@ ReadsLower K = (T : List Step) (x n : ℕ) (e : Expression) → definition_of K 
 abbrev pub DeadStays : System → Type 0
 DeadStays K = (T : List Step) (x : ℕ) (e : Expression) (ρ : List Actual) (b n : ℕ) → ObeysDefinitions K T → IsAllowed K e → b ≤ n → n < length T →
     dead_at K T x e ρ b n ≡ true → (eval (formula_at K T x e ρ b n) (step_at T n) ≡ false) × (dead_at K T x e ρ b (n + 1) ≡ true)
+
+-- THE COMPLETION EXISTS: it obeys the definitions and has the declared ticks that it is made from, one step for each set
+pub record Completes (K : System) (R T : List Step) : Type 0 where
+  pub obeys : ObeysDefinitions K T
+  pub declared : map (declared_part K) T ≡ R
+  pub named : list_all (is_named K) T ≡ true
+
+abbrev pub CompletionExists : System → Type 0
+CompletionExists K = (R : List Step) → list_all (is_declared K) R ≡ true → Completes K R (completed K R)
+
+-- AND IS THE ONLY ONE: a list of sets of named clocks that obeys the definitions is the completion of its declared part
+abbrev pub CompletionOnly : System → Type 0
+CompletionOnly K = (R T : List Step) → Completes K R T → T ≡ completed K R
+
+-- THE EMPTY SET SATISFIES EVERY ITEM'S FORMULA at every step
+abbrev pub EmptyHolds : System → Type 0
+EmptyHolds K = (T : List Step) (n i : ℕ) → n ≤ length T → eval (item_formula K T n i) [] ≡ true

@@ -14,3 +14,5 @@ pub mod Laws
 pub mod Coded
 pub mod Cells
 pub mod Accepted
+pub mod Verdict
+pub mod Course

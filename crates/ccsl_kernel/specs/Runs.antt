@@ -49,6 +49,10 @@ declared_part K s = filter (λ x. nat_lt x K.declared) s
 abbrev pub is_declared : System → Step → Bool
 is_declared K s = is_ascending s && are_below K.declared s
 
+-- a set of named clocks
+abbrev pub is_named : System → Step → Bool
+is_named K s = is_ascending s && are_below (K.declared + length K.definitions) s
+
 -- a nonempty set of declared clocks by which the steps T go on as a run
 pub record IsAdmissible (K : System) (T : List Step) (s : Step) : Type 0 where
   pub nonempty : s ≢ []

@@ -3,7 +3,7 @@
 ghost use Rattle.ccsl_kernel.specs.Syntax.{System};
 ghost use Rattle.ccsl_kernel.specs.Guarded.{IsGuarded};
 ghost use Rattle.ccsl_kernel.specs.Scope.{IsScoped};
-ghost use Rattle.ccsl_kernel.specs.Laws.{RowsHold, NamesDie, RowsDetermine, FirstStepsMatter, ReadsLower, DeadStays};
+ghost use Rattle.ccsl_kernel.specs.Laws.{RowsHold, NamesDie, RowsDetermine, FirstStepsMatter, ReadsLower, DeadStays, CompletionExists, CompletionOnly, EmptyHolds};
 
 /// Each row of the table holds of the meaning as an equation, calls of earlier groups and of the own one included.
 pub fn rows_hold()
@@ -33,4 +33,19 @@ pub fn reads_lower()
 /// In a list that obeys the definitions, what is dead does not tick and stays dead.
 pub fn dead_stays()
     ensures { (K : System) → IsGuarded K → DeadStays K }
+{}
+
+/// The completion of declared ticks obeys the definitions, with these declared ticks.
+pub fn completion_exists()
+    ensures { (K : System) → IsGuarded K → IsScoped K → CompletionExists K }
+{}
+
+/// A list that obeys the definitions is the completion of its declared part.
+pub fn completion_only()
+    ensures { (K : System) → IsGuarded K → IsScoped K → CompletionOnly K }
+{}
+
+/// The empty set satisfies every item's formula at every step, so a step of a simulation must be nonempty.
+pub fn empty_holds()
+    ensures { (K : System) → IsGuarded K → EmptyHolds K }
 {}

@@ -1,11 +1,20 @@
 //! Accepted systems.
 
+ghost use Rattle.std.specs.Prelude.{◌≡◌, ◌<◌, length, map, slice_get, Some, option_map};
+ghost use Rattle.ccsl_kernel.specs.Syntax.{item_count};
+ghost use Rattle.ccsl_kernel.specs.Plain.{plain_expr, plain_group, plain_system};
+ghost use Rattle.ccsl_kernel.specs.Accepted.{IsAccepted};
+
 use crate::constraint::Constraint;
 use crate::expr::Expr;
+use crate::group::Group;
 use crate::parts::Parts;
+use ccsl_base::Names;
+use ccsl_formula::Scope;
+use ccsl_words::Word;
 use std::marker::Model;
 
-/// An expanded specification.
+/// An expanded specification that is accepted.
 #[derive(Drop)]
 pub struct System {
     parts: Parts,
@@ -13,7 +22,6 @@ pub struct System {
 
 impl Model for System {
     ghost use Rattle.ccsl_kernel.specs.Syntax.{System as Plain};
-
     ghost use Rattle.std.specs.Coded.{codes};
     ghost use Rattle.ccsl_kernel.specs.Coded.{coded_expression};
 
@@ -22,6 +30,99 @@ impl Model for System {
     ghost coded = { Prim.hlevel (codes, coded_expression) };
 
     ghost use Rattle.ccsl_kernel.specs.Plain.{plain_system};
+    ghost use Rattle.ccsl_kernel.specs.Accepted.{IsAccepted};
 
     ghost view = { λ s. plain_system s.parts };
+
+    ghost invariant = { λ s. IsAccepted (plain_system s.parts) };
+}
+
+impl System {
+    /// The system of accepted parts. It takes no memory.
+    pub fn assemble(parts: Parts) -> System
+        requires { IsAccepted (plain_system parts) }
+        ensures { result ≡ plain_system parts }
+    {
+        System { parts }
+    }
+
+    /// The names of the clocks, by number.
+    pub fn names(&self) -> &Names
+        ensures { result.now ≡ self.now.names }
+    {
+        &self.parts.names
+    }
+
+    /// The number of declared clocks, and that of all named ones.
+    pub fn scope(&self) -> Scope
+        ensures { result ≡ record { declared = self.now.declared; named = length self.now.names } }
+    {
+        Scope {
+            declared: self.parts.declared,
+            named: self.parts.names.len(),
+        }
+    }
+
+    /// The number of clocks that the system declares or defines itself, without the hidden ones.
+    pub fn written(&self) -> u32
+        ensures { result ≡ self.now.written }
+    {
+        self.parts.written
+    }
+
+    pub fn definitions(&self) -> u32
+        ensures { result ≡ length self.now.definitions }
+    {
+        self.parts.definitions.members().len() as u32
+    }
+
+    pub fn constraints(&self) -> u32
+        ensures { result ≡ length self.now.constraints }
+    {
+        self.parts.constraints.members().len() as u32
+    }
+
+    /// The number of definitions and constraints. The definitions are the first items.
+    pub fn items(&self) -> u32
+        ensures { result ≡ item_count self.now }
+    {
+        (self.parts.definitions.members().len() + self.parts.constraints.members().len()) as u32
+    }
+
+    /// The expression that defines clock number `declared + i`.
+    pub fn definition(&self, i: u32) -> &Expr
+        requires { i < length self.now.definitions }
+        ensures { slice_get self.now.definitions i ≡ Some (plain_expr result.now) }
+    {
+        &self.parts.definitions.members()[i as usize]
+    }
+
+    pub fn constraint(&self, j: u32) -> &Constraint
+        requires { j < length self.now.constraints }
+        ensures { slice_get self.now.constraints j ≡ Some result.now }
+    {
+        &self.parts.constraints.members()[j as usize]
+    }
+
+    pub fn groups(&self) -> &[Group]
+        ensures groups { map plain_group result.now ≡ self.now.groups }
+        ensures accepted { IsAccepted self.now }
+    {
+        self.parts.groups.members()
+    }
+
+    /// The table of words.
+    pub fn words(&self) -> &[Word]
+        ensures { result.now ≡ self.now.words }
+    {
+        self.parts.words.members()
+    }
+
+    /// The word number `i` of the system's table.
+    pub fn word(&self, i: u32) -> &Word
+        requires { i < length self.now.words }
+        ensures { slice_get self.now.words i ≡ Some result.now }
+    {
+        &self.parts.words.members()[i as usize]
+    }
 }

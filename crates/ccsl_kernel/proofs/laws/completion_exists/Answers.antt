@@ -1,0 +1,6 @@
+-- Definition by definition, each under the ticks found so far.
+use Rattle.ccsl_kernel.proofs.Completion.{completion_obeys, declared-completed, completion_named}
+use Rattle.ccsl_kernel.proofs.laws.completion_exists.Goals as goal
+
+pub returns : goal.returns
+returns c = λ K ok scoped R h. record { obeys = completion_obeys K ok scoped R h; declared = declared-completed K R h; named = completion_named K R h }
