@@ -1,3 +1,4 @@
 pub mod Keys
 pub mod Tables
 pub mod Changes
+pub mod Pieces

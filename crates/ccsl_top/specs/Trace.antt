@@ -10,6 +10,7 @@ use Rattle.ccsl_base.specs.Clocks.{with_clock}
 use Rattle.ccsl_base.specs.Names.{is_among, find_name}
 use Rattle.ccsl_base.specs.declared.rows.Row.{Row}
 use Rattle.ccsl_vcd_lex.specs.Tokens.{Heard, word, too_long, heard}
+use Rattle.ccsl_top.specs.declared.trace.Dump.{Dump}
 use Rattle.ccsl_top.specs.declared.trace.Place.{Place}
 use Rattle.ccsl_top.specs.declared.trace.Place.TheVariants.{Commands, Variable, Closing, Changes}
 use Rattle.ccsl_top.specs.Numbers.{number_of}
@@ -137,21 +138,24 @@ next_from names (Some r) (too_long at) = None
 next_from names (Some r) (word t) = says names r t.text
 
 -- all the tokens in turn
-unfoldable pub reading_of : List (List ℕ) → List Heard → Option Reading
-reading_of names hs = fold (next_from names) (Some before_all) hs
+abbrev pub reading_from : List (List ℕ) → Option Reading → List Heard → Option Reading
+reading_from names r hs = fold (next_from names) r hs
 
-abbrev pub is_body : Place → Reading → Option Reading
-is_body Changes r = Some r
-is_body _ r = None
+abbrev pub reading_of : List (List ℕ) → List Heard → Option Reading
+reading_of names hs = reading_from names (Some before_all) hs
 
--- a trace ends in its body
-abbrev pub ended : Option Reading → Option Reading
+-- what was read, where a trace may end at this place: in its body
+abbrev pub ended_at : Place → Reading → Option Dump
+ended_at Changes r = Some (record { references = r.references; rows = rows_so_far r })
+ended_at _ r = None
+
+abbrev pub ended : Option Reading → Option Dump
 ended None = None
-ended (Some r) = is_body r.place r
+ended (Some r) = ended_at r.place r
 
--- A WHOLE TRACE, of at most 16,777,216 bytes: what is read of it, or `None`
-abbrev pub trace_of : List (List ℕ) → List ℕ → Option Reading
-trace_of names bytes = if nat_le (length bytes) 16777216 then ended (reading_of names (heard bytes)) else None
+-- A WHOLE TRACE, of at most 16,777,216 bytes: its references and its rows, or `None` where it has another form
+abbrev pub trace_of : List (List ℕ) → List ℕ → Option Dump
+trace_of names bytes = if nat_lt 16777216 (length bytes) then None else ended (reading_of names (heard bytes))
 
 -- the first clock from the first on that is no reference
 abbrev pub first_unbound : List (List ℕ) → List (List ℕ) → Option ℕ

@@ -4,10 +4,12 @@ ghost use Rattle.std.specs.Prelude.{◌≡◌, ◌<◌, ◌≤◌, IfOk, IfSome,
 ghost use Rattle.std.specs.List.{list_all};
 ghost use Rattle.ccsl_top.specs.declared.trace.Place.TheVariants.{Changes};
 ghost use Rattle.ccsl_top.specs.Numbers.{number_of};
-ghost use Rattle.ccsl_top.specs.Trace.{is_later, before_all, may_declare, declared, with_tick, says, command_says, variable_says, declared_by, change_says, timed, changed, is_end, is_visible, is_code, rows_so_far};
+ghost use Rattle.ccsl_vcd_lex.specs.Lexing.{named};
+ghost use Rattle.ccsl_top.specs.Trace.{reading_from, is_later, before_all, may_declare, declared, with_tick, says, command_says, variable_says, declared_by, change_says, timed, changed, is_end, is_visible, is_code, rows_so_far, ended_at, trace_of};
 
 use crate::number::number;
-use ccsl_base::{ClockSet, Memory, Names, Row, Text, MAX_CLOCKS};
+use ccsl_base::{ClockSet, MAX_CLOCKS, Memory, Names, Row, Seq, Text};
+use ccsl_vcd_lex::{Span, Tokenizer};
 use std::alloc::Global;
 use std::marker::Model;
 use std::mem;
@@ -106,6 +108,18 @@ impl TraceReader {
             Place::Variable => self.take_word(text),
             Place::Closing => Ok(self.take_closing(text)),
             Place::Changes => self.take_change(names, text),
+        }
+    }
+
+    // Takes the token that has ended, if there is one.
+    fn take_ended(&mut self, names: &Names, tokenizer: &Tokenizer, ended: Option<Span>) -> Result<bool, Memory>
+        requires few { length names.now ≤ MAX_CLOCKS }
+        ensures { IfOk result (λ taken.
+            reading_from names.now (Some self.old) (named ended tokenizer.now.last) ≡ (if taken then Some self.new else None)) }
+    {
+        match ended {
+            None => Ok(true),
+            Some(_span) => self.take(names, tokenizer.token()),
         }
     }
 
@@ -254,4 +268,57 @@ fn add_tick(row: &mut Row, clock: Option<u32>)
     if let Some(clock) = clock {
         row.ticks.insert(clock);
     }
+}
+
+/// What a trace says: the references of its declarations, and its rows.
+#[derive(Drop)]
+pub(crate) struct Dump {
+    pub references: Names,
+    pub rows: Seq<Row>,
+}
+
+impl TraceReader {
+    /// What was read, where a trace may end here.
+    fn finish(mut self) -> Result<Option<Dump>, Memory>
+        ensures { IfOk result (λ dump. dump ≡ ended_at self.place self) }
+    {
+        match self.place {
+            Place::Changes => {}
+            Place::Commands | Place::Variable | Place::Closing => return Ok(None),
+        }
+        self.end_row()?;
+        let TraceReader { references, rows, .. } = self;
+        Ok(Some(Dump { references, rows: Seq::new(rows) }))
+    }
+}
+
+/// The most bytes of a trace.
+const MAX_TRACE: usize = 16777216;
+
+/// Reads a whole trace. It answers `None` where the trace has another form.
+pub(crate) fn read_trace(alloc: Global, names: &Names, bytes: &[u8]) -> Result<Option<Dump>, Memory>
+    requires few { length names.now ≤ MAX_CLOCKS }
+    ensures { IfOk result (λ dump. dump ≡ trace_of names.now bytes.now) }
+{
+    if bytes.len() > MAX_TRACE {
+        return Ok(None);
+    }
+    let mut tokenizer = Tokenizer::open(alloc)?;
+    let mut reader = TraceReader::new(alloc);
+    let mut rest = bytes;
+    'pieces: while !rest.is_empty() {
+        let fed = match tokenizer.feed_run(rest) {
+            Ok(fed) => fed,
+            Err(_long) => return Ok(None),
+        };
+        if !reader.take_ended(names, &tokenizer, fed.ended)? {
+            return Ok(None);
+        }
+        rest = rest.split_at(fed.bytes).1;
+    }
+    let last = tokenizer.finish();
+    if !reader.take_ended(names, &tokenizer, last)? {
+        return Ok(None);
+    }
+    reader.finish()
 }
