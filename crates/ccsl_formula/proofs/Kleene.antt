@@ -1,9 +1,8 @@
 -- A Kleene value that is known is the truth value.
-use Rattle.std.proofs.Common.{◌≡◌, ℕ, Bool, true, false, ◌⊎◌, inl, inr, refl, sym, ap, ap₂, ⊎_elim, ◌∙◌}
-use Rattle.ccsl_formula.specs.declared.truth3.Truth3.{Truth3}
-use Rattle.ccsl_formula.specs.declared.truth3.Truth3.TheVariants.{Yes, No, Open}
-use Rattle.ccsl_formula.specs.Truth.{known_as, not3, and3, or3, iff3, Fits, Part, Assignment, Agrees}
-use Rattle.ccsl_formula.specs.Formula.{Formula, FTrue, FFalse, FVar, FNot, FAnd, FOr, FIff, truth, kleene, same}
+use Rattle.std.proofs.Common.{◌≡◌, Bool, true, false, inr, refl, ⊎_elim}
+use Rattle.ccsl_formula.specs.declared.truth3.Truth3.TheVariants.{Yes, No}
+use Rattle.ccsl_formula.specs.Truth.{Fits, Part, Assignment, Agrees}
+use Rattle.ccsl_formula.specs.Formula.{Formula, FTrue, FFalse, FVar, FNot, FAnd, FOr, FIff, truth, kleene}
 use Rattle.ccsl_formula.proofs.Tables.{not-fits, and-fits, or-fits, iff-fits}
 
 pub kleene_fits : (f : Formula) (p : Part) (v : Assignment) → Agrees v p → Fits (kleene f p) (truth f v)
@@ -21,3 +20,10 @@ no-fits false h = refl
 
 pub no_false : (f : Formula) (p : Part) (v : Assignment) → Agrees v p → kleene f p ≡ No → truth f v ≡ false
 no_false f p v a e = let h : Fits (kleene f p) (truth f v) = kleene_fits f p v a in no-fits (truth f v) (rw e at h)
+
+yes-fits : (x : Bool) → Fits Yes x → x ≡ true
+yes-fits true h = refl
+yes-fits false h = ⊎_elim (λ e. absurd (cc)) (λ e. absurd (cc)) h
+
+pub yes_true : (f : Formula) (p : Part) (v : Assignment) → Agrees v p → kleene f p ≡ Yes → truth f v ≡ true
+yes_true f p v a e = let h : Fits (kleene f p) (truth f v) = kleene_fits f p v a in yes-fits (truth f v) (rw e at h)

@@ -1,8 +1,8 @@
 -- The three-valued tables fit the two-valued ones.
-use Rattle.std.proofs.Common.{◌≡◌, Bool, true, false, not, ◌&&◌, ◌||◌, ◌⊎◌, inl, inr, refl, ap, ap₂, ⊎_elim, ◌∙◌}
+use Rattle.std.proofs.Common.{Bool, true, false, not, ◌&&◌, ◌||◌, inl, inr, refl, ⊎_elim}
 use Rattle.ccsl_formula.specs.declared.truth3.Truth3.{Truth3}
 use Rattle.ccsl_formula.specs.declared.truth3.Truth3.TheVariants.{Yes, No, Open}
-use Rattle.ccsl_formula.specs.Truth.{known_as, not3, and3, or3, iff3, Fits}
+use Rattle.ccsl_formula.specs.Truth.{not3, and3, or3, iff3, Fits}
 use Rattle.ccsl_formula.specs.Formula.{same}
 
 pub not-fits : (a : Truth3) (x : Bool) → Fits a x → Fits (not3 a) (not x)

@@ -1,5 +1,5 @@
 -- Constants in formulas, and what it is to fold them.
-use Rattle.std.specs.Prelude.{Bool, true, false, not, ◌&&◌}
+use Rattle.std.specs.Prelude.{◌≡◌, Bool, true, false, not, ◌&&◌, ◌⊎◌}
 use Rattle.ccsl_formula.specs.Formula.{Formula, FTrue, FFalse, FVar, FNot, FAnd, FOr, FIff}
 
 -- whether a formula is a constant
@@ -12,7 +12,7 @@ is_constant (FAnd f g) = false
 is_constant (FOr f g) = false
 is_constant (FIff f g) = false
 
--- an operand in which no constant is left to fold
+-- no constant stands under a connective
 abbrev pub is_folded : Formula → Bool
 is_folded FTrue = true
 is_folded FFalse = true
@@ -27,3 +27,7 @@ abbrev pub negation : Formula → Formula
 negation FTrue = FFalse
 negation FFalse = FTrue
 negation f = FNot f
+
+-- one of two formulas
+abbrev pub IsEither : Formula → Formula → Formula → Type 0
+IsEither f g r = (r ≡ f) ⊎ (r ≡ g)

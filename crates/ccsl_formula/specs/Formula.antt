@@ -1,7 +1,7 @@
 -- Formulas over clocks: their truth under a set of clocks, and their Kleene value under a partial assignment.
 use Rattle.std.specs.Prelude.{ℕ, List, Bool, true, false, not, ◌&&◌, ◌||◌, ◌<◌, ◌≡◌, nat_eq}
 use Rattle.ccsl_formula.specs.declared.truth3.Truth3.{Truth3}
-use Rattle.ccsl_formula.specs.declared.truth3.Truth3.TheVariants.{Yes, No, Open}
+use Rattle.ccsl_formula.specs.declared.truth3.Truth3.TheVariants.{Yes, No}
 use Rattle.ccsl_formula.specs.Truth.{not3, and3, or3, iff3, Part, Assignment}
 use Rattle.ccsl_base.specs.Clocks.{ticks_in}
 

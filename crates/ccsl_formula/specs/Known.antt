@@ -1,20 +1,17 @@
--- Partial assignments, as the ordered list of clocks with their values.
-use Rattle.std.specs.Prelude.{ℕ, zero, suc, List, [], ◌∷◌, Bool, true, false, if◌then◌else◌, nat_eq}
+-- Partial assignments, as the list of the clocks that have a value, each with its value.
+use Rattle.std.specs.Prelude.{ℕ, List, [], ◌∷◌, Bool, if◌then◌else◌, map, nat_eq}
 use Rattle.ccsl_formula.specs.declared.truth3.Truth3.{Truth3}
-use Rattle.ccsl_formula.specs.declared.truth3.Truth3.TheVariants.{Yes, No, Open}
+use Rattle.ccsl_formula.specs.declared.truth3.Truth3.TheVariants.{Open}
 use Rattle.ccsl_formula.specs.Truth.{known_as, Part}
-
--- the pairs that a list of values holds, counted from i
-abbrev pub pairs : ℕ → List Truth3 → List (ℕ × Bool)
-pairs i [] = []
-pairs i (Yes ∷ ts) = (i, true) ∷ pairs (suc i) ts
-pairs i (No ∷ ts) = (i, false) ∷ pairs (suc i) ts
-pairs i (Open ∷ ts) = pairs (suc i) ts
 
 -- what the pairs say of a clock
 abbrev pub known : List (ℕ × Bool) → Part
 known [] x = Open
 known ((y, b) ∷ ps) x = if nat_eq x y then known_as b else known ps x
+
+-- the clocks that have a value
+abbrev pub clocks : List (ℕ × Bool) → List ℕ
+clocks ps = map (λ p. p.0) ps
 
 -- p, and b at y
 abbrev pub with_value : Part → ℕ → Bool → Part

@@ -1,17 +1,20 @@
-//! The connectives as functions, which fold constants.
+//! The connectives as functions, which fold constants and nothing else.
 
 ghost use Rattle.std.specs.Prelude.{◌≡◌, ◌||◌, ◌⊎◌, ℕ, Bool, false, true, IfOk};
 ghost use Rattle.ccsl_formula.specs.Formula.{FNot, FAnd, FOr, FIff, reads, Same};
+ghost use Rattle.ccsl_formula.specs.Folded.{is_constant, is_folded, negation, IsEither};
 ghost use Rattle.ccsl_formula.specs.Plain.{plain};
 
 use crate::formula::Formula;
 use ccsl_base::Memory;
 use std::alloc::Global;
 
-/// The negation. The negation of a constant is the other constant.
+/// The negation. That of a constant is the other constant.
 pub fn not(alloc: Global, f: Formula) -> Result<Formula, Memory>
     ensures value { IfOk result (λ r. Same (plain r) (FNot (plain f))) }
     ensures reads { IfOk result (λ r. (v : ℕ) → reads (plain r) v ≡ true → reads (plain f) v ≡ true) }
+    ensures shape { IfOk result (λ r. plain r ≡ negation (plain f)) }
+    ensures folded { IfOk result (λ r. is_folded (plain f) ≡ true → is_folded (plain r) ≡ true) }
 {
     match f {
         Formula::True => Ok(Formula::False),
@@ -20,10 +23,18 @@ pub fn not(alloc: Global, f: Formula) -> Result<Formula, Memory>
     }
 }
 
-/// The conjunction. Where an operand is a constant the answer is one of the operands.
+/// The conjunction. Where an operand is a constant, the answer is one of the operands.
+#[tactic(auto, using(crate::proofs::Folds::folds))]
 pub fn and(alloc: Global, f: Formula, g: Formula) -> Result<Formula, Memory>
     ensures value { IfOk result (λ r. Same (plain r) (FAnd (plain f) (plain g))) }
-    ensures reads { IfOk result (λ r. (v : ℕ) → reads (plain r) v ≡ true → (reads (plain f) v || reads (plain g) v) ≡ true) }
+    ensures reads { IfOk result (λ r. (v : ℕ) → reads (plain r) v ≡ true →
+        (reads (plain f) v || reads (plain g) v) ≡ true) }
+    ensures shape { IfOk result (λ r. is_constant (plain f) ≡ false → is_constant (plain g) ≡ false →
+        plain r ≡ FAnd (plain f) (plain g)) }
+    ensures constant { IfOk result (λ r. (is_constant (plain f) || is_constant (plain g)) ≡ true →
+        (IsEither (plain f) (plain g) (plain r))) }
+    ensures folded { IfOk result (λ r. is_folded (plain f) ≡ true → is_folded (plain g) ≡ true →
+        is_folded (plain r) ≡ true) }
 {
     match f {
         Formula::True => Ok(g),
@@ -36,10 +47,18 @@ pub fn and(alloc: Global, f: Formula, g: Formula) -> Result<Formula, Memory>
     }
 }
 
-/// The disjunction, with constants folded.
+/// The disjunction. Where an operand is a constant, the answer is one of the operands.
+#[tactic(auto, using(crate::proofs::Folds::folds))]
 pub fn or(alloc: Global, f: Formula, g: Formula) -> Result<Formula, Memory>
     ensures value { IfOk result (λ r. Same (plain r) (FOr (plain f) (plain g))) }
-    ensures reads { IfOk result (λ r. (v : ℕ) → reads (plain r) v ≡ true → (reads (plain f) v || reads (plain g) v) ≡ true) }
+    ensures reads { IfOk result (λ r. (v : ℕ) → reads (plain r) v ≡ true →
+        (reads (plain f) v || reads (plain g) v) ≡ true) }
+    ensures shape { IfOk result (λ r. is_constant (plain f) ≡ false → is_constant (plain g) ≡ false →
+        plain r ≡ FOr (plain f) (plain g)) }
+    ensures constant { IfOk result (λ r. (is_constant (plain f) || is_constant (plain g)) ≡ true →
+        (IsEither (plain f) (plain g) (plain r))) }
+    ensures folded { IfOk result (λ r. is_folded (plain f) ≡ true → is_folded (plain g) ≡ true →
+        is_folded (plain r) ≡ true) }
 {
     match f {
         Formula::True => Ok(Formula::True),
@@ -52,10 +71,18 @@ pub fn or(alloc: Global, f: Formula, g: Formula) -> Result<Formula, Memory>
     }
 }
 
-/// The equivalence, with constants folded.
+/// The equivalence. Where an operand is a constant, the answer is an operand or the negation of one.
+#[tactic(auto, using(crate::proofs::Folds::folds))]
 pub fn iff(alloc: Global, f: Formula, g: Formula) -> Result<Formula, Memory>
     ensures value { IfOk result (λ r. Same (plain r) (FIff (plain f) (plain g))) }
-    ensures reads { IfOk result (λ r. (v : ℕ) → reads (plain r) v ≡ true → (reads (plain f) v || reads (plain g) v) ≡ true) }
+    ensures reads { IfOk result (λ r. (v : ℕ) → reads (plain r) v ≡ true →
+        (reads (plain f) v || reads (plain g) v) ≡ true) }
+    ensures shape { IfOk result (λ r. is_constant (plain f) ≡ false → is_constant (plain g) ≡ false →
+        plain r ≡ FIff (plain f) (plain g)) }
+    ensures constant { IfOk result (λ r. (is_constant (plain f) || is_constant (plain g)) ≡ true →
+        IsEither (plain f) (plain g) (plain r) ⊎ IsEither (negation (plain f)) (negation (plain g)) (plain r)) }
+    ensures folded { IfOk result (λ r. is_folded (plain f) ≡ true → is_folded (plain g) ≡ true →
+        is_folded (plain r) ≡ true) }
 {
     match f {
         Formula::True => Ok(g),

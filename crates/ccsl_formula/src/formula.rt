@@ -3,11 +3,11 @@
 ghost use Rattle.std.specs.Prelude.{◌≡◌};
 ghost use Rattle.ccsl_formula.specs.Formula.{eval, kleene, reads};
 ghost use Rattle.ccsl_formula.specs.Known.{known};
-ghost use Rattle.ccsl_formula.specs.Truth.{not3};
 ghost use Rattle.ccsl_formula.specs.Plain.{plain};
 
 use crate::partial::Partial;
 use crate::truth3::Truth3;
+use ccsl_base::ClockSet;
 
 /// A formula over clocks.
 #[derive(Drop)]
@@ -22,6 +22,21 @@ pub enum Formula {
 }
 
 impl Formula {
+    /// The truth value where the members of a set tick.
+    pub fn eval(&self, set: &ClockSet) -> bool
+        ensures { result ≡ eval (plain self.now) set.now }
+    {
+        match self {
+            Formula::True => true,
+            Formula::False => false,
+            Formula::Var(x) => set.has(*x),
+            Formula::Not(f) => !f.eval(set),
+            Formula::And(f, g) => f.eval(set) && g.eval(set),
+            Formula::Or(f, g) => f.eval(set) || g.eval(set),
+            Formula::Iff(f, g) => f.eval(set) == g.eval(set),
+        }
+    }
+
     /// The strong Kleene value.
     pub fn kleene(&self, part: &Partial) -> Truth3
         ensures { result ≡ kleene (plain self.now) (known part.now) }
@@ -30,29 +45,18 @@ impl Formula {
             Formula::True => Truth3::Yes,
             Formula::False => Truth3::No,
             Formula::Var(x) => part.value(*x),
-            Formula::Not(f) => negated(f.kleene(part)),
+            Formula::Not(f) => f.kleene(part).not(),
             Formula::And(f, g) => match f.kleene(part) {
-                Truth3::Yes => g.kleene(part),
                 Truth3::No => Truth3::No,
-                Truth3::Open => match g.kleene(part) {
-                    Truth3::No => Truth3::No,
-                    Truth3::Yes => Truth3::Open,
-                    Truth3::Open => Truth3::Open,
-                },
+                left => left.and(g.kleene(part)),
             },
             Formula::Or(f, g) => match f.kleene(part) {
                 Truth3::Yes => Truth3::Yes,
-                Truth3::No => g.kleene(part),
-                Truth3::Open => match g.kleene(part) {
-                    Truth3::Yes => Truth3::Yes,
-                    Truth3::No => Truth3::Open,
-                    Truth3::Open => Truth3::Open,
-                },
+                left => left.or(g.kleene(part)),
             },
             Formula::Iff(f, g) => match f.kleene(part) {
-                Truth3::Yes => g.kleene(part),
-                Truth3::No => negated(g.kleene(part)),
                 Truth3::Open => Truth3::Open,
+                left => left.iff(g.kleene(part)),
             },
         }
     }
@@ -70,15 +74,5 @@ impl Formula {
             Formula::Or(f, g) => f.reads(v) || g.reads(v),
             Formula::Iff(f, g) => f.reads(v) || g.reads(v),
         }
-    }
-}
-
-fn negated(value: Truth3) -> Truth3
-    ensures { result ≡ not3 value }
-{
-    match value {
-        Truth3::Yes => Truth3::No,
-        Truth3::No => Truth3::Yes,
-        Truth3::Open => Truth3::Open,
     }
 }

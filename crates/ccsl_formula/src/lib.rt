@@ -7,8 +7,12 @@ pub mod laws;
 pub mod partial;
 pub mod scope;
 pub mod truth3;
+mod word;
 
 pub use formula::Formula;
 pub use partial::Partial;
 pub use scope::Scope;
 pub use truth3::Truth3;
+
+#[cfg(test)]
+mod tests;

@@ -1,50 +1,52 @@
 //! Partial assignments.
 
-ghost use Rattle.std.specs.Prelude.{◌≡◌, ◌<◌, ◌≤◌, ℕ, [], Bool, Some, None, MatchOption};
-ghost use Rattle.ccsl_formula.specs.Known.{known, with_value, with_truth};
+ghost use Rattle.std.specs.Prelude.{◌≡◌, ◌<◌, ◌≤◌, [], IsTrue, MatchOption};
+ghost use Rattle.ccsl_base.specs.Clocks.{is_ascending, are_below};
+ghost use Rattle.ccsl_formula.specs.Known.{known, clocks, with_value, with_truth};
 ghost use Rattle.ccsl_formula.specs.Truth.{known_as};
 ghost use Rattle.ccsl_formula.specs.declared.truth3.Truth3.TheVariants.{Open};
 
 use crate::truth3::Truth3;
-
-const CLOCKS: usize = 64;
-
+use crate::word::{has_bit, with_bit};
+use ccsl_base::MAX_CLOCKS;
 use std::marker::Model;
 
-/// Truth values of some clocks.
+/// Truth values of some clocks below [`MAX_CLOCKS`].
 #[derive(Drop)]
 pub struct Partial {
-    values: [Truth3; CLOCKS],
+    valued: u64,
+    truth: u64,
 }
 
 impl Model for Partial {
-    ghost use Rattle.std.specs.Prelude.{◌≡◌, length, List, ℕ, Bool};
-    ghost use Rattle.ccsl_formula.specs.Known.{pairs};
+    ghost use Rattle.std.specs.Prelude.{List, ℕ, Bool};
+    ghost use Rattle.ccsl_formula.specs.Kept.{pairs_of};
 
     ghost Value = { List (ℕ × Bool) };
 
-    ghost view = { λ p. pairs 0 p.values };
-
-    ghost invariant = { λ p. length p.values ≡ 64 };
+    ghost view = { λ p. pairs_of p.valued p.truth };
 }
 
 impl Partial {
-    /// No value.
+    /// No clock has a value.
     pub fn empty() -> Partial
         ensures { result ≡ [] }
     {
         Partial {
-            values: [Truth3::Open; CLOCKS],
+            valued: 0,
+            truth: 0,
         }
     }
 
-    /// The value of a clock.
+    /// The value of a clock. A number past the limit has none.
     pub fn value(&self, clock: u32) -> Truth3
         ensures value { result ≡ known self.now clock }
-        ensures past { CLOCKS ≤ clock → result ≡ Open }
+        ensures past { MAX_CLOCKS ≤ clock → result ≡ Open }
+        ensures ascending { IsTrue (is_ascending (clocks self.now)) }
+        ensures below { IsTrue (are_below MAX_CLOCKS (clocks self.now)) }
     {
-        if (clock as usize) < self.values.len() {
-            self.values[clock as usize]
+        if clock < MAX_CLOCKS && has_bit(self.valued, clock) {
+            Truth3::known_as(has_bit(self.truth, clock))
         } else {
             Truth3::Open
         }
@@ -61,30 +63,32 @@ impl Partial {
         }
     }
 
-    /// Gives a clock a value.
+    /// Gives a clock a value, in place of the one that it may have had.
     pub fn set(&mut self, clock: u32, value: bool)
-        requires { clock < CLOCKS }
+        requires { clock < MAX_CLOCKS }
         ensures { known self.new ≡ with_value (known self.old) clock value }
     {
-        self.values[clock as usize] = known_as(value);
-    }
-
-    /// Takes over what another one says of a clock.
-    pub fn take(&mut self, other: &Partial, clock: u32)
-        ensures { known self.new ≡ with_truth (known self.old) clock (known other.now clock) }
-    {
-        let value = other.value(clock);
-        if (clock as usize) < CLOCKS {
-            self.values[clock as usize] = value;
-        }
+        self.valued = with_bit(self.valued, clock, true);
+        self.truth = with_bit(self.truth, clock, value);
     }
 
     /// Takes away the value of a clock.
     pub fn forget(&mut self, clock: u32)
         ensures { known self.new ≡ with_truth (known self.old) clock Open }
     {
-        if (clock as usize) < CLOCKS {
-            self.values[clock as usize] = Truth3::Open;
+        if clock < MAX_CLOCKS {
+            self.valued = with_bit(self.valued, clock, false);
+        }
+    }
+
+    /// Takes over what another one says of a clock, also that it has no value.
+    pub fn take(&mut self, other: &Partial, clock: u32)
+        ensures { known self.new ≡ with_truth (known self.old) clock (known other.now clock) }
+    {
+        match other.value(clock) {
+            Truth3::Yes => self.set(clock, true),
+            Truth3::No => self.set(clock, false),
+            Truth3::Open => self.forget(clock),
         }
     }
 
@@ -92,12 +96,9 @@ impl Partial {
     pub fn copy(&self) -> Partial
         ensures { result ≡ self.now }
     {
-        Partial { values: self.values }
+        Partial {
+            valued: self.valued,
+            truth: self.truth,
+        }
     }
-}
-
-fn known_as(value: bool) -> Truth3
-    ensures { result ≡ known_as value }
-{
-    if value { Truth3::Yes } else { Truth3::No }
 }

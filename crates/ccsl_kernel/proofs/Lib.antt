@@ -12,3 +12,6 @@ pub mod Completion
 pub mod Empty
 pub mod Examples
 pub mod Follows
+pub mod Fits
+pub mod TickWords
+pub mod AcceptedParts

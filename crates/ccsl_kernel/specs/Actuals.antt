@@ -17,16 +17,12 @@ use Rattle.ccsl_kernel.specs.declared.expr.Value.TheVariants as value
 use Rattle.ccsl_kernel.specs.declared.expr.ExprTest.{ExprTest}
 use Rattle.ccsl_kernel.specs.declared.expr.ExprTest.TheVariants as test
 use Rattle.ccsl_kernel.specs.declared.actual.Actual.{Actual}
+use Rattle.ccsl_kernel.specs.declared.actual.Spot.{Spot}
 use Rattle.ccsl_kernel.specs.declared.actual.Actual.TheVariants as actual
 
 abbrev pub number_in : Option Actual → ℕ
 number_in (Some (actual.Number n)) = n
 number_in _ = 0
-
--- a word of the table, and an offset in it
-pub record Spot : Type 0 where
-  pub word : ℕ
-  pub offset : ℕ
 
 abbrev pub spot_in : Option Actual → Spot
 spot_in (Some (actual.Word w o)) = record { word = w; offset = o }

@@ -14,5 +14,9 @@ pub mod Laws
 pub mod Coded
 pub mod Cells
 pub mod Accepted
+pub mod Fit
 pub mod Verdict
 pub mod Course
+pub mod Since
+pub mod Asked
+pub mod Deep

@@ -1,4 +1,15 @@
-//! What a parameter stands for in one call.
+//! What parameters stand for in one call, and so the numbers, words, tests and arguments that name them.
+//!
+//! The actual parameter number `i` stands at place `i` of a slice. One that is missing, or is of another kind, reads as the number
+//! 0 and as an empty word; in accepted systems there is none such.
+
+ghost use Rattle.std.specs.Prelude.{◌≡◌, ◌&&◌, length, nat_le, slice_get};
+ghost use Rattle.ccsl_words.specs.Word.{letter, is_finite, has_ended};
+ghost use Rattle.ccsl_kernel.specs.Actuals.{place_of, prim_of, number_of, spot_of, spot_in, word_of, tail_of, value_of, test_of};
+ghost use Rattle.ccsl_kernel.specs.Fit.{PlaceFits, SpotFits, ActualFits, ActualsFit, TestFits, ValueFits};
+
+use crate::expr::{ExprTest, NumPrim, NumSign, NumTerm, Place, Value, WordPlace};
+use ccsl_words::Word;
 
 /// A clock, a number, or a word of the system's table with an offset.
 #[derive(Clone, Copy)]
@@ -6,4 +17,171 @@ pub enum Actual {
     Clock(u32),
     Number(u32),
     Word(u32, u64),
+}
+
+/// A word of the table, and an offset in it.
+#[derive(Clone, Copy)]
+pub struct Spot {
+    pub word: u32,
+    pub offset: u64,
+}
+
+impl Place {
+    /// The clock, or what the parameter stands for.
+    pub fn actual(&self, actuals: &[Actual]) -> Actual
+        ensures { result ≡ place_of self.now actuals.now }
+    {
+        match self {
+            Place::Clock(x) => Actual::Clock(*x),
+            Place::Param(i) => match actuals.get(*i as usize) {
+                Some(actual) => *actual,
+                None => Actual::Number(0),
+            },
+        }
+    }
+}
+
+impl NumPrim {
+    pub fn number(&self, actuals: &[Actual]) -> u32
+        ensures { result ≡ prim_of self.now actuals.now }
+    {
+        match self {
+            NumPrim::Num(n) => *n,
+            NumPrim::Param(i) => match actuals.get(*i as usize) {
+                Some(Actual::Number(n)) => *n,
+                _ => 0,
+            },
+        }
+    }
+}
+
+impl NumTerm {
+    pub fn number(&self, actuals: &[Actual]) -> u32
+        ensures { result ≡ number_of self.now actuals.now }
+    {
+        let mut total = self.first.number(actuals);
+        for (sign, prim) in self.rest.members() {
+            let n = prim.number(actuals);
+            total = match sign {
+                NumSign::Plus => total.saturating_add(n),
+                NumSign::Minus => total.saturating_sub(n),
+            };
+        }
+        total
+    }
+}
+
+/// The spot that parameter number `i` stands for.
+fn param_spot(actuals: &[Actual], i: u32) -> Spot
+    ensures { result ≡ spot_in (slice_get actuals.now i) }
+{
+    match actuals.get(i as usize) {
+        Some(Actual::Word(w, offset)) => Spot {
+            word: *w,
+            offset: *offset,
+        },
+        _ => Spot { word: 0, offset: 0 },
+    }
+}
+
+/// The letter number `k` of a word of the table.
+pub fn letter_at(words: &[Word], word: u32, k: u64) -> bool
+    ensures { result ≡ letter (word_of words.now word) k }
+{
+    match words.get(word as usize) {
+        Some(word) => word.letter(k),
+        None => false,
+    }
+}
+
+/// Whether a word of the table is finite and has no letter number `k`.
+pub fn is_past_end(words: &[Word], word: u32, k: u64) -> bool
+    ensures { result ≡ (is_finite (word_of words.now word) && nat_le (length (word_of words.now word).prefix) k) }
+{
+    match words.get(word as usize) {
+        Some(word) => word.is_finite() && word.len() <= k,
+        None => true,
+    }
+}
+
+impl Spot {
+    /// Whether the offset is the end of a finite word.
+    pub fn has_ended(&self, words: &[Word]) -> bool
+        ensures { result ≡ has_ended (word_of words.now self.now.word) self.now.offset }
+    {
+        match words.get(self.word as usize) {
+            Some(word) => word.is_finite() && self.offset == word.len(),
+            None => self.offset == 0,
+        }
+    }
+
+    /// The same word at the offset after.
+    pub fn tail(&self, words: &[Word]) -> Spot
+        requires { SpotFits words.now self.now }
+        ensures tail { result ≡ tail_of words.now self.now }
+        ensures fits { SpotFits words.now result }
+    {
+        let offset = match words.get(self.word as usize) {
+            Some(word) => word.rest(self.offset.min(word.len())),
+            None => 0,
+        };
+        Spot {
+            word: self.word,
+            offset,
+        }
+    }
+}
+
+impl WordPlace {
+    pub fn spot(&self, words: &[Word], actuals: &[Actual]) -> Spot
+        requires place { PlaceFits words.now self.now }
+        requires actuals { ActualsFit words.now actuals.now }
+        ensures spot { result ≡ spot_of words.now self.now actuals.now }
+        ensures fits { SpotFits words.now result }
+    {
+        match self {
+            WordPlace::Word(w, offset) => Spot {
+                word: *w,
+                offset: *offset,
+            },
+            WordPlace::Param(i) => param_spot(actuals, *i),
+            WordPlace::Tail(i) => param_spot(actuals, *i).tail(words),
+        }
+    }
+}
+
+impl Value {
+    pub fn actual(&self, words: &[Word], actuals: &[Actual]) -> Actual
+        requires value { ValueFits words.now self.now }
+        requires actuals { ActualsFit words.now actuals.now }
+        ensures actual { result ≡ value_of words.now actuals.now self.now }
+        ensures fits { ActualFits words.now result }
+    {
+        match self {
+            Value::Clock(place) => place.actual(actuals),
+            Value::Number(term) => Actual::Number(term.number(actuals)),
+            Value::Word(place) => {
+                let spot = place.spot(words, actuals);
+                Actual::Word(spot.word, spot.offset)
+            }
+        }
+    }
+}
+
+impl ExprTest {
+    pub fn holds(&self, words: &[Word], actuals: &[Actual]) -> bool
+        requires test { TestFits words.now self.now }
+        requires actuals { ActualsFit words.now actuals.now }
+        ensures { result ≡ test_of words.now self.now actuals.now }
+    {
+        match self {
+            ExprTest::Equal(t, u) => t.number(actuals) == u.number(actuals),
+            ExprTest::Less(t, u) => t.number(actuals) < u.number(actuals),
+            ExprTest::Head(place) => {
+                let spot = place.spot(words, actuals);
+                letter_at(words, spot.word, spot.offset)
+            }
+            ExprTest::Ended(place) => place.spot(words, actuals).has_ended(words),
+        }
+    }
 }

@@ -1,13 +1,12 @@
 //! The laws of the meaning. Each function does nothing; its contract is the law.
 
 ghost use Rattle.ccsl_kernel.specs.Syntax.{System};
-ghost use Rattle.ccsl_kernel.specs.Guarded.{IsGuarded};
-ghost use Rattle.ccsl_kernel.specs.Scope.{IsScoped};
+ghost use Rattle.ccsl_kernel.specs.Accepted.{IsAccepted};
 ghost use Rattle.ccsl_kernel.specs.Laws.{RowsHold, NamesDie, RowsDetermine, FirstStepsMatter, ReadsLower, DeadStays, CompletionExists, CompletionOnly, EmptyHolds};
 
 /// Each row of the table holds of the meaning as an equation, calls of earlier groups and of the own one included.
 pub fn rows_hold()
-    ensures { (K : System) → IsGuarded K → RowsHold K }
+    ensures { (K : System) → IsAccepted K → RowsHold K }
 {}
 
 /// A clock is dead where its definition, born at 0, is.
@@ -17,35 +16,35 @@ pub fn names_die()
 
 /// What obeys each row of the table is the meaning.
 pub fn rows_determine()
-    ensures { (K : System) → IsGuarded K → RowsDetermine K }
+    ensures { (K : System) → IsAccepted K → RowsDetermine K }
 {}
 
 /// Later steps don't change what an expression meant.
 pub fn first_steps_matter()
-    ensures { (K : System) → IsGuarded K → FirstStepsMatter K }
+    ensures { (K : System) → IsAccepted K → FirstStepsMatter K }
 {}
 
 /// The formula of a definition reads clocks below its own.
 pub fn reads_lower()
-    ensures { (K : System) → IsGuarded K → IsScoped K → ReadsLower K }
+    ensures { (K : System) → IsAccepted K → ReadsLower K }
 {}
 
 /// In a list that obeys the definitions, what is dead does not tick and stays dead.
 pub fn dead_stays()
-    ensures { (K : System) → IsGuarded K → DeadStays K }
+    ensures { (K : System) → IsAccepted K → DeadStays K }
 {}
 
 /// The completion of declared ticks obeys the definitions, with these declared ticks.
 pub fn completion_exists()
-    ensures { (K : System) → IsGuarded K → IsScoped K → CompletionExists K }
+    ensures { (K : System) → IsAccepted K → CompletionExists K }
 {}
 
 /// A list that obeys the definitions is the completion of its declared part.
 pub fn completion_only()
-    ensures { (K : System) → IsGuarded K → IsScoped K → CompletionOnly K }
+    ensures { (K : System) → IsAccepted K → CompletionOnly K }
 {}
 
 /// The empty set satisfies every item's formula at every step, so a step of a simulation must be nonempty.
 pub fn empty_holds()
-    ensures { (K : System) → IsGuarded K → EmptyHolds K }
+    ensures { (K : System) → IsAccepted K → EmptyHolds K }
 {}

@@ -7,9 +7,11 @@ pub mod expr;
 pub mod group;
 pub mod laws;
 pub mod parts;
+pub mod row;
 pub mod system;
+pub mod ticks;
 
-pub use actual::Actual;
+pub use actual::{Actual, Spot};
 pub use constraint::Constraint;
 pub use constraint::RelationKind;
 pub use expr::Expr;

@@ -1,12 +1,20 @@
 //! Binary words as values.
 
-ghost use Rattle.std.specs.Prelude.{◌≡◌, ◌<◌, ◌↔◌, IsTrue};
+ghost use Rattle.std.specs.Prelude.{◌≡◌, ◌<◌, ◌≤◌, ◌↔◌, ◌≢◌, IfOk, IfErr, Some, None, vec_len, ◌++◌, ◌∷◌};
 ghost use Rattle.ccsl_words.specs.Word.{letter, rest, is_finite, word_len};
+ghost use Rattle.ccsl_words.specs.Spelling.{Reads, read_word, digits};
+ghost use Rattle.ccsl_words.specs.Fault.{IsFault};
 
+use crate::fault::WordFault;
+use crate::front::letters_at_front;
 use ccsl_base::Seq;
+use std::alloc::Global;
 use std::marker::Model;
 
-/// A binary word.
+/// The most letters of a word, in prefix and period together.
+pub const MAX_LETTERS: usize = 4096;
+
+/// A binary word with at least one letter and at most `MAX_LETTERS`.
 #[derive(Drop)]
 pub struct Word {
     prefix: Seq<bool>,
@@ -14,14 +22,64 @@ pub struct Word {
 }
 
 impl Model for Word {
+    ghost use Rattle.std.specs.Prelude.{◌<◌, ◌≤◌, ◌+◌, length};
     ghost use Rattle.ccsl_words.specs.Word.{BinaryWord};
 
     ghost Value = { BinaryWord };
 
     ghost view = { λ w. record { prefix = w.prefix; period = w.period } };
+
+    ghost invariant = { λ w. (0 < length w.prefix + length w.period) × (length w.prefix + length w.period ≤ 4096) };
 }
 
 impl Word {
+    /// Reads a word's text. The first fault in reading order is answered.
+    pub fn read(alloc: Global, text: &[u8]) -> Result<Word, WordFault>
+        ensures word { IfOk result (λ w. Reads text.now w) }
+        ensures fault { IfErr result (λ e. e ≢ WordFault.Memory → IsFault text.now e) }
+        ensures computed { IfOk result (λ w. read_word text.now ≡ Some w) }
+        ensures refused { IfErr result (λ e. e ≢ WordFault.Memory → read_word text.now ≡ None) }
+    {
+        let prefix = letters_at_front(alloc, text, MAX_LETTERS)?;
+        let behind = &text[prefix.len()..];
+        if let Some(inside) = behind.strip_prefix(b"(") {
+            return Word::with_period(alloc, prefix, inside);
+        }
+        if !behind.is_empty() {
+            return Err(WordFault::BadLetter(prefix.len()));
+        }
+        if prefix.is_empty() {
+            return Err(WordFault::Empty);
+        }
+        Ok(Word {
+            prefix: Seq::new(prefix),
+            period: Seq::new(Vec::new(alloc)),
+        })
+    }
+
+    /// Goes on behind a prefix and the ( of a period.
+    fn with_period(alloc: Global, prefix: Vec<bool>, inside: &[u8]) -> Result<Word, WordFault>
+        requires { vec_len prefix ≤ 4096 }
+        ensures word { IfOk result (λ w. Reads (digits prefix.items ++ 40 ∷ inside.now) w) }
+        ensures fault { IfErr result (λ e. e ≢ WordFault.Memory → IsFault (digits prefix.items ++ 40 ∷ inside.now) e) }
+    {
+        let period = letters_at_front(alloc, inside, MAX_LETTERS - prefix.len())?;
+        let end = prefix.len() + 1 + period.len();
+        let Some(behind) = inside[period.len()..].strip_prefix(b")") else {
+            return Err(WordFault::BadLetter(end));
+        };
+        if period.is_empty() {
+            return Err(WordFault::Empty);
+        }
+        if !behind.is_empty() {
+            return Err(WordFault::BadLetter(end + 1));
+        }
+        Ok(Word {
+            prefix: Seq::new(prefix),
+            period: Seq::new(period),
+        })
+    }
+
     /// The letter number `k`, from 0; false past the end of a finite word.
     pub fn letter(&self, k: u64) -> bool
         ensures { result ≡ letter self.now k }
@@ -33,8 +91,8 @@ impl Word {
         } else if period.is_empty() {
             false
         } else {
-            let turns = (k - prefix.len() as u64) % period.len() as u64;
-            period[turns as usize]
+            let turn = (k - prefix.len() as u64) % period.len() as u64;
+            period[turn as usize]
         }
     }
 
@@ -47,7 +105,9 @@ impl Word {
 
     /// The letters of prefix and period together.
     pub fn len(&self) -> u64
-        ensures { result ≡ word_len self.now }
+        ensures letters { result ≡ word_len self.now }
+        ensures few { result ≤ 4096 }
+        ensures some { 0 < result }
     {
         self.prefix.members().len() as u64 + self.period.members().len() as u64
     }

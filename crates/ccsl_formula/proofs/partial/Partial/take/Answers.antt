@@ -1,19 +1,9 @@
-use Rattle.std.proofs.Common.{◌≡◌, ◌<◌, ◌≤◌, ◌∙◌, length, ap, sym, rules, arith, set}
-use Rattle.ccsl_formula.specs.declared.truth3.Truth3.{Truth3}
-use Rattle.ccsl_formula.specs.declared.truth3.Truth3.TheVariants.{Open}
-use Rattle.ccsl_formula.specs.Known.{known, pairs, with_truth}
-use Rattle.ccsl_formula.proofs.Places.{known-set, with-past}
+use Rattle.std.proofs.Common.{ap, sym, ◌∙◌}
+use Rattle.ccsl_formula.specs.Known.{known, with_truth}
 use Rattle.ccsl_formula.proofs.partial.Partial.take.Goals as goal
 
-pub returns-then-clock-lt-CLOCKS : goal.returns-then-clock-lt-CLOCKS
-returns-then-clock-lt-CLOCKS c =
-    known-set c.self.inside.values c.args.clock c.value-value.result (omega arith)
-    ∙ ap (λ ps. with_truth (known ps) c.args.clock c.value-value.result) c.self.view_is
-    ∙ ap (λ t. with_truth (known c.args.self.now) c.args.clock t) c.value-value.ensures.value
+pub returns-in-Yes : goal.returns-in-Yes
+returns-in-Yes c = c.set.ensures ∙ ap (with_truth (known c.args.self.now) c.args.clock) (sym c.in-Yes.is ∙ c.value.ensures.value)
 
-pub returns-else-clock-lt-CLOCKS : goal.returns-else-clock-lt-CLOCKS
-returns-else-clock-lt-CLOCKS c =
-    ap known (sym c.self.view_is)
-    ∙ with-past c.self.inside.values c.args.clock (omega arith)
-    ∙ ap (λ ps. with_truth (known ps) c.args.clock Open) c.self.view_is
-    ∙ ap (λ t. with_truth (known c.args.self.now) c.args.clock t) (sym (c.value-value.ensures.past c.if-clock-lt-CLOCKS.false) ∙ c.value-value.ensures.value)
+pub returns-in-No : goal.returns-in-No
+returns-in-No c = c.set-in-No.ensures ∙ ap (with_truth (known c.args.self.now) c.args.clock) (sym c.in-No.is ∙ c.value.ensures.value)
