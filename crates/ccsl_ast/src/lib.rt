@@ -3,6 +3,7 @@
 
 pub mod definition;
 pub mod file;
+pub mod laws;
 pub mod line;
 pub mod spot;
 pub mod term;
@@ -14,3 +15,6 @@ pub use line::{Relation, RelationLine, SystemLine};
 pub use spot::Spot;
 pub use term::{Argument, Prim, Primary, Sign, Term, Test, WordTerm};
 pub use tree::{BinaryOp, Tree};
+
+#[cfg(test)]
+mod tests;

@@ -1,5 +1,7 @@
 //! Expressions.
 
+ghost use Rattle.std.specs.Prelude.{◌≡◌};
+
 use crate::spot::Spot;
 use crate::term::{Argument, Term, Test, WordTerm};
 use ccsl_base::seq::Seq;
@@ -31,4 +33,16 @@ pub enum Tree {
     /// The operand, the offset of the number's first digit, the number, the base.
     Delayed(Box<Tree>, usize, u32, Box<Tree>),
     If(Test, Box<Tree>, Box<Tree>),
+}
+
+impl Tree {
+    ghost use Rattle.ccsl_ast.specs.Trees.{plain};
+    ghost use Rattle.ccsl_ast.specs.Depth.{stands_in_parens};
+
+    /// Whether it stands in parentheses where it is an operand: an operator does, and an `if`.
+    pub fn stands_in_parens(&self) -> bool
+        ensures { result ≡ stands_in_parens (plain self.now) }
+    {
+        !matches!(self, Tree::Name(_) | Tree::Call(_, _) | Tree::Never)
+    }
 }

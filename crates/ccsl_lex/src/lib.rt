@@ -13,3 +13,6 @@ pub use fault::LexFault;
 pub use lexer::tokens;
 pub use reserved::Reserved;
 pub use token::{Token, TokenKind};
+
+#[cfg(test)]
+mod tests;
