@@ -2,5 +2,6 @@
 #![tactic(auto)]
 
 mod number;
+mod specification;
 mod trace;
 mod words;
