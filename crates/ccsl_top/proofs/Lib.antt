@@ -2,3 +2,4 @@ pub mod Keys
 pub mod Tables
 pub mod Changes
 pub mod Pieces
+pub mod Said

@@ -28,7 +28,7 @@ pub added-new : (old new : List (List ℕ)) (name : List ℕ) (number : Option �
 added-new old new name None e added = let absent : is_among name old ≡ false = not_found-absent name old e in absurd (true≢false (sym added.0 ∙ absent))
 added-new old new name (Some k) e added = added.2
 
-and-true : (a b : Bool) → (a && b) ≡ true → (a ≡ true) × (b ≡ true)
+pub and-true : (a b : Bool) → (a && b) ≡ true → (a ≡ true) × (b ≡ true)
 and-true true b e = (refl, e)
 and-true false b e = cc
 

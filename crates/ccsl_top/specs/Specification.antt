@@ -38,10 +38,13 @@ after_word line.Clock w.Clock = Some line.Name
 after_word line.Relation w.Precedes = Some line.Right
 after_word _ _ = None
 
--- a declared clock; there are at most 64, and no two of one name
+-- a clock may be declared: there are at most 64, and no two of one name
+abbrev pub may_name : Spec → List ℕ → Bool
+may_name s name = is_none (find_name name s.names) && nat_lt (length s.names) 64
+
 abbrev pub with_name : Spec → List ℕ → Option Spec
 with_name s name =
-  if is_none (find_name name s.names) && nat_lt (length s.names) 64
+  if may_name s name
   then Some (record s { place = line.NameEnd; names = s.names ++ name ∷ [] })
   else None
 
@@ -105,8 +108,22 @@ abbrev pub done : Option Spec → Option Spec
 done None = None
 done (Some s) = done_at s.place s
 
+-- the specification that tokens say, if they say one
+abbrev pub said_by : List TokenKind → Option Spec
+said_by kinds = done (spec_from (Some no_spec) kinds)
+
 -- A WHOLE SPECIFICATION: its text has tokens, and they say this
-pub record IsSpecification (text : List ℕ) (s : Spec) : Type 0 where
+pub record IsSpecification (text : List ℕ) (names : List (List ℕ)) (constraints : List Constraint) : Type 0 where
   pub tokens : List PlainToken
   pub are : AreTokens text tokens
-  pub says : done (spec_from (Some no_spec) (map (λ t. t.kind) tokens)) ≡ Some s
+  pub spec : Spec
+  pub says : said_by (map (λ t. t.kind) tokens) ≡ Some spec
+  pub declares : spec.names ≡ names
+  pub constrains : spec.constraints ≡ constraints
+
+abbrev pub HasNoTokens : List ℕ → Type 0
+HasNoTokens text = (tokens : List PlainToken) → AreTokens text tokens → ⊥
+
+-- a text of another form
+abbrev pub IsNoSpecification : List ℕ → Type 0
+IsNoSpecification text = (names : List (List ℕ)) (constraints : List Constraint) → IsSpecification text names constraints → ⊥

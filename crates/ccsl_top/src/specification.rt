@@ -1,13 +1,14 @@
 //! Specifications of the form that this version reads, token by token.
 
-ghost use Rattle.std.specs.Prelude.{◌≡◌, ◌<◌, ◌≤◌, IfOk, IfSome, OnOk, Some, None, if◌then◌else◌, length};
+ghost use Rattle.std.specs.Prelude.{◌≡◌, ◌<◌, ◌≤◌, IfOk, IfSome, OnOk, Some, None, if◌then◌else◌, length, map, MatchOption};
 ghost use Rattle.ccsl_base.specs.Names.{find_name};
 ghost use Rattle.ccsl_top.specs.declared.specification.Line.TheVariants.{NameEnd};
-ghost use Rattle.ccsl_top.specs.Specification.{no_spec, after_word, with_name, with_left, with_right, after_name, with_constraint, after_symbol, after_number, token_says};
+ghost use Rattle.ccsl_top.specs.Specification.{no_spec, after_word, with_name, with_left, with_right, after_name, with_constraint, after_symbol, after_number, token_says, may_name, spec_from, done_at, HasNoTokens, IsSpecification, IsNoSpecification};
+ghost use Rattle.ccsl_lex.specs.Tokens.{AreTokens, plain_token};
 
-use ccsl_base::{MAX_CLOCKS, Memory, Names, Text};
+use ccsl_base::{MAX_CLOCKS, Memory, Names, Seq, Text};
 use ccsl_kernel::{Constraint, RelationKind};
-use ccsl_lex::{Reserved, TokenKind};
+use ccsl_lex::{LexFault, Reserved, Token, TokenKind};
 use std::alloc::Global;
 use std::marker::Model;
 
@@ -125,10 +126,16 @@ impl SpecReader {
         }
     }
 
+    fn may_name(&self, name: &[u8]) -> bool
+        ensures may { result ≡ may_name self.now name.now }
+    {
+        self.names.find(name).is_none() && self.names.len() < MAX_CLOCKS
+    }
+
     fn declare(&mut self, name: &[u8]) -> Result<bool, Memory>
         ensures { IfOk result (λ taken. with_name self.old name.now ≡ (if taken then Some self.new else None)) }
     {
-        if self.names.find(name).is_some() || self.names.len() >= MAX_CLOCKS {
+        if !self.may_name(name) {
             return Ok(false);
         }
         self.names.add(name)?;
@@ -214,4 +221,69 @@ impl SpecReader {
         self.place = Line::Start;
         Ok(true)
     }
+}
+
+/// The clocks and the constraints of a specification.
+#[derive(Drop)]
+pub(crate) struct Specification {
+    pub names: Names,
+    pub constraints: Seq<Constraint>,
+}
+
+impl SpecReader {
+    /// What was read, where a specification may end here.
+    fn finish(self) -> Option<Specification>
+        ensures { MatchOption result (done_at self.place self ≡ None) (λ spec.
+            (done_at self.place self ≡ Some self) × (spec.names ≡ self.names) × (spec.constraints ≡ self.constraints)) }
+    {
+        match self.place {
+            Line::Done => {}
+            _ => return None,
+        }
+        let SpecReader { names, constraints, .. } = self;
+        Some(Specification { names, constraints: Seq::new(constraints) })
+    }
+
+    // Takes all these tokens.
+    fn take_all(&mut self, tokens: &[Token]) -> Result<bool, Memory>
+        ensures { IfOk result (λ taken. spec_from (Some self.old) (map (λ t. t.kind) tokens.now) ≡ (if taken then Some self.new else None)) }
+    {
+        let mut rest = tokens;
+        'tokens: while let [token, more @ ..] = rest {
+            if !self.take(&token.kind)? {
+                return Ok(false);
+            }
+            rest = more;
+        }
+        Ok(true)
+    }
+}
+
+// The tokens of a text, where it has some.
+fn tokens_of(alloc: Global, text: &[u8]) -> Result<Option<Vec<Token>>, Memory>
+    ensures { IfOk result (λ found. MatchOption found (HasNoTokens text.now) (λ tokens. AreTokens text.now (map plain_token tokens.items))) }
+{
+    match ccsl_lex::tokens(alloc, text) {
+        Ok(tokens) => Ok(Some(tokens)),
+        Err(LexFault::BadByte(_at)) => Ok(None),
+        Err(LexFault::NameTooLong(_at)) => Ok(None),
+        Err(LexFault::NumberTooLarge(_at)) => Ok(None),
+        Err(LexFault::OpenText(_at)) => Ok(None),
+        Err(LexFault::Memory) => Err(Memory),
+    }
+}
+
+/// Reads a whole specification. It answers `None` where the text has another form.
+pub(crate) fn read_specification(alloc: Global, text: &[u8]) -> Result<Option<Specification>, Memory>
+    ensures { IfOk result (λ read. MatchOption read (IsNoSpecification text.now) (λ spec. IsSpecification text.now spec.names spec.constraints)) }
+{
+    let tokens = match tokens_of(alloc, text)? {
+        None => return Ok(None),
+        Some(tokens) => tokens,
+    };
+    let mut reader = SpecReader::new(alloc);
+    if !reader.take_all(tokens.as_slice())? {
+        return Ok(None);
+    }
+    Ok(reader.finish())
 }
