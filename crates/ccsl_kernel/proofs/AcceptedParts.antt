@@ -1,5 +1,6 @@
 -- What the parts of an accepted system obey: guarded calls, scopes, offsets that fit, and bounded depth.
 use Rattle.std.proofs.Common.{◌≡◌, ℕ, zero, suc, ◌+◌, ◌-◌, ◌<◌, ◌≤◌, List, [], ◌∷◌, length, get_or, max, All, Bool, true, false, Option, Some, None, slice_get, nat_lt, if◌then◌else◌, refl, sym, ap, ◌∙◌, subst, arith, ltb-false}
+use Rattle.std.proofs.lemmas.List.Elements.{All-nil, All-cons}
 use Rattle.std.proofs.lemmas.Option.{slice_get_within, get_or_from_slice_get}
 use Rattle.ccsl_words.specs.Word.{BinaryWord}
 use Rattle.ccsl_kernel.specs.declared.expr.Place.{Place}
@@ -113,10 +114,10 @@ module _ (groups : List (List Body)) (words : List BinaryWord) (clocks : ℕ) (p
   value_fits kind.Number (value.Word w) h = absurd h
 
   values_fit : (ks : List ParamKind) (vs : List Value) → AreArguments groups words clocks params ks vs → ValuesFit words vs
-  values_fit [] [] h = tt
+  values_fit [] [] h = All-nil (ValueFits words)
   values_fit [] (v ∷ vs) h = absurd h
   values_fit (k ∷ ks) [] h = absurd h
-  values_fit (k ∷ ks) (v ∷ vs) h = (value_fits k v h.0, values_fit ks vs h.1)
+  values_fit (k ∷ ks) (v ∷ vs) h = All-cons (ValueFits words) v vs (value_fits k v h.0) (values_fit ks vs h.1)
 
   -- and its words' offsets fit
   known_fits : (e : Expression) → IsKnown groups words clocks params e → ExprFits words e

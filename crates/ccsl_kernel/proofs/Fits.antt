@@ -1,5 +1,8 @@
 -- Offsets that fit: what actual parameters give fits where they do.
-use Rattle.std.proofs.Common.{◌≡◌, ℕ, zero, suc, ◌+◌, ◌<◌, List, [], ◌∷◌, length, get_or, Bool, true, false, Option, Some, None, slice_get, refl, subst, arith, if◌then◌else◌}
+use Rattle.std.proofs.Common.{◌≡◌, ℕ, ◌+◌, ◌<◌, ◌≤◌, ⊎_elim, List, [], ◌∷◌, length, Bool, Option, Some, None, slice_get, refl, sym, subst, arith, if◌then◌else◌}
+use Rattle.std.proofs.lemmas.Bool.{cases_lt}
+use Rattle.std.proofs.lemmas.List.{get_or_past}
+use Rattle.std.proofs.lemmas.Option.{slice_get_within, get_or_from_slice_get}
 use Rattle.ccsl_words.specs.Word.{BinaryWord, is_finite, is_empty}
 use Rattle.ccsl_kernel.specs.declared.actual.Actual.{Actual}
 use Rattle.ccsl_kernel.specs.declared.actual.Actual.TheVariants as actual
@@ -19,13 +22,8 @@ first_offset w = on w.period
     on (x ∷ xs) = omega arith
 
 module _ (words : List BinaryWord) where
-  actual_in : (ρ : List Actual) (i : ℕ) (v : Actual) → ActualsFit words ρ → slice_get ρ i ≡ Some v → ActualFits words v
-  actual_in [] i v h e = let z : ⊥ = cc in absurd z
-  actual_in (u ∷ ρ) zero v h e = let s : u ≡ v = cc in subst (ActualFits words) s h.0
-  actual_in (u ∷ ρ) (suc i) v h e = actual_in ρ i v h.1 e
-
   pub spot_in-fits : (ρ : List Actual) (i : ℕ) → ActualsFit words ρ → SpotFits words (spot_in (slice_get ρ i))
-  spot_in-fits ρ i h = on (slice_get ρ i) (λ v e. actual_in ρ i v h e)
+  spot_in-fits ρ i h = on (slice_get ρ i) (λ v e. subst (ActualFits words) (get_or_from_slice_get ρ i v v e) (h i v (slice_get_within ρ i v e)))
     where
       on : (o : Option Actual) → ((v : Actual) → o ≡ Some v → ActualFits words v) → SpotFits words (spot_in o)
       on None h = first_offset (word_of words 0)
@@ -35,9 +33,8 @@ module _ (words : List BinaryWord) where
 
   pub place_of-fits : (x : Place) (ρ : List Actual) → ActualsFit words ρ → ActualFits words (place_of x ρ)
   place_of-fits (place.Clock x) ρ h = tt
-  place_of-fits (place.Param i) ρ h = on ρ i h
-    where
-      on : (ρ : List Actual) (i : ℕ) → ActualsFit words ρ → ActualFits words (get_or ρ i (actual.Number 0))
-      on [] i h = tt
-      on (v ∷ ρ) zero h = h.0
-      on (v ∷ ρ) (suc i) h = on ρ i h.1
+  place_of-fits (place.Param i) ρ h =
+      ⊎_elim
+      (λ (l : i < length ρ). h i (actual.Number 0) l)
+      (λ (l : length ρ ≤ i). subst (ActualFits words) (sym (get_or_past ρ i (actual.Number 0) l)) tt)
+      (cases_lt i (length ρ))

@@ -8,12 +8,12 @@ use Rattle.ccsl_kernel.specs.declared.expr.ExprOp.TheVariants as op
 use Rattle.ccsl_kernel.specs.declared.actual.Actual.TheVariants as actual
 use Rattle.ccsl_kernel.specs.Syntax.{Expression, EName, ECall, ENever, EBinary, EDelay, EAwait, EFilter, EDelayed, EIf, System, root_of}
 use Rattle.ccsl_kernel.specs.Actuals.{place_of, number_of, spot_of, value_of, test_of, word_of}
-use Rattle.ccsl_kernel.specs.Table.{Now, Operand, delay_row, await_row, filter_row, delayed_row}
+use Rattle.ccsl_kernel.specs.Table.{Now, Operand, union_row, inter_row, minus_row, inf_row, sup_row, upto_row, sampled_row, sampled_weakly_row, delay_row, await_row, filter_row, delayed_row}
 use Rattle.ccsl_kernel.specs.Lives.{Step, steps, step_at, ticks_at, over_one, over_two, end_of, at_end, followed_by, joined}
 use Rattle.ccsl_kernel.specs.Meaning.{named, life_given}
 use Rattle.ccsl_kernel.specs.Guarded.{Position, Inner, Tail, Guarded, Allowed, AreGuarded, IsAllowed}
 use Rattle.ccsl_kernel.specs.Rows.{IsTable, CallsAreBodies}
-use Rattle.ccsl_kernel.specs.Course.{Course, CName, CNever, COne, CTwo, CThen, now_of, row_of, leaf, open_with, open_bodies, opening, then_or_right, next, grown, life_of, course_life}
+use Rattle.ccsl_kernel.specs.Course.{Course, CName, CNever, COne, CTwo, CThen, now_of, operator_row, over, leaf, open_with, open_bodies, opening, then_or_right, next, grown, life_of, course_life}
 use Rattle.ccsl_kernel.proofs.Steps.{map-steps-suc, steps-empty, find-steps-suc, find-within, from_birth, or_else, if_at}
 use Rattle.ccsl_kernel.proofs.Agree.{unique}
 use Rattle.ccsl_kernel.proofs.TableHolds.{meaning_rows, meaning_calls}
@@ -125,14 +125,14 @@ module _ (K : System) (T : List Step) (gone : ℕ → ℕ → Bool) where
   binary_life : (o : ExprOp) (a d : Expression) (ρ : List Actual) (b n : ℕ) → b ≤ n →
       course_life K T gone (EBinary o a d) ρ b n ≡ joined T o (course_life K T gone a ρ) (course_life K T gone d ρ) b n
   binary_life op.Then a d ρ b n l = then_life (opening K a ρ) d ρ b n l
-  binary_life op.Union a d ρ b n l = two_life (row_of op.Union) (opening K a ρ) (opening K d ρ) b n l
-  binary_life op.Inter a d ρ b n l = two_life (row_of op.Inter) (opening K a ρ) (opening K d ρ) b n l
-  binary_life op.Minus a d ρ b n l = two_life (row_of op.Minus) (opening K a ρ) (opening K d ρ) b n l
-  binary_life op.Inf a d ρ b n l = two_life (row_of op.Inf) (opening K a ρ) (opening K d ρ) b n l
-  binary_life op.Sup a d ρ b n l = two_life (row_of op.Sup) (opening K a ρ) (opening K d ρ) b n l
-  binary_life op.Upto a d ρ b n l = two_life (row_of op.Upto) (opening K a ρ) (opening K d ρ) b n l
-  binary_life op.Sampled a d ρ b n l = two_life (row_of op.Sampled) (opening K a ρ) (opening K d ρ) b n l
-  binary_life op.SampledWeakly a d ρ b n l = two_life (row_of op.SampledWeakly) (opening K a ρ) (opening K d ρ) b n l
+  binary_life op.Union a d ρ b n l = two_life union_row (opening K a ρ) (opening K d ρ) b n l
+  binary_life op.Inter a d ρ b n l = two_life inter_row (opening K a ρ) (opening K d ρ) b n l
+  binary_life op.Minus a d ρ b n l = two_life minus_row (opening K a ρ) (opening K d ρ) b n l
+  binary_life op.Inf a d ρ b n l = two_life inf_row (opening K a ρ) (opening K d ρ) b n l
+  binary_life op.Sup a d ρ b n l = two_life sup_row (opening K a ρ) (opening K d ρ) b n l
+  binary_life op.Upto a d ρ b n l = two_life upto_row (opening K a ρ) (opening K d ρ) b n l
+  binary_life op.Sampled a d ρ b n l = two_life sampled_row (opening K a ρ) (opening K d ρ) b n l
+  binary_life op.SampledWeakly a d ρ b n l = two_life sampled_weakly_row (opening K a ρ) (opening K d ρ) b n l
 
   -- THE ROWS HOLD OF THE COURSE
   course_rows : IsTable K T gone (course_life K T gone)
@@ -165,7 +165,7 @@ module _ (K : System) (calls calls' : ℕ → ℕ → List Actual → Course) (g
   open_same (ECall group member args) p ρ (inr h) nog = absurd (nog h.1)
   open_same ENever p ρ ok nog = refl
   open_same (EBinary op.Then a d) p ρ ok nog = ap (λ t. CThen t d ρ) (open_same a Inner ρ ok.0 inner_guarded)
-  open_same (EBinary o a d) p ρ ok nog = ap₂ (λ a' d'. CTwo (row_of o) a' d' [] []) (open_same a Inner ρ ok.0 inner_guarded) (open_same d Inner ρ ok.1 inner_guarded)
+  open_same (EBinary o a d) p ρ ok nog = ap₂ (λ a' d'. over (operator_row o) a' d' d ρ) (open_same a Inner ρ ok.0 inner_guarded) (open_same d Inner ρ ok.1 inner_guarded)
   open_same (EDelay a m) p ρ ok nog = ap (λ a'. COne (delay_row (number_of m ρ)) a' []) (open_same a Inner ρ ok inner_guarded)
   open_same (EAwait a m) p ρ ok nog = ap (λ a'. COne (await_row (number_of m ρ)) a' []) (open_same a Inner ρ ok inner_guarded)
   open_same (EFilter a w) p ρ ok nog = let s = spot_of K.words w ρ in ap (λ a'. COne (filter_row (word_of K.words s.word) s.offset) a' []) (open_same a Inner ρ ok inner_guarded)

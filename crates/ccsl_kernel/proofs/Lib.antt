@@ -15,3 +15,4 @@ pub mod Follows
 pub mod Fits
 pub mod TickWords
 pub mod AcceptedParts
+pub mod OpenCalls

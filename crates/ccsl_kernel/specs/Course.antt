@@ -4,7 +4,7 @@
 --     next K s gone later c      the course after the step s
 --     opening K e ρ      the course of an expression at its birth
 --     grown, life_of      the course after the steps from a birth on, and so a life
-use Rattle.std.specs.Prelude.{ℕ, zero, suc, List, [], ◌∷◌, ◌++◌, Bool, false, map, length, nat_le, if◌then◌else◌}
+use Rattle.std.specs.Prelude.{ℕ, zero, suc, List, [], ◌∷◌, ◌++◌, Bool, false, Option, Some, None, map, length, nat_le, if◌then◌else◌}
 use Rattle.ccsl_formula.specs.Formula.{FVar, eval}
 use Rattle.ccsl_kernel.specs.declared.expr.ExprOp.{ExprOp}
 use Rattle.ccsl_kernel.specs.declared.expr.ExprOp.TheVariants as op
@@ -39,16 +39,21 @@ abbrev pub tick_of : Step → (ℕ → Bool) → Course → Bool
 tick_of s gone c = eval (now_of gone c).formula s
 
 -- the row of an operator; a then has none
-abbrev pub row_of : ExprOp → Operand → Operand → Now
-row_of op.Union = union_row
-row_of op.Inter = inter_row
-row_of op.Minus = minus_row
-row_of op.Inf = inf_row
-row_of op.Sup = sup_row
-row_of op.Upto = upto_row
-row_of op.Then = union_row
-row_of op.Sampled = sampled_row
-row_of op.SampledWeakly = sampled_weakly_row
+abbrev pub operator_row : ExprOp → Option (Operand → Operand → Now)
+operator_row op.Union = Some union_row
+operator_row op.Inter = Some inter_row
+operator_row op.Minus = Some minus_row
+operator_row op.Inf = Some inf_row
+operator_row op.Sup = Some sup_row
+operator_row op.Upto = Some upto_row
+operator_row op.Then = None
+operator_row op.Sampled = Some sampled_row
+operator_row op.SampledWeakly = Some sampled_weakly_row
+
+-- an operator over the courses a and c, and a then with the right operand d still to be born
+abbrev pub over : Option (Operand → Operand → Now) → Course → Course → Expression → List Actual → Course
+over None a c d ρ = CThen a d ρ
+over (Some row) a c d ρ = CTwo row a c [] []
 
 abbrev pub leaf : Actual → Course
 leaf (actual.Clock x) = CName x
@@ -60,7 +65,7 @@ module _ (K : System) where
   open_with calls (EName x) ρ = leaf (place_of x ρ)
   open_with calls (ECall group member args) ρ = calls group member (map (value_of K.words ρ) args)
   open_with calls ENever ρ = CNever
-  open_with calls (EBinary o a d) ρ = elim o [ op.Then ↦ CThen (open_with calls a ρ) d ρ | x ↦ CTwo (row_of x) (open_with calls a ρ) (open_with calls d ρ) [] [] ]
+  open_with calls (EBinary o a d) ρ = over (operator_row o) (open_with calls a ρ) (open_with calls d ρ) d ρ
   open_with calls (EDelay a m) ρ = COne (delay_row (number_of m ρ)) (open_with calls a ρ) []
   open_with calls (EAwait a m) ρ = COne (await_row (number_of m ρ)) (open_with calls a ρ) []
   open_with calls (EFilter a w) ρ = let s = spot_of K.words w ρ in COne (filter_row (word_of K.words s.word) s.offset) (open_with calls a ρ) []

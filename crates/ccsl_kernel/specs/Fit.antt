@@ -1,5 +1,5 @@
 -- Offsets that fit their words: each word that is named, in an expression or by an actual parameter, has an offset at which it can stand.
-use Rattle.std.specs.Prelude.{List, [], ◌∷◌}
+use Rattle.std.specs.Prelude.{List, All}
 use Rattle.ccsl_words.specs.Word.{BinaryWord}
 use Rattle.ccsl_kernel.specs.declared.actual.Actual.{Actual}
 use Rattle.ccsl_kernel.specs.declared.actual.Actual.TheVariants as actual
@@ -24,8 +24,7 @@ module _ (words : List BinaryWord) where
   ActualFits (actual.Word w o) = IsOffset (word_of words w) o
 
   abbrev pub ActualsFit : List Actual → Type 0
-  ActualsFit [] = Unit {0}
-  ActualsFit (v ∷ ρ) = ActualFits v × ActualsFit ρ
+  ActualsFit = All ActualFits
 
   abbrev pub PlaceFits : WordPlace → Type 0
   PlaceFits (word.Word w o) = IsOffset (word_of words w) o
@@ -44,8 +43,7 @@ module _ (words : List BinaryWord) where
   ValueFits (value.Word w) = PlaceFits w
 
   abbrev pub ValuesFit : List Value → Type 0
-  ValuesFit [] = Unit {0}
-  ValuesFit (v ∷ vs) = ValueFits v × ValuesFit vs
+  ValuesFit = All ValueFits
 
   abbrev pub ExprFits : Expression → Type 0
   ExprFits (EName x) = Unit {0}

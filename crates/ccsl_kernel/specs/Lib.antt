@@ -20,3 +20,4 @@ pub mod Course
 pub mod Since
 pub mod Asked
 pub mod Deep
+pub mod Held

@@ -2,10 +2,14 @@
 #![tactic(auto)]
 
 pub mod actual;
+pub mod advance;
 pub mod constraint;
+pub mod course;
+pub mod deaths;
 pub mod expr;
 pub mod group;
 pub mod laws;
+pub mod opening;
 pub mod parts;
 pub mod row;
 pub mod system;

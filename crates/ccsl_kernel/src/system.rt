@@ -1,13 +1,13 @@
 //! Accepted systems.
 
 ghost use Rattle.std.specs.Prelude.{◌≡◌, ◌<◌, length, map, slice_get, Some, option_map};
-ghost use Rattle.ccsl_kernel.specs.Syntax.{item_count};
-ghost use Rattle.ccsl_kernel.specs.Plain.{plain_expr, plain_group, plain_system};
+ghost use Rattle.ccsl_kernel.specs.Syntax.{item_count, body_of};
+ghost use Rattle.ccsl_kernel.specs.Plain.{plain_expr, plain_body, plain_group, plain_system};
 ghost use Rattle.ccsl_kernel.specs.Accepted.{IsAccepted};
 
 use crate::constraint::Constraint;
 use crate::expr::Expr;
-use crate::group::Group;
+use crate::group::{Body, Group};
 use crate::parts::Parts;
 use ccsl_base::Names;
 use ccsl_formula::Scope;
@@ -109,6 +109,15 @@ impl System {
         ensures accepted { IsAccepted self.now }
     {
         self.parts.groups.members()
+    }
+
+    /// The body of a member of a group, and `None` where there is none.
+    pub fn body(&self, group: u32, member: u32) -> Option<&Body>
+        ensures body { option_map (λ b. plain_body b.now) result ≡ body_of self.now.groups group member }
+        ensures accepted { IsAccepted self.now }
+    {
+        let group = self.parts.groups.members().get(group as usize)?;
+        group.members.members().get(member as usize)
     }
 
     /// The table of words.

@@ -1,0 +1,107 @@
+//! What is kept of an expression from step to step: its operands, and at which steps since its birth each of them ticked.
+
+ghost use Rattle.std.specs.Prelude.{◌≡◌, ℕ, Bool, IfOk};
+ghost use Rattle.ccsl_formula.specs.Plain.{plain};
+ghost use Rattle.ccsl_kernel.specs.Course.{now_of, tick_of};
+ghost use Rattle.ccsl_kernel.specs.Held.{held, gone_in};
+
+use crate::actual::Actual;
+use crate::deaths::Deaths;
+use crate::expr::Expr;
+use crate::row::{Asked, OneRow, TwoRow};
+use ccsl_base::{ClockSet, Memory};
+use ccsl_formula::Formula;
+use ccsl_words::Word;
+use std::alloc::Global;
+
+/// The course of an expression so far. A call and a choice have none of their own, and a `then` whose left side has died is its
+/// right side.
+#[derive(Drop)]
+pub enum Course<'s> {
+    Name(u32),
+    Never,
+    One(OneRow, Box<Course<'s>>, Vec<bool>),
+    Two(TwoRow, Box<Course<'s>>, Vec<bool>, Box<Course<'s>>, Vec<bool>),
+    Then(Box<Course<'s>>, &'s Expr, Vec<Actual>),
+}
+
+impl<'s> Course<'s> {
+    /// The formula at the present step.
+    pub fn formula(&self, alloc: Global, words: &[Word]) -> Result<Formula, Memory>
+        ensures {
+            IfOk result (λ f. (gone : ℕ → Bool) → plain f ≡ (now_of gone (held words.now self.now)).formula)
+        }
+    {
+        match self {
+            Course::Name(x) => Ok(Formula::Var(*x)),
+            Course::Never => Ok(Formula::False),
+            Course::One(row, a, ticks) => {
+                if row.is_open(words, ticks) {
+                    a.formula(alloc, words)
+                } else {
+                    Ok(Formula::False)
+                }
+            }
+            Course::Two(row, a, p, d, q) => match row.asked(p, q) {
+                Asked::Left => a.formula(alloc, words),
+                Asked::Right => d.formula(alloc, words),
+                Asked::Nothing => Ok(Formula::False),
+                Asked::Either => Ok(Formula::Or(
+                    Box::new(alloc, a.formula(alloc, words)?)?,
+                    Box::new(alloc, d.formula(alloc, words)?)?,
+                )),
+                Asked::Both => Ok(Formula::And(
+                    Box::new(alloc, a.formula(alloc, words)?)?,
+                    Box::new(alloc, d.formula(alloc, words)?)?,
+                )),
+                Asked::RightAndLeft => Ok(Formula::And(
+                    Box::new(alloc, d.formula(alloc, words)?)?,
+                    Box::new(alloc, a.formula(alloc, words)?)?,
+                )),
+                Asked::LeftAlone => {
+                    let left = Box::new(alloc, a.formula(alloc, words)?)?;
+                    let right = Box::new(alloc, d.formula(alloc, words)?)?;
+                    Ok(Formula::And(left, Box::new(alloc, Formula::Not(right))?))
+                }
+            },
+            Course::Then(a, _, _) => a.formula(alloc, words),
+        }
+    }
+
+    /// Whether the expression ticks in a step.
+    pub fn ticks(&self, words: &[Word], step: &ClockSet) -> bool
+        ensures { (gone : ℕ → Bool) → result ≡ tick_of step.now gone (held words.now self.now) }
+    {
+        match self {
+            Course::Name(x) => step.has(*x),
+            Course::Never => false,
+            Course::One(row, a, ticks) => row.is_open(words, ticks) && a.ticks(words, step),
+            Course::Two(row, a, p, d, q) => match row.asked(p, q) {
+                Asked::Left => a.ticks(words, step),
+                Asked::Right => d.ticks(words, step),
+                Asked::Nothing => false,
+                Asked::Either => a.ticks(words, step) || d.ticks(words, step),
+                Asked::Both => a.ticks(words, step) && d.ticks(words, step),
+                Asked::RightAndLeft => d.ticks(words, step) && a.ticks(words, step),
+                Asked::LeftAlone => a.ticks(words, step) && !d.ticks(words, step),
+            },
+            Course::Then(a, _, _) => a.ticks(words, step),
+        }
+    }
+
+    /// Whether the expression is dead at a position, by the deaths of the clocks there.
+    pub fn is_dead(&self, words: &[Word], deaths: &Deaths, at: usize) -> bool
+        ensures { result ≡ (now_of (gone_in deaths.now at) (held words.now self.now)).dead }
+    {
+        match self {
+            Course::Name(x) => deaths.is_gone(at, *x),
+            Course::Never => false,
+            Course::One(row, a, ticks) => row.is_dead(words, a.is_dead(words, deaths, at), ticks),
+            Course::Two(row, a, p, d, q) => {
+                let left = a.is_dead(words, deaths, at);
+                row.is_dead(left, p, d.is_dead(words, deaths, at), q)
+            }
+            Course::Then(_, _, _) => false,
+        }
+    }
+}
