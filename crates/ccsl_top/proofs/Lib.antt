@@ -3,3 +3,7 @@ pub mod Tables
 pub mod Changes
 pub mod Pieces
 pub mod Said
+pub mod Judging
+pub mod Items
+pub mod Counts
+pub mod Judged
