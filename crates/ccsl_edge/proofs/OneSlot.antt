@@ -5,7 +5,8 @@ use Rattle.ccsl_edge.specs.declared.slot.Slot.{Slot}
 use Rattle.ccsl_edge.specs.Slots.{index_of}
 use Rattle.ccsl_edge.specs.World.{SlotState, State, Rose, risen}
 use Rattle.ccsl_edge.specs.Calls.{ChangesOnly, Fails, Reads, Takes, Adds}
-use Rattle.ccsl_edge.specs.Memory.{slot_in, unused, tells_all}
+use Rattle.ccsl_edge.specs.SlotTable.{slot_in, unused}
+use Rattle.ccsl_edge.specs.Memory.{tells_all}
 use Rattle.ccsl_edge.proofs.Slots.{same_slot, index_of-lt}
 
 -- the state of these files and slots

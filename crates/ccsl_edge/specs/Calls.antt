@@ -1,6 +1,6 @@
 -- What one call, or a row of calls, does to a world: one relation for each outcome, between the state before and
 -- the state after.
-use Rattle.std.specs.Prelude.{◌≡◌, ◌≢◌, ℕ, ◌+◌, ◌≤◌, List, [], ◌++◌, length, take, IsTrue, true, false, Option, Some}
+use Rattle.std.specs.Prelude.{◌≡◌, ◌≢◌, ℕ, ◌+◌, ◌≤◌, List, [], ◌++◌, length, take, IsTrue, true, false}
 use Rattle.ccsl_edge.specs.declared.slot.Slot.{Slot}
 use Rattle.ccsl_edge.specs.declared.whole.ReadFault.{ReadFault}
 use Rattle.ccsl_edge.specs.declared.whole.ReadFault.TheVariants.{Fault, TooLong, Memory}

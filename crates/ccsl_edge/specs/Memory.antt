@@ -1,5 +1,5 @@
 -- A world in memory: its value, how it starts, and which of its calls fail.
-use Rattle.std.specs.Prelude.{◌≡◌, ℕ, Bool, true, false, List, [], ◌∷◌, IsNone, ◌⊎◌, slice_index, slice_index_or, slice_set}
+use Rattle.std.specs.Prelude.{◌≡◌, ℕ, true, List, [], ◌∷◌, ◌⊎◌, slice_index, slice_set}
 use Rattle.std.specs.List.{Contains}
 use Rattle.ccsl_edge.specs.declared.slot.Slot.{Slot}
 use Rattle.ccsl_edge.specs.declared.slot.Slot.TheVariants.{Input}
@@ -7,6 +7,7 @@ use Rattle.ccsl_edge.specs.declared.plan.CallKind.{CallKind}
 use Rattle.ccsl_edge.specs.declared.plan.CallKind.TheVariants.{OpenIn, OpenOut, Read, Write, CloseOut}
 use Rattle.ccsl_edge.specs.Slots.{index_of}
 use Rattle.ccsl_edge.specs.World.{SlotState, State, Told, risen}
+use Rattle.ccsl_edge.specs.SlotTable.{slot_in, slots_at_start}
 
 -- its place in the order of the kinds, from 0
 abbrev pub kind_index : CallKind → ℕ
@@ -44,18 +45,6 @@ IsListed plan kind = Contains plan.failing (kind, next_call plan kind)
 -- the plan after a call of this kind
 abbrev pub counted : Plan → CallKind → Plan
 counted plan kind = record plan { calls = slice_set plan.calls (kind_index kind) (next_call plan kind) }
-
--- a slot that was never used
-abbrev pub unused : Bool → SlotState
-unused is_open = record { left = []; written = []; name = []; is_open = is_open; faults = 0 }
-
-abbrev pub slot_in : List SlotState → Slot → SlotState
-slot_in slots slot = slice_index_or slots (index_of slot) (unused false)
-
--- the slots at the start: of the output slots only `Report` is open
-abbrev pub slots_at_start : List SlotState
-slots_at_start =
-    unused false ∷ unused false ∷ unused false ∷ unused false ∷ unused true ∷ unused false ∷ unused false ∷ []
 
 -- a world in memory at the start
 abbrev pub memory_at_start : List (List ℕ × List ℕ) → List (CallKind × ℕ) → ℕ → MemoryState

@@ -1,7 +1,7 @@
 //! The real world: files, standard input and standard output. This is the trusted edge: what a file holds is not
 //! told, and no clause speaks of it.
 
-ghost use Rattle.ccsl_edge.specs.Memory.{slots_at_start};
+ghost use Rattle.ccsl_edge.specs.SlotTable.{slots_at_start};
 ghost use Rattle.std.specs.Prelude.{◌≡◌};
 
 use crate::channel::Channel;

@@ -6,7 +6,8 @@ ghost use Rattle.std.specs.Option.{option_copied};
 ghost use Rattle.std.specs.Str.{bytes_eq};
 ghost use Rattle.ccsl_edge.specs.Slots.{IsInput, IsOutput};
 ghost use Rattle.ccsl_edge.specs.World.{file_at, Stores};
-ghost use Rattle.ccsl_edge.specs.Memory.{memory_at_start, with_bytes, slot_in};
+ghost use Rattle.ccsl_edge.specs.SlotTable.{slot_in};
+ghost use Rattle.ccsl_edge.specs.Memory.{memory_at_start, with_bytes};
 
 use crate::held::HeldFile;
 use crate::place::Place;
@@ -124,7 +125,8 @@ impl World for MemoryWorld {
     ghost use Rattle.ccsl_edge.specs.Slots.{IsInput, IsInputFile, IsOutput, IsOutputFile};
     ghost use Rattle.ccsl_edge.specs.World.{file_at, risen};
     ghost use Rattle.ccsl_edge.specs.Calls.{Fails, OpensIn, Takes, OpensOut, Adds, Closes};
-    ghost use Rattle.ccsl_edge.specs.Memory.{memory_state, tells_all, slot_in, Counts, Succeeds, FailsByCause, FailsOrStarves};
+    ghost use Rattle.ccsl_edge.specs.SlotTable.{slot_in};
+    ghost use Rattle.ccsl_edge.specs.Memory.{memory_state, tells_all, Counts, Succeeds, FailsByCause, FailsOrStarves};
 
     ghost allows = { λ _ _. ⊤ };
 

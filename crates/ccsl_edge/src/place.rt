@@ -3,7 +3,7 @@
 ghost use Rattle.std.specs.Prelude.{◌≡◌, [], ◌++◌, length, take, drop, min, true, false, OnOk, OnErr};
 ghost use Rattle.std.specs.String.{string_bytes};
 ghost use Rattle.ccsl_edge.specs.World.{risen, Rose};
-ghost use Rattle.ccsl_edge.specs.Memory.{unused};
+ghost use Rattle.ccsl_edge.specs.SlotTable.{unused};
 
 use crate::world::Failed;
 use std::alloc::{AllocError, Global};
