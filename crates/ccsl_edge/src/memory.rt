@@ -1,20 +1,20 @@
 //! A world in memory, which tells everything and fails where it is asked to.
 
-ghost use Rattle.std.specs.Prelude.{◌≡◌, ◌↔◌, ℕ, ◌<◌, ◌≤◌, min, length, take, [], Some, None, IsTrue, IsNone, IsErr, IfSome, IfOk, OnOk, OnErr};
-ghost use Rattle.std.specs.List.{find, position};
+ghost use Rattle.std.specs.Prelude.{◌≡◌, ◌<◌, ◌≤◌, min, length, take, [], ⊤, IsTrue, IsNone, IfOk, OnOk, OnErr};
 ghost use Rattle.std.specs.Option.{option_copied};
-ghost use Rattle.std.specs.Str.{bytes_eq};
-ghost use Rattle.ccsl_edge.specs.Slots.{IsInput, IsOutput};
-ghost use Rattle.ccsl_edge.specs.World.{file_at, Stores};
+ghost use Rattle.ccsl_edge.specs.Slots.{IsInput, IsInputFile, IsOutput, IsOutputFile};
+ghost use Rattle.ccsl_edge.specs.World.{file_at, risen};
+ghost use Rattle.ccsl_edge.specs.Calls.{Fails, OpensIn, Takes, OpensOut, Adds, Closes};
 ghost use Rattle.ccsl_edge.specs.SlotTable.{slot_in};
-ghost use Rattle.ccsl_edge.specs.Memory.{memory_at_start, with_bytes};
+ghost use Rattle.ccsl_edge.specs.Memory.{memory_at_start, with_bytes, memory_state, tells_all};
+ghost use Rattle.ccsl_edge.specs.Memory.{Counts, Succeeds, FailsByCause, FailsOrStarves};
 
-use crate::held::HeldFile;
+use crate::held::{HeldFile, content_of, store};
 use crate::place::Place;
 use crate::plan::{CallKind, FaultPlan};
 use crate::slot::Slot;
 use crate::world::{Failed, World};
-use std::alloc::{AllocError, Global};
+use std::alloc::Global;
 use std::marker::Model;
 
 /// Files and slots in memory. It tells everything, moves at most `piece` bytes in one read or write, and lets the
@@ -121,13 +121,6 @@ impl MemoryWorld {
 }
 
 impl World for MemoryWorld {
-    ghost use Rattle.std.specs.Prelude.{⊤, OnOk, OnErr, IfOk, ◌≡◌, ◌<◌, ◌≤◌, min, length, take, IsTrue, IsNone};
-    ghost use Rattle.ccsl_edge.specs.Slots.{IsInput, IsInputFile, IsOutput, IsOutputFile};
-    ghost use Rattle.ccsl_edge.specs.World.{file_at, risen};
-    ghost use Rattle.ccsl_edge.specs.Calls.{Fails, OpensIn, Takes, OpensOut, Adds, Closes};
-    ghost use Rattle.ccsl_edge.specs.SlotTable.{slot_in};
-    ghost use Rattle.ccsl_edge.specs.Memory.{memory_state, tells_all, Counts, Succeeds, FailsByCause, FailsOrStarves};
-
     ghost allows = { λ _ _. ⊤ };
 
     ghost told = { tells_all };
@@ -257,47 +250,4 @@ impl World for MemoryWorld {
             }
         }
     }
-}
-
-/// Makes the file of this name hold these bytes.
-fn store(
-    alloc: Global,
-    files: &mut Vec<HeldFile>,
-    name: &str,
-    bytes: &[u8],
-) -> Result<(), AllocError>
-    ensures ok { OnOk result (Stores name.now bytes.now files.old.items files.new.items) }
-    ensures err { OnErr result (files.new.items ≡ files.old.items) }
-{
-    let content = Vec::from_slice(alloc, bytes)?;
-    match position_of(files.as_slice(), name) {
-        Some(at) => {
-            let file = &mut files[at];
-            file.refill(content);
-        }
-        None => files.push(HeldFile::new(String::from_str(alloc, name)?, content))?,
-    }
-    Ok(())
-}
-
-/// The place of the first file of this name.
-fn position_of(files: &[HeldFile], name: &str) -> Option<usize>
-    ensures { result ≡ position (λ file. bytes_eq file.0 name.now) files.now }
-{
-    files.iter().position(|file| file.is_named(name))
-}
-
-/// The first file of this name.
-fn file_named<'a>(files: &'a [HeldFile], name: &str) -> Option<&'a HeldFile>
-    ensures { option_copied result ≡ find (λ file. bytes_eq file.0 name.now) files.now }
-{
-    files.iter().find(|file| file.is_named(name))
-}
-
-/// The content of the first file of this name.
-fn content_of<'a>(files: &'a [HeldFile], name: &str) -> Option<&'a [u8]>
-    ensures { option_copied result ≡ file_at files.now name.now }
-{
-    let file = file_named(files, name)?;
-    Some(file.content())
 }
