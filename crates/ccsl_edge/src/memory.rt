@@ -129,12 +129,16 @@ impl World for MemoryWorld {
 
     fn open_in(&mut self, slot: Slot, name: &str) -> Result<(), Failed>
         requires input { IsInputFile slot }
-        ensures ok { OnOk result (OpensIn tells_all slot name.now (memory_state self.old) (memory_state self.new)) }
+        ensures ok { OnOk result
+            (OpensIn tells_all slot name.now (memory_state self.old) (memory_state self.new)) }
         ensures err { OnErr result (Fails slot (memory_state self.old) (memory_state self.new)) }
-        ensures once { OnErr result ((slot_in self.new.slots slot).faults ≡ risen (slot_in self.old.slots slot).faults) }
+        ensures once { OnErr result
+            ((slot_in self.new.slots slot).faults ≡ risen (slot_in self.old.slots slot).faults) }
         ensures counts { Counts CallKind.OpenIn self.old self.new }
-        ensures succeeds { OnOk result (Succeeds CallKind.OpenIn (IsNone (file_at self.old.files name.now)) self.old self.new) }
-        ensures fails { OnErr result (FailsOrStarves CallKind.OpenIn (IsNone (file_at self.old.files name.now)) self.old self.new) }
+        ensures succeeds { OnOk result
+            (Succeeds CallKind.OpenIn (IsNone (file_at self.old.files name.now)) self.old self.new) }
+        ensures fails { OnErr result
+            (FailsOrStarves CallKind.OpenIn (IsNone (file_at self.old.files name.now)) self.old self.new) }
     {
         let place = &mut self.slots[slot.index()];
         if self.plan.is_due(CallKind::OpenIn) {
@@ -157,9 +161,11 @@ impl World for MemoryWorld {
 
     fn open_out(&mut self, slot: Slot, name: &str) -> Result<(), Failed>
         requires output { IsOutputFile slot }
-        ensures ok { OnOk result (OpensOut tells_all slot name.now (memory_state self.old) (memory_state self.new)) }
+        ensures ok { OnOk result
+            (OpensOut tells_all slot name.now (memory_state self.old) (memory_state self.new)) }
         ensures err { OnErr result (Fails slot (memory_state self.old) (memory_state self.new)) }
-        ensures once { OnErr result ((slot_in self.new.slots slot).faults ≡ risen (slot_in self.old.slots slot).faults) }
+        ensures once { OnErr result
+            ((slot_in self.new.slots slot).faults ≡ risen (slot_in self.old.slots slot).faults) }
         ensures counts { Counts CallKind.OpenOut self.old self.new }
         ensures succeeds { OnOk result (Succeeds CallKind.OpenOut ⊥ self.old self.new) }
         ensures fails { OnErr result (FailsOrStarves CallKind.OpenOut ⊥ self.old self.new) }
@@ -183,10 +189,13 @@ impl World for MemoryWorld {
     fn read(&mut self, slot: Slot, buf: &mut [u8]) -> Result<usize, Failed>
         requires input { IsInput slot }
         requires room { 0 < length buf.old }
-        ensures ok { IfOk result (λ count. Takes tells_all slot count (memory_state self.old) (memory_state self.new) buf.new) }
+        ensures ok { IfOk result
+            (λ count. Takes tells_all slot count (memory_state self.old) (memory_state self.new) buf.new) }
         ensures err { OnErr result (Fails slot (memory_state self.old) (memory_state self.new)) }
-        ensures count { IfOk result (λ count. count ≡ min self.old.piece (min (length buf.old) (length (slot_in self.old.slots slot).left))) }
-        ensures once { OnErr result ((slot_in self.new.slots slot).faults ≡ risen (slot_in self.old.slots slot).faults) }
+        ensures count { IfOk result
+            (λ count. count ≡ min self.old.piece (min (length buf.old) (length (slot_in self.old.slots slot).left))) }
+        ensures once { OnErr result
+            ((slot_in self.new.slots slot).faults ≡ risen (slot_in self.old.slots slot).faults) }
         ensures counts { Counts CallKind.Read self.old self.new }
         ensures succeeds { OnOk result (Succeeds CallKind.Read ⊥ self.old self.new) }
         ensures fails { OnErr result (FailsByCause CallKind.Read ⊥ self.old self.new) }
@@ -203,10 +212,12 @@ impl World for MemoryWorld {
         requires opened { IsTrue (slot_in self.old.slots slot).is_open }
         requires some { 0 < length bytes.now }
         ensures within { IfOk result (λ count. (0 < count) × (count ≤ length bytes.now)) }
-        ensures ok { IfOk result (λ count. Adds tells_all slot (take count bytes.now) (memory_state self.old) (memory_state self.new)) }
+        ensures ok { IfOk result
+            (λ count. Adds tells_all slot (take count bytes.now) (memory_state self.old) (memory_state self.new)) }
         ensures err { OnErr result (Fails slot (memory_state self.old) (memory_state self.new)) }
         ensures count { IfOk result (λ count. count ≡ min self.old.piece (length bytes.now)) }
-        ensures once { OnErr result ((slot_in self.new.slots slot).faults ≡ risen (slot_in self.old.slots slot).faults) }
+        ensures once { OnErr result
+            ((slot_in self.new.slots slot).faults ≡ risen (slot_in self.old.slots slot).faults) }
         ensures counts { Counts CallKind.Write self.old self.new }
         ensures succeeds { OnOk result (Succeeds CallKind.Write ⊥ self.old self.new) }
         ensures fails { OnErr result (FailsOrStarves CallKind.Write ⊥ self.old self.new) }
@@ -228,9 +239,11 @@ impl World for MemoryWorld {
     fn close_out(&mut self, slot: Slot) -> Result<(), Failed>
         requires output { IsOutputFile slot }
         requires opened { IsTrue (slot_in self.old.slots slot).is_open }
-        ensures ok { OnOk result (Closes tells_all slot (memory_state self.old) (memory_state self.new)) }
+        ensures ok { OnOk result
+            (Closes tells_all slot (memory_state self.old) (memory_state self.new)) }
         ensures err { OnErr result (Fails slot (memory_state self.old) (memory_state self.new)) }
-        ensures once { OnErr result ((slot_in self.new.slots slot).faults ≡ risen (slot_in self.old.slots slot).faults) }
+        ensures once { OnErr result
+            ((slot_in self.new.slots slot).faults ≡ risen (slot_in self.old.slots slot).faults) }
         ensures counts { Counts CallKind.CloseOut self.old self.new }
         ensures succeeds { OnOk result (Succeeds CallKind.CloseOut ⊥ self.old self.new) }
         ensures fails { OnErr result (FailsOrStarves CallKind.CloseOut ⊥ self.old self.new) }

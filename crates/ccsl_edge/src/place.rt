@@ -91,7 +91,8 @@ impl Place {
     }
 
     pub(crate) fn add(&mut self, bytes: &[u8]) -> Result<(), AllocError>
-        ensures ok { OnOk result (self.new ≡ record self.old { written = self.old.written ++ bytes.now }) }
+        ensures ok { OnOk result
+            (self.new ≡ record self.old { written = self.old.written ++ bytes.now }) }
         ensures err { OnErr result (self.new ≡ self.old) }
     {
         self.written.extend_from_slice(bytes)
