@@ -3,7 +3,7 @@
 ghost use Rattle.std.specs.Prelude.{◌≡◌, ◌<◌, ◌≤◌, min, length, take, [], ⊤, IsTrue, IsNone, IfOk, OnOk, OnErr};
 ghost use Rattle.std.specs.Option.{option_copied};
 ghost use Rattle.ccsl_edge.specs.Slots.{IsInput, IsInputFile, IsOutput, IsOutputFile};
-ghost use Rattle.ccsl_edge.specs.World.{file_at, risen};
+ghost use Rattle.ccsl_edge.specs.World.{file_at, risen, Rose};
 ghost use Rattle.ccsl_edge.specs.Calls.{Fails, OpensIn, Takes, OpensOut, Adds, Closes};
 ghost use Rattle.ccsl_edge.specs.SlotTable.{slot_in};
 ghost use Rattle.ccsl_edge.specs.Memory.{memory_at_start, with_bytes, memory_state, tells_all};
@@ -147,16 +147,11 @@ impl World for MemoryWorld {
         let Some(content) = content_of(self.files.as_slice(), name) else {
             return Err(place.fail());
         };
-        match Vec::from_slice(self.alloc, content) {
-            Ok(content) => {
-                place.open_in(content);
-                Ok(())
-            }
-            Err(_) => {
-                self.starved = self.starved.saturating_add(1);
-                Err(place.fail())
-            }
-        }
+        let Ok(content) = Vec::from_slice(self.alloc, content) else {
+            return Err(starve(&mut self.starved, place));
+        };
+        place.open_in(content);
+        Ok(())
     }
 
     fn open_out(&mut self, slot: Slot, name: &str) -> Result<(), Failed>
@@ -174,16 +169,11 @@ impl World for MemoryWorld {
         if self.plan.is_due(CallKind::OpenOut) {
             return Err(place.fail());
         }
-        match String::from_str(self.alloc, name) {
-            Ok(name) => {
-                place.open_out(name);
-                Ok(())
-            }
-            Err(_) => {
-                self.starved = self.starved.saturating_add(1);
-                Err(place.fail())
-            }
-        }
+        let Ok(name) = String::from_str(self.alloc, name) else {
+            return Err(starve(&mut self.starved, place));
+        };
+        place.open_out(name);
+        Ok(())
     }
 
     fn read(&mut self, slot: Slot, buf: &mut [u8]) -> Result<usize, Failed>
@@ -227,13 +217,10 @@ impl World for MemoryWorld {
             return Err(place.fail());
         }
         let count = self.piece.min(bytes.len());
-        match place.add(&bytes[..count]) {
-            Ok(()) => Ok(count),
-            Err(_) => {
-                self.starved = self.starved.saturating_add(1);
-                Err(place.fail())
-            }
-        }
+        let Ok(()) = place.add(&bytes[..count]) else {
+            return Err(starve(&mut self.starved, place));
+        };
+        Ok(count)
     }
 
     fn close_out(&mut self, slot: Slot) -> Result<(), Failed>
@@ -252,15 +239,20 @@ impl World for MemoryWorld {
         if self.plan.is_due(CallKind::CloseOut) {
             return Err(place.fail());
         }
-        match store(self.alloc, &mut self.files, place.name(), place.written()) {
-            Ok(()) => {
-                place.close();
-                Ok(())
-            }
-            Err(_) => {
-                self.starved = self.starved.saturating_add(1);
-                Err(place.fail())
-            }
-        }
+        let Ok(()) = store(self.alloc, &mut self.files, place.name(), place.written()) else {
+            return Err(starve(&mut self.starved, place));
+        };
+        place.close();
+        Ok(())
     }
+}
+
+/// Counts a call that failed for a want of memory of the world's own.
+fn starve(starved: &mut u64, place: &mut Place) -> Failed
+    ensures counted { starved.new ≡ risen starved.old }
+    ensures after { place.new ≡ record place.old { faults = risen place.old.faults } }
+    ensures rose { Rose place.old.faults place.new.faults }
+{
+    *starved = starved.saturating_add(1);
+    place.fail()
 }
