@@ -1,7 +1,7 @@
 -- Reads in a row: what they take goes on, and a failure leaves what was taken.
 use Rattle.std.proofs.Common.{◌≡◌, ℕ, ◌+◌, ◌<◌, ◌≤◌, List, [], ◌++◌, length, take, IsTrue, ◌∙◌, sym, ap, subst, refl, arith, append_assoc, append-nil, length-append, length-take-le}
 use Rattle.ccsl_edge.specs.declared.slot.Slot.{Slot}
-use Rattle.ccsl_edge.specs.World.{State, SlotState, Told, Rose, held}
+use Rattle.ccsl_edge.specs.World.{State, SlotState, Told, held}
 use Rattle.ccsl_edge.specs.Calls.{Fails, OpensIn, Reads, Takes, ReadsThenFails, ReadsAll, ReadsTooMuch, ReadsIntoFault, ReadsPart}
 use Rattle.ccsl_edge.proofs.Frames.{ChangesOnly-same, ChangesOnly-then, Rose-after_same}
 
@@ -75,14 +75,14 @@ pub IsReading-past : (told : Told) (slot : Slot) (limit : ℕ) (all buf : List �
     → ReadsTooMuch told slot limit s u
 IsReading-past told slot limit all buf count s t u p q sum =
     let past : length (all ++ take count buf) ≡ limit + 1 =
-      rw length-append (rw (length-take-le count buf q.within) sum) in
+    rw length-append (rw (length-take-le count buf q.within) sum) in
     let reads = Reads-append told slot all (take count buf) s t u p.reads q.reads in
     record {
       bytes = all ++ take count buf;
       past = past;
       reads = reads;
       more = λ tells.
-        rw (reads.taken tells) (omega (arith, past, length-append (all ++ take count buf) (u.slot_of slot).left));
+          rw (reads.taken tells) (omega (arith, past, length-append (all ++ take count buf) (u.slot_of slot).left));
     }
 
 pub IsReading-part : (told : Told) (slot : Slot) (limit : ℕ) (all : List ℕ) (s t : State)

@@ -1,7 +1,6 @@
 -- A world in memory: its value, how it starts, and which of its calls fail.
 use Rattle.std.specs.Prelude.{◌≡◌, ℕ, true, List, [], ◌∷◌, ◌⊎◌, slice_index, slice_set}
 use Rattle.std.specs.List.{Contains}
-use Rattle.ccsl_edge.specs.declared.slot.Slot.{Slot}
 use Rattle.ccsl_edge.specs.declared.slot.Slot.TheVariants.{Input}
 use Rattle.ccsl_edge.specs.declared.plan.CallKind.{CallKind}
 use Rattle.ccsl_edge.specs.declared.plan.CallKind.TheVariants.{OpenIn, OpenOut, Read, Write, CloseOut}

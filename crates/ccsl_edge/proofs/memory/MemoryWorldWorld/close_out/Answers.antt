@@ -11,5 +11,5 @@ pub returns-in_default-clause-err : goal.returns-in_default-clause-err
 returns-in_default-clause-err c =
     let long : length c.self.inside.slots ≡ 7 = omega arith in
     rw (← c.self.view_is, c.in_default.ensures.err)
-      (Fails-at _ _ c.args.slot _ _ _ c.index.ensures long
-        c.starve.ensures.after c.starve.ensures.rose)
+    (Fails-at _ _ c.args.slot _ _ _ c.index.ensures long
+    c.starve.ensures.after c.starve.ensures.rose)

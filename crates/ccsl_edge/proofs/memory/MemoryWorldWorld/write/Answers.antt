@@ -11,8 +11,8 @@ pub returns-in_default-clause-err : goal.returns-in_default-clause-err
 returns-in_default-clause-err c =
     let long : length c.self.inside.slots ≡ 7 = omega arith in
     rw (← c.self.view_is)
-      (Fails-at _ _ c.args.slot _ _ _ c.index.ensures long
-        (rw c.in_default.ensures.err at c.starve.ensures.after) (rw c.in_default.ensures.err at c.starve.ensures.rose))
+    (Fails-at _ _ c.args.slot _ _ _ c.index.ensures long
+    (rw c.in_default.ensures.err at c.starve.ensures.after) (rw c.in_default.ensures.err at c.starve.ensures.rose))
 
 pub returns-clause-ok : goal.returns-clause-ok
 returns-clause-ok c =
