@@ -1,11 +1,12 @@
 -- A world in memory: its value, how it starts, and which of its calls fail.
-use Rattle.std.specs.Prelude.{◌≡◌, ℕ, true, List, [], ◌∷◌, ◌⊎◌, slice_index, slice_set}
+use Rattle.std.specs.Prelude.{◌≡◌, ℕ, true, List, [], ◌∷◌, ◌⊎◌, slice_index, slice_set, IsNone}
 use Rattle.std.specs.List.{Contains}
+use Rattle.ccsl_edge.specs.declared.slot.Slot.{Slot}
 use Rattle.ccsl_edge.specs.declared.slot.Slot.TheVariants.{Input}
 use Rattle.ccsl_edge.specs.declared.plan.CallKind.{CallKind}
 use Rattle.ccsl_edge.specs.declared.plan.CallKind.TheVariants.{OpenIn, OpenOut, Read, Write, CloseOut}
 use Rattle.ccsl_edge.specs.Slots.{index_of}
-use Rattle.ccsl_edge.specs.World.{SlotState, State, Told, risen}
+use Rattle.ccsl_edge.specs.World.{SlotState, State, Told, risen, file_at}
 use Rattle.ccsl_edge.specs.SlotTable.{slot_in, slots_at_start}
 
 -- its place in the order of the kinds, from 0
@@ -60,12 +61,21 @@ abbrev pub with_bytes : MemoryState → List ℕ → MemoryState
 with_bytes w bytes =
     record w { slots = slice_set w.slots (index_of Input) (record (slot_in w.slots Input) { left = bytes }) }
 
--- what a world in memory tells: everything
-abbrev pub memory_state : MemoryState → State
-memory_state w = record { files = w.files; slot_of = slot_in w.slots }
+-- the state that a world in memory shows
+abbrev pub shown : MemoryState → State
+shown w = record { files = w.files; slot_of = slot_in w.slots }
 
+-- it tells everything
 abbrev pub tells_all : Told
 tells_all = record { files = true; left = true; written = true }
+
+-- no file of this name is held
+abbrev pub IsMissing : MemoryState → List ℕ → Type 0
+IsMissing w name = IsNone (file_at w.files name)
+
+-- the slot has counted one fault more
+abbrev pub CountsFault : Slot → MemoryState → MemoryState → Type 0
+CountsFault slot old new = (slot_in new.slots slot).faults ≡ risen (slot_in old.slots slot).faults
 
 -- What each call of a world in memory does beside what every world's call does: it is counted.
 pub record Counts (kind : CallKind) (old new : MemoryState) : Type 0 where

@@ -1,13 +1,14 @@
 //! A world in memory, which tells everything and fails where it is asked to.
 
-ghost use Rattle.std.specs.Prelude.{◌≡◌, ◌<◌, ◌≤◌, min, length, take, [], ⊤, IsTrue, IsNone, IfOk, OnOk, OnErr};
+ghost use Rattle.std.specs.Prelude.{◌≡◌, ◌<◌, ◌≤◌, min, length, take, [], ⊤, IsTrue, IfOk, OnOk, OnErr};
 ghost use Rattle.std.specs.Option.{option_copied};
 ghost use Rattle.ccsl_edge.specs.Slots.{IsInput, IsInputFile, IsOutput, IsOutputFile};
 ghost use Rattle.ccsl_edge.specs.World.{file_at, risen, Rose};
 ghost use Rattle.ccsl_edge.specs.Calls.{Fails, OpensIn, Takes, OpensOut, Adds, Closes};
 ghost use Rattle.ccsl_edge.specs.SlotTable.{slot_in};
-ghost use Rattle.ccsl_edge.specs.Memory.{memory_at_start, with_bytes, memory_state, tells_all};
-ghost use Rattle.ccsl_edge.specs.Memory.{Counts, Succeeds, FailsByCause, FailsOrStarves};
+ghost use Rattle.ccsl_edge.specs.Memory.{memory_at_start, with_bytes, shown, tells_all};
+ghost use Rattle.ccsl_edge.specs.Memory.{IsMissing, CountsFault, Counts};
+ghost use Rattle.ccsl_edge.specs.Memory.{Succeeds, FailsByCause, FailsOrStarves};
 
 use crate::held::{HeldFile, content_of, store};
 use crate::place::Place;
@@ -125,20 +126,18 @@ impl World for MemoryWorld {
 
     ghost told = { tells_all };
 
-    ghost state = { memory_state };
+    ghost state = { shown };
 
     fn open_in(&mut self, slot: Slot, name: &str) -> Result<(), Failed>
         requires input { IsInputFile slot }
-        ensures ok { OnOk result
-            (OpensIn tells_all slot name.now (memory_state self.old) (memory_state self.new)) }
-        ensures err { OnErr result (Fails slot (memory_state self.old) (memory_state self.new)) }
-        ensures once { OnErr result
-            ((slot_in self.new.slots slot).faults ≡ risen (slot_in self.old.slots slot).faults) }
+        ensures ok { OnOk result (OpensIn tells_all slot name.now (shown self.old) (shown self.new)) }
+        ensures err { OnErr result (Fails slot (shown self.old) (shown self.new)) }
+        ensures once { OnErr result (CountsFault slot self.old self.new) }
         ensures counts { Counts CallKind.OpenIn self.old self.new }
         ensures succeeds { OnOk result
-            (Succeeds CallKind.OpenIn (IsNone (file_at self.old.files name.now)) self.old self.new) }
+            (Succeeds CallKind.OpenIn (IsMissing self.old name.now) self.old self.new) }
         ensures fails { OnErr result
-            (FailsOrStarves CallKind.OpenIn (IsNone (file_at self.old.files name.now)) self.old self.new) }
+            (FailsOrStarves CallKind.OpenIn (IsMissing self.old name.now) self.old self.new) }
     {
         let place = &mut self.slots[slot.index()];
         if self.plan.is_due(CallKind::OpenIn) {
@@ -156,11 +155,9 @@ impl World for MemoryWorld {
 
     fn open_out(&mut self, slot: Slot, name: &str) -> Result<(), Failed>
         requires output { IsOutputFile slot }
-        ensures ok { OnOk result
-            (OpensOut tells_all slot name.now (memory_state self.old) (memory_state self.new)) }
-        ensures err { OnErr result (Fails slot (memory_state self.old) (memory_state self.new)) }
-        ensures once { OnErr result
-            ((slot_in self.new.slots slot).faults ≡ risen (slot_in self.old.slots slot).faults) }
+        ensures ok { OnOk result (OpensOut tells_all slot name.now (shown self.old) (shown self.new)) }
+        ensures err { OnErr result (Fails slot (shown self.old) (shown self.new)) }
+        ensures once { OnErr result (CountsFault slot self.old self.new) }
         ensures counts { Counts CallKind.OpenOut self.old self.new }
         ensures succeeds { OnOk result (Succeeds CallKind.OpenOut ⊥ self.old self.new) }
         ensures fails { OnErr result (FailsOrStarves CallKind.OpenOut ⊥ self.old self.new) }
@@ -179,13 +176,12 @@ impl World for MemoryWorld {
     fn read(&mut self, slot: Slot, buf: &mut [u8]) -> Result<usize, Failed>
         requires input { IsInput slot }
         requires room { 0 < length buf.old }
-        ensures ok { IfOk result
-            (λ count. Takes tells_all slot count (memory_state self.old) (memory_state self.new) buf.new) }
-        ensures err { OnErr result (Fails slot (memory_state self.old) (memory_state self.new)) }
-        ensures count { IfOk result
-            (λ count. count ≡ min self.old.piece (min (length buf.old) (length (slot_in self.old.slots slot).left))) }
-        ensures once { OnErr result
-            ((slot_in self.new.slots slot).faults ≡ risen (slot_in self.old.slots slot).faults) }
+        ensures ok { IfOk result (λ count.
+            Takes tells_all slot count (shown self.old) (shown self.new) buf.new) }
+        ensures err { OnErr result (Fails slot (shown self.old) (shown self.new)) }
+        ensures count { IfOk result (λ count.
+            count ≡ min self.old.piece (min (length buf.old) (length (slot_in self.old.slots slot).left))) }
+        ensures once { OnErr result (CountsFault slot self.old self.new) }
         ensures counts { Counts CallKind.Read self.old self.new }
         ensures succeeds { OnOk result (Succeeds CallKind.Read ⊥ self.old self.new) }
         ensures fails { OnErr result (FailsByCause CallKind.Read ⊥ self.old self.new) }
@@ -202,12 +198,11 @@ impl World for MemoryWorld {
         requires opened { IsTrue (slot_in self.old.slots slot).is_open }
         requires some { 0 < length bytes.now }
         ensures within { IfOk result (λ count. (0 < count) × (count ≤ length bytes.now)) }
-        ensures ok { IfOk result
-            (λ count. Adds tells_all slot (take count bytes.now) (memory_state self.old) (memory_state self.new)) }
-        ensures err { OnErr result (Fails slot (memory_state self.old) (memory_state self.new)) }
+        ensures ok { IfOk result (λ count.
+            Adds tells_all slot (take count bytes.now) (shown self.old) (shown self.new)) }
+        ensures err { OnErr result (Fails slot (shown self.old) (shown self.new)) }
         ensures count { IfOk result (λ count. count ≡ min self.old.piece (length bytes.now)) }
-        ensures once { OnErr result
-            ((slot_in self.new.slots slot).faults ≡ risen (slot_in self.old.slots slot).faults) }
+        ensures once { OnErr result (CountsFault slot self.old self.new) }
         ensures counts { Counts CallKind.Write self.old self.new }
         ensures succeeds { OnOk result (Succeeds CallKind.Write ⊥ self.old self.new) }
         ensures fails { OnErr result (FailsOrStarves CallKind.Write ⊥ self.old self.new) }
@@ -226,11 +221,9 @@ impl World for MemoryWorld {
     fn close_out(&mut self, slot: Slot) -> Result<(), Failed>
         requires output { IsOutputFile slot }
         requires opened { IsTrue (slot_in self.old.slots slot).is_open }
-        ensures ok { OnOk result
-            (Closes tells_all slot (memory_state self.old) (memory_state self.new)) }
-        ensures err { OnErr result (Fails slot (memory_state self.old) (memory_state self.new)) }
-        ensures once { OnErr result
-            ((slot_in self.new.slots slot).faults ≡ risen (slot_in self.old.slots slot).faults) }
+        ensures ok { OnOk result (Closes tells_all slot (shown self.old) (shown self.new)) }
+        ensures err { OnErr result (Fails slot (shown self.old) (shown self.new)) }
+        ensures once { OnErr result (CountsFault slot self.old self.new) }
         ensures counts { Counts CallKind.CloseOut self.old self.new }
         ensures succeeds { OnOk result (Succeeds CallKind.CloseOut ⊥ self.old self.new) }
         ensures fails { OnErr result (FailsOrStarves CallKind.CloseOut ⊥ self.old self.new) }
