@@ -1,5 +1,5 @@
 -- What follows from the frame of a call, and the counts of faults.
-use Rattle.std.proofs.Common.{◌≡◌, ℕ, ◌∙◌, sym, subst, refl}
+use Rattle.std.proofs.Common.{◌≡◌, ℕ, ◌∙◌, subst, refl}
 use Rattle.ccsl_edge.specs.declared.slot.Slot.{Slot}
 use Rattle.ccsl_edge.specs.World.{State, Rose}
 use Rattle.ccsl_edge.specs.Calls.{ChangesOnly}

@@ -1,11 +1,12 @@
 -- A world in memory in which one slot has changed.
-use Rattle.std.proofs.Common.{◌≡◌, ◌≢◌, ℕ, ◌<◌, ◌≤◌, List, [], ◌++◌, false, length, take, drop, get_or, set, min, refl, sym, ap, ◌∙◌, get_or-set_same, get_or-set_other, take-append-drop, arith}
+use Rattle.std.proofs.Common.{◌≡◌, ℕ, ◌<◌, ◌≤◌, List, ◌++◌, false, length, take, drop, get_or, set, min, refl, sym, ap, ◌∙◌, get_or-set_same, get_or-set_other, take-append-drop, arith}
 use Rattle.std.proofs.lemmas.List.{get_or_default, nil_from_length}
 use Rattle.ccsl_edge.specs.declared.slot.Slot.{Slot}
 use Rattle.ccsl_edge.specs.Slots.{index_of}
 use Rattle.ccsl_edge.specs.World.{SlotState, State, Rose, risen}
-use Rattle.ccsl_edge.specs.Calls.{ChangesOnly, Fails, Reads, Takes, Adds}
-use Rattle.ccsl_edge.specs.Memory.{slot_in, unused, tells_all}
+use Rattle.ccsl_edge.specs.Calls.{ChangesOnly, Fails, Takes, Adds}
+use Rattle.ccsl_edge.specs.SlotTable.{slot_in, unused}
+use Rattle.ccsl_edge.specs.Memory.{tells_all}
 use Rattle.ccsl_edge.proofs.Slots.{same_slot, index_of-lt}
 
 -- the state of these files and slots

@@ -1,8 +1,8 @@
 -- Reads in a row: what they take goes on, and a failure leaves what was taken.
-use Rattle.std.proofs.Common.{◌≡◌, ℕ, ◌+◌, ◌≤◌, List, [], ◌++◌, length, take, IsTrue, ◌∙◌, sym, ap, subst, refl, arith, append_assoc, append-nil, length-append, length-take-le}
+use Rattle.std.proofs.Common.{◌≡◌, ℕ, ◌+◌, ◌<◌, ◌≤◌, List, [], ◌++◌, length, take, IsTrue, ◌∙◌, sym, ap, subst, refl, arith, append_assoc, append-nil, length-append, length-take-le}
 use Rattle.ccsl_edge.specs.declared.slot.Slot.{Slot}
-use Rattle.ccsl_edge.specs.World.{State, SlotState, Told, Rose}
-use Rattle.ccsl_edge.specs.Calls.{Fails, Reads, Takes, ReadsThenFails, ReadsAll, ReadsTooMuch, ReadsIntoFault, ReadsPart}
+use Rattle.ccsl_edge.specs.World.{State, SlotState, Told, held}
+use Rattle.ccsl_edge.specs.Calls.{Fails, OpensIn, Reads, Takes, ReadsThenFails, ReadsAll, ReadsTooMuch, ReadsIntoFault, ReadsPart}
 use Rattle.ccsl_edge.proofs.Frames.{ChangesOnly-same, ChangesOnly-then, Rose-after_same}
 
 pub Reads-none : (told : Told) (slot : Slot) (s : State) → Reads told slot [] s s
@@ -73,12 +73,32 @@ IsReading-ends told slot limit all buf s t u p q =
 pub IsReading-past : (told : Told) (slot : Slot) (limit : ℕ) (all buf : List ℕ) (count : ℕ) (s t u : State)
     → IsReading told slot limit all s t → Takes told slot count t u buf → length all + count ≡ limit + 1
     → ReadsTooMuch told slot limit s u
-IsReading-past told slot limit all buf count s t u p q past = record {
-  bytes = all ++ take count buf;
-  past = rw length-append (rw (length-take-le count buf q.within) past);
-  reads = Reads-append told slot all (take count buf) s t u p.reads q.reads;
-}
+IsReading-past told slot limit all buf count s t u p q sum =
+    let past : length (all ++ take count buf) ≡ limit + 1 =
+    rw length-append (rw (length-take-le count buf q.within) sum) in
+    let reads = Reads-append told slot all (take count buf) s t u p.reads q.reads in
+    record {
+      bytes = all ++ take count buf;
+      past = past;
+      reads = reads;
+      more = λ tells.
+          rw (reads.taken tells) (omega (arith, past, length-append (all ++ take count buf) (u.slot_of slot).left));
+    }
 
 pub IsReading-part : (told : Told) (slot : Slot) (limit : ℕ) (all : List ℕ) (s t : State)
     → IsReading told slot limit all s t → ReadsPart told slot limit s t
 IsReading-part told slot limit all s t p = record { bytes = all; within = p.within; reads = p.reads }
+
+-- what a whole read of an opened file gives is what is held under its name
+pub ReadsAll-opened : (told : Told) (slot : Slot) (name all : List ℕ) (limit : ℕ) (s t u : State)
+    → OpensIn told slot name s t → ReadsAll told slot limit all t u
+    → IsTrue told.files → IsTrue told.left → held s.files name ≡ all
+ReadsAll-opened told slot name all limit s t u p q tells_files tells_left =
+    sym (p.bytes tells_files tells_left) ∙ q.whole tells_left
+
+-- where reading an opened file was too much, more is held under its name
+pub ReadsTooMuch-opened : (told : Told) (slot : Slot) (name : List ℕ) (limit : ℕ) (s t u : State)
+    → OpensIn told slot name s t → ReadsTooMuch told slot limit t u
+    → IsTrue told.files → IsTrue told.left → limit < length (held s.files name)
+ReadsTooMuch-opened told slot name limit s t u p q tells_files tells_left =
+    rw (← p.bytes tells_files tells_left) (q.more tells_left)

@@ -1,5 +1,5 @@
 -- A world that tells no content, in which one slot has changed.
-use Rattle.std.proofs.Common.{◌≡◌, ℕ, ◌≤◌, List, [], true, false, length, take, get_or, set, IsTrue, refl}
+use Rattle.std.proofs.Common.{◌≡◌, ℕ, ◌≤◌, List, [], true, false, length, get_or, set, IsTrue, refl}
 use Rattle.ccsl_edge.specs.declared.slot.Slot.{Slot}
 use Rattle.ccsl_edge.specs.Slots.{index_of}
 use Rattle.ccsl_edge.specs.World.{SlotState}

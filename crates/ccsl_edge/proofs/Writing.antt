@@ -1,8 +1,8 @@
 -- Writes in a row: what they add goes on, and a failure leaves a front.
-use Rattle.std.proofs.Common.{◌≡◌, ℕ, ◌+◌, List, [], ◌++◌, length, take, drop, IsTrue, ◌∙◌, sym, ap, subst, refl, append_assoc, append-nil, take-append-drop}
+use Rattle.std.proofs.Common.{◌≡◌, ℕ, ◌+◌, List, [], ◌++◌, length, take, drop, ◌∙◌, sym, ap, subst, refl, append_assoc, append-nil, take-append-drop}
 use Rattle.std.proofs.Math.Seq.{take-append-add}
 use Rattle.ccsl_edge.specs.declared.slot.Slot.{Slot}
-use Rattle.ccsl_edge.specs.World.{State, SlotState, Told, Rose}
+use Rattle.ccsl_edge.specs.World.{State, SlotState, Told}
 use Rattle.ccsl_edge.specs.Calls.{Fails, Adds, AddsFront}
 use Rattle.ccsl_edge.proofs.Frames.{ChangesOnly-same, ChangesOnly-then, Rose-after_same}
 

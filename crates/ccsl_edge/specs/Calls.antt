@@ -1,6 +1,6 @@
 -- What one call, or a row of calls, does to a world: one relation for each outcome, between the state before and
 -- the state after.
-use Rattle.std.specs.Prelude.{◌≡◌, ◌≢◌, ℕ, ◌+◌, ◌≤◌, List, [], ◌++◌, length, take, IsTrue, true, false, Option, Some}
+use Rattle.std.specs.Prelude.{◌≡◌, ◌≢◌, ℕ, ◌+◌, ◌<◌, ◌≤◌, List, [], ◌++◌, length, take, IsTrue, true, false}
 use Rattle.ccsl_edge.specs.declared.slot.Slot.{Slot}
 use Rattle.ccsl_edge.specs.declared.whole.ReadFault.{ReadFault}
 use Rattle.ccsl_edge.specs.declared.whole.ReadFault.TheVariants.{Fault, TooLong, Memory}
@@ -84,11 +84,12 @@ pub record ReadsAll (told : Told) (slot : Slot) (limit : ℕ) (all : List ℕ) (
   pub whole : IsTrue told.left → (old.slot_of slot).left ≡ all
   pub ended : IsTrue told.left → (new.slot_of slot).left ≡ []
 
--- One byte more than allowed was read, and no more.
+-- More bytes were left than allowed: one more was read, and no further.
 pub record ReadsTooMuch (told : Told) (slot : Slot) (limit : ℕ) (old new : State) : Type 0 where
   pub bytes : List ℕ
   pub past : length bytes ≡ limit + 1
   pub reads : Reads told slot bytes old new
+  pub more : IsTrue told.left → limit < length (old.slot_of slot).left
 
 -- A call failed before more than the allowed bytes were read.
 pub record ReadsIntoFault (told : Told) (slot : Slot) (limit : ℕ) (old new : State) : Type 0 where

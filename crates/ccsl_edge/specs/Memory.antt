@@ -1,12 +1,13 @@
 -- A world in memory: its value, how it starts, and which of its calls fail.
-use Rattle.std.specs.Prelude.{◌≡◌, ℕ, Bool, true, false, List, [], ◌∷◌, IsNone, ◌⊎◌, slice_index, slice_index_or, slice_set}
+use Rattle.std.specs.Prelude.{◌≡◌, ℕ, true, List, [], ◌∷◌, ◌⊎◌, slice_index, slice_set, IsNone}
 use Rattle.std.specs.List.{Contains}
 use Rattle.ccsl_edge.specs.declared.slot.Slot.{Slot}
 use Rattle.ccsl_edge.specs.declared.slot.Slot.TheVariants.{Input}
 use Rattle.ccsl_edge.specs.declared.plan.CallKind.{CallKind}
 use Rattle.ccsl_edge.specs.declared.plan.CallKind.TheVariants.{OpenIn, OpenOut, Read, Write, CloseOut}
 use Rattle.ccsl_edge.specs.Slots.{index_of}
-use Rattle.ccsl_edge.specs.World.{SlotState, State, Told, risen}
+use Rattle.ccsl_edge.specs.World.{SlotState, State, Told, risen, file_at}
+use Rattle.ccsl_edge.specs.SlotTable.{slot_in, slots_at_start}
 
 -- its place in the order of the kinds, from 0
 abbrev pub kind_index : CallKind → ℕ
@@ -45,18 +46,6 @@ IsListed plan kind = Contains plan.failing (kind, next_call plan kind)
 abbrev pub counted : Plan → CallKind → Plan
 counted plan kind = record plan { calls = slice_set plan.calls (kind_index kind) (next_call plan kind) }
 
--- a slot that was never used
-abbrev pub unused : Bool → SlotState
-unused is_open = record { left = []; written = []; name = []; is_open = is_open; faults = 0 }
-
-abbrev pub slot_in : List SlotState → Slot → SlotState
-slot_in slots slot = slice_index_or slots (index_of slot) (unused false)
-
--- the slots at the start: of the output slots only `Report` is open
-abbrev pub slots_at_start : List SlotState
-slots_at_start =
-    unused false ∷ unused false ∷ unused false ∷ unused false ∷ unused true ∷ unused false ∷ unused false ∷ []
-
 -- a world in memory at the start
 abbrev pub memory_at_start : List (List ℕ × List ℕ) → List (CallKind × ℕ) → ℕ → MemoryState
 memory_at_start files failing piece = record {
@@ -72,12 +61,21 @@ abbrev pub with_bytes : MemoryState → List ℕ → MemoryState
 with_bytes w bytes =
     record w { slots = slice_set w.slots (index_of Input) (record (slot_in w.slots Input) { left = bytes }) }
 
--- what a world in memory tells: everything
-abbrev pub memory_state : MemoryState → State
-memory_state w = record { files = w.files; slot_of = slot_in w.slots }
+-- the state that a world in memory shows
+abbrev pub shown : MemoryState → State
+shown w = record { files = w.files; slot_of = slot_in w.slots }
 
+-- it tells everything
 abbrev pub tells_all : Told
 tells_all = record { files = true; left = true; written = true }
+
+-- no file of this name is held
+abbrev pub IsMissing : MemoryState → List ℕ → Type 0
+IsMissing w name = IsNone (file_at w.files name)
+
+-- the slot has counted one fault more
+abbrev pub CountsFault : Slot → MemoryState → MemoryState → Type 0
+CountsFault slot old new = (slot_in new.slots slot).faults ≡ risen (slot_in old.slots slot).faults
 
 -- What each call of a world in memory does beside what every world's call does: it is counted.
 pub record Counts (kind : CallKind) (old new : MemoryState) : Type 0 where

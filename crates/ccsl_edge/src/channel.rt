@@ -2,7 +2,7 @@
 
 ghost use Rattle.std.specs.Prelude.{◌≡◌, ◌≤◌, length, true, false, IfOk};
 ghost use Rattle.ccsl_edge.specs.World.{risen, Rose};
-ghost use Rattle.ccsl_edge.specs.Memory.{unused};
+ghost use Rattle.ccsl_edge.specs.SlotTable.{unused};
 
 use crate::world::Failed;
 use std::io;

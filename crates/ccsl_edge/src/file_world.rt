@@ -1,8 +1,9 @@
 //! The real world: files, standard input and standard output. This is the trusted edge: what a file holds is not
 //! told, and no clause speaks of it.
 
-ghost use Rattle.ccsl_edge.specs.Memory.{slots_at_start};
-ghost use Rattle.std.specs.Prelude.{◌≡◌};
+ghost use Rattle.std.specs.Prelude.{◌≡◌, ⊤};
+ghost use Rattle.ccsl_edge.specs.SlotTable.{slots_at_start};
+ghost use Rattle.ccsl_edge.specs.FileSystem.{file_state, tells_nothing};
 
 use crate::channel::Channel;
 use crate::slot::Slot;
@@ -50,11 +51,6 @@ impl<R: Files> FileWorld<R> {
 }
 
 impl<R: Files + Input + Print> World for FileWorld<R> {
-    ghost use Rattle.std.specs.Prelude.{⊤, OnOk, OnErr, IfOk, ◌≡◌, ◌<◌, ◌≤◌, length, take, IsTrue};
-    ghost use Rattle.ccsl_edge.specs.Slots.{IsInput, IsInputFile, IsOutput, IsOutputFile};
-    ghost use Rattle.ccsl_edge.specs.Calls.{Fails, OpensIn, Takes, OpensOut, Adds, Closes};
-    ghost use Rattle.ccsl_edge.specs.FileSystem.{file_state, tells_nothing};
-
     ghost allows = { λ _ _. ⊤ };
 
     ghost told = { tells_nothing };

@@ -1,19 +1,21 @@
 //! A world in memory, which tells everything and fails where it is asked to.
 
-ghost use Rattle.std.specs.Prelude.{◌≡◌, ◌↔◌, ℕ, ◌<◌, ◌≤◌, min, length, take, [], Some, None, IsTrue, IsNone, IsErr, IfSome, IfOk, OnOk, OnErr};
-ghost use Rattle.std.specs.List.{find, position};
+ghost use Rattle.std.specs.Prelude.{◌≡◌, ◌<◌, ◌≤◌, min, length, take, [], ⊤, IsTrue, IfOk, OnOk, OnErr};
 ghost use Rattle.std.specs.Option.{option_copied};
-ghost use Rattle.std.specs.Str.{bytes_eq};
-ghost use Rattle.ccsl_edge.specs.Slots.{IsInput, IsOutput};
-ghost use Rattle.ccsl_edge.specs.World.{file_at, Stores};
-ghost use Rattle.ccsl_edge.specs.Memory.{memory_at_start, with_bytes, slot_in};
+ghost use Rattle.ccsl_edge.specs.Slots.{IsInput, IsInputFile, IsOutput, IsOutputFile};
+ghost use Rattle.ccsl_edge.specs.World.{file_at, risen, Rose};
+ghost use Rattle.ccsl_edge.specs.Calls.{Fails, OpensIn, Takes, OpensOut, Adds, Closes};
+ghost use Rattle.ccsl_edge.specs.SlotTable.{slot_in};
+ghost use Rattle.ccsl_edge.specs.Memory.{memory_at_start, with_bytes, shown, tells_all};
+ghost use Rattle.ccsl_edge.specs.Memory.{IsMissing, CountsFault, Counts};
+ghost use Rattle.ccsl_edge.specs.Memory.{Succeeds, FailsByCause, FailsOrStarves};
 
-use crate::held::HeldFile;
+use crate::held::{HeldFile, content_of, store};
 use crate::place::Place;
 use crate::plan::{CallKind, FaultPlan};
 use crate::slot::Slot;
 use crate::world::{Failed, World};
-use std::alloc::{AllocError, Global};
+use std::alloc::Global;
 use std::marker::Model;
 
 /// Files and slots in memory. It tells everything, moves at most `piece` bytes in one read or write, and lets the
@@ -120,26 +122,22 @@ impl MemoryWorld {
 }
 
 impl World for MemoryWorld {
-    ghost use Rattle.std.specs.Prelude.{⊤, OnOk, OnErr, IfOk, ◌≡◌, ◌<◌, ◌≤◌, min, length, take, IsTrue, IsNone};
-    ghost use Rattle.ccsl_edge.specs.Slots.{IsInput, IsInputFile, IsOutput, IsOutputFile};
-    ghost use Rattle.ccsl_edge.specs.World.{file_at, risen};
-    ghost use Rattle.ccsl_edge.specs.Calls.{Fails, OpensIn, Takes, OpensOut, Adds, Closes};
-    ghost use Rattle.ccsl_edge.specs.Memory.{memory_state, tells_all, slot_in, Counts, Succeeds, FailsByCause, FailsOrStarves};
-
     ghost allows = { λ _ _. ⊤ };
 
     ghost told = { tells_all };
 
-    ghost state = { memory_state };
+    ghost state = { shown };
 
     fn open_in(&mut self, slot: Slot, name: &str) -> Result<(), Failed>
         requires input { IsInputFile slot }
-        ensures ok { OnOk result (OpensIn tells_all slot name.now (memory_state self.old) (memory_state self.new)) }
-        ensures err { OnErr result (Fails slot (memory_state self.old) (memory_state self.new)) }
-        ensures once { OnErr result ((slot_in self.new.slots slot).faults ≡ risen (slot_in self.old.slots slot).faults) }
+        ensures ok { OnOk result (OpensIn tells_all slot name.now (shown self.old) (shown self.new)) }
+        ensures err { OnErr result (Fails slot (shown self.old) (shown self.new)) }
+        ensures once { OnErr result (CountsFault slot self.old self.new) }
         ensures counts { Counts CallKind.OpenIn self.old self.new }
-        ensures succeeds { OnOk result (Succeeds CallKind.OpenIn (IsNone (file_at self.old.files name.now)) self.old self.new) }
-        ensures fails { OnErr result (FailsOrStarves CallKind.OpenIn (IsNone (file_at self.old.files name.now)) self.old self.new) }
+        ensures succeeds { OnOk result
+            (Succeeds CallKind.OpenIn (IsMissing self.old name.now) self.old self.new) }
+        ensures fails { OnErr result
+            (FailsOrStarves CallKind.OpenIn (IsMissing self.old name.now) self.old self.new) }
     {
         let place = &mut self.slots[slot.index()];
         if self.plan.is_due(CallKind::OpenIn) {
@@ -148,23 +146,18 @@ impl World for MemoryWorld {
         let Some(content) = content_of(self.files.as_slice(), name) else {
             return Err(place.fail());
         };
-        match Vec::from_slice(self.alloc, content) {
-            Ok(content) => {
-                place.open_in(content);
-                Ok(())
-            }
-            Err(_) => {
-                self.starved = self.starved.saturating_add(1);
-                Err(place.fail())
-            }
-        }
+        let Ok(content) = Vec::from_slice(self.alloc, content) else {
+            return Err(starve(&mut self.starved, place));
+        };
+        place.open_in(content);
+        Ok(())
     }
 
     fn open_out(&mut self, slot: Slot, name: &str) -> Result<(), Failed>
         requires output { IsOutputFile slot }
-        ensures ok { OnOk result (OpensOut tells_all slot name.now (memory_state self.old) (memory_state self.new)) }
-        ensures err { OnErr result (Fails slot (memory_state self.old) (memory_state self.new)) }
-        ensures once { OnErr result ((slot_in self.new.slots slot).faults ≡ risen (slot_in self.old.slots slot).faults) }
+        ensures ok { OnOk result (OpensOut tells_all slot name.now (shown self.old) (shown self.new)) }
+        ensures err { OnErr result (Fails slot (shown self.old) (shown self.new)) }
+        ensures once { OnErr result (CountsFault slot self.old self.new) }
         ensures counts { Counts CallKind.OpenOut self.old self.new }
         ensures succeeds { OnOk result (Succeeds CallKind.OpenOut ⊥ self.old self.new) }
         ensures fails { OnErr result (FailsOrStarves CallKind.OpenOut ⊥ self.old self.new) }
@@ -173,25 +166,22 @@ impl World for MemoryWorld {
         if self.plan.is_due(CallKind::OpenOut) {
             return Err(place.fail());
         }
-        match String::from_str(self.alloc, name) {
-            Ok(name) => {
-                place.open_out(name);
-                Ok(())
-            }
-            Err(_) => {
-                self.starved = self.starved.saturating_add(1);
-                Err(place.fail())
-            }
-        }
+        let Ok(name) = String::from_str(self.alloc, name) else {
+            return Err(starve(&mut self.starved, place));
+        };
+        place.open_out(name);
+        Ok(())
     }
 
     fn read(&mut self, slot: Slot, buf: &mut [u8]) -> Result<usize, Failed>
         requires input { IsInput slot }
         requires room { 0 < length buf.old }
-        ensures ok { IfOk result (λ count. Takes tells_all slot count (memory_state self.old) (memory_state self.new) buf.new) }
-        ensures err { OnErr result (Fails slot (memory_state self.old) (memory_state self.new)) }
-        ensures count { IfOk result (λ count. count ≡ min self.old.piece (min (length buf.old) (length (slot_in self.old.slots slot).left))) }
-        ensures once { OnErr result ((slot_in self.new.slots slot).faults ≡ risen (slot_in self.old.slots slot).faults) }
+        ensures ok { IfOk result (λ count.
+            Takes tells_all slot count (shown self.old) (shown self.new) buf.new) }
+        ensures err { OnErr result (Fails slot (shown self.old) (shown self.new)) }
+        ensures count { IfOk result (λ count.
+            count ≡ min self.old.piece (min (length buf.old) (length (slot_in self.old.slots slot).left))) }
+        ensures once { OnErr result (CountsFault slot self.old self.new) }
         ensures counts { Counts CallKind.Read self.old self.new }
         ensures succeeds { OnOk result (Succeeds CallKind.Read ⊥ self.old self.new) }
         ensures fails { OnErr result (FailsByCause CallKind.Read ⊥ self.old self.new) }
@@ -208,10 +198,11 @@ impl World for MemoryWorld {
         requires opened { IsTrue (slot_in self.old.slots slot).is_open }
         requires some { 0 < length bytes.now }
         ensures within { IfOk result (λ count. (0 < count) × (count ≤ length bytes.now)) }
-        ensures ok { IfOk result (λ count. Adds tells_all slot (take count bytes.now) (memory_state self.old) (memory_state self.new)) }
-        ensures err { OnErr result (Fails slot (memory_state self.old) (memory_state self.new)) }
+        ensures ok { IfOk result (λ count.
+            Adds tells_all slot (take count bytes.now) (shown self.old) (shown self.new)) }
+        ensures err { OnErr result (Fails slot (shown self.old) (shown self.new)) }
         ensures count { IfOk result (λ count. count ≡ min self.old.piece (length bytes.now)) }
-        ensures once { OnErr result ((slot_in self.new.slots slot).faults ≡ risen (slot_in self.old.slots slot).faults) }
+        ensures once { OnErr result (CountsFault slot self.old self.new) }
         ensures counts { Counts CallKind.Write self.old self.new }
         ensures succeeds { OnOk result (Succeeds CallKind.Write ⊥ self.old self.new) }
         ensures fails { OnErr result (FailsOrStarves CallKind.Write ⊥ self.old self.new) }
@@ -221,21 +212,18 @@ impl World for MemoryWorld {
             return Err(place.fail());
         }
         let count = self.piece.min(bytes.len());
-        match place.add(&bytes[..count]) {
-            Ok(()) => Ok(count),
-            Err(_) => {
-                self.starved = self.starved.saturating_add(1);
-                Err(place.fail())
-            }
-        }
+        let Ok(()) = place.add(&bytes[..count]) else {
+            return Err(starve(&mut self.starved, place));
+        };
+        Ok(count)
     }
 
     fn close_out(&mut self, slot: Slot) -> Result<(), Failed>
         requires output { IsOutputFile slot }
         requires opened { IsTrue (slot_in self.old.slots slot).is_open }
-        ensures ok { OnOk result (Closes tells_all slot (memory_state self.old) (memory_state self.new)) }
-        ensures err { OnErr result (Fails slot (memory_state self.old) (memory_state self.new)) }
-        ensures once { OnErr result ((slot_in self.new.slots slot).faults ≡ risen (slot_in self.old.slots slot).faults) }
+        ensures ok { OnOk result (Closes tells_all slot (shown self.old) (shown self.new)) }
+        ensures err { OnErr result (Fails slot (shown self.old) (shown self.new)) }
+        ensures once { OnErr result (CountsFault slot self.old self.new) }
         ensures counts { Counts CallKind.CloseOut self.old self.new }
         ensures succeeds { OnOk result (Succeeds CallKind.CloseOut ⊥ self.old self.new) }
         ensures fails { OnErr result (FailsOrStarves CallKind.CloseOut ⊥ self.old self.new) }
@@ -244,58 +232,20 @@ impl World for MemoryWorld {
         if self.plan.is_due(CallKind::CloseOut) {
             return Err(place.fail());
         }
-        match store(self.alloc, &mut self.files, place.name(), place.written()) {
-            Ok(()) => {
-                place.close();
-                Ok(())
-            }
-            Err(_) => {
-                self.starved = self.starved.saturating_add(1);
-                Err(place.fail())
-            }
-        }
+        let Ok(()) = store(self.alloc, &mut self.files, place.name(), place.written()) else {
+            return Err(starve(&mut self.starved, place));
+        };
+        place.close();
+        Ok(())
     }
 }
 
-/// Makes the file of this name hold these bytes.
-fn store(
-    alloc: Global,
-    files: &mut Vec<HeldFile>,
-    name: &str,
-    bytes: &[u8],
-) -> Result<(), AllocError>
-    ensures ok { OnOk result (Stores name.now bytes.now files.old.items files.new.items) }
-    ensures err { OnErr result (files.new.items ≡ files.old.items) }
+/// Counts a call that failed for a want of memory of the world's own.
+fn starve(starved: &mut u64, place: &mut Place) -> Failed
+    ensures counted { starved.new ≡ risen starved.old }
+    ensures after { place.new ≡ record place.old { faults = risen place.old.faults } }
+    ensures rose { Rose place.old.faults place.new.faults }
 {
-    let content = Vec::from_slice(alloc, bytes)?;
-    match position_of(files.as_slice(), name) {
-        Some(at) => {
-            let file = &mut files[at];
-            file.refill(content);
-        }
-        None => files.push(HeldFile::new(String::from_str(alloc, name)?, content))?,
-    }
-    Ok(())
-}
-
-/// The place of the first file of this name.
-fn position_of(files: &[HeldFile], name: &str) -> Option<usize>
-    ensures { result ≡ position (λ file. bytes_eq file.0 name.now) files.now }
-{
-    files.iter().position(|file| file.is_named(name))
-}
-
-/// The first file of this name.
-fn file_named<'a>(files: &'a [HeldFile], name: &str) -> Option<&'a HeldFile>
-    ensures { option_copied result ≡ find (λ file. bytes_eq file.0 name.now) files.now }
-{
-    files.iter().find(|file| file.is_named(name))
-}
-
-/// The content of the first file of this name.
-fn content_of<'a>(files: &'a [HeldFile], name: &str) -> Option<&'a [u8]>
-    ensures { option_copied result ≡ file_at files.now name.now }
-{
-    let file = file_named(files, name)?;
-    Some(file.content())
+    *starved = starved.saturating_add(1);
+    place.fail()
 }

@@ -3,7 +3,7 @@
 ghost use Rattle.std.specs.Prelude.{◌≡◌, [], ◌++◌, length, take, drop, min, true, false, OnOk, OnErr};
 ghost use Rattle.std.specs.String.{string_bytes};
 ghost use Rattle.ccsl_edge.specs.World.{risen, Rose};
-ghost use Rattle.ccsl_edge.specs.Memory.{unused};
+ghost use Rattle.ccsl_edge.specs.SlotTable.{unused};
 
 use crate::world::Failed;
 use std::alloc::{AllocError, Global};
@@ -91,7 +91,8 @@ impl Place {
     }
 
     pub(crate) fn add(&mut self, bytes: &[u8]) -> Result<(), AllocError>
-        ensures ok { OnOk result (self.new ≡ record self.old { written = self.old.written ++ bytes.now }) }
+        ensures ok { OnOk result
+            (self.new ≡ record self.old { written = self.old.written ++ bytes.now }) }
         ensures err { OnErr result (self.new ≡ self.old) }
     {
         self.written.extend_from_slice(bytes)

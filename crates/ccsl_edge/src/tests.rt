@@ -16,7 +16,8 @@ fn held(alloc: Global, name: &str, content: &str) -> Result<HeldFile, AllocError
 fn three_files(alloc: Global) -> Result<Vec<HeldFile>, AllocError> {
     let first = held(alloc, "twice", "abcdef")?;
     let second = held(alloc, "twice", "never read")?;
-    vec![in alloc; first, second, held(alloc, "once", "xyz")?]
+    let third = held(alloc, "once", "xyz")?;
+    Ok(vec![in alloc; first, second, third]?)
 }
 
 #[test]

@@ -53,8 +53,10 @@ pub fn read_all<W: World>(
     limit: u64,
 ) -> Result<Vec<u8>, ReadFault>
     requires input { IsInput slot }
-    ensures ok { IfOk result (λ all. ReadsAll W.told slot limit all.items (W.state world.old) (W.state world.new)) }
-    ensures err { IfErr result (λ fault. ReadsUntil fault W.told slot limit (W.state world.old) (W.state world.new)) }
+    ensures ok { IfOk result
+        (λ all. ReadsAll W.told slot limit all.items (W.state world.old) (W.state world.new)) }
+    ensures err { IfErr result
+        (λ fault. ReadsUntil fault W.told slot limit (W.state world.old) (W.state world.new)) }
 {
     let mut buffer = vec![in alloc; 0u8; limit.min(BUFFER - 1) as usize + 1]?;
     let buffer = buffer.as_mut_slice();
@@ -78,7 +80,8 @@ pub fn write_all<W: World>(world: &mut W, slot: Slot, bytes: &[u8]) -> Result<()
     requires output { IsOutput slot }
     requires opened { IsTrue ((W.state world.old).slot_of slot).is_open }
     ensures ok { OnOk result (Adds W.told slot bytes.now (W.state world.old) (W.state world.new)) }
-    ensures err { OnErr result (AddsFront W.told slot bytes.now (W.state world.old) (W.state world.new)) }
+    ensures err { OnErr result
+        (AddsFront W.told slot bytes.now (W.state world.old) (W.state world.new)) }
 {
     let mut rest = bytes;
     while !rest.is_empty() {

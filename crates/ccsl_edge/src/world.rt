@@ -47,7 +47,8 @@ pub trait World {
     fn read(&mut self, slot: Slot, buf: &mut [u8]) -> Result<usize, Failed>
         requires input { IsInput slot }
         requires room { 0 < length buf.old }
-        ensures ok { IfOk result (λ count. Takes told slot count (state self.old) (state self.new) buf.new) }
+        ensures ok { IfOk result (λ count.
+            Takes told slot count (state self.old) (state self.new) buf.new) }
         ensures err { OnErr result (Fails slot (state self.old) (state self.new)) };
 
     /// Adds at least one of the first of these bytes and answers how many.
@@ -56,7 +57,8 @@ pub trait World {
         requires opened { IsTrue ((state self.old).slot_of slot).is_open }
         requires some { 0 < length bytes.now }
         ensures within { IfOk result (λ count. (0 < count) × (count ≤ length bytes.now)) }
-        ensures ok { IfOk result (λ count. Adds told slot (take count bytes.now) (state self.old) (state self.new)) }
+        ensures ok { IfOk result (λ count.
+            Adds told slot (take count bytes.now) (state self.old) (state self.new)) }
         ensures err { OnErr result (Fails slot (state self.old) (state self.new)) };
 
     /// Closes the slot, so that the file of its name holds what was written.

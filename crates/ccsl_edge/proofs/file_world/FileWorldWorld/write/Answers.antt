@@ -1,4 +1,4 @@
-use Rattle.std.proofs.Common.{◌≡◌, ◌≤◌, ◌∙◌, [], length, get_or, arith}
+use Rattle.std.proofs.Common.{◌≡◌, ◌∙◌, [], length, get_or, arith}
 use Rattle.ccsl_edge.proofs.OneSlot.{Fails-at}
 use Rattle.ccsl_edge.proofs.Untold.{Adds-untold}
 use Rattle.ccsl_edge.proofs.file_world.FileWorldWorld.write.Goals as goal

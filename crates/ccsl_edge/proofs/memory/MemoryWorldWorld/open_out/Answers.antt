@@ -7,7 +7,9 @@ returns-then-is_due-clause-err c =
     let long : length c.self.inside.slots ≡ 7 = omega arith in
     rw (← c.self.view_is) (Fails-at _ _ c.args.slot _ _ _ c.index.ensures long c.fail.ensures.after c.fail.ensures.rose)
 
-pub returns-in-Err-clause-err : goal.returns-in-Err-clause-err
-returns-in-Err-clause-err c =
+pub returns-in_default-clause-err : goal.returns-in_default-clause-err
+returns-in_default-clause-err c =
     let long : length c.self.inside.slots ≡ 7 = omega arith in
-    rw (← c.self.view_is) (Fails-at _ _ c.args.slot _ _ _ c.index.ensures long c.fail-in-Err.ensures.after c.fail-in-Err.ensures.rose)
+    rw (← c.self.view_is)
+    (Fails-at _ _ c.args.slot _ _ _ c.index.ensures long
+    c.starve.ensures.after c.starve.ensures.rose)

@@ -1,6 +1,6 @@
 use Rattle.std.proofs.Common.{sym}
 use Rattle.ccsl_edge.proofs.Files.{Stores-set, Stores-push}
-use Rattle.ccsl_edge.proofs.memory.store.Goals as goal
+use Rattle.ccsl_edge.proofs.held.store.Goals as goal
 
 pub returns-in-Some-clause-ok : goal.returns-in-Some-clause-ok
 returns-in-Some-clause-ok c =
