@@ -7,3 +7,4 @@ pub mod Judging
 pub mod Items
 pub mod Counts
 pub mod Judged
+pub mod Unbound

@@ -3,3 +3,5 @@ pub mod Numbers
 pub mod Trace
 pub mod Specification
 pub mod Judged
+pub mod Replies
+pub mod Statuses

@@ -4,11 +4,12 @@
 --     #TIME 1CODE 1CODE ..               any number of times, each time greater than the one before
 -- The table goes token by token. What it has read is a record; `None` stands for a trace of another form.
 use Rattle.std.specs.Prelude.{ℕ, List, [], ◌∷◌, ◌++◌, length, Bool, true, false, not, ◌&&◌, ◌||◌, Option, Some, None, is_none, nat_eq, nat_lt, nat_le, slice_get, codes, if◌then◌else◌}
-use Rattle.std.specs.List.{list_all, position, fold}
+use Rattle.std.specs.List.{list_all, find, fold}
 use Rattle.std.specs.Str.{bytes_eq}
 use Rattle.ccsl_base.specs.Clocks.{with_clock}
 use Rattle.ccsl_base.specs.Names.{is_among, find_name}
 use Rattle.ccsl_base.specs.declared.rows.Row.{Row}
+use Rattle.ccsl_kernel.specs.Lives.{steps}
 use Rattle.ccsl_vcd_lex.specs.Tokens.{Heard, word, too_long, heard}
 use Rattle.ccsl_top.specs.declared.trace.Dump.{Dump}
 use Rattle.ccsl_top.specs.declared.trace.Place.{Place}
@@ -157,6 +158,11 @@ ended (Some r) = ended_at r.place r
 abbrev pub trace_of : List (List ℕ) → List ℕ → Option Dump
 trace_of names bytes = if nat_lt 16777216 (length bytes) then None else ended (reading_of names (heard bytes))
 
--- the first clock from the first on that is no reference
+-- whether a clock is no reference
+abbrev pub is_unbound : List (List ℕ) → Option (List ℕ) → Bool
+is_unbound references None = false
+is_unbound references (Some name) = is_none (find_name name references)
+
+-- the first clock that is no reference
 abbrev pub first_unbound : List (List ℕ) → List (List ℕ) → Option ℕ
-first_unbound names references = position (λ name. not (is_among name references)) names
+first_unbound names references = find (λ i. is_unbound references (slice_get names i)) (steps 0 (length names))

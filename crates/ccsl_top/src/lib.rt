@@ -3,6 +3,7 @@
 
 mod judge;
 mod number;
+mod reply;
 mod specification;
 mod trace;
 mod words;
