@@ -5,3 +5,5 @@ pub mod Specification
 pub mod Judged
 pub mod Replies
 pub mod Statuses
+pub mod Effects
+pub mod Stops

@@ -1,6 +1,7 @@
 //! The program as one call: from the words of its command line and a world of files to a report and a status.
 #![tactic(auto)]
 
+mod files;
 mod judge;
 mod number;
 mod reply;

@@ -95,8 +95,6 @@ fn first_unbound(names: &Names, references: &Names) -> Option<u32>
 
 /// The answer on a specification and the bytes of a trace.
 pub(crate) fn trace_reply(alloc: Global, spec: &Specification, trace: &[u8]) -> Result<Reply, Memory>
-    requires clocks { length spec.now.names ≤ MAX_CLOCKS }
-    requires few { length spec.now.constraints < 2 ^ 32 }
     ensures { IfOk result (λ reply. plain_reply reply ≡ trace_answer spec.now.names spec.now.constraints trace.now) }
 {
     let dump = match read_trace(alloc, &spec.names, trace)? {

@@ -45,6 +45,7 @@ pub(crate) struct SpecReader {
 }
 
 impl Model for SpecReader {
+    ghost use Rattle.std.specs.Prelude.{◌≤◌, length};
     ghost use Rattle.ccsl_top.specs.Specification.{Spec};
 
     ghost Value = { Spec };
@@ -56,6 +57,8 @@ impl Model for SpecReader {
       right = r.right;
       constraints = r.constraints.items;
     } };
+
+    ghost invariant = { λ r. (length r.names ≤ 64) × (length r.constraints.items ≤ 4096) };
 }
 
 fn after_word(place: Line, word: Reserved) -> Option<Line>
@@ -228,6 +231,8 @@ impl SpecReader {
 pub(crate) struct Specification {
     pub names: Names,
     pub constraints: Seq<Constraint>,
+    ghost few_clocks: { length names ≤ 64 },
+    ghost few_constraints: { length constraints ≤ 4096 },
 }
 
 impl SpecReader {
