@@ -8,3 +8,5 @@ pub mod Items
 pub mod Counts
 pub mod Judged
 pub mod Unbound
+pub mod Effects
+pub mod Answering

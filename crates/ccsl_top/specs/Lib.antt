@@ -7,3 +7,5 @@ pub mod Replies
 pub mod Statuses
 pub mod Effects
 pub mod Stops
+pub mod Headline
+pub mod Answered

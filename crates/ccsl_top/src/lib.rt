@@ -4,7 +4,11 @@
 mod files;
 mod judge;
 mod number;
+pub mod program;
 mod reply;
+
 mod specification;
 mod trace;
 mod words;
+
+pub use program::run;
