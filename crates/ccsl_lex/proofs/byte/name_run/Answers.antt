@@ -1,9 +1,0 @@
-use Rattle.std.proofs.Common.{rules, tests, not, ◌∙◌}
-use Rattle.std.proofs.lemmas.Iterator.{YieldsList-from_slice}
-use Rattle.std.proofs.lemmas.Iterator.Search.{position_from_yields_List}
-use Rattle.ccsl_base.specs.Name.{is_inner}
-use Rattle.ccsl_lex.proofs.Runs.{run_is}
-use Rattle.ccsl_lex.proofs.byte.name_run.Goals as goal
-
-pub returns-clause-run : goal.returns-clause-run
-returns-clause-run c = c.unwrap_or.ensures ∙ run_is is_inner c.args.text.now c.position.result (position_from_yields_List (λ b. not (is_inner b)) _ _ c.position.result c.position.ensures.ran (YieldsList-from_slice c.args.text.now c.iter.ensures.rest) (λ x b q k. search (rules, tests)))

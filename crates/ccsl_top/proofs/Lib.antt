@@ -1,0 +1,12 @@
+pub mod Keys
+pub mod Tables
+pub mod Changes
+pub mod Pieces
+pub mod Said
+pub mod Judging
+pub mod Items
+pub mod Counts
+pub mod Judged
+pub mod Unbound
+pub mod Effects
+pub mod Answering

@@ -1,0 +1,11 @@
+pub mod Words
+pub mod Numbers
+pub mod Trace
+pub mod Specification
+pub mod Judged
+pub mod Replies
+pub mod Statuses
+pub mod Effects
+pub mod Stops
+pub mod Headline
+pub mod Answered
