@@ -1,6 +1,43 @@
-//! The program: it hands the real words and the real files to `run`.
+//! The program: it hands the real words and the real files to `run`, and says on standard error why there is no answer.
 #![tactic(auto)]
 
 use ccsl_base::CommandWord;
 use ccsl_edge::FileWorld;
 use ccsl_top::run;
+use std::alloc::AllocError;
+use std::process::ExitCode;
+use std::{env, io};
+
+// The words behind the program's name.
+fn command_words(rt: &HostRuntime) -> io::Result<Vec<CommandWord>> {
+    let mut words = Vec::new(rt.alloc());
+    for word in env::args(rt)?.skip(1) {
+        if words.push(CommandWord::new(word)).is_err() {
+            return Err(io::Error::from(AllocError));
+        }
+    }
+    Ok(words)
+}
+
+fn main(rt: HostRuntime) -> ExitCode {
+    let words = match command_words(&rt) {
+        Ok(words) => words,
+        Err(error) => {
+            if error.kind() == io::ErrorKind::OutOfMemory {
+                let _ = eprintln!(rt; "ccsl: no memory");
+                return ExitCode::from(6);
+            }
+            let _ = eprintln!(rt; "ccsl: a word is not UTF-8");
+            return ExitCode::from(2);
+        }
+    };
+    let mut world = FileWorld::new(&rt);
+    let status = run(rt.alloc(), words.as_slice(), &mut world);
+    if status == 5 {
+        let _ = eprintln!(rt; "ccsl: a file failed");
+    }
+    if status == 6 {
+        let _ = eprintln!(rt; "ccsl: no memory");
+    }
+    ExitCode::from(status)
+}

@@ -29,18 +29,19 @@ module _ (told : Told) (words : List (List ℕ)) (judge : is_judge words ≡ tru
     not-built none a is = record {
       keeps = keeps-spec old mid touched;
       is = λ f l.
-        let whole = file f l in
-        let same : text ≡ held old.files (spec_name words) = whole.0 ∙ ap (held old.files) named in
-        answer-to words old.files a judge
+          let whole = file f l in
+          let same : text ≡ held old.files (spec_name words) = whole.0 ∙ ap (held old.files) named in
+          answer-to words old.files a judge
           (short-answer (held old.files (spec_name words)) (held old.files (trace_name words)) a (subst (λ t. length t ≤ 1048576) same whole.1)
-            (inl (subst IsNoSpecification same none, is))) }
+          (inl (subst IsNoSpecification same none, is)));
+    }
 
     module _ (names : List (List ℕ)) (constraints : List Constraint) (spec : IsSpecification text names constraints) where
       accepted : IsTrue told.files → IsTrue told.left → IsAcceptedSpec (held old.files (spec_name words))
       accepted f l =
-        let whole = file f l in
-        let same : text ≡ held old.files (spec_name words) = whole.0 ∙ ap (held old.files) named in
-        record { short = subst (λ t. length t ≤ 1048576) same whole.1; names = names; constraints = constraints; is = subst (λ t. IsSpecification t names constraints) same spec }
+          let whole = file f l in
+          let same : text ≡ held old.files (spec_name words) = whole.0 ∙ ap (held old.files) named in
+          record { short = subst (λ t. length t ≤ 1048576) same whole.1; names = names; constraints = constraints; is = subst (λ t. IsSpecification t names constraints) same spec }
 
       -- the trace could not be read
       pub trace-stopped : (stop : Stop) (new : State) → IsStop stop Trace mid new → IsUnanswered stop told words old new
@@ -53,9 +54,14 @@ module _ (told : Told) (words : List (List ℕ)) (judge : is_judge words ≡ tru
       trace-answered trace traced new touches a is = record {
         keeps = keeps-trace old mid new (keeps-spec old mid touched) touches;
         is = λ f l.
-          let whole = file f l in
-          let same : text ≡ held old.files (spec_name words) = whole.0 ∙ ap (held old.files) named in
-          answer-to words old.files a judge
+            let whole = file f l in
+            let same : text ≡ held old.files (spec_name words) = whole.0 ∙ ap (held old.files) named in
+            answer-to words old.files a judge
             (short-answer (held old.files (spec_name words)) (held old.files (trace_name words)) a (subst (λ t. length t ≤ 1048576) same whole.1)
-              (inr (names, constraints, subst (λ t. IsSpecification t names constraints) same spec,
-                is f l ∙ ap (λ fs. trace_answer names constraints (held fs trace)) touched.only.files ∙ ap (λ t. trace_answer names constraints (held old.files t)) traced))) }
+            (inr (
+              names,
+              constraints,
+              subst (λ t. IsSpecification t names constraints) same spec,
+              is f l ∙ ap (λ fs. trace_answer names constraints (held fs trace)) touched.only.files ∙ ap (λ t. trace_answer names constraints (held old.files t)) traced,
+            )));
+      }

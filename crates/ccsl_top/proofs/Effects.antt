@@ -25,14 +25,16 @@ keeps-spec old new t = record {
   files = t.only.files;
   spec = t.here;
   trace = rw (t.only.others Trace trace-spec) refl;
-  others = λ slot a b. t.only.others slot a }
+  others = λ slot a b. t.only.others slot a;
+}
 
 pub keeps-trace : (old mid new : State) → Keeps old mid → Touches Trace mid new → Keeps old new
 keeps-trace old mid new k t = record {
   files = t.only.files ∙ k.files;
   spec = t.only.others Spec spec-trace ∙ k.spec ∙ ap (λ s. let S : SlotState = record (old.slot_of Spec) { left = s } in S) (ap (λ s. s.left) (sym (t.only.others Spec spec-trace)));
   trace = t.here ∙ ap (λ s. let S : SlotState = record s { left = (new.slot_of Trace).left } in S) k.trace;
-  others = λ slot a b. t.only.others slot b ∙ k.others slot a b }
+  others = λ slot a b. t.only.others slot b ∙ k.others slot a b;
+}
 
 -- an answer to words that name two files, from the two texts
 pub answer-to : (words : List (List ℕ)) (files : List (List ℕ × List ℕ)) (a : Answer) → is_judge words ≡ true →

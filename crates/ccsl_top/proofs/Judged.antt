@@ -51,26 +51,26 @@ module _ (names : List (List ℕ)) (cs : List Constraint) where
 
   at-row : (rows done more : List Row) (row : Row) → rows ≡ done ++ row ∷ more → step_at (X rows) (length done) ≡ step_of row
   at-row rows done more row whole =
-    ap (λ T. step_at T (length done)) (X-parts rows done more row whole)
-    ∙ ap (λ n. step_at (map step_of done ++ step_of row ∷ map step_of more) n) (sym (length-map done step_of))
-    ∙ get_or-behind (map step_of done) (step_of row) (map step_of more) []
+      ap (λ T. step_at T (length done)) (X-parts rows done more row whole)
+      ∙ ap (λ n. step_at (map step_of done ++ step_of row ∷ map step_of more) n) (sym (length-map done step_of))
+      ∙ get_or-behind (map step_of done) (step_of row) (map step_of more) []
 
   counts-next : (rows done more : List Row) (row : Row) (x : ℕ) → rows ≡ done ++ row ∷ more →
       clock_count (X rows) x (suc (length done)) ≡ clock_count (X rows) x (length done) + cond (ticks_in x (step_of row)) 1 0
   counts-next rows done more row x whole =
-    let parts = X-parts rows done more row whole in
-    let size = length-map done step_of in
-    let front : take (length done) (X rows) ≡ map step_of done =
+      let parts = X-parts rows done more row whole in
+      let size = length-map done step_of in
+      let front : take (length done) (X rows) ≡ map step_of done =
       ap (take (length done)) parts ∙ ap (λ n. take n (map step_of done ++ step_of row ∷ map step_of more)) (sym size) ∙ take-append_seam (map step_of done) (step_of row ∷ map step_of more) in
-    let next : take (suc (length done)) (X rows) ≡ map step_of done ++ step_of row ∷ [] =
+      let next : take (suc (length done)) (X rows) ≡ map step_of done ++ step_of row ∷ [] =
       ap (take (suc (length done))) parts
       ∙ ap (λ n. take n (map step_of done ++ step_of row ∷ map step_of more)) (sym (add-one (length done)) ∙ ap (λ n. n + 1) (sym size))
       ∙ take-append-add (map step_of done) (step_of row ∷ map step_of more) 1 in
-    ap (λ T. count (map (ticks_in x) T)) next
-    ∙ ap count (map-append (ticks_in x) (map step_of done) (step_of row ∷ []))
-    ∙ count-snoc (map (ticks_in x) (map step_of done)) (ticks_in x (step_of row))
-    ∙ one_more (ticks_in x (step_of row)) (count (map (ticks_in x) (map step_of done)))
-    ∙ ap (λ T. count (map (ticks_in x) T) + cond (ticks_in x (step_of row)) 1 0) (sym front)
+      ap (λ T. count (map (ticks_in x) T)) next
+      ∙ ap count (map-append (ticks_in x) (map step_of done) (step_of row ∷ []))
+      ∙ count-snoc (map (ticks_in x) (map step_of done)) (ticks_in x (step_of row))
+      ∙ one_more (ticks_in x (step_of row)) (count (map (ticks_in x) (map step_of done)))
+      ∙ ap (λ T. count (map (ticks_in x) T) + cond (ticks_in x (step_of row)) 1 0) (sym front)
     where
       one_more : (t : Bool) (n : ℕ) → cond t (suc n) n ≡ n + cond t 1 0
       one_more true n = sym (add-one n)
@@ -81,13 +81,14 @@ module _ (names : List (List ℕ)) (cs : List Constraint) where
       ((x : ℕ) → count_at counts x ≡ clock_count (X rows) x n) → step_at (X rows) n ≡ ticks_below (length names) ticks →
       kernel.is_violated K recorded rows n i ≡ is_broken_one counts (length names) ticks (slice_get cs i)
   violated-constraint rows n i counts ticks counted here =
-    ap (λ t. not (eval (item_formula K (X rows) n i) (step_at (X rows) n)) || (t && ticks_in (length names + i) recorded && not (kernel.is_as_recorded rows (X rows) n (length names + i)))) (le-ltb i 0 (omega arith))
-    ∙ or-false (not (eval (item_formula K (X rows) n i) (step_at (X rows) n)))
-    ∙ by_constraint (slice_get cs i) (ap (slice_get cs) (sub-zero i))
+      ap (λ t. not (eval (item_formula K (X rows) n i) (step_at (X rows) n)) || (t && ticks_in (length names + i) recorded && not (kernel.is_as_recorded rows (X rows) n (length names + i)))) (le-ltb i 0 (omega arith))
+      ∙ or-false (not (eval (item_formula K (X rows) n i) (step_at (X rows) n)))
+      ∙ by_constraint (slice_get cs i) (ap (slice_get cs) (sub-zero i))
     where
       or-false : (b : Bool) → (b || false) ≡ b
       or-false true = refl
       or-false false = refl
+
       by_constraint : (o : Option Constraint) → slice_get cs (i - 0) ≡ o → not (eval (item_formula K (X rows) n i) (step_at (X rows) n)) ≡ is_broken_one counts (length names) ticks o
       by_constraint None e = rw e refl
       by_constraint (Some c) e = rw (e, here, counted c.left, counted c.right) refl
@@ -97,8 +98,8 @@ module _ (names : List (List ℕ)) (cs : List Constraint) where
       ((x : ℕ) → count_at counts x ≡ clock_count (X rows) x n) → step_at (X rows) n ≡ ticks_below (length names) ticks →
       kernel.first_item K recorded rows n ≡ first_broken cs counts (length names) ticks
   first-item rows n counts ticks counted here =
-    ap (λ m. find (kernel.is_violated K recorded rows n) (steps 0 m)) (zero-add (length cs))
-    ∙ find-steps _ _ 0 (length cs) (λ i l u. violated-constraint rows n i counts ticks counted here)
+      ap (λ m. find (kernel.is_violated K recorded rows n) (steps 0 m)) (zero-add (length cs))
+      ∙ find-steps _ _ 0 (length cs) (λ i l u. violated-constraint rows n i counts ticks counted here)
 
   -- the rows before the rest violate nothing, and the counts are theirs
   pub record SoFar (rows rest : List Row) (step : ℕ) (counts : List ℕ) : Type 0 where
@@ -131,34 +132,35 @@ module _ (names : List (List ℕ)) (cs : List Constraint) where
       step_is = ap (λ n. n + 1) so.step_is ∙ sym (length-append so.done (row ∷ []));
       size = size;
       counted = λ x.
-        counted x
-        ∙ ap (λ n. n + cond (nat_lt x (length counts) && ticks_in x row.ticks) 1 0) (so.counted x ∙ ap (clock_count (X rows) x) so.step_is)
-        ∙ ap (λ t. clock_count (X rows) x (length so.done) + cond t 1 0) (ap (λ n. nat_lt x n && ticks_in x row.ticks) so.size ∙ sym (ticks_in-below x (length names) row.ticks))
-        ∙ sym (counts-next rows so.done more row x so.whole)
-        ∙ ap (clock_count (X rows) x) (sym (add-one (length so.done)) ∙ ap (λ n. n + 1) (sym so.step_is));
-      none = rw (add-one step) (find-not_here _ step so.none (ap is_some (item-here ∙ holds))) }
+          counted x
+          ∙ ap (λ n. n + cond (nat_lt x (length counts) && ticks_in x row.ticks) 1 0) (so.counted x ∙ ap (clock_count (X rows) x) so.step_is)
+          ∙ ap (λ t. clock_count (X rows) x (length so.done) + cond t 1 0) (ap (λ n. nat_lt x n && ticks_in x row.ticks) so.size ∙ sym (ticks_in-below x (length names) row.ticks))
+          ∙ sym (counts-next rows so.done more row x so.whole)
+          ∙ ap (clock_count (X rows) x) (sym (add-one (length so.done)) ∙ ap (λ n. n + 1) (sym so.step_is));
+      none = rw (add-one step) (find-not_here _ step so.none (ap is_some (item-here ∙ holds)));
+    }
 
     -- a constraint fails: the verdict
     pub violated-here : (item : ℕ) → Some item ≡ first_broken cs counts (length names) row.ticks → kernel.Violated step row.time item ≡ verdict_of names cs rows
     violated-here item fails =
-      let found : kernel.first_item K recorded rows step ≡ Some item = item-here ∙ sym fails in
-      let first : kernel.first_step K recorded rows ≡ Some step =
+        let found : kernel.first_item K recorded rows step ≡ Some item = item-here ∙ sym fails in
+        let first : kernel.first_step K recorded rows ≡ Some step =
         ap (λ n. find (λ n. is_some (kernel.first_item K recorded rows n)) (steps 0 n)) size-rows
         ∙ find-stays _ (suc step) (length more) step (find-here _ step so.none (ap is_some found)) in
-      let time : slice_index (map (λ row. row.time) rows) step ≡ row.time =
+        let time : slice_index (map (λ row. row.time) rows) step ≡ row.time =
         ap (λ rs. slice_index (map (λ row. row.time) rs) step) so.whole
         ∙ ap (λ ts. slice_index ts step) (map-append (λ row. row.time) so.done (row ∷ more))
         ∙ ap (slice_index (map (λ row. row.time) so.done ++ row.time ∷ map (λ row. row.time) more)) (so.step_is ∙ sym (length-map so.done (λ row. row.time)))
         ∙ get_or-behind (map (λ row. row.time) so.done) row.time (map (λ row. row.time) more) 0 in
-      sym (ap (kernel.verdict_at K recorded rows) first
+        sym (ap (kernel.verdict_at K recorded rows) first
         ∙ ap (λ t. kernel.Violated step t (unwrap_or (kernel.first_item K recorded rows step) 0)) time
         ∙ ap (λ o. kernel.Violated step row.time (unwrap_or o 0)) found)
 
   -- all rows were judged: a run
   pub run-all : (rows : List Row) (step : ℕ) (counts : List ℕ) → SoFar rows [] step counts → kernel.Run (length rows) ≡ verdict_of names cs rows
   run-all rows step counts so =
-    let size : step ≡ length rows = so.step_is ∙ ap length (sym (so.whole ∙ append-nil so.done)) in
-    sym (ap (kernel.verdict_at K recorded rows) (ap (λ n. find (λ n. is_some (kernel.first_item K recorded rows n)) (steps 0 n)) (sym size) ∙ so.none))
+      let size : step ≡ length rows = so.step_is ∙ ap length (sym (so.whole ∙ append-nil so.done)) in
+      sym (ap (kernel.verdict_at K recorded rows) (ap (λ n. find (λ n. is_some (kernel.first_item K recorded rows n)) (steps 0 n)) (sym size) ∙ so.none))
 
 count-le : (ts : List Bool) → count ts ≤ length ts
 count-le [] = omega arith
@@ -168,10 +170,10 @@ count-le (false ∷ ts) = let h = count-le ts in omega (arith, h)
 -- a clock has ticked at most once a step
 pub clock_count-le : (T : List Step) (x n : ℕ) → clock_count T x n ≤ n
 clock_count-le T x n =
-  let few = count-le (map (ticks_in x) (take n T)) in
-  let size = length-map (take n T) (ticks_in x) in
-  let front = length-take n T in
-  omega (arith, few, size, front)
+    let few = count-le (map (ticks_in x) (take n T)) in
+    let size = length-map (take n T) (ticks_in x) in
+    let front = length-take n T in
+    omega (arith, few, size, front)
 
 pub count_at-zeros : (n x : ℕ) → count_at (replicate n 0) x ≡ 0
 count_at-zeros zero x = refl

@@ -12,5 +12,5 @@ has_key-front key word rest e = (bytes_eq-Decides (take (length key) word) key).
 
 pub has_key-none : (key word : List ℕ) → ((rest : List ℕ) → word ≡ key ++ rest → ⊥) → has_key key word ≡ false
 has_key-none key word none =
-  false_from_ne_true (has_key key word)
+    false_from_ne_true (has_key key word)
     (λ e. none (drop (length key) word) (sym (take-append-drop (length key) word) ∙ ap (λ front. front ++ drop (length key) word) ((bytes_eq-Decides (take (length key) word) key).0 e)))

@@ -18,9 +18,9 @@ reading_of-append names hs more = fold-append (next_from names) (Some before_all
 -- where the front of a file is refused, so is the file
 pub refused : (names : List (List ℕ)) (bytes front more : List ℕ) → bytes ≡ front ++ more → reading_of names (settled front) ≡ None → reading_of names (heard bytes) ≡ None
 refused names bytes front more whole none =
-  let (rest, further) = heard-further front more in
-  ap (λ b. reading_of names (heard b)) whole ∙ ap (reading_of names) further
-  ∙ reading_of-append names (settled front) rest ∙ ap (λ r. reading_from names r rest) none ∙ reading_from-None names rest
+    let (rest, further) = heard-further front more in
+    ap (λ b. reading_of names (heard b)) whole ∙ ap (reading_of names) further
+    ∙ reading_of-append names (settled front) rest ∙ ap (λ r. reading_from names r rest) none ∙ reading_from-None names rest
 
 -- so far the bytes `done` were read
 pub record Read (names : List (List ℕ)) (bytes rest : List ℕ) (lexer : Lexing) (reader : Reading) : Type 0 where
@@ -42,13 +42,13 @@ whole-after bytes done rest n whole = whole ∙ ap (λ r. done ++ r) (sym (take-
 pub read-after : (names : List (List ℕ)) (done front : List ℕ) (r : Reading) (more : List Heard) →
     reading_of names (settled done) ≡ Some r → settled (done ++ front) ≡ settled done ++ more → reading_of names (settled (done ++ front)) ≡ reading_from names (Some r) more
 read-after names done front r more read settles =
-  ap (reading_of names) settles ∙ reading_of-append names (settled done) more ∙ ap (λ s. reading_from names s more) read
+    ap (reading_of names) settles ∙ reading_of-append names (settled done) more ∙ ap (λ s. reading_from names s more) read
 
 -- a token that is too long is refused
 pub read-too_long : (names : List (List ℕ)) (bytes rest : List ℕ) (lexer : Lexing) (reader : Reading) (at : ℕ) →
     (read : Read names bytes rest lexer reader) → BreaksWithin read.done rest at → reading_of names (heard bytes) ≡ None
 read-too_long names bytes rest lexer reader at read breaks =
-  refused names bytes (read.done ++ take (breaks.taken + 1) rest) (drop (breaks.taken + 1) rest)
+    refused names bytes (read.done ++ take (breaks.taken + 1) rest) (drop (breaks.taken + 1) rest)
     (whole-after bytes read.done rest (breaks.taken + 1) read.whole)
     (ap (reading_of names) breaks.broke
     ∙ reading_of-append names (settled read.done) (too_long at ∷ [])
@@ -62,8 +62,8 @@ pub read-all : (names : List (List ℕ)) (bytes rest : List ℕ) (lexer : Lexing
     (read : Read names bytes rest lexer reader) → rest ≡ [] → heard read.done ≡ settled read.done ++ more →
     reading_of names (heard bytes) ≡ reading_from names (Some reader) more
 read-all names bytes rest lexer reader more read none all =
-  ap (λ b. reading_of names (heard b)) (read.whole ∙ ap (λ r. read.done ++ r) none ∙ append-nil read.done)
-  ∙ ap (reading_of names) all ∙ reading_of-append names (settled read.done) more ∙ ap (λ s. reading_from names s more) read.read
+    ap (λ b. reading_of names (heard b)) (read.whole ∙ ap (λ r. read.done ++ r) none ∙ append-nil read.done)
+    ∙ ap (reading_of names) all ∙ reading_of-append names (settled read.done) more ∙ ap (λ s. reading_from names s more) read.read
 
 pub none_left : (rest : List ℕ) → nat_eq (length rest) 0 ≡ true → rest ≡ []
 none_left [] e = refl

@@ -17,7 +17,7 @@ pub spec_from-refused : (s : Spec) (ts : List Token) (t : Token) → 1 ≤ lengt
     spec_from (Some s) (map (λ t. t.kind) ts) ≡ None
 spec_from-refused s [] t l is none = absurd (omega arith)
 spec_from-refused s (x ∷ xs) t l is none =
-  ap (λ r. spec_from r (map (λ t. t.kind) xs)) (ap (λ y. token_says s y.kind) (sym is) ∙ none) ∙ spec_from-None (map (λ t. t.kind) xs)
+    ap (λ r. spec_from r (map (λ t. t.kind) xs)) (ap (λ y. token_says s y.kind) (sym is) ∙ none) ∙ spec_from-None (map (λ t. t.kind) xs)
 
 kinds-plain : (ts : List Token) → map (λ t. t.kind) (map plain_token ts) ≡ map (λ t. t.kind) ts
 kinds-plain [] = refl
@@ -31,7 +31,7 @@ none-without_tokens text none names constraints spec = none spec.tokens spec.are
 pub said-by : (text : List ℕ) (ts : List Token) → AreTokens text (map plain_token ts) → (names : List (List ℕ)) (constraints : List Constraint) → (spec : IsSpecification text names constraints) →
     said_by (map (λ t. t.kind) ts) ≡ Some spec.spec
 said-by text ts are names constraints spec =
-  sym (ap said_by (kinds-plain ts)) ∙ ap (λ us. said_by (map (λ t. t.kind) us)) (one_tokens text (map plain_token ts) spec.tokens are spec.are) ∙ spec.says
+    sym (ap said_by (kinds-plain ts)) ∙ ap (λ us. said_by (map (λ t. t.kind) us)) (one_tokens text (map plain_token ts) spec.tokens are spec.are) ∙ spec.says
 
 none_is_some : {A : Type 0} (o : Option A) (a : A) → o ≡ None → o ≡ Some a → ⊥
 none_is_some None a e f = cc
@@ -48,7 +48,8 @@ one-said text ts s names constraints are said n c = record {
   spec = s;
   says = ap said_by (kinds-plain ts) ∙ said;
   declares = sym n;
-  constrains = sym c }
+  constrains = sym c;
+}
 
 -- what was read of all the tokens, where a specification may end there or not
 pub said-end : (text : List ℕ) (ts : List Token) (s : Spec) (found : Option Specification) → AreTokens text (map plain_token ts) →

@@ -7,13 +7,13 @@ use Rattle.ccsl_base.specs.Names.{is_among, find_name, IsAdded}
 
 lt-suc : (k n : ℕ) → nat_lt (1 + k) (suc n) ≡ nat_lt k n
 lt-suc k n =
-  ⊎_elim (λ l. lt-ltb (1 + k) (suc n) (omega arith) ∙ sym (lt-ltb k n l)) (λ l. le-ltb (1 + k) (suc n) (omega arith) ∙ sym (le-ltb k n l)) (cases_lt k n)
+    ⊎_elim (λ l. lt-ltb (1 + k) (suc n) (omega arith) ∙ sym (lt-ltb k n l)) (λ l. le-ltb (1 + k) (suc n) (omega arith) ∙ sym (le-ltb k n l)) (cases_lt k n)
 
 list_any-position : {X : Type 0} (p : X → Bool) (xs : List X) → list_any p xs ≡ nat_lt (position_or_len p xs) (length xs)
 list_any-position p [] = refl
 list_any-position p (x ∷ xs) =
-  elim (p x) as (λ b. (b || list_any p xs) ≡ nat_lt (cond (not b) (1 + position_or_len p xs) 0) (suc (length xs)))
-  [ true ↦ sym (lt-ltb 0 (suc (length xs)) (omega arith)) | false ↦ list_any-position p xs ∙ sym (lt-suc (position_or_len p xs) (length xs)) ]
+    elim (p x) as (λ b. (b || list_any p xs) ≡ nat_lt (cond (not b) (1 + position_or_len p xs) 0) (suc (length xs)))
+    [ true ↦ sym (lt-ltb 0 (suc (length xs)) (omega arith)) | false ↦ list_any-position p xs ∙ sym (lt-suc (position_or_len p xs) (length xs)) ]
 
 among-from : (b : Bool) (k : ℕ) → is_none (cond b (Some k) None) ≡ true → b ≡ false
 among-from true k e = cc
@@ -21,7 +21,7 @@ among-from false k e = refl
 
 pub not_found-absent : (name : List ℕ) (names : List (List ℕ)) → is_none (find_name name names) ≡ true → is_among name names ≡ false
 not_found-absent name names e =
-  list_any-position (bytes_eq name) names ∙ among-from (nat_lt (position_or_len (bytes_eq name) names) (length names)) (position_or_len (bytes_eq name) names) e
+    list_any-position (bytes_eq name) names ∙ among-from (nat_lt (position_or_len (bytes_eq name) names) (length names)) (position_or_len (bytes_eq name) names) e
 
 -- a name that is not found is added at the end
 pub added-new : (old new : List (List ℕ)) (name : List ℕ) (number : Option ℕ) → is_none (find_name name old) ≡ true → IsAdded old new name number → new ≡ old ++ name ∷ []

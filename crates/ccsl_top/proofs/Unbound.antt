@@ -17,8 +17,8 @@ module _ (names references : List (List ℕ)) (clock : ℕ) (name : List ℕ) (i
     (none : find (λ i. is_unbound references (slice_get names i)) (steps 0 clock) ≡ None) where
   pub unbound-found : clock < length names → is_none (find_name name references) ≡ true → Some clock ≡ first_unbound names references
   unbound-found l here =
-    let size : suc clock + (length names - suc clock) ≡ length names = omega arith in
-    sym (ap (λ n. find (λ i. is_unbound references (slice_get names i)) (steps 0 n)) (sym size)
+      let size : suc clock + (length names - suc clock) ≡ length names = omega arith in
+      sym (ap (λ n. find (λ i. is_unbound references (slice_get names i)) (steps 0 n)) (sym size)
       ∙ find-stays _ (suc clock) (length names - suc clock) clock (find-here _ clock none (ap (is_unbound references) is ∙ here)))
 
   pub unbound-next : is_none (find_name name references) ≡ false → find (λ i. is_unbound references (slice_get names i)) (steps 0 (clock + 1)) ≡ None

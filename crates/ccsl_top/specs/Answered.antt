@@ -18,7 +18,7 @@ pub record Answered (told : Told) (words : List (List ℕ)) (answer : Answer) (o
 pub data Faulted (told : Told) (words : List (List ℕ)) (old new : State) : Type 0 where
   spec_faulted : (between : State) → (words_are : is_judge words ≡ true) → Keeps old between → Breaks Spec between new → Faulted told words old new
   trace_faulted : (between : State) → (words_are : is_judge words ≡ true) →
-    (spec_is : IsTrue told.files → IsTrue told.left → IsAcceptedSpec (held old.files (spec_name words))) → Keeps old between → Breaks Trace between new → Faulted told words old new
+      (spec_is : IsTrue told.files → IsTrue told.left → IsAcceptedSpec (held old.files (spec_name words))) → Keeps old between → Breaks Trace between new → Faulted told words old new
 
 abbrev pub IsUnanswered : Stop → Told → List (List ℕ) → State → State → Type 0
 IsUnanswered Fault told words old new = Faulted told words old new

@@ -26,7 +26,7 @@ pub data FaultCause (told : Told) (words : List (List ℕ)) (old new : State) : 
   by_report : (rose : RoseAt Report old new) → FaultCause told words old new
   by_spec : (words_are : is_judge words ≡ true) → (rose : RoseAt Spec old new) → FaultCause told words old new
   by_trace : (words_are : is_judge words ≡ true) → (spec_is : IsTrue told.files → IsTrue told.left → IsAcceptedSpec (held old.files (spec_name words)))
-    → (rose : RoseAt Trace old new) → FaultCause told words old new
+      → (rose : RoseAt Trace old new) → FaultCause told words old new
 
 -- the report has grown by exactly the text of the defined answer
 pub record Reports (words : List (List ℕ)) (status : ℕ) (old new : State) : Type 0 where
@@ -51,7 +51,7 @@ pub record Headline (told : Told) (words : List (List ℕ)) (status : ℕ) (old 
   pub fault_shown : (slot : Slot) → (old.slot_of slot).faults < (new.slot_of slot).faults → status ≡ 5
   -- at 5 and 6 nothing was reported, or a front of the defined text
   pub front : IsTrue told.files → IsTrue told.left → IsTrue told.written → 5 ≤ status →
-    ((new.slot_of Report).written ≡ (old.slot_of Report).written) ⊎ ReportsFront words old new
+      ((new.slot_of Report).written ≡ (old.slot_of Report).written) ⊎ ReportsFront words old new
   -- no file and no other slot has changed, and of these three only bytes left or written, and faults
   pub files : new.files ≡ old.files
   pub others : (slot : Slot) → slot ≢ Spec → slot ≢ Trace → slot ≢ Report → new.slot_of slot ≡ old.slot_of slot

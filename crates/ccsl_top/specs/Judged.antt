@@ -20,7 +20,8 @@ system_of names constraints = record {
   groups = [];
   words = [];
   definitions = [];
-  constraints = constraints }
+  constraints = constraints;
+}
 
 -- the verdict's definition, on these rows
 abbrev pub verdict_of : List (List ℕ) → List Constraint → List Row → kernel.Verdict
@@ -50,7 +51,7 @@ fails PrecedesWeakly left right level = level && right && not left
 -- whether a constraint fails in a step, after so many ticks
 abbrev pub is_broken : List ℕ → ℕ → List ℕ → Constraint → Bool
 is_broken counts declared ticks c =
-  not (eval (relation_formula c.kind c.left c.right (count_at counts c.left) (count_at counts c.right)) (ticks_below declared ticks))
+    not (eval (relation_formula c.kind c.left c.right (count_at counts c.left) (count_at counts c.right)) (ticks_below declared ticks))
 
 abbrev pub is_broken_one : List ℕ → ℕ → List ℕ → Option Constraint → Bool
 is_broken_one counts declared ticks None = false
@@ -59,4 +60,4 @@ is_broken_one counts declared ticks (Some c) = is_broken counts declared ticks c
 -- the first constraint that fails
 abbrev pub first_broken : List Constraint → List ℕ → ℕ → List ℕ → Option ℕ
 first_broken constraints counts declared ticks =
-  find (λ i. is_broken_one counts declared ticks (slice_get constraints i)) (steps 0 (length constraints))
+    find (λ i. is_broken_one counts declared ticks (slice_get constraints i)) (steps 0 (length constraints))

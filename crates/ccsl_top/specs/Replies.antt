@@ -37,7 +37,7 @@ unbound name = answer 4 (codes "trace: unbound clock " ++ name)
 abbrev pub verdict_answer : Verdict → Answer
 verdict_answer (Run n) = answer 0 (codes "run: yes, " ++ decimal n ++ codes " steps")
 verdict_answer (Violated step time item) =
-  answer 1 (codes "run: no, step " ++ decimal step ++ codes ", time " ++ decimal time ++ codes ", constraint " ++ decimal item)
+    answer 1 (codes "run: no, step " ++ decimal step ++ codes ", time " ++ decimal time ++ codes ", constraint " ++ decimal item)
 
 -- of a trace that was read: each declared clock has to be a reference in it
 abbrev pub bound_answer : List (List ℕ) → List Constraint → Dump → Option ℕ → Answer
@@ -55,8 +55,8 @@ trace_answer names constraints trace = dump_answer names constraints (trace_of n
 -- of the text of a specification and the bytes of a trace: it is too long, or no specification, or its trace is judged
 abbrev pub IsShortSpecAnswer : List ℕ → List ℕ → Answer → Type 0
 IsShortSpecAnswer spec trace a =
-  (IsNoSpecification spec × (a ≡ spec_refused))
-  ⊎ ((names : List (List ℕ)) × (constraints : List Constraint) × IsSpecification spec names constraints × (a ≡ trace_answer names constraints trace))
+    (IsNoSpecification spec × (a ≡ spec_refused))
+    ⊎ ((names : List (List ℕ)) × (constraints : List Constraint) × IsSpecification spec names constraints × (a ≡ trace_answer names constraints trace))
 
 abbrev pub IsSpecAnswer : Bool → List ℕ → List ℕ → Answer → Type 0
 IsSpecAnswer true spec trace a = a ≡ spec_too_long
@@ -65,7 +65,7 @@ IsSpecAnswer false spec trace a = IsShortSpecAnswer spec trace a
 abbrev pub IsAnswerTo : Bool → List (List ℕ) → List (List ℕ × List ℕ) → Answer → Type 0
 IsAnswerTo false words files a = a ≡ words_refused
 IsAnswerTo true words files a =
-  IsSpecAnswer (nat_lt 1048576 (length (held files (spec_name words)))) (held files (spec_name words)) (held files (trace_name words)) a
+    IsSpecAnswer (nat_lt 1048576 (length (held files (spec_name words)))) (held files (spec_name words)) (held files (trace_name words)) a
 
 -- THE DEFINED ANSWER to words over files; a file that is not held is an empty one
 abbrev pub IsAnswer : List (List ℕ) → List (List ℕ × List ℕ) → Answer → Type 0

@@ -44,9 +44,9 @@ may_name s name = is_none (find_name name s.names) && nat_lt (length s.names) 64
 
 abbrev pub with_name : Spec → List ℕ → Option Spec
 with_name s name =
-  if may_name s name
-  then Some (record s { place = line.NameEnd; names = s.names ++ name ∷ [] })
-  else None
+    if may_name s name
+    then Some (record s { place = line.NameEnd; names = s.names ++ name ∷ [] })
+    else None
 
 abbrev pub with_left : Spec → Option ℕ → Option Spec
 with_left s None = None
@@ -66,16 +66,16 @@ after_name s _ name = None
 -- a constraint; there are at most 4,096
 abbrev pub with_constraint : Spec → Option Spec
 with_constraint s =
-  if nat_lt (length s.constraints) 4096
-  then Some (record s { place = line.Start; constraints = s.constraints ++ (record { kind = Precedes; left = s.left; right = s.right; label = [] }) ∷ [] })
-  else None
+    if nat_lt (length s.constraints) 4096
+    then Some (record s { place = line.Start; constraints = s.constraints ++ (record { kind = Precedes; left = s.left; right = s.right; label = [] }) ∷ [] })
+    else None
 
 -- where a comma (44), a semicolon (59) or a brace (123, 125) leads
 abbrev pub after_symbol : Spec → Line → ℕ → Option Spec
 after_symbol s line.VersionEnd b = if nat_eq b 59 then Some (record s { place = line.System }) else None
 after_symbol s line.Brace b = if nat_eq b 123 then Some (record s { place = line.Clock }) else None
 after_symbol s line.NameEnd b =
-  if nat_eq b 44 then Some (record s { place = line.Name }) else if nat_eq b 59 then Some (record s { place = line.Start }) else None
+    if nat_eq b 44 then Some (record s { place = line.Name }) else if nat_eq b 59 then Some (record s { place = line.Start }) else None
 after_symbol s line.LineEnd b = if nat_eq b 59 then with_constraint s else None
 after_symbol s line.Start b = if nat_eq b 125 then Some (record s { place = line.Done }) else None
 after_symbol s _ b = None

@@ -46,25 +46,25 @@ is_end text = bytes_eq text (codes "$end")
 -- a declaration may have this code and this reference; there are at most 1,048,576
 abbrev pub may_declare : Reading → List ℕ → List ℕ → Bool
 may_declare r code reference =
-  nat_lt (length r.references) 1048576 && is_code code && not (is_end code) && not (is_end reference)
-  && is_none (find_name code r.codes_of) && is_none (find_name reference r.references)
+    nat_lt (length r.references) 1048576 && is_code code && not (is_end code) && not (is_end reference)
+    && is_none (find_name code r.codes_of) && is_none (find_name reference r.references)
 
 abbrev pub declared : Reading → List ℕ → List ℕ → Option Reading
 declared r code reference =
-  if may_declare r code reference
-  then Some (record r { place = Commands; codes_of = r.codes_of ++ code ∷ []; references = r.references ++ reference ∷ [] })
-  else None
+    if may_declare r code reference
+    then Some (record r { place = Commands; codes_of = r.codes_of ++ code ∷ []; references = r.references ++ reference ∷ [] })
+    else None
 
 -- a declaration with these words before its `$end`
 abbrev pub declared_by : Reading → List (List ℕ) → Option Reading
 declared_by r (kind ∷ size ∷ code ∷ reference ∷ []) =
-  if bytes_eq kind (codes "event") && bytes_eq size (codes "1") then declared r code reference else None
+    if bytes_eq kind (codes "event") && bytes_eq size (codes "1") then declared r code reference else None
 declared_by r _ = None
 
 abbrev pub variable_says : Reading → List ℕ → Option Reading
 variable_says r text =
-  if nat_lt (length r.words) 4 then Some (record r { words = r.words ++ text ∷ [] })
-  else if is_end text then declared_by (record r { words = [] }) r.words else None
+    if nat_lt (length r.words) 4 then Some (record r { words = r.words ++ text ∷ [] })
+    else if is_end text then declared_by (record r { words = [] }) r.words else None
 
 -- whether no clock ticks
 abbrev pub is_nil : List ℕ → Bool
@@ -87,9 +87,9 @@ is_later time (Some row) = nat_lt row.time time
 abbrev pub timed : Reading → Option ℕ → Option Reading
 timed r None = None
 timed r (Some time) =
-  if is_later time r.present
-  then Some (record r { rows = rows_so_far r; present = Some (record { time = time; ticks = [] }) })
-  else None
+    if is_later time r.present
+    then Some (record r { rows = rows_so_far r; present = Some (record { time = time; ticks = [] }) })
+    else None
 
 -- the clock of a reference ticks in a row; a reference that names no clock changes nothing
 abbrev pub with_tick : Row → Option ℕ → Row
@@ -106,7 +106,7 @@ abbrev pub changed_at : List (List ℕ) → Reading → Option Row → Option �
 changed_at names r present None = None
 changed_at names r None (Some d) = None
 changed_at names r (Some row) (Some d) =
-  Some (record r { present = Some (with_tick row (clock_of names (slice_get r.references d))) })
+    Some (record r { present = Some (with_tick row (clock_of names (slice_get r.references d))) })
 
 abbrev pub changed : List (List ℕ) → Reading → List ℕ → Option Reading
 changed names r code = changed_at names r r.present (find_name code r.codes_of)
@@ -115,13 +115,13 @@ changed names r code = changed_at names r r.present (find_name code r.codes_of)
 abbrev pub change_says : List (List ℕ) → Reading → List ℕ → Option Reading
 change_says names r [] = None
 change_says names r (b ∷ bs) =
-  if nat_eq b 35 then timed r (number_of bs) else if nat_eq b 49 then changed names r bs else None
+    if nat_eq b 35 then timed r (number_of bs) else if nat_eq b 49 then changed names r bs else None
 
 abbrev pub command_says : Reading → List ℕ → Option Reading
 command_says r text =
-  if bytes_eq text (codes "$var") then Some (record r { place = Variable })
-  else if bytes_eq text (codes "$enddefinitions") then Some (record r { place = Closing })
-  else None
+    if bytes_eq text (codes "$var") then Some (record r { place = Variable })
+    else if bytes_eq text (codes "$enddefinitions") then Some (record r { place = Closing })
+    else None
 
 -- THE TABLE: what a token does at its place. `names` are the clocks
 abbrev pub says_at : List (List ℕ) → Reading → List ℕ → Place → Option Reading

@@ -22,8 +22,8 @@ trace_name words = value_of (codes "trace=") (slice_index_or words 2 [])
 -- the words are `judge`, `spec=F` and `trace=G`, with two file names that differ
 abbrev pub is_judge : List (List ℕ) → Bool
 is_judge (command ∷ spec ∷ trace ∷ []) =
-  bytes_eq command (codes "judge")
-  && has_key (codes "spec=") spec && has_key (codes "trace=") trace
-  && is_file_name (value_of (codes "spec=") spec) && is_file_name (value_of (codes "trace=") trace)
-  && not (bytes_eq (value_of (codes "spec=") spec) (value_of (codes "trace=") trace))
+    bytes_eq command (codes "judge")
+    && has_key (codes "spec=") spec && has_key (codes "trace=") trace
+    && is_file_name (value_of (codes "spec=") spec) && is_file_name (value_of (codes "trace=") trace)
+    && not (bytes_eq (value_of (codes "spec=") spec) (value_of (codes "trace=") trace))
 is_judge _ = false

@@ -30,7 +30,13 @@ impl From<Memory> for Stop {
 }
 
 /// Reads the whole file of a name through a slot. It answers `None` where the file has more than `limit` bytes.
-pub(crate) fn read_file<W: World>(alloc: Global, world: &mut W, slot: Slot, name: &str, limit: u64) -> Result<Option<Vec<u8>>, Stop>
+pub(crate) fn read_file<W: World>(
+    alloc: Global,
+    world: &mut W,
+    slot: Slot,
+    name: &str,
+    limit: u64,
+) -> Result<Option<Vec<u8>>, Stop>
     requires input { IsInputFile slot }
     requires allowed { W.allows slot name.now }
     ensures touches { IfOk result (λ _. Touches slot (W.state world.old) (W.state world.new)) }

@@ -52,7 +52,12 @@ fn is_broken(constraint: &Constraint, counts: &[u64], declared: u32, step: &Cloc
     fails(constraint.kind, left, right, left_count == right_count)
 }
 
-fn first_broken(constraints: &[Constraint], counts: &[u64], declared: u32, step: &ClockSet) -> Option<u32>
+fn first_broken(
+    constraints: &[Constraint],
+    counts: &[u64],
+    declared: u32,
+    step: &ClockSet,
+) -> Option<u32>
     requires few { length constraints.now < 2 ^ 32 }
     ensures { result ≡ first_broken constraints.now counts.now declared step.now }
 {
@@ -87,7 +92,12 @@ fn count_ticks(counts: &mut [u64], step: &ClockSet)
 }
 
 /// Judges the rows of a trace against the constraints of a system.
-pub(crate) fn judge(alloc: Global, names: &Names, constraints: &[Constraint], rows: &[Row]) -> Result<Verdict, Memory>
+pub(crate) fn judge(
+    alloc: Global,
+    names: &Names,
+    constraints: &[Constraint],
+    rows: &[Row],
+) -> Result<Verdict, Memory>
     requires clocks { length names.now ≤ MAX_CLOCKS }
     requires few { length constraints.now < 2 ^ 32 }
     ensures { IfOk result (λ verdict. plain_verdict verdict ≡ verdict_of names.now constraints.now rows.now) }
@@ -100,7 +110,11 @@ pub(crate) fn judge(alloc: Global, names: &Names, constraints: &[Constraint], ro
     let mut rest = rows;
     'steps: while let [row, more @ ..] = rest {
         if let Some(item) = first_broken(constraints, counts, declared, &row.ticks) {
-            return Ok(Verdict::Violated { step, time: row.time, item });
+            return Ok(Verdict::Violated {
+                step,
+                time: row.time,
+                item,
+            });
         }
         count_ticks(counts, &row.ticks);
         step += 1;

@@ -6,9 +6,11 @@ mod judge;
 mod number;
 pub mod program;
 mod reply;
-
 mod specification;
 mod trace;
 mod words;
 
 pub use program::run;
+
+#[cfg(test)]
+mod tests;

@@ -21,10 +21,16 @@ use std::alloc::Global;
 
 /// The most bytes of a specification, and of a trace.
 const MAX_SPEC: u64 = 1048576;
+
 const MAX_TRACE: u64 = 16777216;
 
 // What is answered on a specification and the trace of a name.
-fn reply_to_trace<W: World>(alloc: Global, world: &mut W, spec: &Specification, name: &str) -> Result<Reply, Stop>
+fn reply_to_trace<W: World>(
+    alloc: Global,
+    world: &mut W,
+    spec: &Specification,
+    name: &str,
+) -> Result<Reply, Stop>
     requires allowed { W.allows Trace name.now }
     ensures touches { IfOk result (λ _. Touches Trace (W.state world.old) (W.state world.new)) }
     ensures reply { IfOk result (λ reply. IsTrue W.told.files → IsTrue W.told.left →
@@ -51,7 +57,11 @@ fn answer<W: World>(alloc: Global, words: &[CommandWord], world: &mut W) -> Resu
     };
     let text = match read_file(alloc, world, Slot::Spec, names.spec, MAX_SPEC) {
         Err(stop) => return Err(stop),
-        Ok(None) => return Ok(refusal(alloc, Status::SpecRefused, b"spec: more than 1048576 bytes".as_slice())?),
+        Ok(None) => return Ok(refusal(
+            alloc,
+            Status::SpecRefused,
+            b"spec: more than 1048576 bytes".as_slice(),
+        )?),
         Ok(Some(text)) => text,
     };
     let spec = match read_specification(alloc, text.as_slice())? {

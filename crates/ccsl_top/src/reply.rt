@@ -59,7 +59,10 @@ fn unbound(alloc: Global, name: &[u8]) -> Result<Reply, Memory>
     let mut text = Vec::from_slice(alloc, b"trace: unbound clock ".as_slice())?;
     text.extend_from_slice(name)?;
     text.push(b'\n')?;
-    Ok(Reply { status: Status::TraceRefused, text })
+    Ok(Reply {
+        status: Status::TraceRefused,
+        text,
+    })
 }
 
 fn verdict_reply(alloc: Global, verdict: Verdict) -> Result<Reply, Memory>
@@ -68,11 +71,17 @@ fn verdict_reply(alloc: Global, verdict: Verdict) -> Result<Reply, Memory>
     match verdict {
         Verdict::Run(steps) => {
             let text = format!(in alloc; "run: yes, {steps} steps\n")?;
-            Ok(Reply { status: Status::Run, text: text.into_bytes() })
+            Ok(Reply {
+                status: Status::Run,
+                text: text.into_bytes(),
+            })
         }
         Verdict::Violated { step, time, item } => {
             let text = format!(in alloc; "run: no, step {step}, time {time}, constraint {item}\n")?;
-            Ok(Reply { status: Status::NoRun, text: text.into_bytes() })
+            Ok(Reply {
+                status: Status::NoRun,
+                text: text.into_bytes(),
+            })
         }
     }
 }
@@ -94,7 +103,11 @@ fn first_unbound(names: &Names, references: &Names) -> Option<u32>
 }
 
 /// The answer on a specification and the bytes of a trace.
-pub(crate) fn trace_reply(alloc: Global, spec: &Specification, trace: &[u8]) -> Result<Reply, Memory>
+pub(crate) fn trace_reply(
+    alloc: Global,
+    spec: &Specification,
+    trace: &[u8],
+) -> Result<Reply, Memory>
     ensures { IfOk result (λ reply. plain_reply reply ≡ trace_answer spec.now.names spec.now.constraints trace.now) }
 {
     let dump = match read_trace(alloc, &spec.names, trace)? {
@@ -104,6 +117,11 @@ pub(crate) fn trace_reply(alloc: Global, spec: &Specification, trace: &[u8]) -> 
     if let Some(clock) = first_unbound(&spec.names, &dump.references) {
         return unbound(alloc, spec.names.get(clock));
     }
-    let verdict = judge(alloc, &spec.names, spec.constraints.members(), dump.rows.members())?;
+    let verdict = judge(
+        alloc,
+        &spec.names,
+        spec.constraints.members(),
+        dump.rows.members(),
+    )?;
     verdict_reply(alloc, verdict)
 }

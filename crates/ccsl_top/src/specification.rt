@@ -245,8 +245,15 @@ impl SpecReader {
             Line::Done => {}
             _ => return None,
         }
-        let SpecReader { names, constraints, .. } = self;
-        Some(Specification { names, constraints: Seq::new(constraints) })
+        let SpecReader {
+            names,
+            constraints,
+            ..
+        } = self;
+        Some(Specification {
+            names,
+            constraints: Seq::new(constraints),
+        })
     }
 
     // Takes all these tokens.
@@ -279,7 +286,10 @@ fn tokens_of(alloc: Global, text: &[u8]) -> Result<Option<Vec<Token>>, Memory>
 }
 
 /// Reads a whole specification. It answers `None` where the text has another form.
-pub(crate) fn read_specification(alloc: Global, text: &[u8]) -> Result<Option<Specification>, Memory>
+pub(crate) fn read_specification(
+    alloc: Global,
+    text: &[u8],
+) -> Result<Option<Specification>, Memory>
     ensures { IfOk result (λ read. MatchOption read (IsNoSpecification text.now) (λ spec. IsSpecification text.now spec.names spec.constraints)) }
 {
     let tokens = match tokens_of(alloc, text)? {

@@ -112,7 +112,12 @@ impl TraceReader {
     }
 
     // Takes the token that has ended, if there is one.
-    fn take_ended(&mut self, names: &Names, tokenizer: &Tokenizer, ended: Option<Span>) -> Result<bool, Memory>
+    fn take_ended(
+        &mut self,
+        names: &Names,
+        tokenizer: &Tokenizer,
+        ended: Option<Span>,
+    ) -> Result<bool, Memory>
         requires few { length names.now ≤ MAX_CLOCKS }
         ensures { IfOk result (λ taken.
             reading_from names.now (Some self.old) (named ended tokenizer.now.last) ≡ (if taken then Some self.new else None)) }
@@ -151,7 +156,8 @@ impl TraceReader {
         ensures { IfOk result (λ taken. variable_says self.old text.now ≡ (if taken then Some self.new else None)) }
     {
         if self.words.len() < 4 {
-            self.words.push(Text::new(Vec::from_slice(self.alloc, text)?))?;
+            self.words
+                .push(Text::new(Vec::from_slice(self.alloc, text)?))?;
             return Ok(true);
         }
         if !is_end(text) {
@@ -207,7 +213,11 @@ impl TraceReader {
         if *kind == b'#' {
             return self.take_time(rest);
         }
-        if *kind == b'1' { Ok(self.tick(names, rest)) } else { Ok(false) }
+        if *kind == b'1' {
+            Ok(self.tick(names, rest))
+        } else {
+            Ok(false)
+        }
     }
 
     fn take_time(&mut self, digits: &[u8]) -> Result<bool, Memory>
@@ -220,7 +230,10 @@ impl TraceReader {
             return Ok(false);
         }
         self.end_row()?;
-        self.present = Some(Row { time, ticks: ClockSet::empty() });
+        self.present = Some(Row {
+            time,
+            ticks: ClockSet::empty(),
+        });
         Ok(true)
     }
 
@@ -287,8 +300,15 @@ impl TraceReader {
             Place::Commands | Place::Variable | Place::Closing => return Ok(None),
         }
         self.end_row()?;
-        let TraceReader { references, rows, .. } = self;
-        Ok(Some(Dump { references, rows: Seq::new(rows) }))
+        let TraceReader {
+            references,
+            rows,
+            ..
+        } = self;
+        Ok(Some(Dump {
+            references,
+            rows: Seq::new(rows),
+        }))
     }
 }
 

@@ -9,8 +9,8 @@ loop-clock-init c = count-none c.args.counts.now c.args.step.now
 
 pub loop-clock-preserved : goal.loop-clock-preserved
 loop-clock-preserved c = λ x.
-  let size : length c.loop-clock.counts ≡ length c.args.counts.now = c.loop-clock.auto.counts in
-  rw c.tick_of.ensures
+    let size : length c.loop-clock.counts ≡ length c.args.counts.now = c.loop-clock.auto.counts in
+    rw c.tick_of.ensures
     (count-next c.loop-clock.counts c.args.counts.now c.args.step.now c.loop-clock.clock (omega (arith, size, c.loop-clock-test.true)) c.loop-clock.invariant x)
 
 pub returns : goal.returns

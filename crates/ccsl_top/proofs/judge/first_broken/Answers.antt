@@ -8,17 +8,17 @@ items-init c = none-first c.args.counts.now c.args.declared c.args.step.now c.ar
 
 pub returns-then-is_broken : goal.returns-then-is_broken
 returns-then-is_broken c =
-  found-broken c.args.counts.now c.args.declared c.args.step.now c.args.constraints.now c.constraint-item.result _ c.items.item
+    found-broken c.args.counts.now c.args.declared c.args.step.now c.args.constraints.now c.constraint-item.result _ c.items.item
     (subst (λ rest. NoneBroken c.args.counts.now c.args.declared c.args.step.now c.args.constraints.now rest c.items.item) (uncons c.items.rest.now c.constraint-item.result c.in-len1-up.len_at_least c.constraint-item.is) c.items.invariant)
     (sym c.is_broken.ensures ∙ c.if-is_broken.true)
 
 pub items-preserved : goal.items-preserved
 items-preserved c =
-  none-more c.args.counts.now c.args.declared c.args.step.now c.args.constraints.now c.constraint-item.result _ c.items.item
+    none-more c.args.counts.now c.args.declared c.args.step.now c.args.constraints.now c.constraint-item.result _ c.items.item
     (subst (λ rest. NoneBroken c.args.counts.now c.args.declared c.args.step.now c.args.constraints.now rest c.items.item) (uncons c.items.rest.now c.constraint-item.result c.in-len1-up.len_at_least c.constraint-item.is) c.items.invariant)
     (sym c.is_broken.ensures ∙ c.if-is_broken.false)
 
 pub returns : goal.returns
 returns c =
-  none-broken c.args.counts.now c.args.declared c.args.step.now c.args.constraints.now c.items.item
+    none-broken c.args.counts.now c.args.declared c.args.step.now c.args.constraints.now c.items.item
     (subst (λ rest. NoneBroken c.args.counts.now c.args.declared c.args.step.now c.args.constraints.now rest c.items.item) (no_first c.items.rest.now c.in_default.len_below) c.items.invariant)

@@ -9,7 +9,7 @@ may c = sym c.if-not-may_name.ensures.may
 
 names : (c : goal.After-self-1) → c.add.new.self ≡ c.self.inside.names ++ c.args.name.now ∷ []
 names c =
-  added-new c.self.inside.names c.add.new.self c.args.name.now c.in_ok-add.field-0
+    added-new c.self.inside.names c.add.new.self c.args.name.now c.in_ok-add.field-0
     (ap (λ s. is_none (find_name c.args.name.now s.names)) c.self.view_is ∙ (and-true _ _ (may c)).0) c.in_ok-add.ensures.added
 
 pub returns : goal.returns

@@ -13,17 +13,17 @@ fresh c = last_two _ _ _ (may c)
 
 references : (c : goal.After-self-1) → c.add.new.self ≡ c.self.inside.references ++ c.args.reference.now ∷ []
 references c =
-  added-new c.self.inside.references c.add.new.self c.args.reference.now c.in_ok-add.field-0
+    added-new c.self.inside.references c.add.new.self c.args.reference.now c.in_ok-add.field-0
     (ap (λ r. is_none (find_name c.args.reference.now r.references)) c.self.view_is ∙ (fresh c).1) c.in_ok-add.ensures.added
 
 codes : (c : goal.After-self-1) → c.add-2.new.self ≡ c.self.inside.codes ++ c.args.code.now ∷ []
 codes c =
-  added-new c.self.inside.codes c.add-2.new.self c.args.code.now c.in_ok-add-2.field-0
+    added-new c.self.inside.codes c.add-2.new.self c.args.code.now c.in_ok-add-2.field-0
     (ap (λ r. is_none (find_name c.args.code.now r.codes_of)) c.self.view_is ∙ (fresh c).0) c.in_ok-add-2.ensures.added
 
 pub invariant_of-self-2 : goal.invariant_of-self-2
 invariant_of-self-2 c =
-  rw (references c, codes c, length-append c.self.inside.references (c.args.reference.now ∷ []), length-append c.self.inside.codes (c.args.code.now ∷ []))
+    rw (references c, codes c, length-append c.self.inside.references (c.args.reference.now ∷ []), length-append c.self.inside.codes (c.args.code.now ∷ []))
     (omega (arith, c.self.invariant))
 
 pub returns : goal.returns
