@@ -24,8 +24,6 @@ mod depth;
 mod known;
 mod levels;
 mod names;
-#[cfg(test)]
-mod tests;
 
 /// The most constraints of a system.
 const MAX_CONSTRAINTS: usize = 4096;
