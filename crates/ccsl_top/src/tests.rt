@@ -20,7 +20,7 @@ fn judged(rt: &HostRuntime, spec: &str, trace: &str, piece: usize) -> Result<(u8
         String::from_str(alloc, "t")?,
         Vec::from_slice(alloc, trace.as_bytes())?,
     ))?;
-    let mut world = MemoryWorld::new(alloc, files, Vec::new(alloc), piece);
+    let mut world = MemoryWorld::new(alloc, files, Vec::new(alloc), piece.max(1));
     let mut words = Vec::new(alloc);
     for word in ["judge", "spec=s", "trace=t"] {
         words.push(CommandWord::new(String::from_str(alloc, word)?))?;
