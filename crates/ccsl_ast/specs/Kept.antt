@@ -1,8 +1,9 @@
 -- What a file keeps: its names are names of the grammar, its quoted texts can stand between quotes, its numbers are below
 -- 2 ^ 32, no list is empty that the grammar wants a member of, and its version is 1.
-use Rattle.std.specs.Prelude.{ℕ, Bool, true, false, ◌&&◌, not, List, [], ◌∷◌, nat_eq, nat_le, nat_lt}
+use Rattle.std.specs.Prelude.{ℕ, Bool, true, false, ◌&&◌, List, [], ◌∷◌, nat_eq, nat_lt}
 use Rattle.std.specs.List.{list_all}
 use Rattle.ccsl_base.specs.Name.{is_name}
+use Rattle.ccsl_base.specs.Quoted.{is_quotable}
 use Rattle.ccsl_ast.specs.declared.spot.Spot.{Spot}
 use Rattle.ccsl_ast.specs.declared.term.Primary.{Primary}
 use Rattle.ccsl_ast.specs.declared.term.Primary.TheVariants as primary
@@ -16,10 +17,6 @@ use Rattle.ccsl_ast.specs.declared.term.Argument.{Argument}
 use Rattle.ccsl_ast.specs.declared.term.Argument.TheVariants as argument
 use Rattle.ccsl_ast.specs.declared.definition.Param.{Param}
 use Rattle.ccsl_ast.specs.Trees.{Expression, EName, ECall, ENever, EBinary, EDelay, EAwait, EFilter, EDelayed, EIf, Line, LDefine, LConstraint, LCall, SLine, SClocks, SLineOf, PlainMember, PlainDefinition, DRelation, DGroup, PlainFile}
-
--- what may stand between quotes: bytes 32 to 126 other than "
-abbrev pub is_quotable : ℕ → Bool
-is_quotable b = nat_le 32 b && (nat_le b 126 && not (nat_eq b 34))
 
 -- whether a list has a member
 abbrev pub has_member : {A : Type 0} → List A → Bool

@@ -3,3 +3,4 @@ pub mod Bits
 pub mod Rows
 pub mod Name
 pub mod Names
+pub mod Quoted

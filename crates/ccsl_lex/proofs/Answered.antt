@@ -9,7 +9,7 @@ use Rattle.ccsl_lex.specs.declared.reserved.Reserved.{Reserved}
 use Rattle.ccsl_lex.specs.declared.token.TokenKind.{TokenKind}
 use Rattle.ccsl_lex.specs.declared.fault.LexFault.{LexFault}
 use Rattle.ccsl_lex.specs.declared.fault.LexFault.TheVariants.{BadByte, NameTooLong, NumberTooLarge, OpenText}
-use Rattle.ccsl_lex.specs.Kept.{is_quotable}
+use Rattle.ccsl_base.specs.Quoted.{is_quotable}
 use Rattle.ccsl_lex.specs.Words.{reserved}
 use Rattle.ccsl_lex.specs.Tokens.{starts, is_white, is_mark, is_remark, value, token_at, PlainToken, AreTokens, CutAt, is_bad, IsFirstFault}
 use Rattle.ccsl_lex.specs.Laws.{TokensOrFault}

@@ -11,7 +11,8 @@ use Rattle.ccsl_base.specs.Name.{is_letter, is_digit, is_inner, is_name, is_word
 use Rattle.ccsl_lex.specs.declared.reserved.Reserved.{Reserved}
 use Rattle.ccsl_lex.specs.declared.token.TokenKind.{TokenKind}
 use Rattle.ccsl_lex.specs.declared.token.TokenKind.TheVariants.{Name, Num, Quoted, Word, Symbol}
-use Rattle.ccsl_lex.specs.Kept.{kind_kept, is_quotable}
+use Rattle.ccsl_lex.specs.Kept.{kind_kept}
+use Rattle.ccsl_base.specs.Quoted.{is_quotable}
 use Rattle.ccsl_lex.specs.Words.{reserved}
 use Rattle.ccsl_lex.specs.Tokens.{Piece, blank, comment, letters, digits, quoted, mark, text_of, starts, is_piece, is_remark, Stands, value, fits, is_white, is_mark, kind_of, IsPastLimit, IsOpen}
 use Rattle.ccsl_lex.specs.Found.{Found, IsKept}

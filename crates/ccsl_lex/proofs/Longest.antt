@@ -2,7 +2,7 @@
 use Rattle.std.proofs.Common.{◌≡◌, ℕ, ◌≤◌, Bool, true, false, List, [], ◌∷◌, ◌++◌, length, refl, sym, ap, ◌∙◌, arith, append_assoc, length-append}
 use Rattle.std.specs.List.{list_all}
 use Rattle.ccsl_base.specs.Name.{is_letter, is_digit, is_inner}
-use Rattle.ccsl_lex.specs.Kept.{is_quotable}
+use Rattle.ccsl_base.specs.Quoted.{is_quotable}
 use Rattle.ccsl_lex.specs.Tokens.{Piece, blank, comment, letters, digits, quoted, mark, text_of, starts, is_piece, is_remark, Stands}
 use Rattle.ccsl_lex.specs.Laws.{NoneLonger}
 use Rattle.ccsl_lex.proofs.Classes.{both, clash, class_of, class_at, class_is}

@@ -3,7 +3,7 @@ use Rattle.std.specs.Prelude.{ℕ, Bool}
 use Rattle.ccsl_base.specs.Name.{is_digit, is_inner}
 use Rattle.ccsl_lex.specs.declared.run.Run.{Run}
 use Rattle.ccsl_lex.specs.declared.run.Run.TheVariants.{Inner, Digits, Remark, Quotable}
-use Rattle.ccsl_lex.specs.Kept.{is_quotable}
+use Rattle.ccsl_base.specs.Quoted.{is_quotable}
 use Rattle.ccsl_lex.specs.Tokens.{is_remark}
 
 -- whether a byte belongs to such a run

@@ -11,7 +11,7 @@ use Rattle.ccsl_lex.specs.declared.token.TokenKind.TheVariants.{Name, Num, Quote
 use Rattle.ccsl_lex.specs.declared.token.Token.{Token}
 use Rattle.ccsl_lex.specs.declared.fault.LexFault.{LexFault}
 use Rattle.ccsl_lex.specs.declared.fault.LexFault.TheVariants.{BadByte, NameTooLong, NumberTooLarge, OpenText, Memory}
-use Rattle.ccsl_lex.specs.Kept.{is_quotable}
+use Rattle.ccsl_base.specs.Quoted.{is_quotable}
 use Rattle.ccsl_lex.specs.Words.{reserved}
 
 -- ## Pieces

@@ -2,7 +2,7 @@
 
 ghost use Rattle.std.specs.Prelude.{◌≡◌};
 ghost use Rattle.ccsl_base.specs.Name.{is_letter, is_digit, is_inner};
-ghost use Rattle.ccsl_lex.specs.Kept.{is_quotable};
+ghost use Rattle.ccsl_base.specs.Quoted.{is_quotable};
 ghost use Rattle.ccsl_lex.specs.Tokens.{is_white, is_mark, is_remark};
 
 pub fn is_white(b: u8) -> bool

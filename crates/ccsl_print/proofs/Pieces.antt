@@ -16,7 +16,7 @@ use Rattle.ccsl_lex.specs.declared.reserved.Reserved.TheVariants as w
 use Rattle.ccsl_lex.specs.declared.token.TokenKind.{TokenKind}
 use Rattle.ccsl_lex.specs.declared.token.TokenKind.TheVariants as kind
 use Rattle.ccsl_lex.specs.Words.{spelling, reserved}
-use Rattle.ccsl_lex.specs.Kept.{is_quotable}
+use Rattle.ccsl_base.specs.Quoted.{is_quotable}
 use Rattle.ccsl_lex.specs.Tokens.{Piece, letters, digits, mark, text_of, starts, is_piece, is_mark, fits, kind_of, value, value_from, name_or_word}
 use Rattle.ccsl_lex.specs.Tokens as piece
 use Rattle.ccsl_lex.proofs.WordLists.{reserved_spells, words_read_back}
