@@ -1,19 +1,16 @@
 -- The answer to words that name two files, in the order in which it comes about.
-use Rattle.std.proofs.Common.{◌≡◌, ℕ, ◌<◌, ◌≤◌, List, length, Bool, true, false, Option, Some, None, Result, Ok, Err, IfOk, IfErr, IsTrue, refl, sym, ap, ◌∙◌, subst, nat_lt, inl, inr}
-use Rattle.ccsl_edge.specs.declared.slot.Slot.{Slot}
+use Rattle.std.proofs.Common.{◌≡◌, ℕ, ◌≤◌, List, length, true, Some, IsTrue, ap, ◌∙◌, subst, inl, inr}
 use Rattle.ccsl_edge.specs.declared.slot.Slot.TheVariants.{Spec, Trace}
 use Rattle.ccsl_edge.specs.World.{State, Told, held}
 use Rattle.ccsl_kernel.specs.declared.constraint.Constraint.{Constraint}
 use Rattle.ccsl_top.specs.declared.files.Stop.{Stop}
 use Rattle.ccsl_top.specs.declared.files.Stop.TheVariants.{Fault, Memory}
-use Rattle.ccsl_top.specs.declared.reply.Reply.{Reply}
-use Rattle.ccsl_top.specs.Effects.{Touches, Breaks, Keeps, IsFile}
+use Rattle.ccsl_top.specs.Effects.{Touches, IsFile}
 use Rattle.ccsl_top.specs.Stops.{IsStop}
 use Rattle.ccsl_top.specs.Specification.{IsSpecification, IsNoSpecification}
 use Rattle.ccsl_top.specs.Words.{is_judge, spec_name, trace_name}
-use Rattle.ccsl_top.specs.Replies.{Answer, IsAnswer, spec_refused, trace_answer}
-use Rattle.ccsl_top.specs.Statuses.{plain_reply}
-use Rattle.ccsl_top.specs.Answered.{Answered, Faulted, spec_faulted, trace_faulted, IsUnanswered}
+use Rattle.ccsl_top.specs.Replies.{Answer, spec_refused, trace_answer}
+use Rattle.ccsl_top.specs.Answered.{Answered, spec_faulted, trace_faulted, IsUnanswered}
 use Rattle.ccsl_top.specs.Headline.{IsAcceptedSpec}
 use Rattle.ccsl_top.proofs.Effects.{keeps-same, keeps-spec, keeps-trace, answer-to, short-answer}
 

@@ -1,5 +1,5 @@
 -- Tokens in the body of a trace.
-use Rattle.std.proofs.Common.{◌≡◌, ℕ, suc, ◌-◌, ◌≤◌, List, [], ◌∷◌, length, take, drop, Bool, true, false, cond, Option, Some, None, refl, sym, ap, ◌∙◌, arith, nat_eq, slice_index_or}
+use Rattle.std.proofs.Common.{◌≡◌, ℕ, ◌-◌, ◌≤◌, List, [], ◌∷◌, length, take, drop, cond, None, sym, ap, ◌∙◌, arith, nat_eq, slice_index_or}
 use Rattle.ccsl_top.specs.Trace.{Reading, change_says, changed, timed}
 use Rattle.ccsl_top.specs.Numbers.{number_of}
 use Rattle.std.proofs.lemmas.List.{take_all}

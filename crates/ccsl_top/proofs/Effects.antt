@@ -1,15 +1,11 @@
 -- What reading files leaves of a world.
-use Rattle.std.proofs.Common.{◌≡◌, ◌≢◌, ℕ, ◌+◌, ◌<◌, ◌≤◌, List, length, Bool, true, false, cond, Option, Some, None, IsTrue, refl, sym, ap, ◌∙◌, subst, arith, nat_lt, inl, inr}
-use Rattle.std.proofs.lemmas.Bool.{le-ltb, lt-ltb}
-use Rattle.ccsl_edge.specs.declared.slot.Slot.{Slot}
-use Rattle.ccsl_edge.specs.declared.slot.Slot.TheVariants.{Spec, Trace, Report}
-use Rattle.ccsl_edge.specs.World.{State, SlotState, Told, held}
-use Rattle.ccsl_kernel.specs.declared.constraint.Constraint.{Constraint}
-use Rattle.ccsl_top.specs.Effects.{Touches, Breaks, Keeps, IsFile}
-use Rattle.ccsl_top.specs.Specification.{IsSpecification, IsNoSpecification}
+use Rattle.std.proofs.Common.{◌≡◌, ◌≢◌, ℕ, ◌≤◌, List, length, Bool, true, false, refl, sym, ap, ◌∙◌, subst, nat_lt}
+use Rattle.std.proofs.lemmas.Bool.{le-ltb}
+use Rattle.ccsl_edge.specs.declared.slot.Slot.TheVariants.{Spec, Trace}
+use Rattle.ccsl_edge.specs.World.{State, SlotState, held}
+use Rattle.ccsl_top.specs.Effects.{Touches, Keeps}
 use Rattle.ccsl_top.specs.Words.{is_judge, spec_name, trace_name}
-use Rattle.ccsl_top.specs.Replies.{Answer, IsAnswer, IsAnswerTo, IsSpecAnswer, spec_refused, spec_too_long, trace_answer}
-use Rattle.ccsl_top.specs.Headline.{IsAcceptedSpec}
+use Rattle.ccsl_top.specs.Replies.{Answer, IsAnswer, IsAnswerTo, IsSpecAnswer}
 
 pub trace-spec : Trace ≢ Spec
 trace-spec e = cc

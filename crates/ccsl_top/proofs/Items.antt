@@ -1,5 +1,5 @@
 -- The first constraint that fails in a step.
-use Rattle.std.proofs.Common.{◌≡◌, ℕ, zero, suc, ◌+◌, ◌<◌, ◌≤◌, List, [], ◌∷◌, ◌++◌, length, Bool, true, false, cond, Option, Some, None, refl, sym, ap, ◌∙◌, subst, arith, find, append_assoc, append-nil, length-append, add-one, add-zero, add-suc, get_or, take, drop, ◌-◌}
+use Rattle.std.proofs.Common.{◌≡◌, ℕ, zero, suc, ◌+◌, ◌<◌, ◌≤◌, List, [], ◌∷◌, ◌++◌, length, Bool, true, false, Some, None, refl, sym, ap, ◌∙◌, arith, find, append_assoc, append-nil, length-append, add-one, add-zero, add-suc, get_or, take, drop, ◌-◌}
 use Rattle.std.proofs.lemmas.List.{take_all}
 use Rattle.std.specs.List.{slice_get}
 use Rattle.ccsl_kernel.specs.declared.constraint.Constraint.{Constraint}

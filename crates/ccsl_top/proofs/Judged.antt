@@ -1,5 +1,5 @@
 -- The verdict on the rows of a trace, row by row.
-use Rattle.std.proofs.Common.{◌≡◌, ℕ, zero, suc, ◌+◌, ◌-◌, ◌<◌, ◌≤◌, List, [], ◌∷◌, ◌++◌, length, map, filter, find, take, Bool, true, false, not, cond, ◌&&◌, ◌||◌, Option, Some, None, is_some, unwrap_or, refl, sym, ap, ◌∙◌, subst, arith, nat_lt, get_or, slice_index, slice_index_or, append_assoc, append-nil, length-append, add-one, add-zero, zero-add, replicate}
+use Rattle.std.proofs.Common.{◌≡◌, ℕ, zero, suc, ◌+◌, ◌-◌, ◌≤◌, List, [], ◌∷◌, ◌++◌, length, map, find, take, Bool, true, false, not, cond, ◌&&◌, ◌||◌, Option, Some, None, is_some, unwrap_or, refl, sym, ap, ◌∙◌, arith, nat_lt, get_or, slice_index, append_assoc, append-nil, length-append, add-one, add-zero, zero-add, replicate}
 use Rattle.std.proofs.Math.Nat.{sub-zero}
 use Rattle.std.specs.List.{slice_get}
 use Rattle.std.proofs.lemmas.Bool.{le-ltb}
@@ -9,15 +9,15 @@ use Rattle.ccsl_base.specs.Clocks.{ticks_in}
 use Rattle.ccsl_base.specs.declared.rows.Row.{Row}
 use Rattle.ccsl_formula.specs.Formula.{eval}
 use Rattle.ccsl_kernel.specs.declared.constraint.Constraint.{Constraint}
-use Rattle.ccsl_kernel.specs.Syntax.{System, item_count}
+use Rattle.ccsl_kernel.specs.Syntax.{System}
 use Rattle.ccsl_kernel.specs.Lives.{Step, steps, step_at}
 use Rattle.ccsl_kernel.specs.Ticks.{count}
-use Rattle.ccsl_kernel.specs.Items.{clock_count, relation_formula, item_formula}
-use Rattle.ccsl_kernel.specs.Runs.{completed, completed_after}
+use Rattle.ccsl_kernel.specs.Items.{clock_count, item_formula}
+use Rattle.ccsl_kernel.specs.Runs.{completed_after}
 use Rattle.ccsl_kernel.specs.Verdict as kernel
 use Rattle.ccsl_kernel.proofs.Steps.{find-steps}
 use Rattle.ccsl_kernel.proofs.Quiet.{count-snoc}
-use Rattle.ccsl_top.specs.Judged.{system_of, verdict_of, count_at, ticks_below, is_broken, is_broken_one, first_broken}
+use Rattle.ccsl_top.specs.Judged.{system_of, verdict_of, count_at, ticks_below, is_broken_one, first_broken}
 use Rattle.ccsl_top.proofs.Items.{find-stays, find-here, find-not_here}
 use Rattle.ccsl_top.proofs.Counts.{ticks_in-below}
 

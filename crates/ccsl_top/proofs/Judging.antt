@@ -1,7 +1,7 @@
 -- Judging a trace: a constraint at a step.
-use Rattle.std.proofs.Common.{◌≡◌, ℕ, zero, suc, ◌+◌, ◌<◌, ◌≤◌, List, [], ◌∷◌, ◌++◌, length, map, filter, take, Bool, true, false, not, cond, ◌&&◌, ◌||◌, Option, Some, None, refl, sym, ap, ◌∙◌, ⊎_elim, arith, nat_eq, nat_lt}
+use Rattle.std.proofs.Common.{◌≡◌, ℕ, List, Bool, true, false, not, cond, ◌&&◌, ◌||◌, refl, nat_eq}
 use Rattle.ccsl_base.specs.Clocks.{ticks_in}
-use Rattle.ccsl_formula.specs.Formula.{eval, same, FTrue, FVar, FNot, FAnd, FOr, FIff}
+use Rattle.ccsl_formula.specs.Formula.{eval, FTrue, FVar, FNot, FOr}
 use Rattle.ccsl_kernel.specs.declared.constraint.RelationKind.{RelationKind}
 use Rattle.ccsl_kernel.specs.declared.constraint.RelationKind.TheVariants.{Subclock, Coincides, Excludes, Precedes, PrecedesWeakly}
 use Rattle.ccsl_kernel.specs.Items.{relation_formula}

@@ -1,9 +1,9 @@
 -- A trace that is read in pieces.
-use Rattle.std.proofs.Common.{◌≡◌, ℕ, ◌+◌, ◌≤◌, List, [], ◌∷◌, ◌++◌, length, take, drop, fold, Bool, true, false, cond, Option, Some, None, refl, sym, ap, ◌∙◌, arith, suc, nat_eq, append_assoc, append-nil, take-append-drop}
+use Rattle.std.proofs.Common.{◌≡◌, ℕ, ◌+◌, ◌≤◌, List, [], ◌∷◌, ◌++◌, length, take, drop, true, cond, Some, None, refl, sym, ap, ◌∙◌, arith, suc, nat_eq, append_assoc, append-nil, take-append-drop}
 use Rattle.std.proofs.lemmas.Bool.{le-ltb, eqb-true}
 use Rattle.std.proofs.lemmas.List.Sums.{fold-append}
 use Rattle.ccsl_vcd_lex.specs.Tokens.{Heard, heard, settled, tokens, tokens_from, first_long, too_long}
-use Rattle.ccsl_vcd_lex.specs.Lexing.{Lexing, StandsFor, BreaksWithin, named}
+use Rattle.ccsl_vcd_lex.specs.Lexing.{Lexing, StandsFor, BreaksWithin}
 use Rattle.ccsl_vcd_lex.proofs.Further.{heard-further}
 use Rattle.ccsl_top.specs.Trace.{Reading, before_all, next_from, reading_from, reading_of, ended, trace_of}
 

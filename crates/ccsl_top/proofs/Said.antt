@@ -1,6 +1,6 @@
 -- What the tokens of a specification say.
-use Rattle.std.proofs.Common.{◌≡◌, ℕ, ◌≤◌, List, [], ◌∷◌, length, map, get_or, Option, Some, None, refl, sym, ap, ◌∙◌, arith, subst, MatchOption}
-use Rattle.ccsl_lex.specs.Tokens.{PlainToken, AreTokens, plain_token}
+use Rattle.std.proofs.Common.{◌≡◌, ℕ, ◌≤◌, List, [], ◌∷◌, length, map, get_or, Option, Some, None, refl, sym, ap, ◌∙◌, arith, MatchOption}
+use Rattle.ccsl_lex.specs.Tokens.{AreTokens, plain_token}
 use Rattle.ccsl_lex.specs.declared.token.Token.{Token}
 use Rattle.ccsl_lex.specs.declared.token.TokenKind.{TokenKind}
 use Rattle.ccsl_lex.proofs.Unique.{one_tokens}

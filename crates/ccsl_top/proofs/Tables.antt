@@ -1,6 +1,6 @@
 -- Tables of names: what is not found is not there.
-use Rattle.std.proofs.Common.{◌≡◌, ℕ, suc, ◌+◌, ◌<◌, List, [], ◌∷◌, ◌++◌, length, Bool, true, false, not, ◌&&◌, cond, ◌||◌, Option, Some, None, refl, sym, ap, ◌∙◌, ⊎_elim, arith, nat_lt, is_none}
-use Rattle.std.specs.List.{list_any, position, position_or_len}
+use Rattle.std.proofs.Common.{◌≡◌, ℕ, suc, ◌+◌, List, [], ◌∷◌, ◌++◌, length, Bool, true, false, not, ◌&&◌, cond, ◌||◌, Option, Some, None, refl, sym, ◌∙◌, ⊎_elim, arith, nat_lt, is_none}
+use Rattle.std.specs.List.{list_any, position_or_len}
 use Rattle.std.specs.Str.{bytes_eq}
 use Rattle.std.proofs.lemmas.Bool.{cases_lt, lt-ltb, le-ltb, true≢false}
 use Rattle.ccsl_base.specs.Names.{is_among, find_name, IsAdded}

@@ -1,5 +1,5 @@
 -- The first clock that no declaration of a trace refers to.
-use Rattle.std.proofs.Common.{◌≡◌, ℕ, suc, ◌+◌, ◌-◌, ◌<◌, ◌≤◌, List, length, Bool, true, false, not, Option, None, Some, find, is_none, refl, sym, ap, ◌∙◌, subst, arith, add-one}
+use Rattle.std.proofs.Common.{◌≡◌, ℕ, suc, ◌+◌, ◌-◌, ◌<◌, List, length, Bool, true, false, not, Option, None, Some, find, is_none, refl, sym, ap, ◌∙◌, arith, add-one}
 use Rattle.std.specs.Option.{is_some}
 use Rattle.std.specs.List.{slice_get}
 use Rattle.ccsl_base.specs.Names.{find_name}

@@ -1,5 +1,5 @@
 -- Numbers in a trace: one or more decimal digits with a value below 2 ^ 64, leading zeros allowed.
-use Rattle.std.specs.Prelude.{ℕ, ◌+◌, ◌-◌, ◌*◌, ◌^◌, List, [], ◌∷◌, Bool, ◌&&◌, Option, Some, None, nat_lt, if◌then◌else◌}
+use Rattle.std.specs.Prelude.{ℕ, ◌+◌, ◌-◌, ◌*◌, ◌^◌, List, [], ◌∷◌, ◌&&◌, Option, Some, None, nat_lt, if◌then◌else◌}
 use Rattle.ccsl_base.specs.Name.{is_digit}
 
 -- n with one more digit behind it

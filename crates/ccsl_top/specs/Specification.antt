@@ -1,7 +1,7 @@
 -- The specifications that this version reads:
 --     ccsl 1; system { clock NAME, NAME, ..; NAME precedes NAME; NAME precedes NAME; .. }
 -- The table goes token by token. What it has read is a record; `None` stands for a specification of another form.
-use Rattle.std.specs.Prelude.{◌≡◌, ℕ, List, [], ◌∷◌, ◌++◌, length, map, Bool, true, false, ◌&&◌, Option, Some, None, is_none, nat_eq, nat_lt, if◌then◌else◌}
+use Rattle.std.specs.Prelude.{◌≡◌, ℕ, List, [], ◌∷◌, ◌++◌, length, map, Bool, ◌&&◌, Option, Some, None, is_none, nat_eq, nat_lt, if◌then◌else◌}
 use Rattle.std.specs.List.{fold}
 use Rattle.ccsl_base.specs.Names.{find_name}
 use Rattle.ccsl_lex.specs.Tokens.{PlainToken, AreTokens}

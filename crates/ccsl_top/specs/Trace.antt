@@ -7,7 +7,7 @@ use Rattle.std.specs.Prelude.{ℕ, List, [], ◌∷◌, ◌++◌, length, Bool, 
 use Rattle.std.specs.List.{list_all, find, fold}
 use Rattle.std.specs.Str.{bytes_eq}
 use Rattle.ccsl_base.specs.Clocks.{with_clock}
-use Rattle.ccsl_base.specs.Names.{is_among, find_name}
+use Rattle.ccsl_base.specs.Names.{find_name}
 use Rattle.ccsl_base.specs.declared.rows.Row.{Row}
 use Rattle.ccsl_kernel.specs.Lives.{steps}
 use Rattle.ccsl_vcd_lex.specs.Tokens.{Heard, word, too_long, heard}

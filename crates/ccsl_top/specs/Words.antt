@@ -1,5 +1,5 @@
 -- The words of a command line that the program takes: `judge spec=F trace=G`, in this order.
-use Rattle.std.specs.Prelude.{ℕ, List, [], ◌∷◌, Bool, true, false, not, ◌&&◌, length, take, drop, nat_le, slice_index_or, codes}
+use Rattle.std.specs.Prelude.{ℕ, List, [], ◌∷◌, Bool, false, not, ◌&&◌, length, take, drop, nat_le, slice_index_or, codes}
 use Rattle.std.specs.Str.{bytes_eq}
 
 -- a file name has 1 to 4,096 bytes

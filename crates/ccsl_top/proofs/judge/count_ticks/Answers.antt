@@ -1,5 +1,4 @@
-use Rattle.std.proofs.Common.{◌≡◌, ◌+◌, ◌&&◌, cond, nat_lt, length, sym, ap, ◌∙◌, arith}
-use Rattle.ccsl_base.specs.Clocks.{ticks_in}
+use Rattle.std.proofs.Common.{◌≡◌, ◌+◌, length, ap, ◌∙◌, arith}
 use Rattle.ccsl_top.specs.Judged.{count_at}
 use Rattle.ccsl_top.proofs.Counts.{count-none, count-next, ticked}
 use Rattle.ccsl_top.proofs.judge.count_ticks.Goals as goal

@@ -1,4 +1,4 @@
-use Rattle.std.proofs.Common.{◌≡◌, ℕ, ◌+◌, ◌&&◌, length, nat_lt}
+use Rattle.std.proofs.Common.{◌≡◌, ℕ, ◌+◌}
 use Rattle.ccsl_top.specs.Judged.{count_at}
 use Rattle.ccsl_top.proofs.Counts.{ticked}
 use Rattle.ccsl_top.proofs.judge.count_ticks.Given as goal

@@ -1,5 +1,4 @@
-use Rattle.std.proofs.Common.{◌≡◌, List, ◌∷◌, subst, sym, ◌∙◌, true, false}
-use Rattle.ccsl_kernel.specs.declared.constraint.Constraint.{Constraint}
+use Rattle.std.proofs.Common.{subst, sym, ◌∙◌}
 use Rattle.ccsl_top.proofs.Items.{NoneBroken, none-first, none-more, found-broken, none-broken, uncons, no_first}
 use Rattle.ccsl_top.proofs.judge.first_broken.Goals as goal
 

@@ -1,4 +1,4 @@
-use Rattle.std.proofs.Common.{◌≡◌, sym, ap, ◌∙◌}
+use Rattle.std.proofs.Common.{sym, ◌∙◌}
 use Rattle.ccsl_top.specs.Judged.{count_at, ticks_below}
 use Rattle.ccsl_top.proofs.Judging.{relation-fails}
 use Rattle.ccsl_top.proofs.judge.is_broken.Goals as goal

@@ -1,6 +1,5 @@
-use Rattle.std.proofs.Common.{◌≡◌, ℕ, ◌+◌, ◌<◌, ◌≤◌, List, ◌∷◌, length, replicate, subst, sym, ap, ◌∙◌, arith}
+use Rattle.std.proofs.Common.{◌≡◌, length, replicate, subst, sym, ap, ◌∙◌, arith}
 use Rattle.std.proofs.lemmas.List.{length-replicate}
-use Rattle.ccsl_base.specs.declared.rows.Row.{Row}
 use Rattle.ccsl_top.specs.Judged.{count_at, first_broken, system_of}
 use Rattle.ccsl_top.proofs.Items.{uncons, no_first}
 use Rattle.ccsl_top.proofs.Judged.{SoFar, so-far-first, so-far-next, violated-here, run-all, clock_count-le, count_at-zeros, size-rows}

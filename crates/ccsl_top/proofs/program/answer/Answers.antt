@@ -1,4 +1,4 @@
-use Rattle.std.proofs.Common.{◌≡◌, sym, ap, ◌∙◌}
+use Rattle.std.proofs.Common.{ap, ◌∙◌}
 use Rattle.ccsl_top.specs.Replies.{answer}
 use Rattle.ccsl_top.proofs.Answering.{spec-stopped, not-built, trace-stopped}
 use Rattle.ccsl_top.proofs.program.answer.Goals as goal

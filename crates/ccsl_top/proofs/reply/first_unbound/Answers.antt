@@ -1,9 +1,4 @@
-use Rattle.std.proofs.Common.{◌≡◌, ℕ, suc, ◌+◌, ◌-◌, ◌<◌, ◌≤◌, List, length, None, Some, find, is_none, sym, ap, ◌∙◌, arith, Bool, true, false, not, add-one}
-use Rattle.std.specs.Option.{is_some}
-use Rattle.std.specs.List.{slice_get}
-use Rattle.ccsl_base.specs.Names.{find_name}
-use Rattle.ccsl_kernel.specs.Lives.{steps}
-use Rattle.ccsl_top.specs.Trace.{is_unbound}
+use Rattle.std.proofs.Common.{◌≡◌, length, is_none, sym, ap, ◌∙◌, arith}
 use Rattle.ccsl_top.proofs.Unbound.{none_from, unbound-found, unbound-next}
 use Rattle.ccsl_top.proofs.reply.first_unbound.Goals as goal
 

@@ -1,4 +1,4 @@
-use Rattle.std.proofs.Common.{◌≡◌, List, ℕ, sym, ap, ◌∙◌, refl, append_assoc}
+use Rattle.std.proofs.Common.{◌≡◌, List, ℕ, ap, ◌∙◌, refl, append_assoc}
 use Rattle.ccsl_top.specs.Replies.{Answer}
 use Rattle.ccsl_top.proofs.reply.verdict_reply.Goals as goal
 

@@ -1,6 +1,5 @@
-use Rattle.std.proofs.Common.{◌≡◌, sym, ap, ◌∙◌, map, List, None, Some}
-use Rattle.ccsl_lex.specs.Tokens.{AreTokens, plain_token}
-use Rattle.ccsl_top.specs.Specification.{no_spec, said_by, spec_from, done}
+use Rattle.std.proofs.Common.{sym, ap, ◌∙◌, map, Some}
+use Rattle.ccsl_top.specs.Specification.{no_spec, spec_from, done}
 use Rattle.ccsl_top.proofs.Said.{none-without_tokens, none-said, said-end}
 use Rattle.ccsl_top.proofs.specification.read_specification.Goals as goal
 

@@ -1,8 +1,8 @@
-use Rattle.std.proofs.Common.{◌≡◌, ◌≤◌, ℕ, List, [], ◌++◌, take, drop, length, sym, ap, ◌∙◌, None, Some, arith}
-use Rattle.ccsl_vcd_lex.specs.Tokens.{heard, settled}
+use Rattle.std.proofs.Common.{◌≡◌, ◌≤◌, ℕ, List, ◌++◌, take, drop, length, sym, ap, ◌∙◌, None, Some}
+use Rattle.ccsl_vcd_lex.specs.Tokens.{heard}
 use Rattle.ccsl_vcd_lex.specs.Lexing.{named}
-use Rattle.ccsl_top.specs.Trace.{Reading, reading_of, reading_from, ended, trace_of}
-use Rattle.ccsl_top.proofs.Pieces.{Read, read-none, read-too_long, refused, whole-after, read-after, read-all, none_left, trace_of-within}
+use Rattle.ccsl_top.specs.Trace.{reading_of, ended, trace_of}
+use Rattle.ccsl_top.proofs.Pieces.{read-none, read-too_long, refused, whole-after, read-after, read-all, none_left, trace_of-within}
 use Rattle.ccsl_top.proofs.trace.read_trace.Goals as goal
 
 -- a trace that is refused

@@ -1,4 +1,4 @@
-use Rattle.std.proofs.Common.{◌≡◌, ap, sym, ◌∙◌, drop}
+use Rattle.std.proofs.Common.{ap, ◌∙◌, drop}
 use Rattle.ccsl_top.proofs.Keys.{has_key-front, has_key-none}
 use Rattle.ccsl_top.proofs.words.value_of.Goals as goal
 

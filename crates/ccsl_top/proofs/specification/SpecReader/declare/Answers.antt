@@ -1,4 +1,4 @@
-use Rattle.std.proofs.Common.{◌≡◌, ℕ, List, [], ◌∷◌, ◌++◌, length, nat_lt, sym, ap, ◌∙◌, refl, true, is_none}
+use Rattle.std.proofs.Common.{◌≡◌, [], ◌∷◌, ◌++◌, sym, ap, ◌∙◌, refl, true, is_none}
 use Rattle.ccsl_base.specs.Names.{find_name}
 use Rattle.ccsl_top.specs.Specification.{may_name}
 use Rattle.ccsl_top.proofs.Tables.{added-new, and-true}

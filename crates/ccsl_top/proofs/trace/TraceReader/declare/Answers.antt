@@ -1,4 +1,4 @@
-use Rattle.std.proofs.Common.{◌≡◌, ◌≤◌, ℕ, ◌+◌, List, [], ◌∷◌, ◌++◌, length, length-append, sym, ap, ◌∙◌, refl, arith, true, is_none}
+use Rattle.std.proofs.Common.{◌≡◌, [], ◌∷◌, ◌++◌, length-append, sym, ap, ◌∙◌, refl, arith, true, is_none}
 use Rattle.ccsl_base.specs.Names.{find_name}
 use Rattle.ccsl_top.specs.Trace.{may_declare}
 use Rattle.ccsl_top.proofs.Tables.{added-new, last_two}
