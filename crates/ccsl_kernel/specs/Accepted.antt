@@ -1,6 +1,7 @@
 -- WHICH SYSTEMS ARE ACCEPTED, one field of IsAccepted a sentence.
 use Rattle.std.specs.Prelude.{◌≡◌, ℕ, ◌+◌, ◌<◌, ◌≤◌, suc, List, [], ◌∷◌, ◌++◌, length, map, max, All, Bool, true, false, ◌&&◌, IsTrue, Some, slice_get, slice_index, nat_eq, nat_lt, nat_le, take_while, drop, if◌then◌else◌}
 use Rattle.std.specs.List.{list_all, AllByRecursion}
+use Rattle.ccsl_base.specs.declared.TheConstants.{MAX_CLOCKS}
 use Rattle.ccsl_base.specs.Name.{is_name, is_inner}
 use Rattle.ccsl_words.specs.Word.{BinaryWord, is_finite}
 use Rattle.ccsl_kernel.specs.declared.expr.Place.{Place}
@@ -142,7 +143,7 @@ Each P i (x ∷ xs) = P i x × Each P (suc i) xs
 pub record IsAccepted (K : System) : Type 0 where
   pub declared : K.declared ≤ K.written
   pub written : K.written ≤ length K.names
-  pub few_clocks : length K.names ≤ 64
+  pub few_clocks : length K.names ≤ MAX_CLOCKS
   pub defined : K.declared + length K.definitions ≡ length K.names
   pub names : Each (λ i name. IsTrue (if nat_lt i K.written then is_name name else is_hidden name)) 0 K.names
   pub bodies : Each (λ g members. All (IsBody K g) members) 0 K.groups

@@ -1,5 +1,6 @@
 -- The sentences of IsAccepted in two parts: those on numbers alone, and those on names, members, definitions and constraints one by one.
 use Rattle.std.specs.Prelude.{◌≡◌, ◌+◌, ◌<◌, ◌≤◌, All, IsTrue, length, nat_lt, if◌then◌else◌}
+use Rattle.ccsl_base.specs.declared.TheConstants.{MAX_CLOCKS}
 use Rattle.ccsl_base.specs.Name.{is_name}
 use Rattle.ccsl_kernel.specs.Syntax.{System}
 use Rattle.ccsl_kernel.specs.Accepted.{Each, IsBody, IsDefinition, is_hidden}
@@ -8,7 +9,7 @@ use Rattle.ccsl_kernel.specs.Accepted.{Each, IsBody, IsDefinition, is_hidden}
 pub record IsCounted (K : System) : Type 0 where
   pub declared : K.declared ≤ K.written
   pub written : K.written ≤ length K.names
-  pub few_clocks : length K.names ≤ 64
+  pub few_clocks : length K.names ≤ MAX_CLOCKS
   pub defined : K.declared + length K.definitions ≡ length K.names
   pub few_constraints : length K.constraints ≤ 4096
 

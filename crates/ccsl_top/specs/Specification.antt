@@ -3,6 +3,7 @@
 -- The table goes token by token. What it has read is a record; `None` stands for a specification of another form.
 use Rattle.std.specs.Prelude.{◌≡◌, ℕ, List, [], ◌∷◌, ◌++◌, length, map, Bool, ◌&&◌, Option, Some, None, is_none, nat_eq, nat_lt, if◌then◌else◌}
 use Rattle.std.specs.List.{fold}
+use Rattle.ccsl_base.specs.declared.TheConstants.{MAX_CLOCKS}
 use Rattle.ccsl_base.specs.Names.{find_name}
 use Rattle.ccsl_lex.specs.Tokens.{PlainToken, AreTokens}
 use Rattle.ccsl_lex.specs.declared.reserved.Reserved.{Reserved}
@@ -38,9 +39,9 @@ after_word line.Clock w.Clock = Some line.Name
 after_word line.Relation w.Precedes = Some line.Right
 after_word _ _ = None
 
--- a clock may be declared: there are at most 64, and no two of one name
+-- a clock may be declared: there are at most MAX_CLOCKS, and no two of one name
 abbrev pub may_name : Spec → List ℕ → Bool
-may_name s name = is_none (find_name name s.names) && nat_lt (length s.names) 64
+may_name s name = is_none (find_name name s.names) && nat_lt (length s.names) MAX_CLOCKS
 
 abbrev pub with_name : Spec → List ℕ → Option Spec
 with_name s name =
