@@ -1,0 +1,3 @@
+mod Lists
+mod Places
+pub mod Turns

@@ -1,0 +1,158 @@
+//! Definitions of relations and of groups of expressions.
+
+ghost use Rattle.std.specs.Prelude.{◌≡◌};
+ghost use Rattle.ccsl_ast.specs.Trees.{PlainMember, PlainDefinition, plain_member, plain_definition};
+ghost use Rattle.ccsl_grammar.specs.Terminals.{terminals, is_word};
+ghost use Rattle.ccsl_grammar.specs.Reader.{took, begins};
+ghost use Rattle.ccsl_grammar.specs.Parser.{relation_at, member_at, further_member_at, group_at, definition_at, is_definition};
+ghost use Rattle.ccsl_lex.specs.declared.reserved.Reserved.TheVariants as w;
+ghost use Rattle.ccsl_grammar.proofs.Loop.{further_member_falls, definition_falls};
+ghost use Rattle.ccsl_parse.specs.Gives.{Gives};
+
+use crate::expression::expr_at;
+use crate::leaf::{begins_word, name_at, symbol_at, word_at};
+use crate::line::relation_line_at;
+use crate::list::list_at;
+use crate::repeat::{Repeated, many_at};
+use crate::stop::Stop;
+use ccsl_ast::{Definition, Member};
+use ccsl_lex::{Reserved, Token};
+use std::alloc::Global;
+
+#[tactic(auto, using(crate::proofs::Turns::led, crate::proofs::Turns::led_stops), unfolding(ccsl_grammar::specs::Parser::relation_at))]
+fn relation_at<'a>(
+    alloc: Global,
+    room: u32,
+    tokens: &'a [Token],
+) -> Result<(Definition, &'a [Token]), Stop<'a>>
+    ensures { Gives (λ x. took (plain_definition x.0) (terminals x.1.now)) result (relation_at room (terminals tokens.now)) }
+{
+    let rest = word_at(tokens, Reserved::Relation)?;
+    let (name, rest) = name_at(alloc, rest)?;
+    let rest = symbol_at(rest, b'(')?;
+    let (params, rest) = list_at(alloc, rest)?;
+    let rest = symbol_at(rest, b'{')?;
+    let (line, rest) = relation_line_at(alloc, room, rest)?;
+    let mut first = Vec::new(alloc);
+    first.push(line)?;
+    let (lines, rest) = many_at(alloc, room, first, rest)?;
+    let rest = symbol_at(rest, b'}')?;
+    Ok((
+        Definition::Relation {
+            name,
+            params,
+            lines,
+        },
+        rest,
+    ))
+}
+
+/// A defined expression of a group.
+#[tactic(auto, unfolding(ccsl_grammar::specs::Parser::member_at))]
+fn member_at<'a>(
+    alloc: Global,
+    room: u32,
+    tokens: &'a [Token],
+) -> Result<(Member, &'a [Token]), Stop<'a>>
+    ensures { Gives (λ x. took (plain_member x.0) (terminals x.1.now)) result (member_at room (terminals tokens.now)) }
+{
+    let (name, rest) = name_at(alloc, tokens)?;
+    let rest = symbol_at(rest, b'(')?;
+    let (params, rest) = list_at(alloc, rest)?;
+    let rest = symbol_at(rest, b'=')?;
+    let (body, rest) = expr_at(alloc, room, rest)?;
+    Ok((Member { name, params, body }, rest))
+}
+
+#[tactic(auto, unfolding(ccsl_grammar::specs::Parser::further_member_at))]
+fn further_member_at<'a>(
+    alloc: Global,
+    room: u32,
+    tokens: &'a [Token],
+) -> Result<(Member, &'a [Token]), Stop<'a>>
+    ensures { Gives (λ x. took (plain_member x.0) (terminals x.1.now)) result (further_member_at room (terminals tokens.now)) }
+{
+    let rest = word_at(tokens, Reserved::And)?;
+    member_at(alloc, room, rest)
+}
+
+#[tactic(auto, using(crate::proofs::Turns::led, crate::proofs::Turns::led_stops), unfolding(ccsl_grammar::specs::Parser::group_at))]
+fn group_at<'a>(
+    alloc: Global,
+    room: u32,
+    tokens: &'a [Token],
+) -> Result<(Definition, &'a [Token]), Stop<'a>>
+    ensures { Gives (λ x. took (plain_definition x.0) (terminals x.1.now)) result (group_at room (terminals tokens.now)) }
+{
+    let rest = word_at(tokens, Reserved::Expression)?;
+    let (member, rest) = member_at(alloc, room, rest)?;
+    let mut first = Vec::new(alloc);
+    first.push(member)?;
+    let (members, rest) = many_at(alloc, room, first, rest)?;
+    let rest = symbol_at(rest, b';')?;
+    Ok((Definition::Group(members), rest))
+}
+
+#[tactic(auto, unfolding(ccsl_grammar::specs::Parser::definition_at))]
+fn definition_at<'a>(
+    alloc: Global,
+    room: u32,
+    tokens: &'a [Token],
+) -> Result<(Definition, &'a [Token]), Stop<'a>>
+    ensures { Gives (λ x. took (plain_definition x.0) (terminals x.1.now)) result (definition_at room (terminals tokens.now)) }
+{
+    if begins_word(tokens, Reserved::Relation) {
+        relation_at(alloc, room, tokens)
+    } else {
+        group_at(alloc, room, tokens)
+    }
+}
+
+/// The further members of a group, each with its `and`.
+impl Repeated for Member {
+    ghost Plain = { PlainMember };
+
+    ghost plain = { plain_member };
+
+    ghost starts = { is_word w.And };
+
+    ghost reader = { further_member_at };
+
+    ghost falls = { λ room. (further_member_falls room).at };
+
+    fn begins(tokens: &[Token]) -> bool {
+        begins_word(tokens, Reserved::And)
+    }
+
+    fn read<'a>(
+        alloc: Global,
+        room: u32,
+        tokens: &'a [Token],
+    ) -> Result<(Member, &'a [Token]), Stop<'a>> {
+        further_member_at(alloc, room, tokens)
+    }
+}
+
+impl Repeated for Definition {
+    ghost Plain = { PlainDefinition };
+
+    ghost plain = { plain_definition };
+
+    ghost starts = { is_definition };
+
+    ghost reader = { definition_at };
+
+    ghost falls = { λ room. (definition_falls room).at };
+
+    fn begins(tokens: &[Token]) -> bool {
+        begins_word(tokens, Reserved::Relation) || begins_word(tokens, Reserved::Expression)
+    }
+
+    fn read<'a>(
+        alloc: Global,
+        room: u32,
+        tokens: &'a [Token],
+    ) -> Result<(Definition, &'a [Token]), Stop<'a>> {
+        definition_at(alloc, room, tokens)
+    }
+}

@@ -1,0 +1,284 @@
+//! Expressions. `room` is the number of levels that are left.
+
+ghost use Rattle.std.specs.Prelude.{◌≡◌, IfOk};
+ghost use Rattle.ccsl_ast.specs.Trees.{plain, EBinary, EDelayed, EIf};
+ghost use Rattle.ccsl_grammar.specs.Terminals.{terminals};
+ghost use Rattle.ccsl_grammar.specs.Reader.{took, begins};
+ghost use Rattle.ccsl_grammar.specs.Parser.{named_at, parens_at, operand_at, binary_at, delayed_at, rest_at, choice_at, expr_with, is_expr, no_room, expr_at};
+ghost use Rattle.ccsl_parse.specs.Gives.{Gives};
+ghost use Rattle.ccsl_parse.specs.Pieces.{delay_at, await_at, filter_at, branches_at};
+
+use crate::leaf::{begins_name, begins_symbol, begins_word, name_at, num_at, symbol_at, word_at};
+use crate::list::list_at;
+use crate::operator::{begins_binop, binop_at};
+use crate::stop::Stop;
+use crate::term::{term_at, wterm_at};
+use crate::test::test_at;
+use ccsl_ast::{BinaryOp, Spot, Test, Tree};
+use ccsl_lex::{Reserved, Token};
+use std::alloc::{AllocError, Global};
+
+/// What stands behind an operand's name.
+#[tactic(auto, unfolding(ccsl_grammar::specs::Parser::named_at))]
+fn named_at<'a>(
+    alloc: Global,
+    name: Spot,
+    tokens: &'a [Token],
+) -> Result<(Tree, &'a [Token]), Stop<'a>>
+    ensures { Gives (λ x. took (plain x.0) (terminals x.1.now)) result (named_at name (terminals tokens.now)) }
+{
+    if begins_symbol(tokens, b'(') {
+        let rest = symbol_at(tokens, b'(')?;
+        let (args, rest) = list_at(alloc, rest)?;
+        Ok((Tree::Call(name, args), rest))
+    } else {
+        Ok((Tree::Name(name), tokens))
+    }
+}
+
+fn choice(alloc: Global, test: Test, yes: Tree, no: Tree) -> Result<Tree, AllocError>
+    ensures { IfOk result (λ tree. plain tree ≡ EIf test (plain yes) (plain no)) }
+{
+    Ok(Tree::If(test, Box::new(alloc, yes)?, Box::new(alloc, no)?))
+}
+
+fn binary(alloc: Global, op: BinaryOp, left: Tree, right: Tree) -> Result<Tree, AllocError>
+    ensures { IfOk result (λ tree. plain tree ≡ EBinary op (plain left) (plain right)) }
+{
+    Ok(Tree::Binary(op, Box::new(alloc, left)?, Box::new(alloc, right)?))
+}
+
+fn delayed(
+    alloc: Global,
+    operand: Tree,
+    number: (usize, u32),
+    base: Tree,
+) -> Result<Tree, AllocError>
+    ensures { IfOk result (λ tree. plain tree ≡ EDelayed (plain operand) number.0 number.1 (plain base)) }
+{
+    Ok(Tree::Delayed(
+        Box::new(alloc, operand)?,
+        number.0,
+        number.1,
+        Box::new(alloc, base)?,
+    ))
+}
+
+fn delay_at<'a>(
+    alloc: Global,
+    operand: Tree,
+    tokens: &'a [Token],
+) -> Result<(Tree, &'a [Token]), Stop<'a>>
+    ensures { Gives (λ x. took (plain x.0) (terminals x.1.now)) result (delay_at (plain operand) (terminals tokens.now)) }
+{
+    let rest = word_at(tokens, Reserved::Delay)?;
+    let (term, rest) = term_at(alloc, rest)?;
+    Ok((Tree::Delay(Box::new(alloc, operand)?, term), rest))
+}
+
+fn await_at<'a>(
+    alloc: Global,
+    operand: Tree,
+    tokens: &'a [Token],
+) -> Result<(Tree, &'a [Token]), Stop<'a>>
+    ensures { Gives (λ x. took (plain x.0) (terminals x.1.now)) result (await_at (plain operand) (terminals tokens.now)) }
+{
+    let rest = word_at(tokens, Reserved::Await)?;
+    let (term, rest) = term_at(alloc, rest)?;
+    Ok((Tree::Await(Box::new(alloc, operand)?, term), rest))
+}
+
+fn filter_at<'a>(
+    alloc: Global,
+    operand: Tree,
+    tokens: &'a [Token],
+) -> Result<(Tree, &'a [Token]), Stop<'a>>
+    ensures { Gives (λ x. took (plain x.0) (terminals x.1.now)) result (filter_at (plain operand) (terminals tokens.now)) }
+{
+    let rest = word_at(tokens, Reserved::Filter)?;
+    let (word, rest) = wterm_at(alloc, rest)?;
+    Ok((Tree::Filter(Box::new(alloc, operand)?, word), rest))
+}
+
+fn begins_expr(tokens: &[Token]) -> bool
+    ensures { result ≡ begins is_expr (terminals tokens.now) }
+{
+    begins_name(tokens)
+        || begins_word(tokens, Reserved::Never)
+        || begins_symbol(tokens, b'(')
+        || begins_word(tokens, Reserved::If)
+}
+
+/// Why there is no expression where no level is left.
+#[tactic(auto, unfolding(ccsl_grammar::specs::Parser::no_room))]
+fn no_room<'a>(tokens: &'a [Token]) -> Result<(Tree, &'a [Token]), Stop<'a>>
+    ensures { Gives (λ x. took (plain x.0) (terminals x.1.now)) result (no_room (terminals tokens.now)) }
+{
+    if begins_expr(tokens) {
+        Err(Stop::TooDeep(tokens))
+    } else {
+        Err(Stop::Syntax(tokens))
+    }
+}
+
+/// An expression, where so many levels are left.
+#[cycle(expr)]
+#[tactic(auto, unfolding(ccsl_grammar::specs::Parser::expr_at))]
+pub fn expr_at<'a>(
+    alloc: Global,
+    room: u32,
+    tokens: &'a [Token],
+) -> Result<(Tree, &'a [Token]), Stop<'a>>
+    ensures { Gives (λ x. took (plain x.0) (terminals x.1.now)) result (expr_at room (terminals tokens.now)) }
+{
+    if room == 0 {
+        no_room(tokens)
+    } else {
+        expr_with(alloc, room - 1, tokens)
+    }
+}
+
+#[cycle(expr)]
+#[tactic(auto, unfolding(ccsl_grammar::specs::Parser::expr_with))]
+fn expr_with<'a>(
+    alloc: Global,
+    room: u32,
+    tokens: &'a [Token],
+) -> Result<(Tree, &'a [Token]), Stop<'a>>
+    ensures { Gives (λ x. took (plain x.0) (terminals x.1.now)) result (expr_with (expr_at room) (terminals tokens.now)) }
+{
+    if begins_word(tokens, Reserved::If) {
+        choice_at(alloc, room, tokens)
+    } else {
+        let (operand, rest) = operand_at(alloc, room, tokens)?;
+        rest_at(alloc, room, operand, rest)
+    }
+}
+
+#[cycle(expr)]
+#[tactic(auto, unfolding(ccsl_grammar::specs::Parser::choice_at))]
+fn choice_at<'a>(
+    alloc: Global,
+    room: u32,
+    tokens: &'a [Token],
+) -> Result<(Tree, &'a [Token]), Stop<'a>>
+    ensures { Gives (λ x. took (plain x.0) (terminals x.1.now)) result (choice_at (expr_at room) (terminals tokens.now)) }
+{
+    let rest = word_at(tokens, Reserved::If)?;
+    let (test, rest) = test_at(alloc, rest)?;
+    branches_at(alloc, room, test, rest)
+}
+
+/// What stands behind the test of an `if`.
+#[cycle(expr)]
+fn branches_at<'a>(
+    alloc: Global,
+    room: u32,
+    test: Test,
+    tokens: &'a [Token],
+) -> Result<(Tree, &'a [Token]), Stop<'a>>
+    ensures { Gives (λ x. took (plain x.0) (terminals x.1.now)) result (branches_at (expr_at room) test (terminals tokens.now)) }
+{
+    let rest = word_at(tokens, Reserved::Use)?;
+    let (yes, rest) = expr_at(alloc, room, rest)?;
+    let rest = word_at(rest, Reserved::Else)?;
+    let (no, rest) = expr_at(alloc, room, rest)?;
+    let tree = choice(alloc, test, yes, no)?;
+    Ok((tree, rest))
+}
+
+/// What stands behind the first operand.
+#[cycle(expr)]
+#[tactic(auto, unfolding(ccsl_grammar::specs::Parser::rest_at))]
+fn rest_at<'a>(
+    alloc: Global,
+    room: u32,
+    operand: Tree,
+    tokens: &'a [Token],
+) -> Result<(Tree, &'a [Token]), Stop<'a>>
+    ensures { Gives (λ x. took (plain x.0) (terminals x.1.now)) result (rest_at (expr_at room) (plain operand) (terminals tokens.now)) }
+{
+    if begins_binop(tokens) {
+        binary_at(alloc, room, operand, tokens)
+    } else if begins_word(tokens, Reserved::Delay) {
+        delay_at(alloc, operand, tokens)
+    } else if begins_word(tokens, Reserved::Await) {
+        await_at(alloc, operand, tokens)
+    } else if begins_word(tokens, Reserved::Filter) {
+        filter_at(alloc, operand, tokens)
+    } else if begins_word(tokens, Reserved::Delayed) {
+        delayed_at(alloc, room, operand, tokens)
+    } else {
+        Ok((operand, tokens))
+    }
+}
+
+#[cycle(expr)]
+#[tactic(auto, unfolding(ccsl_grammar::specs::Parser::binary_at))]
+fn binary_at<'a>(
+    alloc: Global,
+    room: u32,
+    operand: Tree,
+    tokens: &'a [Token],
+) -> Result<(Tree, &'a [Token]), Stop<'a>>
+    ensures { Gives (λ x. took (plain x.0) (terminals x.1.now)) result (binary_at (expr_at room) (plain operand) (terminals tokens.now)) }
+{
+    let (op, rest) = binop_at(tokens)?;
+    let (other, rest) = operand_at(alloc, room, rest)?;
+    let tree = binary(alloc, op, operand, other)?;
+    Ok((tree, rest))
+}
+
+#[cycle(expr)]
+#[tactic(auto, unfolding(ccsl_grammar::specs::Parser::delayed_at))]
+fn delayed_at<'a>(
+    alloc: Global,
+    room: u32,
+    operand: Tree,
+    tokens: &'a [Token],
+) -> Result<(Tree, &'a [Token]), Stop<'a>>
+    ensures { Gives (λ x. took (plain x.0) (terminals x.1.now)) result (delayed_at (expr_at room) (plain operand) (terminals tokens.now)) }
+{
+    let rest = word_at(tokens, Reserved::Delayed)?;
+    let (number, rest) = num_at(rest)?;
+    let rest = word_at(rest, Reserved::On)?;
+    let (base, rest) = operand_at(alloc, room, rest)?;
+    let tree = delayed(alloc, operand, number, base)?;
+    Ok((tree, rest))
+}
+
+/// A name, a call, `never`, or an expression in parentheses.
+#[cycle(expr)]
+#[tactic(auto, unfolding(ccsl_grammar::specs::Parser::operand_at))]
+fn operand_at<'a>(
+    alloc: Global,
+    room: u32,
+    tokens: &'a [Token],
+) -> Result<(Tree, &'a [Token]), Stop<'a>>
+    ensures { Gives (λ x. took (plain x.0) (terminals x.1.now)) result (operand_at (expr_at room) (terminals tokens.now)) }
+{
+    if begins_name(tokens) {
+        let (name, rest) = name_at(alloc, tokens)?;
+        named_at(alloc, name, rest)
+    } else if begins_word(tokens, Reserved::Never) {
+        let rest = word_at(tokens, Reserved::Never)?;
+        Ok((Tree::Never, rest))
+    } else {
+        parens_at(alloc, room, tokens)
+    }
+}
+
+#[cycle(expr)]
+#[tactic(auto, unfolding(ccsl_grammar::specs::Parser::parens_at))]
+fn parens_at<'a>(
+    alloc: Global,
+    room: u32,
+    tokens: &'a [Token],
+) -> Result<(Tree, &'a [Token]), Stop<'a>>
+    ensures { Gives (λ x. took (plain x.0) (terminals x.1.now)) result (parens_at (expr_at room) (terminals tokens.now)) }
+{
+    let rest = symbol_at(tokens, b'(')?;
+    let (tree, rest) = expr_at(alloc, room, rest)?;
+    let rest = symbol_at(rest, b')')?;
+    Ok((tree, rest))
+}

@@ -1,0 +1,177 @@
+//! Readers of one token.
+
+ghost use Rattle.std.specs.Prelude.{◌≡◌, true, IfOk};
+ghost use Rattle.ccsl_grammar.specs.Terminals.{terminal, terminals, is_word, is_symbol, is_name, is_quoted};
+ghost use Rattle.ccsl_grammar.specs.Reader.{took, begins};
+ghost use Rattle.ccsl_grammar.specs.Parser.{word_at, symbol_at, name_at, num_at, quoted_at};
+ghost use Rattle.ccsl_parse.specs.Gives.{Gives};
+
+use crate::stop::Stop;
+use ccsl_ast::Spot;
+use ccsl_base::Text;
+use ccsl_lex::{Reserved, Token, TokenKind};
+use std::alloc::{AllocError, Global};
+
+pub fn is_word(token: &Token, word: Reserved) -> bool
+    ensures { result ≡ is_word word (terminal token.now) }
+{
+    match &token.kind {
+        TokenKind::Word(other) => *other == word,
+        _ => false,
+    }
+}
+
+pub fn is_symbol(token: &Token, byte: u8) -> bool
+    ensures { result ≡ is_symbol byte (terminal token.now) }
+{
+    match &token.kind {
+        TokenKind::Symbol(other) => *other == byte,
+        _ => false,
+    }
+}
+
+pub fn is_name(token: &Token) -> bool
+    ensures { result ≡ is_name (terminal token.now) }
+{
+    match &token.kind {
+        TokenKind::Name(_) => true,
+        _ => false,
+    }
+}
+
+pub fn is_quoted(token: &Token) -> bool
+    ensures { result ≡ is_quoted (terminal token.now) }
+{
+    match &token.kind {
+        TokenKind::Quoted(_) => true,
+        _ => false,
+    }
+}
+
+pub fn begins_word(tokens: &[Token], word: Reserved) -> bool
+    ensures { result ≡ begins (is_word word) (terminals tokens.now) }
+{
+    match tokens {
+        [token, ..] => is_word(token, word),
+        [] => false,
+    }
+}
+
+pub fn begins_symbol(tokens: &[Token], byte: u8) -> bool
+    ensures { result ≡ begins (is_symbol byte) (terminals tokens.now) }
+{
+    match tokens {
+        [token, ..] => is_symbol(token, byte),
+        [] => false,
+    }
+}
+
+pub fn begins_name(tokens: &[Token]) -> bool
+    ensures { result ≡ begins is_name (terminals tokens.now) }
+{
+    match tokens {
+        [token, ..] => is_name(token),
+        [] => false,
+    }
+}
+
+pub fn begins_quoted(tokens: &[Token]) -> bool
+    ensures { result ≡ begins is_quoted (terminals tokens.now) }
+{
+    match tokens {
+        [token, ..] => is_quoted(token),
+        [] => false,
+    }
+}
+
+/// The reserved word.
+#[tactic(auto, unfolding(ccsl_grammar::specs::Parser::word_at))]
+pub fn word_at<'a>(tokens: &'a [Token], word: Reserved) -> Result<&'a [Token], Stop<'a>>
+    ensures { Gives (λ rest. took true (terminals rest.now)) result (word_at word (terminals tokens.now)) }
+{
+    match tokens {
+        [token, rest @ ..] => {
+            if is_word(token, word) {
+                Ok(rest)
+            } else {
+                Err(Stop::Syntax(tokens))
+            }
+        }
+        [] => Err(Stop::Syntax(tokens)),
+    }
+}
+
+/// The symbol of this byte.
+#[tactic(auto, unfolding(ccsl_grammar::specs::Parser::symbol_at))]
+pub fn symbol_at<'a>(tokens: &'a [Token], byte: u8) -> Result<&'a [Token], Stop<'a>>
+    ensures { Gives (λ rest. took true (terminals rest.now)) result (symbol_at byte (terminals tokens.now)) }
+{
+    match tokens {
+        [token, rest @ ..] => {
+            if is_symbol(token, byte) {
+                Ok(rest)
+            } else {
+                Err(Stop::Syntax(tokens))
+            }
+        }
+        [] => Err(Stop::Syntax(tokens)),
+    }
+}
+
+pub fn copied(alloc: Global, text: &Text) -> Result<Text, AllocError>
+    ensures { IfOk result (λ copy. copy ≡ text.now) }
+{
+    let bytes = Vec::from_slice(alloc, text.bytes())?;
+    Ok(Text::new(bytes))
+}
+
+/// A name.
+#[tactic(auto, unfolding(ccsl_grammar::specs::Parser::name_at))]
+pub fn name_at<'a>(alloc: Global, tokens: &'a [Token]) -> Result<(Spot, &'a [Token]), Stop<'a>>
+    ensures { Gives (λ x. took x.0 (terminals x.1.now)) result (name_at (terminals tokens.now)) }
+{
+    match tokens {
+        [token, rest @ ..] => match &token.kind {
+            TokenKind::Name(text) => {
+                let name = copied(alloc, text)?;
+                Ok((Spot { at: token.at, name }, rest))
+            }
+            _ => Err(Stop::Syntax(tokens)),
+        },
+        [] => Err(Stop::Syntax(tokens)),
+    }
+}
+
+/// A number: its place, and its value.
+#[tactic(auto, unfolding(ccsl_grammar::specs::Parser::num_at))]
+pub fn num_at<'a>(tokens: &'a [Token]) -> Result<((usize, u32), &'a [Token]), Stop<'a>>
+    ensures { Gives (λ x. took x.0 (terminals x.1.now)) result (num_at (terminals tokens.now)) }
+{
+    match tokens {
+        [token, rest @ ..] => match &token.kind {
+            TokenKind::Num(value) => Ok(((token.at, *value), rest)),
+            _ => Err(Stop::Syntax(tokens)),
+        },
+        [] => Err(Stop::Syntax(tokens)),
+    }
+}
+
+/// A quoted text: the place of its opening quote, and the bytes between the quotes.
+#[tactic(auto, unfolding(ccsl_grammar::specs::Parser::quoted_at))]
+pub fn quoted_at<'a>(
+    alloc: Global,
+    tokens: &'a [Token],
+) -> Result<((usize, Text), &'a [Token]), Stop<'a>>
+    ensures { Gives (λ x. took x.0 (terminals x.1.now)) result (quoted_at (terminals tokens.now)) }
+{
+    match tokens {
+        [token, rest @ ..] => match &token.kind {
+            TokenKind::Quoted(text) => {
+                let text = copied(alloc, text)?;
+                Ok(((token.at, text), rest))
+            }
+            _ => Err(Stop::Syntax(tokens)),
+        },
+        [] => Err(Stop::Syntax(tokens)),
+    }
+}

@@ -1,0 +1,174 @@
+//! The lines of relations and of the system.
+
+ghost use Rattle.std.specs.Prelude.{◌≡◌};
+ghost use Rattle.ccsl_ast.specs.Trees.{Line, SLine, plain_line, plain_sline};
+ghost use Rattle.ccsl_grammar.specs.Terminals.{terminals};
+ghost use Rattle.ccsl_grammar.specs.Reader.{took, begins};
+ghost use Rattle.ccsl_grammar.specs.Parser.{define_at, call_at, constraint_at, rline_at, clocks_at, sline_at, no_brace};
+ghost use Rattle.ccsl_grammar.proofs.Loop.{rline_falls, sline_falls};
+ghost use Rattle.ccsl_parse.specs.Gives.{Gives};
+
+use crate::expression::expr_at;
+use crate::leaf::{begins_symbol, begins_word, is_symbol, name_at, symbol_at, word_at};
+use crate::list::{further_members, list_at};
+use crate::relation::relop_at;
+use crate::repeat::Repeated;
+use crate::stop::Stop;
+use ccsl_ast::{RelationLine, Spot, SystemLine};
+use ccsl_lex::{Reserved, Token};
+use std::alloc::Global;
+
+#[tactic(auto, unfolding(ccsl_grammar::specs::Parser::define_at))]
+fn define_at<'a>(
+    alloc: Global,
+    room: u32,
+    tokens: &'a [Token],
+) -> Result<(RelationLine, &'a [Token]), Stop<'a>>
+    ensures { Gives (λ x. took (plain_line x.0) (terminals x.1.now)) result (define_at room (terminals tokens.now)) }
+{
+    let rest = word_at(tokens, Reserved::Define)?;
+    let (name, rest) = name_at(alloc, rest)?;
+    let rest = symbol_at(rest, b'=')?;
+    let (tree, rest) = expr_at(alloc, room, rest)?;
+    let rest = symbol_at(rest, b';')?;
+    Ok((RelationLine::Define(name, tree), rest))
+}
+
+/// What stands behind the name of a called relation.
+#[tactic(auto, unfolding(ccsl_grammar::specs::Parser::call_at))]
+fn call_at<'a>(
+    alloc: Global,
+    name: Spot,
+    tokens: &'a [Token],
+) -> Result<(RelationLine, &'a [Token]), Stop<'a>>
+    ensures { Gives (λ x. took (plain_line x.0) (terminals x.1.now)) result (call_at name (terminals tokens.now)) }
+{
+    let rest = symbol_at(tokens, b'(')?;
+    let (args, rest) = list_at(alloc, rest)?;
+    let rest = symbol_at(rest, b';')?;
+    Ok((RelationLine::Call(name, args), rest))
+}
+
+/// What stands behind the first name of a constraint.
+#[tactic(auto, unfolding(ccsl_grammar::specs::Parser::constraint_at))]
+fn constraint_at<'a>(
+    alloc: Global,
+    left: Spot,
+    tokens: &'a [Token],
+) -> Result<(RelationLine, &'a [Token]), Stop<'a>>
+    ensures { Gives (λ x. took (plain_line x.0) (terminals x.1.now)) result (constraint_at left (terminals tokens.now)) }
+{
+    let (relation, rest) = relop_at(tokens)?;
+    let (right, rest) = name_at(alloc, rest)?;
+    let rest = symbol_at(rest, b';')?;
+    Ok((RelationLine::Constraint(left, relation, right), rest))
+}
+
+/// A line of a relation's body.
+#[tactic(auto, unfolding(ccsl_grammar::specs::Parser::rline_at))]
+pub fn relation_line_at<'a>(
+    alloc: Global,
+    room: u32,
+    tokens: &'a [Token],
+) -> Result<(RelationLine, &'a [Token]), Stop<'a>>
+    ensures { Gives (λ x. took (plain_line x.0) (terminals x.1.now)) result (rline_at room (terminals tokens.now)) }
+{
+    if begins_word(tokens, Reserved::Define) {
+        define_at(alloc, room, tokens)
+    } else {
+        let (name, rest) = name_at(alloc, tokens)?;
+        if begins_symbol(rest, b'(') {
+            call_at(alloc, name, rest)
+        } else {
+            constraint_at(alloc, name, rest)
+        }
+    }
+}
+
+#[tactic(auto, using(crate::proofs::Turns::led, crate::proofs::Turns::led_stops), unfolding(ccsl_grammar::specs::Parser::clocks_at))]
+fn clocks_at<'a>(alloc: Global, tokens: &'a [Token]) -> Result<(SystemLine, &'a [Token]), Stop<'a>>
+    ensures { Gives (λ x. took (plain_sline x.0) (terminals x.1.now)) result (clocks_at (terminals tokens.now)) }
+{
+    let rest = word_at(tokens, Reserved::Clock)?;
+    let (name, rest) = name_at(alloc, rest)?;
+    let mut first = Vec::new(alloc);
+    first.push(name)?;
+    let (names, rest) = further_members(alloc, first, rest)?;
+    let rest = symbol_at(rest, b';')?;
+    Ok((SystemLine::Clocks(names), rest))
+}
+
+/// A line of the system.
+#[tactic(auto, unfolding(ccsl_grammar::specs::Parser::sline_at))]
+fn system_line_at<'a>(
+    alloc: Global,
+    room: u32,
+    tokens: &'a [Token],
+) -> Result<(SystemLine, &'a [Token]), Stop<'a>>
+    ensures { Gives (λ x. took (plain_sline x.0) (terminals x.1.now)) result (sline_at room (terminals tokens.now)) }
+{
+    if begins_word(tokens, Reserved::Clock) {
+        clocks_at(alloc, tokens)
+    } else {
+        let (line, rest) = relation_line_at(alloc, room, tokens)?;
+        Ok((SystemLine::Line(line), rest))
+    }
+}
+
+/// Whether a line has to stand here: a token does, and it closes no body.
+fn begins_line(tokens: &[Token]) -> bool
+    ensures { result ≡ begins no_brace (terminals tokens.now) }
+{
+    match tokens {
+        [token, ..] => !is_symbol(token, b'}'),
+        [] => false,
+    }
+}
+
+impl Repeated for RelationLine {
+    ghost Plain = { Line };
+
+    ghost plain = { plain_line };
+
+    ghost starts = { no_brace };
+
+    ghost reader = { rline_at };
+
+    ghost falls = { λ room. (rline_falls room).at };
+
+    fn begins(tokens: &[Token]) -> bool {
+        begins_line(tokens)
+    }
+
+    fn read<'a>(
+        alloc: Global,
+        room: u32,
+        tokens: &'a [Token],
+    ) -> Result<(RelationLine, &'a [Token]), Stop<'a>> {
+        relation_line_at(alloc, room, tokens)
+    }
+}
+
+impl Repeated for SystemLine {
+    ghost Plain = { SLine };
+
+    ghost plain = { plain_sline };
+
+    ghost starts = { no_brace };
+
+    ghost reader = { sline_at };
+
+    ghost falls = { λ room. (sline_falls room).at };
+
+    fn begins(tokens: &[Token]) -> bool {
+        begins_line(tokens)
+    }
+
+    fn read<'a>(
+        alloc: Global,
+        room: u32,
+        tokens: &'a [Token],
+    ) -> Result<(SystemLine, &'a [Token]), Stop<'a>> {
+        system_line_at(alloc, room, tokens)
+    }
+}

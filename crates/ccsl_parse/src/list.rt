@@ -1,0 +1,93 @@
+//! Lists with commas.
+
+ghost use Rattle.std.specs.Prelude.{◌≡◌};
+ghost use Rattle.ccsl_grammar.specs.Terminals.{terminals, is_symbol};
+ghost use Rattle.ccsl_grammar.specs.Reader.{took, many};
+ghost use Rattle.ccsl_grammar.specs.Loop.{prefixed};
+ghost use Rattle.ccsl_grammar.specs.Parser.{further_at, list_at};
+ghost use Rattle.ccsl_parse.specs.Gives.{Gives};
+
+use crate::leaf::{begins_symbol, name_at, symbol_at};
+use crate::stop::Stop;
+use ccsl_ast::Spot;
+use ccsl_base::Seq;
+use ccsl_lex::Token;
+use std::alloc::Global;
+
+/// What stands in lists with commas.
+pub trait Listed: Drop {
+    ghost use Rattle.std.specs.Prelude.{ℕ, List, length, ◌<◌};
+    ghost use Rattle.ccsl_grammar.specs.Terminals.{Terminal};
+    ghost use Rattle.ccsl_grammar.specs.Reader.{Reader};
+
+    ghost reader: { Reader Self };
+
+    fn read<'a>(alloc: Global, tokens: &'a [Token]) -> Result<(Self, &'a [Token]), Stop<'a>>
+        ensures { Gives (λ x. took x.0 (terminals x.1.now)) result (reader (terminals tokens.now)) };
+
+    ghost falls: { (ts : List Terminal) (v : Self) (rest : List Terminal) → further_at reader ts ≡ took v rest → length rest < length ts };
+}
+
+/// What follows a comma.
+#[tactic(auto, unfolding(ccsl_grammar::specs::Parser::further_at))]
+fn further_at<'a, T: Listed>(
+    alloc: Global,
+    tokens: &'a [Token],
+) -> Result<(T, &'a [Token]), Stop<'a>>
+    ensures { Gives (λ x. took x.0 (terminals x.1.now)) result (further_at T.reader (terminals tokens.now)) }
+{
+    let rest = symbol_at(tokens, b',')?;
+    T::read(alloc, rest)
+}
+
+/// The members behind the first ones, each with its comma.
+pub fn further_members<'a, T: Listed>(
+    alloc: Global,
+    first: Vec<T>,
+    tokens: &'a [Token],
+) -> Result<(Seq<T>, &'a [Token]), Stop<'a>>
+    ensures { Gives (λ x. took x.0 (terminals x.1.now)) result (prefixed first.items (many (is_symbol 44) (further_at T.reader) (terminals tokens.now))) }
+{
+    let mut members = first;
+    let mut rest = tokens;
+    'turns: while begins_symbol(rest, b',') {
+        let (item, after) = further_at(alloc, rest)?;
+        members.push(item)?;
+        rest = after;
+    }
+    Ok((Seq::new(members), rest))
+}
+
+/// A list that may be empty, and the parenthesis behind it.
+#[tactic(auto, using(crate::proofs::Turns::led, crate::proofs::Turns::led_stops), unfolding(ccsl_grammar::specs::Parser::list_at))]
+pub fn list_at<'a, T: Listed>(
+    alloc: Global,
+    tokens: &'a [Token],
+) -> Result<(Seq<T>, &'a [Token]), Stop<'a>>
+    ensures { Gives (λ x. took x.0 (terminals x.1.now)) result (list_at T.reader (terminals tokens.now)) }
+{
+    if begins_symbol(tokens, b')') {
+        let rest = symbol_at(tokens, b')')?;
+        Ok((Seq::new(Vec::new(alloc)), rest))
+    } else {
+        let (item, rest) = T::read(alloc, tokens)?;
+        let mut first = Vec::new(alloc);
+        first.push(item)?;
+        let (members, rest) = further_members(alloc, first, rest)?;
+        let rest = symbol_at(rest, b')')?;
+        Ok((members, rest))
+    }
+}
+
+impl Listed for Spot {
+    ghost use Rattle.ccsl_grammar.specs.Parser as p;
+    ghost use Rattle.ccsl_grammar.proofs.Loop.{further_clock_falls};
+
+    ghost reader = { p.name_at };
+
+    ghost falls = { further_clock_falls.at };
+
+    fn read<'a>(alloc: Global, tokens: &'a [Token]) -> Result<(Spot, &'a [Token]), Stop<'a>> {
+        name_at(alloc, tokens)
+    }
+}

@@ -1,0 +1,59 @@
+//! What is read again and again, with nothing between.
+
+ghost use Rattle.std.specs.Prelude.{◌≡◌, map};
+ghost use Rattle.ccsl_grammar.specs.Terminals.{terminals};
+ghost use Rattle.ccsl_grammar.specs.Reader.{took, many};
+ghost use Rattle.ccsl_grammar.specs.Loop.{prefixed};
+ghost use Rattle.ccsl_parse.specs.Gives.{Gives};
+
+use crate::stop::Stop;
+use ccsl_base::Seq;
+use ccsl_lex::Token;
+use std::alloc::Global;
+
+/// What may stand any number of times. `room` is the number of levels that its expressions have.
+pub trait Repeated: Drop {
+    ghost use Rattle.std.specs.Prelude.{ℕ, Bool, List, length, ◌<◌};
+    ghost use Rattle.ccsl_grammar.specs.Terminals.{Terminal};
+    ghost use Rattle.ccsl_grammar.specs.Reader.{Reader, begins};
+
+    ghost Plain: { Type 0 };
+
+    ghost plain: { Self → Plain };
+
+    ghost starts: { Terminal → Bool };
+
+    ghost reader: { ℕ → Reader Plain };
+
+    /// Whether one more begins here.
+    fn begins(tokens: &[Token]) -> bool
+        ensures { result ≡ begins starts (terminals tokens.now) };
+
+    fn read<'a>(
+        alloc: Global,
+        room: u32,
+        tokens: &'a [Token],
+    ) -> Result<(Self, &'a [Token]), Stop<'a>>
+        ensures { Gives (λ x. took (plain x.0) (terminals x.1.now)) result (reader room (terminals tokens.now)) };
+
+    ghost falls: { (room : ℕ) (ts : List Terminal) (v : Plain) (rest : List Terminal) → reader room ts ≡ took v rest → length rest < length ts };
+}
+
+/// As many as stand here, behind the first ones.
+pub fn many_at<'a, T: Repeated>(
+    alloc: Global,
+    room: u32,
+    first: Vec<T>,
+    tokens: &'a [Token],
+) -> Result<(Seq<T>, &'a [Token]), Stop<'a>>
+    ensures { Gives (λ x. took (map T.plain x.0) (terminals x.1.now)) result (prefixed (map T.plain first.items) (many T.starts (T.reader room) (terminals tokens.now))) }
+{
+    let mut members = first;
+    let mut rest = tokens;
+    'turns: while T::begins(rest) {
+        let (item, after) = T::read(alloc, room, rest)?;
+        members.push(item)?;
+        rest = after;
+    }
+    Ok((Seq::new(members), rest))
+}

@@ -1,0 +1,53 @@
+//! The tests of an `if`.
+
+ghost use Rattle.std.specs.Prelude.{◌≡◌};
+ghost use Rattle.ccsl_grammar.specs.Terminals.{terminals};
+ghost use Rattle.ccsl_grammar.specs.Reader.{took};
+ghost use Rattle.ccsl_grammar.specs.Parser.{comparison_at, test_at};
+ghost use Rattle.ccsl_parse.specs.Gives.{Gives};
+
+use crate::leaf::{begins_symbol, begins_word, name_at, symbol_at, word_at};
+use crate::stop::Stop;
+use crate::term::term_at;
+use ccsl_ast::{Term, Test};
+use ccsl_lex::{Reserved, Token};
+use std::alloc::Global;
+
+/// What stands behind a test's first term.
+#[tactic(auto, unfolding(ccsl_grammar::specs::Parser::comparison_at))]
+fn comparison_at<'a>(
+    alloc: Global,
+    left: Term,
+    tokens: &'a [Token],
+) -> Result<(Test, &'a [Token]), Stop<'a>>
+    ensures { Gives (λ x. took x.0 (terminals x.1.now)) result (comparison_at left (terminals tokens.now)) }
+{
+    if begins_symbol(tokens, b'=') {
+        let rest = symbol_at(tokens, b'=')?;
+        let (right, rest) = term_at(alloc, rest)?;
+        Ok((Test::Equal(left, right), rest))
+    } else {
+        let rest = symbol_at(tokens, b'<')?;
+        let (right, rest) = term_at(alloc, rest)?;
+        Ok((Test::Less(left, right), rest))
+    }
+}
+
+/// What an `if` asks.
+#[tactic(auto, unfolding(ccsl_grammar::specs::Parser::test_at))]
+pub fn test_at<'a>(alloc: Global, tokens: &'a [Token]) -> Result<(Test, &'a [Token]), Stop<'a>>
+    ensures { Gives (λ x. took x.0 (terminals x.1.now)) result (test_at (terminals tokens.now)) }
+{
+    if begins_word(tokens, Reserved::Head) {
+        let rest = word_at(tokens, Reserved::Head)?;
+        let (name, rest) = name_at(alloc, rest)?;
+        Ok((Test::Head(name), rest))
+    } else if begins_word(tokens, Reserved::Ended) {
+        let rest = word_at(tokens, Reserved::Ended)?;
+        let (name, rest) = name_at(alloc, rest)?;
+        Ok((Test::Ended(name), rest))
+    } else {
+        let (left, rest) = term_at(alloc, tokens)?;
+        comparison_at(alloc, left, rest)
+    }
+}
