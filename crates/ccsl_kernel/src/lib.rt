@@ -25,3 +25,6 @@ pub use group::{Body, Group, ParamKind};
 pub use parts::Parts;
 pub use plain::plain_formula;
 pub use system::System;
+
+#[cfg(test)]
+mod tests;

@@ -3,6 +3,7 @@
 ghost use Rattle.std.specs.Prelude.{◌≡◌, ◌<◌, length, map, slice_get, Some, option_map};
 ghost use Rattle.ccsl_kernel.specs.Syntax.{item_count, body_of};
 ghost use Rattle.ccsl_kernel.specs.Plain.{plain_expr, plain_body, plain_group, plain_system};
+ghost use Rattle.ccsl_kernel.specs.Cells.{cells};
 ghost use Rattle.ccsl_kernel.specs.Accepted.{IsAccepted};
 
 use crate::constraint::Constraint;
@@ -14,14 +15,16 @@ use ccsl_formula::Scope;
 use ccsl_words::Word;
 use std::marker::Model;
 
-/// An expanded specification that is accepted.
+/// An expanded specification that is accepted, with the count of its cells.
 #[derive(Drop)]
 pub struct System {
     parts: Parts,
+    count: u32,
 }
 
 impl Model for System {
     ghost use Rattle.ccsl_kernel.specs.Syntax.{System as Plain};
+    ghost use Rattle.std.specs.Prelude.{◌≡◌};
     ghost use Rattle.std.specs.Coded.{codes};
     ghost use Rattle.ccsl_kernel.specs.Coded.{coded_expression};
 
@@ -30,20 +33,22 @@ impl Model for System {
     ghost coded = { Prim.hlevel (codes, coded_expression) };
 
     ghost use Rattle.ccsl_kernel.specs.Plain.{plain_system};
+    ghost use Rattle.ccsl_kernel.specs.Cells.{cells};
     ghost use Rattle.ccsl_kernel.specs.Accepted.{IsAccepted};
 
     ghost view = { λ s. plain_system s.parts };
 
-    ghost invariant = { λ s. IsAccepted (plain_system s.parts) };
+    ghost invariant = { λ s. IsAccepted (plain_system s.parts) × (s.count ≡ cells (plain_system s.parts)) };
 }
 
 impl System {
-    /// The system of accepted parts. It takes no memory.
-    pub fn assemble(parts: Parts) -> System
-        requires { IsAccepted (plain_system parts) }
+    /// The system of accepted parts. It takes no memory, and so it is handed the count of cells, as [`Parts::cells`] answers it.
+    pub fn assemble(parts: Parts, count: u32) -> System
+        requires accepted { IsAccepted (plain_system parts) }
+        requires cells { count ≡ cells (plain_system parts) }
         ensures { result ≡ plain_system parts }
     {
-        System { parts }
+        System { parts, count }
     }
 
     /// The names of the clocks, by number.
@@ -87,6 +92,14 @@ impl System {
         ensures { result ≡ item_count self.now }
     {
         (self.parts.definitions.members().len() + self.parts.constraints.members().len()) as u32
+    }
+
+    /// The cells of the system's states. They are kept from the assembly on: a count that takes no memory would count each call of
+    /// an expression anew, one within another, and take too long.
+    pub fn cells(&self) -> u32
+        ensures { result ≡ cells self.now }
+    {
+        self.count
     }
 
     /// The expression that defines clock number `declared + i`.
