@@ -60,6 +60,13 @@ fn a_third_line_closes_or_not(rt: HostRuntime) -> Result<(), Fail> {
         third_line(alloc, Line::Item(1, lits(alloc, &[])?))?,
         bad(3)
     );
+    assert_eq!(rt;
+        third_line(
+            alloc,
+            Line::Item(0, lits(alloc, &[(0, false), (0, false)])?)
+        )?,
+        bad(3)
+    );
     Ok(())
 }
 
@@ -87,6 +94,36 @@ fn two_names(alloc: Global) -> Result<Names, ccsl_base::Memory> {
     Ok(names)
 }
 
+/// What the checker says of the lines of a text, against `not a` where `a` is the one declared clock.
+fn judged(alloc: Global, names: &Names, text: &str) -> Result<Result<(), CheckFault>, CertFault> {
+    let lines = read(alloc, text.as_bytes(), names)?;
+    let formulas = vec![in alloc; Formula::Not(Box::new(alloc, Formula::Var(0))?)]?;
+    let scope = Scope {
+        declared: 1,
+        named: 2,
+    };
+    Ok(check(alloc, &lines, &formulas, &scope))
+}
+
+#[test]
+fn texts_that_are_certificates_or_not(rt: HostRuntime) -> Result<(), Fail> {
+    let names = two_names(rt.alloc())?;
+    let bad = |number: u64| Ok(Err(CheckFault::BadLine(number)));
+    let table = [
+        ("n\ni 0 -a\nr from 1 2\n", Ok(Ok(()))),
+        ("n\r\n\r\ni 00 -a\r\nr from 01 2", Ok(Ok(()))),
+        ("n\ni 0 -a\nr from 1\n", bad(3)),
+        ("", bad(1)),
+        ("\n", bad(1)),
+        ("n\ni 0 -a\n", bad(3)),
+        ("n\nx", Err(CertFault::Syntax(2))),
+    ];
+    for (text, expected) in table {
+        assert_eq!(rt; judged(rt.alloc(), &names, text), expected, "at {text}");
+    }
+    Ok(())
+}
+
 /// How many lines a text reads as, or its first fault.
 fn count(alloc: Global, names: &Names, text: &str) -> Result<usize, CertFault> {
     let lines = read(alloc, text.as_bytes(), names)?;
@@ -104,9 +141,11 @@ fn texts_and_their_first_faults(rt: HostRuntime) -> Result<(), Fail> {
         ("n\r\n\n \t\r\n\tr a  -from_b\tfrom\t007", Ok(2)),
         ("i 0004294967295 a a", Ok(1)),
         ("r from 00018446744073709551615", Ok(1)),
+        ("r from", Ok(1)),
         ("n\nx", syntax(2)),
         ("n n", syntax(2)),
         ("n\r", syntax(0)),
+        ("n\r\r\n", syntax(0)),
         ("from", syntax(0)),
         ("i\r\nn", syntax(1)),
         ("i 4294967296 a", syntax(2)),
