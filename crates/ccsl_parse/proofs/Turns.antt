@@ -28,11 +28,7 @@ pub led : {A B : Type 0} (first : A) (r : Reply (List A)) (vs : List A) (rest : 
 led first (took ts z) vs rest g e = let a : first ∷ ts ≡ vs = cc in let b : z ≡ rest = cc in rw (← a, ← b) refl
 led first (stopped k z) vs rest g e = absurd cc
 
+-- and where what was read with its first element in front stopped
 pub led_stops : {A B : Type 0} (first : A) (r : Reply (List A)) (k : Fault) (rest : List Terminal) (g : List A → Reader B) → prefixed (first ∷ []) r ≡ stopped k rest → followed r g ≡ stopped k rest
 led_stops first (took ts z) k rest g e = absurd cc
 led_stops first (stopped j z) k rest g e = let a : j ≡ k = cc in let b : z ≡ rest = cc in rw (← a, ← b) refl
-
-pub led_fails : {A B : Type 0} (first : A) (r : Reply (List A)) (e : Stop) (g : List A → Reader B) → Fails e (prefixed (first ∷ []) r) → Fails e (followed r g)
-led_fails first r Memory g h = tt
-led_fails first r (Syntax rest) g h = led_stops first r no_syntax (terminals rest.now) g h
-led_fails first r (TooDeep rest) g h = led_stops first r too_deep (terminals rest.now) g h

@@ -1,3 +1,3 @@
+pub mod Answered
 pub mod Gives
 pub mod Pieces
-pub mod Answered

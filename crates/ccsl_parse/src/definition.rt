@@ -1,9 +1,8 @@
 //! Definitions of relations and of groups of expressions.
 
-ghost use Rattle.std.specs.Prelude.{◌≡◌};
 ghost use Rattle.ccsl_ast.specs.Trees.{PlainMember, PlainDefinition, plain_member, plain_definition};
 ghost use Rattle.ccsl_grammar.specs.Terminals.{terminals, is_word};
-ghost use Rattle.ccsl_grammar.specs.Reader.{took, begins};
+ghost use Rattle.ccsl_grammar.specs.Reader.{took};
 ghost use Rattle.ccsl_grammar.specs.Parser.{relation_at, member_at, further_member_at, group_at, definition_at, is_definition};
 ghost use Rattle.ccsl_lex.specs.declared.reserved.Reserved.TheVariants as w;
 ghost use Rattle.ccsl_grammar.proofs.Loop.{further_member_falls, definition_falls};

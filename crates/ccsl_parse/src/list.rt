@@ -16,7 +16,7 @@ use std::alloc::Global;
 
 /// What stands in lists with commas.
 pub trait Listed: Drop {
-    ghost use Rattle.std.specs.Prelude.{ℕ, List, length, ◌<◌};
+    ghost use Rattle.std.specs.Prelude.{List, length, ◌<◌};
     ghost use Rattle.ccsl_grammar.specs.Terminals.{Terminal};
     ghost use Rattle.ccsl_grammar.specs.Reader.{Reader};
 

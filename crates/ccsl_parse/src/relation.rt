@@ -1,7 +1,6 @@
 //! The relations of the language between two clocks.
 
-ghost use Rattle.std.specs.Prelude.{◌≡◌};
-ghost use Rattle.ccsl_grammar.specs.Terminals.{terminal, terminals};
+ghost use Rattle.ccsl_grammar.specs.Terminals.{terminals};
 ghost use Rattle.ccsl_grammar.specs.Reader.{took, accept};
 ghost use Rattle.ccsl_grammar.specs.Parser.{relop_of, precedes_at, relop_at};
 ghost use Rattle.ccsl_parse.specs.Gives.{Gives};

@@ -1,6 +1,5 @@
 //! The tests of an `if`.
 
-ghost use Rattle.std.specs.Prelude.{◌≡◌};
 ghost use Rattle.ccsl_grammar.specs.Terminals.{terminals};
 ghost use Rattle.ccsl_grammar.specs.Reader.{took};
 ghost use Rattle.ccsl_grammar.specs.Parser.{comparison_at, test_at};

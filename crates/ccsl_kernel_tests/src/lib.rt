@@ -1,0 +1,17 @@
+//! Small systems, written as texts, and when their clocks tick over lists of steps.
+#![tactic(auto)]
+
+#[cfg(test)]
+mod counts;
+#[cfg(test)]
+mod limits;
+#[cfg(test)]
+mod parts;
+#[cfg(test)]
+mod postfix;
+#[cfg(test)]
+mod refused;
+#[cfg(test)]
+mod run;
+#[cfg(test)]
+mod ticks;
