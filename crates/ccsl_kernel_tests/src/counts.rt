@@ -1,19 +1,14 @@
 //! Numbers of clocks and definitions, and names, that are accepted, and such that are not.
 
 use crate::parts::{add_name, parts};
-use ccsl_base::{Memory, Names, Seq};
+use ccsl_base::{Memory, Names};
+use ccsl_kernel::Parts;
 use std::alloc::Global;
 use std::test::*;
 
 #[test]
 fn declared_and_written_clocks(rt: HostRuntime) -> Result<(), Fail> {
-    let table = [
-        (3, 4, true),
-        (3, 2, false),
-        (3, 5, false),
-        (2, 4, false),
-        (4, 4, false),
-    ];
+    let table = [(3, 4, true), (3, 5, false), (2, 4, false), (4, 4, false)];
     for (declared, written, accepted) in table {
         let mut parts = parts(rt.alloc(), &[], &["a 1 delay"])?;
         parts.declared = declared;
@@ -27,13 +22,30 @@ fn declared_and_written_clocks(rt: HostRuntime) -> Result<(), Fail> {
     Ok(())
 }
 
-/// The names a, b, c and one more.
-fn with_name(alloc: Global, name: &str) -> Result<Names, Memory> {
+fn names_of(alloc: Global, list: &[&str]) -> Result<Names, Memory> {
     let mut names = Names::new(alloc);
-    for name in ["a", "b", "c", name] {
+    for name in list {
         add_name(&mut names, name.as_bytes())?;
     }
     Ok(names)
+}
+
+/// Parts with two written clocks and two hidden ones, of which so many are declared.
+fn half_hidden(alloc: Global, declared: u32, defined: &[&str]) -> Result<Parts, Fail> {
+    let mut parts = parts(alloc, &[], defined)?;
+    parts.names = names_of(alloc, &["a", "b", "c@0", "x@0"])?;
+    parts.declared = declared;
+    parts.written = 2;
+    Ok(parts)
+}
+
+#[test]
+fn declared_clocks_are_written(rt: HostRuntime) -> Result<(), Fail> {
+    let two = half_hidden(rt.alloc(), 2, &["a", "a"])?;
+    assert!(rt; two.accepted(rt.alloc())?);
+    let three = half_hidden(rt.alloc(), 3, &["a"])?;
+    assert!(rt; !three.accepted(rt.alloc())?);
+    Ok(())
 }
 
 #[test]
@@ -58,7 +70,7 @@ fn names_of_clocks(rt: HostRuntime) -> Result<(), Fail> {
     ];
     for (written, name, accepted) in table {
         let mut parts = parts(rt.alloc(), &[], &["a 1 delay"])?;
-        parts.names = with_name(rt.alloc(), name)?;
+        parts.names = names_of(rt.alloc(), &["a", "b", "c", name])?;
         parts.written = written;
         assert_eq!(rt; parts.accepted(rt.alloc())?, accepted, "{name}");
     }

@@ -25,6 +25,8 @@ pub fn clock_number(letter: u8) -> Option<u32> {
 fn operator(word: &str) -> Option<ExprOp> {
     match word {
         "union" => Some(ExprOp::Union),
+        "inter" => Some(ExprOp::Inter),
+        "minus" => Some(ExprOp::Minus),
         "inf" => Some(ExprOp::Inf),
         "sup" => Some(ExprOp::Sup),
         "upto" => Some(ExprOp::Upto),

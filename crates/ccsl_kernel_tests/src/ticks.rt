@@ -24,6 +24,11 @@ fn operators_tick_and_die(rt: HostRuntime) -> Result<(), Fail> {
         ("a b upto", "ac abc ac", "100 101"),
         ("a 0 0 filter", "ac ac a ac", "1010 1011"),
         ("never a then", "ac ac ac ac", "0000 0000"),
+        ("a b union", "a b ab c", "1110 1110"),
+        ("a b inter", "a b ab c", "0010 0010"),
+        ("a b minus", "a b ab c", "1000 1000"),
+        ("a b sup", "a a b ab", "0011 0011"),
+        ("a 2 delay", "a a a b", "0010 0010"),
     ];
     for (x, steps, want) in rows {
         let found = followed(rt.alloc(), &[], x, steps)?;
