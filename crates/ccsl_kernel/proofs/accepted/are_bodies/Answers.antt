@@ -1,9 +1,8 @@
-use Rattle.std.proofs.Common.{◌≡◌, ℕ, ◌+◌, ◌<◌, List, get_or, map, refl, sym, ap, subst, ◌∙◌, zero-add, arith}
+use Rattle.std.proofs.Common.{ℕ, List, get_or, refl, sym, ap, subst, ◌∙◌, zero-add, arith}
 use Rattle.std.specs.Prelude.{All}
 use Rattle.std.proofs.lemmas.Bool.{false≢true}
 use Rattle.std.proofs.lemmas.List.Elements.{All-map}
 use Rattle.ccsl_kernel.specs.declared.group.Group.{Group}
-use Rattle.ccsl_kernel.specs.declared.group.Body.{Body as BoxedBody}
 use Rattle.ccsl_kernel.specs.Syntax.{Body, System}
 use Rattle.ccsl_kernel.specs.Plain.{plain_body, plain_group, plain_system}
 use Rattle.ccsl_kernel.specs.Accepted.{IsBody}

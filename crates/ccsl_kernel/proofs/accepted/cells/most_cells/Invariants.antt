@@ -1,4 +1,4 @@
-use Rattle.std.proofs.Common.{◌≡◌, length, map, min, take}
+use Rattle.std.proofs.Common.{◌≡◌, map, min, take}
 use Rattle.ccsl_kernel.specs.Plain.{plain_body}
 use Rattle.ccsl_kernel.specs.Cells.{greatest, cells_in}
 use Rattle.ccsl_kernel.proofs.accepted.cells.most_cells.Given as goal

@@ -1,4 +1,4 @@
-use Rattle.std.proofs.Common.{ℕ, List, length, min, ap, ◌∙◌}
+use Rattle.std.proofs.Common.{List, length, min, ap, ◌∙◌}
 use Rattle.ccsl_kernel.specs.declared.group.Body.{Body as BoxedBody}
 use Rattle.ccsl_kernel.specs.declared.group.ParamKind.{ParamKind}
 use Rattle.ccsl_kernel.specs.Syntax.{Body}

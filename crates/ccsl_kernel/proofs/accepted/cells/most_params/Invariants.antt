@@ -1,6 +1,6 @@
 use Rattle.std.proofs.Common.{◌≡◌, length, map, min, take}
 use Rattle.ccsl_kernel.specs.Plain.{plain_body}
-use Rattle.ccsl_kernel.specs.Cells.{greatest, cells_in}
+use Rattle.ccsl_kernel.specs.Cells.{greatest}
 use Rattle.ccsl_kernel.proofs.accepted.cells.most_params.Given as goal
 
 abbrev pub invariant-loop-member : goal.invariant-loop-member

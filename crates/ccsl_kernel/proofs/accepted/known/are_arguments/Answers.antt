@@ -1,7 +1,6 @@
-use Rattle.std.proofs.Common.{◌≡◌, ℕ, ◌<◌, get_or, length, map, sym, subst, refl, arith, ◌∙◌}
+use Rattle.std.proofs.Common.{get_or, map, sym, subst, refl, arith, ◌∙◌}
 use Rattle.std.proofs.lemmas.Bool.{false≢true}
 use Rattle.ccsl_kernel.specs.declared.expr.Value.{Value}
-use Rattle.ccsl_kernel.specs.declared.group.ParamKind.{ParamKind}
 use Rattle.ccsl_kernel.specs.declared.group.ParamKind.TheVariants as kind
 use Rattle.ccsl_kernel.specs.Plain.{plain_group}
 use Rattle.ccsl_kernel.specs.Accepted.{IsArgument}

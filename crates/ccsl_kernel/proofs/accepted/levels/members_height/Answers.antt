@@ -1,4 +1,4 @@
-use Rattle.std.proofs.Common.{◌≡◌, ℕ, ◌+◌, map, take, max, ap, ap₂, ◌∙◌}
+use Rattle.std.proofs.Common.{max, ap, ap₂, ◌∙◌}
 use Rattle.ccsl_kernel.specs.declared.group.Body.{Body as BoxedBody}
 use Rattle.ccsl_kernel.specs.Syntax.{Body}
 use Rattle.ccsl_kernel.specs.Plain.{plain_body}

@@ -1,4 +1,4 @@
-use Rattle.std.proofs.Common.{◌≡◌, ℕ, [], List, length, map, min, sum, ap, ap₂, ◌∙◌, arith}
+use Rattle.std.proofs.Common.{◌≡◌, ℕ, [], List, length, map, sum, ap, ap₂, ◌∙◌, arith}
 use Rattle.ccsl_kernel.specs.declared.constraint.Constraint.{Constraint}
 use Rattle.ccsl_kernel.specs.declared.expr.Expr.{Expr}
 use Rattle.ccsl_kernel.specs.declared.group.Group.{Group}
