@@ -1,2 +1,6 @@
-pub mod Members
+pub mod Picked
+pub mod Words
 pub mod Tables
+pub mod ReservedWords
+pub mod Digits
+pub mod Sets

@@ -3,8 +3,14 @@
 
 pub mod clock_set;
 pub mod command_word;
+pub mod laws;
+pub mod limits;
+pub mod members;
 pub mod memory;
+pub mod name;
 pub mod names;
+pub mod numeral;
+pub mod reserved;
 pub mod rows;
 pub mod seq;
 #[cfg(test)]
@@ -13,11 +19,17 @@ pub mod text;
 
 pub use clock_set::ClockSet;
 pub use command_word::CommandWord;
+pub use limits::{
+    BLOCK_ROWS, MAX_CALL_LEVELS, MAX_CELLS, MAX_CLOCKS, MAX_CODE_BYTES, MAX_CONSTRAINTS, MAX_DELAY,
+    MAX_FILE_BYTES, MAX_LETTERS, MAX_LEVELS, MAX_NAME_BYTES, MAX_NUMBER, MAX_PARAMS, MAX_SCOPES,
+    MAX_SPEC_BYTES, MAX_STEPS, MAX_TOKEN_BYTES, MAX_VARS, MAX_WORKERS,
+};
+pub use members::Members;
 pub use memory::Memory;
+pub use name::{is_digit, is_inner, is_letter, is_name, is_reserved, is_word};
 pub use names::Names;
+pub use numeral::decimal;
+pub use reserved::Reserved;
 pub use rows::{Block, Row};
 pub use seq::Seq;
 pub use text::Text;
-
-/// The most named clocks of a system.
-pub const MAX_CLOCKS: u32 = 64;

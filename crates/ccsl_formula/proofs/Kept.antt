@@ -1,15 +1,14 @@
--- What the two words of a partial assignment say of a clock.
-use Rattle.std.proofs.Common.{◌≡◌, ◌≢◌, ℕ, ◌<◌, ◌≤◌, List, [], ◌∷◌, map, Bool, true, cond, ◌||◌, refl, sym, ap, ◌∙◌, ⊎_elim, arith, nat_eq}
+-- What the two sets of a partial assignment say of a clock.
+use Rattle.std.proofs.Common.{◌≡◌, ◌≢◌, ℕ, List, [], ◌∷◌, map, Bool, true, false, cond, ◌||◌, refl, sym, ap, ap₂, ◌∙◌, ⊎_elim, nat_eq}
 use Rattle.std.proofs.Math.Path.{fun_ext}
-use Rattle.std.proofs.lemmas.Bool.{cases_eq, cases_lt, eq-eqb, ne_eqb}
-use Rattle.ccsl_base.specs.Bits.{is_set, members_from}
-use Rattle.ccsl_base.specs.Clocks.{ticks_in, is_ascending, are_below}
-use Rattle.ccsl_base.proofs.Members.{ticks_in-members, ticks_in-past, members-ascending, members-below, members-zero}
+use Rattle.std.proofs.lemmas.Bool.{cases_eq, eq-eqb, ne_eqb}
+use Rattle.ccsl_base.specs.Clocks.{ticks_in, with_clock, without_clock}
+use Rattle.ccsl_base.proofs.Sets.{ticks_in-with_same, ticks_in-with_other, ticks_in-without_same, ticks_in-without_other}
 use Rattle.ccsl_formula.specs.declared.truth3.Truth3.{Truth3}
 use Rattle.ccsl_formula.specs.declared.truth3.Truth3.TheVariants.{Open}
 use Rattle.ccsl_formula.specs.Truth.{known_as}
-use Rattle.ccsl_formula.specs.Known.{known, clocks, with_truth}
-use Rattle.ccsl_formula.specs.Kept.{pairs_of, kept_value}
+use Rattle.ccsl_formula.specs.Known.{known, clocks, with_value, with_truth}
+use Rattle.ccsl_formula.specs.Kept.{pairs_of}
 
 test_same : {A : Type 0} (x y : ℕ) (a b : A) → x ≡ y → cond (nat_eq x y) a b ≡ a
 test_same x y a b e = ap (λ t. cond t a b) (eq-eqb x y e)
@@ -28,52 +27,49 @@ known-paired truth (y ∷ ys) x =
     ∙ sym (ap (λ b. cond (b || ticks_in x ys) (known_as (truth x)) Open) (ne_eqb x y other)))
     (cases_eq x y)
 
-pub known-inside : (valued truth x : ℕ) → x < 64 → known (pairs_of valued truth) x ≡ kept_value valued truth x
-known-inside valued truth x inside =
-    known-paired (is_set truth) (members_from valued 0 64) x
-    ∙ ap (λ b. cond b (known_as (is_set truth x)) Open) (ticks_in-members valued 0 64 x (omega arith) (omega arith))
-
-pub known-past : (valued truth x : ℕ) → 64 ≤ x → known (pairs_of valued truth) x ≡ Open
-known-past valued truth x past =
-    known-paired (is_set truth) (members_from valued 0 64) x
-    ∙ ap (λ b. cond b (known_as (is_set truth x)) Open) (ticks_in-past valued 0 64 x past)
-
-pub pairs-none : (truth : ℕ) → pairs_of 0 truth ≡ []
-pairs-none truth = ap (map (λ x. (x, is_set truth x))) (members-zero 0 64)
+-- what the two sets say of a clock
+pub known-pairs : (valued truth : List ℕ) (x : ℕ) → known (pairs_of valued truth) x ≡ cond (ticks_in x valued) (known_as (ticks_in x truth)) Open
+known-pairs valued truth x = known-paired (λ y. ticks_in y truth) valued x
 
 clocks-paired : (truth : ℕ → Bool) (xs : List ℕ) → clocks (map (λ y. (y, truth y)) xs) ≡ xs
 clocks-paired truth [] = refl
 clocks-paired truth (x ∷ xs) = ap (λ ys. x ∷ ys) (clocks-paired truth xs)
 
-pub pairs-ascending : (valued truth : ℕ) → is_ascending (clocks (pairs_of valued truth)) ≡ true
-pairs-ascending valued truth = ap is_ascending (clocks-paired (is_set truth) (members_from valued 0 64)) ∙ members-ascending valued 0 64
+pub clocks-pairs : (valued truth : List ℕ) → clocks (pairs_of valued truth) ≡ valued
+clocks-pairs valued truth = clocks-paired (λ y. ticks_in y truth) valued
 
-pub pairs-below : (valued truth : ℕ) → are_below 64 (clocks (pairs_of valued truth)) ≡ true
-pairs-below valued truth = ap (are_below 64) (clocks-paired (is_set truth) (members_from valued 0 64)) ∙ members-below valued 0 64 64 (omega arith)
-
--- words that differ at one clock alone
-pub known-changed : (valued truth valued' truth' c : ℕ) (t : Truth3) → c < 64 → kept_value valued' truth' c ≡ t →
-    ((x : ℕ) → x < 64 → x ≢ c → kept_value valued' truth' x ≡ kept_value valued truth x) →
+-- sets that differ at one clock alone
+pub known-changed : (valued truth valued' truth' : List ℕ) (c : ℕ) (t : Truth3) →
+    cond (ticks_in c valued') (known_as (ticks_in c truth')) Open ≡ t →
+    ((x : ℕ) → x ≢ c → (ticks_in x valued' ≡ ticks_in x valued) × (ticks_in x truth' ≡ ticks_in x truth)) →
     known (pairs_of valued' truth') ≡ with_truth (known (pairs_of valued truth)) c t
-known-changed valued truth valued' truth' c t inside here others =
+known-changed valued truth valued' truth' c t here others =
     fun_ext
     (λ x.
     ⊎_elim
-    (λ same. ap (known (pairs_of valued' truth')) same ∙ known-inside valued' truth' c inside ∙ here ∙ sym (test_same x c t (known (pairs_of valued truth) x) same))
+    (λ same. ap (known (pairs_of valued' truth')) same ∙ known-pairs valued' truth' c ∙ here ∙ sym (test_same x c t (known (pairs_of valued truth) x) same))
     (λ other.
-    ⊎_elim
-    (λ below. known-inside valued' truth' x below ∙ others x below other ∙ sym (known-inside valued truth x below))
-    (λ past. known-past valued' truth' x past ∙ sym (known-past valued truth x past))
-    (cases_lt x 64)
+    known-pairs valued' truth' x
+    ∙ ap₂ (λ v t. cond v (known_as t) Open) (others x other).0 (others x other).1
+    ∙ sym (known-pairs valued truth x)
     ∙ sym (test_other x c t (known (pairs_of valued truth) x) other))
     (cases_eq x c))
 
--- an open value past the last clock changes nothing
-pub known-unchanged : (valued truth c : ℕ) → 64 ≤ c → known (pairs_of valued truth) ≡ with_truth (known (pairs_of valued truth)) c Open
-known-unchanged valued truth c past =
-    fun_ext
-    (λ x.
-    ⊎_elim
-    (λ same. ap (known (pairs_of valued truth)) same ∙ known-past valued truth c past ∙ sym (test_same x c Open (known (pairs_of valued truth) x) same))
-    (λ other. sym (test_other x c Open (known (pairs_of valued truth) x) other))
-    (cases_eq x c))
+module _ (valued truth : List ℕ) (c : ℕ) where
+  pub known-true : known (pairs_of (with_clock c valued) (with_clock c truth)) ≡ with_value (known (pairs_of valued truth)) c true
+  known-true =
+      known-changed valued truth (with_clock c valued) (with_clock c truth) c (known_as true)
+      (ap₂ (λ v t. cond v (known_as t) Open) (ticks_in-with_same c valued) (ticks_in-with_same c truth))
+      (λ x other. (ticks_in-with_other c x valued other, ticks_in-with_other c x truth other))
+
+  pub known-false : known (pairs_of (with_clock c valued) (without_clock c truth)) ≡ with_value (known (pairs_of valued truth)) c false
+  known-false =
+      known-changed valued truth (with_clock c valued) (without_clock c truth) c (known_as false)
+      (ap₂ (λ v t. cond v (known_as t) Open) (ticks_in-with_same c valued) (ticks_in-without_same c truth))
+      (λ x other. (ticks_in-with_other c x valued other, ticks_in-without_other c x truth other))
+
+  pub known-open : known (pairs_of (without_clock c valued) truth) ≡ with_truth (known (pairs_of valued truth)) c Open
+  known-open =
+      known-changed valued truth (without_clock c valued) truth c Open
+      (ap (λ v. cond v (known_as (ticks_in c truth)) Open) (ticks_in-without_same c valued))
+      (λ x other. (ticks_in-without_other c x valued other, refl))

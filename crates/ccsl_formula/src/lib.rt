@@ -7,8 +7,8 @@ pub mod laws;
 pub mod partial;
 pub mod scope;
 pub mod truth3;
-mod word;
 
+pub use fold::{and, iff, not, or};
 pub use formula::Formula;
 pub use partial::Partial;
 pub use scope::Scope;

@@ -7,15 +7,16 @@ ghost use Rattle.ccsl_formula.specs.Truth.{known_as};
 ghost use Rattle.ccsl_formula.specs.declared.truth3.Truth3.TheVariants.{Open};
 
 use crate::truth3::Truth3;
-use crate::word::{has_bit, with_bit};
-use ccsl_base::MAX_CLOCKS;
+use ccsl_base::{ClockSet, MAX_CLOCKS};
 use std::marker::Model;
 
 /// Truth values of some clocks below [`MAX_CLOCKS`].
 #[derive(Drop)]
 pub struct Partial {
-    valued: u64,
-    truth: u64,
+    // the clocks that have a value
+    valued: ClockSet,
+    // those of them whose value is true, and maybe others
+    truth: ClockSet,
 }
 
 impl Model for Partial {
@@ -33,8 +34,8 @@ impl Partial {
         ensures { result ≡ [] }
     {
         Partial {
-            valued: 0,
-            truth: 0,
+            valued: ClockSet::empty(),
+            truth: ClockSet::empty(),
         }
     }
 
@@ -45,8 +46,8 @@ impl Partial {
         ensures ascending { IsTrue (is_ascending (clocks self.now)) }
         ensures below { IsTrue (are_below MAX_CLOCKS (clocks self.now)) }
     {
-        if clock < MAX_CLOCKS && has_bit(self.valued, clock) {
-            Truth3::known_as(has_bit(self.truth, clock))
+        if self.valued.has(clock) {
+            Truth3::known_as(self.truth.has(clock))
         } else {
             Truth3::Open
         }
@@ -63,22 +64,31 @@ impl Partial {
         }
     }
 
+    /// The clocks that have a value.
+    pub fn clocks(&self) -> &ClockSet
+        ensures { result.now ≡ clocks self.now }
+    {
+        &self.valued
+    }
+
     /// Gives a clock a value, in place of the one that it may have had.
     pub fn set(&mut self, clock: u32, value: bool)
         requires { clock < MAX_CLOCKS }
         ensures { known self.new ≡ with_value (known self.old) clock value }
     {
-        self.valued = with_bit(self.valued, clock, true);
-        self.truth = with_bit(self.truth, clock, value);
+        self.valued.insert(clock);
+        if value {
+            self.truth.insert(clock);
+        } else {
+            self.truth.remove(clock);
+        }
     }
 
     /// Takes away the value of a clock.
     pub fn forget(&mut self, clock: u32)
         ensures { known self.new ≡ with_truth (known self.old) clock Open }
     {
-        if clock < MAX_CLOCKS {
-            self.valued = with_bit(self.valued, clock, false);
-        }
+        self.valued.remove(clock);
     }
 
     /// Takes over what another one says of a clock, also that it has no value.
@@ -97,8 +107,8 @@ impl Partial {
         ensures { result ≡ self.now }
     {
         Partial {
-            valued: self.valued,
-            truth: self.truth,
+            valued: self.valued.copy(),
+            truth: self.truth.copy(),
         }
     }
 }

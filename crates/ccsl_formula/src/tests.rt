@@ -89,18 +89,19 @@ fn the_shape_of_a_formula_counts(rt: HostRuntime) -> Result<(), Fail> {
 #[test]
 fn values_are_set_taken_and_forgotten(rt: HostRuntime) {
     let mut part = Partial::empty();
-    part.set(63, true);
+    part.set(1023, true);
     part.set(0, true);
-    part.set(63, false);
+    part.set(1023, false);
     let mut other = part.copy();
     other.forget(0);
     assert_eq!(rt;
-        (part.get(0), part.get(1), part.get(63), part.get(64)),
+        (part.get(0), part.get(1), part.get(1023), part.get(1024)),
         (Some(true), None, Some(false), None)
     );
-    assert_eq!(rt; (other.get(0), other.get(63)), (None, Some(false)));
+    assert_eq!(rt; (other.get(0), other.get(1023)), (None, Some(false)));
     part.take(&other, 0);
     other.set(1, true);
     part.take(&other, 1);
+    assert_eq!(rt; (other.clocks().len(), other.clocks().has(0)), (2, false));
     assert_eq!(rt; (part.get(0), part.value(1)), (None, Truth3::Yes));
 }

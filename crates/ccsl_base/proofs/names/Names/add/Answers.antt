@@ -1,4 +1,4 @@
-use Rattle.std.proofs.Common.{◌≡◌, ℕ, List, map, length, ◌++◌, ◌∷◌, [], false, true, ap, sym, ◌∙◌, refl, arith, ◌+◌, length-append}
+use Rattle.std.proofs.Common.{◌≡◌, map, length, ◌++◌, ◌∷◌, [], false, true, ap, sym, ◌∙◌, refl, arith, ◌+◌, length-append}
 use Rattle.std.specs.List.{list_any}
 use Rattle.std.proofs.lemmas.List.{length-map}
 use Rattle.std.specs.Str.{bytes_eq}

@@ -1,4 +1,4 @@
-use Rattle.std.proofs.Common.{◌≡◌, ap, sym, ◌∙◌, Some}
+use Rattle.std.proofs.Common.{ap, sym, ◌∙◌}
 use Rattle.ccsl_base.specs.Names.{find_name}
 use Rattle.std.specs.Str.{bytes_eq}
 use Rattle.ccsl_base.proofs.Tables.{position-map, find_name-there}

@@ -1,13 +1,17 @@
-use Rattle.std.proofs.Common.{ap, ap₂, ◌∙◌, cond}
-use Rattle.ccsl_formula.specs.declared.truth3.Truth3.TheVariants.{Open}
-use Rattle.ccsl_formula.specs.Truth.{known_as}
+use Rattle.std.proofs.Common.{ap₂, sym, ◌∙◌}
 use Rattle.ccsl_formula.specs.Known.{known, with_value}
-use Rattle.ccsl_formula.proofs.Kept.{known-changed}
+use Rattle.ccsl_formula.specs.Kept.{pairs_of}
+use Rattle.ccsl_formula.proofs.Kept.{known-true, known-false}
 use Rattle.ccsl_formula.proofs.partial.Partial.set.Goals as goal
 
-pub returns : goal.returns
-returns c =
-    known-changed c.self.inside.valued c.self.inside.truth c.with_bit-self-inside.result c.with_bit-self-inside-2.result c.args.clock (known_as c.args.value) c.requires
-    (ap₂ (λ v t. cond v (known_as t) Open) c.with_bit-self-inside.ensures.here c.with_bit-self-inside-2.ensures.here)
-    (λ x below other. ap₂ (λ v t. cond v (known_as t) Open) (c.with_bit-self-inside.ensures.others x below other) (c.with_bit-self-inside-2.ensures.others x below other))
-    ∙ ap (λ ps. with_value (known ps) c.args.clock c.args.value) c.self.view_is
+pub returns-then-value : goal.returns-then-value
+returns-then-value c =
+    ap₂ (λ v t. known (pairs_of v t)) c.insert.ensures c.insert-then-value.ensures
+    ∙ known-true c.self.inside.valued c.self.inside.truth c.args.clock
+    ∙ ap₂ (λ ps b. with_value (known ps) c.args.clock b) c.self.view_is (sym c.if-value.true)
+
+pub returns-else-value : goal.returns-else-value
+returns-else-value c =
+    ap₂ (λ v t. known (pairs_of v t)) c.insert.ensures c.remove.ensures
+    ∙ known-false c.self.inside.valued c.self.inside.truth c.args.clock
+    ∙ ap₂ (λ ps b. with_value (known ps) c.args.clock b) c.self.view_is (sym c.if-value.false)

@@ -1,41 +1,43 @@
-use Rattle.std.proofs.Common.{ap, sym, ◌∙◌, cond}
-use Rattle.ccsl_base.specs.Bits.{is_set}
-use Rattle.ccsl_base.specs.Clocks.{is_ascending, are_below}
+use Rattle.std.proofs.Common.{◌<◌, ap, sym, ◌∙◌, cond, arith}
+use Rattle.ccsl_base.specs.Clocks.{ticks_in, is_ascending, are_below}
+use Rattle.ccsl_base.proofs.Sets.{member-below}
 use Rattle.ccsl_formula.specs.declared.truth3.Truth3.TheVariants.{Open}
 use Rattle.ccsl_formula.specs.Truth.{known_as}
 use Rattle.ccsl_formula.specs.Known.{known, clocks}
-use Rattle.ccsl_formula.proofs.Kept.{known-inside, known-past, pairs-ascending, pairs-below}
+use Rattle.ccsl_formula.proofs.Kept.{known-pairs, clocks-pairs}
 use Rattle.ccsl_formula.proofs.partial.Partial.value.Goals as goal
-use Rattle.ccsl_formula.proofs.partial.Partial.value.Goals.{else-clock-lt-MAX_CLOCKS-via-then-clock-lt-MAX_CLOCKS+else-has_bit, else-clock-lt-MAX_CLOCKS-via-else-clock-lt-MAX_CLOCKS}
 
-pub returns-then-has_bit-clause-value : goal.returns-then-has_bit-clause-value
-returns-then-has_bit-clause-value c =
+pub returns-then-has-clause-value : goal.returns-then-has-clause-value
+returns-then-has-clause-value c =
     c.known_as.ensures
-    ∙ ap known_as c.has_bit-then-has_bit.ensures
-    ∙ sym (ap (λ b. cond b (known_as (is_set c.self.inside.truth c.args.clock)) Open) (sym c.has_bit.ensures ∙ c.if-has_bit.true))
-    ∙ sym (known-inside c.self.inside.valued c.self.inside.truth c.args.clock c.if-clock-lt-MAX_CLOCKS.true)
+    ∙ ap known_as c.has-then-has.ensures.member
+    ∙ sym (ap (λ b. cond b (known_as (ticks_in c.args.clock c.self.inside.truth)) Open) (sym c.has.ensures.member ∙ c.if-has.true))
+    ∙ sym (known-pairs c.self.inside.valued c.self.inside.truth c.args.clock)
     ∙ ap (λ ps. known ps c.args.clock) c.self.view_is
 
-pub returns-then-has_bit-clause-ascending : goal.returns-then-has_bit-clause-ascending
-returns-then-has_bit-clause-ascending c = ap (λ ps. is_ascending (clocks ps)) (sym c.self.view_is) ∙ pairs-ascending c.self.inside.valued c.self.inside.truth
+pub returns-then-has-clause-past : goal.returns-then-has-clause-past
+returns-then-has-clause-past c past =
+    let inside : c.args.clock < 1024 = member-below 1024 c.self.inside.valued c.args.clock c.has.ensures.below (sym c.has.ensures.member ∙ c.if-has.true) in
+    absurd (omega (arith, inside, past))
 
-pub returns-then-has_bit-clause-below : goal.returns-then-has_bit-clause-below
-returns-then-has_bit-clause-below c = ap (λ ps. are_below 64 (clocks ps)) (sym c.self.view_is) ∙ pairs-below c.self.inside.valued c.self.inside.truth
+pub returns-then-has-clause-ascending : goal.returns-then-has-clause-ascending
+returns-then-has-clause-ascending c =
+    ap (λ ps. is_ascending (clocks ps)) (sym c.self.view_is) ∙ ap is_ascending (clocks-pairs c.self.inside.valued c.self.inside.truth) ∙ c.has.ensures.ascending
 
-pub returns-else-clock-lt-MAX_CLOCKS-clause-value : goal.returns-else-clock-lt-MAX_CLOCKS-clause-value
-returns-else-clock-lt-MAX_CLOCKS-clause-value c =
-    elim c.else-clock-lt-MAX_CLOCKS.branch [
-      | else-clock-lt-MAX_CLOCKS-via-then-clock-lt-MAX_CLOCKS+else-has_bit w ↦
-          sym (ap (λ b. cond b (known_as (is_set c.self.inside.truth c.args.clock)) Open) (sym w.has_bit.ensures ∙ w.if-has_bit.false))
-          ∙ sym (known-inside c.self.inside.valued c.self.inside.truth c.args.clock w.if-clock-lt-MAX_CLOCKS.true)
-          ∙ ap (λ ps. known ps c.args.clock) c.self.view_is
-      | else-clock-lt-MAX_CLOCKS-via-else-clock-lt-MAX_CLOCKS w ↦
-          sym (known-past c.self.inside.valued c.self.inside.truth c.args.clock w.if-clock-lt-MAX_CLOCKS.false)
-          ∙ ap (λ ps. known ps c.args.clock) c.self.view_is
-    ]
+pub returns-then-has-clause-below : goal.returns-then-has-clause-below
+returns-then-has-clause-below c =
+    ap (λ ps. are_below 1024 (clocks ps)) (sym c.self.view_is) ∙ ap (are_below 1024) (clocks-pairs c.self.inside.valued c.self.inside.truth) ∙ c.has.ensures.below
 
-pub returns-else-clock-lt-MAX_CLOCKS-clause-ascending : goal.returns-else-clock-lt-MAX_CLOCKS-clause-ascending
-returns-else-clock-lt-MAX_CLOCKS-clause-ascending c = ap (λ ps. is_ascending (clocks ps)) (sym c.self.view_is) ∙ pairs-ascending c.self.inside.valued c.self.inside.truth
+pub returns-else-has-clause-value : goal.returns-else-has-clause-value
+returns-else-has-clause-value c =
+    sym (ap (λ b. cond b (known_as (ticks_in c.args.clock c.self.inside.truth)) Open) (sym c.has.ensures.member ∙ c.if-has.false))
+    ∙ sym (known-pairs c.self.inside.valued c.self.inside.truth c.args.clock)
+    ∙ ap (λ ps. known ps c.args.clock) c.self.view_is
 
-pub returns-else-clock-lt-MAX_CLOCKS-clause-below : goal.returns-else-clock-lt-MAX_CLOCKS-clause-below
-returns-else-clock-lt-MAX_CLOCKS-clause-below c = ap (λ ps. are_below 64 (clocks ps)) (sym c.self.view_is) ∙ pairs-below c.self.inside.valued c.self.inside.truth
+pub returns-else-has-clause-ascending : goal.returns-else-has-clause-ascending
+returns-else-has-clause-ascending c =
+    ap (λ ps. is_ascending (clocks ps)) (sym c.self.view_is) ∙ ap is_ascending (clocks-pairs c.self.inside.valued c.self.inside.truth) ∙ c.has.ensures.ascending
+
+pub returns-else-has-clause-below : goal.returns-else-has-clause-below
+returns-else-has-clause-below c =
+    ap (λ ps. are_below 1024 (clocks ps)) (sym c.self.view_is) ∙ ap (are_below 1024) (clocks-pairs c.self.inside.valued c.self.inside.truth) ∙ c.has.ensures.below

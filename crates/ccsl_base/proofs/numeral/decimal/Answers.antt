@@ -1,0 +1,17 @@
+use Rattle.std.proofs.Common.{◌≡◌, true, get_or, sym, ◌∙◌, rules, arith}
+use Rattle.ccsl_base.specs.Name.{is_digit}
+use Rattle.ccsl_base.proofs.Digits.{number-over, number-done, number-some}
+use Rattle.ccsl_base.proofs.numeral.decimal.Goals as goal
+
+pub digits-init : goal.digits-init
+digits-init c = record { fits = omega arith; same = number-some c.args.most c.args.text.now (sym c.is_empty.ensures ∙ c.if-is_empty.false) }
+
+pub returns-in_err-value : goal.returns-in_err-value
+returns-in_err-value c =
+    let digit : is_digit (get_or c.digits.rest.now 0 0) ≡ true = search rules in
+    c.from_residual.ensures
+    ∙ sym (number-over c.args.most c.digits.value c.digits.rest.now c.in-len1-up.len_at_least digit c.in_err-value.ensures)
+    ∙ c.digits.invariant.same
+
+pub returns : goal.returns
+returns c = sym (number-done c.args.most c.digits.value c.digits.rest.now c.in_default.len_below c.digits.invariant.fits) ∙ c.digits.invariant.same

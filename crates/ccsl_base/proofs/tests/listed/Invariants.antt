@@ -1,0 +1,6 @@
+use Rattle.std.proofs.Common.{◌≡◌, ◌++◌}
+use Rattle.ccsl_base.proofs.tests.listed.Given as goal
+
+-- the list and what is left are the set
+abbrev pub invariant-loop-clock : goal.invariant-loop-clock
+invariant-loop-clock l = l.list.items ++ l.clock-iterator ≡ l.set
