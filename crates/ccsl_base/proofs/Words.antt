@@ -1,6 +1,6 @@
 -- What words of 64 bits say as a set of clocks.
-use Rattle.std.proofs.Common.{◌≡◌, ◌≢◌, ℕ, zero, suc, ◌+◌, ◌-◌, ◌<◌, ◌≤◌, ◌*◌, ◌/◌, ◌%◌, ◌^◌, List, [], ◌∷◌, length, Bool, true, false, refl, sym, ap, ◌∙◌, ⊎_elim, subst, arith, nat_eq, get_or, slice_set, replicate, add-suc, pow-suc, div-one, take}
-use Rattle.std.specs.Int.{bit_at}
+use Rattle.std.proofs.Common.{◌≡◌, ◌≢◌, ℕ, zero, suc, ◌+◌, ◌-◌, ◌<◌, ◌≤◌, ◌*◌, ◌/◌, ◌%◌, ◌^◌, List, [], ◌∷◌, length, Bool, true, false, refl, sym, ap, ◌∙◌, ⊎_elim, subst, arith, nat_eq, get_or, slice_set, replicate, add-suc, pow-suc, div-one, take, ap₂, ◌||◌, ◌&&◌, not, max, min, bit_or, bit_and}
+use Rattle.std.specs.Int.{bit_at, bit_not, w64}
 use Rattle.std.specs.List.{sum_by}
 use Rattle.std.proofs.lemmas.List.Sums.{sum_by-cons, sum_by_push}
 use Rattle.std.proofs.lemmas.Bool.{eqb-true, cases_eq, cases_lt}
@@ -8,7 +8,7 @@ use Rattle.std.proofs.lemmas.List.{get_or-set_same, get_or-set_other, get_or_pas
 use Rattle.std.proofs.lemmas.Nat.{div_below}
 use Rattle.std.specs.Int.Count.{ones, ones_step}
 use Rattle.std.proofs.Math.Nat.{div-div-eq-div-mul}
-use Rattle.std.proofs.lemmas.Nat.Bits.{bit_at-lt, bit_at-zero}
+use Rattle.std.proofs.lemmas.Nat.Bits.{bit_at-lt, bit_at-zero, bit_at_or, bit_at_and, bit_at_not}
 use Rattle.ccsl_base.specs.Bits.{is_set, bit_of, members_where, members_of, members_left, EmptyFrom, size_of_word}
 use Rattle.ccsl_base.specs.Clocks.{ticks_in, with_clock, without_clock, is_ascending, are_below}
 use Rattle.ccsl_base.proofs.Picked.{members-set, members-clear, members-none, by_test, ticks_in-members, ticks_in-past, with_clock-members, without_clock-members, members-ascending, members-below, members-same, members-empty, members-skip, members-cut, length-split, length-moved, length-most}
@@ -179,6 +179,82 @@ words-without words c word l here others =
 pub words-without-absent : (used : ℕ) (words : List ℕ) (c : ℕ) → EmptyFrom used words → used ≤ c / 64 → without_clock c (members_of words) ≡ members_of words
 words-without-absent used words c empty l =
     without_clock-members (bit_of words) (bit_of words) 0 (64 * length words) c (clear-from used words empty c (omega arith)) (λ x m n o. refl)
+
+-- ---- two sets
+
+-- the words before a place are those of two sets, bit by bit
+pub record Joined (op : Bool → Bool → Bool) (i : ℕ) (words old other : List ℕ) : Type 0 where
+  pub size : length words ≡ length old
+  pub done : (j k : ℕ) → j < i → k < 64 → is_set (get_or words j 0) k ≡ op (is_set (get_or old j 0) k) (is_set (get_or other j 0) k)
+  pub later : (j : ℕ) → i ≤ j → get_or words j 0 ≡ get_or old j 0
+
+pub joined-next : (op : Bool → Bool → Bool) (i : ℕ) (words old other : List ℕ) (word : ℕ) → Joined op i words old other → i < length words →
+    ((k : ℕ) → k < 64 → is_set word k ≡ op (is_set (get_or words i 0) k) (is_set (get_or other i 0) k)) → Joined op (i + 1) (slice_set words i word) old other
+joined-next op i words old other word joined l bits = record {
+  size = length-set words i word ∙ joined.size;
+  done = λ j k m n.
+      ⊎_elim
+      (λ e.
+      ap (λ (w : ℕ). is_set (get_or (slice_set words i word) w 0) k) e
+      ∙ ap (λ (w : ℕ). is_set w k) (get_or-set_same words i word 0 l)
+      ∙ bits k n
+      ∙ ap (λ (w : ℕ). op (is_set w k) (is_set (get_or other i 0) k)) (joined.later i (omega arith))
+      ∙ ap (λ (w : ℕ). op (is_set (get_or old w 0) k) (is_set (get_or other w 0) k)) (sym e))
+      (λ e. ap (λ (w : ℕ). is_set w k) (get_or-set_other words i j word 0 e) ∙ joined.done j k (omega (arith, m, e)) n)
+      (cases_eq j i);
+  later = λ j m. get_or-set_other words i j word 0 (λ q. omega (arith, m, q)) ∙ joined.later j (omega (arith, m));
+}
+
+pub joined-all : (op : Bool → Bool → Bool) (i : ℕ) (words old other : List ℕ) → Joined op i words old other →
+    ((j k : ℕ) → i ≤ j → op (is_set (get_or old j 0) k) (is_set (get_or other j 0) k) ≡ is_set (get_or old j 0) k) →
+    (x : ℕ) → ticks_in x (members_of words) ≡ op (ticks_in x (members_of old)) (ticks_in x (members_of other))
+joined-all op i words old other joined past x =
+    ticks_in-words words x
+    ∙ ⊎_elim
+    (λ l. joined.done (x / 64) (x % 64) l (omega arith))
+    (λ l. ap (λ (w : ℕ). is_set w (x % 64)) (joined.later (x / 64) l) ∙ sym (past (x / 64) (x % 64) l))
+    (cases_lt (x / 64) i)
+    ∙ ap₂ op (sym (ticks_in-words old x)) (sym (ticks_in-words other x))
+
+-- a word that is 0 gives and takes no member
+pub gives-none : (a : Bool) (word k : ℕ) → word ≡ 0 → (a || is_set word k) ≡ a
+gives-none true word k z = refl
+gives-none false word k z = ap (λ w. is_set w k) z ∙ is_set-zero k
+
+pub takes-none : (a : Bool) (word k : ℕ) → word ≡ 0 → (a && not (is_set word k)) ≡ a
+takes-none true word k z = ap (λ w. not (is_set w k)) z ∙ ap not (is_set-zero k)
+takes-none false word k z = refl
+
+pub has-none : (b : Bool) (word k : ℕ) → word ≡ 0 → (is_set word k && b) ≡ is_set word k
+has-none b word k z =
+    let none : is_set word k ≡ false = ap (λ w. is_set w k) z ∙ is_set-zero k in
+    ap (λ a. a && b) none ∙ sym none
+
+bit-or : (a b : ℕ) → a < 2 → b < 2 → nat_eq (max a b) 1 ≡ (nat_eq a 1 || nat_eq b 1)
+bit-or zero zero l m = refl
+bit-or zero (suc zero) l m = refl
+bit-or (suc zero) zero l m = refl
+bit-or (suc zero) (suc zero) l m = refl
+bit-or (suc (suc a)) b l m = absurd (omega arith)
+bit-or zero (suc (suc b)) l m = absurd (omega arith)
+bit-or (suc zero) (suc (suc b)) l m = absurd (omega arith)
+
+pub is_set-or : (a b i : ℕ) → is_set (bit_or a b) i ≡ (is_set a i || is_set b i)
+is_set-or a b i = ap (λ n. nat_eq n 1) (bit_at_or a b i) ∙ bit-or (bit_at a i) (bit_at b i) (bit_at-lt a i) (bit_at-lt b i)
+
+bit-without : (a b : ℕ) → a < 2 → b < 2 → nat_eq (min a (1 - b)) 1 ≡ (nat_eq a 1 && not (nat_eq b 1))
+bit-without zero zero l m = refl
+bit-without zero (suc zero) l m = refl
+bit-without (suc zero) zero l m = refl
+bit-without (suc zero) (suc zero) l m = refl
+bit-without (suc (suc a)) b l m = absurd (omega arith)
+bit-without zero (suc (suc b)) l m = absurd (omega arith)
+bit-without (suc zero) (suc (suc b)) l m = absurd (omega arith)
+
+pub is_set-without : (a b i : ℕ) → b < 2 ^ 64 → i < 64 → is_set (bit_and a (bit_not w64 b)) i ≡ (is_set a i && not (is_set b i))
+is_set-without a b i fits inside =
+    ap (λ n. nat_eq n 1) (bit_at_and a (bit_not w64 b) i ∙ ap (min (bit_at a i)) (bit_at_not w64 b i fits inside))
+    ∙ bit-without (bit_at a i) (bit_at b i) (bit_at-lt a i) (bit_at-lt b i)
 
 -- ---- a walk
 

@@ -1,8 +1,8 @@
 //! Sets of clocks.
 
-ghost use Rattle.std.specs.Prelude.{◌≡◌, ◌<◌, ◌↔◌, [], IsTrue, length};
+ghost use Rattle.std.specs.Prelude.{◌≡◌, ◌<◌, ◌↔◌, ℕ, ◌||◌, ◌&&◌, not, [], IsTrue, length};
 ghost use Rattle.ccsl_base.specs.Clocks.{ticks_in, with_clock, without_clock, is_ascending, are_below};
-ghost use Rattle.ccsl_base.specs.Bits.{size_of_word};
+ghost use Rattle.ccsl_base.specs.Bits.{is_set, size_of_word};
 
 use crate::MAX_CLOCKS;
 use crate::members::Members;
@@ -37,6 +37,20 @@ fn size_of_word(word: u64) -> u32
     word.count_ones()
 }
 
+/// The bits of two words.
+fn either_word(word: u64, other: u64) -> u64
+    ensures { (i : ℕ) → is_set result i ≡ (is_set word i || is_set other i) }
+{
+    word | other
+}
+
+/// The bits of a word that are not another's.
+fn word_without(word: u64, other: u64) -> u64
+    ensures { (i : ℕ) → i < u64.BITS → is_set result i ≡ (is_set word i && not (is_set other i)) }
+{
+    word & !other
+}
+
 impl ClockSet {
     /// The set without members.
     pub fn empty() -> ClockSet
@@ -65,6 +79,25 @@ impl ClockSet {
         let place = (clock / u64::BITS) as usize;
         if place < self.used {
             self.words[place] &= !(1 << (clock % u64::BITS));
+        }
+    }
+
+    /// Makes the members of another set members.
+    pub fn insert_all(&mut self, other: &ClockSet)
+        ensures { (x : ℕ) → ticks_in x self.new ≡ (ticks_in x self.old || ticks_in x other.now) }
+    {
+        for i in 0..other.used {
+            self.words[i] = either_word(self.words[i], other.words[i]);
+        }
+        self.used = self.used.max(other.used);
+    }
+
+    /// Takes the members of another set out.
+    pub fn remove_all(&mut self, other: &ClockSet)
+        ensures { (x : ℕ) → ticks_in x self.new ≡ (ticks_in x self.old && not (ticks_in x other.now)) }
+    {
+        for i in 0..self.used.min(other.used) {
+            self.words[i] = word_without(self.words[i], other.words[i]);
         }
     }
 

@@ -26,7 +26,7 @@ pub use limits::{
 };
 pub use members::Members;
 pub use memory::Memory;
-pub use name::{is_digit, is_inner, is_letter, is_name, is_reserved, is_word};
+pub use name::{is_digit, is_inner, is_letter, is_name, is_quotable, is_reserved, is_word};
 pub use names::Names;
 pub use numeral::decimal;
 pub use reserved::Reserved;

@@ -4,7 +4,7 @@
 pub const MAX_CLOCKS: u32 = 1024;
 
 /// The most constraints of a system.
-pub const MAX_CONSTRAINTS: usize = 4096;
+pub const MAX_CONSTRAINTS: u32 = 4096;
 
 /// The most cells of a system's state.
 pub const MAX_CELLS: u32 = 32_768;
@@ -16,7 +16,7 @@ pub const MAX_LEVELS: u32 = 128;
 pub const MAX_CALL_LEVELS: u32 = 8;
 
 /// The most parameters of a relation, an expression or a group.
-pub const MAX_PARAMS: usize = 8;
+pub const MAX_PARAMS: u32 = 8;
 
 /// The most letters of a word, its prefix and its period together.
 pub const MAX_LETTERS: usize = 4096;
@@ -28,7 +28,7 @@ pub const MAX_DELAY: u32 = 4096;
 pub const MAX_NAME_BYTES: usize = 64;
 
 /// The greatest number in a specification.
-pub const MAX_NUMBER: u64 = 4_294_967_295;
+pub const MAX_NUMBER: u32 = 4_294_967_295;
 
 /// The most bytes of a specification.
 pub const MAX_SPEC_BYTES: u64 = 1_048_576;

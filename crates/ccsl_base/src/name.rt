@@ -3,6 +3,7 @@
 ghost use Rattle.std.specs.Prelude.{◌≡◌};
 ghost use Rattle.std.specs.List.{list_all};
 ghost use Rattle.ccsl_base.specs.Name.{is_letter, is_digit, is_inner, is_word, is_name};
+ghost use Rattle.ccsl_base.specs.Quoted.{is_quotable};
 ghost use Rattle.ccsl_base.specs.ReservedWords.{is_reserved};
 
 use crate::{MAX_NAME_BYTES, Reserved};
@@ -25,6 +26,13 @@ pub fn is_inner(b: u8) -> bool
     ensures { result ≡ is_inner b }
 {
     is_letter(b) || is_digit(b)
+}
+
+/// Whether a byte may stand between quotes.
+pub fn is_quotable(b: u8) -> bool
+    ensures { result ≡ is_quotable b }
+{
+    matches!(b, 32..=126) && b != b'"'
 }
 
 /// Whether a text is a word that the language keeps for itself.

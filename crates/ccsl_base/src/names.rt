@@ -80,4 +80,11 @@ impl Names {
     {
         self.texts.is_empty()
     }
+
+    /// No name is there twice. It does nothing: its contract is the law.
+    pub fn are_distinct(&self)
+        ensures { IsTrue (are_distinct self.now) }
+    {
+        let _ = &self.texts;
+    }
 }

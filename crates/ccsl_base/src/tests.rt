@@ -76,6 +76,16 @@ fn sets_up_to_the_limit(rt: HostRuntime) -> Result<(), Fail> {
     fewer.remove(1023);
     fewer.remove(5);
     fewer.remove(1024);
+    let mut both = ClockSet::empty();
+    both.insert(700);
+    both.insert(63);
+    both.insert_all(&set);
+    assert_eq!(rt;
+        (both.len(), both.has(700), both.has(1023)),
+        (6, true, true)
+    );
+    both.remove_all(&fewer);
+    assert_eq!(rt; listed(alloc, &both)?.as_slice(), [700, 1023].as_slice());
     assert_eq!(rt;
         listed(alloc, &fewer)?.as_slice(),
         [0, 63, 64, 200].as_slice()
@@ -106,6 +116,10 @@ fn names_and_numbers(rt: HostRuntime) {
     }
     let long = [b'x'; MAX_NAME_BYTES + 1];
     assert_eq!(rt; (is_name(&long[1..]), is_name(&long)), (true, false));
+    assert_eq!(rt;
+        (is_quotable(b'"'), is_quotable(b' '), is_quotable(127)),
+        (false, true, false)
+    );
     assert_eq!(rt; Reserved::spelled(b"upto"), Some(Reserved::Upto));
     assert_eq!(rt; Reserved::From.spelling(), b"from".as_slice());
     assert_eq!(rt;
@@ -119,7 +133,7 @@ fn names_and_numbers(rt: HostRuntime) {
     assert_eq!(rt;
         (
             decimal(b"18446744073709551616", u64::MAX),
-            decimal(b"4294967296", MAX_NUMBER)
+            decimal(b"4294967296", u64::from(MAX_NUMBER))
         ),
         (None, None)
     );

@@ -2,7 +2,7 @@
 use Rattle.std.specs.Prelude.{ℕ, List, [], ◌∷◌, Bool, if◌then◌else◌, map, nat_eq}
 use Rattle.ccsl_formula.specs.declared.truth3.Truth3.{Truth3}
 use Rattle.ccsl_formula.specs.declared.truth3.Truth3.TheVariants.{Open}
-use Rattle.ccsl_formula.specs.Truth.{known_as, Part}
+use Rattle.ccsl_formula.specs.Truth.{known_as, is_open, Part}
 
 -- what the pairs say of a clock
 abbrev pub known : List (ℕ × Bool) → Part
@@ -20,3 +20,7 @@ with_value p y b x = if nat_eq x y then known_as b else p x
 -- p, and t at y, where t may be open
 abbrev pub with_truth : Part → ℕ → Truth3 → Part
 with_truth p y t x = if nat_eq x y then t else p x
+
+-- q, and p where q is open
+abbrev pub joined : Part → Part → Part
+joined p q x = if is_open (q x) then p x else q x

@@ -2,10 +2,11 @@
 
 ghost use Rattle.std.specs.Prelude.{◌≡◌, ◌<◌, ◌≤◌, [], IsTrue, MatchOption};
 ghost use Rattle.ccsl_base.specs.Clocks.{is_ascending, are_below};
-ghost use Rattle.ccsl_formula.specs.Known.{known, clocks, with_value, with_truth};
+ghost use Rattle.ccsl_formula.specs.Known.{known, clocks, with_value, with_truth, joined};
 ghost use Rattle.ccsl_formula.specs.Truth.{known_as};
 ghost use Rattle.ccsl_formula.specs.declared.truth3.Truth3.TheVariants.{Open};
 
+use crate::pairs::Pairs;
 use crate::truth3::Truth3;
 use ccsl_base::{ClockSet, MAX_CLOCKS};
 use std::marker::Model;
@@ -15,17 +16,19 @@ use std::marker::Model;
 pub struct Partial {
     // the clocks that have a value
     valued: ClockSet,
-    // those of them whose value is true, and maybe others
+    // those of them whose value is true
     truth: ClockSet,
 }
 
 impl Model for Partial {
     ghost use Rattle.std.specs.Prelude.{List, ℕ, Bool};
-    ghost use Rattle.ccsl_formula.specs.Kept.{pairs_of};
+    ghost use Rattle.ccsl_formula.specs.Kept.{pairs_of, IsWithin};
 
     ghost Value = { List (ℕ × Bool) };
 
     ghost view = { λ p. pairs_of p.valued p.truth };
+
+    ghost invariant = { λ p. IsWithin p.truth p.valued };
 }
 
 impl Partial {
@@ -89,6 +92,7 @@ impl Partial {
         ensures { known self.new ≡ with_truth (known self.old) clock Open }
     {
         self.valued.remove(clock);
+        self.truth.remove(clock);
     }
 
     /// Takes over what another one says of a clock, also that it has no value.
@@ -100,6 +104,24 @@ impl Partial {
             Truth3::No => self.set(clock, false),
             Truth3::Open => self.forget(clock),
         }
+    }
+
+    /// Takes over each value of another one.
+    pub fn join(&mut self, other: &Partial)
+        ensures { known self.new ≡ joined (known self.old) (known other.now) }
+    {
+        self.valued.insert_all(&other.valued);
+        self.truth.remove_all(&other.valued);
+        self.truth.insert_all(&other.truth);
+    }
+
+    /// The clocks that have a value, in ascending order, each with its value.
+    pub fn pairs(&self) -> Pairs<'_>
+        ensures pairs { result ≡ self.now }
+        ensures ascending { IsTrue (is_ascending (clocks self.now)) }
+        ensures below { IsTrue (are_below MAX_CLOCKS (clocks self.now)) }
+    {
+        Pairs::new(self.valued.members(), &self.truth)
     }
 
     /// The same values.

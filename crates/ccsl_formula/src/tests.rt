@@ -1,13 +1,15 @@
 //! Tables of values, from the truth tables of classical logic and of Kleene's strong logic.
 
+ghost use Rattle.std.specs.Prelude.{◌≡◌, IfOk};
+
 use super::*;
 use crate::fold::{and, iff, not, or};
-use ccsl_base::ClockSet;
+use ccsl_base::{ClockSet, Memory};
 use std::alloc::Global;
 use std::test::*;
 
 /// `(0 and not 1) or (1 iff 2)`
-fn sample(alloc: Global) -> Result<Formula, ccsl_base::Memory> {
+fn sample(alloc: Global) -> Result<Formula, Memory> {
     let left = and(alloc, Formula::Var(0), not(alloc, Formula::Var(1))?)?;
     or(alloc, left, iff(alloc, Formula::Var(1), Formula::Var(2))?)
 }
@@ -104,4 +106,43 @@ fn values_are_set_taken_and_forgotten(rt: HostRuntime) {
     part.take(&other, 1);
     assert_eq!(rt; (other.clocks().len(), other.clocks().has(0)), (2, false));
     assert_eq!(rt; (part.get(0), part.value(1)), (None, Truth3::Yes));
+}
+
+/// The values of a partial assignment, by a loop as callers write it.
+fn listed(alloc: Global, part: &Partial) -> Result<Vec<(u32, bool)>, Memory>
+    ensures { IfOk result (λ list. list.items ≡ part.now) }
+{
+    let mut list = Vec::new(alloc);
+    for pair in part.pairs() {
+        list.push(pair)?;
+    }
+    Ok(list)
+}
+
+#[test]
+fn values_are_joined_and_listed(rt: HostRuntime) -> Result<(), Fail> {
+    let mut part = Partial::empty();
+    part.set(3, true);
+    part.set(64, true);
+    let mut other = Partial::empty();
+    other.set(64, false);
+    other.set(1023, true);
+    part.join(&other);
+    let expected = [(3, true), (64, false), (1023, true)];
+    assert_eq!(rt; listed(rt.alloc(), &part)?.as_slice(), expected.as_slice());
+    Ok(())
+}
+
+fn may_be_shared<T: Send + Sync>(_value: &T) {}
+
+#[test]
+fn types_may_be_shared_by_threads() {
+    may_be_shared(&Formula::True);
+    may_be_shared(&Truth3::Open);
+    may_be_shared(&Partial::empty());
+    may_be_shared(&Partial::empty().pairs());
+    may_be_shared(&Scope {
+        declared: 0,
+        named: 0,
+    });
 }
