@@ -2,6 +2,7 @@
 use Rattle.std.proofs.Common.{◌≡◌, ℕ, zero, suc, ◌+◌, ◌-◌, ◌≤◌, List, [], ◌∷◌, All, Bool, true, false, Option, Some, None, slice_get, nat_lt, if◌then◌else◌, refl, sym, ap, subst, arith, ltb-false}
 use Rattle.std.proofs.lemmas.List.Elements.{All-nil, All-cons}
 use Rattle.std.proofs.lemmas.Option.{slice_get_within, get_or_from_slice_get}
+use Rattle.ccsl_base.specs.declared.TheConstants.{MAX_LEVELS}
 use Rattle.ccsl_words.specs.Word.{BinaryWord}
 use Rattle.ccsl_kernel.specs.declared.expr.Place.{Place}
 use Rattle.ccsl_kernel.specs.declared.expr.Place.TheVariants as place
@@ -161,9 +162,9 @@ deep_within (EFilter a w) = let p = deep_leaf a (deep_within a) in omega arith
 deep_within (EDelayed a m d) = let p = deep_leaf a (deep_within a) in let q = deep_leaf d (deep_within d) in omega arith
 deep_within (EIf q a d) = let p = deep_within a in let r = deep_within d in omega arith
 
--- an expression that can be opened: its words' offsets fit and it is at most 129 deep
-pub body_ready : (K : System) (g : ℕ) (b : Body) → IsBody K g b → ExprFits K.words b.root × (deep b.root ≤ 129)
+-- an expression that can be opened: its words' offsets fit and it is at most MAX_LEVELS + 1 deep
+pub body_ready : (K : System) (g : ℕ) (b : Body) → IsBody K g b → ExprFits K.words b.root × (deep b.root ≤ suc MAX_LEVELS)
 body_ready K g b h = (known_fits K.groups K.words 0 b.params b.root h.known, let l = deep_within b.root in let m = h.shallow in omega arith)
 
-pub definition_ready : (K : System) (x : ℕ) (e : Expression) → IsDefinition K x e → ExprFits K.words e × (deep e ≤ 129)
+pub definition_ready : (K : System) (x : ℕ) (e : Expression) → IsDefinition K x e → ExprFits K.words e × (deep e ≤ suc MAX_LEVELS)
 definition_ready K x e h = (known_fits K.groups K.words x [] e h.known, let l = deep_within e in let m = h.shallow in omega arith)

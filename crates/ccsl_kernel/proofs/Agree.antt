@@ -7,8 +7,8 @@ use Rattle.ccsl_kernel.specs.declared.expr.ExprOp.TheVariants as op
 use Rattle.ccsl_kernel.specs.declared.actual.Actual.TheVariants as actual
 use Rattle.ccsl_kernel.specs.Syntax.{Expression, System, root_of}
 use Rattle.ccsl_kernel.specs.Lives.{Step, Life, step_at, ticks_at, operand, over_one, over_two, end_of, at_end, followed_by, joined}
-use Rattle.ccsl_kernel.specs.Actuals.{place_of, number_of, spot_of, value_of, test_of, word_of}
-use Rattle.ccsl_kernel.specs.Table.{Now, Operand, union_row, inter_row, minus_row, inf_row, sup_row, upto_row, sampled_row, sampled_weakly_row, delay_row, await_row, filter_row, delayed_row}
+use Rattle.ccsl_kernel.specs.Actuals.{place_of, number_of, suffix_of, value_of, test_of, word_of}
+use Rattle.ccsl_kernel.specs.Table.{Now, Operand, union_row, inter_row, minus_row, inf_row, sup_row, upto_row, upto_weakly_row, sampled_row, sampled_weakly_row, delay_row, await_row, filter_row, delayed_row}
 use Rattle.ccsl_kernel.specs.Meaning.{named, life, bodies}
 use Rattle.ccsl_kernel.specs.Guarded.{Inner, Tail, Allowed, AreGuarded}
 use Rattle.ccsl_kernel.specs.Rows.{IsTable, CallsAreBodies}
@@ -50,6 +50,7 @@ module _ (T T' : List Step) (N : ℕ) (same : (i : ℕ) → i < N → step_at T 
   joined_agree op.Inf L M L' M' b n h h' l u = two_agree inf_row L M L' M' b n h (h' b (omega arith) (omega arith) (λ e. let z : ⊥ = cc in absurd z)) l u
   joined_agree op.Sup L M L' M' b n h h' l u = two_agree sup_row L M L' M' b n h (h' b (omega arith) (omega arith) (λ e. let z : ⊥ = cc in absurd z)) l u
   joined_agree op.Upto L M L' M' b n h h' l u = two_agree upto_row L M L' M' b n h (h' b (omega arith) (omega arith) (λ e. let z : ⊥ = cc in absurd z)) l u
+  joined_agree op.UptoWeakly L M L' M' b n h h' l u = two_agree upto_weakly_row L M L' M' b n h (h' b (omega arith) (omega arith) (λ e. let z : ⊥ = cc in absurd z)) l u
   joined_agree op.Then L M L' M' b n h h' l u = followed_agree L M L' M' b n h (λ k l u. h' k (omega arith) u (λ e. l)) l u
   joined_agree op.Sampled L M L' M' b n h h' l u = two_agree sampled_row L M L' M' b n h (h' b (omega arith) (omega arith) (λ e. let z : ⊥ = cc in absurd z)) l u
   joined_agree op.SampledWeakly L M L' M' b n h h' l u = two_agree sampled_weakly_row L M L' M' b n h (h' b (omega arith) (omega arith) (λ e. let z : ⊥ = cc in absurd z)) l u
@@ -108,7 +109,7 @@ module _ (K : System) (T T' : List Step) (N : ℕ) (in_T : N ≤ length T) (in_T
       };
       filter = λ a w ρ b u ra. record {
         at = λ n l' u'.
-            let s = spot_of K.words w ρ in
+            let s = suffix_of K.words w ρ in
             rows.filter a w ρ b n l' (omega arith)
             ∙ one_agree T T' N same (filter_row (word_of K.words s.word) s.offset) (M a ρ) (M' a ρ) b n ra l' u'
             ∙ sym (rows'.filter a w ρ b n l' (omega arith));

@@ -10,7 +10,7 @@ use Rattle.ccsl_kernel.specs.declared.expr.ExprOp.TheVariants as op
 use Rattle.ccsl_kernel.specs.declared.actual.Actual.TheVariants as actual
 use Rattle.ccsl_kernel.specs.declared.constraint.RelationKind.TheVariants as kind
 use Rattle.ccsl_kernel.specs.Syntax.{Expression, System}
-use Rattle.ccsl_kernel.specs.Actuals.{place_of, number_of, spot_of, test_of, word_of}
+use Rattle.ccsl_kernel.specs.Actuals.{place_of, number_of, suffix_of, test_of, word_of}
 use Rattle.ccsl_kernel.specs.Ticks.{count, ever, waits, waits_weakly, waits_since}
 use Rattle.ccsl_kernel.specs.Table.{Now}
 use Rattle.ccsl_kernel.specs.Lives.{Step, Life, operand, end_of, at_end, joined}
@@ -26,9 +26,9 @@ use Rattle.ccsl_kernel.proofs.Definitions.{definitions-are, definition_allowed}
 abbrev Idle : Formula → Type 0
 Idle f = eval f [] ≡ false
 
-either : (c : Bool) (f g : Formula) → Idle f → Idle g → Idle (if c then f else g)
-either true f g p q = p
-either false f g p q = q
+chosen : (c : Bool) (f g : Formula) → Idle f → Idle g → Idle (if c then f else g)
+chosen true f g p q = p
+chosen false f g p q = q
 
 -- a conjunction asks for its left side, a disjunction for one of its sides
 and_idle : (f g : Formula) → Idle f → Idle (FAnd f g)
@@ -59,18 +59,19 @@ module _ (K : System) (T : List Step) (gone : ℕ → ℕ → Bool) (ok : AreGua
   joined_idle op.Inf L M b n h h' l u =
       let a = operand T L b n in let d = operand T M b n in
       let p = h n l u in let q = h' b (omega arith) (omega arith) (λ e. let z : ⊥ = cc in absurd z) n l u in
-      either (nat_lt (count d.ticks) (count a.ticks)) a.formula (if nat_lt (count a.ticks) (count d.ticks) then d.formula else FOr a.formula d.formula) p
-      (either (nat_lt (count a.ticks) (count d.ticks)) d.formula (FOr a.formula d.formula) q (or_idle a.formula d.formula p q))
+      chosen (nat_lt (count d.ticks) (count a.ticks)) a.formula (if nat_lt (count a.ticks) (count d.ticks) then d.formula else FOr a.formula d.formula) p
+      (chosen (nat_lt (count a.ticks) (count d.ticks)) d.formula (FOr a.formula d.formula) q (or_idle a.formula d.formula p q))
   joined_idle op.Sup L M b n h h' l u =
       let a = operand T L b n in let d = operand T M b n in
       let p = h n l u in let q = h' b (omega arith) (omega arith) (λ e. let z : ⊥ = cc in absurd z) n l u in
-      either (nat_lt (count a.ticks) (count d.ticks)) a.formula (if nat_lt (count d.ticks) (count a.ticks) then d.formula else FAnd a.formula d.formula) p
-      (either (nat_lt (count d.ticks) (count a.ticks)) d.formula (FAnd a.formula d.formula) q (and_idle a.formula d.formula p))
-  joined_idle op.Upto L M b n h h' l u = either (ever (operand T M b n).ticks) FFalse (FAnd (L b n).formula (FNot (M b n).formula)) refl (and_idle (L b n).formula (FNot (M b n).formula) (h n l u))
-  joined_idle op.Sampled L M b n h h' l u = either (waits (operand T L b n).ticks (operand T M b n).ticks) (M b n).formula FFalse (h' b (omega arith) (omega arith) (λ e. let z : ⊥ = cc in absurd z) n l u) refl
+      chosen (nat_lt (count a.ticks) (count d.ticks)) a.formula (if nat_lt (count d.ticks) (count a.ticks) then d.formula else FAnd a.formula d.formula) p
+      (chosen (nat_lt (count d.ticks) (count a.ticks)) d.formula (FAnd a.formula d.formula) q (and_idle a.formula d.formula p))
+  joined_idle op.Upto L M b n h h' l u = chosen (ever (operand T M b n).ticks) FFalse (FAnd (L b n).formula (FNot (M b n).formula)) refl (and_idle (L b n).formula (FNot (M b n).formula) (h n l u))
+  joined_idle op.UptoWeakly L M b n h h' l u = chosen (ever (operand T M b n).ticks) FFalse (L b n).formula refl (h n l u)
+  joined_idle op.Sampled L M b n h h' l u = chosen (waits (operand T L b n).ticks (operand T M b n).ticks) (M b n).formula FFalse (h' b (omega arith) (omega arith) (λ e. let z : ⊥ = cc in absurd z) n l u) refl
   joined_idle op.SampledWeakly L M b n h h' l u =
       let q = h' b (omega arith) (omega arith) (λ e. let z : ⊥ = cc in absurd z) n l u in
-      either (waits_weakly (operand T L b n).ticks (operand T M b n).ticks) (M b n).formula (FAnd (M b n).formula (L b n).formula) q (and_idle (M b n).formula (L b n).formula q)
+      chosen (waits_weakly (operand T L b n).ticks (operand T M b n).ticks) (M b n).formula (FAnd (M b n).formula (L b n).formula) q (and_idle (M b n).formula (L b n).formula q)
 
   choose : (t : Bool) (L M : Life) (b n : ℕ) → Idle (L b n).formula → Idle (M b n).formula → Idle ((if t then L else M) b n).formula
   choose true L M b n p q = p
@@ -81,10 +82,10 @@ module _ (K : System) (T : List Step) (gone : ℕ → ℕ → Bool) (ok : AreGua
     name = λ x ρ b u n l u'. named_idle (place_of x ρ) b n;
     never = λ ρ b u n l u'. refl;
     binary = λ o a d ρ b u ra rd n l u'. joined_idle o (life_given K T gone a ρ) (life_given K T gone d ρ) b n ra rd l u';
-    delay = λ a m ρ b u ra n l u'. let x = operand T (life_given K T gone a ρ) b n in either (nat_le (number_of m ρ) (count x.ticks)) x.formula FFalse (ra n l u') refl;
-    await = λ a m ρ b u ra n l u'. let x = operand T (life_given K T gone a ρ) b n in either (nat_eq (suc (count x.ticks)) (number_of m ρ)) x.formula FFalse (ra n l u') refl;
-    filter = λ a w ρ b u ra n l u'. let x = operand T (life_given K T gone a ρ) b n in let s = spot_of K.words w ρ in either (letter (word_of K.words s.word) (s.offset + count x.ticks)) x.formula FFalse (ra n l u') refl;
-    delayed = λ a m d ρ b u pos ra rd n l u'. let x = operand T (life_given K T gone a ρ) b n in let y = operand T (life_given K T gone d ρ) b n in either (waits_since (m - 1) x.ticks y.ticks) y.formula FFalse (rd n l u') refl;
+    delay = λ a m ρ b u ra n l u'. let x = operand T (life_given K T gone a ρ) b n in chosen (nat_le (number_of m ρ) (count x.ticks)) x.formula FFalse (ra n l u') refl;
+    await = λ a m ρ b u ra n l u'. let x = operand T (life_given K T gone a ρ) b n in chosen (nat_eq (suc (count x.ticks)) (number_of m ρ)) x.formula FFalse (ra n l u') refl;
+    filter = λ a w ρ b u ra n l u'. let x = operand T (life_given K T gone a ρ) b n in let s = suffix_of K.words w ρ in chosen (letter (word_of K.words s.word) (s.offset + count x.ticks)) x.formula FFalse (ra n l u') refl;
+    delayed = λ a m d ρ b u pos ra rd n l u'. let x = operand T (life_given K T gone a ρ) b n in let y = operand T (life_given K T gone d ρ) b n in chosen (waits_since (m - 1) x.ticks y.ticks) y.formula FFalse (rd n l u') refl;
     choice = λ q a d ρ b u ra rd n l u'. choose (test_of K.words q ρ) (life_given K T gone a ρ) (life_given K T gone d ρ) b n (ra n l u') (rd n l u');
   }
 
@@ -100,6 +101,10 @@ relation_holds kind.Coincides a b m n = refl
 relation_holds kind.Excludes a b m n = refl
 relation_holds kind.Precedes a b m n = elim (nat_eq m n) as (λ t. eval (if t then FNot (FVar b) else FTrue) [] ≡ true) [ true ↦ refl | false ↦ refl ]
 relation_holds kind.PrecedesWeakly a b m n = elim (nat_eq m n) as (λ t. eval (if t then FOr (FNot (FVar b)) (FVar a) else FTrue) [] ≡ true) [ true ↦ refl | false ↦ refl ]
+relation_holds (kind.PrecedesWithin k) a b m n =
+    ap₂ (λ x y. x && y)
+    (elim (nat_eq m n) as (λ t. eval (if t then FNot (FVar b) else FTrue) [] ≡ true) [ true ↦ refl | false ↦ refl ])
+    (elim (nat_le (n + k) m) as (λ t. eval (if t then FOr (FNot (FVar a)) (FVar b) else FTrue) [] ≡ true) [ true ↦ refl | false ↦ refl ])
 
 module _ (K : System) (ok : IsGuarded K) (T : List Step) where
   definition_holds : (n i : ℕ) (e : Expression) → slice_get K.definitions i ≡ Some e → n ≤ length T → eval (item_or_constraint K T n i (Some e)) [] ≡ true

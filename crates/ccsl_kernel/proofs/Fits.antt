@@ -8,9 +8,9 @@ use Rattle.ccsl_kernel.specs.declared.actual.Actual.{Actual}
 use Rattle.ccsl_kernel.specs.declared.actual.Actual.TheVariants as actual
 use Rattle.ccsl_kernel.specs.declared.expr.Place.{Place}
 use Rattle.ccsl_kernel.specs.declared.expr.Place.TheVariants as place
-use Rattle.ccsl_kernel.specs.Actuals.{spot_in, place_of, word_of}
+use Rattle.ccsl_kernel.specs.Actuals.{suffix_in, place_of, word_of}
 use Rattle.ccsl_kernel.specs.Accepted.{IsOffset}
-use Rattle.ccsl_kernel.specs.Fit.{SpotFits, ActualFits, ActualsFit}
+use Rattle.ccsl_kernel.specs.Fit.{SuffixFits, ActualFits, ActualsFit}
 
 -- a word has its first offset
 first_offset : (w : BinaryWord) → IsOffset w 0
@@ -21,10 +21,10 @@ first_offset w = on w.period
     on (x ∷ xs) = omega arith
 
 module _ (words : List BinaryWord) where
-  pub spot_in-fits : (ρ : List Actual) (i : ℕ) → ActualsFit words ρ → SpotFits words (spot_in (slice_get ρ i))
-  spot_in-fits ρ i h = on (slice_get ρ i) (λ v e. subst (ActualFits words) (get_or_from_slice_get ρ i v v e) (h i v (slice_get_within ρ i v e)))
+  pub suffix_in-fits : (ρ : List Actual) (i : ℕ) → ActualsFit words ρ → SuffixFits words (suffix_in (slice_get ρ i))
+  suffix_in-fits ρ i h = on (slice_get ρ i) (λ v e. subst (ActualFits words) (get_or_from_slice_get ρ i v v e) (h i v (slice_get_within ρ i v e)))
     where
-      on : (o : Option Actual) → ((v : Actual) → o ≡ Some v → ActualFits words v) → SpotFits words (spot_in o)
+      on : (o : Option Actual) → ((v : Actual) → o ≡ Some v → ActualFits words v) → SuffixFits words (suffix_in o)
       on None h = first_offset (word_of words 0)
       on (Some (actual.Clock x)) h = first_offset (word_of words 0)
       on (Some (actual.Number n)) h = first_offset (word_of words 0)

@@ -6,13 +6,13 @@ use Rattle.ccsl_kernel.specs.declared.actual.Actual.{Actual}
 use Rattle.ccsl_kernel.specs.declared.expr.ExprOp.TheVariants as op
 use Rattle.ccsl_kernel.specs.declared.actual.Actual.TheVariants as actual
 use Rattle.ccsl_kernel.specs.Syntax.{Expression, EName, ECall, ENever, EBinary, EDelay, EAwait, EFilter, EDelayed, EIf, System, root_of}
-use Rattle.ccsl_kernel.specs.Actuals.{place_of, number_of, spot_of, value_of, test_of, word_of}
-use Rattle.ccsl_kernel.specs.Table.{Now, Operand, union_row, inter_row, minus_row, inf_row, sup_row, upto_row, sampled_row, sampled_weakly_row, delay_row, await_row, filter_row, delayed_row}
+use Rattle.ccsl_kernel.specs.Actuals.{place_of, number_of, suffix_of, value_of, test_of, word_of}
+use Rattle.ccsl_kernel.specs.Table.{Now, Operand, union_row, inter_row, minus_row, inf_row, sup_row, upto_row, upto_weakly_row, sampled_row, sampled_weakly_row, delay_row, await_row, filter_row, delayed_row}
 use Rattle.ccsl_kernel.specs.Lives.{Step, steps, step_at, ticks_at, over_one, over_two, end_of, at_end, followed_by, joined}
 use Rattle.ccsl_kernel.specs.Meaning.{named, life_given}
 use Rattle.ccsl_kernel.specs.Guarded.{Position, Inner, Tail, Guarded, Allowed, AreGuarded, IsAllowed}
 use Rattle.ccsl_kernel.specs.Rows.{IsTable, CallsAreBodies}
-use Rattle.ccsl_kernel.specs.Course.{Course, CName, CNever, COne, CTwo, CThen, now_of, operator_row, over, leaf, open_with, open_bodies, opening, then_or_right, next, grown, life_of, course_life}
+use Rattle.ccsl_kernel.specs.Course.{Course, CName, CNever, CUnary, CBinary, CThen, now_of, operator_row, over, leaf, open_with, open_bodies, opening, then_or_right, next, grown, life_of, course_life}
 use Rattle.ccsl_kernel.proofs.Steps.{map-steps-suc, steps-empty, find-steps-suc, find-within, from_birth, or_else, if_at}
 use Rattle.ccsl_kernel.proofs.Agree.{unique}
 use Rattle.ccsl_kernel.proofs.TableHolds.{meaning_rows, meaning_calls}
@@ -36,34 +36,34 @@ module _ (K : System) (T : List Step) (gone : ℕ → ℕ → Bool) where
   ticks-suc a b n l = map-steps-suc (ticks_at T (life_of K T gone a) b) b n l
 
   -- what a node's operands come to, each for itself
-  grown-one : (row : Operand → Now) (a : Course) (b n : ℕ) → b ≤ n → grown K T gone (COne row a []) b n ≡ COne row (grown K T gone a b n) (ticks a b n)
+  grown-one : (row : Operand → Now) (a : Course) (b n : ℕ) → b ≤ n → grown K T gone (CUnary row a []) b n ≡ CUnary row (grown K T gone a b n) (ticks a b n)
   grown-one row a b n l =
-      from_birth (λ n. grown K T gone (COne row a []) b n ≡ COne row (grown K T gone a b n) (ticks a b n)) b
-      (grown-first (COne row a []) b b (omega arith) ∙ ap₂ (COne row) (sym (grown-first a b b (omega arith))) (sym (ticks-first a b)))
+      from_birth (λ n. grown K T gone (CUnary row a []) b n ≡ CUnary row (grown K T gone a b n) (ticks a b n)) b
+      (grown-first (CUnary row a []) b b (omega arith) ∙ ap₂ (CUnary row) (sym (grown-first a b b (omega arith))) (sym (ticks-first a b)))
       (λ n l ih.
-      grown-suc (COne row a []) b n l
+      grown-suc (CUnary row a []) b n l
       ∙ ap (next K (step_at T n) (gone n) (gone (suc n))) ih
-      ∙ ap₂ (COne row) (sym (grown-suc a b n l)) (sym (ticks-suc a b n l)))
+      ∙ ap₂ (CUnary row) (sym (grown-suc a b n l)) (sym (ticks-suc a b n l)))
       n l
 
   grown-two : (row : Operand → Operand → Now) (a d : Course) (b n : ℕ) → b ≤ n →
-      grown K T gone (CTwo row a d [] []) b n ≡ CTwo row (grown K T gone a b n) (grown K T gone d b n) (ticks a b n) (ticks d b n)
+      grown K T gone (CBinary row a d [] []) b n ≡ CBinary row (grown K T gone a b n) (grown K T gone d b n) (ticks a b n) (ticks d b n)
   grown-two row a d b n l =
-      from_birth (λ n. grown K T gone (CTwo row a d [] []) b n ≡ CTwo row (grown K T gone a b n) (grown K T gone d b n) (ticks a b n) (ticks d b n)) b
-      (grown-first (CTwo row a d [] []) b b (omega arith)
-      ∙ ap₂ (λ a' d'. CTwo row a' d' [] []) (sym (grown-first a b b (omega arith))) (sym (grown-first d b b (omega arith)))
-      ∙ ap₂ (CTwo row (grown K T gone a b b) (grown K T gone d b b)) (sym (ticks-first a b)) (sym (ticks-first d b)))
+      from_birth (λ n. grown K T gone (CBinary row a d [] []) b n ≡ CBinary row (grown K T gone a b n) (grown K T gone d b n) (ticks a b n) (ticks d b n)) b
+      (grown-first (CBinary row a d [] []) b b (omega arith)
+      ∙ ap₂ (λ a' d'. CBinary row a' d' [] []) (sym (grown-first a b b (omega arith))) (sym (grown-first d b b (omega arith)))
+      ∙ ap₂ (CBinary row (grown K T gone a b b) (grown K T gone d b b)) (sym (ticks-first a b)) (sym (ticks-first d b)))
       (λ n l ih.
-      grown-suc (CTwo row a d [] []) b n l
+      grown-suc (CBinary row a d [] []) b n l
       ∙ ap (next K (step_at T n) (gone n) (gone (suc n))) ih
-      ∙ ap₂ (λ a' d'. CTwo row a' d' (ticks a b n ++ ticks_at T (life_of K T gone a) b n ∷ []) (ticks d b n ++ ticks_at T (life_of K T gone d) b n ∷ [])) (sym (grown-suc a b n l)) (sym (grown-suc d b n l))
-      ∙ ap₂ (CTwo row (grown K T gone a b (suc n)) (grown K T gone d b (suc n))) (sym (ticks-suc a b n l)) (sym (ticks-suc d b n l)))
+      ∙ ap₂ (λ a' d'. CBinary row a' d' (ticks a b n ++ ticks_at T (life_of K T gone a) b n ∷ []) (ticks d b n ++ ticks_at T (life_of K T gone d) b n ∷ [])) (sym (grown-suc a b n l)) (sym (grown-suc d b n l))
+      ∙ ap₂ (CBinary row (grown K T gone a b (suc n)) (grown K T gone d b (suc n))) (sym (ticks-suc a b n l)) (sym (ticks-suc d b n l)))
       n l
 
-  one_life : (row : Operand → Now) (a : Course) (b n : ℕ) → b ≤ n → life_of K T gone (COne row a []) b n ≡ over_one T row (life_of K T gone a) b n
+  one_life : (row : Operand → Now) (a : Course) (b n : ℕ) → b ≤ n → life_of K T gone (CUnary row a []) b n ≡ over_one T row (life_of K T gone a) b n
   one_life row a b n l = ap (now_of (gone n)) (grown-one row a b n l)
 
-  two_life : (row : Operand → Operand → Now) (a d : Course) (b n : ℕ) → b ≤ n → life_of K T gone (CTwo row a d [] []) b n ≡ over_two T row (life_of K T gone a) (life_of K T gone d) b n
+  two_life : (row : Operand → Operand → Now) (a d : Course) (b n : ℕ) → b ≤ n → life_of K T gone (CBinary row a d [] []) b n ≡ over_two T row (life_of K T gone a) (life_of K T gone d) b n
   two_life row a d b n l = ap (now_of (gone n)) (grown-two row a d b n l)
 
   -- the step at which a course dies, seen at one more step
@@ -130,6 +130,7 @@ module _ (K : System) (T : List Step) (gone : ℕ → ℕ → Bool) where
   binary_life op.Inf a d ρ b n l = two_life inf_row (opening K a ρ) (opening K d ρ) b n l
   binary_life op.Sup a d ρ b n l = two_life sup_row (opening K a ρ) (opening K d ρ) b n l
   binary_life op.Upto a d ρ b n l = two_life upto_row (opening K a ρ) (opening K d ρ) b n l
+  binary_life op.UptoWeakly a d ρ b n l = two_life upto_weakly_row (opening K a ρ) (opening K d ρ) b n l
   binary_life op.Sampled a d ρ b n l = two_life sampled_row (opening K a ρ) (opening K d ρ) b n l
   binary_life op.SampledWeakly a d ρ b n l = two_life sampled_weakly_row (opening K a ρ) (opening K d ρ) b n l
 
@@ -141,7 +142,7 @@ module _ (K : System) (T : List Step) (gone : ℕ → ℕ → Bool) where
     binary = λ o a d ρ b n l u. binary_life o a d ρ b n l;
     delay = λ a m ρ b n l u. one_life (delay_row (number_of m ρ)) (opening K a ρ) b n l;
     await = λ a m ρ b n l u. one_life (await_row (number_of m ρ)) (opening K a ρ) b n l;
-    filter = λ a w ρ b n l u. let s = spot_of K.words w ρ in one_life (filter_row (word_of K.words s.word) s.offset) (opening K a ρ) b n l;
+    filter = λ a w ρ b n l u. let s = suffix_of K.words w ρ in one_life (filter_row (word_of K.words s.word) s.offset) (opening K a ρ) b n l;
     delayed = λ a m d ρ b n pos l u. two_life (delayed_row m) (opening K a ρ) (opening K d ρ) b n l;
     choice = λ q a d ρ b n l u. choose (test_of K.words q ρ) (opening K a ρ) (opening K d ρ) b n;
   }
@@ -165,10 +166,10 @@ module _ (K : System) (calls calls' : ℕ → ℕ → List Actual → Course) (g
   open_same ENever p ρ ok nog = refl
   open_same (EBinary op.Then a d) p ρ ok nog = ap (λ t. CThen t d ρ) (open_same a Inner ρ ok.0 inner_guarded)
   open_same (EBinary o a d) p ρ ok nog = ap₂ (λ a' d'. over (operator_row o) a' d' d ρ) (open_same a Inner ρ ok.0 inner_guarded) (open_same d Inner ρ ok.1 inner_guarded)
-  open_same (EDelay a m) p ρ ok nog = ap (λ a'. COne (delay_row (number_of m ρ)) a' []) (open_same a Inner ρ ok inner_guarded)
-  open_same (EAwait a m) p ρ ok nog = ap (λ a'. COne (await_row (number_of m ρ)) a' []) (open_same a Inner ρ ok inner_guarded)
-  open_same (EFilter a w) p ρ ok nog = let s = spot_of K.words w ρ in ap (λ a'. COne (filter_row (word_of K.words s.word) s.offset) a' []) (open_same a Inner ρ ok inner_guarded)
-  open_same (EDelayed a m d) p ρ ok nog = ap₂ (λ a' d'. CTwo (delayed_row m) a' d' [] []) (open_same a Inner ρ ok.2 inner_guarded) (open_same d Inner ρ ok.3 inner_guarded)
+  open_same (EDelay a m) p ρ ok nog = ap (λ a'. CUnary (delay_row (number_of m ρ)) a' []) (open_same a Inner ρ ok inner_guarded)
+  open_same (EAwait a m) p ρ ok nog = ap (λ a'. CUnary (await_row (number_of m ρ)) a' []) (open_same a Inner ρ ok inner_guarded)
+  open_same (EFilter a w) p ρ ok nog = let s = suffix_of K.words w ρ in ap (λ a'. CUnary (filter_row (word_of K.words s.word) s.offset) a' []) (open_same a Inner ρ ok inner_guarded)
+  open_same (EDelayed a m d) p ρ ok nog = ap₂ (λ a' d'. CBinary (delayed_row m) a' d' [] []) (open_same a Inner ρ ok.2 inner_guarded) (open_same d Inner ρ ok.3 inner_guarded)
   open_same (EIf q a d) p ρ ok nog = ap₂ (λ s t. if test_of K.words q ρ then s else t) (open_same a p ρ ok.0 nog) (open_same d p ρ ok.1 nog)
 
 module _ (K : System) (guarded_bodies : AreGuarded K) where

@@ -1,9 +1,10 @@
 -- The formula of an item, by where it stands; and what a definition is followed with.
-use Rattle.std.proofs.Common.{◌≡◌, ℕ, ◌+◌, ◌-◌, ◌≤◌, List, ◌∷◌, map, length, Bool, true, false, cond, Some, slice_get, refl, sym, ap, ◌∙◌, arith}
+use Rattle.std.proofs.Common.{◌≡◌, ℕ, suc, ◌+◌, ◌-◌, ◌≤◌, List, ◌∷◌, map, length, Bool, true, false, cond, Some, slice_get, refl, sym, ap, ◌∙◌, arith}
 use Rattle.std.specs.List.{count_by}
 use Rattle.std.proofs.Math.Seq.{take-length}
 use Rattle.std.proofs.lemmas.List.Recursion.{is_count_by}
 use Rattle.std.proofs.lemmas.Option.{slice_get_past}
+use Rattle.ccsl_base.specs.declared.TheConstants.{MAX_LEVELS}
 use Rattle.ccsl_base.specs.Clocks.{ticks_in}
 use Rattle.ccsl_kernel.specs.declared.constraint.Constraint.{Constraint}
 use Rattle.ccsl_kernel.specs.Syntax.{Expression, System}
@@ -24,7 +25,7 @@ module _ (K : System) (T : List Step) (n i : ℕ) where
   item-constraint c l is = ap (item_or_constraint K T n i) (slice_get_past K.definitions i l) ∙ ap (constraint_or_true T n) is
 
 -- a definition of an accepted system can be opened
-pub ready_at : (K : System) (j : ℕ) (e : Expression) → IsAccepted K → slice_get K.definitions j ≡ Some e → ExprFits K.words e × (deep e ≤ 129)
+pub ready_at : (K : System) (j : ℕ) (e : Expression) → IsAccepted K → slice_get K.definitions j ≡ Some e → ExprFits K.words e × (deep e ≤ suc MAX_LEVELS)
 ready_at K j e ok is = definition_ready K (K.declared + j) e (definition_is K (K.declared + j) e ok (sym (definitions-are K j) ∙ is))
 
 -- ticks of a clock, counted in the steps themselves

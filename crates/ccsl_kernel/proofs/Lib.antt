@@ -25,3 +25,4 @@ pub mod DeathTable
 pub mod WalkSteps
 pub mod ItemCases
 pub mod FirstViolation
+pub mod NamesInCertificates

@@ -4,7 +4,7 @@ use Rattle.std.proofs.lemmas.Bool.{and_parts, or_cases, and_from, or_left, or_ri
 use Rattle.ccsl_formula.specs.Formula.{Formula, FFalse, eval}
 use Rattle.ccsl_words.specs.Word.{BinaryWord, letter, is_finite}
 use Rattle.ccsl_kernel.specs.Lives.{Step}
-use Rattle.ccsl_kernel.specs.Table.{Now, Operand, union_row, inter_row, minus_row, inf_row, sup_row, upto_row, sampled_row, sampled_weakly_row, delay_row, await_row, filter_row, delayed_row}
+use Rattle.ccsl_kernel.specs.Table.{Now, Operand, union_row, inter_row, minus_row, inf_row, sup_row, upto_row, upto_weakly_row, sampled_row, sampled_weakly_row, delay_row, await_row, filter_row, delayed_row}
 use Rattle.ccsl_kernel.specs.Ticks.{count, ever, waits, waits_weakly, waits_since, waits_below}
 use Rattle.ccsl_kernel.proofs.Words.{past, past_finite}
 
@@ -178,6 +178,12 @@ module _ (s : Step) (a a' d d' : Operand) (p : Passes s a a') (q : Passes s d d'
 
   pub upto_quiet : IsQuiet s (upto_row a d) (upto_row a' d')
   upto_quiet = record {
+    quiet = λ h. grind (arith, p.quiet, eval_cond);
+    stays = λ h. grind (arith, p.stays, ever_more s d d' q);
+  }
+
+  pub upto_weakly_quiet : IsQuiet s (upto_weakly_row a d) (upto_weakly_row a' d')
+  upto_weakly_quiet = record {
     quiet = λ h. grind (arith, p.quiet, eval_cond);
     stays = λ h. grind (arith, p.stays, ever_more s d d' q);
   }

@@ -14,8 +14,8 @@ use Rattle.ccsl_kernel.specs.declared.expr.Value.TheVariants as value
 use Rattle.ccsl_kernel.specs.declared.actual.Actual.TheVariants as actual
 use Rattle.ccsl_kernel.specs.Syntax.{Expression, EName, ECall, ENever, EBinary, EDelay, EAwait, EFilter, EDelayed, EIf, System, root_of}
 use Rattle.ccsl_kernel.specs.Lives.{Step, Life, operand, end_of, at_end, joined}
-use Rattle.ccsl_kernel.specs.Actuals.{place_of, number_of, spot_of, value_of, test_of, word_of}
-use Rattle.ccsl_kernel.specs.Table.{Now, Operand, delay_row, await_row, filter_row, delayed_row, inf_row, sup_row, upto_row, sampled_row, sampled_weakly_row}
+use Rattle.ccsl_kernel.specs.Actuals.{place_of, number_of, suffix_of, value_of, test_of, word_of}
+use Rattle.ccsl_kernel.specs.Table.{Now, Operand, delay_row, await_row, filter_row, delayed_row, inf_row, sup_row, upto_row, upto_weakly_row, sampled_row, sampled_weakly_row}
 use Rattle.ccsl_kernel.specs.Ticks.{count, ever, waits, waits_weakly, waits_since}
 use Rattle.ccsl_kernel.specs.Meaning.{named, life_given}
 use Rattle.ccsl_kernel.specs.Guarded.{IsAllowed, AreGuarded}
@@ -104,37 +104,40 @@ module _ (X : ℕ) where
   args_in words (value.Number t ∷ args) ρ h v = args_in words args ρ h v
   args_in words (value.Word w ∷ args) ρ h v = args_in words args ρ h v
 
-  either : (c : Bool) (f g : Formula) → ReadsOnly X f → ReadsOnly X g → ReadsOnly X (if c then f else g)
-  either true f g r r' = r
-  either false f g r r' = r'
+  chosen : (c : Bool) (f g : Formula) → ReadsOnly X f → ReadsOnly X g → ReadsOnly X (if c then f else g)
+  chosen true f g r r' = r
+  chosen false f g r r' = r'
 
   -- each row reads what its operands read
   delay_reads : (m : ℕ) (a : Operand) → ReadsOnly X a.formula → ReadsOnly X (delay_row m a).formula
-  delay_reads m a r = either (nat_le m (count a.ticks)) a.formula FFalse r tt
+  delay_reads m a r = chosen (nat_le m (count a.ticks)) a.formula FFalse r tt
 
   await_reads : (m : ℕ) (a : Operand) → ReadsOnly X a.formula → ReadsOnly X (await_row m a).formula
-  await_reads m a r = either (nat_eq (suc (count a.ticks)) m) a.formula FFalse r tt
+  await_reads m a r = chosen (nat_eq (suc (count a.ticks)) m) a.formula FFalse r tt
 
   filter_reads : (w : BinaryWord) (o : ℕ) (a : Operand) → ReadsOnly X a.formula → ReadsOnly X (filter_row w o a).formula
-  filter_reads w o a r = either (letter w (o + count a.ticks)) a.formula FFalse r tt
+  filter_reads w o a r = chosen (letter w (o + count a.ticks)) a.formula FFalse r tt
 
   delayed_reads : (m : ℕ) (a d : Operand) → ReadsOnly X d.formula → ReadsOnly X (delayed_row m a d).formula
-  delayed_reads m a d r = either (waits_since (m - 1) a.ticks d.ticks) d.formula FFalse r tt
+  delayed_reads m a d r = chosen (waits_since (m - 1) a.ticks d.ticks) d.formula FFalse r tt
 
   inf_reads : (a d : Operand) → ReadsOnly X a.formula → ReadsOnly X d.formula → ReadsOnly X (inf_row a d).formula
-  inf_reads a d r r' = either (nat_lt (count d.ticks) (count a.ticks)) a.formula (if nat_lt (count a.ticks) (count d.ticks) then d.formula else FOr a.formula d.formula) r (either (nat_lt (count a.ticks) (count d.ticks)) d.formula (FOr a.formula d.formula) r' (r, r'))
+  inf_reads a d r r' = chosen (nat_lt (count d.ticks) (count a.ticks)) a.formula (if nat_lt (count a.ticks) (count d.ticks) then d.formula else FOr a.formula d.formula) r (chosen (nat_lt (count a.ticks) (count d.ticks)) d.formula (FOr a.formula d.formula) r' (r, r'))
 
   sup_reads : (a d : Operand) → ReadsOnly X a.formula → ReadsOnly X d.formula → ReadsOnly X (sup_row a d).formula
-  sup_reads a d r r' = either (nat_lt (count a.ticks) (count d.ticks)) a.formula (if nat_lt (count d.ticks) (count a.ticks) then d.formula else FAnd a.formula d.formula) r (either (nat_lt (count d.ticks) (count a.ticks)) d.formula (FAnd a.formula d.formula) r' (r, r'))
+  sup_reads a d r r' = chosen (nat_lt (count a.ticks) (count d.ticks)) a.formula (if nat_lt (count d.ticks) (count a.ticks) then d.formula else FAnd a.formula d.formula) r (chosen (nat_lt (count d.ticks) (count a.ticks)) d.formula (FAnd a.formula d.formula) r' (r, r'))
 
   upto_reads : (a d : Operand) → ReadsOnly X a.formula → ReadsOnly X d.formula → ReadsOnly X (upto_row a d).formula
-  upto_reads a d r r' = either (ever d.ticks) FFalse (FAnd a.formula (FNot d.formula)) tt (r, r')
+  upto_reads a d r r' = chosen (ever d.ticks) FFalse (FAnd a.formula (FNot d.formula)) tt (r, r')
+
+  upto_weakly_reads : (a d : Operand) → ReadsOnly X a.formula → ReadsOnly X (upto_weakly_row a d).formula
+  upto_weakly_reads a d r = chosen (ever d.ticks) FFalse a.formula tt r
 
   sampled_reads : (a d : Operand) → ReadsOnly X d.formula → ReadsOnly X (sampled_row a d).formula
-  sampled_reads a d r' = either (waits a.ticks d.ticks) d.formula FFalse r' tt
+  sampled_reads a d r' = chosen (waits a.ticks d.ticks) d.formula FFalse r' tt
 
   sampled_weakly_reads : (a d : Operand) → ReadsOnly X a.formula → ReadsOnly X d.formula → ReadsOnly X (sampled_weakly_row a d).formula
-  sampled_weakly_reads a d r r' = either (waits_weakly a.ticks d.ticks) d.formula (FAnd d.formula a.formula) r' (r', r)
+  sampled_weakly_reads a d r r' = chosen (waits_weakly a.ticks d.ticks) d.formula (FAnd d.formula a.formula) r' (r', r)
 
   module _ (K : System) (T : List Step) (gone : ℕ → ℕ → Bool) (ok : AreGuarded K) (closed : (g m : ℕ) → NamesBelow 0 (root_of K g m)) where
     -- what is shown of an expression that is born at b
@@ -159,6 +162,7 @@ module _ (X : ℕ) where
     joined_reads op.Inf L M b n h h' l u = inf_reads (operand T L b n) (operand T M b n) (h n l u) (h' b n (omega arith) (λ e. let z : ⊥ = cc in absurd z) l u)
     joined_reads op.Sup L M b n h h' l u = sup_reads (operand T L b n) (operand T M b n) (h n l u) (h' b n (omega arith) (λ e. let z : ⊥ = cc in absurd z) l u)
     joined_reads op.Upto L M b n h h' l u = upto_reads (operand T L b n) (operand T M b n) (h n l u) (h' b n (omega arith) (λ e. let z : ⊥ = cc in absurd z) l u)
+    joined_reads op.UptoWeakly L M b n h h' l u = upto_weakly_reads (operand T L b n) (operand T M b n) (h n l u)
     joined_reads op.Sampled L M b n h h' l u = sampled_reads (operand T L b n) (operand T M b n) (h' b n (omega arith) (λ e. let z : ⊥ = cc in absurd z) l u)
     joined_reads op.SampledWeakly L M b n h h' l u = sampled_weakly_reads (operand T L b n) (operand T M b n) (h n l u) (h' b n (omega arith) (λ e. let z : ⊥ = cc in absurd z) l u)
 
@@ -173,7 +177,7 @@ module _ (X : ℕ) where
       binary = λ o a d ρ b u ra rd h v n l u'. joined_reads o (life_given K T gone a ρ) (life_given K T gone d ρ) b n (λ i l u. ra h.0 v i l u) (λ k i l s l' u. rd k l (omega arith) s h.1 v i l' u) l u';
       delay = λ a m ρ b u ra h v n l u'. delay_reads (number_of m ρ) (operand T (life_given K T gone a ρ) b n) (ra h v n l u');
       await = λ a m ρ b u ra h v n l u'. await_reads (number_of m ρ) (operand T (life_given K T gone a ρ) b n) (ra h v n l u');
-      filter = λ a w ρ b u ra h v n l u'. let s = spot_of K.words w ρ in filter_reads (word_of K.words s.word) s.offset (operand T (life_given K T gone a ρ) b n) (ra h v n l u');
+      filter = λ a w ρ b u ra h v n l u'. let s = suffix_of K.words w ρ in filter_reads (word_of K.words s.word) s.offset (operand T (life_given K T gone a ρ) b n) (ra h v n l u');
       delayed = λ a m d ρ b u pos ra rd h v n l u'. delayed_reads m (operand T (life_given K T gone a ρ) b n) (operand T (life_given K T gone d ρ) b n) (rd h.1 v n l u');
       choice = λ q a d ρ b u ra rd h v n l u'. choose (test_of K.words q ρ) (life_given K T gone a ρ) (life_given K T gone d ρ) b n (ra h.0 v n l u') (rd h.1 v n l u');
     }

@@ -8,7 +8,7 @@ use Rattle.ccsl_kernel.specs.declared.expr.ExprOp.TheVariants as op
 use Rattle.ccsl_kernel.specs.declared.actual.Actual.TheVariants as actual
 use Rattle.ccsl_kernel.specs.Syntax.{Expression, System, definition_of}
 use Rattle.ccsl_kernel.specs.Lives.{Step, Life, steps, step_at, ticks_at, operand, end_of, at_end, followed_by, joined}
-use Rattle.ccsl_kernel.specs.Actuals.{place_of, number_of, spot_of, test_of, word_of}
+use Rattle.ccsl_kernel.specs.Actuals.{place_of, number_of, suffix_of, test_of, word_of}
 use Rattle.ccsl_kernel.specs.Table.{Now}
 use Rattle.ccsl_kernel.specs.Meaning.{named, life_given, definition_dead, dead_below, meaning}
 use Rattle.ccsl_kernel.specs.Guarded.{AreGuarded, IsGuarded, IsAllowed}
@@ -17,7 +17,7 @@ use Rattle.ccsl_kernel.proofs.Steps.{map-steps-suc, find-steps-suc, find-within,
 use Rattle.ccsl_kernel.proofs.Induction.{IsClosed, induct}
 use Rattle.ccsl_kernel.proofs.TableHolds.{meaning_calls}
 use Rattle.ccsl_kernel.proofs.Definitions.{choice, definition_allowed}
-use Rattle.ccsl_kernel.proofs.Quiet.{Passes, IsQuiet, union_quiet, inter_quiet, minus_quiet, inf_quiet, sup_quiet, upto_quiet, sampled_quiet, sampled_weakly_quiet, delay_quiet, await_quiet, filter_quiet, delayed_quiet}
+use Rattle.ccsl_kernel.proofs.Quiet.{Passes, IsQuiet, union_quiet, inter_quiet, minus_quiet, inf_quiet, sup_quiet, upto_quiet, upto_weakly_quiet, sampled_quiet, sampled_weakly_quiet, delay_quiet, await_quiet, filter_quiet, delayed_quiet}
 
 module _ (T : List Step) where
   -- a life that was born at b is quiet where it is dead, and stays dead
@@ -50,6 +50,7 @@ module _ (T : List Step) where
   joined_silent op.Inf L M b n h h' l u = inf_quiet (step_at T n) (operand T L b n) (operand T L b (suc n)) (operand T M b n) (operand T M b (suc n)) (passes L b n h l u) (passes M b n (h' b (omega arith) (omega arith) (λ e. let z : ⊥ = cc in absurd z)) l u)
   joined_silent op.Sup L M b n h h' l u = sup_quiet (step_at T n) (operand T L b n) (operand T L b (suc n)) (operand T M b n) (operand T M b (suc n)) (passes L b n h l u) (passes M b n (h' b (omega arith) (omega arith) (λ e. let z : ⊥ = cc in absurd z)) l u)
   joined_silent op.Upto L M b n h h' l u = upto_quiet (step_at T n) (operand T L b n) (operand T L b (suc n)) (operand T M b n) (operand T M b (suc n)) (passes L b n h l u) (passes M b n (h' b (omega arith) (omega arith) (λ e. let z : ⊥ = cc in absurd z)) l u)
+  joined_silent op.UptoWeakly L M b n h h' l u = upto_weakly_quiet (step_at T n) (operand T L b n) (operand T L b (suc n)) (operand T M b n) (operand T M b (suc n)) (passes L b n h l u) (passes M b n (h' b (omega arith) (omega arith) (λ e. let z : ⊥ = cc in absurd z)) l u)
   joined_silent op.Sampled L M b n h h' l u = sampled_quiet (step_at T n) (operand T L b n) (operand T L b (suc n)) (operand T M b n) (operand T M b (suc n)) (passes L b n h l u) (passes M b n (h' b (omega arith) (omega arith) (λ e. let z : ⊥ = cc in absurd z)) l u) (length-ticks L M b n)
   joined_silent op.SampledWeakly L M b n h h' l u = sampled_weakly_quiet (step_at T n) (operand T L b n) (operand T L b (suc n)) (operand T M b n) (operand T M b (suc n)) (passes L b n h l u) (passes M b n (h' b (omega arith) (omega arith) (λ e. let z : ⊥ = cc in absurd z)) l u) (length-ticks L M b n)
 
@@ -78,7 +79,7 @@ module _ (K : System) (T : List Step) (gone : ℕ → ℕ → Bool) (ok : AreGua
     binary = λ o a d ρ b u ra rd. record { at = λ n l' u'. joined_silent T o (life_given K T gone a ρ) (life_given K T gone d ρ) b n ra rd l' u' };
     delay = λ a m ρ b u ra. record { at = λ n l' u'. delay_quiet (step_at T n) _ _ (passes T (life_given K T gone a ρ) b n ra l' u') (number_of m ρ) };
     await = λ a m ρ b u ra. record { at = λ n l' u'. await_quiet (step_at T n) _ _ (passes T (life_given K T gone a ρ) b n ra l' u') (number_of m ρ) };
-    filter = λ a w ρ b u ra. let s = spot_of K.words w ρ in record { at = λ n l' u'. filter_quiet (step_at T n) _ _ (passes T (life_given K T gone a ρ) b n ra l' u') (word_of K.words s.word) s.offset };
+    filter = λ a w ρ b u ra. let s = suffix_of K.words w ρ in record { at = λ n l' u'. filter_quiet (step_at T n) _ _ (passes T (life_given K T gone a ρ) b n ra l' u') (word_of K.words s.word) s.offset };
     delayed = λ a m d ρ b u pos ra rd. record { at = λ n l' u'. delayed_quiet (step_at T n) _ _ _ _ (passes T (life_given K T gone a ρ) b n ra l' u') (passes T (life_given K T gone d ρ) b n rd l' u') (length-ticks T (life_given K T gone a ρ) (life_given K T gone d ρ) b n) m pos };
     choice = λ q a d ρ b u ra rd. record { at = λ n l' u'. choose (test_of K.words q ρ) (life_given K T gone a ρ) (life_given K T gone d ρ) b n (ra.at n l' u') (rd.at n l' u') };
   }

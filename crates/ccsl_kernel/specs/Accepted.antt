@@ -1,7 +1,7 @@
 -- WHICH SYSTEMS ARE ACCEPTED, one field of IsAccepted a sentence.
 use Rattle.std.specs.Prelude.{◌≡◌, ℕ, ◌+◌, ◌<◌, ◌≤◌, suc, List, [], ◌∷◌, ◌++◌, length, map, max, All, Bool, true, false, ◌&&◌, IsTrue, Some, slice_get, slice_index, nat_eq, nat_lt, nat_le, take_while, drop, if◌then◌else◌}
 use Rattle.std.specs.List.{list_all, AllByRecursion}
-use Rattle.ccsl_base.specs.declared.TheConstants.{MAX_CLOCKS}
+use Rattle.ccsl_base.specs.declared.TheConstants.{MAX_CLOCKS, MAX_CONSTRAINTS, MAX_CELLS, MAX_LEVELS, MAX_CALL_LEVELS, MAX_PARAMS}
 use Rattle.ccsl_base.specs.Name.{is_name, is_inner}
 use Rattle.ccsl_words.specs.Word.{BinaryWord, is_finite}
 use Rattle.ccsl_kernel.specs.declared.expr.Place.{Place}
@@ -17,6 +17,9 @@ use Rattle.ccsl_kernel.specs.declared.expr.ExprTest.{ExprTest}
 use Rattle.ccsl_kernel.specs.declared.expr.ExprTest.TheVariants as test
 use Rattle.ccsl_kernel.specs.declared.group.ParamKind.{ParamKind}
 use Rattle.ccsl_kernel.specs.declared.group.ParamKind.TheVariants as kind
+use Rattle.ccsl_kernel.specs.declared.constraint.Constraint.{Constraint}
+use Rattle.ccsl_kernel.specs.declared.constraint.RelationKind.{RelationKind}
+use Rattle.ccsl_kernel.specs.declared.constraint.RelationKind.TheVariants.{PrecedesWithin}
 use Rattle.ccsl_kernel.specs.Syntax.{Expression, EName, ECall, ENever, EBinary, EDelay, EAwait, EFilter, EDelayed, EIf, Body, System, body_of}
 use Rattle.ccsl_kernel.specs.Guarded.{Tail, Inner, Allowed}
 use Rattle.ccsl_kernel.specs.Cells.{cells, greatest}
@@ -125,16 +128,24 @@ is_hidden name = is_name (take_while is_inner name) && is_path_rest (drop (lengt
 -- THE PIECES
 -- a body of group number g
 pub record IsBody (K : System) (g : ℕ) (b : Body) : Type 0 where
-  pub few : length b.params ≤ 8
+  pub few : length b.params ≤ MAX_PARAMS
   pub calls : Allowed g Tail b.root
   pub known : IsKnown K.groups K.words 0 b.params b.root
-  pub shallow : depth b.root ≤ 128
+  pub shallow : depth b.root ≤ MAX_LEVELS
 
 -- the definition of clock number x: it names lower clocks only
 pub record IsDefinition (K : System) (x : ℕ) (e : Expression) : Type 0 where
   pub calls : Allowed (length K.groups) Inner e
   pub known : IsKnown K.groups K.words x [] e
-  pub shallow : depth e ≤ 128
+  pub shallow : depth e ≤ MAX_LEVELS
+
+-- a constraint between named clocks; a bound of precedence is at least 1
+abbrev pub IsRelation : RelationKind → Type 0
+IsRelation (PrecedesWithin m) = 1 ≤ m
+IsRelation _ = Unit {0}
+
+abbrev pub IsConstraint : ℕ → Constraint → Type 0
+IsConstraint clocks c = (c.left < clocks) × (c.right < clocks) × IsRelation c.kind
 
 abbrev pub Each : {A : Type 0} → (ℕ → A → Type 0) → ℕ → List A → Type 0
 Each P i [] = Unit {0}
@@ -148,7 +159,7 @@ pub record IsAccepted (K : System) : Type 0 where
   pub names : Each (λ i name. IsTrue (if nat_lt i K.written then is_name name else is_hidden name)) 0 K.names
   pub bodies : Each (λ g members. All (IsBody K g) members) 0 K.groups
   pub definitions : Each (IsDefinition K) K.declared K.definitions
-  pub constraints : All (λ c. (c.left < length K.names) × (c.right < length K.names)) K.constraints
-  pub levels : All (λ n. n ≤ 8) (group_levels [] K.groups)
-  pub few_constraints : length K.constraints ≤ 4096
-  pub few_cells : cells K ≤ 32768
+  pub constraints : All (IsConstraint (length K.names)) K.constraints
+  pub levels : All (λ n. n ≤ MAX_CALL_LEVELS) (group_levels [] K.groups)
+  pub few_constraints : length K.constraints ≤ MAX_CONSTRAINTS
+  pub few_cells : cells K ≤ MAX_CELLS

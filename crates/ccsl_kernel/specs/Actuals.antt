@@ -17,16 +17,16 @@ use Rattle.ccsl_kernel.specs.declared.expr.Value.TheVariants as value
 use Rattle.ccsl_kernel.specs.declared.expr.ExprTest.{ExprTest}
 use Rattle.ccsl_kernel.specs.declared.expr.ExprTest.TheVariants as test
 use Rattle.ccsl_kernel.specs.declared.actual.Actual.{Actual}
-use Rattle.ccsl_kernel.specs.declared.actual.Spot.{Spot}
+use Rattle.ccsl_kernel.specs.declared.actual.Suffix.{Suffix}
 use Rattle.ccsl_kernel.specs.declared.actual.Actual.TheVariants as actual
 
 abbrev pub number_in : Option Actual → ℕ
 number_in (Some (actual.Number n)) = n
 number_in _ = 0
 
-abbrev pub spot_in : Option Actual → Spot
-spot_in (Some (actual.Word w o)) = record { word = w; offset = o }
-spot_in _ = record { word = 0; offset = 0 }
+abbrev pub suffix_in : Option Actual → Suffix
+suffix_in (Some (actual.Word w o)) = record { word = w; offset = o }
+suffix_in _ = record { word = 0; offset = 0 }
 
 abbrev pub word_or_empty : Option BinaryWord → BinaryWord
 word_or_empty None = record { prefix = []; period = [] }
@@ -59,22 +59,22 @@ abbrev pub number_of : NumTerm → List Actual → ℕ
 number_of t ρ = sum_from (prim_of t.first ρ) t.rest ρ
 
 -- the same word, at the offset after
-abbrev pub tail_of : List BinaryWord → Spot → Spot
+abbrev pub tail_of : List BinaryWord → Suffix → Suffix
 tail_of words s = record { word = s.word; offset = rest (word_of words s.word) s.offset }
 
-abbrev pub spot_of : List BinaryWord → WordPlace → List Actual → Spot
-spot_of words (word.Word w o) ρ = record { word = w; offset = o }
-spot_of words (word.Param i) ρ = spot_in (slice_get ρ i)
-spot_of words (word.Tail i) ρ = tail_of words (spot_in (slice_get ρ i))
+abbrev pub suffix_of : List BinaryWord → WordPlace → List Actual → Suffix
+suffix_of words (word.Word w o) ρ = record { word = w; offset = o }
+suffix_of words (word.Param i) ρ = suffix_in (slice_get ρ i)
+suffix_of words (word.Tail i) ρ = tail_of words (suffix_in (slice_get ρ i))
 
 -- what an argument stands for
 abbrev pub value_of : List BinaryWord → List Actual → Value → Actual
 value_of words ρ (value.Clock x) = place_of x ρ
 value_of words ρ (value.Number t) = actual.Number (number_of t ρ)
-value_of words ρ (value.Word w) = let s = spot_of words w ρ in actual.Word s.word s.offset
+value_of words ρ (value.Word w) = let s = suffix_of words w ρ in actual.Word s.word s.offset
 
 abbrev pub test_of : List BinaryWord → ExprTest → List Actual → Bool
 test_of words (test.Equal s t) ρ = nat_eq (number_of s ρ) (number_of t ρ)
 test_of words (test.Less s t) ρ = nat_lt (number_of s ρ) (number_of t ρ)
-test_of words (test.Head w) ρ = let s = spot_of words w ρ in letter (word_of words s.word) s.offset
-test_of words (test.Ended w) ρ = let s = spot_of words w ρ in has_ended (word_of words s.word) s.offset
+test_of words (test.Head w) ρ = let s = suffix_of words w ρ in letter (word_of words s.word) s.offset
+test_of words (test.Ended w) ρ = let s = suffix_of words w ρ in has_ended (word_of words s.word) s.offset

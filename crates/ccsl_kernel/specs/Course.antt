@@ -11,15 +11,15 @@ use Rattle.ccsl_kernel.specs.declared.expr.ExprOp.TheVariants as op
 use Rattle.ccsl_kernel.specs.declared.actual.Actual.{Actual}
 use Rattle.ccsl_kernel.specs.declared.actual.Actual.TheVariants as actual
 use Rattle.ccsl_kernel.specs.Syntax.{Expression, EName, ECall, ENever, EBinary, EDelay, EAwait, EFilter, EDelayed, EIf, System, root_of}
-use Rattle.ccsl_kernel.specs.Actuals.{place_of, number_of, spot_of, value_of, test_of, word_of}
-use Rattle.ccsl_kernel.specs.Table.{Now, Operand, never_row, union_row, inter_row, minus_row, inf_row, sup_row, upto_row, sampled_row, sampled_weakly_row, delay_row, await_row, filter_row, delayed_row}
+use Rattle.ccsl_kernel.specs.Actuals.{place_of, number_of, suffix_of, value_of, test_of, word_of}
+use Rattle.ccsl_kernel.specs.Table.{Now, Operand, never_row, union_row, inter_row, minus_row, inf_row, sup_row, upto_row, upto_weakly_row, sampled_row, sampled_weakly_row, delay_row, await_row, filter_row, delayed_row}
 use Rattle.ccsl_kernel.specs.Lives.{Step, Life, step_at}
 
 pub data Course : Type 0 where
   CName : (x : ℕ) → Course
   CNever : Course
-  COne : (row : Operand → Now) → (a : Course) → (p : List Bool) → Course
-  CTwo : (row : Operand → Operand → Now) → (a d : Course) → (p q : List Bool) → Course
+  CUnary : (row : Operand → Now) → (a : Course) → (p : List Bool) → Course
+  CBinary : (row : Operand → Operand → Now) → (a d : Course) → (p q : List Bool) → Course
   CThen : (a : Course) → (d : Expression) → (ρ : List Actual) → Course
 
 -- an operand with its ticks so far
@@ -30,8 +30,8 @@ operand_of now p = record { formula = now.formula; dead = now.dead; ticks = p }
 abbrev pub now_of : (ℕ → Bool) → Course → Now
 now_of gone (CName x) = record { formula = FVar x; dead = gone x }
 now_of gone CNever = never_row
-now_of gone (COne row a p) = row (operand_of (now_of gone a) p)
-now_of gone (CTwo row a d p q) = row (operand_of (now_of gone a) p) (operand_of (now_of gone d) q)
+now_of gone (CUnary row a p) = row (operand_of (now_of gone a) p)
+now_of gone (CBinary row a d p q) = row (operand_of (now_of gone a) p) (operand_of (now_of gone d) q)
 now_of gone (CThen a d ρ) = record { formula = (now_of gone a).formula; dead = false }
 
 -- whether it ticks in a step
@@ -46,6 +46,7 @@ operator_row op.Minus = Some minus_row
 operator_row op.Inf = Some inf_row
 operator_row op.Sup = Some sup_row
 operator_row op.Upto = Some upto_row
+operator_row op.UptoWeakly = Some upto_weakly_row
 operator_row op.Then = None
 operator_row op.Sampled = Some sampled_row
 operator_row op.SampledWeakly = Some sampled_weakly_row
@@ -53,7 +54,7 @@ operator_row op.SampledWeakly = Some sampled_weakly_row
 -- an operator over the courses a and c, and a then with the right operand d still to be born
 abbrev pub over : Option (Operand → Operand → Now) → Course → Course → Expression → List Actual → Course
 over None a c d ρ = CThen a d ρ
-over (Some row) a c d ρ = CTwo row a c [] []
+over (Some row) a c d ρ = CBinary row a c [] []
 
 abbrev pub leaf : Actual → Course
 leaf (actual.Clock x) = CName x
@@ -66,10 +67,10 @@ module _ (K : System) where
   open_with calls (ECall group member args) ρ = calls group member (map (value_of K.words ρ) args)
   open_with calls ENever ρ = CNever
   open_with calls (EBinary o a d) ρ = over (operator_row o) (open_with calls a ρ) (open_with calls d ρ) d ρ
-  open_with calls (EDelay a m) ρ = COne (delay_row (number_of m ρ)) (open_with calls a ρ) []
-  open_with calls (EAwait a m) ρ = COne (await_row (number_of m ρ)) (open_with calls a ρ) []
-  open_with calls (EFilter a w) ρ = let s = spot_of K.words w ρ in COne (filter_row (word_of K.words s.word) s.offset) (open_with calls a ρ) []
-  open_with calls (EDelayed a m d) ρ = CTwo (delayed_row m) (open_with calls a ρ) (open_with calls d ρ) [] []
+  open_with calls (EDelay a m) ρ = CUnary (delay_row (number_of m ρ)) (open_with calls a ρ) []
+  open_with calls (EAwait a m) ρ = CUnary (await_row (number_of m ρ)) (open_with calls a ρ) []
+  open_with calls (EFilter a w) ρ = let s = suffix_of K.words w ρ in CUnary (filter_row (word_of K.words s.word) s.offset) (open_with calls a ρ) []
+  open_with calls (EDelayed a m d) ρ = CBinary (delayed_row m) (open_with calls a ρ) (open_with calls d ρ) [] []
   open_with calls (EIf q a d) ρ = if test_of K.words q ρ then open_with calls a ρ else open_with calls d ρ
 
   -- members of groups, through at most so many calls one in another
@@ -89,8 +90,8 @@ module _ (K : System) where
   abbrev pub next : Step → (ℕ → Bool) → (ℕ → Bool) → Course → Course
   next s gone later (CName x) = CName x
   next s gone later CNever = CNever
-  next s gone later (COne row a p) = COne row (next s gone later a) (p ++ tick_of s gone a ∷ [])
-  next s gone later (CTwo row a d p q) = CTwo row (next s gone later a) (next s gone later d) (p ++ tick_of s gone a ∷ []) (q ++ tick_of s gone d ∷ [])
+  next s gone later (CUnary row a p) = CUnary row (next s gone later a) (p ++ tick_of s gone a ∷ [])
+  next s gone later (CBinary row a d p q) = CBinary row (next s gone later a) (next s gone later d) (p ++ tick_of s gone a ∷ []) (q ++ tick_of s gone d ∷ [])
   next s gone later (CThen a d ρ) = then_or_right (now_of later (next s gone later a)).dead (next s gone later a) d ρ
 
   module _ (T : List Step) (gone : ℕ → ℕ → Bool) where

@@ -3,7 +3,7 @@ use Rattle.std.specs.Prelude.{List, All}
 use Rattle.ccsl_words.specs.Word.{BinaryWord}
 use Rattle.ccsl_kernel.specs.declared.actual.Actual.{Actual}
 use Rattle.ccsl_kernel.specs.declared.actual.Actual.TheVariants as actual
-use Rattle.ccsl_kernel.specs.declared.actual.Spot.{Spot}
+use Rattle.ccsl_kernel.specs.declared.actual.Suffix.{Suffix}
 use Rattle.ccsl_kernel.specs.declared.expr.WordPlace.{WordPlace}
 use Rattle.ccsl_kernel.specs.declared.expr.WordPlace.TheVariants as word
 use Rattle.ccsl_kernel.specs.declared.expr.Value.{Value}
@@ -15,8 +15,8 @@ use Rattle.ccsl_kernel.specs.Actuals.{word_of}
 use Rattle.ccsl_kernel.specs.Accepted.{IsOffset}
 
 module _ (words : List BinaryWord) where
-  abbrev pub SpotFits : Spot → Type 0
-  SpotFits s = IsOffset (word_of words s.word) s.offset
+  abbrev pub SuffixFits : Suffix → Type 0
+  SuffixFits s = IsOffset (word_of words s.word) s.offset
 
   abbrev pub ActualFits : Actual → Type 0
   ActualFits (actual.Clock x) = Unit {0}

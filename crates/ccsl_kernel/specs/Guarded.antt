@@ -1,7 +1,9 @@
--- Which calls an expression may make: of members of earlier groups, and of its own group in guarded tail positions alone.
+-- Which calls an expression may make: of members of earlier groups, and of its own group in guarded tail positions alone; and by how much
+-- `delayed` may lag.
 --     Allowed g p e      e may stand at the place p of a member of group number g
 --     IsGuarded K      this holds of each member and each definition of a system
 use Rattle.std.specs.Prelude.{◌≡◌, ℕ, ◌<◌, ◌≤◌, ◌⊎◌, List, [], ◌∷◌, length}
+use Rattle.ccsl_base.specs.declared.TheConstants.{MAX_DELAY}
 use Rattle.ccsl_kernel.specs.declared.expr.ExprOp.{ExprOp}
 use Rattle.ccsl_kernel.specs.declared.expr.ExprOp.TheVariants as op
 use Rattle.ccsl_kernel.specs.Syntax.{Expression, EName, ECall, ENever, EBinary, EDelay, EAwait, EFilter, EDelayed, EIf, System, root_of}
@@ -22,7 +24,7 @@ abbrev pub right_of : ExprOp → Position → Position
 right_of op.Then p = guarded p
 right_of _ p = Inner
 
--- and m of `delayed` is from 1 to 4,096
+-- which calls stand at a place, and that `delayed` has a number from 1 to MAX_DELAY
 abbrev pub Allowed : ℕ → Position → Expression → Type 0
 Allowed g p (EName x) = Unit {0}
 Allowed g p (ECall group member args) = (group < g) ⊎ ((group ≡ g) × (p ≡ Guarded))
@@ -31,7 +33,7 @@ Allowed g p (EBinary op a d) = Allowed g Inner a × Allowed g (right_of op p) d
 Allowed g p (EDelay a m) = Allowed g Inner a
 Allowed g p (EAwait a m) = Allowed g Inner a
 Allowed g p (EFilter a w) = Allowed g Inner a
-Allowed g p (EDelayed a m d) = (1 ≤ m) × (m ≤ 4096) × Allowed g Inner a × Allowed g Inner d
+Allowed g p (EDelayed a m d) = (1 ≤ m) × (m ≤ MAX_DELAY) × Allowed g Inner a × Allowed g Inner d
 Allowed g p (EIf q a d) = Allowed g p a × Allowed g p d
 
 -- each member of a group, whose root is a tail position

@@ -1,10 +1,10 @@
 -- THE FORMULA OF AN ITEM AT A STEP. Items are the definitions, in the order of their clocks, and then the constraints.
-use Rattle.std.specs.Prelude.{ℕ, ◌+◌, ◌-◌, List, [], Option, Some, None, map, take, length, slice_get, nat_eq, if◌then◌else◌}
+use Rattle.std.specs.Prelude.{ℕ, ◌+◌, ◌-◌, List, [], Option, Some, None, map, take, length, slice_get, nat_eq, nat_le, if◌then◌else◌}
 use Rattle.ccsl_base.specs.Clocks.{ticks_in}
 use Rattle.ccsl_formula.specs.Formula.{Formula, FTrue, FVar, FNot, FAnd, FOr, FIff}
 use Rattle.ccsl_kernel.specs.declared.constraint.Constraint.{Constraint}
 use Rattle.ccsl_kernel.specs.declared.constraint.RelationKind.{RelationKind}
-use Rattle.ccsl_kernel.specs.declared.constraint.RelationKind.TheVariants.{Subclock, Coincides, Excludes, Precedes, PrecedesWeakly}
+use Rattle.ccsl_kernel.specs.declared.constraint.RelationKind.TheVariants.{Subclock, Coincides, Excludes, Precedes, PrecedesWeakly, PrecedesWithin}
 use Rattle.ccsl_kernel.specs.Syntax.{Expression, System}
 use Rattle.ccsl_kernel.specs.Ticks.{count}
 use Rattle.ccsl_kernel.specs.Lives.{Step}
@@ -21,6 +21,8 @@ relation_formula Coincides a b m n = FIff (FVar a) (FVar b)
 relation_formula Excludes a b m n = FNot (FAnd (FVar a) (FVar b))
 relation_formula Precedes a b m n = if nat_eq m n then FNot (FVar b) else FTrue
 relation_formula PrecedesWeakly a b m n = if nat_eq m n then FOr (FNot (FVar b)) (FVar a) else FTrue
+relation_formula (PrecedesWithin k) a b m n =
+    FAnd (if nat_eq m n then FNot (FVar b) else FTrue) (if nat_le (n + k) m then FOr (FNot (FVar a)) (FVar b) else FTrue)
 
 abbrev pub constraint_formula : List Step → ℕ → Constraint → Formula
 constraint_formula T n c = relation_formula c.kind c.left c.right (clock_count T c.left n) (clock_count T c.right n)

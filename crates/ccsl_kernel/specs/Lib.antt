@@ -19,7 +19,7 @@ pub mod Verdict
 pub mod Course
 pub mod AcceptedPlaces
 pub mod Since
-pub mod Asked
+pub mod Operators
 pub mod Deep
 pub mod Held
 pub mod AcceptedPieces

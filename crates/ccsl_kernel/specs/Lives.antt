@@ -1,13 +1,12 @@
 -- An expression from its birth on, over a list of steps.
 --     Life      its formula and its death, for each birth b and each step n from b on
---     ticks_at, tick_count      at which steps it ticks, and how often it has ticked
+--     ticks_at      at which steps it ticks
 --     joined      the life of an operator of two operands
 use Rattle.std.specs.Prelude.{ℕ, zero, suc, List, [], ◌∷◌, ◌++◌, Bool, false, Option, Some, None, slice_index_or, map, find, nat_le, if◌then◌else◌}
 use Rattle.ccsl_formula.specs.Formula.{eval}
 use Rattle.ccsl_kernel.specs.declared.expr.ExprOp.{ExprOp}
 use Rattle.ccsl_kernel.specs.declared.expr.ExprOp.TheVariants as op
-use Rattle.ccsl_kernel.specs.Ticks.{count}
-use Rattle.ccsl_kernel.specs.Table.{Now, Operand, union_row, inter_row, minus_row, inf_row, sup_row, upto_row, sampled_row, sampled_weakly_row}
+use Rattle.ccsl_kernel.specs.Table.{Now, Operand, union_row, inter_row, minus_row, inf_row, sup_row, upto_row, upto_weakly_row, sampled_row, sampled_weakly_row}
 
 -- a step: the clocks that tick in it, in ascending order
 abbrev pub Step : Type 0
@@ -44,10 +43,6 @@ module _ (T : List Step) where
   abbrev pub ticks_at : Life → ℕ → ℕ → Bool
   ticks_at L b i = eval (L b i).formula (step_at i)
 
-  -- how often it ticks in the steps from b to n - 1
-  abbrev pub tick_count : Life → ℕ → ℕ → ℕ
-  tick_count L b n = count (map (ticks_at L b) (steps b n))
-
   -- what a row reads at n of an operand that was born at b
   abbrev pub operand : Life → ℕ → ℕ → Operand
   operand L b n = let now = L b n in record { formula = now.formula; dead = now.dead; ticks = map (ticks_at L b) (steps b n) }
@@ -66,6 +61,7 @@ module _ (T : List Step) where
   joined op.Inf = over_two inf_row
   joined op.Sup = over_two sup_row
   joined op.Upto = over_two upto_row
+  joined op.UptoWeakly = over_two upto_weakly_row
   joined op.Then = followed_by
   joined op.Sampled = over_two sampled_row
   joined op.SampledWeakly = over_two sampled_weakly_row

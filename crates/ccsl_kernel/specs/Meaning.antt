@@ -7,7 +7,7 @@ use Rattle.ccsl_formula.specs.Formula.{Formula, FVar}
 use Rattle.ccsl_kernel.specs.declared.actual.Actual.{Actual}
 use Rattle.ccsl_kernel.specs.declared.actual.Actual.TheVariants as actual
 use Rattle.ccsl_kernel.specs.Syntax.{Expression, EName, ECall, ENever, EBinary, EDelay, EAwait, EFilter, EDelayed, EIf, System, root_of, definition_of}
-use Rattle.ccsl_kernel.specs.Actuals.{place_of, number_of, spot_of, value_of, test_of, word_of}
+use Rattle.ccsl_kernel.specs.Actuals.{place_of, number_of, suffix_of, value_of, test_of, word_of}
 use Rattle.ccsl_kernel.specs.Table.{never_row, delay_row, await_row, filter_row, delayed_row}
 use Rattle.ccsl_kernel.specs.Lives.{Step, Life, over_one, over_two, joined}
 
@@ -26,7 +26,7 @@ module _ (K : System) (T : List Step) (gone : ℕ → ℕ → Bool) where
   life calls (EBinary op a d) ρ = joined T op (life calls a ρ) (life calls d ρ)
   life calls (EDelay a m) ρ = over_one T (delay_row (number_of m ρ)) (life calls a ρ)
   life calls (EAwait a m) ρ = over_one T (await_row (number_of m ρ)) (life calls a ρ)
-  life calls (EFilter a w) ρ = let s = spot_of K.words w ρ in over_one T (filter_row (word_of K.words s.word) s.offset) (life calls a ρ)
+  life calls (EFilter a w) ρ = let s = suffix_of K.words w ρ in over_one T (filter_row (word_of K.words s.word) s.offset) (life calls a ρ)
   life calls (EDelayed a m d) ρ = over_two T (delayed_row m) (life calls a ρ) (life calls d ρ)
   life calls (EIf q a d) ρ = if test_of K.words q ρ then life calls a ρ else life calls d ρ
 

@@ -8,7 +8,7 @@ use Rattle.ccsl_kernel.specs.declared.expr.ExprTest.{ExprTest}
 use Rattle.ccsl_kernel.specs.declared.expr.ExprOp.{ExprOp}
 use Rattle.ccsl_kernel.specs.declared.actual.Actual.{Actual}
 use Rattle.ccsl_kernel.specs.Syntax.{Expression, EName, ECall, ENever, EBinary, EDelay, EAwait, EFilter, EDelayed, EIf, System, root_of}
-use Rattle.ccsl_kernel.specs.Actuals.{place_of, number_of, spot_of, value_of, test_of, word_of}
+use Rattle.ccsl_kernel.specs.Actuals.{place_of, number_of, suffix_of, value_of, test_of, word_of}
 use Rattle.ccsl_kernel.specs.Table.{never_row, delay_row, await_row, filter_row, delayed_row}
 use Rattle.ccsl_kernel.specs.Lives.{Step, Life, over_one, over_two, joined}
 use Rattle.ccsl_kernel.specs.Meaning.{named}
@@ -20,7 +20,7 @@ pub record IsTable (K : System) (T : List Step) (gone : ℕ → ℕ → Bool) (M
   pub binary : (op : ExprOp) (a d : Expression) (ρ : List Actual) (b n : ℕ) → b ≤ n → n ≤ length T → M (EBinary op a d) ρ b n ≡ joined T op (M a ρ) (M d ρ) b n
   pub delay : (a : Expression) (m : NumTerm) (ρ : List Actual) (b n : ℕ) → b ≤ n → n ≤ length T → M (EDelay a m) ρ b n ≡ over_one T (delay_row (number_of m ρ)) (M a ρ) b n
   pub await : (a : Expression) (m : NumTerm) (ρ : List Actual) (b n : ℕ) → b ≤ n → n ≤ length T → M (EAwait a m) ρ b n ≡ over_one T (await_row (number_of m ρ)) (M a ρ) b n
-  pub filter : (a : Expression) (w : WordPlace) (ρ : List Actual) (b n : ℕ) → b ≤ n → n ≤ length T → M (EFilter a w) ρ b n ≡ (let s = spot_of K.words w ρ in over_one T (filter_row (word_of K.words s.word) s.offset) (M a ρ) b n)
+  pub filter : (a : Expression) (w : WordPlace) (ρ : List Actual) (b n : ℕ) → b ≤ n → n ≤ length T → M (EFilter a w) ρ b n ≡ (let s = suffix_of K.words w ρ in over_one T (filter_row (word_of K.words s.word) s.offset) (M a ρ) b n)
   pub delayed : (a : Expression) (m : ℕ) (d : Expression) (ρ : List Actual) (b n : ℕ) → 1 ≤ m → b ≤ n → n ≤ length T → M (EDelayed a m d) ρ b n ≡ over_two T (delayed_row m) (M a ρ) (M d ρ) b n
   pub choice : (q : ExprTest) (a d : Expression) (ρ : List Actual) (b n : ℕ) → b ≤ n → n ≤ length T → M (EIf q a d) ρ b n ≡ (if test_of K.words q ρ then M a ρ b n else M d ρ b n)
 

@@ -50,10 +50,17 @@ sup_row a d = record {
   dead = (a.dead && nat_le (count a.ticks) (count d.ticks)) || (d.dead && nat_le (count d.ticks) (count a.ticks));
 }
 
--- as a, but no longer once k ticks
+-- as a, but no longer once k ticks, at that step either
 abbrev pub upto_row : Operand → Operand → Now
 upto_row a k = record {
   formula = if ever k.ticks then FFalse else FAnd a.formula (FNot k.formula);
+  dead = a.dead || ever k.ticks;
+}
+
+-- as a, but no longer after k ticked
+abbrev pub upto_weakly_row : Operand → Operand → Now
+upto_weakly_row a k = record {
+  formula = if ever k.ticks then FFalse else a.formula;
   dead = a.dead || ever k.ticks;
 }
 

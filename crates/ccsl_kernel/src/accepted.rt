@@ -2,37 +2,27 @@
 
 ghost use Rattle.std.specs.Prelude.{◌≡◌, ◌+◌, ◌^◌, ◌<◌, ◌≤◌, ◌↔◌, IsTrue, IfOk, All, map, length};
 ghost use Rattle.ccsl_kernel.specs.Plain.{plain_expr, plain_body, plain_group, plain_system};
-ghost use Rattle.ccsl_kernel.specs.Accepted.{Each, IsBody, IsDefinition, IsAccepted};
+ghost use Rattle.ccsl_kernel.specs.Accepted.{Each, IsBody, IsDefinition, IsRelation, IsConstraint, IsAccepted};
 ghost use Rattle.ccsl_kernel.specs.AcceptedPieces.{IsCounted, IsWellFormed};
 
 use crate::accepted::calls::{TailPlace, is_allowed};
-use crate::accepted::cells::MAX_CELLS;
 use crate::accepted::depth::is_shallow;
 use crate::accepted::known::{Nameable, is_known};
 use crate::accepted::levels::are_low;
 use crate::accepted::names::are_named;
-use crate::constraint::Constraint;
+use crate::constraint::{Constraint, RelationKind};
 use crate::expr::Expr;
 use crate::group::{Body, Group};
 use crate::parts::Parts;
-use ccsl_base::{MAX_CLOCKS, Memory};
+use ccsl_base::{MAX_CELLS, MAX_CLOCKS, MAX_CONSTRAINTS, MAX_LEVELS, MAX_PARAMS, Memory};
 use std::alloc::Global;
 
 mod calls;
-mod cells;
+pub mod cells;
 mod depth;
 mod known;
 mod levels;
 mod names;
-
-/// The most constraints of a system.
-const MAX_CONSTRAINTS: usize = 4096;
-
-/// The greatest depth of an expression.
-const MAX_DEPTH: u32 = 128;
-
-/// The most parameters of a member of a group.
-const MAX_PARAMS: usize = 8;
 
 /// Whether the numbers of clocks, definitions and constraints agree, and are below their limits.
 fn are_counted(parts: &Parts) -> bool
@@ -43,7 +33,7 @@ fn are_counted(parts: &Parts) -> bool
         && parts.written <= names
         && names <= MAX_CLOCKS
         && parts.definitions.members().len() == (names - parts.declared) as usize
-        && parts.constraints.members().len() <= MAX_CONSTRAINTS
+        && parts.constraints.members().len() <= MAX_CONSTRAINTS as usize
 }
 
 /// Whether a member of group number `group` is as it has to be.
@@ -57,8 +47,8 @@ fn is_body(parts: &Parts, group: usize, body: &Body) -> bool
         clocks: 0,
         params,
     };
-    params.len() <= MAX_PARAMS
-        && is_shallow(&body.root, MAX_DEPTH)
+    params.len() <= MAX_PARAMS as usize
+        && is_shallow(&body.root, MAX_LEVELS)
         && is_allowed(&body.root, group, TailPlace::Tail)
         && is_known(&here, &body.root)
 }
@@ -93,7 +83,7 @@ fn is_definition(parts: &Parts, clock: u32, definition: &Expr) -> bool
         clocks: clock,
         params: &[],
     };
-    is_shallow(definition, MAX_DEPTH)
+    is_shallow(definition, MAX_LEVELS)
         && is_allowed(definition, groups.len(), TailPlace::Inner)
         && is_known(&here, definition)
 }
@@ -111,13 +101,21 @@ fn are_definitions(parts: &Parts, declared: u32, definitions: &[Expr]) -> bool
     true
 }
 
+/// Whether a relation's bound is at least 1, if it has one.
+fn is_relation(kind: RelationKind) -> bool
+    ensures { IsTrue result ↔ IsRelation kind }
+{
+    match kind {
+        RelationKind::PrecedesWithin(most) => 1 <= most,
+        _ => true,
+    }
+}
+
 /// Whether constraints stand between clocks below a number.
 fn are_constraints(constraints: &[Constraint], clocks: u32) -> bool
-    ensures { IsTrue result ↔ All (λ c. (c.left < clocks) × (c.right < clocks)) constraints.now }
+    ensures { IsTrue result ↔ All (IsConstraint clocks) constraints.now }
 {
-    constraints
-        .iter()
-        .all(|c| c.left < clocks && c.right < clocks)
+    constraints.iter().all(|c| c.left < clocks && c.right < clocks && is_relation(c.kind))
 }
 
 /// Whether the parts are as they have to be, but for the levels of groups and the count of cells.

@@ -5,8 +5,8 @@
 
 ghost use Rattle.std.specs.Prelude.{◌≡◌, ◌&&◌, length, nat_le, slice_get};
 ghost use Rattle.ccsl_words.specs.Word.{letter, is_finite, has_ended};
-ghost use Rattle.ccsl_kernel.specs.Actuals.{place_of, prim_of, number_of, spot_of, spot_in, word_of, tail_of, value_of, test_of};
-ghost use Rattle.ccsl_kernel.specs.Fit.{PlaceFits, SpotFits, ActualFits, ActualsFit, TestFits, ValueFits};
+ghost use Rattle.ccsl_kernel.specs.Actuals.{place_of, prim_of, number_of, suffix_of, suffix_in, word_of, tail_of, value_of, test_of};
+ghost use Rattle.ccsl_kernel.specs.Fit.{PlaceFits, SuffixFits, ActualFits, ActualsFit, TestFits, ValueFits};
 
 use crate::expr::{ExprTest, NumPrim, NumSign, NumTerm, Place, Value, WordPlace};
 use ccsl_words::Word;
@@ -21,7 +21,7 @@ pub enum Actual {
 
 /// A word of the table, and an offset in it.
 #[derive(Clone, Copy)]
-pub struct Spot {
+pub struct Suffix {
     pub word: u32,
     pub offset: u64,
 }
@@ -71,16 +71,16 @@ impl NumTerm {
     }
 }
 
-/// The spot that parameter number `i` stands for.
-fn param_spot(actuals: &[Actual], i: u32) -> Spot
-    ensures { result ≡ spot_in (slice_get actuals.now i) }
+/// The suffix that parameter number `i` stands for.
+fn param_suffix(actuals: &[Actual], i: u32) -> Suffix
+    ensures { result ≡ suffix_in (slice_get actuals.now i) }
 {
     match actuals.get(i as usize) {
-        Some(Actual::Word(w, offset)) => Spot {
+        Some(Actual::Word(w, offset)) => Suffix {
             word: *w,
             offset: *offset,
         },
-        _ => Spot { word: 0, offset: 0 },
+        _ => Suffix { word: 0, offset: 0 },
     }
 }
 
@@ -104,7 +104,7 @@ pub fn is_past_end(words: &[Word], word: u32, k: u64) -> bool
     }
 }
 
-impl Spot {
+impl Suffix {
     /// Whether the offset is the end of a finite word.
     pub fn has_ended(&self, words: &[Word]) -> bool
         ensures { result ≡ has_ended (word_of words.now self.now.word) self.now.offset }
@@ -116,16 +116,19 @@ impl Spot {
     }
 
     /// The same word at the offset after.
-    pub fn tail(&self, words: &[Word]) -> Spot
-        requires { SpotFits words.now self.now }
+    pub fn tail(&self, words: &[Word]) -> Suffix
+        requires { SuffixFits words.now self.now }
         ensures tail { result ≡ tail_of words.now self.now }
-        ensures fits { SpotFits words.now result }
+        ensures fits { SuffixFits words.now result }
     {
         let offset = match words.get(self.word as usize) {
-            Some(word) => word.rest(self.offset.min(word.len())),
+            Some(word) => {
+                prove!(self.offset <= word.len());
+                word.rest(self.offset)
+            }
             None => 0,
         };
-        Spot {
+        Suffix {
             word: self.word,
             offset,
         }
@@ -133,19 +136,19 @@ impl Spot {
 }
 
 impl WordPlace {
-    pub fn spot(&self, words: &[Word], actuals: &[Actual]) -> Spot
+    pub fn suffix(&self, words: &[Word], actuals: &[Actual]) -> Suffix
         requires place { PlaceFits words.now self.now }
         requires actuals { ActualsFit words.now actuals.now }
-        ensures spot { result ≡ spot_of words.now self.now actuals.now }
-        ensures fits { SpotFits words.now result }
+        ensures suffix { result ≡ suffix_of words.now self.now actuals.now }
+        ensures fits { SuffixFits words.now result }
     {
         match self {
-            WordPlace::Word(w, offset) => Spot {
+            WordPlace::Word(w, offset) => Suffix {
                 word: *w,
                 offset: *offset,
             },
-            WordPlace::Param(i) => param_spot(actuals, *i),
-            WordPlace::Tail(i) => param_spot(actuals, *i).tail(words),
+            WordPlace::Param(i) => param_suffix(actuals, *i),
+            WordPlace::Tail(i) => param_suffix(actuals, *i).tail(words),
         }
     }
 }
@@ -161,8 +164,8 @@ impl Value {
             Value::Clock(place) => place.actual(actuals),
             Value::Number(term) => Actual::Number(term.number(actuals)),
             Value::Word(place) => {
-                let spot = place.spot(words, actuals);
-                Actual::Word(spot.word, spot.offset)
+                let suffix = place.suffix(words, actuals);
+                Actual::Word(suffix.word, suffix.offset)
             }
         }
     }
@@ -178,10 +181,10 @@ impl ExprTest {
             ExprTest::Equal(t, u) => t.number(actuals) == u.number(actuals),
             ExprTest::Less(t, u) => t.number(actuals) < u.number(actuals),
             ExprTest::Head(place) => {
-                let spot = place.spot(words, actuals);
-                letter_at(words, spot.word, spot.offset)
+                let suffix = place.suffix(words, actuals);
+                letter_at(words, suffix.word, suffix.offset)
             }
-            ExprTest::Ended(place) => place.spot(words, actuals).has_ended(words),
+            ExprTest::Ended(place) => place.suffix(words, actuals).has_ended(words),
         }
     }
 }

@@ -30,17 +30,17 @@ pub fn advanced<'s>(
     match course {
         Course::Name(x) => Ok(Course::Name(x)),
         Course::Never => Ok(Course::Never),
-        Course::One(row, a, mut ticks) => {
+        Course::Unary(row, a, mut ticks) => {
             ticks.push(a.ticks(words, step))?;
             let a = advanced(alloc, system, Box::into_inner(a), step, deaths, at)?;
-            Ok(Course::One(row, Box::new(alloc, a)?, ticks))
+            Ok(Course::Unary(row, Box::new(alloc, a)?, ticks))
         }
-        Course::Two(row, a, mut p, d, mut q) => {
+        Course::Binary(row, a, mut p, d, mut q) => {
             p.push(a.ticks(words, step))?;
             q.push(d.ticks(words, step))?;
             let a = advanced(alloc, system, Box::into_inner(a), step, deaths, at)?;
             let d = advanced(alloc, system, Box::into_inner(d), step, deaths, at)?;
-            Ok(Course::Two(row, Box::new(alloc, a)?, p, Box::new(alloc, d)?, q))
+            Ok(Course::Binary(row, Box::new(alloc, a)?, p, Box::new(alloc, d)?, q))
         }
         Course::Then(a, d, values) => {
             let a = advanced(alloc, system, Box::into_inner(a), step, deaths, at)?;

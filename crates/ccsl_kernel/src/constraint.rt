@@ -2,7 +2,8 @@
 
 use ccsl_base::Text;
 
-/// A relation between clocks (CCSL, MARTE Annex C).
+/// A relation between clocks (CCSL, MARTE Annex C). `PrecedesWithin(m)` is precedence in which the left clock is at most `m` ticks ahead,
+/// a form of this project's own.
 #[derive(Clone, Copy)]
 pub enum RelationKind {
     Subclock,
@@ -10,6 +11,7 @@ pub enum RelationKind {
     Excludes,
     Precedes,
     PrecedesWeakly,
+    PrecedesWithin(u32),
 }
 
 /// A relation that holds between two clocks at every step. The label is the path of the relation call that it comes

@@ -8,7 +8,7 @@ ghost use Rattle.ccsl_kernel.specs.Held.{held, gone_in};
 use crate::actual::Actual;
 use crate::deaths::Deaths;
 use crate::expr::Expr;
-use crate::row::{Asked, OneRow, TwoRow};
+use crate::operator::{Binary, Connective, Unary};
 use ccsl_base::{ClockSet, Memory};
 use ccsl_formula::Formula;
 use ccsl_words::Word;
@@ -20,8 +20,8 @@ use std::alloc::Global;
 pub enum Course<'s> {
     Name(u32),
     Never,
-    One(OneRow, Box<Course<'s>>, Vec<bool>),
-    Two(TwoRow, Box<Course<'s>>, Vec<bool>, Box<Course<'s>>, Vec<bool>),
+    Unary(Unary, Box<Course<'s>>, Vec<bool>),
+    Binary(Binary, Box<Course<'s>>, Vec<bool>, Box<Course<'s>>, Vec<bool>),
     Then(Box<Course<'s>>, &'s Expr, Vec<Actual>),
 }
 
@@ -33,30 +33,30 @@ impl<'s> Course<'s> {
         match self {
             Course::Name(x) => Ok(Formula::Var(*x)),
             Course::Never => Ok(Formula::False),
-            Course::One(row, a, ticks) => {
+            Course::Unary(row, a, ticks) => {
                 if row.is_open(words, ticks) {
                     a.formula(alloc, words)
                 } else {
                     Ok(Formula::False)
                 }
             }
-            Course::Two(row, a, p, d, q) => match row.asked(p, q) {
-                Asked::Left => a.formula(alloc, words),
-                Asked::Right => d.formula(alloc, words),
-                Asked::Nothing => Ok(Formula::False),
-                Asked::Either => Ok(Formula::Or(
+            Course::Binary(row, a, p, d, q) => match row.connective(p, q) {
+                Connective::Left => a.formula(alloc, words),
+                Connective::Right => d.formula(alloc, words),
+                Connective::False => Ok(Formula::False),
+                Connective::Or => Ok(Formula::Or(
                     Box::new(alloc, a.formula(alloc, words)?)?,
                     Box::new(alloc, d.formula(alloc, words)?)?,
                 )),
-                Asked::Both => Ok(Formula::And(
+                Connective::And => Ok(Formula::And(
                     Box::new(alloc, a.formula(alloc, words)?)?,
                     Box::new(alloc, d.formula(alloc, words)?)?,
                 )),
-                Asked::RightAndLeft => Ok(Formula::And(
+                Connective::RightAndLeft => Ok(Formula::And(
                     Box::new(alloc, d.formula(alloc, words)?)?,
                     Box::new(alloc, a.formula(alloc, words)?)?,
                 )),
-                Asked::LeftAlone => {
+                Connective::AndNot => {
                     let left = Box::new(alloc, a.formula(alloc, words)?)?;
                     let right = Box::new(alloc, d.formula(alloc, words)?)?;
                     Ok(Formula::And(left, Box::new(alloc, Formula::Not(right))?))
@@ -73,15 +73,15 @@ impl<'s> Course<'s> {
         match self {
             Course::Name(x) => step.has(*x),
             Course::Never => false,
-            Course::One(row, a, ticks) => row.is_open(words, ticks) && a.ticks(words, step),
-            Course::Two(row, a, p, d, q) => match row.asked(p, q) {
-                Asked::Left => a.ticks(words, step),
-                Asked::Right => d.ticks(words, step),
-                Asked::Nothing => false,
-                Asked::Either => a.ticks(words, step) || d.ticks(words, step),
-                Asked::Both => a.ticks(words, step) && d.ticks(words, step),
-                Asked::RightAndLeft => d.ticks(words, step) && a.ticks(words, step),
-                Asked::LeftAlone => a.ticks(words, step) && !d.ticks(words, step),
+            Course::Unary(row, a, ticks) => row.is_open(words, ticks) && a.ticks(words, step),
+            Course::Binary(row, a, p, d, q) => match row.connective(p, q) {
+                Connective::Left => a.ticks(words, step),
+                Connective::Right => d.ticks(words, step),
+                Connective::False => false,
+                Connective::Or => a.ticks(words, step) || d.ticks(words, step),
+                Connective::And => a.ticks(words, step) && d.ticks(words, step),
+                Connective::RightAndLeft => d.ticks(words, step) && a.ticks(words, step),
+                Connective::AndNot => a.ticks(words, step) && !d.ticks(words, step),
             },
             Course::Then(a, _, _) => a.ticks(words, step),
         }
@@ -94,8 +94,8 @@ impl<'s> Course<'s> {
         match self {
             Course::Name(x) => deaths.is_gone(at, *x),
             Course::Never => false,
-            Course::One(row, a, ticks) => row.is_dead(words, a.is_dead(words, deaths, at), ticks),
-            Course::Two(row, a, p, d, q) => {
+            Course::Unary(row, a, ticks) => row.is_dead(words, a.is_dead(words, deaths, at), ticks),
+            Course::Binary(row, a, p, d, q) => {
                 let left = a.is_dead(words, deaths, at);
                 row.is_dead(left, p, d.is_dead(words, deaths, at), q)
             }

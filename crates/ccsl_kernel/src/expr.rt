@@ -65,6 +65,7 @@ pub enum ExprOp {
     Inf,
     Sup,
     Upto,
+    UptoWeakly,
     Then,
     Sampled,
     SampledWeakly,

@@ -1,5 +1,7 @@
 //! The laws of the meaning. Each function does nothing; its contract is the law.
 
+ghost use Rattle.std.specs.Prelude.{◌≡◌, true};
+ghost use Rattle.ccsl_base.specs.Name.{are_cert_names};
 ghost use Rattle.ccsl_kernel.specs.Syntax.{System};
 ghost use Rattle.ccsl_kernel.specs.Accepted.{IsAccepted};
 ghost use Rattle.ccsl_kernel.specs.Laws.{RowsHold, NamesDie, RowsDetermine, FirstStepsMatter, ReadsLower, DeadStays, CompletionExists, CompletionOnly, RunsObey, EmptyHolds, VerdictIsFirst};
@@ -52,6 +54,11 @@ pub fn runs_obey()
 /// The empty set satisfies every item's formula at every step, so a step of a simulation must be nonempty.
 pub fn empty_holds()
     ensures { (K : System) → IsAccepted K → EmptyHolds K }
+{}
+
+/// The names of a system can stand in certificates.
+pub fn names_stand_in_certificates()
+    ensures { (K : System) → IsAccepted K → are_cert_names K.names ≡ true }
 {}
 
 /// The verdict is the least violated step and the least item there, or a run where nothing is violated.

@@ -11,14 +11,14 @@ pub mod expr;
 pub mod group;
 pub mod laws;
 mod opening;
+mod operator;
 pub mod parts;
 mod plain;
-mod row;
 pub mod system;
 mod ticks;
 mod walk;
 
-pub use actual::{Actual, Spot};
+pub use actual::{Actual, Suffix};
 pub use constraint::{Constraint, RelationKind};
 pub use expr::{Expr, ExprOp, ExprTest, NumPrim, NumSign, NumTerm, Place, Value, WordPlace};
 pub use group::{Body, Group, ParamKind};

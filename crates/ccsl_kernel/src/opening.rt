@@ -1,39 +1,40 @@
 //! The course of an expression at its birth.
 
-ghost use Rattle.std.specs.Prelude.{◌≡◌, ◌≤◌, List, [], IfOk, map, option_map};
+ghost use Rattle.std.specs.Prelude.{◌≡◌, ◌≤◌, suc, List, [], IfOk, map, option_map};
 ghost use Rattle.ccsl_words.specs.Word.{BinaryWord};
 ghost use Rattle.ccsl_kernel.specs.Plain.{plain_expr};
 ghost use Rattle.ccsl_kernel.specs.Deep.{deep};
 ghost use Rattle.ccsl_kernel.specs.Actuals.{value_of, word_of};
-ghost use Rattle.ccsl_kernel.specs.Asked.{one_row, two_row};
+ghost use Rattle.ccsl_kernel.specs.Operators.{unary_row, binary_row};
 ghost use Rattle.ccsl_kernel.specs.Table.{filter_row};
-ghost use Rattle.ccsl_kernel.specs.Course.{COne, CTwo, leaf, operator_row, open_with, open_bodies};
+ghost use Rattle.ccsl_kernel.specs.Course.{CUnary, CBinary, leaf, operator_row, open_with, open_bodies};
 ghost use Rattle.ccsl_kernel.specs.Held.{held, IsReady};
-ghost use Rattle.ccsl_kernel.specs.Fit.{ActualsFit, ValuesFit, ExprFits, SpotFits};
+ghost use Rattle.ccsl_kernel.specs.Fit.{ActualsFit, ValuesFit, ExprFits, SuffixFits};
 
-use crate::actual::{Actual, Spot};
+use crate::actual::{Actual, Suffix};
 use crate::course::Course;
 use crate::expr::{Expr, ExprOp, Value};
-use crate::row::{OneRow, TwoRow};
+use crate::operator::{Binary, Unary};
 use crate::system::System;
-use ccsl_base::Memory;
+use ccsl_base::{MAX_LEVELS, Memory};
 use ccsl_words::Word;
 use std::alloc::Global;
 
 // The row of an operator; a then has none.
-fn operator_row(op: ExprOp) -> Option<TwoRow>
-    ensures { option_map two_row result ≡ operator_row op }
+fn operator_row(op: ExprOp) -> Option<Binary>
+    ensures { option_map binary_row result ≡ operator_row op }
 {
     match op {
-        ExprOp::Union => Some(TwoRow::Union),
-        ExprOp::Inter => Some(TwoRow::Inter),
-        ExprOp::Minus => Some(TwoRow::Minus),
-        ExprOp::Inf => Some(TwoRow::Inf),
-        ExprOp::Sup => Some(TwoRow::Sup),
-        ExprOp::Upto => Some(TwoRow::Upto),
+        ExprOp::Union => Some(Binary::Union),
+        ExprOp::Inter => Some(Binary::Inter),
+        ExprOp::Minus => Some(Binary::Minus),
+        ExprOp::Inf => Some(Binary::Inf),
+        ExprOp::Sup => Some(Binary::Sup),
+        ExprOp::Upto => Some(Binary::Upto),
+        ExprOp::UptoWeakly => Some(Binary::UptoWeakly),
         ExprOp::Then => None,
-        ExprOp::Sampled => Some(TwoRow::Sampled),
-        ExprOp::SampledWeakly => Some(TwoRow::SampledWeakly),
+        ExprOp::Sampled => Some(Binary::Sampled),
+        ExprOp::SampledWeakly => Some(Binary::SampledWeakly),
     }
 }
 
@@ -47,16 +48,19 @@ fn leaf<'s>(actual: Actual) -> Course<'s>
     }
 }
 
-// A filter from a spot on, which is no further than the word's end.
-fn filter_row(words: &[Word], spot: Spot) -> OneRow
-    requires { SpotFits words.now spot }
-    ensures { one_row words.now result ≡ filter_row (word_of words.now spot.word) spot.offset }
+// A filter from a suffix on, which is no further than the word's end.
+fn filter_row(words: &[Word], suffix: Suffix) -> Unary
+    requires { SuffixFits words.now suffix }
+    ensures { unary_row words.now result ≡ filter_row (word_of words.now suffix.word) suffix.offset }
 {
-    let offset = match words.get(spot.word as usize) {
-        Some(word) => spot.offset.min(word.len()) as u32,
+    let offset = match words.get(suffix.word as usize) {
+        Some(word) => {
+            prove!(suffix.offset <= word.len());
+            suffix.offset as u32
+        }
         None => 0,
     };
-    OneRow::Filter(spot.word, offset)
+    Unary::Filter(suffix.word, offset)
 }
 
 // What the arguments of a call stand for.
@@ -79,23 +83,23 @@ fn all_actuals(
 }
 
 // An operator of one operand that has not ticked yet.
-fn over_one<'s>(alloc: Global, row: OneRow, a: Course<'s>) -> Result<Course<'s>, Memory>
-    ensures { IfOk result (λ c. (words : List BinaryWord) → held words c ≡ COne (one_row words row) (held words a.entry) []) }
+fn over_one<'s>(alloc: Global, row: Unary, a: Course<'s>) -> Result<Course<'s>, Memory>
+    ensures { IfOk result (λ c. (words : List BinaryWord) → held words c ≡ CUnary (unary_row words row) (held words a.entry) []) }
 {
-    Ok(Course::One(row, Box::new(alloc, a)?, Vec::new(alloc)))
+    Ok(Course::Unary(row, Box::new(alloc, a)?, Vec::new(alloc)))
 }
 
 // An operator of two operands that have not ticked yet.
 fn over_two<'s>(
     alloc: Global,
-    row: TwoRow,
+    row: Binary,
     a: Course<'s>,
     d: Course<'s>,
 ) -> Result<Course<'s>, Memory>
     ensures { IfOk result (λ c. (words : List BinaryWord) →
-        held words c ≡ CTwo (two_row row) (held words a.entry) (held words d.entry) [] []) }
+        held words c ≡ CBinary (binary_row row) (held words a.entry) (held words d.entry) [] []) }
 {
-    Ok(Course::Two(
+    Ok(Course::Binary(
         row,
         Box::new(alloc, a)?,
         Vec::new(alloc),
@@ -112,7 +116,7 @@ pub fn opened<'s>(
     e: &'s Expr,
     actuals: &[Actual],
 ) -> Result<Course<'s>, Memory>
-    requires shallow { deep (plain_expr e.now) ≤ 129 }
+    requires shallow { deep (plain_expr e.now) ≤ suc MAX_LEVELS }
     requires offsets { ExprFits system.now.words (plain_expr e.now) }
     requires actuals { ActualsFit system.now.words actuals.now }
     ensures course { IfOk result (λ c. held system.now.words c ≡
@@ -152,21 +156,21 @@ pub fn opened<'s>(
             }
         }
         Expr::Delay(a, m) => {
-            let row = OneRow::Delay(m.number(actuals));
+            let row = Unary::Delay(m.number(actuals));
             over_one(alloc, row, opened(alloc, system, level, a, actuals)?)
         }
         Expr::Await(a, m) => {
-            let row = OneRow::Await(m.number(actuals));
+            let row = Unary::Await(m.number(actuals));
             over_one(alloc, row, opened(alloc, system, level, a, actuals)?)
         }
         Expr::Filter(a, word) => {
-            let row = filter_row(system.words(), word.spot(system.words(), actuals));
+            let row = filter_row(system.words(), word.suffix(system.words(), actuals));
             over_one(alloc, row, opened(alloc, system, level, a, actuals)?)
         }
         Expr::Delayed(a, m, d) => {
             let left = opened(alloc, system, level, a, actuals)?;
             let right = opened(alloc, system, level, d, actuals)?;
-            over_two(alloc, TwoRow::Delayed(*m), left, right)
+            over_two(alloc, Binary::Delayed(*m), left, right)
         }
         Expr::If(test, a, d) => {
             if test.holds(system.words(), actuals) {

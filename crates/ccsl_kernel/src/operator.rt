@@ -1,111 +1,113 @@
-//! The rows of the table for operators, as what they ask of their operands.
+//! The rows of the table for operators, as what they make of their operands' formulas and deaths.
 
-ghost use Rattle.std.specs.Prelude.{◌≡◌, Bool, if◌then◌else◌};
-ghost use Rattle.ccsl_formula.specs.Formula.{Formula, FFalse};
+ghost use Rattle.std.specs.Prelude.{◌≡◌, if◌then◌else◌};
+ghost use Rattle.ccsl_formula.specs.Formula.{FFalse};
 ghost use Rattle.ccsl_kernel.specs.Table.{Now};
 ghost use Rattle.ccsl_kernel.specs.Course.{operand_of};
-ghost use Rattle.ccsl_kernel.specs.Asked.{one_row, two_row, asked_formula, ahead};
+ghost use Rattle.ccsl_kernel.specs.Operators.{unary_row, binary_row, connected, ahead};
 
 use crate::actual::{is_past_end, letter_at};
 use crate::ticks::{Since, count, ever, some_waits};
 use ccsl_words::Word;
 
-/// An operator of one operand. A filter has its word's number and an offset.
+/// A unary operator. A filter has its word's number and an offset.
 #[derive(Clone, Copy)]
-pub enum OneRow {
+pub enum Unary {
     Delay(u32),
     Await(u32),
     Filter(u32, u32),
 }
 
-impl OneRow {
+impl Unary {
     /// Whether the operator lets its operand's formula through, after these ticks of it.
     pub fn is_open(self, words: &[Word], ticks: &[bool]) -> bool
         ensures { (a : Now) →
-            (one_row words.now self (operand_of a ticks.now)).formula ≡ (if result then a.formula else FFalse) }
+            (unary_row words.now self (operand_of a ticks.now)).formula ≡ (if result then a.formula else FFalse) }
     {
         match self {
-            OneRow::Delay(m) => u64::from(m) <= count(ticks),
-            OneRow::Await(m) => count(ticks) + 1 == u64::from(m),
-            OneRow::Filter(word, offset) => letter_at(
-                words,
-                word,
-                u64::from(offset) + count(ticks),
-            ),
+            Unary::Delay(m) => u64::from(m) <= count(ticks),
+            Unary::Await(m) => count(ticks) + 1 == u64::from(m),
+            Unary::Filter(word, offset) => letter_at(words, word, u64::from(offset) + count(ticks)),
         }
     }
 
     /// Whether the operator is dead, where its operand is or not.
     pub fn is_dead(self, words: &[Word], dead: bool, ticks: &[bool]) -> bool
-        ensures { (a : Now) → a.dead ≡ dead → result ≡ (one_row words.now self (operand_of a ticks.now)).dead }
+        ensures { (a : Now) → a.dead ≡ dead → result ≡ (unary_row words.now self (operand_of a ticks.now)).dead }
     {
         match self {
-            OneRow::Delay(_) => dead,
-            OneRow::Await(m) => dead || u64::from(m) <= count(ticks),
-            OneRow::Filter(word, offset) => {
+            Unary::Delay(_) => dead,
+            Unary::Await(m) => dead || u64::from(m) <= count(ticks),
+            Unary::Filter(word, offset) => {
                 dead || is_past_end(words, word, u64::from(offset) + count(ticks))
             }
         }
     }
 }
 
-/// An operator of two operands.
+/// A binary operator.
 #[derive(Clone, Copy)]
-pub enum TwoRow {
+pub enum Binary {
     Union,
     Inter,
     Minus,
     Inf,
     Sup,
     Upto,
+    UptoWeakly,
     Sampled,
     SampledWeakly,
     Delayed(u32),
 }
 
-/// What a row asks of its operands' formulas: the left or the right one alone, none, a disjunction, a conjunction, the
-/// conjunction with the right one first, or the left one without the right one.
+/// The connective by which a row joins its operands' formulas: the left or the right one alone, false, a disjunction, a
+/// conjunction, the conjunction with the right one first, or the left one and not the right one.
 #[derive(Clone, Copy)]
-pub enum Asked {
+pub enum Connective {
     Left,
     Right,
-    Nothing,
-    Either,
-    Both,
+    False,
+    Or,
+    And,
     RightAndLeft,
-    LeftAlone,
+    AndNot,
 }
 
-impl TwoRow {
-    /// What the operator asks for, after these ticks of its operands.
-    pub fn asked(self, p: &[bool], q: &[bool]) -> Asked
+impl Binary {
+    /// How the operator joins its operands' formulas, after these ticks of theirs.
+    pub fn connective(self, p: &[bool], q: &[bool]) -> Connective
         ensures { (a d : Now) →
-            (two_row self (operand_of a p.now) (operand_of d q.now)).formula ≡ asked_formula result a.formula d.formula }
+            (binary_row self (operand_of a p.now) (operand_of d q.now)).formula ≡ connected result a.formula d.formula }
     {
         match self {
-            TwoRow::Union => Asked::Either,
-            TwoRow::Inter => Asked::Both,
-            TwoRow::Minus => Asked::LeftAlone,
-            TwoRow::Inf => ahead(count(p), count(q), Asked::Either),
-            TwoRow::Sup => ahead(count(q), count(p), Asked::Both),
-            TwoRow::Upto => either(ever(q), Asked::Nothing, Asked::LeftAlone),
-            TwoRow::Sampled => {
-                either(
+            Binary::Union => Connective::Or,
+            Binary::Inter => Connective::And,
+            Binary::Minus => Connective::AndNot,
+            Binary::Inf => ahead(count(p), count(q), Connective::Or),
+            Binary::Sup => ahead(count(q), count(p), Connective::And),
+            Binary::Upto => chosen(ever(q), Connective::False, Connective::AndNot),
+            Binary::UptoWeakly => chosen(ever(q), Connective::False, Connective::Left),
+            Binary::Sampled => {
+                chosen(
                     some_waits(Since::NoneAfter, p, q),
-                    Asked::Right,
-                    Asked::Nothing,
+                    Connective::Right,
+                    Connective::False,
                 )
             }
-            TwoRow::SampledWeakly => {
-                either(
+            Binary::SampledWeakly => {
+                chosen(
                     some_waits(Since::NoneFrom, p, q),
-                    Asked::Right,
-                    Asked::RightAndLeft,
+                    Connective::Right,
+                    Connective::RightAndLeft,
                 )
             }
-            TwoRow::Delayed(m) => {
+            Binary::Delayed(m) => {
                 let since = Since::Just(u64::from(m).saturating_sub(1));
-                either(some_waits(since, p, q), Asked::Right, Asked::Nothing)
+                chosen(
+                    some_waits(since, p, q),
+                    Connective::Right,
+                    Connective::False,
+                )
             }
         }
     }
@@ -113,36 +115,37 @@ impl TwoRow {
     /// Whether the operator is dead, where its operands are or not.
     pub fn is_dead(self, x: bool, p: &[bool], y: bool, q: &[bool]) -> bool
         ensures { (a d : Now) → a.dead ≡ x → d.dead ≡ y →
-            result ≡ (two_row self (operand_of a p.now) (operand_of d q.now)).dead }
+            result ≡ (binary_row self (operand_of a p.now) (operand_of d q.now)).dead }
     {
         match self {
-            TwoRow::Union | TwoRow::Inf => x && y,
-            TwoRow::Inter => x || y,
-            TwoRow::Minus => x,
-            TwoRow::Sup => (x && count(p) <= count(q)) || (y && count(q) <= count(p)),
-            TwoRow::Upto => x || ever(q),
-            TwoRow::Sampled => y || (x && !some_waits(Since::NoneAfter, p, q)),
-            TwoRow::SampledWeakly => y || (x && !some_waits(Since::NoneFrom, p, q)),
-            TwoRow::Delayed(m) => y || (x && !some_waits(Since::Fewer(u64::from(m)), p, q)),
+            Binary::Union | Binary::Inf => x && y,
+            Binary::Inter => x || y,
+            Binary::Minus => x,
+            Binary::Sup => (x && count(p) <= count(q)) || (y && count(q) <= count(p)),
+            Binary::Upto | Binary::UptoWeakly => x || ever(q),
+            Binary::Sampled => y || (x && !some_waits(Since::NoneAfter, p, q)),
+            Binary::SampledWeakly => y || (x && !some_waits(Since::NoneFrom, p, q)),
+            Binary::Delayed(m) => y || (x && !some_waits(Since::Fewer(u64::from(m)), p, q)),
         }
     }
 }
 
 // The left operand where m is more than n, the right one where it is less.
-fn ahead(m: u64, n: u64, level: Asked) -> Asked
+fn ahead(m: u64, n: u64, level: Connective) -> Connective
     ensures { result ≡ ahead m n level }
 {
     if n < m {
-        Asked::Left
+        Connective::Left
     } else if m < n {
-        Asked::Right
+        Connective::Right
     } else {
         level
     }
 }
 
-fn either(test: bool, yes_: Asked, no_: Asked) -> Asked
-    ensures { result ≡ (if test then yes_ else no_) }
+// One of two connectives, by a test.
+fn chosen(test: bool, met: Connective, unmet: Connective) -> Connective
+    ensures { result ≡ (if test then met else unmet) }
 {
-    if test { yes_ } else { no_ }
+    if test { met } else { unmet }
 }

@@ -1,7 +1,7 @@
 //! The slow evaluation of an item's formula, over a whole list of steps.
 
-ghost use Rattle.std.specs.Prelude.{◌≡◌, ◌<◌, ◌≤◌, IfOk, length};
-ghost use Rattle.ccsl_formula.specs.Formula.{FVar, FNot, FOr};
+ghost use Rattle.std.specs.Prelude.{◌≡◌, ◌<◌, ◌≤◌, ◌^◌, IfOk, length, if◌then◌else◌};
+ghost use Rattle.ccsl_formula.specs.Formula.{FTrue, FVar, FNot, FOr};
 ghost use Rattle.ccsl_formula.specs.Plain.{plain};
 ghost use Rattle.ccsl_kernel.specs.Syntax.{item_count};
 ghost use Rattle.ccsl_kernel.specs.Items.{clock_count, constraint_formula, item_formula};
@@ -89,9 +89,9 @@ fn constraint_formula(
     ensures { IfOk result (λ f. plain f ≡ constraint_formula list.now (length list.now) constraint.now) }
 {
     let (a, b) = (constraint.left, constraint.right);
-    let level = clock_count(list, a) == clock_count(list, b);
+    let (left, right) = (clock_count(list, a), clock_count(list, b));
     match constraint.kind {
-        RelationKind::Subclock => either(alloc, without(alloc, a)?, Formula::Var(b)),
+        RelationKind::Subclock => implies(alloc, a, b),
         RelationKind::Coincides => {
             let left = Box::new(alloc, Formula::Var(a))?;
             Ok(Formula::Iff(left, Box::new(alloc, Formula::Var(b))?))
@@ -101,29 +101,51 @@ fn constraint_formula(
             let both = Formula::And(left, Box::new(alloc, Formula::Var(b))?);
             Ok(Formula::Not(Box::new(alloc, both)?))
         }
-        RelationKind::Precedes if level => without(alloc, b),
-        RelationKind::PrecedesWeakly if level => {
-            either(alloc, without(alloc, b)?, Formula::Var(a))
+        RelationKind::Precedes => not_if(alloc, left == right, b),
+        RelationKind::PrecedesWeakly => implies_if(alloc, left == right, b, a),
+        RelationKind::PrecedesWithin(most) => {
+            let waits = Box::new(alloc, not_if(alloc, left == right, b)?)?;
+            let follows = implies_if(alloc, left >= right + u64::from(most), a, b)?;
+            Ok(Formula::And(waits, Box::new(alloc, follows)?))
         }
-        RelationKind::Precedes | RelationKind::PrecedesWeakly => Ok(Formula::True),
     }
 }
 
-fn without(alloc: Global, clock: u32) -> Result<Formula, Memory>
-    ensures { IfOk result (λ f. plain f ≡ FNot (FVar clock)) }
+// That a clock does not tick, where a test is met.
+fn not_if(alloc: Global, test: bool, clock: u32) -> Result<Formula, Memory>
+    ensures { IfOk result (λ f. plain f ≡ (if test then FNot (FVar clock) else FTrue)) }
 {
-    Ok(Formula::Not(Box::new(alloc, Formula::Var(clock))?))
+    if test {
+        Ok(Formula::Not(Box::new(alloc, Formula::Var(clock))?))
+    } else {
+        Ok(Formula::True)
+    }
 }
 
-fn either(alloc: Global, f: Formula, g: Formula) -> Result<Formula, Memory>
-    ensures { IfOk result (λ r. plain r ≡ FOr (plain f) (plain g)) }
+// That a ticks with b alone.
+fn implies(alloc: Global, a: u32, b: u32) -> Result<Formula, Memory>
+    ensures { IfOk result (λ f. plain f ≡ FOr (FNot (FVar a)) (FVar b)) }
 {
-    Ok(Formula::Or(Box::new(alloc, f)?, Box::new(alloc, g)?))
+    let without = Formula::Not(Box::new(alloc, Formula::Var(a))?);
+    let left = Box::new(alloc, without)?;
+    Ok(Formula::Or(left, Box::new(alloc, Formula::Var(b))?))
+}
+
+// That a ticks with b alone, where a test is met.
+fn implies_if(alloc: Global, test: bool, a: u32, b: u32) -> Result<Formula, Memory>
+    ensures { IfOk result (λ f. plain f ≡ (if test then FOr (FNot (FVar a)) (FVar b) else FTrue)) }
+{
+    if test {
+        implies(alloc, a, b)
+    } else {
+        Ok(Formula::True)
+    }
 }
 
 // How often a clock ticks in a list of steps.
-fn clock_count(list: &[ClockSet], x: u32) -> usize
-    ensures { result ≡ clock_count list.now x (length list.now) }
+fn clock_count(list: &[ClockSet], x: u32) -> u64
+    ensures number { result ≡ clock_count list.now x (length list.now) }
+    ensures few { result < 2 ^ 63 }
 {
-    list.iter().filter(|step| step.has(x)).count()
+    list.iter().filter(|step| step.has(x)).count() as u64
 }

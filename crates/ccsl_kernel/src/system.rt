@@ -1,18 +1,20 @@
 //! Accepted systems.
 
-ghost use Rattle.std.specs.Prelude.{◌≡◌, ◌<◌, length, map, slice_get, Some, option_map};
+ghost use Rattle.std.specs.Prelude.{◌≡◌, ◌<◌, [], length, map, slice_get, Some, option_map, IfOk};
 ghost use Rattle.ccsl_kernel.specs.Syntax.{item_count, body_of};
 ghost use Rattle.ccsl_kernel.specs.Plain.{plain_expr, plain_body, plain_group, plain_system};
-ghost use Rattle.ccsl_kernel.specs.Cells.{cells};
+ghost use Rattle.ccsl_kernel.specs.Cells.{saturated, groups_cells, cells};
 ghost use Rattle.ccsl_kernel.specs.Accepted.{IsAccepted};
 
+use crate::accepted::cells::groups_cells;
 use crate::constraint::Constraint;
 use crate::expr::Expr;
 use crate::group::{Body, Group};
 use crate::parts::Parts;
-use ccsl_base::Names;
+use ccsl_base::{Memory, Names};
 use ccsl_formula::Scope;
 use ccsl_words::Word;
+use std::alloc::Global;
 use std::marker::Model;
 
 /// An expanded specification that is accepted, with the count of its cells.
@@ -53,14 +55,16 @@ impl System {
 
     /// The names of the clocks, by number.
     pub fn names(&self) -> &Names
-        ensures { result.now ≡ self.now.names }
+        ensures names { result.now ≡ self.now.names }
+        ensures accepted { IsAccepted self.now }
     {
         &self.parts.names
     }
 
     /// The number of declared clocks, and that of all named ones.
     pub fn scope(&self) -> Scope
-        ensures { result ≡ record { declared = self.now.declared; named = length self.now.names } }
+        ensures scope { result ≡ record { declared = self.now.declared; named = length self.now.names } }
+        ensures accepted { IsAccepted self.now }
     {
         Scope {
             declared: self.parts.declared,
@@ -70,7 +74,8 @@ impl System {
 
     /// The number of clocks that the system declares or defines itself, without the hidden ones.
     pub fn written(&self) -> u32
-        ensures { result ≡ self.now.written }
+        ensures written { result ≡ self.now.written }
+        ensures accepted { IsAccepted self.now }
     {
         self.parts.written
     }
@@ -102,6 +107,14 @@ impl System {
         self.count
     }
 
+    /// The cells of a call to each group, in order, each at most 4,294,967,295.
+    pub fn group_cells(&self, alloc: Global) -> Result<Vec<u32>, Memory>
+        ensures cells { IfOk result (λ v. v.items ≡ map saturated (groups_cells [] self.now.groups)) }
+        ensures accepted { IsAccepted self.now }
+    {
+        groups_cells(alloc, self.parts.groups.members())
+    }
+
     /// The expression that defines clock number `declared + i`.
     pub fn definition(&self, i: u32) -> &Expr
         requires { i < length self.now.definitions }
@@ -113,7 +126,8 @@ impl System {
 
     pub fn constraint(&self, j: u32) -> &Constraint
         requires { j < length self.now.constraints }
-        ensures { slice_get self.now.constraints j ≡ Some result.now }
+        ensures constraint { slice_get self.now.constraints j ≡ Some result.now }
+        ensures accepted { IsAccepted self.now }
     {
         &self.parts.constraints.members()[j as usize]
     }

@@ -29,5 +29,5 @@ fn expressions_may_be_shared_by_threads() {
     may_be_shared::<Value>();
     may_be_shared::<WordPlace>();
     may_be_shared::<Actual>();
-    may_be_shared::<Spot>();
+    may_be_shared::<Suffix>();
 }

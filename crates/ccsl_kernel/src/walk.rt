@@ -14,7 +14,7 @@ use crate::deaths::Deaths;
 use crate::expr::Expr;
 use crate::opening::opened;
 use crate::system::System;
-use ccsl_base::{ClockSet, Memory};
+use ccsl_base::{ClockSet, MAX_LEVELS, Memory};
 use std::alloc::Global;
 
 /// Where an expression has come to, and whether it was dead at each position from 0 on.
@@ -32,7 +32,7 @@ pub fn followed<'s>(
     list: &[ClockSet],
     deaths: &Deaths,
 ) -> Result<Walk<'s>, Memory>
-    requires shallow { deep (plain_expr e.now) ≤ 129 }
+    requires shallow { deep (plain_expr e.now) ≤ suc MAX_LEVELS }
     requires offsets { ExprFits system.now.words (plain_expr e.now) }
     ensures course { IfOk result (λ walk. held system.now.words walk.course ≡
         grown system.now list.now (gone_in deaths.now) (opening system.now (plain_expr e.now) []) 0 (length list.now)) }

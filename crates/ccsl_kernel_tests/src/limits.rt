@@ -78,7 +78,7 @@ fn at_most_32768_cells(rt: HostRuntime) -> Result<(), Fail> {
     let three = parts(rt.alloc(), &[], &[wide, wide, wide])?;
     assert_eq!(rt; cells_of(rt.alloc(), three)?, Some(25530));
     let four = parts(rt.alloc(), &[], &[wide, wide, wide, wide])?;
-    assert_eq!(rt; four.cells(rt.alloc())?, 32769);
+    assert_eq!(rt; four.cells(rt.alloc())?, 34040);
     assert_eq!(rt; cells_of(rt.alloc(), four)?, None);
     Ok(())
 }

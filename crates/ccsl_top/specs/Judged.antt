@@ -1,9 +1,9 @@
 -- What is judged: a system of declared clocks and constraints alone, and the rows of a trace in which each of its clocks is recorded.
-use Rattle.std.specs.Prelude.{ℕ, List, [], Bool, false, not, ◌&&◌, Option, Some, None, length, filter, find, slice_get, slice_index_or, nat_lt}
+use Rattle.std.specs.Prelude.{ℕ, ◌+◌, List, [], Bool, false, not, ◌&&◌, ◌||◌, nat_eq, nat_le, Option, Some, None, length, filter, find, slice_get, slice_index_or, nat_lt}
 use Rattle.ccsl_base.specs.declared.rows.Row.{Row}
 use Rattle.ccsl_formula.specs.Formula.{eval, same}
 use Rattle.ccsl_kernel.specs.declared.constraint.RelationKind.{RelationKind}
-use Rattle.ccsl_kernel.specs.declared.constraint.RelationKind.TheVariants.{Subclock, Coincides, Excludes, Precedes, PrecedesWeakly}
+use Rattle.ccsl_kernel.specs.declared.constraint.RelationKind.TheVariants.{Subclock, Coincides, Excludes, Precedes, PrecedesWeakly, PrecedesWithin}
 use Rattle.ccsl_kernel.specs.declared.constraint.Constraint.{Constraint}
 use Rattle.ccsl_kernel.specs.Syntax.{System}
 use Rattle.ccsl_kernel.specs.Lives.{steps}
@@ -40,13 +40,14 @@ count_at counts clock = slice_index_or counts clock 0
 abbrev pub ticks_below : ℕ → List ℕ → List ℕ
 ticks_below declared ticks = filter (λ x. nat_lt x declared) ticks
 
--- whether a relation fails in a step, by whether its clocks tick and whether their counts before it are level
-abbrev pub fails : RelationKind → Bool → Bool → Bool → Bool
-fails Subclock left right level = left && not right
-fails Coincides left right level = not (same left right)
-fails Excludes left right level = left && right
-fails Precedes left right level = level && right
-fails PrecedesWeakly left right level = level && right && not left
+-- whether a relation fails in a step, by whether its clocks tick and by their counts m and n before it
+abbrev pub fails : RelationKind → Bool → Bool → ℕ → ℕ → Bool
+fails Subclock left right m n = left && not right
+fails Coincides left right m n = not (same left right)
+fails Excludes left right m n = left && right
+fails Precedes left right m n = nat_eq m n && right
+fails PrecedesWeakly left right m n = nat_eq m n && right && not left
+fails (PrecedesWithin k) left right m n = (nat_eq m n && right) || (nat_le (n + k) m && (left && not right))
 
 -- whether a constraint fails in a step, after so many ticks
 abbrev pub is_broken : List ℕ → ℕ → List ℕ → Constraint → Bool

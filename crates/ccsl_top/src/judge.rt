@@ -29,16 +29,19 @@ fn count_of(counts: &[u64], clock: u32) -> u64
     counts.get(clock as usize).copied().unwrap_or(0)
 }
 
-// Whether a relation fails in a step, by whether its clocks tick and whether their counts are level.
-fn fails(kind: RelationKind, left: bool, right: bool, level: bool) -> bool
-    ensures { result ≡ fails kind left right level }
+// Whether a relation fails in a step, by whether its clocks tick and by how often they ticked before.
+fn fails(kind: RelationKind, left: bool, right: bool, m: u64, n: u64) -> bool
+    ensures { result ≡ fails kind left right m n }
 {
     match kind {
         RelationKind::Subclock => left && !right,
         RelationKind::Coincides => left != right,
         RelationKind::Excludes => left && right,
-        RelationKind::Precedes => level && right,
-        RelationKind::PrecedesWeakly => level && right && !left,
+        RelationKind::Precedes => m == n && right,
+        RelationKind::PrecedesWeakly => m == n && right && !left,
+        RelationKind::PrecedesWithin(most) => {
+            (m == n && right) || (n <= m && u64::from(most) <= m - n && left && !right)
+        }
     }
 }
 
@@ -49,7 +52,7 @@ fn is_broken(constraint: &Constraint, counts: &[u64], declared: u32, step: &Cloc
     let right = ticks(declared, step, constraint.right);
     let left_count = count_of(counts, constraint.left);
     let right_count = count_of(counts, constraint.right);
-    fails(constraint.kind, left, right, left_count == right_count)
+    fails(constraint.kind, left, right, left_count, right_count)
 }
 
 fn first_broken(

@@ -6,6 +6,7 @@ ghost use Rattle.ccsl_kernel.specs.Guarded.{Allowed, guarded, right_of};
 ghost use Rattle.ccsl_kernel.specs.AcceptedPlaces.{position_of};
 
 use crate::expr::{Expr, ExprOp};
+use ccsl_base::MAX_DELAY;
 
 /// A place in the body of a group's member: inside an operator, in tail position, or in tail position and within the
 /// right operand of a `then` in tail position.
@@ -46,7 +47,7 @@ pub fn is_allowed(e: &Expr, group: usize, place: TailPlace) -> bool
             is_allowed(a, group, TailPlace::Inner)
         }
         Expr::Delayed(a, m, d) => {
-            (1..=4096).contains(m)
+            (1..=MAX_DELAY).contains(m)
                 && is_allowed(a, group, TailPlace::Inner)
                 && is_allowed(d, group, TailPlace::Inner)
         }

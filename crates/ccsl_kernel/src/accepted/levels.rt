@@ -7,7 +7,7 @@ ghost use Rattle.ccsl_kernel.specs.Accepted.{height, group_levels};
 
 use crate::expr::Expr;
 use crate::group::{Body, Group};
-use ccsl_base::Memory;
+use ccsl_base::{MAX_CALL_LEVELS, Memory};
 use std::alloc::Global;
 
 /// The highest level of the groups that an expression calls.
@@ -35,14 +35,14 @@ fn members_height(members: &[Body], levels: &[u32]) -> u32
     highest
 }
 
-/// Whether no group stands on a level above 8.
+/// Whether no group stands on a level above the limit.
 pub fn are_low(alloc: Global, groups: &[Group]) -> Result<bool, Memory>
-    ensures { IfOk result (λ low. IsTrue low ↔ All (λ n. n ≤ 8) (group_levels [] (map plain_group groups.now))) }
+    ensures { IfOk result (λ low. IsTrue low ↔ All (λ n. n ≤ MAX_CALL_LEVELS) (group_levels [] (map plain_group groups.now))) }
 {
     let mut levels = Vec::new(alloc);
     for group in groups {
         let level = members_height(group.members.members(), levels.as_slice());
-        if level >= 8 {
+        if level >= MAX_CALL_LEVELS {
             return Ok(false);
         }
         levels.push(level + 1)?;

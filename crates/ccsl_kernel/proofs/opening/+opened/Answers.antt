@@ -1,5 +1,6 @@
 -- A call, at a level above 0.
-use Rattle.std.proofs.Common.{rules, ◌≡◌, ◌-◌, ◌≤◌, ◌<◌, Some, IfOk, map, sym, ap, ap₂, ◌∙◌, subst, arith}
+use Rattle.std.proofs.Common.{rules, ◌≡◌, suc, ◌-◌, ◌≤◌, ◌<◌, Some, IfOk, map, sym, ap, ap₂, ◌∙◌, subst, arith}
+use Rattle.ccsl_base.specs.declared.TheConstants.{MAX_LEVELS}
 use Rattle.ccsl_kernel.specs.Syntax.{body_of}
 use Rattle.ccsl_kernel.specs.Plain.{plain_expr, plain_body}
 use Rattle.ccsl_kernel.specs.Actuals.{value_of}
@@ -20,7 +21,7 @@ pub opened-requires : goal.opened-requires
 opened-requires t c =
     let s = (goal.at.opened-requires t c).In-Some in
     let ready = body_ready c.args.system.now c.in-Call.group (plain_body c.in-Some.body.now) (body_is c.args.system.now c.in-Call.group c.in-Call.member (plain_body c.in-Some.body.now) c.body.ensures.accepted (called t s)) in
-    let shallow : deep (plain_expr c.in-Some.body.now.root) ≤ 129 = ready.1 in
+    let shallow : deep (plain_expr c.in-Some.body.now.root) ≤ suc MAX_LEVELS = ready.1 in
     (search rules, (shallow, (ready.0, subst (λ w. ActualsFit w c.deref.result.now) c.words.ensures (subst (ActualsFit c.words.result.now) (sym c.deref.ensures.value) c.in_ok-actuals-in-Some.ensures.fit))))
 
 pub returns-in_ok-actuals-in-Some-clause-course : goal.returns-in_ok-actuals-in-Some-clause-course

@@ -2,6 +2,7 @@ use Rattle.std.proofs.Common.{◌≡◌, ℕ, suc, ◌+◌, ◌≤◌, [], ◌�
 use Rattle.std.specs.Prelude.{All}
 use Rattle.std.proofs.lemmas.Bool.{false≢true}
 use Rattle.std.proofs.lemmas.List.Elements.{All-push}
+use Rattle.ccsl_base.specs.declared.TheConstants.{MAX_CALL_LEVELS}
 use Rattle.ccsl_kernel.specs.declared.group.Group.{Group}
 use Rattle.ccsl_kernel.specs.declared.group.Body.{Body as BoxedBody}
 use Rattle.ccsl_kernel.specs.Plain.{plain_body, plain_group}
@@ -10,8 +11,8 @@ use Rattle.ccsl_kernel.specs.Cells.{greatest}
 use Rattle.ccsl_kernel.proofs.GroupLevels.{level_of, levels_more, level_stays}
 use Rattle.ccsl_kernel.proofs.accepted.levels.are_low.Goals as goal
 
-pub returns-then-level-ge8 : goal.returns-then-level-ge8
-returns-then-level-ge8 c =
+pub returns-then-level-ge-MAX_CALL_LEVELS : goal.returns-then-level-ge-MAX_CALL_LEVELS
+returns-then-level-ge-MAX_CALL_LEVELS c =
     let levels = c.loop-group.levels.items in
     let group = plain_group c.group-item.result in
     let level : suc c.members_height-level.result ≡ level_of levels group =
@@ -27,9 +28,9 @@ returns-then-level-ge8 c =
       λ all. absurd
           (omega (
             arith,
-            c.if-level-ge8.true,
+            c.if-level-ge-MAX_CALL_LEVELS.true,
             level,
-            level_stays (λ n. n ≤ 8) levels (level_of levels group) rest (subst (All (λ n. n ≤ 8)) (sym whole) all),
+            level_stays (λ n. n ≤ MAX_CALL_LEVELS) levels (level_of levels group) rest (subst (All (λ n. n ≤ MAX_CALL_LEVELS)) (sym whole) all),
           )),
     )
 
@@ -50,5 +51,5 @@ loop-group-preserved c =
           ∙ ap (λ (g : Group). group_levels (levels ++ level_of levels (plain_group g) ∷ []) rest) c.group-item.is
           ∙ sym (levels_more plain_group levels c.args.groups.now c.loop-group.group-index c.group-item.result c.loop-group-test.true)
           ∙ c.loop-group.invariant.rest;
-      low = subst (All (λ n. n ≤ 8)) (sym pushed) (All-push (λ n. n ≤ 8) levels (level_of levels group) c.loop-group.invariant.low (omega (arith, level, c.if-level-ge8.false)));
+      low = subst (All (λ n. n ≤ MAX_CALL_LEVELS)) (sym pushed) (All-push (λ n. n ≤ MAX_CALL_LEVELS) levels (level_of levels group) c.loop-group.invariant.low (omega (arith, level, c.if-level-ge-MAX_CALL_LEVELS.false)));
     }

@@ -15,17 +15,17 @@ along (Err e) w w' same h = tt
 pub returns-then-is_open : goal.returns-then-is_open
 returns-then-is_open t c =
     along c.formula.result (λ gone. (now_of gone (held c.args.words.now c.deref-then-is_open.result.now)).formula) (λ gone. (now_of gone (held c.args.words.now c.args.self.now)).formula)
-    (λ gone. let e = c.is_open.ensures (now_of gone (held c.args.words.now c.in-One.a.value)) in rw (c.in-One.is, c.deref-then-is_open.ensures) (sym (rw (c.deref.ensures.value, c.if-is_open.true) at e)))
+    (λ gone. let e = c.is_open.ensures (now_of gone (held c.args.words.now c.in-Unary.a.value)) in rw (c.in-Unary.is, c.deref-then-is_open.ensures) (sym (rw (c.deref.ensures.value, c.if-is_open.true) at e)))
     c.formula.ensures
 
 pub returns-in-Left : goal.returns-in-Left
 returns-in-Left t c =
     along c.formula-in-Left.result (λ gone. (now_of gone (held c.args.words.now c.deref-in-Left.result.now)).formula) (λ gone. (now_of gone (held c.args.words.now c.args.self.now)).formula)
-    (λ gone. let e = c.asked.ensures (now_of gone (held c.args.words.now c.in-Two.a.value)) (now_of gone (held c.args.words.now c.in-Two.d.value)) in rw (c.in-Two.is, c.deref-in-Left.ensures) (sym (rw (c.deref-in-Two.ensures.value, c.deref-in-Two-2.ensures.value, c.in-Left.is) at e)))
+    (λ gone. let e = c.connective.ensures (now_of gone (held c.args.words.now c.in-Binary.a.value)) (now_of gone (held c.args.words.now c.in-Binary.d.value)) in rw (c.in-Binary.is, c.deref-in-Left.ensures) (sym (rw (c.deref-in-Binary.ensures.value, c.deref-in-Binary-2.ensures.value, c.in-Left.is) at e)))
     c.formula-in-Left.ensures
 
 pub returns-in-Right : goal.returns-in-Right
 returns-in-Right t c =
     along c.formula-in-Right.result (λ gone. (now_of gone (held c.args.words.now c.deref-in-Right.result.now)).formula) (λ gone. (now_of gone (held c.args.words.now c.args.self.now)).formula)
-    (λ gone. let e = c.asked.ensures (now_of gone (held c.args.words.now c.in-Two.a.value)) (now_of gone (held c.args.words.now c.in-Two.d.value)) in rw (c.in-Two.is, c.deref-in-Right.ensures) (sym (rw (c.deref-in-Two.ensures.value, c.deref-in-Two-2.ensures.value, c.in-Right.is) at e)))
+    (λ gone. let e = c.connective.ensures (now_of gone (held c.args.words.now c.in-Binary.a.value)) (now_of gone (held c.args.words.now c.in-Binary.d.value)) in rw (c.in-Binary.is, c.deref-in-Right.ensures) (sym (rw (c.deref-in-Binary.ensures.value, c.deref-in-Binary-2.ensures.value, c.in-Right.is) at e)))
     c.formula-in-Right.ensures
