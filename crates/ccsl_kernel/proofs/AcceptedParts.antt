@@ -16,11 +16,12 @@ use Rattle.ccsl_kernel.specs.declared.group.ParamKind.{ParamKind}
 use Rattle.ccsl_kernel.specs.declared.group.ParamKind.TheVariants as kind
 use Rattle.ccsl_kernel.specs.Syntax.{Expression, EName, ECall, ENever, EBinary, EDelay, EAwait, EFilter, EDelayed, EIf, Body, System, body_of, root_or_never, root_of, definition_of}
 use Rattle.ccsl_kernel.specs.Actuals.{word_or_empty}
-use Rattle.ccsl_kernel.specs.Guarded.{Tail, Allowed, AreAllowed, IsGuarded}
-use Rattle.ccsl_kernel.specs.Scope.{PlaceBelow, ArgsBelow, NamesBelow, IsScoped}
-use Rattle.ccsl_kernel.specs.Accepted.{IsOffset, IsKnown, IsClock, IsWord, IsTest, IsArgument, AreArguments, depth, is_leaf, operand_depth, IsBody, IsDefinition, Each, IsAccepted}
+use Rattle.ccsl_kernel.specs.Guarded.{Tail, Allowed}
+use Rattle.ccsl_kernel.specs.Accepted.{IsOffset, IsKnown, IsClock, IsWord, IsTest, IsArgument, AreArguments, nesting, depth, IsBody, IsDefinition, Each, IsAccepted}
 use Rattle.ccsl_kernel.specs.Fit.{PlaceFits, TestFits, ValueFits, ValuesFit, ExprFits}
 use Rattle.ccsl_kernel.specs.Deep.{deep}
+use Rattle.ccsl_kernel.proofs.Scoped.{PlaceBelow, ArgsBelow, NamesBelow, IsScoped}
+use Rattle.ccsl_kernel.proofs.GuardedCalls.{AreAllowed, IsGuarded}
 
 Each-at : {A : Type 0} (P : ℕ → A → Type 0) (i : ℕ) (xs : List A) (j : ℕ) (x : A) → Each P i xs → slice_get xs j ≡ Some x → P (i + j) x
 Each-at P i [] j x h e = let z : ⊥ = cc in absurd z
@@ -139,28 +140,20 @@ accepted_scoped K ok = record {
   definitions = λ x e is. names_below K.groups K.words x [] e (definition_is K x e ok is).known;
 }
 
--- a leaf adds at most one
-deep_leaf : (a : Expression) → deep a ≤ suc (depth a) → deep a ≤ suc (operand_depth (is_leaf a) (depth a))
-deep_leaf (EName x) h = omega arith
-deep_leaf (ECall group member args) h = omega arith
-deep_leaf ENever h = omega arith
-deep_leaf (EBinary op a d) h = h
-deep_leaf (EDelay a m) h = h
-deep_leaf (EAwait a m) h = h
-deep_leaf (EFilter a w) h = h
-deep_leaf (EDelayed a m d) h = h
-deep_leaf (EIf q a d) h = h
+-- leaves counted, it is at most one deeper
+deep_nested : (e : Expression) → deep e ≤ suc (nesting e)
+deep_nested (EName x) = omega arith
+deep_nested (ECall group member args) = omega arith
+deep_nested ENever = omega arith
+deep_nested (EBinary op a d) = let p = deep_nested a in let q = deep_nested d in omega arith
+deep_nested (EDelay a m) = let p = deep_nested a in omega arith
+deep_nested (EAwait a m) = let p = deep_nested a in omega arith
+deep_nested (EFilter a w) = let p = deep_nested a in omega arith
+deep_nested (EDelayed a m d) = let p = deep_nested a in let q = deep_nested d in omega arith
+deep_nested (EIf q a d) = let p = deep_nested a in let r = deep_nested d in omega arith
 
 deep_within : (e : Expression) → deep e ≤ suc (depth e)
-deep_within (EName x) = omega arith
-deep_within (ECall group member args) = omega arith
-deep_within ENever = omega arith
-deep_within (EBinary op a d) = let p = deep_leaf a (deep_within a) in let q = deep_leaf d (deep_within d) in omega arith
-deep_within (EDelay a m) = let p = deep_leaf a (deep_within a) in omega arith
-deep_within (EAwait a m) = let p = deep_leaf a (deep_within a) in omega arith
-deep_within (EFilter a w) = let p = deep_leaf a (deep_within a) in omega arith
-deep_within (EDelayed a m d) = let p = deep_leaf a (deep_within a) in let q = deep_leaf d (deep_within d) in omega arith
-deep_within (EIf q a d) = let p = deep_within a in let r = deep_within d in omega arith
+deep_within e = let l = deep_nested e in omega arith
 
 -- an expression that can be opened: its words' offsets fit and it is at most MAX_LEVELS + 1 deep
 pub body_ready : (K : System) (g : ℕ) (b : Body) → IsBody K g b → ExprFits K.words b.root × (deep b.root ≤ suc MAX_LEVELS)

@@ -10,8 +10,9 @@ use Rattle.ccsl_kernel.specs.Lives.{Step, Life, step_at, ticks_at, operand, over
 use Rattle.ccsl_kernel.specs.Actuals.{place_of, number_of, suffix_of, value_of, test_of, word_of}
 use Rattle.ccsl_kernel.specs.Table.{Now, Operand, union_row, inter_row, minus_row, inf_row, sup_row, upto_row, upto_weakly_row, sampled_row, sampled_weakly_row, delay_row, await_row, filter_row, delayed_row}
 use Rattle.ccsl_kernel.specs.Meaning.{named, life, bodies}
-use Rattle.ccsl_kernel.specs.Guarded.{Inner, Tail, Allowed, AreGuarded}
+use Rattle.ccsl_kernel.specs.Guarded.{Inner, Tail, Allowed}
 use Rattle.ccsl_kernel.specs.Rows.{IsTable, CallsAreBodies}
+use Rattle.ccsl_kernel.proofs.GuardedCalls.{AreGuarded}
 use Rattle.ccsl_kernel.proofs.Steps.{map-steps, find-steps, find-within}
 use Rattle.ccsl_kernel.proofs.Induction.{IsClosed, walk, falls, induct}
 
@@ -64,7 +65,7 @@ life_rows K T gone calls = record {
   delay = λ a m ρ b n l u. refl;
   await = λ a m ρ b n l u. refl;
   filter = λ a w ρ b n l u. refl;
-  delayed = λ a m d ρ b n pos l u. refl;
+  delayed = λ a m d ρ pos b n l u. refl;
   choice = λ q a d ρ b n l u. elim (test_of K.words q ρ) as (λ t. (if t then life K T gone calls a ρ else life K T gone calls d ρ) b n ≡ (if t then life K T gone calls a ρ b n else life K T gone calls d ρ b n)) [ true ↦ refl | false ↦ refl ];
 }
 
@@ -116,9 +117,9 @@ module _ (K : System) (T T' : List Step) (N : ℕ) (in_T : N ≤ length T) (in_T
       };
       delayed = λ a m d ρ b u pos ra rd. record {
         at = λ n l' u'.
-            rows.delayed a m d ρ b n pos l' (omega arith)
+            rows.delayed a m d ρ pos b n l' (omega arith)
             ∙ two_agree T T' N same (delayed_row m) (M a ρ) (M' a ρ) (M d ρ) (M' d ρ) b n ra rd l' u'
-            ∙ sym (rows'.delayed a m d ρ b n pos l' (omega arith));
+            ∙ sym (rows'.delayed a m d ρ pos b n l' (omega arith));
       };
       choice = λ q a d ρ b u ra rd. record {
         at = λ n l' u'.
@@ -132,7 +133,7 @@ module _ (K : System) (T T' : List Step) (N : ℕ) (in_T : N ≤ length T) (in_T
     pub unique : AreGuarded K → CallsAreBodies K T M → CallsAreBodies K T' M' → (e : Expression) (ρ : List Actual) (b : ℕ) → Allowed (length K.groups) Inner e → b ≤ N → Agree N b (M e ρ) (M' e ρ)
     unique ok calls calls' e ρ b ok_e u =
         induct K N AgreeOn agree_closed ok
-        (λ group m args v b' g u' h. record { at = λ n l' un. calls group m args v b' n g l' (omega arith) ∙ h.at n l' un ∙ sym (calls' group m args v b' n g l' (omega arith)) })
+        (λ group m args v b' g u' h. record { at = λ n l' un. calls group m args v g b' n l' (omega arith) ∙ h.at n l' un ∙ sym (calls' group m args v g b' n l' (omega arith)) })
         e ρ b ok_e u
 
   -- bodies through f calls one in another, and through f', where both are enough

@@ -14,8 +14,8 @@ use Rattle.ccsl_kernel.specs.Table.{Now}
 use Rattle.ccsl_kernel.specs.Meaning.{dead_below, formula_at}
 use Rattle.ccsl_kernel.specs.Items.{item_or_constraint}
 use Rattle.ccsl_kernel.specs.Runs.{IsRun, ObeysDefinitions, derived_from, full_step, completed_after, completed, declared_part, is_declared, is_named}
-use Rattle.ccsl_kernel.specs.Guarded.{IsGuarded}
-use Rattle.ccsl_kernel.specs.Scope.{IsScoped}
+use Rattle.ccsl_kernel.proofs.Scoped.{IsScoped}
+use Rattle.ccsl_kernel.proofs.GuardedCalls.{IsGuarded}
 use Rattle.ccsl_kernel.proofs.Sets.{NoneFrom, NoneFrom-are_below, below, ticks_in-with_clock, with_clock-last, below-with_clock, below-all, below-suc, ticks_in-below, ascending-last, are_below-last, are_below-more}
 use Rattle.ccsl_kernel.proofs.Scope.{ReadsOnly, eval_same, reads_below}
 use Rattle.ccsl_kernel.proofs.TableHolds.{first_steps_matter}
@@ -120,7 +120,7 @@ module _ (K : System) (ok : IsGuarded K) (scoped : IsScoped K) where
   length-snoc T s = omega (arith, length-append T (s ∷ []))
 
   -- one more step does not change what was asked before
-  asked_before : (T : List Step) (s : Step) (x : ℕ) (e : Expression) (n : ℕ) → definition_of K x ≡ Some e → n ≤ length T →
+  pub asked_before : (T : List Step) (s : Step) (x : ℕ) (e : Expression) (n : ℕ) → definition_of K x ≡ Some e → n ≤ length T →
       formula_at K (T ++ s ∷ []) x e [] 0 n ≡ formula_at K T x e [] 0 n
   asked_before T s x e n is u =
       let front : (i : ℕ) → i < n → step_at (T ++ s ∷ []) i ≡ step_at T i = λ i l. step_at-front T s i (omega arith) in
@@ -202,12 +202,12 @@ module _ (K : System) (ok : IsGuarded K) (scoped : IsScoped K) where
   completion_only T h obeys = rebuilt T [] h obeys
 
 module _ (K : System) where
-  declared-full : (T : List Step) (s : Step) → are_below K.declared s ≡ true → declared_part K (full_step K T s) ≡ s
+  pub declared-full : (T : List Step) (s : Step) → are_below K.declared s ≡ true → declared_part K (full_step K T s) ≡ s
   declared-full T s b = derived_declared K T K.declared K.definitions K.declared s (omega arith) ∙ below-all K.declared s b
 
-  map-snoc : (T : List Step) (s : Step) → map (declared_part K) (T ++ s ∷ []) ≡ map (declared_part K) T ++ declared_part K s ∷ []
-  map-snoc [] s = refl
-  map-snoc (t ∷ T) s = ap (λ xs. declared_part K t ∷ xs) (map-snoc T s)
+  pub declared-snoc : (T : List Step) (s : Step) → map (declared_part K) (T ++ s ∷ []) ≡ map (declared_part K) T ++ declared_part K s ∷ []
+  declared-snoc [] s = refl
+  declared-snoc (t ∷ T) s = ap (λ xs. declared_part K t ∷ xs) (declared-snoc T s)
 
   -- THE COMPLETION HAS THE DECLARED TICKS THAT IT IS MADE FROM
   declared-after : (R T : List Step) → list_all (is_declared K) R ≡ true → map (declared_part K) (completed_after K T R) ≡ map (declared_part K) T ++ R
@@ -216,7 +216,7 @@ module _ (K : System) where
       let w = and_parts (is_declared K s) (list_all (is_declared K) R) h in
       let v = and_parts (is_ascending s) (are_below K.declared s) w.0 in
       declared-after R (T ++ full_step K T s ∷ []) w.1
-      ∙ ap (λ xs. xs ++ R) (map-snoc T (full_step K T s) ∙ ap (λ d. map (declared_part K) T ++ d ∷ []) (declared-full T s v.1))
+      ∙ ap (λ xs. xs ++ R) (declared-snoc T (full_step K T s) ∙ ap (λ d. map (declared_part K) T ++ d ∷ []) (declared-full T s v.1))
       ∙ append_assoc (map (declared_part K) T) (s ∷ []) R
 
   pub declared-completed : (R : List Step) → list_all (is_declared K) R ≡ true → map (declared_part K) (completed K R) ≡ R

@@ -9,11 +9,11 @@ use Rattle.ccsl_kernel.specs.Syntax.{Expression, System, definition_of}
 use Rattle.ccsl_kernel.specs.Table.{Now}
 use Rattle.ccsl_kernel.specs.Lives.{Step, steps}
 use Rattle.ccsl_kernel.specs.Meaning.{definition_dead, dead_below, meaning, formula_at}
-use Rattle.ccsl_kernel.specs.Guarded.{IsGuarded}
 use Rattle.ccsl_kernel.specs.Course.{Course, now_of, opening, grown, course_life}
 use Rattle.ccsl_kernel.specs.Held.{gone_at}
 use Rattle.ccsl_kernel.specs.Items.{item_formula}
 use Rattle.ccsl_kernel.specs.Columns.{column, columns}
+use Rattle.ccsl_kernel.proofs.GuardedCalls.{IsGuarded}
 use Rattle.ccsl_kernel.proofs.Steps.{map-steps, map-steps-suc}
 use Rattle.ccsl_kernel.proofs.TableHolds.{first_steps_matter}
 use Rattle.ccsl_kernel.proofs.Definitions.{choice, definitions-are, dead_below-at, definition_allowed}

@@ -7,7 +7,8 @@ use Rattle.ccsl_kernel.specs.Syntax.{Expression, System, definition_of}
 use Rattle.ccsl_kernel.specs.Table.{Now}
 use Rattle.ccsl_kernel.specs.Lives.{Step, step_at}
 use Rattle.ccsl_kernel.specs.Meaning.{definition_dead, dead_below}
-use Rattle.ccsl_kernel.specs.Guarded.{IsAllowed, AreAllowed, IsGuarded}
+use Rattle.ccsl_kernel.specs.Guarded.{IsAllowed}
+use Rattle.ccsl_kernel.proofs.GuardedCalls.{AreAllowed, IsGuarded}
 use Rattle.ccsl_kernel.proofs.TableHolds.{first_steps_matter}
 
 abbrev pub choice : Bool → Bool → Bool → Bool

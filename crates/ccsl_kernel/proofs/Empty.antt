@@ -16,7 +16,8 @@ use Rattle.ccsl_kernel.specs.Table.{Now}
 use Rattle.ccsl_kernel.specs.Lives.{Step, Life, operand, end_of, at_end, joined}
 use Rattle.ccsl_kernel.specs.Meaning.{named, life_given, dead_below}
 use Rattle.ccsl_kernel.specs.Items.{relation_formula, clock_count, constraint_or_true, item_or_constraint, item_formula}
-use Rattle.ccsl_kernel.specs.Guarded.{AreGuarded, IsAllowed, IsGuarded}
+use Rattle.ccsl_kernel.specs.Guarded.{IsAllowed}
+use Rattle.ccsl_kernel.proofs.GuardedCalls.{AreGuarded, IsGuarded}
 use Rattle.ccsl_kernel.proofs.Steps.{find-within}
 use Rattle.ccsl_kernel.proofs.Induction.{IsClosed, induct}
 use Rattle.ccsl_kernel.proofs.TableHolds.{meaning_calls}
@@ -92,7 +93,7 @@ module _ (K : System) (T : List Step) (gone : ℕ → ℕ → Bool) (ok : AreGua
   idle : (e : Expression) (ρ : List Actual) (b : ℕ) → IsAllowed K e → b ≤ length T → IdleFrom b (life_given K T gone e ρ)
   idle e ρ b ok_e u =
       induct K (length T) (λ b e ρ. IdleFrom b (life_given K T gone e ρ)) idle_closed ok
-      (λ group m args v b g u h n l u'. ap (λ (now : Now). eval now.formula []) (meaning_calls K T gone ok group m args v b n g l u') ∙ h n l u')
+      (λ group m args v b g u h n l u'. ap (λ (now : Now). eval now.formula []) (meaning_calls K T gone ok group m args v g b n l u') ∙ h n l u')
       e ρ b ok_e u
 
 relation_holds : (k : RelationKind) (a b m n : ℕ) → eval (relation_formula k a b m n) [] ≡ true

@@ -10,9 +10,10 @@ use Rattle.ccsl_kernel.specs.Actuals.{place_of, number_of, suffix_of, value_of, 
 use Rattle.ccsl_kernel.specs.Table.{Now, Operand, union_row, inter_row, minus_row, inf_row, sup_row, upto_row, upto_weakly_row, sampled_row, sampled_weakly_row, delay_row, await_row, filter_row, delayed_row}
 use Rattle.ccsl_kernel.specs.Lives.{Step, steps, step_at, ticks_at, over_one, over_two, end_of, at_end, followed_by, joined}
 use Rattle.ccsl_kernel.specs.Meaning.{named, life_given}
-use Rattle.ccsl_kernel.specs.Guarded.{Position, Inner, Tail, Guarded, Allowed, AreGuarded, IsAllowed}
+use Rattle.ccsl_kernel.specs.Guarded.{Position, Inner, Tail, Guarded, Allowed, IsAllowed}
 use Rattle.ccsl_kernel.specs.Rows.{IsTable, CallsAreBodies}
 use Rattle.ccsl_kernel.specs.Course.{Course, CName, CNever, CUnary, CBinary, CThen, now_of, operator_row, over, leaf, open_with, open_bodies, opening, then_or_right, next, grown, life_of, course_life}
+use Rattle.ccsl_kernel.proofs.GuardedCalls.{AreGuarded}
 use Rattle.ccsl_kernel.proofs.Steps.{map-steps-suc, steps-empty, find-steps-suc, find-within, from_birth, or_else, if_at}
 use Rattle.ccsl_kernel.proofs.Agree.{unique}
 use Rattle.ccsl_kernel.proofs.TableHolds.{meaning_rows, meaning_calls}
@@ -143,7 +144,7 @@ module _ (K : System) (T : List Step) (gone : ℕ → ℕ → Bool) where
     delay = λ a m ρ b n l u. one_life (delay_row (number_of m ρ)) (opening K a ρ) b n l;
     await = λ a m ρ b n l u. one_life (await_row (number_of m ρ)) (opening K a ρ) b n l;
     filter = λ a w ρ b n l u. let s = suffix_of K.words w ρ in one_life (filter_row (word_of K.words s.word) s.offset) (opening K a ρ) b n l;
-    delayed = λ a m d ρ b n pos l u. two_life (delayed_row m) (opening K a ρ) (opening K d ρ) b n l;
+    delayed = λ a m d ρ pos b n l u. two_life (delayed_row m) (opening K a ρ) (opening K d ρ) b n l;
     choice = λ q a d ρ b n l u. choose (test_of K.words q ρ) (opening K a ρ) (opening K d ρ) b n;
   }
     where
@@ -182,7 +183,7 @@ module _ (K : System) (guarded_bodies : AreGuarded K) where
 
   -- THE ROW OF CALLS HOLDS OF THE COURSE: the course of a call is that of its body
   course_calls : (T : List Step) (gone : ℕ → ℕ → Bool) → CallsAreBodies K T (course_life K T gone)
-  course_calls T gone group member args ρ b n g l u =
+  course_calls T gone group member args ρ g b n l u =
       ap (λ t. life_of K T gone t b n) (open_levels (length K.groups) (suc (length K.groups)) group member (map (value_of K.words ρ) args) g (omega arith))
 
   -- THE COURSE GIVES THE MEANING: its formula and its death, at every step of every list

@@ -1,3 +1,5 @@
+pub mod GuardedCalls
+pub mod Scoped
 pub mod Steps
 pub mod Induction
 pub mod Agree
@@ -26,3 +28,5 @@ pub mod WalkSteps
 pub mod ItemCases
 pub mod FirstViolation
 pub mod NamesInCertificates
+pub mod Admissible
+pub mod Bounded

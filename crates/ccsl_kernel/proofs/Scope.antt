@@ -18,8 +18,9 @@ use Rattle.ccsl_kernel.specs.Actuals.{place_of, number_of, suffix_of, value_of, 
 use Rattle.ccsl_kernel.specs.Table.{Now, Operand, delay_row, await_row, filter_row, delayed_row, inf_row, sup_row, upto_row, upto_weakly_row, sampled_row, sampled_weakly_row}
 use Rattle.ccsl_kernel.specs.Ticks.{count, ever, waits, waits_weakly, waits_since}
 use Rattle.ccsl_kernel.specs.Meaning.{named, life_given}
-use Rattle.ccsl_kernel.specs.Guarded.{IsAllowed, AreGuarded}
-use Rattle.ccsl_kernel.specs.Scope.{PlaceBelow, ArgsBelow, NamesBelow, ActualsBelow}
+use Rattle.ccsl_kernel.specs.Guarded.{IsAllowed}
+use Rattle.ccsl_kernel.proofs.Scoped.{PlaceBelow, ArgsBelow, NamesBelow, ActualsBelow}
+use Rattle.ccsl_kernel.proofs.GuardedCalls.{AreGuarded}
 use Rattle.ccsl_kernel.proofs.Steps.{find-within}
 use Rattle.ccsl_kernel.proofs.Induction.{IsClosed, induct}
 use Rattle.ccsl_kernel.proofs.TableHolds.{meaning_calls}
@@ -187,6 +188,6 @@ module _ (X : ℕ) where
     reads_below e ρ b ok_e u =
         induct K (length T) Reads reads_closed ok
         (λ group m args v b g u h names vals n l u'.
-        subst (λ (now : Now). ReadsOnly X now.formula) (sym (meaning_calls K T gone ok group m args v b n g l u'))
+        subst (λ (now : Now). ReadsOnly X now.formula) (sym (meaning_calls K T gone ok group m args v g b n l u'))
         (h (none_names X (root_of K group m) (closed group m)) (args_in K.words args v names vals) n l u'))
         e ρ b ok_e u

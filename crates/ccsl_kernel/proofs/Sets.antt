@@ -159,3 +159,29 @@ are_below-more x y (z ∷ s) l b =
     let v = and_parts (nat_lt z x) (are_below x s) b in
     let z_below = ltb-true z x v.0 in
     and_from (nat_lt z y) (are_below y s) (lt-ltb z y (omega (arith, z_below, l))) (are_below-more x y s l v.1)
+
+-- the members below a number are a set, too
+list_all-below : (p : ℕ → Bool) (x : ℕ) (s : List ℕ) → list_all p s ≡ true → list_all p (below x s) ≡ true
+list_all-below p x [] h = refl
+list_all-below p x (y ∷ s) h =
+    let w = and_parts (p y) (list_all p s) h in
+    let rest = list_all-below p x s w.1 in
+    elim (nat_lt y x) as (λ t. list_all p (if t then y ∷ below x s else below x s) ≡ true) [ true ↦ and_from (p y) (list_all p (below x s)) w.0 rest | false ↦ rest ]
+
+pub below-ascending : (x : ℕ) (s : List ℕ) → is_ascending s ≡ true → is_ascending (below x s) ≡ true
+below-ascending x [] h = refl
+below-ascending x (y ∷ s) h =
+    let w = and_parts (list_all (nat_lt y) s) (is_ascending s) h in
+    let rest = below-ascending x s w.1 in
+    elim (nat_lt y x) as (λ t. is_ascending (if t then y ∷ below x s else below x s) ≡ true) [
+      | true ↦ and_from (list_all (nat_lt y) (below x s)) (is_ascending (below x s)) (list_all-below (nat_lt y) x s w.0) rest
+      | false ↦ rest
+    ]
+
+pub below-below : (x : ℕ) (s : List ℕ) → are_below x (below x s) ≡ true
+below-below x [] = refl
+below-below x (y ∷ s) = on (nat_lt y x) refl (below-below x s)
+  where
+    on : (t : Bool) → nat_lt y x ≡ t → are_below x (below x s) ≡ true → are_below x (if t then y ∷ below x s else below x s) ≡ true
+    on true e rest = and_from (nat_lt y x) (are_below x (below x s)) e rest
+    on false e rest = rest

@@ -11,8 +11,9 @@ use Rattle.ccsl_kernel.specs.Lives.{Step, Life, steps, step_at, ticks_at, operan
 use Rattle.ccsl_kernel.specs.Actuals.{place_of, number_of, suffix_of, test_of, word_of}
 use Rattle.ccsl_kernel.specs.Table.{Now}
 use Rattle.ccsl_kernel.specs.Meaning.{named, life_given, definition_dead, dead_below, meaning}
-use Rattle.ccsl_kernel.specs.Guarded.{AreGuarded, IsGuarded, IsAllowed}
+use Rattle.ccsl_kernel.specs.Guarded.{IsAllowed}
 use Rattle.ccsl_kernel.specs.Runs.{ObeysDefinitions}
+use Rattle.ccsl_kernel.proofs.GuardedCalls.{AreGuarded, IsGuarded}
 use Rattle.ccsl_kernel.proofs.Steps.{map-steps-suc, find-steps-suc, find-within, or_else, if_at}
 use Rattle.ccsl_kernel.proofs.Induction.{IsClosed, induct}
 use Rattle.ccsl_kernel.proofs.TableHolds.{meaning_calls}
@@ -88,7 +89,7 @@ module _ (K : System) (T : List Step) (gone : ℕ → ℕ → Bool) (ok : AreGua
   pub silent : (e : Expression) (ρ : List Actual) (b : ℕ) → IsAllowed K e → b ≤ length T → Silent T b (life_given K T gone e ρ)
   silent e ρ b ok_e u =
       induct K (length T) (λ b e ρ. Silent T b (life_given K T gone e ρ)) silent_closed ok
-      (λ group m args v b g u h. record { at = λ n l' u'. along (step_at T n) _ _ _ _ (meaning_calls K T gone ok group m args v b n g l' (omega arith)) (meaning_calls K T gone ok group m args v b (suc n) g (omega arith) u') (h.at n l' u') })
+      (λ group m args v b g u h. record { at = λ n l' u'. along (step_at T n) _ _ _ _ (meaning_calls K T gone ok group m args v g b n l' (omega arith)) (meaning_calls K T gone ok group m args v g b (suc n) (omega arith) u') (h.at n l' u') })
       e ρ b ok_e u
 
 module _ (K : System) (T : List Step) (ok : IsGuarded K) (obeys : ObeysDefinitions K T) where

@@ -5,8 +5,9 @@ use Rattle.ccsl_kernel.specs.Syntax.{Expression, System}
 use Rattle.ccsl_kernel.specs.Lives.{Step, step_at}
 use Rattle.ccsl_kernel.specs.Actuals.{value_of}
 use Rattle.ccsl_kernel.specs.Meaning.{bodies, call_depth, life_given}
-use Rattle.ccsl_kernel.specs.Guarded.{Inner, Allowed, AreGuarded}
+use Rattle.ccsl_kernel.specs.Guarded.{Inner, Allowed}
 use Rattle.ccsl_kernel.specs.Rows.{IsTable, CallsAreBodies}
+use Rattle.ccsl_kernel.proofs.GuardedCalls.{AreGuarded}
 use Rattle.ccsl_kernel.proofs.Agree.{unique, bodies_agree, life_rows}
 
 -- THE ROWS HOLD OF THE MEANING: those of the operators
@@ -15,7 +16,7 @@ meaning_rows K T gone = life_rows K T gone (bodies K T gone (call_depth K T gone
 
 -- and that of calls, in a system whose calls are guarded
 pub meaning_calls : (K : System) (T : List Step) (gone : ℕ → ℕ → Bool) → AreGuarded K → CallsAreBodies K T (life_given K T gone)
-meaning_calls K T gone ok group member args ρ b n g l u =
+meaning_calls K T gone ok group member args ρ g b n l u =
     (bodies_agree K T T (length T) (omega arith) (omega arith) (λ i h. refl) gone gone (λ n x h. refl) ok (call_depth K T gone) (suc (call_depth K T gone)) group member (map (value_of K.words ρ) args) b (omega (arith, g, l, u)) (omega (arith, g, l, u)) (omega (arith, l, u))).at n l u
 
 -- only the steps before n matter

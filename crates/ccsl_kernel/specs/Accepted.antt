@@ -1,32 +1,23 @@
 -- WHICH SYSTEMS ARE ACCEPTED, one field of IsAccepted a sentence.
-use Rattle.std.specs.Prelude.{◌≡◌, ℕ, ◌+◌, ◌<◌, ◌≤◌, suc, List, [], ◌∷◌, ◌++◌, length, map, max, All, Bool, true, false, ◌&&◌, IsTrue, Some, slice_get, slice_index, nat_eq, nat_lt, nat_le, take_while, drop, if◌then◌else◌}
+use Rattle.std.specs.Prelude.{◌≡◌, ℕ, ◌+◌, ◌<◌, ◌≤◌, suc, List, [], ◌∷◌, ◌++◌, length, map, max, All, Bool, false, ◌&&◌, IsTrue, Some, slice_get, slice_index, nat_eq, nat_lt, nat_le, take_while, drop, if◌then◌else◌}
 use Rattle.std.specs.List.{list_all, AllByRecursion}
 use Rattle.ccsl_base.specs.declared.TheConstants.{MAX_CLOCKS, MAX_CONSTRAINTS, MAX_CELLS, MAX_LEVELS, MAX_CALL_LEVELS, MAX_PARAMS}
 use Rattle.ccsl_base.specs.Name.{is_name, is_inner}
-use Rattle.ccsl_words.specs.Word.{BinaryWord, is_finite}
-use Rattle.ccsl_kernel.specs.declared.expr.Place.{Place}
+use Rattle.ccsl_words.specs.Word.{BinaryWord, is_finite, word_len}
 use Rattle.ccsl_kernel.specs.declared.expr.Place.TheVariants as place
-use Rattle.ccsl_kernel.specs.declared.expr.NumPrim.{NumPrim}
 use Rattle.ccsl_kernel.specs.declared.expr.NumPrim.TheVariants as prim
-use Rattle.ccsl_kernel.specs.declared.expr.NumTerm.{NumTerm}
-use Rattle.ccsl_kernel.specs.declared.expr.WordPlace.{WordPlace}
 use Rattle.ccsl_kernel.specs.declared.expr.WordPlace.TheVariants as word
-use Rattle.ccsl_kernel.specs.declared.expr.Value.{Value}
 use Rattle.ccsl_kernel.specs.declared.expr.Value.TheVariants as value
-use Rattle.ccsl_kernel.specs.declared.expr.ExprTest.{ExprTest}
 use Rattle.ccsl_kernel.specs.declared.expr.ExprTest.TheVariants as test
-use Rattle.ccsl_kernel.specs.declared.group.ParamKind.{ParamKind}
 use Rattle.ccsl_kernel.specs.declared.group.ParamKind.TheVariants as kind
-use Rattle.ccsl_kernel.specs.declared.constraint.Constraint.{Constraint}
-use Rattle.ccsl_kernel.specs.declared.constraint.RelationKind.{RelationKind}
 use Rattle.ccsl_kernel.specs.declared.constraint.RelationKind.TheVariants.{PrecedesWithin}
-use Rattle.ccsl_kernel.specs.Syntax.{Expression, EName, ECall, ENever, EBinary, EDelay, EAwait, EFilter, EDelayed, EIf, Body, System, body_of}
+use Rattle.ccsl_kernel.specs.Syntax.{Place, NumPrim, NumTerm, WordPlace, Value, ExprTest, ParamKind, RelationKind, Constraint, Expression, EName, ECall, ENever, EBinary, EDelay, EAwait, EFilter, EDelayed, EIf, Body, System, body_of}
 use Rattle.ccsl_kernel.specs.Guarded.{Tail, Inner, Allowed}
 use Rattle.ccsl_kernel.specs.Cells.{cells, greatest}
 
 -- an offset in a word: at most the length of a finite one, below the length of an infinite one
 abbrev pub IsOffset : BinaryWord → ℕ → Type 0
-IsOffset w o = o < length w.prefix + length w.period + (if is_finite w then 1 else 0)
+IsOffset w o = o < word_len w + (if is_finite w then 1 else 0)
 
 -- WHAT IS NAMED. Parameters have the kinds `params`, clocks are below `clocks`, words stand in the table `words`
 module _ (groups : List (List Body)) (words : List BinaryWord) (clocks : ℕ) (params : List ParamKind) where
@@ -78,28 +69,20 @@ module _ (groups : List (List Body)) (words : List BinaryWord) (clocks : ℕ) (p
   IsKnown (EDelayed a m d) = IsKnown a × IsKnown d
   IsKnown (EIf q a d) = IsTest q × IsKnown a × IsKnown d
 
--- DEPTH. An operand that is an operator or a choice adds one
-
-abbrev pub is_leaf : Expression → Bool
-is_leaf (EName x) = true
-is_leaf (ECall group member args) = true
-is_leaf ENever = true
-is_leaf _ = false
-
-abbrev pub operand_depth : Bool → ℕ → ℕ
-operand_depth true n = 0
-operand_depth false n = n
+-- DEPTH: how many operators and choices stand one in another, where a branch of a choice counts one at least, and the whole too
+abbrev pub nesting : Expression → ℕ
+nesting (EName x) = 0
+nesting (ECall group member args) = 0
+nesting ENever = 0
+nesting (EBinary op a d) = 1 + max (nesting a) (nesting d)
+nesting (EDelay a m) = 1 + nesting a
+nesting (EAwait a m) = 1 + nesting a
+nesting (EFilter a w) = 1 + nesting a
+nesting (EDelayed a m d) = 1 + max (nesting a) (nesting d)
+nesting (EIf q a d) = 1 + max (max 1 (nesting a)) (nesting d)
 
 abbrev pub depth : Expression → ℕ
-depth (EName x) = 1
-depth (ECall group member args) = 1
-depth ENever = 1
-depth (EBinary op a d) = 1 + max (operand_depth (is_leaf a) (depth a)) (operand_depth (is_leaf d) (depth d))
-depth (EDelay a m) = 1 + operand_depth (is_leaf a) (depth a)
-depth (EAwait a m) = 1 + operand_depth (is_leaf a) (depth a)
-depth (EFilter a w) = 1 + operand_depth (is_leaf a) (depth a)
-depth (EDelayed a m d) = 1 + max (operand_depth (is_leaf a) (depth a)) (operand_depth (is_leaf d) (depth d))
-depth (EIf q a d) = 1 + max (depth a) (depth d)
+depth e = max 1 (nesting e)
 
 -- LEVELS of groups, each from those before it
 abbrev pub height : List ℕ → Expression → ℕ

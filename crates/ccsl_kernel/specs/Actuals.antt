@@ -1,23 +1,17 @@
 -- What parameters stand for in a call, and so the numbers, words, tests and arguments that name them.
--- A list of actual parameters has that of parameter number i at place i. A parameter that is missing, or is of another kind, reads as
--- the number 0, and as an empty word.
+-- A list of actual parameters has that of parameter number i at place i. A parameter that is missing, or of another kind, reads as the
+-- number 0, and as the first word of the table from its start. A word that the table lacks reads as an empty one.
 use Rattle.std.specs.Prelude.{ℕ, ◌+◌, ◌-◌, List, [], ◌∷◌, Bool, Option, Some, None, slice_get, slice_index_or, min, nat_eq, nat_lt}
 use Rattle.ccsl_words.specs.Word.{BinaryWord, letter, rest, has_ended}
-use Rattle.ccsl_kernel.specs.declared.expr.Place.{Place}
+use Rattle.ccsl_kernel.specs.Syntax.{Place, NumPrim, NumSign, NumTerm, WordPlace, Value, ExprTest}
 use Rattle.ccsl_kernel.specs.declared.expr.Place.TheVariants as place
-use Rattle.ccsl_kernel.specs.declared.expr.NumTerm.{NumTerm}
-use Rattle.ccsl_kernel.specs.declared.expr.NumPrim.{NumPrim}
 use Rattle.ccsl_kernel.specs.declared.expr.NumPrim.TheVariants as prim
-use Rattle.ccsl_kernel.specs.declared.expr.NumSign.{NumSign}
 use Rattle.ccsl_kernel.specs.declared.expr.NumSign.TheVariants as sign
-use Rattle.ccsl_kernel.specs.declared.expr.WordPlace.{WordPlace}
 use Rattle.ccsl_kernel.specs.declared.expr.WordPlace.TheVariants as word
-use Rattle.ccsl_kernel.specs.declared.expr.Value.{Value}
 use Rattle.ccsl_kernel.specs.declared.expr.Value.TheVariants as value
-use Rattle.ccsl_kernel.specs.declared.expr.ExprTest.{ExprTest}
 use Rattle.ccsl_kernel.specs.declared.expr.ExprTest.TheVariants as test
-use Rattle.ccsl_kernel.specs.declared.actual.Actual.{Actual}
-use Rattle.ccsl_kernel.specs.declared.actual.Suffix.{Suffix}
+pub use Rattle.ccsl_kernel.specs.declared.actual.Actual.{Actual}
+pub use Rattle.ccsl_kernel.specs.declared.actual.Suffix.{Suffix}
 use Rattle.ccsl_kernel.specs.declared.actual.Actual.TheVariants as actual
 
 abbrev pub number_in : Option Actual → ℕ

@@ -1,8 +1,7 @@
 -- The cells of expressions and systems.
 use Rattle.std.specs.Prelude.{ℕ, ◌+◌, ◌*◌, ◌/◌, List, [], ◌∷◌, ◌++◌, length, map, max, min, sum, slice_index}
-use Rattle.ccsl_kernel.specs.declared.expr.ExprOp.{ExprOp}
 use Rattle.ccsl_kernel.specs.declared.expr.ExprOp.TheVariants as op
-use Rattle.ccsl_kernel.specs.Syntax.{Expression, EName, ECall, ENever, EBinary, EDelay, EAwait, EFilter, EDelayed, EIf, Body, System}
+use Rattle.ccsl_kernel.specs.Syntax.{ExprOp, Expression, EName, ECall, ENever, EBinary, EDelay, EAwait, EFilter, EDelayed, EIf, Body, System}
 
 -- a count as it is told, at most 4,294,967,295
 abbrev pub saturated : ℕ → ℕ

@@ -8,7 +8,6 @@ pub mod Meaning
 pub mod Items
 pub mod Runs
 pub mod Guarded
-pub mod Scope
 pub mod Rows
 pub mod Laws
 pub mod Coded
@@ -17,7 +16,6 @@ pub mod Accepted
 pub mod Fit
 pub mod Verdict
 pub mod Course
-pub mod AcceptedPlaces
 pub mod Since
 pub mod Operators
 pub mod Deep

@@ -4,10 +4,9 @@
 --     dead_below      whether a clock is dead at a step
 use Rattle.std.specs.Prelude.{ℕ, zero, suc, ◌+◌, List, [], Bool, true, false, Option, Some, None, map, length, nat_eq, if◌then◌else◌}
 use Rattle.ccsl_formula.specs.Formula.{Formula, FVar}
-use Rattle.ccsl_kernel.specs.declared.actual.Actual.{Actual}
 use Rattle.ccsl_kernel.specs.declared.actual.Actual.TheVariants as actual
 use Rattle.ccsl_kernel.specs.Syntax.{Expression, EName, ECall, ENever, EBinary, EDelay, EAwait, EFilter, EDelayed, EIf, System, root_of, definition_of}
-use Rattle.ccsl_kernel.specs.Actuals.{place_of, number_of, suffix_of, value_of, test_of, word_of}
+use Rattle.ccsl_kernel.specs.Actuals.{Actual, place_of, number_of, suffix_of, value_of, test_of, word_of}
 use Rattle.ccsl_kernel.specs.Table.{never_row, delay_row, await_row, filter_row, delayed_row}
 use Rattle.ccsl_kernel.specs.Lives.{Step, Life, over_one, over_two, joined}
 

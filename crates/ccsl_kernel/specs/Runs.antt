@@ -2,7 +2,6 @@
 --     IsRun      each item's formula holds at each step
 --     completed      the declared ticks with the defined ticks that they give
 --     IsAdmissible      a set of declared clocks by which a run goes on
---     is_violated, verdict      where recorded rows break an item; the first such place
 use Rattle.std.specs.Prelude.{◌≡◌, ℕ, suc, ◌+◌, ◌<◌, List, [], ◌∷◌, ◌++◌, Bool, true, ◌&&◌, Some, map, filter, length, nat_lt, if◌then◌else◌, ◌≢◌}
 use Rattle.ccsl_base.specs.Clocks.{ticks_in, with_clock, is_ascending, are_below}
 use Rattle.ccsl_formula.specs.Formula.{eval}

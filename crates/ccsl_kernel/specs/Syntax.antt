@@ -5,14 +5,17 @@
 --     definition_of      the expression that defines a clock
 use Rattle.std.specs.Prelude.{ℕ, ◌+◌, ◌-◌, List, Option, Some, None, length, slice_get, nat_lt, if◌then◌else◌}
 use Rattle.ccsl_words.specs.Word.{BinaryWord}
-use Rattle.ccsl_kernel.specs.declared.expr.Place.{Place}
-use Rattle.ccsl_kernel.specs.declared.expr.NumTerm.{NumTerm}
-use Rattle.ccsl_kernel.specs.declared.expr.WordPlace.{WordPlace}
-use Rattle.ccsl_kernel.specs.declared.expr.Value.{Value}
-use Rattle.ccsl_kernel.specs.declared.expr.ExprTest.{ExprTest}
-use Rattle.ccsl_kernel.specs.declared.expr.ExprOp.{ExprOp}
-use Rattle.ccsl_kernel.specs.declared.group.ParamKind.{ParamKind}
-use Rattle.ccsl_kernel.specs.declared.constraint.Constraint.{Constraint}
+pub use Rattle.ccsl_kernel.specs.declared.expr.Place.{Place}
+pub use Rattle.ccsl_kernel.specs.declared.expr.NumPrim.{NumPrim}
+pub use Rattle.ccsl_kernel.specs.declared.expr.NumSign.{NumSign}
+pub use Rattle.ccsl_kernel.specs.declared.expr.NumTerm.{NumTerm}
+pub use Rattle.ccsl_kernel.specs.declared.expr.WordPlace.{WordPlace}
+pub use Rattle.ccsl_kernel.specs.declared.expr.Value.{Value}
+pub use Rattle.ccsl_kernel.specs.declared.expr.ExprTest.{ExprTest}
+pub use Rattle.ccsl_kernel.specs.declared.expr.ExprOp.{ExprOp}
+pub use Rattle.ccsl_kernel.specs.declared.group.ParamKind.{ParamKind}
+pub use Rattle.ccsl_kernel.specs.declared.constraint.RelationKind.{RelationKind}
+pub use Rattle.ccsl_kernel.specs.declared.constraint.Constraint.{Constraint}
 
 pub data Expression : Type 0 where
   EName : (x : Place) → Expression

@@ -1,6 +1,6 @@
 -- THE VERDICT ON A TRACE: where recorded rows break an item, and the first such place.
 -- The rows are judged against the completion of their declared ticks. `bound` is the set of recorded clocks.
-use Rattle.std.specs.Prelude.{◌≡◌, ℕ, ◌+◌, ◌<◌, List, Bool, true, false, not, ◌&&◌, ◌||◌, Option, Some, None, map, find, length, slice_index, nat_lt, is_some, unwrap_or, IsTrue}
+use Rattle.std.specs.Prelude.{◌≡◌, ℕ, ◌+◌, ◌<◌, List, Bool, true, false, not, ◌&&◌, ◌||◌, Option, Some, None, map, find, length, slice_index, nat_lt, is_some, unwrap_or}
 use Rattle.ccsl_base.specs.Clocks.{ticks_in}
 use Rattle.ccsl_base.specs.declared.rows.Row.{Row}
 use Rattle.ccsl_formula.specs.Formula.{same}
@@ -29,9 +29,6 @@ abbrev pub is_violated : System → List ℕ → List Row → ℕ → ℕ → Bo
 is_violated K bound rows n i =
     let X = completed_rows K rows in
     not (holds_at K X n i) || (is_recorded K bound i && not (is_as_recorded rows X n (K.declared + i)))
-
-abbrev pub IsViolated : System → List ℕ → List Row → ℕ → ℕ → Type 0
-IsViolated K bound rows n i = IsTrue (is_violated K bound rows n i)
 
 -- the first item that is violated at step n
 abbrev pub first_item : System → List ℕ → List Row → ℕ → Option ℕ

@@ -5,7 +5,7 @@ ghost use Rattle.ccsl_kernel.specs.Plain.{plain_expr, plain_body, plain_group, p
 ghost use Rattle.ccsl_kernel.specs.Accepted.{Each, IsBody, IsDefinition, IsRelation, IsConstraint, IsAccepted};
 ghost use Rattle.ccsl_kernel.specs.AcceptedPieces.{IsCounted, IsWellFormed};
 
-use crate::accepted::calls::{TailPlace, is_allowed};
+use crate::accepted::calls::{Position, is_allowed};
 use crate::accepted::depth::is_shallow;
 use crate::accepted::known::{Nameable, is_known};
 use crate::accepted::levels::are_low;
@@ -49,7 +49,7 @@ fn is_body(parts: &Parts, group: usize, body: &Body) -> bool
     };
     params.len() <= MAX_PARAMS as usize
         && is_shallow(&body.root, MAX_LEVELS)
-        && is_allowed(&body.root, group, TailPlace::Tail)
+        && is_allowed(&body.root, group, Position::Tail)
         && is_known(&here, &body.root)
 }
 
@@ -84,7 +84,7 @@ fn is_definition(parts: &Parts, clock: u32, definition: &Expr) -> bool
         params: &[],
     };
     is_shallow(definition, MAX_LEVELS)
-        && is_allowed(definition, groups.len(), TailPlace::Inner)
+        && is_allowed(definition, groups.len(), Position::Inner)
         && is_known(&here, definition)
 }
 

@@ -12,7 +12,7 @@ use crate::expr::{ExprTest, NumPrim, NumSign, NumTerm, Place, Value, WordPlace};
 use ccsl_words::Word;
 
 /// A clock, a number, or a word of the system's table with an offset.
-#[derive(Clone, Copy)]
+#[derive(Clone, Copy, Debug, PartialEq, Eq)]
 pub enum Actual {
     Clock(u32),
     Number(u32),
@@ -20,7 +20,7 @@ pub enum Actual {
 }
 
 /// A word of the table, and an offset in it.
-#[derive(Clone, Copy)]
+#[derive(Clone, Copy, Debug, PartialEq, Eq)]
 pub struct Suffix {
     pub word: u32,
     pub offset: u64,

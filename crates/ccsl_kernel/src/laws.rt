@@ -4,7 +4,9 @@ ghost use Rattle.std.specs.Prelude.{◌≡◌, true};
 ghost use Rattle.ccsl_base.specs.Name.{are_cert_names};
 ghost use Rattle.ccsl_kernel.specs.Syntax.{System};
 ghost use Rattle.ccsl_kernel.specs.Accepted.{IsAccepted};
-ghost use Rattle.ccsl_kernel.specs.Laws.{RowsHold, NamesDie, RowsDetermine, FirstStepsMatter, ReadsLower, DeadStays, CompletionExists, CompletionOnly, RunsObey, EmptyHolds, VerdictIsFirst};
+ghost use Rattle.ccsl_kernel.specs.Laws.{RowsHold, NamesDie, RowsDetermine, FirstStepsMatter, ReadsLower, DeadStays};
+ghost use Rattle.ccsl_kernel.specs.Laws.{CompletionExists, CompletionOnly, RunsObey, RunsComplete, AdmissibleSetsExtend};
+ghost use Rattle.ccsl_kernel.specs.Laws.{CountsAreBounded, EmptyHolds, VerdictIsFirst};
 
 /// Each row of the table holds of the meaning as an equation, calls of earlier groups and of the own one included.
 pub fn rows_hold()
@@ -46,9 +48,24 @@ pub fn completion_only()
     ensures { (K : System) → IsAccepted K → CompletionOnly K }
 {}
 
-/// A run obeys the definitions. So it is the completion of its declared part.
+/// A run obeys the definitions.
 pub fn runs_obey()
     ensures { (K : System) → RunsObey K }
+{}
+
+/// A run of sets of named clocks is the completion of its declared part.
+pub fn runs_complete()
+    ensures { (K : System) → IsAccepted K → RunsComplete K }
+{}
+
+/// After a run, what is admissible are the declared members of the sets that satisfy every item's formula, where they have one.
+pub fn admissible_sets_extend()
+    ensures { (K : System) → IsAccepted K → AdmissibleSetsExtend K }
+{}
+
+/// No clock and no operand has ticked more often than there were steps.
+pub fn counts_are_bounded()
+    ensures { CountsAreBounded }
 {}
 
 /// The empty set satisfies every item's formula at every step, so a step of a simulation must be nonempty.

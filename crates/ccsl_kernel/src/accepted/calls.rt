@@ -3,7 +3,6 @@
 ghost use Rattle.std.specs.Prelude.{◌≡◌, ◌↔◌, IsTrue};
 ghost use Rattle.ccsl_kernel.specs.Plain.{plain_expr};
 ghost use Rattle.ccsl_kernel.specs.Guarded.{Allowed, guarded, right_of};
-ghost use Rattle.ccsl_kernel.specs.AcceptedPlaces.{position_of};
 
 use crate::expr::{Expr, ExprOp};
 use ccsl_base::MAX_DELAY;
@@ -11,45 +10,45 @@ use ccsl_base::MAX_DELAY;
 /// A place in the body of a group's member: inside an operator, in tail position, or in tail position and within the
 /// right operand of a `then` in tail position.
 #[derive(Clone, Copy, PartialEq, Eq)]
-pub enum TailPlace {
+pub enum Position {
     Inner,
     Tail,
     Guarded,
 }
 
-impl TailPlace {
+impl Position {
     /// The place of an operator's right operand.
-    fn right_of(self, op: ExprOp) -> TailPlace
-        ensures { position_of result ≡ right_of op (position_of self) }
+    fn right_of(self, op: ExprOp) -> Position
+        ensures { result ≡ right_of op self }
     {
         match (op, self) {
-            (ExprOp::Then, TailPlace::Tail | TailPlace::Guarded) => TailPlace::Guarded,
-            _ => TailPlace::Inner,
+            (ExprOp::Then, Position::Tail | Position::Guarded) => Position::Guarded,
+            _ => Position::Inner,
         }
     }
 }
 
 /// Whether an expression at a place of a body of group number `group` calls earlier groups alone, and its own in
 /// guarded tail positions.
-pub fn is_allowed(e: &Expr, group: usize, place: TailPlace) -> bool
-    ensures { IsTrue result ↔ Allowed group (position_of place) (plain_expr e.now) }
+pub fn is_allowed(e: &Expr, group: usize, place: Position) -> bool
+    ensures { IsTrue result ↔ Allowed group place (plain_expr e.now) }
 {
     match e {
         Expr::Name(_) | Expr::Never => true,
         Expr::Call { group: called, .. } => {
             let called = *called as usize;
-            called < group || called == group && place == TailPlace::Guarded
+            called < group || called == group && place == Position::Guarded
         }
         Expr::Binary(op, a, d) => {
-            is_allowed(a, group, TailPlace::Inner) && is_allowed(d, group, place.right_of(*op))
+            is_allowed(a, group, Position::Inner) && is_allowed(d, group, place.right_of(*op))
         }
         Expr::Delay(a, _) | Expr::Await(a, _) | Expr::Filter(a, _) => {
-            is_allowed(a, group, TailPlace::Inner)
+            is_allowed(a, group, Position::Inner)
         }
         Expr::Delayed(a, m, d) => {
             (1..=MAX_DELAY).contains(m)
-                && is_allowed(a, group, TailPlace::Inner)
-                && is_allowed(d, group, TailPlace::Inner)
+                && is_allowed(a, group, Position::Inner)
+                && is_allowed(d, group, Position::Inner)
         }
         Expr::If(_, a, d) => is_allowed(a, group, place) && is_allowed(d, group, place),
     }
