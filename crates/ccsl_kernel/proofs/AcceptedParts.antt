@@ -18,7 +18,8 @@ use Rattle.ccsl_kernel.specs.Syntax.{Expression, EName, ECall, ENever, EBinary, 
 use Rattle.ccsl_kernel.specs.Actuals.{word_or_empty}
 use Rattle.ccsl_kernel.specs.Guarded.{Tail, Allowed}
 use Rattle.ccsl_kernel.specs.Accepted.{IsOffset, IsKnown, IsClock, IsWord, IsTest, IsArgument, AreArguments, nesting, depth, IsBody, IsDefinition, Each, IsAccepted}
-use Rattle.ccsl_kernel.specs.Fit.{PlaceFits, TestFits, ValueFits, ValuesFit, ExprFits}
+use Rattle.ccsl_kernel.specs.Fit.{PlaceFits, TestFits, ValueFits}
+use Rattle.ccsl_kernel.specs.Fitting.{ValuesFit, ExprFits}
 use Rattle.ccsl_kernel.specs.Deep.{deep}
 use Rattle.ccsl_kernel.proofs.Scoped.{PlaceBelow, ArgsBelow, NamesBelow, IsScoped}
 use Rattle.ccsl_kernel.proofs.GuardedCalls.{AreAllowed, IsGuarded}

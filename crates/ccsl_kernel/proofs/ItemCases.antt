@@ -12,7 +12,7 @@ use Rattle.ccsl_kernel.specs.Ticks.{count}
 use Rattle.ccsl_kernel.specs.Lives.{Step}
 use Rattle.ccsl_kernel.specs.Items.{clock_count, constraint_formula, definition_formula, constraint_or_true, item_or_constraint, item_formula}
 use Rattle.ccsl_kernel.specs.Accepted.{IsAccepted}
-use Rattle.ccsl_kernel.specs.Fit.{ExprFits}
+use Rattle.ccsl_kernel.specs.Fitting.{ExprFits}
 use Rattle.ccsl_kernel.specs.Deep.{deep}
 use Rattle.ccsl_kernel.proofs.Definitions.{definitions-are}
 use Rattle.ccsl_kernel.proofs.AcceptedParts.{definition_is, definition_ready}

@@ -1,11 +1,11 @@
--- Offsets that fit their words: each word that is named, in an expression or by an actual parameter, has an offset at which it can stand.
+-- Offsets that fit their words: each word that is named, by a test, an argument or an actual parameter, has an offset at which it can stand.
 use Rattle.std.specs.Prelude.{List, All}
 use Rattle.ccsl_words.specs.Word.{BinaryWord}
 use Rattle.ccsl_kernel.specs.declared.actual.Actual.TheVariants as actual
 use Rattle.ccsl_kernel.specs.declared.expr.WordPlace.TheVariants as word
 use Rattle.ccsl_kernel.specs.declared.expr.Value.TheVariants as value
 use Rattle.ccsl_kernel.specs.declared.expr.ExprTest.TheVariants as test
-use Rattle.ccsl_kernel.specs.Syntax.{WordPlace, Value, ExprTest, Expression, EName, ECall, ENever, EBinary, EDelay, EAwait, EFilter, EDelayed, EIf}
+use Rattle.ccsl_kernel.specs.Syntax.{WordPlace, Value, ExprTest}
 use Rattle.ccsl_kernel.specs.Actuals.{Actual, Suffix, word_of}
 use Rattle.ccsl_kernel.specs.Accepted.{IsOffset}
 
@@ -32,17 +32,3 @@ module _ (words : List BinaryWord) where
   abbrev pub ValueFits : Value → Type 0
   ValueFits (value.Word w) = PlaceFits w
   ValueFits _ = Unit {0}
-
-  abbrev pub ValuesFit : List Value → Type 0
-  ValuesFit = All ValueFits
-
-  abbrev pub ExprFits : Expression → Type 0
-  ExprFits (EName x) = Unit {0}
-  ExprFits (ECall group member args) = ValuesFit args
-  ExprFits ENever = Unit {0}
-  ExprFits (EBinary op a d) = ExprFits a × ExprFits d
-  ExprFits (EDelay a m) = ExprFits a
-  ExprFits (EAwait a m) = ExprFits a
-  ExprFits (EFilter a w) = ExprFits a × PlaceFits w
-  ExprFits (EDelayed a m d) = ExprFits a × ExprFits d
-  ExprFits (EIf q a d) = TestFits q × ExprFits a × ExprFits d

@@ -1,6 +1,5 @@
 -- Which calls an expression may make: of members of earlier groups, and of its own group in guarded tail positions alone; and by how much
 -- `delayed` may lag.
---     Allowed g p e      e may stand at the place p of a member of group number g
 use Rattle.std.specs.Prelude.{◌≡◌, ℕ, ◌<◌, ◌≤◌, ◌⊎◌, length}
 use Rattle.ccsl_base.specs.declared.TheConstants.{MAX_DELAY}
 pub use Rattle.ccsl_kernel.specs.declared.accepted.calls.Position.{Position}
@@ -19,7 +18,7 @@ abbrev pub right_of : ExprOp → Position → Position
 right_of op.Then p = guarded p
 right_of _ p = Inner
 
--- which calls stand at a place, and that `delayed` has a number from 1 to MAX_DELAY
+-- e may stand at the place p of a member of group number g
 abbrev pub Allowed : ℕ → Position → Expression → Type 0
 Allowed g p (EName x) = Unit {0}
 Allowed g p (ECall group member args) = (group < g) ⊎ ((group ≡ g) × (p ≡ Guarded))

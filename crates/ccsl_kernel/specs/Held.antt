@@ -8,7 +8,8 @@ use Rattle.ccsl_kernel.specs.declared.deaths.Deaths.{Deaths}
 use Rattle.ccsl_kernel.specs.Plain.{plain_expr}
 use Rattle.ccsl_kernel.specs.Operators.{unary_row, binary_row}
 use Rattle.ccsl_kernel.specs.Course.{Course, CName, CNever, CUnary, CBinary, CThen}
-use Rattle.ccsl_kernel.specs.Fit.{ActualsFit, ExprFits}
+use Rattle.ccsl_kernel.specs.Fit.{ActualsFit}
+use Rattle.ccsl_kernel.specs.Fitting.{ExprFits}
 use Rattle.ccsl_kernel.specs.Deep.{deep}
 
 abbrev pub held : List BinaryWord → Node → Course

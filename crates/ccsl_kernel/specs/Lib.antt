@@ -14,6 +14,7 @@ pub mod Coded
 pub mod Cells
 pub mod Accepted
 pub mod Fit
+pub mod Fitting
 pub mod Verdict
 pub mod Course
 pub mod Since

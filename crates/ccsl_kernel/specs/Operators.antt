@@ -1,5 +1,5 @@
 -- The rows of the table as those of unary and of binary operators, and the connectives by which binary ones join formulas.
-use Rattle.std.specs.Prelude.{ℕ, List, nat_lt, if◌then◌else◌}
+use Rattle.std.specs.Prelude.{ℕ, List, Bool, false, not, ◌&&◌, ◌||◌, nat_lt, if◌then◌else◌}
 use Rattle.ccsl_formula.specs.Formula.{Formula, FFalse, FNot, FAnd, FOr}
 use Rattle.ccsl_words.specs.Word.{BinaryWord}
 use Rattle.ccsl_kernel.specs.declared.operator.Unary.{Unary}
@@ -36,6 +36,16 @@ connected Or f g = FOr f g
 connected And f g = FAnd f g
 connected RightAndLeft f g = FAnd g f
 connected AndNot f g = FAnd f (FNot g)
+
+-- whether that formula holds, where f and g do or not
+abbrev pub joined_ticks : Connective → Bool → Bool → Bool
+joined_ticks Left x y = x
+joined_ticks Right x y = y
+joined_ticks False x y = false
+joined_ticks Or x y = x || y
+joined_ticks And x y = x && y
+joined_ticks RightAndLeft x y = y && x
+joined_ticks AndNot x y = x && not y
 
 -- the left operand where m is more than n, the right one where it is less
 abbrev pub ahead : ℕ → ℕ → Connective → Connective

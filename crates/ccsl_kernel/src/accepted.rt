@@ -55,14 +55,16 @@ fn is_body(parts: &Parts, group: usize, body: &Body) -> bool
 
 /// Whether each member of group number `group` is as it has to be.
 fn are_members(parts: &Parts, group: usize, members: &[Body]) -> bool
-    ensures { IsTrue result ↔ All (λ body. IsBody (plain_system parts.now) group (plain_body body)) members.now }
+    ensures { IsTrue result ↔
+        All (λ body. IsBody (plain_system parts.now) group (plain_body body)) members.now }
 {
     members.iter().all(|body| is_body(parts, group, body))
 }
 
 /// Whether each member of each group is as it has to be.
 fn are_bodies(parts: &Parts, groups: &[Group]) -> bool
-    ensures { IsTrue result ↔ Each (λ g members. All (IsBody (plain_system parts.now) g) members) 0 (map plain_group groups.now) }
+    ensures { let K = plain_system parts.now in
+        IsTrue result ↔ Each (λ g members. All (IsBody K g) members) 0 (map plain_group groups.now) }
 {
     for (i, group) in groups.iter().enumerate() {
         if !are_members(parts, i, group.members.members()) {
@@ -74,7 +76,8 @@ fn are_bodies(parts: &Parts, groups: &[Group]) -> bool
 
 /// Whether the definition of clock number `clock` is as it has to be.
 fn is_definition(parts: &Parts, clock: u32, definition: &Expr) -> bool
-    ensures { IsTrue result ↔ IsDefinition (plain_system parts.now) clock (plain_expr definition.now) }
+    ensures { IsTrue result ↔
+        IsDefinition (plain_system parts.now) clock (plain_expr definition.now) }
 {
     let groups = parts.groups.members();
     let here = Nameable {
@@ -91,7 +94,8 @@ fn is_definition(parts: &Parts, clock: u32, definition: &Expr) -> bool
 /// Whether each definition is as it has to be, the first one being that of clock number `declared`.
 fn are_definitions(parts: &Parts, declared: u32, definitions: &[Expr]) -> bool
     requires { declared + length definitions.now < 2 ^ 32 }
-    ensures { IsTrue result ↔ Each (IsDefinition (plain_system parts.now)) declared (map plain_expr definitions.now) }
+    ensures { IsTrue result ↔
+        Each (IsDefinition (plain_system parts.now)) declared (map plain_expr definitions.now) }
 {
     for (i, definition) in definitions.iter().enumerate() {
         if !is_definition(parts, declared + i as u32, definition) {

@@ -1,12 +1,14 @@
 //! What parameters stand for in one call, and so the numbers, words, tests and arguments that name them.
 //!
-//! The actual parameter number `i` stands at place `i` of a slice. One that is missing, or is of another kind, reads as the number
-//! 0 and as an empty word; in accepted systems there is none such.
+//! The actual parameter number `i` stands at place `i` of a slice. One that is missing, or of another kind, reads as the
+//! number 0, and as the first word of the table from its start; in accepted systems there is none such.
 
 ghost use Rattle.std.specs.Prelude.{◌≡◌, ◌&&◌, length, nat_le, slice_get};
 ghost use Rattle.ccsl_words.specs.Word.{letter, is_finite, has_ended};
-ghost use Rattle.ccsl_kernel.specs.Actuals.{place_of, prim_of, number_of, suffix_of, suffix_in, word_of, tail_of, value_of, test_of};
-ghost use Rattle.ccsl_kernel.specs.Fit.{PlaceFits, SuffixFits, ActualFits, ActualsFit, TestFits, ValueFits};
+ghost use Rattle.ccsl_kernel.specs.Actuals.{place_of, prim_of, number_of, word_of};
+ghost use Rattle.ccsl_kernel.specs.Actuals.{suffix_of, suffix_in, tail_of, value_of, test_of};
+ghost use Rattle.ccsl_kernel.specs.Fit.{PlaceFits, SuffixFits, TestFits, ValueFits};
+ghost use Rattle.ccsl_kernel.specs.Fit.{ActualFits, ActualsFit};
 
 use crate::expr::{ExprTest, NumPrim, NumSign, NumTerm, Place, Value, WordPlace};
 use ccsl_words::Word;
@@ -19,7 +21,7 @@ pub enum Actual {
     Word(u32, u64),
 }
 
-/// A word of the table, and an offset in it.
+/// A word of the table from an offset on.
 #[derive(Clone, Copy, Debug, PartialEq, Eq)]
 pub struct Suffix {
     pub word: u32,
@@ -71,7 +73,7 @@ impl NumTerm {
     }
 }
 
-/// The suffix that parameter number `i` stands for.
+/// The suffix of a word that parameter number `i` stands for.
 fn param_suffix(actuals: &[Actual], i: u32) -> Suffix
     ensures { result ≡ suffix_in (slice_get actuals.now i) }
 {
@@ -96,7 +98,8 @@ pub fn letter_at(words: &[Word], word: u32, k: u64) -> bool
 
 /// Whether a word of the table is finite and has no letter number `k`.
 pub fn is_past_end(words: &[Word], word: u32, k: u64) -> bool
-    ensures { result ≡ (is_finite (word_of words.now word) && nat_le (length (word_of words.now word).prefix) k) }
+    ensures { let w = word_of words.now word in
+        result ≡ (is_finite w && nat_le (length w.prefix) k) }
 {
     match words.get(word as usize) {
         Some(word) => word.is_finite() && word.len() <= k,

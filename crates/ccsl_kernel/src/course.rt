@@ -2,14 +2,14 @@
 
 ghost use Rattle.std.specs.Prelude.{◌≡◌, ℕ, Bool, IfOk};
 ghost use Rattle.ccsl_formula.specs.Plain.{plain};
-ghost use Rattle.ccsl_kernel.specs.Course.{now_of, tick_of};
+ghost use Rattle.ccsl_kernel.specs.Course.{now_of};
 ghost use Rattle.ccsl_kernel.specs.Held.{held, gone_in};
 
 use crate::actual::Actual;
 use crate::deaths::Deaths;
 use crate::expr::Expr;
 use crate::operator::{Binary, Connective, Unary};
-use ccsl_base::{ClockSet, Memory};
+use ccsl_base::Memory;
 use ccsl_formula::Formula;
 use ccsl_words::Word;
 use std::alloc::Global;
@@ -28,7 +28,8 @@ pub enum Course<'s> {
 impl<'s> Course<'s> {
     /// The formula at the present step.
     pub fn formula(&self, alloc: Global, words: &[Word]) -> Result<Formula, Memory>
-        ensures { IfOk result (λ f. (gone : ℕ → Bool) → plain f ≡ (now_of gone (held words.now self.now)).formula) }
+        ensures { IfOk result (λ f. (gone : ℕ → Bool) →
+            plain f ≡ (now_of gone (held words.now self.now)).formula) }
     {
         match self {
             Course::Name(x) => Ok(Formula::Var(*x)),
@@ -63,27 +64,6 @@ impl<'s> Course<'s> {
                 }
             },
             Course::Then(a, _, _) => a.formula(alloc, words),
-        }
-    }
-
-    /// Whether the expression ticks in a step.
-    pub fn ticks(&self, words: &[Word], step: &ClockSet) -> bool
-        ensures { (gone : ℕ → Bool) → result ≡ tick_of step.now gone (held words.now self.now) }
-    {
-        match self {
-            Course::Name(x) => step.has(*x),
-            Course::Never => false,
-            Course::Unary(row, a, ticks) => row.is_open(words, ticks) && a.ticks(words, step),
-            Course::Binary(row, a, p, d, q) => match row.connective(p, q) {
-                Connective::Left => a.ticks(words, step),
-                Connective::Right => d.ticks(words, step),
-                Connective::False => false,
-                Connective::Or => a.ticks(words, step) || d.ticks(words, step),
-                Connective::And => a.ticks(words, step) && d.ticks(words, step),
-                Connective::RightAndLeft => d.ticks(words, step) && a.ticks(words, step),
-                Connective::AndNot => a.ticks(words, step) && !d.ticks(words, step),
-            },
-            Course::Then(a, _, _) => a.ticks(words, step),
         }
     }
 

@@ -9,7 +9,8 @@ ghost use Rattle.ccsl_kernel.specs.Operators.{unary_row, binary_row};
 ghost use Rattle.ccsl_kernel.specs.Table.{filter_row};
 ghost use Rattle.ccsl_kernel.specs.Course.{CUnary, CBinary, leaf, operator_row, open_with, open_bodies};
 ghost use Rattle.ccsl_kernel.specs.Held.{held, IsReady};
-ghost use Rattle.ccsl_kernel.specs.Fit.{ActualsFit, ValuesFit, ExprFits, SuffixFits};
+ghost use Rattle.ccsl_kernel.specs.Fit.{ActualsFit, SuffixFits};
+ghost use Rattle.ccsl_kernel.specs.Fitting.{ValuesFit, ExprFits};
 
 use crate::actual::{Actual, Suffix};
 use crate::course::Course;
@@ -51,7 +52,8 @@ fn leaf<'s>(actual: Actual) -> Course<'s>
 // A filter from a suffix on, which is no further than the word's end.
 fn filter_row(words: &[Word], suffix: Suffix) -> Unary
     requires { SuffixFits words.now suffix }
-    ensures { unary_row words.now result ≡ filter_row (word_of words.now suffix.word) suffix.offset }
+    ensures { unary_row words.now result ≡
+        filter_row (word_of words.now suffix.word) suffix.offset }
 {
     let offset = match words.get(suffix.word as usize) {
         Some(word) => {
@@ -84,7 +86,8 @@ fn all_actuals(
 
 // An operator of one operand that has not ticked yet.
 fn over_one<'s>(alloc: Global, row: Unary, a: Course<'s>) -> Result<Course<'s>, Memory>
-    ensures { IfOk result (λ c. (words : List BinaryWord) → held words c ≡ CUnary (unary_row words row) (held words a.entry) []) }
+    ensures { IfOk result (λ c. (words : List BinaryWord) →
+        held words c ≡ CUnary (unary_row words row) (held words a.entry) []) }
 {
     Ok(Course::Unary(row, Box::new(alloc, a)?, Vec::new(alloc)))
 }

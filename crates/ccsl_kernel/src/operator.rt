@@ -4,7 +4,7 @@ ghost use Rattle.std.specs.Prelude.{◌≡◌, if◌then◌else◌};
 ghost use Rattle.ccsl_formula.specs.Formula.{FFalse};
 ghost use Rattle.ccsl_kernel.specs.Table.{Now};
 ghost use Rattle.ccsl_kernel.specs.Course.{operand_of};
-ghost use Rattle.ccsl_kernel.specs.Operators.{unary_row, binary_row, connected, ahead};
+ghost use Rattle.ccsl_kernel.specs.Operators.{unary_row, binary_row, connected, joined_ticks, ahead};
 
 use crate::actual::{is_past_end, letter_at};
 use crate::ticks::{Since, count, ever, some_waits};
@@ -21,8 +21,8 @@ pub enum Unary {
 impl Unary {
     /// Whether the operator lets its operand's formula through, after these ticks of it.
     pub fn is_open(self, words: &[Word], ticks: &[bool]) -> bool
-        ensures { (a : Now) →
-            (unary_row words.now self (operand_of a ticks.now)).formula ≡ (if result then a.formula else FFalse) }
+        ensures { (a : Now) → (unary_row words.now self (operand_of a ticks.now)).formula ≡
+            (if result then a.formula else FFalse) }
     {
         match self {
             Unary::Delay(m) => u64::from(m) <= count(ticks),
@@ -33,7 +33,8 @@ impl Unary {
 
     /// Whether the operator is dead, where its operand is or not.
     pub fn is_dead(self, words: &[Word], dead: bool, ticks: &[bool]) -> bool
-        ensures { (a : Now) → a.dead ≡ dead → result ≡ (unary_row words.now self (operand_of a ticks.now)).dead }
+        ensures { (a : Now) → a.dead ≡ dead →
+            result ≡ (unary_row words.now self (operand_of a ticks.now)).dead }
     {
         match self {
             Unary::Delay(_) => dead,
@@ -73,11 +74,27 @@ pub enum Connective {
     AndNot,
 }
 
+impl Connective {
+    /// Whether the joined formula holds, where those of the operands do or not.
+    pub fn ticks(self, left: bool, right: bool) -> bool
+        ensures { result ≡ joined_ticks self left right }
+    {
+        match self {
+            Connective::Left => left,
+            Connective::Right => right,
+            Connective::False => false,
+            Connective::Or => left || right,
+            Connective::And | Connective::RightAndLeft => left && right,
+            Connective::AndNot => left && !right,
+        }
+    }
+}
+
 impl Binary {
     /// How the operator joins its operands' formulas, after these ticks of theirs.
     pub fn connective(self, p: &[bool], q: &[bool]) -> Connective
-        ensures { (a d : Now) →
-            (binary_row self (operand_of a p.now) (operand_of d q.now)).formula ≡ connected result a.formula d.formula }
+        ensures { (a d : Now) → (binary_row self (operand_of a p.now) (operand_of d q.now)).formula ≡
+            connected result a.formula d.formula }
     {
         match self {
             Binary::Union => Connective::Or,

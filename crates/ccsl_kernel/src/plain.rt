@@ -15,9 +15,10 @@ use ccsl_base::{ClockSet, Memory, Seq};
 use ccsl_formula::Formula;
 use std::alloc::Global;
 
-/// The formula of an item at the step after `steps`, as the table of expressions and that of relations give it, with nothing
-/// folded. Each expression is followed from its birth on with all its operands' ticks, so the time is about that of the square
-/// of the number of steps, for each of the item's cells and those of the definitions before it.
+/// The formula of an item at the step after `steps`, as the tables of expressions and of relations give it, with nothing
+/// folded. Each expression is followed from its birth on with all its operands' ticks. At each step it looks once at each
+/// operator that lives then, in the item and in the definitions before it, and at all ticks so far of that operator's
+/// operands: the time goes by the number of these operators and by the square of the number of steps.
 pub fn plain_formula(
     alloc: Global,
     system: &System,
@@ -25,7 +26,8 @@ pub fn plain_formula(
     steps: &[ClockSet],
 ) -> Result<Formula, Memory>
     requires { item < item_count system.now }
-    ensures { IfOk result (λ f. plain f ≡ item_formula system.now steps.now (length steps.now) item) }
+    ensures { IfOk result (λ f.
+        plain f ≡ item_formula system.now steps.now (length steps.now) item) }
 {
     let definitions = system.definitions();
     if item < definitions {
@@ -86,7 +88,8 @@ fn constraint_formula(
     constraint: &Constraint,
     list: &[ClockSet],
 ) -> Result<Formula, Memory>
-    ensures { IfOk result (λ f. plain f ≡ constraint_formula list.now (length list.now) constraint.now) }
+    ensures { IfOk result (λ f.
+        plain f ≡ constraint_formula list.now (length list.now) constraint.now) }
 {
     let (a, b) = (constraint.left, constraint.right);
     let (left, right) = (clock_count(list, a), clock_count(list, b));

@@ -63,7 +63,8 @@ impl System {
 
     /// The number of declared clocks, and that of all named ones.
     pub fn scope(&self) -> Scope
-        ensures scope { result ≡ record { declared = self.now.declared; named = length self.now.names } }
+        ensures scope { result ≡
+            record { declared = self.now.declared; named = length self.now.names } }
         ensures accepted { IsAccepted self.now }
     {
         Scope {
@@ -109,7 +110,8 @@ impl System {
 
     /// The cells of a call to each group, in order, each at most 4,294,967,295.
     pub fn group_cells(&self, alloc: Global) -> Result<Vec<u32>, Memory>
-        ensures cells { IfOk result (λ v. v.items ≡ map saturated (groups_cells [] self.now.groups)) }
+        ensures cells { IfOk result (λ v.
+            v.items ≡ map saturated (groups_cells [] self.now.groups)) }
         ensures accepted { IsAccepted self.now }
     {
         groups_cells(alloc, self.parts.groups.members())
@@ -141,7 +143,8 @@ impl System {
 
     /// The body of a member of a group, and `None` where there is none.
     pub fn body(&self, group: u32, member: u32) -> Option<&Body>
-        ensures body { option_map (λ b. plain_body b.now) result ≡ body_of self.now.groups group member }
+        ensures body { option_map (λ b. plain_body b.now) result ≡
+            body_of self.now.groups group member }
         ensures accepted { IsAccepted self.now }
     {
         let group = self.parts.groups.members().get(group as usize)?;

@@ -5,7 +5,7 @@ ghost use Rattle.ccsl_kernel.specs.Plain.{plain_expr};
 ghost use Rattle.ccsl_kernel.specs.Lives.{steps};
 ghost use Rattle.ccsl_kernel.specs.Course.{opening, grown, course_life};
 ghost use Rattle.ccsl_kernel.specs.Held.{held, gone_in};
-ghost use Rattle.ccsl_kernel.specs.Fit.{ExprFits};
+ghost use Rattle.ccsl_kernel.specs.Fitting.{ExprFits};
 ghost use Rattle.ccsl_kernel.specs.Deep.{deep};
 
 use crate::advance::advanced;
@@ -34,18 +34,21 @@ pub fn followed<'s>(
 ) -> Result<Walk<'s>, Memory>
     requires shallow { deep (plain_expr e.now) ≤ suc MAX_LEVELS }
     requires offsets { ExprFits system.now.words (plain_expr e.now) }
-    ensures course { IfOk result (λ walk. held system.now.words walk.course ≡
-        grown system.now list.now (gone_in deaths.now) (opening system.now (plain_expr e.now) []) 0 (length list.now)) }
-    ensures deaths { IfOk result (λ walk. walk.deaths.items ≡
-        map (λ n. (course_life system.now list.now (gone_in deaths.now) (plain_expr e.now) [] 0 n).dead) (steps 0 (suc (length list.now)))) }
+    ensures course { let course = opening system.now (plain_expr e.now) [] in
+        IfOk result (λ walk. held system.now.words walk.course ≡
+        grown system.now list.now (gone_in deaths.now) course 0 (length list.now)) }
+    ensures deaths { let life = course_life system.now list.now (gone_in deaths.now) (plain_expr e.now) [] in
+        IfOk result (λ walk. walk.deaths.items ≡
+        map (λ n. (life 0 n).dead) (steps 0 (suc (length list.now)))) }
 {
     let words = system.words();
     let mut course = opened(alloc, system, system.groups().len(), e, &[])?;
     let mut column = Vec::with_capacity(alloc, list.len() + 1)?;
     column.push(course.is_dead(words, deaths, 0))?;
     for (i, step) in list.iter().enumerate() {
-        course = advanced(alloc, system, course, step, deaths, i + 1)?;
-        column.push(course.is_dead(words, deaths, i + 1))?;
+        let moved = advanced(alloc, system, course, step, deaths, i + 1)?;
+        column.push(moved.course.is_dead(words, deaths, i + 1))?;
+        course = moved.course;
     }
     Ok(Walk {
         course,

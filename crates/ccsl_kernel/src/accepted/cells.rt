@@ -52,7 +52,8 @@ fn cells_of_two(op: ExprOp, left: u32, right: u32) -> u32
 
 /// The greatest number of parameters of the members of a group.
 fn most_params(members: &[Body]) -> u32
-    ensures { result ≡ saturated (greatest (map (λ b. length b.params) (map plain_body members.now))) }
+    ensures { result ≡
+        saturated (greatest (map (λ b. length b.params) (map plain_body members.now))) }
 {
     let mut most: u32 = 0;
     for member in members {
@@ -63,7 +64,8 @@ fn most_params(members: &[Body]) -> u32
 
 /// The greatest count of the bodies of a group.
 fn most_cells(members: &[Body], earlier: &[u32]) -> u32
-    ensures { result ≡ saturated (greatest (map (λ b. cells_in earlier.now b.root) (map plain_body members.now))) }
+    ensures { result ≡
+        saturated (greatest (map (λ b. cells_in earlier.now b.root) (map plain_body members.now))) }
 {
     let mut most: u32 = 0;
     for member in members {
@@ -82,7 +84,8 @@ fn group_cells(group: &Group, earlier: &[u32]) -> u32
 
 /// The cells of a call to each group.
 pub fn groups_cells(alloc: Global, groups: &[Group]) -> Result<Vec<u32>, Memory>
-    ensures { IfOk result (λ v. v.items ≡ map saturated (groups_cells [] (map plain_group groups.now))) }
+    ensures { IfOk result (λ v. v.items ≡
+        map saturated (groups_cells [] (map plain_group groups.now))) }
 {
     let mut earlier = Vec::new(alloc);
     for group in groups {
@@ -93,7 +96,8 @@ pub fn groups_cells(alloc: Global, groups: &[Group]) -> Result<Vec<u32>, Memory>
 
 /// The cells of all definitions.
 fn definitions_cells(definitions: &[Expr], earlier: &[u32]) -> u32
-    ensures { result ≡ saturated (sum (map (cells_in earlier.now) (map plain_expr definitions.now))) }
+    ensures { result ≡
+        saturated (sum (map (cells_in earlier.now) (map plain_expr definitions.now))) }
 {
     let mut total: u32 = 0;
     for definition in definitions {

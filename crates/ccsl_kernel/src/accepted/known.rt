@@ -4,7 +4,8 @@ ghost use Rattle.std.specs.Prelude.{◌≡◌, ◌↔◌, IsTrue, map, slice_get
 ghost use Rattle.std.specs.Option.{option_map};
 ghost use Rattle.ccsl_kernel.specs.Syntax.{body_of};
 ghost use Rattle.ccsl_kernel.specs.Plain.{plain_expr, plain_group, plain_body};
-ghost use Rattle.ccsl_kernel.specs.Accepted.{IsOffset, IsClock, IsNumber, AreNumbers, IsWord, IsTest, IsArgument, AreArguments, IsKnown};
+ghost use Rattle.ccsl_kernel.specs.Accepted.{IsOffset, IsClock, IsNumber, AreNumbers, IsWord};
+ghost use Rattle.ccsl_kernel.specs.Accepted.{IsTest, IsArgument, AreArguments, IsKnown};
 
 use crate::expr::{Expr, ExprTest, NumPrim, NumTerm, Place, Value, WordPlace};
 use crate::group::{Body, Group, ParamKind};
@@ -33,7 +34,8 @@ fn has_kind(params: &[ParamKind], i: u32, kind: ParamKind) -> bool
 
 fn is_clock(here: &Nameable<'_>, place: Place) -> bool
     ensures { let groups = map plain_group here.now.groups.now in
-        IsTrue result ↔ IsClock groups here.now.words.now here.now.clocks here.now.params.now place }
+        IsTrue result ↔
+        IsClock groups here.now.words.now here.now.clocks here.now.params.now place }
 {
     match place {
         Place::Clock(x) => x < here.clocks,
@@ -43,7 +45,8 @@ fn is_clock(here: &Nameable<'_>, place: Place) -> bool
 
 fn is_number(here: &Nameable<'_>, number: NumPrim) -> bool
     ensures { let groups = map plain_group here.now.groups.now in
-        IsTrue result ↔ IsNumber groups here.now.words.now here.now.clocks here.now.params.now number }
+        IsTrue result ↔
+        IsNumber groups here.now.words.now here.now.clocks here.now.params.now number }
 {
     match number {
         NumPrim::Num(_) => true,
@@ -53,7 +56,8 @@ fn is_number(here: &Nameable<'_>, number: NumPrim) -> bool
 
 fn are_numbers(here: &Nameable<'_>, term: &NumTerm) -> bool
     ensures { let groups = map plain_group here.now.groups.now in
-        IsTrue result ↔ AreNumbers groups here.now.words.now here.now.clocks here.now.params.now term.now }
+        IsTrue result ↔
+        AreNumbers groups here.now.words.now here.now.clocks here.now.params.now term.now }
 {
     is_number(here, term.first)
         && term
@@ -85,7 +89,8 @@ fn is_word(here: &Nameable<'_>, word: WordPlace) -> bool
 
 fn is_test(here: &Nameable<'_>, test: &ExprTest) -> bool
     ensures { let groups = map plain_group here.now.groups.now in
-        IsTrue result ↔ IsTest groups here.now.words.now here.now.clocks here.now.params.now test.now }
+        IsTrue result ↔
+        IsTest groups here.now.words.now here.now.clocks here.now.params.now test.now }
 {
     match test {
         ExprTest::Equal(t, u) | ExprTest::Less(t, u) => are_numbers(here, t)
@@ -97,7 +102,8 @@ fn is_test(here: &Nameable<'_>, test: &ExprTest) -> bool
 /// Whether an argument is there and of its parameter's kind.
 fn is_argument(here: &Nameable<'_>, kind: ParamKind, argument: &Value) -> bool
     ensures { let groups = map plain_group here.now.groups.now in
-        IsTrue result ↔ IsArgument groups here.now.words.now here.now.clocks here.now.params.now kind argument.now }
+        IsTrue result ↔
+        IsArgument groups here.now.words.now here.now.clocks here.now.params.now kind argument.now }
 {
     match (kind, argument) {
         (ParamKind::Clock, Value::Clock(place)) => is_clock(here, *place),
@@ -110,7 +116,9 @@ fn is_argument(here: &Nameable<'_>, kind: ParamKind, argument: &Value) -> bool
 /// Whether arguments have the number and the kinds of parameters.
 fn are_arguments(here: &Nameable<'_>, params: &[ParamKind], arguments: &[Value]) -> bool
     ensures { let groups = map plain_group here.now.groups.now in
-        IsTrue result ↔ AreArguments groups here.now.words.now here.now.clocks here.now.params.now params.now arguments.now }
+        IsTrue result ↔
+        AreArguments groups here.now.words.now here.now.clocks here.now.params.now
+        params.now arguments.now }
 {
     if params.len() != arguments.len() {
         return false;
@@ -125,7 +133,8 @@ fn are_arguments(here: &Nameable<'_>, params: &[ParamKind], arguments: &[Value])
 
 /// The member of a group.
 fn body_at(groups: &[Group], group: u32, member: u32) -> Option<&Body>
-    ensures { body_of (map plain_group groups.now) group member ≡ option_map (λ b. plain_body b.now) result }
+    ensures { body_of (map plain_group groups.now) group member ≡
+        option_map (λ b. plain_body b.now) result }
 {
     groups
         .get(group as usize)?
@@ -137,7 +146,8 @@ fn body_at(groups: &[Group], group: u32, member: u32) -> Option<&Body>
 /// Whether all that an expression names is there.
 pub fn is_known(here: &Nameable<'_>, e: &Expr) -> bool
     ensures { let groups = map plain_group here.now.groups.now in
-        IsTrue result ↔ IsKnown groups here.now.words.now here.now.clocks here.now.params.now (plain_expr e.now) }
+        IsTrue result ↔
+        IsKnown groups here.now.words.now here.now.clocks here.now.params.now (plain_expr e.now) }
 {
     match e {
         Expr::Name(place) => is_clock(here, *place),

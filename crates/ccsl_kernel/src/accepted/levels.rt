@@ -37,7 +37,8 @@ fn members_height(members: &[Body], levels: &[u32]) -> u32
 
 /// Whether no group stands on a level above the limit.
 pub fn are_low(alloc: Global, groups: &[Group]) -> Result<bool, Memory>
-    ensures { IfOk result (λ low. IsTrue low ↔ All (λ n. n ≤ MAX_CALL_LEVELS) (group_levels [] (map plain_group groups.now))) }
+    ensures { IfOk result (λ low. IsTrue low ↔
+        All (λ n. n ≤ MAX_CALL_LEVELS) (group_levels [] (map plain_group groups.now))) }
 {
     let mut levels = Vec::new(alloc);
     for group in groups {
