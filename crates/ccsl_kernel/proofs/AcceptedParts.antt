@@ -2,7 +2,7 @@
 use Rattle.std.proofs.Common.{◌≡◌, ℕ, zero, suc, ◌+◌, ◌-◌, ◌≤◌, List, [], ◌∷◌, All, Bool, true, false, Option, Some, None, slice_get, nat_lt, if◌then◌else◌, refl, sym, ap, subst, arith, ltb-false}
 use Rattle.std.proofs.lemmas.List.Elements.{All-nil, All-cons}
 use Rattle.std.proofs.lemmas.Option.{slice_get_within, get_or_from_slice_get}
-use Rattle.ccsl_base.specs.declared.TheConstants.{MAX_LEVELS}
+use Rattle.ccsl_base.specs.declared.limits.TheConstants.{MAX_LEVELS}
 use Rattle.ccsl_words.specs.Word.{BinaryWord}
 use Rattle.ccsl_kernel.specs.declared.expr.Place.{Place}
 use Rattle.ccsl_kernel.specs.declared.expr.Place.TheVariants as place

@@ -6,7 +6,9 @@ use Rattle.std.proofs.lemmas.Slice.Eq.{bytes_eq-Decides}
 use Rattle.std.specs.List.{list_all, take_while, prefix_len}
 use Rattle.std.proofs.lemmas.List.{append-nil}
 use Rattle.std.specs.Str.{bytes_eq}
-use Rattle.ccsl_base.specs.Name.{is_letter, is_digit, is_inner, is_word, is_name, is_reserved, is_visible, is_cert_name, are_cert_names}
+use Rattle.ccsl_base.specs.declared.limits.TheConstants.{MAX_NAME_BYTES}
+use Rattle.ccsl_base.specs.ReservedWords.{is_reserved}
+use Rattle.ccsl_base.specs.Name.{is_letter, is_digit, is_inner, is_word, is_name, is_visible, is_cert_name, are_cert_names}
 use Rattle.ccsl_kernel.specs.Syntax.{System}
 use Rattle.ccsl_kernel.specs.Accepted.{is_path_rest, is_hidden, Each, IsAccepted}
 
@@ -49,8 +51,8 @@ not_from P away bs h = false_from_ne_true (bytes_eq bs (codes "from")) (λ e. tr
 name_and_rest : (front rest : List ℕ) → is_name front ≡ true → list_all is_visible rest ≡ true → bytes_eq (front ++ rest) (codes "from") ≡ false → is_cert_name (front ++ rest) ≡ true
 name_and_rest [] rest h v e = let z : ⊥ = cc in absurd z
 name_and_rest (b ∷ bs) rest h v e =
-    let short = (and_parts (is_word (b ∷ bs) && nat_le (length (b ∷ bs)) 64) (not (is_reserved (b ∷ bs))) h).0 in
-    let word = (and_parts (is_letter b && list_all is_inner bs) (nat_le (length (b ∷ bs)) 64) short).0 in
+    let short = (and_parts (is_word (b ∷ bs) && nat_le (length (b ∷ bs)) MAX_NAME_BYTES) (not (is_reserved (b ∷ bs))) h).0 in
+    let word = (and_parts (is_letter b && list_all is_inner bs) (nat_le (length (b ∷ bs)) MAX_NAME_BYTES) short).0 in
     let parts = and_parts (is_letter b) (list_all is_inner bs) word in
     let letter = letter_between b parts.0 in
     let behind : list_all is_visible (bs ++ rest) ≡ true = list_all-append is_visible bs rest ∙ and_from (list_all is_visible bs) (list_all is_visible rest) (inner_visible bs parts.1) v in

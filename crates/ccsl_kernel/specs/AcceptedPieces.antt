@@ -1,6 +1,6 @@
 -- The sentences of IsAccepted in two parts: those on numbers alone, and those on names, members, definitions and constraints one by one.
 use Rattle.std.specs.Prelude.{◌≡◌, ◌+◌, ◌≤◌, All, IsTrue, length, nat_lt, if◌then◌else◌}
-use Rattle.ccsl_base.specs.declared.TheConstants.{MAX_CLOCKS, MAX_CONSTRAINTS}
+use Rattle.ccsl_base.specs.declared.limits.TheConstants.{MAX_CLOCKS, MAX_CONSTRAINTS}
 use Rattle.ccsl_base.specs.Name.{is_name}
 use Rattle.ccsl_kernel.specs.Syntax.{System}
 use Rattle.ccsl_kernel.specs.Accepted.{Each, IsBody, IsDefinition, IsConstraint, is_hidden}

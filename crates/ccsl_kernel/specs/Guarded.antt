@@ -1,7 +1,7 @@
 -- Which calls an expression may make: of members of earlier groups, and of its own group in guarded tail positions alone; and by how much
 -- `delayed` may lag.
 use Rattle.std.specs.Prelude.{◌≡◌, ℕ, ◌<◌, ◌≤◌, ◌⊎◌, length}
-use Rattle.ccsl_base.specs.declared.TheConstants.{MAX_DELAY}
+use Rattle.ccsl_base.specs.declared.limits.TheConstants.{MAX_DELAY}
 pub use Rattle.ccsl_kernel.specs.declared.accepted.calls.Position.{Position}
 pub use Rattle.ccsl_kernel.specs.declared.accepted.calls.Position.TheVariants.{Inner, Tail, Guarded}
 use Rattle.ccsl_kernel.specs.declared.expr.ExprOp.TheVariants as op

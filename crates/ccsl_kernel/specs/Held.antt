@@ -1,6 +1,6 @@
 -- The course that boxed nodes hold, and the deaths of clocks that a table holds.
 use Rattle.std.specs.Prelude.{ℕ, suc, ◌-◌, ◌≤◌, List, [], Bool, false, slice_index_or, nat_lt, if◌then◌else◌}
-use Rattle.ccsl_base.specs.declared.TheConstants.{MAX_LEVELS}
+use Rattle.ccsl_base.specs.declared.limits.TheConstants.{MAX_LEVELS}
 use Rattle.ccsl_words.specs.Word.{BinaryWord}
 use Rattle.ccsl_kernel.specs.declared.course.Course.{Course as Node, Unary', Binary', Then'}
 use Rattle.ccsl_kernel.specs.declared.course.Course.TheVariants.{Name, Never}

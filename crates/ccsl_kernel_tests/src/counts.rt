@@ -1,7 +1,7 @@
 //! Numbers of clocks and definitions, and names, that are accepted, and such that are not.
 
 use crate::parts::{add_name, parts};
-use ccsl_base::{Memory, Names};
+use ccsl_base::{MAX_CLOCKS, Memory, Names};
 use ccsl_kernel::Parts;
 use std::alloc::Global;
 use std::test::*;
@@ -77,22 +77,36 @@ fn names_of_clocks(rt: HostRuntime) -> Result<(), Fail> {
     Ok(())
 }
 
-/// So many names of two letters.
-fn two_letters(alloc: Global, count: u8) -> Result<Names, Memory> {
+/// So many names of three letters.
+fn three_letters(alloc: Global, count: u32) -> Result<Names, Memory> {
     let mut names = Names::new(alloc);
     for i in 0..count {
-        add_name(&mut names, &[b'a' + i / 26, b'a' + i % 26])?;
+        let letters = [i / 676 % 26, i / 26 % 26, i % 26];
+        let name = [letter(letters[0]), letter(letters[1]), letter(letters[2])];
+        add_name(&mut names, &name)?;
     }
     Ok(names)
 }
 
+fn letter(i: u32) -> u8 {
+    b"abcdefghijklmnopqrstuvwxyz"
+        .get(i as usize)
+        .copied()
+        .unwrap_or(b'a')
+}
+
 #[test]
-fn at_most_64_clocks(rt: HostRuntime) -> Result<(), Fail> {
-    for (count, accepted) in [(64, true), (65, false)] {
+fn clocks_up_to_the_limit(rt: HostRuntime) -> Result<(), Fail> {
+    let table = [
+        (MAX_CLOCKS - 1, true),
+        (MAX_CLOCKS, true),
+        (MAX_CLOCKS + 1, false),
+    ];
+    for (count, accepted) in table {
         let mut parts = parts(rt.alloc(), &[], &[])?;
-        parts.names = two_letters(rt.alloc(), count)?;
-        parts.declared = u32::from(count);
-        parts.written = u32::from(count);
+        parts.names = three_letters(rt.alloc(), count)?;
+        parts.declared = count;
+        parts.written = count;
         assert_eq!(rt; parts.accepted(rt.alloc())?, accepted, "{count} clocks");
     }
     Ok(())

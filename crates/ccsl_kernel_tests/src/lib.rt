@@ -4,6 +4,8 @@
 #[cfg(test)]
 mod counts;
 #[cfg(test)]
+mod library;
+#[cfg(test)]
 mod limits;
 #[cfg(test)]
 mod parts;
@@ -12,6 +14,10 @@ mod postfix;
 #[cfg(test)]
 mod refused;
 #[cfg(test)]
+mod relations;
+#[cfg(test)]
 mod run;
 #[cfg(test)]
 mod ticks;
+#[cfg(test)]
+mod variants;

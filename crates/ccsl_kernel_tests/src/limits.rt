@@ -3,6 +3,7 @@
 use crate::parts::{constraints, parts};
 use crate::run::cells_of;
 use ccsl_base::Memory;
+use ccsl_kernel::RelationKind;
 use std::alloc::Global;
 use std::string::String;
 use std::test::*;
@@ -61,7 +62,7 @@ fn at_most_8_levels(rt: HostRuntime) -> Result<(), Fail> {
 fn at_most_4096_constraints(rt: HostRuntime) -> Result<(), Fail> {
     for (count, accepted) in [(4096, true), (4097, false)] {
         let mut parts = parts(rt.alloc(), &[], &[])?;
-        parts.constraints = constraints(rt.alloc(), count, 0, 1)?;
+        parts.constraints = constraints(rt.alloc(), count, RelationKind::Precedes, (0, 1))?;
         assert_eq!(rt;
             parts.accepted(rt.alloc())?,
             accepted,
@@ -83,11 +84,21 @@ fn at_most_32768_cells(rt: HostRuntime) -> Result<(), Fail> {
     Ok(())
 }
 
+// `upto weakly` has one cell and its operands', and `precedes within` two
+#[test]
+fn cells_of_the_forms_of_version_2(rt: HostRuntime) -> Result<(), Fail> {
+    let mut parts = parts(rt.alloc(), &[], &["a b upto-weakly"])?;
+    let kind = RelationKind::PrecedesWithin(1);
+    parts.constraints = constraints(rt.alloc(), 1, kind, (0, 1))?;
+    assert_eq!(rt; cells_of(rt.alloc(), parts)?, Some(5));
+    Ok(())
+}
+
 // as many as `alternates` has: one definition by `a delay 1`, and two constraints
 #[test]
 fn cells_of_definitions_and_constraints(rt: HostRuntime) -> Result<(), Fail> {
     let mut parts = parts(rt.alloc(), &[], &["a 1 delay"])?;
-    parts.constraints = constraints(rt.alloc(), 2, 0, 1)?;
+    parts.constraints = constraints(rt.alloc(), 2, RelationKind::Precedes, (0, 1))?;
     assert_eq!(rt; cells_of(rt.alloc(), parts)?, Some(6));
     Ok(())
 }

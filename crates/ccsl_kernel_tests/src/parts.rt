@@ -54,19 +54,22 @@ fn body(alloc: Global, params: &str, root: &str) -> Result<Body, Memory> {
     Ok(Body { params, root })
 }
 
-fn group(alloc: Global, params: &str, root: &str) -> Result<Group, Memory> {
+/// A group: of each member the kinds of its parameters, a letter each, and its expression.
+fn group(alloc: Global, list: &[(&str, &str)]) -> Result<Group, Memory> {
     let mut members = Vec::new(alloc);
-    members.push(body(alloc, params, root)?)?;
+    for (params, root) in list {
+        members.push(body(alloc, params, root)?)?;
+    }
     Ok(Group {
         members: Seq::new(members),
     })
 }
 
-/// Groups of one member each: the kinds of its parameters, a letter each, and its expression.
+/// Groups of one member each.
 fn groups(alloc: Global, list: &[(&str, &str)]) -> Result<Vec<Group>, Memory> {
     let mut groups = Vec::new(alloc);
     for (params, root) in list {
-        groups.push(group(alloc, params, root)?)?;
+        groups.push(group(alloc, &[(*params, *root)])?)?;
     }
     Ok(groups)
 }
@@ -97,19 +100,32 @@ pub fn parts(alloc: Global, groups: &[(&str, &str)], defined: &[&str]) -> Result
     })
 }
 
-/// So many constraints `left precedes right`.
+/// The parts with one group, and with definitions of x, y and further clocks.
+pub fn parts_of_group(
+    alloc: Global,
+    members: &[(&str, &str)],
+    defined: &[&str],
+) -> Result<Parts, Fail> {
+    let mut parts = parts(alloc, &[], defined)?;
+    let mut groups = Vec::new(alloc);
+    groups.push(group(alloc, members)?)?;
+    parts.groups = Seq::new(groups);
+    Ok(parts)
+}
+
+/// So many constraints of a kind between two clocks.
 pub fn constraints(
     alloc: Global,
     count: u32,
-    left: u32,
-    right: u32,
+    kind: RelationKind,
+    clocks: (u32, u32),
 ) -> Result<Seq<Constraint>, Memory> {
     let mut constraints = Vec::new(alloc);
     for _ in 0..count {
         constraints.push(Constraint {
-            kind: RelationKind::Precedes,
-            left,
-            right,
+            kind,
+            left: clocks.0,
+            right: clocks.1,
             label: Text::new(Vec::new(alloc)),
         })?;
     }

@@ -7,12 +7,13 @@ use std::alloc::Global;
 /// The clocks that texts name, each by a letter, in the order of their numbers.
 pub const CLOCKS: &str = "abcxyzvw";
 
-/// What a text has come to: the expressions and the arguments that nothing has taken yet, and the last two numbers.
+/// What a text has come to: the expressions, the arguments and the test that nothing has taken yet, and the last two numbers.
 #[derive(Drop)]
 struct Reading {
     alloc: Global,
     waiting: Vec<Expr>,
     args: Vec<Value>,
+    test: Option<ExprTest>,
     numbers: (u32, u32),
 }
 
@@ -30,6 +31,7 @@ fn operator(word: &str) -> Option<ExprOp> {
         "inf" => Some(ExprOp::Inf),
         "sup" => Some(ExprOp::Sup),
         "upto" => Some(ExprOp::Upto),
+        "upto-weakly" => Some(ExprOp::UptoWeakly),
         "then" => Some(ExprOp::Then),
         "sampled" => Some(ExprOp::Sampled),
         "weakly" => Some(ExprOp::SampledWeakly),
@@ -75,10 +77,10 @@ impl Reading {
         self.term(NumPrim::Num(self.numbers.1))
     }
 
-    /// One more than the number parameter.
-    fn next(&self) -> Result<NumTerm, Memory> {
+    /// One more or one less than the number parameter.
+    fn beside(&self, sign: NumSign) -> Result<NumTerm, Memory> {
         let mut rest = Vec::new(self.alloc);
-        rest.push((NumSign::Plus, NumPrim::Num(1)))?;
+        rest.push((sign, NumPrim::Num(1)))?;
         Ok(NumTerm {
             first: NumPrim::Param(self.numbers.1),
             rest: Seq::new(rest),
@@ -97,11 +99,34 @@ impl Reading {
         Ok(Expr::Delayed(a, self.numbers.1, d))
     }
 
-    /// The first of two where 0 is less than the last number.
+    /// The test that a word makes of the last numbers.
+    fn test_of(&self, word: &str) -> Option<ExprTest> {
+        let (first, last) = self.numbers;
+        let left = self.term(NumPrim::Num(first));
+        match word {
+            "less" => Some(ExprTest::Less(left, self.number())),
+            "equal" => Some(ExprTest::Equal(left, self.number())),
+            "equal-param" => {
+                let param = self.term(NumPrim::Param(first));
+                Some(ExprTest::Equal(param, self.number()))
+            }
+            "head" => Some(ExprTest::Head(WordPlace::Word(first, u64::from(last)))),
+            "head-param" => Some(ExprTest::Head(WordPlace::Param(last))),
+            "head-tail" => Some(ExprTest::Head(WordPlace::Tail(last))),
+            "ended" => Some(ExprTest::Ended(WordPlace::Word(first, u64::from(last)))),
+            "ended-param" => Some(ExprTest::Ended(WordPlace::Param(last))),
+            _ => None,
+        }
+    }
+
+    /// The first of two where the test holds; where there is none, that 0 is less than the last number.
     fn choice(&mut self) -> Result<Expr, Memory> {
         let d = self.boxed()?;
         let a = self.boxed()?;
-        let test = ExprTest::Less(self.term(NumPrim::Num(0)), self.number());
+        let test = match std::mem::replace(&mut self.test, None) {
+            Some(test) => test,
+            None => ExprTest::Less(self.term(NumPrim::Num(0)), self.number()),
+        };
         Ok(Expr::If(test, a, d))
     }
 
@@ -181,15 +206,30 @@ impl Reading {
             self.numbers = (self.numbers.1, number);
             return Ok(());
         }
-        match word {
-            "clock-arg" => self.clock_arg(),
-            "number-arg" => self.arg(Value::Number(self.number())),
-            "next-arg" => {
-                let next = self.next()?;
-                self.arg(Value::Number(next))
-            }
-            _ => self.read_expression(word),
+        if let Some(test) = self.test_of(word) {
+            self.test = Some(test);
+            return Ok(());
         }
+        match self.argument(word)? {
+            Some(value) => self.arg(value),
+            None if word == "clock-arg" => self.clock_arg(),
+            None => self.read_expression(word),
+        }
+    }
+
+    /// The number or the word that a word of the text makes an argument.
+    fn argument(&self, word: &str) -> Result<Option<Value>, Memory> {
+        let (first, last) = self.numbers;
+        Ok(match word {
+            "number-arg" => Some(Value::Number(self.number())),
+            "number-param-arg" => Some(Value::Number(self.term(NumPrim::Param(last)))),
+            "next-arg" => Some(Value::Number(self.beside(NumSign::Plus)?)),
+            "before-arg" => Some(Value::Number(self.beside(NumSign::Minus)?)),
+            "word-arg" => Some(Value::Word(WordPlace::Word(first, u64::from(last)))),
+            "word-param-arg" => Some(Value::Word(WordPlace::Param(last))),
+            "tail-arg" => Some(Value::Word(WordPlace::Tail(last))),
+            _ => None,
+        })
     }
 }
 
@@ -199,6 +239,7 @@ pub fn expression(alloc: Global, text: &str) -> Result<Expr, Memory> {
         alloc,
         waiting: Vec::new(alloc),
         args: Vec::new(alloc),
+        test: None,
         numbers: (0, 0),
     };
     for word in text.split_ascii_whitespace() {

@@ -1,6 +1,7 @@
 //! Members of groups, definitions and constraints that are accepted, and such that are not.
 
 use crate::parts::{constraints, parts};
+use ccsl_kernel::RelationKind;
 use std::test::*;
 
 #[test]
@@ -68,8 +69,19 @@ fn definitions(rt: HostRuntime) -> Result<(), Fail> {
 fn constraints_between_clocks(rt: HostRuntime) -> Result<(), Fail> {
     for (left, right, accepted) in [(0, 2, true), (2, 0, true), (3, 0, false), (0, 3, false)] {
         let mut parts = parts(rt.alloc(), &[], &[])?;
-        parts.constraints = constraints(rt.alloc(), 1, left, right)?;
+        parts.constraints = constraints(rt.alloc(), 1, RelationKind::Precedes, (left, right))?;
         assert_eq!(rt; parts.accepted(rt.alloc())?, accepted, "{left} and {right}");
+    }
+    Ok(())
+}
+
+#[test]
+fn precedence_within_at_least_1(rt: HostRuntime) -> Result<(), Fail> {
+    for (most, accepted) in [(0, false), (1, true), (u32::MAX, true)] {
+        let mut parts = parts(rt.alloc(), &[], &[])?;
+        let kind = RelationKind::PrecedesWithin(most);
+        parts.constraints = constraints(rt.alloc(), 1, kind, (0, 1))?;
+        assert_eq!(rt; parts.accepted(rt.alloc())?, accepted, "within {most}");
     }
     Ok(())
 }

@@ -104,6 +104,29 @@ pub fn ticks_of(alloc: Global, parts: Parts, steps: &str) -> Result<Option<Strin
     }
 }
 
+/// At which steps the formula of the first item holds, a 1 or a 0 for each.
+fn holding(alloc: Global, system: &System, steps: &str) -> Result<String, Memory> {
+    let mut text = String::new(alloc);
+    let mut before = Vec::new(alloc);
+    for step in steps.split_ascii_whitespace() {
+        let step = set_of(step);
+        if 0 < system.items() {
+            let met = holds(alloc, system, 0, &before, &step)?;
+            text.push(if met { '1' } else { '0' })?;
+        }
+        before.push(step)?;
+    }
+    Ok(text)
+}
+
+/// At which steps the first item holds, and `None` where the parts are not accepted.
+pub fn holding_of(alloc: Global, parts: Parts, steps: &str) -> Result<Option<String>, Memory> {
+    match assembled(alloc, parts)? {
+        Some(system) => Ok(Some(holding(alloc, &system, steps)?)),
+        None => Ok(None),
+    }
+}
+
 /// The cells of a system, and `None` where the parts are not accepted.
 pub fn cells_of(alloc: Global, parts: Parts) -> Result<Option<u32>, Memory> {
     match assembled(alloc, parts)? {

@@ -22,6 +22,7 @@ fn operators_tick_and_die(rt: HostRuntime) -> Result<(), Fail> {
         ("a b 2 delayed", "a ab b b", "0011 0011"),
         ("a b inf", "a b b", "101 101"),
         ("a b upto", "ac abc ac", "100 101"),
+        ("a b upto-weakly", "ac abc ac", "110 111"),
         ("a 0 0 filter", "ac ac a ac", "1010 1011"),
         ("never a then", "ac ac ac ac", "0000 0000"),
         ("a b union", "a b ab c", "1110 1110"),

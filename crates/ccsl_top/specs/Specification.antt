@@ -3,7 +3,7 @@
 -- The table goes token by token. What it has read is a record; `None` stands for a specification of another form.
 use Rattle.std.specs.Prelude.{◌≡◌, ℕ, List, [], ◌∷◌, ◌++◌, length, map, Bool, ◌&&◌, Option, Some, None, is_none, nat_eq, nat_lt, if◌then◌else◌}
 use Rattle.std.specs.List.{fold}
-use Rattle.ccsl_base.specs.declared.TheConstants.{MAX_CLOCKS}
+use Rattle.ccsl_base.specs.declared.limits.TheConstants.{MAX_CLOCKS}
 use Rattle.ccsl_base.specs.Names.{find_name}
 use Rattle.ccsl_lex.specs.Tokens.{PlainToken, AreTokens}
 use Rattle.ccsl_lex.specs.declared.reserved.Reserved.{Reserved}

@@ -1,97 +1,11 @@
 //! The names of a system's clocks.
 
 ghost use Rattle.std.specs.Prelude.{◌≡◌, ◌↔◌, IsTrue, nat_lt, nat_le, ◌&&◌, if◌then◌else◌};
-ghost use Rattle.std.specs.List.{list_all, list_any, prefix_len};
-ghost use Rattle.std.specs.Str.{bytes_eq};
-ghost use Rattle.ccsl_base.specs.Name.{is_letter, is_inner, is_word, is_name, is_reserved};
+ghost use Rattle.std.specs.List.{list_all, prefix_len};
+ghost use Rattle.ccsl_base.specs.Name.{is_inner, is_name};
 ghost use Rattle.ccsl_kernel.specs.Accepted.{is_path_rest, is_hidden, Each};
 
-use ccsl_base::Names;
-
-fn is_among(word: &[u8], words: &[&[u8]]) -> bool
-    ensures { result ≡ list_any (λ w. bytes_eq word.now w.now) words.now }
-{
-    words.iter().any(|w| word == *w)
-}
-
-/// Whether a word is one that the language keeps for itself.
-fn is_reserved(word: &[u8]) -> bool
-    ensures { result ≡ is_reserved word.now }
-{
-    let words: [&[u8]; 36] = [
-        b"ccsl",
-        b"relation",
-        b"expression",
-        b"and",
-        b"system",
-        b"clock",
-        b"number",
-        b"word",
-        b"define",
-        b"if",
-        b"use",
-        b"else",
-        b"never",
-        b"union",
-        b"inter",
-        b"minus",
-        b"inf",
-        b"sup",
-        b"delay",
-        b"await",
-        b"filter",
-        b"upto",
-        b"sampled",
-        b"weakly",
-        b"on",
-        b"delayed",
-        b"then",
-        b"tail",
-        b"head",
-        b"ended",
-        b"subclock",
-        b"coincides",
-        b"excludes",
-        b"precedes",
-        b"within",
-        b"from",
-    ];
-    is_among(word, &words)
-}
-
-fn is_letter(b: u8) -> bool
-    ensures { result ≡ is_letter b }
-{
-    matches!(b, b'A'..=b'Z' | b'a'..=b'z' | b'_')
-}
-
-fn is_inner(b: u8) -> bool
-    ensures { result ≡ is_inner b }
-{
-    is_letter(b) || matches!(b, b'0'..=b'9')
-}
-
-fn are_inner(text: &[u8]) -> bool
-    ensures { result ≡ list_all is_inner text.now }
-{
-    text.iter().all(|b| is_inner(*b))
-}
-
-/// Whether a text is a letter and letters, digits and _ behind it.
-fn is_word(text: &[u8]) -> bool
-    ensures { result ≡ is_word text.now }
-{
-    match text.split_first() {
-        Some((first, rest)) => is_letter(*first) && are_inner(rest),
-        None => false,
-    }
-}
-
-fn is_name(text: &[u8]) -> bool
-    ensures { result ≡ is_name text.now }
-{
-    is_word(text) && text.len() <= 64 && !is_reserved(text)
-}
+use ccsl_base::{Names, is_inner, is_name};
 
 /// How many bytes at the front of a text may stand in a name.
 fn inner_front(text: &[u8]) -> usize

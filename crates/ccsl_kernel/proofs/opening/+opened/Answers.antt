@@ -1,6 +1,6 @@
 -- A call, at a level above 0.
 use Rattle.std.proofs.Common.{rules, ◌≡◌, suc, ◌-◌, ◌≤◌, ◌<◌, Some, IfOk, map, sym, ap, ap₂, ◌∙◌, subst, arith}
-use Rattle.ccsl_base.specs.declared.TheConstants.{MAX_LEVELS}
+use Rattle.ccsl_base.specs.declared.limits.TheConstants.{MAX_LEVELS}
 use Rattle.ccsl_kernel.specs.Syntax.{body_of}
 use Rattle.ccsl_kernel.specs.Plain.{plain_expr, plain_body}
 use Rattle.ccsl_kernel.specs.Actuals.{value_of}

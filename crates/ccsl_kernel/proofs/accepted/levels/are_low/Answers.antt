@@ -2,7 +2,7 @@ use Rattle.std.proofs.Common.{◌≡◌, ℕ, suc, ◌+◌, ◌≤◌, [], ◌�
 use Rattle.std.specs.Prelude.{All}
 use Rattle.std.proofs.lemmas.Bool.{false≢true}
 use Rattle.std.proofs.lemmas.List.Elements.{All-push}
-use Rattle.ccsl_base.specs.declared.TheConstants.{MAX_CALL_LEVELS}
+use Rattle.ccsl_base.specs.declared.limits.TheConstants.{MAX_CALL_LEVELS}
 use Rattle.ccsl_kernel.specs.declared.group.Group.{Group}
 use Rattle.ccsl_kernel.specs.declared.group.Body.{Body as BoxedBody}
 use Rattle.ccsl_kernel.specs.Plain.{plain_body, plain_group}

@@ -1,6 +1,6 @@
 use Rattle.std.proofs.Common.{◌≡◌, ◌≤◌, [], map, drop}
 use Rattle.std.specs.Prelude.{All}
-use Rattle.ccsl_base.specs.declared.TheConstants.{MAX_CALL_LEVELS}
+use Rattle.ccsl_base.specs.declared.limits.TheConstants.{MAX_CALL_LEVELS}
 use Rattle.ccsl_kernel.specs.Plain.{plain_group}
 use Rattle.ccsl_kernel.specs.Accepted.{group_levels}
 use Rattle.ccsl_kernel.proofs.accepted.levels.are_low.Given as goal
