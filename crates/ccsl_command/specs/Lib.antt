@@ -1,0 +1,5 @@
+pub mod Table
+pub mod Values
+pub mod Pairs
+pub mod Meaning
+pub mod Opened

@@ -1,0 +1,40 @@
+//! What a command line asks for.
+
+use crate::{FileName, PolicyName};
+
+/// A command with its values, each within its range.
+#[derive(Drop)]
+pub enum Command {
+    /// Reads a specification, and says whether it is accepted.
+    Check {
+        spec: FileName,
+    },
+    /// Writes the run that specification, policy, seed and number of steps give, and a certificate where it ends early.
+    Simulate {
+        spec: FileName,
+        policy: PolicyName,
+        seed: u64,
+        steps: u64,
+        trace: FileName,
+        cert: FileName,
+    },
+    /// Says whether a trace is a run of a specification.
+    Judge {
+        spec: FileName,
+        trace: FileName,
+        workers: u32,
+    },
+    /// Checks a certificate that no step is left after a trace.
+    Certify {
+        spec: FileName,
+        trace: FileName,
+        cert: FileName,
+    },
+    /// Simulates a chain of alternating clocks in memory, and judges what was written.
+    Trial {
+        clocks: u32,
+        steps: u64,
+        seed: u64,
+        workers: u32,
+    },
+}

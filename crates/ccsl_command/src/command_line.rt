@@ -1,0 +1,127 @@
+//! The meaning of a command line.
+
+ghost use Rattle.std.specs.Prelude.{◌^◌, ◌≡◌, ◌≢◌, ◌+◌, ◌<◌, [], IfOk, IfErr, Ok, Err, None, length, find, not};
+ghost use Rattle.ccsl_command.specs.Meaning.{meaning, command_named, key_fault, word_fault, first_fault, first_missing, has_same_name, have_same_value};
+ghost use Rattle.ccsl_command.specs.Pairs.{key_part, value_part, key_of, is_given};
+
+use crate::build::command_of;
+use crate::pair::{Pair, is_given, key_named, split, value_of};
+use crate::value::is_value;
+use crate::{Command, CommandName, Key, Usage};
+use ccsl_base::{CommandWord, Memory};
+use std::alloc::Global;
+
+const COMMANDS: [CommandName; 5] = [
+    CommandName::Check,
+    CommandName::Simulate,
+    CommandName::Judge,
+    CommandName::Certify,
+    CommandName::Trial,
+];
+
+/// The command of a list of words, or what is wrong with them: the first word at fault, then a missing key, then equal file names.
+pub fn words(alloc: Global, list: &[CommandWord]) -> Result<Command, Usage>
+    ensures meant { IfOk result (λ command. meaning list.now ≡ Ok command) }
+    ensures refused { IfErr result (λ fault. fault ≢ Usage.Memory → meaning list.now ≡ Err fault) }
+{
+    let [first, pairs @ ..] = list else {
+        return Err(Usage::NoCommand);
+    };
+    let Some(name) = command_named(first.as_str()) else {
+        return Err(Usage::UnknownCommand);
+    };
+    if let Some(fault) = first_fault(name, pairs) {
+        return Err(fault);
+    }
+    if let Some(key) = first_missing(name, pairs) {
+        return Err(Usage::Missing(key));
+    }
+    if has_same_name(pairs) {
+        return Err(Usage::SameName);
+    }
+    match command_of(alloc, name, pairs) {
+        Ok(command) => Ok(command),
+        Err(Memory) => Err(Usage::Memory),
+    }
+}
+
+fn command_named(word: &str) -> Option<CommandName>
+    ensures { result ≡ command_named word.now }
+{
+    COMMANDS.iter().copied().find(|name| name.text() == word)
+}
+
+// What is wrong with a pair of word number `i`, behind the earlier pairs.
+fn key_fault(
+    name: CommandName,
+    earlier: &[CommandWord],
+    i: usize,
+    word: &CommandWord,
+    pair: Pair<'_>,
+) -> Option<Usage>
+    requires key { pair.key.now ≡ key_part word.now }
+    requires value { pair.value.now ≡ value_part word.now }
+    ensures { result ≡ key_fault name earlier.now i word.now (key_of name word.now) }
+{
+    let Some(key) = key_named(name, pair.key) else {
+        return Some(Usage::UnknownKey(i));
+    };
+    if is_given(key, earlier) {
+        return Some(Usage::Repeated(i));
+    }
+    if !is_value(name, key, pair.value) {
+        return Some(Usage::BadValue(i));
+    }
+    None
+}
+
+fn word_fault(
+    name: CommandName,
+    earlier: &[CommandWord],
+    i: usize,
+    word: &CommandWord,
+) -> Option<Usage>
+    ensures { result ≡ word_fault name earlier.now i word.now }
+{
+    match split(word) {
+        Some(pair) => key_fault(name, earlier, i, word, pair),
+        None => Some(Usage::NotPair(i)),
+    }
+}
+
+// At most as many keys stand apart as the command has, so each word looks back over a few others only.
+fn first_fault(name: CommandName, pairs: &[CommandWord]) -> Option<Usage>
+    requires { length pairs.now + 1 < 2 ^ 64 }
+    ensures { result ≡ first_fault name [] 1 pairs.now }
+{
+    for (i, word) in pairs.iter().enumerate() {
+        let fault = word_fault(name, &pairs[..i], i + 1, word);
+        if fault.is_some() {
+            return fault;
+        }
+    }
+    None
+}
+
+fn first_missing(name: CommandName, pairs: &[CommandWord]) -> Option<Key>
+    ensures { result ≡ first_missing name pairs.now }
+{
+    name.required_keys()
+        .iter()
+        .copied()
+        .find(|key| !is_given(*key, pairs))
+}
+
+fn have_same_value(key: Key, other: Key, pairs: &[CommandWord]) -> bool
+    ensures { result ≡ have_same_value key other pairs.now }
+{
+    is_given(key, pairs) && is_given(other, pairs) && value_of(key, pairs) == value_of(other, pairs)
+}
+
+fn has_same_name(pairs: &[CommandWord]) -> bool
+    ensures { result ≡ has_same_name pairs.now }
+{
+    have_same_value(Key::Spec, Key::Trace, pairs)
+        || have_same_value(Key::Spec, Key::Cert, pairs)
+        || have_same_value(Key::Trace, Key::Cert, pairs)
+}

@@ -1,0 +1,98 @@
+//! The table of commands and their keys.
+
+ghost use Rattle.std.specs.Prelude.{◌≡◌};
+ghost use Rattle.ccsl_command.specs.Table.{command_text, key_text, required_keys, keys_of};
+
+/// A command.
+#[derive(Clone, Copy, Debug, PartialEq, Eq)]
+pub enum CommandName {
+    Check,
+    Simulate,
+    Judge,
+    Certify,
+    Trial,
+}
+
+/// The key of a word `key=value`.
+#[derive(Clone, Copy, Debug, PartialEq, Eq)]
+pub enum Key {
+    Spec,
+    Policy,
+    Seed,
+    Steps,
+    Trace,
+    Cert,
+    Workers,
+    Clocks,
+}
+
+/// The name of a policy: how a step is chosen among those that are admissible.
+#[derive(Clone, Copy, Debug, PartialEq, Eq)]
+pub enum PolicyName {
+    Min,
+    Max,
+    Seeded,
+}
+
+impl CommandName {
+    /// Its word on the command line.
+    pub fn text(self) -> &'static str
+        ensures { result.now ≡ command_text self }
+    {
+        match self {
+            CommandName::Check => "check",
+            CommandName::Simulate => "simulate",
+            CommandName::Judge => "judge",
+            CommandName::Certify => "certify",
+            CommandName::Trial => "trial",
+        }
+    }
+
+    /// The keys that it needs, in the table's order.
+    pub fn required_keys(self) -> &'static [Key]
+        ensures { result.now ≡ required_keys self }
+    {
+        match self {
+            CommandName::Check => &[Key::Spec],
+            CommandName::Simulate => &[
+                Key::Spec,
+                Key::Policy,
+                Key::Seed,
+                Key::Steps,
+                Key::Trace,
+                Key::Cert,
+            ],
+            CommandName::Judge => &[Key::Spec, Key::Trace],
+            CommandName::Certify => &[Key::Spec, Key::Trace, Key::Cert],
+            CommandName::Trial => &[Key::Clocks, Key::Steps, Key::Seed, Key::Workers],
+        }
+    }
+
+    /// The keys that it takes, in the table's order.
+    pub fn keys(self) -> &'static [Key]
+        ensures { result.now ≡ keys_of self }
+    {
+        match self {
+            CommandName::Judge => &[Key::Spec, Key::Trace, Key::Workers],
+            other => other.required_keys(),
+        }
+    }
+}
+
+impl Key {
+    /// Its text before the `=`.
+    pub fn text(self) -> &'static str
+        ensures { result.now ≡ key_text self }
+    {
+        match self {
+            Key::Spec => "spec",
+            Key::Policy => "policy",
+            Key::Seed => "seed",
+            Key::Steps => "steps",
+            Key::Trace => "trace",
+            Key::Cert => "cert",
+            Key::Workers => "workers",
+            Key::Clocks => "clocks",
+        }
+    }
+}

@@ -1,0 +1,234 @@
+//! Every kind of fault once, and the values of accepted words.
+
+use super::*;
+use ccsl_base::CommandWord;
+use std::alloc::{AllocError, Global};
+use std::string::String;
+use std::test::*;
+
+fn listed(alloc: Global, line: &[&str]) -> Result<Vec<CommandWord>, AllocError> {
+    let mut list = Vec::new(alloc);
+    for text in line {
+        list.push(CommandWord::new(String::from_str(alloc, text)?))?;
+    }
+    Ok(list)
+}
+
+fn fault(alloc: Global, line: &[&str]) -> Result<Option<Usage>, AllocError> {
+    match words(alloc, &listed(alloc, line)?) {
+        Ok(_command) => Ok(None),
+        Err(fault) => Ok(Some(fault)),
+    }
+}
+
+#[test]
+fn commands_and_their_keys(rt: HostRuntime) -> Result<(), Fail> {
+    let alloc = rt.alloc();
+    assert_eq!(rt; fault(alloc, &[])?, Some(Usage::NoCommand));
+    assert_eq!(rt; fault(alloc, &["--help"])?, Some(Usage::UnknownCommand));
+    assert_eq!(rt;
+        fault(alloc, &["judge", "spec=s", "trace=t", "trace=u"])?,
+        Some(Usage::Repeated(3))
+    );
+    assert_eq!(rt;
+        fault(alloc, &["judge", "spec=s", "trace=t", "workers=0"])?,
+        Some(Usage::BadValue(3))
+    );
+    assert_eq!(rt;
+        fault(alloc, &["judge", "spec=s"])?,
+        Some(Usage::Missing(Key::Trace))
+    );
+    assert_eq!(rt;
+        fault(alloc, &["judge", "spec=s", "trace=s"])?,
+        Some(Usage::SameName)
+    );
+    assert_eq!(rt;
+        fault(alloc, &["judge", "clocks=2", "spec"])?,
+        Some(Usage::UnknownKey(1))
+    );
+    assert_eq!(rt;
+        fault(alloc, &["judge", "spec", "clocks=2"])?,
+        Some(Usage::NotPair(1))
+    );
+    Ok(())
+}
+
+#[test]
+fn names_of_files(rt: HostRuntime) -> Result<(), Fail> {
+    let alloc = rt.alloc();
+    assert_eq!(rt;
+        fault(alloc, &["check", "spec="])?,
+        Some(Usage::BadValue(1))
+    );
+    assert_eq!(rt; fault(alloc, &["check", "spec=a=b"])?, None);
+    assert_eq!(rt;
+        fault(alloc, &["certify", "cert=c", "trace=t", "spec=c"])?,
+        Some(Usage::SameName)
+    );
+    assert_eq!(rt;
+        fault(alloc, &["certify", "cert=c", "trace=t", "spec=s"])?,
+        None
+    );
+    assert_eq!(rt;
+        fault(alloc, &["certify"])?,
+        Some(Usage::Missing(Key::Spec))
+    );
+    let mut long = String::from_str(alloc, "spec=")?;
+    for _ in 0..4096 {
+        long.push('s')?;
+    }
+    assert_eq!(rt; fault(alloc, &["check", long.as_str()])?, None);
+    long.push('s')?;
+    assert_eq!(rt;
+        fault(alloc, &["check", long.as_str()])?,
+        Some(Usage::BadValue(1))
+    );
+    Ok(())
+}
+
+#[test]
+fn ranges_of_a_simulation(rt: HostRuntime) -> Result<(), Fail> {
+    let alloc = rt.alloc();
+    let with = |seed: &str, steps: &str, policy: &str| {
+        fault(
+            alloc,
+            &[
+                "simulate", "spec=s", "trace=t", "cert=c", seed, steps, policy,
+            ],
+        )
+    };
+    assert_eq!(rt;
+        with("seed=18446744073709551615", "steps=10000000", "policy=max")?,
+        None
+    );
+    assert_eq!(rt;
+        with("seed=18446744073709551616", "steps=1", "policy=max")?,
+        Some(Usage::BadValue(4))
+    );
+    assert_eq!(rt;
+        with("seed=00000000000000000001", "steps=0", "policy=seeded")?,
+        None
+    );
+    assert_eq!(rt;
+        with("seed=1", "steps=000000000000000000001", "policy=max")?,
+        Some(Usage::BadValue(5))
+    );
+    assert_eq!(rt;
+        with("seed=1", "steps=10000001", "policy=max")?,
+        Some(Usage::BadValue(5))
+    );
+    assert_eq!(rt;
+        with("seed=1", "steps=", "policy=max")?,
+        Some(Usage::BadValue(5))
+    );
+    assert_eq!(rt;
+        with("seed=+1", "steps=1", "policy=max")?,
+        Some(Usage::BadValue(4))
+    );
+    assert_eq!(rt;
+        with("seed=1", "steps=1", "policy=Max")?,
+        Some(Usage::BadValue(6))
+    );
+    Ok(())
+}
+
+#[test]
+fn ranges_of_a_trial(rt: HostRuntime) -> Result<(), Fail> {
+    let alloc = rt.alloc();
+    let with = |clocks: &str, steps: &str, workers: &str| {
+        fault(alloc, &["trial", clocks, steps, "seed=7", workers])
+    };
+    assert_eq!(rt; with("clocks=2", "steps=100000", "workers=64")?, None);
+    assert_eq!(rt; with("clocks=512", "steps=0", "workers=1")?, None);
+    assert_eq!(rt;
+        with("clocks=1", "steps=1", "workers=1")?,
+        Some(Usage::BadValue(1))
+    );
+    assert_eq!(rt;
+        with("clocks=513", "steps=1", "workers=1")?,
+        Some(Usage::BadValue(1))
+    );
+    assert_eq!(rt;
+        with("clocks=2", "steps=100001", "workers=1")?,
+        Some(Usage::BadValue(2))
+    );
+    assert_eq!(rt;
+        with("clocks=2", "steps=1", "workers=65")?,
+        Some(Usage::BadValue(4))
+    );
+    assert_eq!(rt;
+        fault(alloc, &["trial", "clocks=2", "steps=1", "seed=7"])?,
+        Some(Usage::Missing(Key::Workers))
+    );
+    Ok(())
+}
+
+#[test]
+fn values_of_a_simulation(rt: HostRuntime) -> Result<(), Fail> {
+    let line = [
+        "simulate",
+        "cert=c.cert",
+        "steps=007",
+        "seed=42",
+        "spec=s.ccsl",
+        "trace=t.vcd",
+        "policy=seeded",
+    ];
+    let Ok(
+        Command::Simulate {
+            spec,
+            policy,
+            seed,
+            steps,
+            trace,
+            cert,
+        },
+    ) = words(rt.alloc(), &listed(rt.alloc(), &line)?)
+    else {
+        assert!(rt; false, "no simulation");
+        return Ok(());
+    };
+    assert_eq!(rt;
+        (spec.as_str(), trace.as_str(), cert.as_str()),
+        ("s.ccsl", "t.vcd", "c.cert")
+    );
+    assert_eq!(rt; (policy, seed, steps), (PolicyName::Seeded, 42, 7));
+    Ok(())
+}
+
+#[test]
+fn one_worker_where_no_word_says_more(rt: HostRuntime) -> Result<(), Fail> {
+    let alloc = rt.alloc();
+    let Ok(
+        Command::Judge {
+            spec,
+            trace,
+            workers,
+        },
+    ) = words(alloc, &listed(alloc, &["judge", "trace=t", "spec=s"])?)
+    else {
+        assert!(rt; false, "no judge");
+        return Ok(());
+    };
+    assert_eq!(rt; (spec.as_str(), trace.as_str(), workers), ("s", "t", 1));
+    let Ok(
+        Command::Trial {
+            clocks,
+            steps,
+            seed,
+            workers,
+        },
+    ) = words(
+        alloc,
+        &listed(
+            alloc,
+            &["trial", "workers=16", "seed=7", "steps=1000", "clocks=24"],
+        )?,
+    )
+    else {
+        assert!(rt; false, "no trial");
+        return Ok(());
+    };
+    assert_eq!(rt; (clocks, steps, seed, workers), (24, 1000, 7, 16));
+    Ok(())
+}
