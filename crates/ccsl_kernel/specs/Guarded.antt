@@ -2,8 +2,8 @@
 -- `delayed` may lag.
 use Rattle.std.specs.Prelude.{◌≡◌, ℕ, ◌<◌, ◌≤◌, ◌⊎◌, length}
 use Rattle.ccsl_base.specs.declared.limits.TheConstants.{MAX_DELAY}
-pub use Rattle.ccsl_kernel.specs.declared.accepted.calls.Position.{Position}
-pub use Rattle.ccsl_kernel.specs.declared.accepted.calls.Position.TheVariants.{Inner, Tail, Guarded}
+pub use Rattle.ccsl_kernel.specs.declared.position.Position.{Position}
+pub use Rattle.ccsl_kernel.specs.declared.position.Position.TheVariants.{Inner, Tail, Guarded}
 use Rattle.ccsl_kernel.specs.declared.expr.ExprOp.TheVariants as op
 use Rattle.ccsl_kernel.specs.Syntax.{ExprOp, Expression, EName, ECall, ENever, EBinary, EDelay, EAwait, EFilter, EDelayed, EIf, System}
 

@@ -5,7 +5,7 @@ ghost use Rattle.ccsl_kernel.specs.Plain.{plain_expr, plain_body, plain_group, p
 ghost use Rattle.ccsl_kernel.specs.Accepted.{Each, IsBody, IsDefinition, IsRelation, IsConstraint, IsAccepted};
 ghost use Rattle.ccsl_kernel.specs.AcceptedPieces.{IsCounted, IsWellFormed};
 
-use crate::accepted::calls::{Position, is_allowed};
+use crate::accepted::calls::is_allowed;
 use crate::accepted::depth::is_shallow;
 use crate::accepted::known::{Nameable, is_known};
 use crate::accepted::levels::are_low;
@@ -14,6 +14,7 @@ use crate::constraint::{Constraint, RelationKind};
 use crate::expr::Expr;
 use crate::group::{Body, Group};
 use crate::parts::Parts;
+use crate::position::Position;
 use ccsl_base::{MAX_CELLS, MAX_CLOCKS, MAX_CONSTRAINTS, MAX_LEVELS, MAX_PARAMS, Memory};
 use std::alloc::Global;
 

@@ -14,6 +14,7 @@ mod opening;
 mod operator;
 pub mod parts;
 mod plain;
+pub mod position;
 pub mod system;
 mod ticks;
 mod walk;
@@ -24,6 +25,7 @@ pub use expr::{Expr, ExprOp, ExprTest, NumPrim, NumSign, NumTerm, Place, Value, 
 pub use group::{Body, Group, ParamKind};
 pub use parts::Parts;
 pub use plain::plain_formula;
+pub use position::Position;
 pub use system::System;
 
 #[cfg(test)]

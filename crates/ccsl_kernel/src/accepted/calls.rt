@@ -2,31 +2,11 @@
 
 ghost use Rattle.std.specs.Prelude.{◌≡◌, ◌↔◌, IsTrue};
 ghost use Rattle.ccsl_kernel.specs.Plain.{plain_expr};
-ghost use Rattle.ccsl_kernel.specs.Guarded.{Allowed, guarded, right_of};
+ghost use Rattle.ccsl_kernel.specs.Guarded.{Allowed};
 
-use crate::expr::{Expr, ExprOp};
+use crate::expr::Expr;
+use crate::position::Position;
 use ccsl_base::MAX_DELAY;
-
-/// A place in the body of a group's member: inside an operator, in tail position, or in tail position and within the
-/// right operand of a `then` in tail position.
-#[derive(Clone, Copy, PartialEq, Eq)]
-pub enum Position {
-    Inner,
-    Tail,
-    Guarded,
-}
-
-impl Position {
-    /// The place of an operator's right operand.
-    fn right_of(self, op: ExprOp) -> Position
-        ensures { result ≡ right_of op self }
-    {
-        match (op, self) {
-            (ExprOp::Then, Position::Tail | Position::Guarded) => Position::Guarded,
-            _ => Position::Inner,
-        }
-    }
-}
 
 /// Whether an expression at a place of a body of group number `group` calls earlier groups alone, and its own in
 /// guarded tail positions.
