@@ -29,20 +29,20 @@ abbrev pub greatest : List ℕ → ℕ
 greatest [] = 0
 greatest (n ∷ ns) = max n (greatest ns)
 
-abbrev pub line_depth : Line → ℕ
-line_depth (LDefine x e) = depth e
-line_depth (LConstraint a r b) = 0
-line_depth (LCall x args) = 0
+abbrev pub rline_depth : Line → ℕ
+rline_depth (LDefine x e) = depth e
+rline_depth (LConstraint a r b) = 0
+rline_depth (LCall x args) = 0
 
 abbrev pub sline_depth : SLine → ℕ
 sline_depth (SClocks xs) = 0
-sline_depth (SLineOf l) = line_depth l
+sline_depth (SLineOf l) = rline_depth l
 
 abbrev pub member_depth : PlainMember → ℕ
 member_depth m = depth m.body
 
 abbrev pub definition_depth : PlainDefinition → ℕ
-definition_depth (DRelation x params lines) = greatest (map line_depth lines)
+definition_depth (DRelation x params lines) = greatest (map rline_depth lines)
 definition_depth (DGroup members) = greatest (map member_depth members)
 
 -- the depth of a file: of its deepest expression, and 0 where it has none

@@ -8,8 +8,8 @@ use Rattle.ccsl_ast.specs.declared.term.WordTerm.TheVariants as word
 use Rattle.ccsl_ast.specs.declared.term.Test.TheVariants.{Less, Head}
 use Rattle.ccsl_ast.specs.declared.term.Argument.{Argument}
 use Rattle.ccsl_ast.specs.declared.term.Argument.TheVariants as argument
-use Rattle.ccsl_ast.specs.declared.tree.BinaryOp.TheVariants.{Union, SampledWeakly}
-use Rattle.ccsl_ast.specs.declared.line.Relation.TheVariants.{Precedes}
+use Rattle.ccsl_ast.specs.declared.tree.BinaryOp.TheVariants.{Union, UptoWeakly, SampledWeakly}
+use Rattle.ccsl_ast.specs.declared.line.Relation.TheVariants.{Precedes, PrecedesWithin}
 use Rattle.ccsl_ast.specs.declared.definition.Kind.TheVariants.{Number}
 use Rattle.ccsl_ast.specs.Trees.{Expression, EName, ECall, ENever, EBinary, EDelay, EAwait, EFilter, EDelayed, EIf, Line, LDefine, LConstraint, LCall, SLine, SClocks, SLineOf, PlainDefinition, DRelation, DGroup, PlainFile}
 use Rattle.ccsl_ast.specs.Depth.{depth}
@@ -51,8 +51,18 @@ pub record DepthsAreWorked : Type 0 where
 abbrev pub file : List PlainDefinition → List SLine → PlainFile
 file definitions lines = record { version = 1; definitions = definitions; lines = lines }
 
+abbrev pub of_version : ℕ → Line → PlainFile
+of_version n line = record { version = n; definitions = []; lines = SLineOf line ∷ [] }
+
 abbrev pub with_line : Line → PlainFile
-with_line line = file [] (SLineOf line ∷ [])
+with_line line = of_version 1 line
+
+-- the forms of version 2: define u = a upto weakly never, and a precedes within 0 b
+abbrev pub upto_weakly : Line
+upto_weakly = LDefine (spot (codes "u")) (EBinary UptoWeakly a ENever)
+
+abbrev pub within : Line
+within = LConstraint (spot (codes "a")) (PrecedesWithin 0 0) (spot (codes "b"))
 
 abbrev pub with_argument : Argument → PlainFile
 with_argument x = with_line (LCall (spot (codes "r")) (x ∷ []))
@@ -63,6 +73,8 @@ constraint name = LConstraint (spot name) Precedes (spot (codes "b"))
 abbrev pub may_be : List PlainFile
 may_be =
     file [] []
+    ∷ of_version 2 upto_weakly
+    ∷ of_version 2 within
     ∷ with_line (constraint (replicate 64 97))
     ∷ with_line (LDefine (spot (codes "_u1")) delayed_in_union)
     ∷ with_argument (argument.Text 0 (codes "0~ 1(01)"))
@@ -74,7 +86,10 @@ may_be =
 
 abbrev pub may_not_be : List PlainFile
 may_not_be =
-    record { version = 2; definitions = []; lines = [] }
+    record { version = 0; definitions = []; lines = [] }
+    ∷ record { version = 3; definitions = []; lines = [] }
+    ∷ with_line upto_weakly
+    ∷ with_line within
     ∷ with_line (constraint (replicate 65 97))
     ∷ with_line (constraint [])
     ∷ with_line (constraint (codes "clock"))

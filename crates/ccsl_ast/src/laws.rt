@@ -8,11 +8,13 @@ ghost use Rattle.ccsl_ast.specs.Levels.{DepthIsGreatest};
 ghost use Rattle.ccsl_ast.specs.Worked.{DepthsAreWorked, FilesAreWorked};
 
 use crate::file::File;
+use ccsl_base::MAX_LEVELS;
 
-/// Every file keeps what a text of the grammar has, and no expression in it stands deeper than level 128.
+/// Every file keeps what a text of the grammar has, and no expression in it stands deeper than level
+/// [`MAX_LEVELS`].
 pub fn every_file_is_kept(file: &File)
     ensures kept { IsTrue (file_kept (plain_file file.now)) }
-    ensures depth { file_depth (plain_file file.now) ≤ 128 }
+    ensures depth { file_depth (plain_file file.now) ≤ MAX_LEVELS }
 {}
 
 /// The depth of an expression is the greatest level of an expression in its text.

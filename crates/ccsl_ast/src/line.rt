@@ -13,6 +13,8 @@ pub enum Relation {
     Excludes,
     Precedes,
     PrecedesWeakly,
+    /// The offset of the number's first digit, and the number.
+    PrecedesWithin(usize, u32),
 }
 
 /// A line of a relation's body or of the system: a defined clock, a constraint, or a call of a relation.

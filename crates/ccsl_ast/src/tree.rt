@@ -6,7 +6,8 @@ use crate::spot::Spot;
 use crate::term::{Argument, Term, Test, WordTerm};
 use ccsl_base::seq::Seq;
 
-/// An operator between two operands; `Sampled` is `sampled on`, `SampledWeakly` is `sampled weakly on`.
+/// An operator between two operands; `UptoWeakly` is `upto weakly`, `Sampled` is `sampled on`, `SampledWeakly` is
+/// `sampled weakly on`.
 #[derive(Clone, Copy, Debug, PartialEq, Eq)]
 pub enum BinaryOp {
     Union,
@@ -15,6 +16,7 @@ pub enum BinaryOp {
     Inf,
     Sup,
     Upto,
+    UptoWeakly,
     Then,
     Sampled,
     SampledWeakly,

@@ -1,11 +1,11 @@
 -- Readers that do not look at places: on terminals without places they do the same, and their values have none.
-use Rattle.std.proofs.Common.{◌≡◌, ℕ, zero, suc, Bool, true, false, List, [], ◌∷◌, length, map, Option, Some, None, refl, ap, not, ◌||◌}
+use Rattle.std.proofs.Common.{◌≡◌, ℕ, zero, suc, Bool, true, false, List, [], ◌∷◌, length, map, Option, Some, None, refl, ap, not, ◌||◌, ◌&&◌}
 use Rattle.std.proofs.lemmas.List.{length-map}
-use Rattle.ccsl_lex.specs.declared.reserved.Reserved.{Reserved}
-use Rattle.ccsl_lex.specs.declared.reserved.Reserved.TheVariants as w
+use Rattle.ccsl_base.specs.declared.reserved.Reserved.{Reserved}
+use Rattle.ccsl_base.specs.declared.reserved.Reserved.TheVariants as w
 use Rattle.ccsl_grammar.specs.Terminals.{Terminal, word, symbol, name, quoted, is_word, is_symbol, is_name, is_quoted}
 use Rattle.ccsl_grammar.specs.Reader.{Fault, Reply, took, stopped, Reader, followed, ◌>>=◌, ◌>>◌, given, valued, accept, begins, picked, choose, many_within, many}
-use Rattle.ccsl_grammar.specs.Parser.{passed, word_at, symbol_at, name_of, name_at, is_sign, is_binop, is_expr, no_brace, is_definition}
+use Rattle.ccsl_grammar.specs.Parser.{passed, word_at, symbol_at, name_of, name_at, goes_on_by, is_sign, is_binop, is_expr, no_brace, is_definition}
 use Rattle.ccsl_grammar.specs.Bare.{bare_spot, bare, bares}
 
 -- a reply without places, where b takes them from the value
@@ -89,6 +89,9 @@ name_same _ = refl
 pub quoted_same : (t : Terminal) → is_quoted (bare t) ≡ is_quoted t
 quoted_same (quoted at bytes) = refl
 quoted_same _ = refl
+
+pub goes_on_same : (two : Bool) (v : Reserved) (t : Terminal) → goes_on_by two v (bare t) ≡ goes_on_by two v t
+goes_on_same two v t = ap (λ b. b && two) (word_same v t)
 
 either_same : (p q : Terminal → Bool) → ((t : Terminal) → p (bare t) ≡ p t) → ((t : Terminal) → q (bare t) ≡ q t) → (t : Terminal) → (p (bare t) || q (bare t)) ≡ (p t || q t)
 either_same p q h i t = rw (h t, i t) refl

@@ -1,200 +1,213 @@
--- The canonical derivation has the tree it was made from, its depth is the tree's, and no derivation of that tree is less deep.
-use Rattle.std.proofs.Common.{◌≡◌, ℕ, suc, Bool, true, false, ◌&&◌, ◌≤◌, List, [], ◌∷◌, map, refl, ap, arith}
+-- The canonical terminals of a file have a derivation. Its tree is the file, and it is as deep as the file.
+use Rattle.std.proofs.Common.{◌≡◌, ℕ, Bool, true, false, ◌&&◌, ◌||◌, List, [], ◌∷◌, ◌++◌, map, refl, sym, ap, ◌∙◌, append_assoc, inl, inr, arith}
 use Rattle.std.specs.Prelude.{nat_eq}
-use Rattle.std.specs.List.{list_all}
-use Rattle.std.proofs.lemmas.Bool.{eqb-true, and_parts}
+use Rattle.std.specs.List.{flat_map, list_all}
+use Rattle.std.proofs.lemmas.Bool.{eqb-true, and_parts, or_cases}
+use Rattle.std.proofs.lemmas.List.{append-nil}
+use Rattle.std.proofs.lemmas.Grind.{flat_map-append}
+use Rattle.ccsl_base.specs.declared.reserved.Reserved.TheVariants as w
 use Rattle.ccsl_ast.specs.declared.spot.Spot.{Spot}
 use Rattle.ccsl_ast.specs.declared.definition.Param.{Param}
 use Rattle.ccsl_ast.specs.Trees.{Expression, EName, ECall, ENever, EBinary, EDelay, EAwait, EFilter, EDelayed, EIf, Line, LDefine, LConstraint, LCall, SLine, SClocks, SLineOf, PlainMember, PlainDefinition, DRelation, DGroup, PlainFile}
 use Rattle.ccsl_ast.specs.Depth as tree
-use Rattle.ccsl_ast.specs.Depth.{depth, greatest}
-use Rattle.ccsl_ast.specs.Kept.{spot_kept, line_kept, sline_kept, param_kept, member_kept, definition_kept, file_kept}
-use Rattle.ccsl_grammar.specs.Grammar.{Expr, alone, binary, delay, await, filter, delayed, choice, Operand, named, called, never, parens, expr_tree, operand_tree, Rline, define, constrain, call, rline_tree, Sline, clocks, line, sline_tree, Member, member_tree, Definition, relation, group, definition_tree, file_tree}
-use Rattle.ccsl_grammar.specs.Deep.{expr_depth, operand_depth, rline_depth, sline_depth, member_depth, definition_depth}
-use Rattle.ccsl_grammar.specs.Canonical.{expr_of, operand_of, rline_of, sline_of, member_of, definition_of, file_of}
-use Rattle.ccsl_grammar.specs.Laws.{CanonicalDepth, LeastDepth, CanonicalParses}
+use Rattle.ccsl_ast.specs.Depth.{stands_in_parens, depth, greatest}
+use Rattle.ccsl_ast.specs.Kept.{spot_kept, number_kept, term_kept, wterm_kept, test_kept, binop_in, relop_in, relop_kept, expression_kept, rline_kept, sline_kept, param_kept, member_kept, definition_kept, is_two, file_kept}
+use Rattle.ccsl_grammar.specs.Terminals.{Terminal, word, name, number}
+use Rattle.ccsl_grammar.specs.Grammar.{opening, closing, semicolon, left_brace, right_brace, params_spelled, alone, binary, delay, await, filter, delayed, choice, named, called, never, parens, expr_spelled, operand_spelled, expr_tree, operand_tree, define, constrain, call, rline_spelled, rline_tree, clocks, line, sline_spelled, sline_tree, member_spelled, further_member, member_tree, relation, group, definition_spelled, definition_tree, version, file_spelled, file_tree}
+use Rattle.ccsl_grammar.specs.Canonical.{operand_tokens, expr_tokens, rline_tokens, sline_tokens, member_tokens, further_tokens, TextLine, body_lines, definition_lines, system_lines, canonical_terminals}
+use Rattle.ccsl_grammar.specs.Laws.{CanonicalParses}
+use Rattle.ccsl_grammar.proofs.Depth.{expr_depth, operand_depth, rline_depth, sline_depth, member_depth, definition_depth, derivation_depth, file_shallow}
 
--- ---- the tree
+-- a derivation of the terminals, with the tree t and the depth n
+pub record Derives {C T : Type 0} (spelled : C → List Terminal) (tree : C → T) (depth : C → ℕ) (ts : List Terminal) (t : T) (n : ℕ) : Type 0 where
+  pub whole : C
+  pub spelled_is : spelled whole ≡ ts
+  pub tree_is : tree whole ≡ t
+  pub depth_is : depth whole ≡ n
 
-mutual
-  expr_back : (e : Expression) → expr_tree (expr_of e) ≡ e
-  expr_back (EName x) = refl
-  expr_back (ECall x args) = refl
-  expr_back ENever = refl
-  expr_back (EBinary op a d) = rw (operand_back a, operand_back d) refl
-  expr_back (EDelay a m) = rw (operand_back a) refl
-  expr_back (EAwait a m) = rw (operand_back a) refl
-  expr_back (EFilter a m) = rw (operand_back a) refl
-  expr_back (EDelayed a at n d) = rw (operand_back a, operand_back d) refl
-  expr_back (EIf q a d) = rw (expr_back a, expr_back d) refl
+-- ---- expressions
 
-  operand_back : (e : Expression) → operand_tree (operand_of e) ≡ e
-  operand_back (EName x) = refl
-  operand_back (ECall x args) = refl
-  operand_back ENever = refl
-  operand_back (EBinary op a d) = rw (operand_back a, operand_back d) refl
-  operand_back (EDelay a m) = rw (operand_back a) refl
-  operand_back (EAwait a m) = rw (operand_back a) refl
-  operand_back (EFilter a m) = rw (operand_back a) refl
-  operand_back (EDelayed a at n d) = rw (operand_back a, operand_back d) refl
-  operand_back (EIf q a d) = rw (expr_back a, expr_back d) refl
+module _ (two : Bool) where
+  record Canonical (e : Expression) : Type 0 where
+    expr : Derives (expr_spelled {two = two}) expr_tree expr_depth (expr_tokens e) e (depth e)
+    operand : Derives (operand_spelled {two = two}) operand_tree operand_depth (operand_tokens e (expr_tokens e)) e (tree.operand_depth e (depth e))
 
--- lists in which each comes back
-each_back : {C T : Type 0} (tree : C → T) (of : T → C) (test : T → Bool) → ((t : T) → test t ≡ true → tree (of t) ≡ t) → (ts : List T) → list_all test ts ≡ true → map tree (map of ts) ≡ ts
-each_back tree of test one [] h = refl
-each_back tree of test one (t ∷ ts) h = let p = and_parts (test t) (list_all test ts) h in rw (one t p.0, each_back tree of test one ts p.1) refl
+  in_parens : (e : Expression) → stands_in_parens e ≡ true → Derives (expr_spelled {two = two}) expr_tree expr_depth (expr_tokens e) e (depth e) → Canonical e
+  in_parens e p c = record {
+    expr = c;
+    operand = record { whole = parens c.whole; spelled_is = rw (p, c.spelled_is) refl; tree_is = c.tree_is; depth_is = rw p c.depth_is };
+  }
 
-rline_back : (l : Line) → line_kept l ≡ true → rline_tree (rline_of l) ≡ l
-rline_back (LDefine x e) h = rw (expr_back e) refl
-rline_back (LConstraint a r b) h = refl
-rline_back (LCall x args) h = refl
+  canonical : (e : Expression) → expression_kept two e ≡ true → Canonical e
+  canonical (EName x) k = record {
+    expr = record { whole = alone (named x); spelled_is = refl; tree_is = refl; depth_is = refl };
+    operand = record { whole = named x; spelled_is = refl; tree_is = refl; depth_is = refl };
+  }
+  canonical (ECall x args) k = record {
+    expr = record { whole = alone (called x args); spelled_is = refl; tree_is = refl; depth_is = refl };
+    operand = record { whole = called x args; spelled_is = refl; tree_is = refl; depth_is = refl };
+  }
+  canonical ENever k = record {
+    expr = record { whole = alone never; spelled_is = refl; tree_is = refl; depth_is = refl };
+    operand = record { whole = never; spelled_is = refl; tree_is = refl; depth_is = refl };
+  }
+  canonical (EBinary op a d) k =
+      let p = and_parts (binop_in two op) (expression_kept two a && expression_kept two d) k in
+      let q = and_parts (expression_kept two a) (expression_kept two d) p.1 in
+      let x = (canonical a q.0).operand in
+      let y = (canonical d q.1).operand in
+      in_parens (EBinary op a d) refl (record { whole = binary op p.0 x.whole y.whole; spelled_is = rw (x.spelled_is, y.spelled_is) refl; tree_is = rw (x.tree_is, y.tree_is) refl; depth_is = rw (x.depth_is, y.depth_is) (omega arith) })
+  canonical (EDelay a m) k =
+      let x = (canonical a (and_parts (expression_kept two a) (term_kept m) k).0).operand in
+      in_parens (EDelay a m) refl (record { whole = delay x.whole m; spelled_is = rw x.spelled_is refl; tree_is = rw x.tree_is refl; depth_is = rw x.depth_is (omega arith) })
+  canonical (EAwait a m) k =
+      let x = (canonical a (and_parts (expression_kept two a) (term_kept m) k).0).operand in
+      in_parens (EAwait a m) refl (record { whole = await x.whole m; spelled_is = rw x.spelled_is refl; tree_is = rw x.tree_is refl; depth_is = rw x.depth_is (omega arith) })
+  canonical (EFilter a m) k =
+      let x = (canonical a (and_parts (expression_kept two a) (wterm_kept m) k).0).operand in
+      in_parens (EFilter a m) refl (record { whole = filter x.whole m; spelled_is = rw x.spelled_is refl; tree_is = rw x.tree_is refl; depth_is = rw x.depth_is (omega arith) })
+  canonical (EDelayed a at n d) k =
+      let p = and_parts (expression_kept two a) (number_kept n && expression_kept two d) k in
+      let q = and_parts (number_kept n) (expression_kept two d) p.1 in
+      let x = (canonical a p.0).operand in
+      let y = (canonical d q.1).operand in
+      in_parens (EDelayed a at n d) refl (record { whole = delayed x.whole at n y.whole; spelled_is = rw (x.spelled_is, y.spelled_is) refl; tree_is = rw (x.tree_is, y.tree_is) refl; depth_is = rw (x.depth_is, y.depth_is) (omega arith) })
+  canonical (EIf q a d) k =
+      let p = and_parts (test_kept q) (expression_kept two a && expression_kept two d) k in
+      let r = and_parts (expression_kept two a) (expression_kept two d) p.1 in
+      let x = (canonical a r.0).expr in
+      let y = (canonical d r.1).expr in
+      in_parens (EIf q a d) refl (record { whole = choice q x.whole y.whole; spelled_is = rw (x.spelled_is, y.spelled_is) refl; tree_is = rw (x.tree_is, y.tree_is) refl; depth_is = rw (x.depth_is, y.depth_is) (omega arith) })
 
-sline_back : (l : SLine) → sline_kept l ≡ true → sline_tree (sline_of l) ≡ l
-sline_back (SClocks []) h = absurd cc
-sline_back (SClocks (x ∷ xs)) h = refl
-sline_back (SLineOf l) h = ap SLineOf (rline_back l h)
+-- ---- lists
 
--- a relation without a line is not kept
-no_line : (x : Spot) (ps : List Param) → definition_kept (DRelation x ps []) ≡ true → ⊥
-no_line x ps h =
-    let p = and_parts (spot_kept x) (list_all param_kept ps && false) h in
-    let q = and_parts (list_all param_kept ps) false p.1 in
-    absurd cc
+module _ {C T : Type 0} (spelled : C → List Terminal) (tree : C → T) (depth : C → ℕ) (tokens : T → List Terminal) (level : T → ℕ) (test : T → Bool)
+    (one : (t : T) → test t ≡ true → Derives spelled tree depth (tokens t) t (level t)) where
+  each : (ts : List T) → list_all test ts ≡ true → Derives (flat_map spelled) (map tree) (λ cs. greatest (map depth cs)) (flat_map tokens ts) ts (greatest (map level ts))
+  each [] k = record { whole = []; spelled_is = refl; tree_is = refl; depth_is = refl }
+  each (t ∷ ts) k =
+      let p = and_parts (test t) (list_all test ts) k in
+      let x = one t p.0 in
+      let y = each ts p.1 in
+      record { whole = x.whole ∷ y.whole; spelled_is = rw (x.spelled_is, y.spelled_is) refl; tree_is = rw (x.tree_is, y.tree_is) refl; depth_is = rw (x.depth_is, y.depth_is) refl }
 
-member_back : (m : PlainMember) → member_kept m ≡ true → member_tree (member_of m) ≡ m
-member_back m h = rw (expr_back m.body) refl
+-- ---- the terminals of lines
 
-definition_back : (d : PlainDefinition) → definition_kept d ≡ true → definition_tree (definition_of d) ≡ d
-definition_back (DRelation x ps []) h = absurd (no_line x ps h)
-definition_back (DRelation x ps (l ∷ ls)) h =
-    let p = and_parts (spot_kept x) (list_all param_kept ps && list_all line_kept (l ∷ ls)) h in
-    let q = and_parts (list_all param_kept ps) (list_all line_kept (l ∷ ls)) p.1 in
-    let r = and_parts (line_kept l) (list_all line_kept ls) q.1 in
-    rw (rline_back l r.0, each_back rline_tree rline_of line_kept rline_back ls r.1) refl
-definition_back (DGroup []) h = absurd cc
-definition_back (DGroup (m ∷ ms)) h =
-    let p = and_parts (member_kept m) (list_all member_kept ms) h in
-    rw (member_back m p.0, each_back member_tree member_of member_kept member_back ms p.1) refl
+abbrev tokens_in : List TextLine → List Terminal
+tokens_in ls = flat_map (λ l. l.tokens) ls
 
-pub file_back : (f : PlainFile) → file_kept f ≡ true → file_tree (file_of f) ≡ f
-file_back f h =
-    let p = and_parts (nat_eq f.version 1) (list_all definition_kept f.definitions && list_all sline_kept f.lines) h in
-    let q = and_parts (list_all definition_kept f.definitions) (list_all sline_kept f.lines) p.1 in
-    rw (each_back definition_tree definition_of definition_kept definition_back f.definitions q.0, each_back sline_tree sline_of sline_kept sline_back f.lines q.1, ← eqb-true f.version 1 p.0) refl
+body_tokens : {A : Type 0} (tokens : A → List Terminal) (ls : List A) → tokens_in (body_lines tokens ls) ≡ flat_map tokens ls ++ right_brace ∷ []
+body_tokens tokens [] = refl
+body_tokens tokens (l ∷ ls) = ap (λ z. tokens l ++ z) (body_tokens tokens ls) ∙ sym (append_assoc (tokens l) (flat_map tokens ls) (right_brace ∷ []))
 
--- ---- the depth
+-- ---- lines
 
-mutual
-  expr_nesting : (e : Expression) → expr_depth (expr_of e) ≡ depth e
-  expr_nesting (EName x) = refl
-  expr_nesting (ECall x args) = refl
-  expr_nesting ENever = refl
-  expr_nesting (EBinary op a d) = rw (operand_nesting a, operand_nesting d) (omega arith)
-  expr_nesting (EDelay a m) = rw (operand_nesting a) (omega arith)
-  expr_nesting (EAwait a m) = rw (operand_nesting a) (omega arith)
-  expr_nesting (EFilter a m) = rw (operand_nesting a) (omega arith)
-  expr_nesting (EDelayed a at n d) = rw (operand_nesting a, operand_nesting d) (omega arith)
-  expr_nesting (EIf q a d) = rw (expr_nesting a, expr_nesting d) (omega arith)
+module _ (two : Bool) where
+  rline_canonical : (l : Line) → rline_kept two l ≡ true → Derives (rline_spelled {two = two}) rline_tree rline_depth (rline_tokens l) l (tree.rline_depth l)
+  rline_canonical (LDefine x e) k =
+      let c = (canonical two e (and_parts (spot_kept x) (expression_kept two e) k).1).expr in
+      record { whole = define x c.whole; spelled_is = rw c.spelled_is refl; tree_is = rw c.tree_is refl; depth_is = c.depth_is }
+  rline_canonical (LConstraint a r b) k =
+      let p = and_parts (spot_kept a) (relop_in two r && (relop_kept r && spot_kept b)) k in
+      let q = and_parts (relop_in two r) (relop_kept r && spot_kept b) p.1 in
+      record { whole = constrain a r q.0 b; spelled_is = refl; tree_is = refl; depth_is = refl }
+  rline_canonical (LCall x args) k = record { whole = call x args; spelled_is = refl; tree_is = refl; depth_is = refl }
 
-  operand_nesting : (e : Expression) → operand_depth (operand_of e) ≡ tree.operand_depth e (depth e)
-  operand_nesting (EName x) = refl
-  operand_nesting (ECall x args) = refl
-  operand_nesting ENever = refl
-  operand_nesting (EBinary op a d) = rw (operand_nesting a, operand_nesting d) (omega arith)
-  operand_nesting (EDelay a m) = rw (operand_nesting a) (omega arith)
-  operand_nesting (EAwait a m) = rw (operand_nesting a) (omega arith)
-  operand_nesting (EFilter a m) = rw (operand_nesting a) (omega arith)
-  operand_nesting (EDelayed a at n d) = rw (operand_nesting a, operand_nesting d) (omega arith)
-  operand_nesting (EIf q a d) = rw (expr_nesting a, expr_nesting d) (omega arith)
+  sline_canonical : (l : SLine) → sline_kept two l ≡ true → Derives (sline_spelled {two = two}) sline_tree sline_depth (sline_tokens l) l (tree.sline_depth l)
+  sline_canonical (SClocks []) k = absurd cc
+  sline_canonical (SClocks (x ∷ xs)) k = record { whole = clocks x xs; spelled_is = refl; tree_is = refl; depth_is = refl }
+  sline_canonical (SLineOf l) k =
+      let c = rline_canonical l k in
+      record { whole = line c.whole; spelled_is = c.spelled_is; tree_is = ap SLineOf c.tree_is; depth_is = c.depth_is }
 
-each_nesting : {C T : Type 0} (of : T → C) (depth : C → ℕ) (level : T → ℕ) (test : T → Bool) → ((t : T) → test t ≡ true → depth (of t) ≡ level t) → (ts : List T) → list_all test ts ≡ true
-    → greatest (map depth (map of ts)) ≡ greatest (map level ts)
-each_nesting of depth level test one [] h = refl
-each_nesting of depth level test one (t ∷ ts) h = let p = and_parts (test t) (list_all test ts) h in rw (one t p.0, each_nesting of depth level test one ts p.1) refl
+  -- ---- definitions
 
-rline_nesting : (l : Line) → line_kept l ≡ true → rline_depth (rline_of l) ≡ tree.line_depth l
-rline_nesting (LDefine x e) h = expr_nesting e
-rline_nesting (LConstraint a r b) h = refl
-rline_nesting (LCall x args) h = refl
+  member_canonical : (m : PlainMember) → member_kept two m ≡ true → Derives (member_spelled {two = two}) member_tree member_depth (member_tokens m) m (tree.member_depth m)
+  member_canonical m k =
+      let p = and_parts (spot_kept m.name) (list_all param_kept m.params && expression_kept two m.body) k in
+      let c = (canonical two m.body (and_parts (list_all param_kept m.params) (expression_kept two m.body) p.1).1).expr in
+      record { whole = record { name = m.name; params = m.params; body = c.whole }; spelled_is = rw c.spelled_is refl; tree_is = rw c.tree_is refl; depth_is = c.depth_is }
 
-sline_nesting : (l : SLine) → sline_kept l ≡ true → sline_depth (sline_of l) ≡ tree.sline_depth l
-sline_nesting (SClocks []) h = refl
-sline_nesting (SClocks (x ∷ xs)) h = refl
-sline_nesting (SLineOf l) h = rline_nesting l h
+  further_canonical : (m : PlainMember) → member_kept two m ≡ true → Derives (further_member {two = two}) member_tree member_depth (further_tokens m) m (tree.member_depth m)
+  further_canonical m k =
+      let c = member_canonical m k in
+      record { whole = c.whole; spelled_is = ap (λ z. word w.And ∷ z) c.spelled_is; tree_is = c.tree_is; depth_is = c.depth_is }
 
-member_nesting : (m : PlainMember) → member_kept m ≡ true → member_depth (member_of m) ≡ tree.member_depth m
-member_nesting m h = expr_nesting m.body
+  -- a relation without a line is not kept
+  no_line : (x : Spot) (ps : List Param) → definition_kept two (DRelation x ps []) ≡ true → ⊥
+  no_line x ps k =
+      let p = and_parts (spot_kept x) (list_all param_kept ps && false) k in
+      let q = and_parts (list_all param_kept ps) false p.1 in
+      absurd cc
 
-definition_nesting : (d : PlainDefinition) → definition_kept d ≡ true → definition_depth (definition_of d) ≡ tree.definition_depth d
-definition_nesting (DRelation x ps []) h = refl
-definition_nesting (DRelation x ps (l ∷ ls)) h =
-    let p = and_parts (spot_kept x) (list_all param_kept ps && list_all line_kept (l ∷ ls)) h in
-    let q = and_parts (list_all param_kept ps) (list_all line_kept (l ∷ ls)) p.1 in
-    each_nesting rline_of rline_depth tree.line_depth line_kept rline_nesting (l ∷ ls) q.1
-definition_nesting (DGroup []) h = absurd cc
-definition_nesting (DGroup (m ∷ ms)) h = each_nesting member_of member_depth tree.member_depth member_kept member_nesting (m ∷ ms) h
+  definition_canonical : (d : PlainDefinition) → definition_kept two d ≡ true
+      → Derives (definition_spelled {two = two}) definition_tree definition_depth (tokens_in (definition_lines d)) d (tree.definition_depth d)
+  definition_canonical (DRelation x ps []) k = absurd (no_line x ps k)
+  definition_canonical (DRelation x ps (l ∷ ls)) k =
+      let p = and_parts (spot_kept x) (list_all param_kept ps && list_all (rline_kept two) (l ∷ ls)) k in
+      let q = and_parts (list_all param_kept ps) (list_all (rline_kept two) (l ∷ ls)) p.1 in
+      let r = and_parts (rline_kept two l) (list_all (rline_kept two) ls) q.1 in
+      let a = rline_canonical l r.0 in
+      let c = each (rline_spelled {two = two}) rline_tree rline_depth rline_tokens tree.rline_depth (rline_kept two) rline_canonical ls r.1 in
+      record {
+        whole = relation x ps a.whole c.whole;
+        spelled_is = rw (a.spelled_is, c.spelled_is) (ap (λ z. word w.Relation ∷ name x ∷ opening ∷ z)
+            (ap (λ z. params_spelled ps ++ closing ∷ left_brace ∷ z) (ap (λ z. rline_tokens l ++ z) (sym (body_tokens rline_tokens ls)))
+            ∙ sym (append_assoc (params_spelled ps) (closing ∷ left_brace ∷ []) (rline_tokens l ++ tokens_in (body_lines rline_tokens ls)))));
+        tree_is = rw (a.tree_is, c.tree_is) refl;
+        depth_is = rw (a.depth_is, c.depth_is) refl;
+      }
+  definition_canonical (DGroup []) k = absurd cc
+  definition_canonical (DGroup (m ∷ ms)) k =
+      let p = and_parts (member_kept two m) (list_all (member_kept two) ms) k in
+      let a = member_canonical m p.0 in
+      let c = each (further_member {two = two}) member_tree member_depth further_tokens tree.member_depth (member_kept two) further_canonical ms p.1 in
+      record {
+        whole = group a.whole c.whole;
+        spelled_is = ap (λ z. word w.Expression ∷ (z ++ (flat_map further_member c.whole ++ semicolon ∷ []))) a.spelled_is
+            ∙ ap (λ z. word w.Expression ∷ (member_tokens m ++ (z ++ semicolon ∷ []))) c.spelled_is
+            ∙ ap (λ z. word w.Expression ∷ z) (sym (append_assoc (member_tokens m) (flat_map further_tokens ms) (semicolon ∷ [])))
+            ∙ sym (append-nil (word w.Expression ∷ ((member_tokens m ++ flat_map further_tokens ms) ++ semicolon ∷ [])));
+        tree_is = rw (a.tree_is, c.tree_is) refl;
+        depth_is = rw (a.depth_is, c.depth_is) refl;
+      }
 
-pub canonical_depth : CanonicalDepth
-canonical_depth f h =
-    let p = and_parts (nat_eq f.version 1) (list_all definition_kept f.definitions && list_all sline_kept f.lines) h in
-    let q = and_parts (list_all definition_kept f.definitions) (list_all sline_kept f.lines) p.1 in
-    rw (each_nesting definition_of definition_depth tree.definition_depth definition_kept definition_nesting f.definitions q.0, each_nesting sline_of sline_depth tree.sline_depth sline_kept sline_nesting f.lines q.1) refl
+-- ---- files
 
--- ---- no derivation is less deep
+tokens_append : (xs ys : List TextLine) → tokens_in (xs ++ ys) ≡ tokens_in xs ++ tokens_in ys
+tokens_append xs ys = flat_map-append (λ l. l.tokens) xs ys
 
-operand_expr : (e : Expression) → tree.operand_depth e (depth e) ≤ depth e
-operand_expr (EName x) = omega arith
-operand_expr (ECall x args) = omega arith
-operand_expr ENever = omega arith
-operand_expr _ = omega arith
+definitions_tokens : (ds : List PlainDefinition) → tokens_in (flat_map definition_lines ds) ≡ flat_map (λ d. tokens_in (definition_lines d)) ds
+definitions_tokens [] = refl
+definitions_tokens (d ∷ ds) = tokens_append (definition_lines d) (flat_map definition_lines ds) ∙ ap (λ z. tokens_in (definition_lines d) ++ z) (definitions_tokens ds)
 
-expr_operand : (e : Expression) → depth e ≤ suc (tree.operand_depth e (depth e))
-expr_operand (EName x) = omega arith
-expr_operand (ECall x args) = omega arith
-expr_operand ENever = omega arith
-expr_operand _ = omega arith
+-- the version of a kept file
+version_kept : (n : ℕ) → (nat_eq n 1 || nat_eq n 2) ≡ true → version (nat_eq n 2) ≡ n
+version_kept n h = by_two (nat_eq n 2) refl
+  where
+    by_two : (b : Bool) → nat_eq n 2 ≡ b → version b ≡ n
+    by_two true e = sym (eqb-true n 2 e)
+    by_two false e = elim (or_cases (nat_eq n 1) (nat_eq n 2) h) [ inl i ↦ sym (eqb-true n 1 i) | inr i ↦ absurd (let c : true ≡ false = sym i ∙ e in cc) ]
 
-mutual
-  expr_least : (c : Expr) → depth (expr_tree c) ≤ expr_depth c
-  expr_least (alone o) = let i = operand_least o in let j = expr_operand (operand_tree o) in omega arith
-  expr_least (binary op a d) = let i = operand_least a in let j = operand_least d in omega arith
-  expr_least (delay a m) = let i = operand_least a in omega arith
-  expr_least (await a m) = let i = operand_least a in omega arith
-  expr_least (filter a m) = let i = operand_least a in omega arith
-  expr_least (delayed a at n d) = let i = operand_least a in let j = operand_least d in omega arith
-  expr_least (choice q a d) = let i = expr_least a in let j = expr_least d in omega arith
-
-  operand_least : (c : Operand) → tree.operand_depth (operand_tree c) (depth (operand_tree c)) ≤ operand_depth c
-  operand_least (named x) = omega arith
-  operand_least (called x args) = omega arith
-  operand_least never = omega arith
-  operand_least (parens e) = let i = expr_least e in let j = operand_expr (expr_tree e) in omega arith
-
-each_least : {C T : Type 0} (tree : C → T) (depth : C → ℕ) (level : T → ℕ) → ((c : C) → level (tree c) ≤ depth c) → (cs : List C) → greatest (map level (map tree cs)) ≤ greatest (map depth cs)
-each_least tree depth level one [] = omega arith
-each_least tree depth level one (c ∷ cs) = let i = one c in let j = each_least tree depth level one cs in omega arith
-
-rline_least : (l : Rline) → tree.line_depth (rline_tree l) ≤ rline_depth l
-rline_least (define x e) = expr_least e
-rline_least (constrain a r b) = omega arith
-rline_least (call x args) = omega arith
-
-sline_least : (l : Sline) → tree.sline_depth (sline_tree l) ≤ sline_depth l
-sline_least (clocks x xs) = omega arith
-sline_least (line l) = rline_least l
-
-member_least : (m : Member) → tree.member_depth (member_tree m) ≤ member_depth m
-member_least m = expr_least m.body
-
-definition_least : (d : Definition) → tree.definition_depth (definition_tree d) ≤ definition_depth d
-definition_least (relation x ps l ls) = each_least rline_tree rline_depth tree.line_depth rline_least (l ∷ ls)
-definition_least (group m ms) = each_least member_tree member_depth tree.member_depth member_least (m ∷ ms)
-
-pub least_depth : LeastDepth
-least_depth d =
-    let i = each_least definition_tree definition_depth tree.definition_depth definition_least d.definitions in
-    let j = each_least sline_tree sline_depth tree.sline_depth sline_least d.lines in
-    omega arith
+pub file_canonical : (f : PlainFile) → file_kept f ≡ true → Derives file_spelled file_tree derivation_depth (canonical_terminals f) f (tree.file_depth f)
+file_canonical f k =
+    let two = is_two f in
+    let p = and_parts (nat_eq f.version 1 || is_two f) (list_all (definition_kept two) f.definitions && list_all (sline_kept two) f.lines) k in
+    let q = and_parts (list_all (definition_kept two) f.definitions) (list_all (sline_kept two) f.lines) p.1 in
+    let v = version_kept f.version p.0 in
+    let a = each (definition_spelled {two = two}) definition_tree definition_depth (λ d. tokens_in (definition_lines d)) tree.definition_depth (definition_kept two) (definition_canonical two) f.definitions q.0 in
+    let c = each (sline_spelled {two = two}) sline_tree sline_depth sline_tokens tree.sline_depth (sline_kept two) (sline_canonical two) f.lines q.1 in
+    record {
+      whole = record { at = 0; two = two; definitions = a.whole; lines = c.whole };
+      spelled_is = rw (v, a.spelled_is, c.spelled_is) (ap (λ z. word w.Ccsl ∷ number 0 f.version ∷ semicolon ∷ z)
+          (ap (λ z. z ++ word w.System ∷ left_brace ∷ (flat_map sline_tokens f.lines ++ right_brace ∷ [])) (sym (definitions_tokens f.definitions))
+          ∙ ap (λ z. tokens_in (flat_map definition_lines f.definitions) ++ word w.System ∷ left_brace ∷ z) (sym (body_tokens sline_tokens f.lines))
+          ∙ sym (tokens_append (flat_map definition_lines f.definitions) (system_lines f.lines))));
+      tree_is = rw (v, a.tree_is, c.tree_is) refl;
+      depth_is = rw (a.depth_is, c.depth_is) refl;
+    }
 
 pub canonical_parses : CanonicalParses
-canonical_parses f k d = record { derivation = file_of f; spelled = refl; tree = file_back f k; depth = rw (canonical_depth f k) d }
+canonical_parses room f k d =
+    let c = file_canonical f k in
+    record { derivation = c.whole; spelled = c.spelled_is; tree = c.tree_is; none_deep = file_shallow room c.whole [] (rw c.depth_is d) }

@@ -1,10 +1,11 @@
 -- The parts in which no expression stands: lists, sums, words, tests, arguments, parameters, relations, operators.
 use Rattle.std.proofs.Common.{◌≡◌, ℕ, Bool, true, false, List, [], ◌∷◌, ◌++◌, Some, None, refl, sym, append_assoc, arith, eqb, cond}
+use Rattle.std.specs.Prelude.{IsTrue}
 use Rattle.std.specs.List.{flat_map}
 use Rattle.std.proofs.lemmas.List.{append-nil}
-use Rattle.std.proofs.lemmas.Bool.{eqb-true}
-use Rattle.ccsl_lex.specs.declared.reserved.Reserved.{Reserved}
-use Rattle.ccsl_lex.specs.declared.reserved.Reserved.TheVariants as w
+use Rattle.std.proofs.lemmas.Bool.{eqb-true, and_parts}
+use Rattle.ccsl_base.specs.declared.reserved.Reserved.{Reserved}
+use Rattle.ccsl_base.specs.declared.reserved.Reserved.TheVariants as w
 use Rattle.ccsl_ast.specs.declared.spot.Spot.{Spot}
 use Rattle.ccsl_ast.specs.declared.term.Sign.{Sign}
 use Rattle.ccsl_ast.specs.declared.term.Sign.TheVariants.{Plus, Minus}
@@ -21,13 +22,14 @@ use Rattle.ccsl_ast.specs.declared.line.Relation.{Relation}
 use Rattle.ccsl_ast.specs.declared.line.Relation.TheVariants as rel
 use Rattle.ccsl_ast.specs.declared.definition.Kind.{Kind}
 use Rattle.ccsl_ast.specs.declared.definition.Kind.TheVariants as kind
+use Rattle.ccsl_ast.specs.Kept.{binop_in, relop_in}
 use Rattle.ccsl_grammar.specs.Terminals.{Terminal, word, symbol, name, number, quoted, is_word, is_symbol, is_name, is_quoted}
-use Rattle.ccsl_grammar.specs.Reader.{Fault, no_syntax, Reader, ◌>>=◌, ◌>>◌, given, many}
+use Rattle.ccsl_grammar.specs.Reader.{Fault, no_syntax, Reader, ◌>>=◌, ◌>>◌, given, begins, many}
 use Rattle.ccsl_grammar.specs.Places.{Stops, Is, shallow}
 use Rattle.ccsl_grammar.specs.Grammar.{comma, closing, equals, further_spelled, list_spelled, prim_spelled, sign_spelled, signed_spelled, term_spelled, wterm_spelled, test_spelled, arg_spelled, kind_spelled, param_spelled, relop_spelled, binop_spelled, clock_spelled}
-use Rattle.ccsl_grammar.specs.Parser.{word_at, symbol_at, name_of, name_at, quoted_of, quoted_at, further_at, list_at, prim_of, prim_at, sign_of, sign_at, is_sign, signed_at, term_at, wterm_at, comparison_at, test_at, arg_at, kind_of, kind_at, param_at, relop_of, precedes_at, relop_at, binop_of, sampled_at, binop_at}
+use Rattle.ccsl_grammar.specs.Parser.{word_at, symbol_at, name_of, name_at, quoted_of, quoted_at, further_at, list_at, prim_of, prim_at, sign_of, sign_at, is_sign, signed_at, term_at, wterm_at, comparison_at, test_at, arg_at, kind_of, kind_at, param_at, relop_of, precedes_at, relop_at, binop_of, sampled_at, upto_at, binop_at, goes_on_by, within_at, num_of, num_at}
 use Rattle.ccsl_grammar.proofs.Good.{Good, give, either, take_one}
-use Rattle.ccsl_grammar.proofs.Parts.{Self, itself, begun, inside, part_then, part_last}
+use Rattle.ccsl_grammar.proofs.Parts.{Reads, Self, itself, begun, built, inside, part_then, part_last}
 use Rattle.ccsl_grammar.proofs.Many.{many_self}
 use Rattle.ccsl_grammar.proofs.Steps.{one, word_then, symbol_then, name_then, name_of_is}
 
@@ -76,7 +78,6 @@ binop_is (word w.Inter) o e = let i : op.Inter ≡ o = cc in rw (← i) refl
 binop_is (word w.Minus) o e = let i : op.Minus ≡ o = cc in rw (← i) refl
 binop_is (word w.Inf) o e = let i : op.Inf ≡ o = cc in rw (← i) refl
 binop_is (word w.Sup) o e = let i : op.Sup ≡ o = cc in rw (← i) refl
-binop_is (word w.Upto) o e = let i : op.Upto ≡ o = cc in rw (← i) refl
 binop_is (word w.Then) o e = let i : op.Then ≡ o = cc in rw (← i) refl
 binop_is _ o e = absurd cc
 
@@ -209,27 +210,88 @@ param_reads = record {
       (λ x z. give _ _ (record { kind = k; name = x }) z (itself (rw (kind_is u k e) refl))));
 }
 
--- ---- relations, operators
+-- ---- a number
 
-pub relop_reads : Self relop_spelled relop_at
-unfolding relop_at precedes_at
-relop_reads = record {
-  at = λ ts. either _ _ (is_word w.Precedes) _ _ ts
-      (λ b. word_then _ _ w.Precedes _ ts (λ z. begun rel.Precedes (word w.Precedes ∷ []) refl)
-      (λ z. either _ _ (is_word w.Weakly) _ _ z
-      (λ b. word_then _ _ w.Weakly _ z (λ z. begun rel.PrecedesWeakly (word w.Weakly ∷ []) refl) (λ z. give _ _ rel.PrecedesWeakly z (itself refl)))
-      (λ b. give _ _ rel.Precedes z (itself refl))))
-      (λ b. take_one _ _ relop_of ts (λ z. begun rel.Subclock (word w.Subclock ∷ []) refl) (λ u r e. itself (relop_is u r e)));
-}
+num_is : (u : Terminal) (n : ℕ × ℕ) → num_of u ≡ Some n → u ≡ number n.0 n.1
+num_is (number at n) m e = let i : ◌≡◌ {A = ℕ × ℕ} (at, n) m = cc in rw (← i) refl
+num_is _ n e = absurd cc
 
-pub binop_reads : Self binop_spelled binop_at
-unfolding binop_at sampled_at
-binop_reads = record {
-  at = λ ts. either _ _ (is_word w.Sampled) _ _ ts
-      (λ b. word_then _ _ w.Sampled _ ts (λ z. begun op.Sampled (word w.Sampled ∷ word w.On ∷ []) refl)
-      (λ z. either _ _ (is_word w.Weakly) _ _ z
-      (λ b. word_then _ _ w.Weakly _ z (λ z. begun op.SampledWeakly (word w.Weakly ∷ word w.On ∷ []) refl)
-      (λ z. word_then _ _ w.On _ z (λ z. begun op.SampledWeakly (word w.On ∷ []) refl) (λ z. give _ _ op.SampledWeakly z (itself refl))))
-      (λ b. word_then _ _ w.On _ z (λ z. begun op.Sampled (word w.On ∷ []) refl) (λ z. give _ _ op.Sampled z (itself refl)))))
-      (λ b. take_one _ _ binop_of ts (λ z. begun op.Union (word w.Union ∷ []) refl) (λ u o e. itself (binop_is u o e)));
-}
+module _ {B : Type 0} (S : Fault → List Terminal → List Terminal → Type 0) (Q : B → List Terminal → Type 0) where
+  pub num_then : (g : ℕ × ℕ → Reader B) (ts : List Terminal) → ((z : List Terminal) → S no_syntax [] z)
+      → ((n : ℕ × ℕ) (z : List Terminal) → Good (λ k p y. S k (number n.0 n.1 ∷ p) y) (λ v p. Q v (number n.0 n.1 ∷ p)) (g n) z) → Good S Q (num_at >>= g) ts
+  unfolding num_at
+  num_then g ts out on = one S Q num_of g ts out (λ u n z e. rw (num_is u n e) (on n z))
+
+-- ---- relations and operators of a version
+
+abbrev pub Relop : Bool → Type 0
+Relop two = (r : Relation) × IsTrue (relop_in two r)
+
+abbrev pub Binop : Bool → Type 0
+Binop two = (o : BinaryOp) × IsTrue (binop_in two o)
+
+-- what goes on a form of version 2 is read in version 2 alone
+goes_on_two : (two : Bool) (v : Reserved) (ts : List Terminal) → begins (goes_on_by two v) ts ≡ true → two ≡ true
+goes_on_two two v [] h = absurd cc
+goes_on_two two v (t ∷ ts) h = (and_parts (is_word v t) two h).1
+
+-- those of one word are forms of each version
+relop_old : (two : Bool) (u : Terminal) (r : Relation) → relop_of u ≡ Some r → relop_in two r ≡ true
+relop_old two (word w.Subclock) r e = let i : rel.Subclock ≡ r = cc in rw (← i) refl
+relop_old two (word w.Coincides) r e = let i : rel.Coincides ≡ r = cc in rw (← i) refl
+relop_old two (word w.Excludes) r e = let i : rel.Excludes ≡ r = cc in rw (← i) refl
+relop_old two _ r e = absurd cc
+
+binop_old : (two : Bool) (u : Terminal) (o : BinaryOp) → binop_of u ≡ Some o → binop_in two o ≡ true
+binop_old two (word w.Union) o e = let i : op.Union ≡ o = cc in rw (← i) refl
+binop_old two (word w.Inter) o e = let i : op.Inter ≡ o = cc in rw (← i) refl
+binop_old two (word w.Minus) o e = let i : op.Minus ≡ o = cc in rw (← i) refl
+binop_old two (word w.Inf) o e = let i : op.Inf ≡ o = cc in rw (← i) refl
+binop_old two (word w.Sup) o e = let i : op.Sup ≡ o = cc in rw (← i) refl
+binop_old two (word w.Then) o e = let i : op.Then ≡ o = cc in rw (← i) refl
+binop_old two _ o e = absurd cc
+
+module _ (two : Bool) where
+  abbrev relop_terminals : Relop two → List Terminal
+  relop_terminals c = relop_spelled c.0
+
+  abbrev relop_tree : Relop two → Relation
+  relop_tree c = c.0
+
+  within_reads : two ≡ true → (ts : List Terminal)
+      → Good (λ k q z. Stops relop_terminals shallow k (word w.Precedes ∷ q) z) (λ v q. Is relop_terminals shallow relop_tree v (word w.Precedes ∷ q)) within_at ts
+  unfolding within_at
+  within_reads h ts = word_then _ _ w.Within _ ts (λ z. begun (rel.PrecedesWithin 0 0, h) (word w.Within ∷ number 0 0 ∷ []) refl)
+      (λ z. num_then _ _ _ z (λ z. begun (rel.PrecedesWithin 0 0, h) (number 0 0 ∷ []) refl)
+      (λ n z. give _ _ (rel.PrecedesWithin n.0 n.1) z (built (rel.PrecedesWithin n.0 n.1, h) refl (λ after. refl))))
+
+  pub relop_reads : Reads (λ (c : Relop two). relop_spelled c.0) shallow (λ c. c.0) (relop_at two)
+  unfolding relop_at precedes_at
+  relop_reads = record {
+    at = λ ts. either _ _ (is_word w.Precedes) _ _ ts
+        (λ b. word_then _ _ w.Precedes _ ts (λ z. begun (rel.Precedes, refl) (word w.Precedes ∷ []) refl)
+        (λ z. either _ _ (is_word w.Weakly) _ _ z
+        (λ b. word_then _ _ w.Weakly _ z (λ z. begun (rel.PrecedesWeakly, refl) (word w.Weakly ∷ []) refl) (λ z. give _ _ rel.PrecedesWeakly z (built (rel.PrecedesWeakly, refl) refl (λ after. refl))))
+        (λ b. either _ _ (goes_on_by two w.Within) _ _ z
+        (λ b. within_reads (goes_on_two two w.Within z b) z)
+        (λ b. give _ _ rel.Precedes z (built (rel.Precedes, refl) refl (λ after. refl))))))
+        (λ b. take_one _ _ relop_of ts (λ z. begun (rel.Subclock, refl) (word w.Subclock ∷ []) refl) (λ u r e. built (r, relop_old two u r e) (relop_is u r e) (λ after. refl)));
+  }
+
+  pub binop_reads : Reads (λ (c : Binop two). binop_spelled c.0) shallow (λ c. c.0) (binop_at two)
+  unfolding binop_at sampled_at upto_at
+  binop_reads = record {
+    at = λ ts. either _ _ (is_word w.Sampled) _ _ ts
+        (λ b. word_then _ _ w.Sampled _ ts (λ z. begun (op.Sampled, refl) (word w.Sampled ∷ word w.On ∷ []) refl)
+        (λ z. either _ _ (is_word w.Weakly) _ _ z
+        (λ b. word_then _ _ w.Weakly _ z (λ z. begun (op.SampledWeakly, refl) (word w.Weakly ∷ word w.On ∷ []) refl)
+        (λ z. word_then _ _ w.On _ z (λ z. begun (op.SampledWeakly, refl) (word w.On ∷ []) refl) (λ z. give _ _ op.SampledWeakly z (built (op.SampledWeakly, refl) refl (λ after. refl)))))
+        (λ b. word_then _ _ w.On _ z (λ z. begun (op.Sampled, refl) (word w.On ∷ []) refl) (λ z. give _ _ op.Sampled z (built (op.Sampled, refl) refl (λ after. refl))))))
+        (λ b. either _ _ (is_word w.Upto) _ _ ts
+        (λ b. word_then _ _ w.Upto _ ts (λ z. begun (op.Upto, refl) (word w.Upto ∷ []) refl)
+        (λ z. either _ _ (goes_on_by two w.Weakly) _ _ z
+        (λ b. let h = goes_on_two two w.Weakly z b in
+        word_then _ _ w.Weakly _ z (λ z. begun (op.UptoWeakly, h) (word w.Weakly ∷ []) refl) (λ z. give _ _ op.UptoWeakly z (built (op.UptoWeakly, h) refl (λ after. refl))))
+        (λ b. give _ _ op.Upto z (built (op.Upto, refl) refl (λ after. refl)))))
+        (λ b. take_one _ _ binop_of ts (λ z. begun (op.Union, refl) (word w.Union ∷ []) refl) (λ u o e. built (o, binop_old two u o e) (binop_is u o e) (λ after. refl))));
+  }

@@ -12,6 +12,7 @@ mod CompleteLeaves
 mod CompleteExprs
 mod CompleteLines
 mod Depth
+pub mod Least
 pub mod Verdict
 pub mod Canonical
 pub mod Keeps

@@ -60,14 +60,14 @@ further_param_falls = further_falls param_spelled param_at some_param param_read
 pub further_clock_falls : Falls (further_at name_at)
 further_clock_falls = further_falls clock_spelled name_at some_spot clock_reads
 
-pub rline_falls : (room : ℕ) → Falls (rline_at room)
-rline_falls room = reads_fall rline_spelled (rline_deep room) rline_tree (rline_at room) rline_nonempty (rline_reads room)
+pub rline_falls : (two : Bool) (room : ℕ) → Falls (rline_at two room)
+rline_falls two room = reads_fall (rline_spelled {two = two}) (rline_deep room) rline_tree (rline_at two room) rline_nonempty (rline_reads two room)
 
-pub sline_falls : (room : ℕ) → Falls (sline_at room)
-sline_falls room = reads_fall sline_spelled (sline_deep room) sline_tree (sline_at room) sline_nonempty (sline_reads room)
+pub sline_falls : (two : Bool) (room : ℕ) → Falls (sline_at two room)
+sline_falls two room = reads_fall (sline_spelled {two = two}) (sline_deep room) sline_tree (sline_at two room) sline_nonempty (sline_reads two room)
 
-pub further_member_falls : (room : ℕ) → Falls (further_member_at room)
-further_member_falls room = reads_fall further_member (member_deep room) member_tree (further_member_at room) (λ m. omega arith) (further_member_reads room)
+pub further_member_falls : (two : Bool) (room : ℕ) → Falls (further_member_at two room)
+further_member_falls two room = reads_fall (further_member {two = two}) (member_deep room) member_tree (further_member_at two room) (λ m. omega arith) (further_member_reads two room)
 
-pub definition_falls : (room : ℕ) → Falls (definition_at room)
-definition_falls room = reads_fall definition_spelled (definition_deep room) definition_tree (definition_at room) definition_nonempty (definition_reads room)
+pub definition_falls : (two : Bool) (room : ℕ) → Falls (definition_at two room)
+definition_falls two room = reads_fall (definition_spelled {two = two}) (definition_deep room) definition_tree (definition_at two room) definition_nonempty (definition_reads two room)

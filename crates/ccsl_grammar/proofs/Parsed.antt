@@ -1,5 +1,5 @@
 -- What a file keeps, of the tree of tokens.
-use Rattle.std.proofs.Common.{ℕ, ◌≤◌, List, subst, arith}
+use Rattle.std.proofs.Common.{ℕ, ◌≤◌, List}
 use Rattle.std.specs.Prelude.{IsTrue}
 use Rattle.ccsl_lex.specs.declared.token.Token.{Token}
 use Rattle.ccsl_ast.specs.Trees.{PlainFile}
@@ -8,10 +8,10 @@ use Rattle.ccsl_ast.specs.Kept.{file_kept}
 use Rattle.ccsl_grammar.specs.Terminals.{Terminal, terminals}
 use Rattle.ccsl_grammar.specs.File.{Parses}
 use Rattle.ccsl_grammar.proofs.Keeps.{file_keeps}
-use Rattle.ccsl_grammar.proofs.Canonical.{least_depth}
+use Rattle.ccsl_grammar.proofs.Least.{least_depth}
 
 pub parsed_keeps : (room : ℕ) (ts : List Token) (f : PlainFile) → Parses room (terminals ts) f → IsTrue (file_kept f)
 parsed_keeps room ts f p = file_keeps ts f (record { derivation = p.derivation; spelled = p.spelled; tree = p.tree })
 
 pub parsed_depth : (room : ℕ) (ts : List Terminal) (f : PlainFile) → Parses room ts f → file_depth f ≤ room
-parsed_depth room ts f p = subst (λ (f : PlainFile). file_depth f ≤ room) p.tree (let i = least_depth p.derivation in let d = p.depth in omega arith)
+parsed_depth = least_depth

@@ -1,9 +1,9 @@
 -- One step of a reader: a word, a symbol, a name.
 use Rattle.std.proofs.Common.{◌≡◌, ℕ, Bool, true, false, List, [], ◌∷◌, ◌++◌, Option, Some, refl, sym, ap, subst, ◌∙◌, get_or}
 use Rattle.std.proofs.lemmas.Bool.{eqb-true}
-use Rattle.ccsl_lex.specs.declared.reserved.Reserved.{Reserved}
-use Rattle.ccsl_lex.specs.declared.reserved.Reserved.TheVariants as w
-use Rattle.ccsl_lex.specs.Words.{all_words}
+use Rattle.ccsl_base.specs.declared.reserved.Reserved.{Reserved}
+use Rattle.ccsl_base.specs.declared.reserved.Reserved.TheVariants as w
+use Rattle.ccsl_base.specs.ReservedWords.{all_words}
 use Rattle.ccsl_ast.specs.declared.spot.Spot.{Spot}
 use Rattle.ccsl_grammar.specs.Terminals.{Terminal, word, symbol, name, number, quoted, is_word, is_symbol, same_word, number_of}
 use Rattle.ccsl_grammar.specs.Reader.{Fault, no_syntax, Reader, ◌>>=◌, ◌>>◌, accept}

@@ -4,8 +4,8 @@ use Rattle.std.proofs.lemmas.List.{append-nil}
 use Rattle.ccsl_grammar.specs.Terminals.{Terminal}
 use Rattle.ccsl_ast.specs.Trees.{PlainFile}
 use Rattle.ccsl_grammar.specs.Reader.{no_syntax, too_deep, Reply, took, stopped, Reader, followed, many}
-use Rattle.ccsl_grammar.specs.Grammar.{Derivation, file_spelled, file_tree}
-use Rattle.ccsl_grammar.specs.Deep.{file_deep, derivation_depth}
+use Rattle.ccsl_grammar.specs.Grammar.{Derivation, version, file_spelled, file_tree}
+use Rattle.ccsl_grammar.specs.Deep.{file_deep}
 use Rattle.ccsl_grammar.specs.Places.{Stops, Is, Begins}
 use Rattle.ccsl_grammar.specs.Parser.{is_definition, definition_at, version_at, system_at, ends, file_at}
 use Rattle.ccsl_grammar.specs.File.{IsFile, CanGoOn, DeepAt, FailsAt, Verdict}
@@ -14,7 +14,7 @@ use Rattle.ccsl_grammar.proofs.Good.{GoodAs}
 use Rattle.ccsl_grammar.proofs.Files.{file_reads}
 use Rattle.ccsl_grammar.proofs.Outcome.{outcome}
 use Rattle.ccsl_grammar.proofs.CompleteLines.{file_complete}
-use Rattle.ccsl_grammar.proofs.Depth.{file_shallow, file_within}
+use Rattle.ccsl_grammar.proofs.Depth.{derivation_depth, file_shallow}
 
 -- ---- what the code needs: a reply that takes leaves nothing
 
@@ -28,7 +28,7 @@ ends_ends v (t ∷ ts) w z e = absurd cc
 
 file_ends : (room : ℕ) (ts : List Terminal) (v : PlainFile) (z : List Terminal) → file_at room ts ≡ took v z → z ≡ []
 unfolding file_at
-file_ends room ts v z e = reply_ends (version_at ts) _ (λ _ ts1. reply_ends (many is_definition (definition_at room) ts1) _ (λ ds ts2. reply_ends (system_at room ts2) _ (λ ls ts3. ends_ends (record { version = 1; definitions = ds; lines = ls }) ts3))) v z e
+file_ends room ts v z e = reply_ends (version_at ts) _ (λ two ts1. reply_ends (many is_definition (definition_at two room) ts1) _ (λ ds ts2. reply_ends (system_at two room ts2) _ (λ ls ts3. ends_ends (record { version = version two; definitions = ds; lines = ls }) ts3))) v z e
 
 -- ---- no file gives a fault of syntax
 
@@ -93,7 +93,7 @@ can_go_on front b = record { more = b.more; tree = file_tree b.whole; is = recor
 verdict_as : (room : ℕ) (ts : List Terminal) (r : Reply PlainFile) → file_at room ts ≡ r → GoodAs (Stops file_spelled (file_deep room)) (Is file_spelled (file_deep room) file_tree) (file_at room) ts r → Verdict room ts r
 verdict_as room ts (took f rest) e h =
     let z : rest ≡ [] = file_ends room ts f rest e in
-    (record { derivation = h.holds.whole; spelled = h.holds.is ∙ sym (append-nil h.front) ∙ ap (λ q. h.front ++ q) (sym z) ∙ sym h.whole; tree = h.holds.tree_is; depth = file_within room h.holds.whole [] (h.holds.deep_is []) }, z)
+    (record { derivation = h.holds.whole; spelled = h.holds.is ∙ sym (append-nil h.front) ∙ ap (λ q. h.front ++ q) (sym z) ∙ sym h.whole; tree = h.holds.tree_is; none_deep = h.holds.deep_is [] }, z)
 verdict_as room ts (stopped too_deep rest) e h = (
   h.front,
   h.whole,
@@ -170,6 +170,6 @@ syntax_as room ts front rest e h (stopped no_syntax z) v = ap (stopped no_syntax
 
 pub one_verdict : OneVerdict
 one_verdict room ts (took f rest) v =
-    spelled_reply room v.0.derivation ts v.0.spelled ∙ rw (file_shallow room v.0.derivation [] v.0.depth, v.0.tree, v.1) refl
+    spelled_reply room v.0.derivation ts v.0.spelled ∙ rw (v.0.none_deep, v.0.tree, v.1) refl
 one_verdict room ts (stopped too_deep rest) v = ap (file_at room) v.1 ∙ deep_replies room v.0 rest v.2
 one_verdict room ts (stopped no_syntax rest) v = syntax_as room ts v.0 rest v.1 v.2 (file_at room ts) (reader_is_right room ts)

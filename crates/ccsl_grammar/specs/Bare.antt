@@ -11,6 +11,8 @@ use Rattle.ccsl_ast.specs.declared.term.Test.{Test}
 use Rattle.ccsl_ast.specs.declared.term.Test.TheVariants.{Equal, Less, Head, Ended}
 use Rattle.ccsl_ast.specs.declared.term.Argument.{Argument}
 use Rattle.ccsl_ast.specs.declared.term.Argument.TheVariants as arg
+use Rattle.ccsl_ast.specs.declared.line.Relation.{Relation}
+use Rattle.ccsl_ast.specs.declared.line.Relation.TheVariants.{PrecedesWithin}
 use Rattle.ccsl_ast.specs.declared.definition.Param.{Param}
 use Rattle.ccsl_ast.specs.Trees.{Expression, EName, ECall, ENever, EBinary, EDelay, EAwait, EFilter, EDelayed, EIf, Line, LDefine, LConstraint, LCall, SLine, SClocks, SLineOf, PlainMember, PlainDefinition, DRelation, DGroup, PlainFile}
 use Rattle.ccsl_grammar.specs.Terminals.{Terminal, word, symbol, name, number, quoted}
@@ -68,9 +70,13 @@ bare_expression (EFilter a m) = EFilter (bare_expression a) (bare_wterm m)
 bare_expression (EDelayed a at n d) = EDelayed (bare_expression a) 0 n (bare_expression d)
 bare_expression (EIf q a d) = EIf (bare_test q) (bare_expression a) (bare_expression d)
 
+abbrev pub bare_relop : Relation → Relation
+bare_relop (PrecedesWithin at n) = PrecedesWithin 0 n
+bare_relop r = r
+
 abbrev pub bare_line : Line → Line
 bare_line (LDefine x e) = LDefine (bare_spot x) (bare_expression e)
-bare_line (LConstraint a r b) = LConstraint (bare_spot a) r (bare_spot b)
+bare_line (LConstraint a r b) = LConstraint (bare_spot a) (bare_relop r) (bare_spot b)
 bare_line (LCall x args) = LCall (bare_spot x) (map bare_arg args)
 
 abbrev pub bare_sline : SLine → SLine

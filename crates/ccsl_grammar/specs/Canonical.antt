@@ -1,54 +1,81 @@
--- The derivation of the canonical text: parentheses stand round an operand that has an operator or an if, and nowhere else.
-use Rattle.std.specs.Prelude.{List, [], ◌∷◌, map}
+-- THE LINES OF THE CANONICAL TEXT of a file, as terminals. Parentheses stand round an operand that has an operator or an if,
+-- and nowhere else.
+use Rattle.std.specs.Prelude.{Bool, true, false, List, [], ◌∷◌, ◌++◌, map, if◌then◌else◌}
+use Rattle.std.specs.List.{flat_map}
+use Rattle.ccsl_base.specs.declared.reserved.Reserved.TheVariants as w
+use Rattle.ccsl_ast.specs.declared.spot.Spot.{Spot}
+use Rattle.ccsl_ast.specs.declared.definition.Param.{Param}
 use Rattle.ccsl_ast.specs.Trees.{Expression, EName, ECall, ENever, EBinary, EDelay, EAwait, EFilter, EDelayed, EIf, Line, LDefine, LConstraint, LCall, SLine, SClocks, SLineOf, PlainMember, PlainDefinition, DRelation, DGroup, PlainFile}
-use Rattle.ccsl_grammar.specs.Terminals.{Terminal}
-use Rattle.ccsl_grammar.specs.Grammar.{Expr, alone, binary, delay, await, filter, delayed, choice, Operand, named, called, never, parens, Rline, define, constrain, call, Sline, clocks, line, Member, Definition, relation, group, Derivation, file_spelled}
+use Rattle.ccsl_ast.specs.Depth.{stands_in_parens}
+use Rattle.ccsl_grammar.specs.Terminals.{Terminal, word, name, number}
+use Rattle.ccsl_grammar.specs.Grammar.{opening, closing, semicolon, equals, left_brace, right_brace, list_spelled, term_spelled, wterm_spelled, test_spelled, args_spelled, params_spelled, relop_spelled, binop_spelled, clock_spelled}
 
-abbrev mutual
-  pub expr_of : Expression → Expr
-  expr_of (EName x) = alone (named x)
-  expr_of (ECall x args) = alone (called x args)
-  expr_of ENever = alone never
-  expr_of (EBinary op a d) = binary op (operand_of a) (operand_of d)
-  expr_of (EDelay a m) = delay (operand_of a) m
-  expr_of (EAwait a m) = await (operand_of a) m
-  expr_of (EFilter a m) = filter (operand_of a) m
-  expr_of (EDelayed a at n d) = delayed (operand_of a) at n (operand_of d)
-  expr_of (EIf q a d) = choice q (expr_of a) (expr_of d)
+-- an operand, where ts are the terminals of its expression
+abbrev pub operand_tokens : Expression → List Terminal → List Terminal
+operand_tokens e ts = if stands_in_parens e then opening ∷ (ts ++ closing ∷ []) else ts
 
-  pub operand_of : Expression → Operand
-  operand_of (EName x) = named x
-  operand_of (ECall x args) = called x args
-  operand_of ENever = never
-  operand_of (EBinary op a d) = parens (binary op (operand_of a) (operand_of d))
-  operand_of (EDelay a m) = parens (delay (operand_of a) m)
-  operand_of (EAwait a m) = parens (await (operand_of a) m)
-  operand_of (EFilter a m) = parens (filter (operand_of a) m)
-  operand_of (EDelayed a at n d) = parens (delayed (operand_of a) at n (operand_of d))
-  operand_of (EIf q a d) = parens (choice q (expr_of a) (expr_of d))
+abbrev pub expr_tokens : Expression → List Terminal
+expr_tokens (EName x) = name x ∷ []
+expr_tokens (ECall x args) = name x ∷ opening ∷ (args_spelled args ++ closing ∷ [])
+expr_tokens ENever = word w.Never ∷ []
+expr_tokens (EBinary op a d) = operand_tokens a (expr_tokens a) ++ (binop_spelled op ++ operand_tokens d (expr_tokens d))
+expr_tokens (EDelay a m) = operand_tokens a (expr_tokens a) ++ word w.Delay ∷ term_spelled m
+expr_tokens (EAwait a m) = operand_tokens a (expr_tokens a) ++ word w.Await ∷ term_spelled m
+expr_tokens (EFilter a m) = operand_tokens a (expr_tokens a) ++ word w.Filter ∷ wterm_spelled m
+expr_tokens (EDelayed a at n d) =
+    operand_tokens a (expr_tokens a) ++ word w.Delayed ∷ number at n ∷ word w.On ∷ operand_tokens d (expr_tokens d)
+expr_tokens (EIf q a d) = word w.If ∷ (test_spelled q ++ word w.Use ∷ (expr_tokens a ++ word w.Else ∷ expr_tokens d))
 
-abbrev pub rline_of : Line → Rline
-rline_of (LDefine x e) = define x (expr_of e)
-rline_of (LConstraint a r b) = constrain a r b
-rline_of (LCall x args) = call x args
+abbrev pub rline_tokens : Line → List Terminal
+rline_tokens (LDefine x e) = word w.Define ∷ name x ∷ equals ∷ (expr_tokens e ++ semicolon ∷ [])
+rline_tokens (LConstraint a r b) = name a ∷ (relop_spelled r ++ name b ∷ semicolon ∷ [])
+rline_tokens (LCall x args) = name x ∷ opening ∷ (args_spelled args ++ closing ∷ semicolon ∷ [])
 
--- a clock line has at least one clock, a relation a line and a group a member; what one without would be does not matter
-abbrev pub sline_of : SLine → Sline
-sline_of (SClocks []) = clocks (record { at = 0; name = [] }) []
-sline_of (SClocks (x ∷ xs)) = clocks x xs
-sline_of (SLineOf l) = line (rline_of l)
+abbrev pub sline_tokens : SLine → List Terminal
+sline_tokens (SClocks xs) = word w.Clock ∷ (list_spelled clock_spelled xs ++ semicolon ∷ [])
+sline_tokens (SLineOf l) = rline_tokens l
 
-abbrev pub member_of : PlainMember → Member
-member_of m = record { name = m.name; params = m.params; body = expr_of m.body }
+abbrev pub head_tokens : Spot → List Param → List Terminal
+head_tokens x params = word w.Relation ∷ name x ∷ opening ∷ (params_spelled params ++ closing ∷ left_brace ∷ [])
 
-abbrev pub definition_of : PlainDefinition → Definition
-definition_of (DRelation x params []) = relation x params (call x []) []
-definition_of (DRelation x params (l ∷ ls)) = relation x params (rline_of l) (map rline_of ls)
-definition_of (DGroup []) = group (record { name = record { at = 0; name = [] }; params = []; body = alone never }) []
-definition_of (DGroup (m ∷ ms)) = group (member_of m) (map member_of ms)
+abbrev pub member_tokens : PlainMember → List Terminal
+member_tokens m = name m.name ∷ opening ∷ (params_spelled m.params ++ closing ∷ equals ∷ expr_tokens m.body)
 
-abbrev pub file_of : PlainFile → Derivation
-file_of f = record { at = 0; definitions = map definition_of f.definitions; lines = map sline_of f.lines }
+abbrev pub further_tokens : PlainMember → List Terminal
+further_tokens m = word w.And ∷ member_tokens m
+
+abbrev pub members_tokens : List PlainMember → List Terminal
+members_tokens [] = []
+members_tokens (m ∷ ms) = member_tokens m ++ flat_map further_tokens ms
+
+-- ## Lines
+
+-- a line of the text: whether it stands in a body, and its terminals
+pub record TextLine : Type 0 where
+  pub inside : Bool
+  pub tokens : List Terminal
+
+abbrev pub outer : List Terminal → TextLine
+outer ts = record { inside = false; tokens = ts }
+
+abbrev pub inner : List Terminal → TextLine
+inner ts = record { inside = true; tokens = ts }
+
+-- the lines of a body, and its closing brace on a line of its own
+abbrev pub body_lines : {A : Type 0} → (A → List Terminal) → List A → List TextLine
+body_lines tokens ls = map (λ l. inner (tokens l)) ls ++ outer (right_brace ∷ []) ∷ []
+
+-- a relation has its head line and its body; a group is one line
+abbrev pub definition_lines : PlainDefinition → List TextLine
+definition_lines (DRelation x params lines) = outer (head_tokens x params) ∷ body_lines rline_tokens lines
+definition_lines (DGroup members) = outer (word w.Expression ∷ (members_tokens members ++ semicolon ∷ [])) ∷ []
+
+abbrev pub system_lines : List SLine → List TextLine
+system_lines lines = outer (word w.System ∷ left_brace ∷ []) ∷ body_lines sline_tokens lines
+
+-- the first statement, the definitions, the system
+abbrev pub file_lines : PlainFile → List TextLine
+file_lines f = outer (word w.Ccsl ∷ number 0 f.version ∷ semicolon ∷ []) ∷ (flat_map definition_lines f.definitions ++ system_lines f.lines)
 
 abbrev pub canonical_terminals : PlainFile → List Terminal
-canonical_terminals f = file_spelled (file_of f)
+canonical_terminals f = flat_map (λ l. l.tokens) (file_lines f)

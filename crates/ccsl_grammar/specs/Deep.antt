@@ -1,13 +1,12 @@
 -- Levels. The expression of a define or of a member has level 1; the expression in parentheses and each branch of an if have
 -- a level one greater than the expression in which they stand.
-use Rattle.std.specs.Prelude.{ℕ, zero, suc, max, List, [], ◌∷◌, ◌++◌, map, Option, Some, None}
+use Rattle.std.specs.Prelude.{ℕ, zero, suc, Bool, List, [], ◌∷◌, ◌++◌, Option, Some, None}
 use Rattle.std.specs.List.{flat_map}
-use Rattle.ccsl_lex.specs.declared.reserved.Reserved.TheVariants as w
-use Rattle.ccsl_ast.specs.Depth.{greatest}
+use Rattle.ccsl_base.specs.declared.reserved.Reserved.TheVariants as w
 use Rattle.ccsl_grammar.specs.Terminals.{Terminal, word, number}
 use Rattle.ccsl_grammar.specs.Grammar.{closing, semicolon, right_brace, binop_spelled, term_spelled, wterm_spelled, Expr, alone, binary, delay, await, filter, delayed, choice, Operand, named, called, never, parens, expr_spelled, operand_spelled, Rline, define, constrain, call, rline_spelled, Sline, clocks, line, sline_spelled, Member, further_member, Definition, relation, group, definition_spelled, Derivation, system_spelled}
 
--- ---- the first expression that stands too deep, as the terminals from it on
+-- The first expression that stands too deep, as the terminals from it on; nothing stands too deep where there is none.
 --     room     how many levels are left
 --     after    the terminals behind the derivation
 
@@ -16,10 +15,10 @@ or_else None y = y
 or_else (Some x) y = Some x
 
 abbrev mutual
-  pub expr_deep : ℕ → Expr → List Terminal → Option (List Terminal)
+  pub expr_deep : {two : Bool} → ℕ → Expr two → List Terminal → Option (List Terminal)
   expr_deep zero e after = Some (expr_spelled e ++ after)
   expr_deep (suc room) (alone o) after = operand_deep room o after
-  expr_deep (suc room) (binary op a d) after =
+  expr_deep (suc room) (binary op v a d) after =
       or_else (operand_deep room a (binop_spelled op ++ (operand_spelled d ++ after))) (operand_deep room d after)
   expr_deep (suc room) (delay a m) after = operand_deep room a (word w.Delay ∷ (term_spelled m ++ after))
   expr_deep (suc room) (await a m) after = operand_deep room a (word w.Await ∷ (term_spelled m ++ after))
@@ -29,7 +28,7 @@ abbrev mutual
   expr_deep (suc room) (choice q a d) after =
       or_else (expr_deep room a (word w.Else ∷ (expr_spelled d ++ after))) (expr_deep room d after)
 
-  pub operand_deep : ℕ → Operand → List Terminal → Option (List Terminal)
+  pub operand_deep : {two : Bool} → ℕ → Operand two → List Terminal → Option (List Terminal)
   operand_deep room (named x) after = None
   operand_deep room (called x args) after = None
   operand_deep room never after = None
@@ -41,19 +40,19 @@ abbrev pub all_deep : {C : Type 0} (spelled : C → List Terminal) (deep : C →
 all_deep spelled deep [] after = None
 all_deep spelled deep (c ∷ cs) after = or_else (deep c (flat_map spelled cs ++ after)) (all_deep spelled deep cs after)
 
-abbrev pub rline_deep : ℕ → Rline → List Terminal → Option (List Terminal)
+abbrev pub rline_deep : {two : Bool} → ℕ → Rline two → List Terminal → Option (List Terminal)
 rline_deep room (define x e) after = expr_deep room e (semicolon ∷ after)
-rline_deep room (constrain a r b) after = None
+rline_deep room (constrain a r v b) after = None
 rline_deep room (call x args) after = None
 
-abbrev pub sline_deep : ℕ → Sline → List Terminal → Option (List Terminal)
+abbrev pub sline_deep : {two : Bool} → ℕ → Sline two → List Terminal → Option (List Terminal)
 sline_deep room (clocks x xs) after = None
 sline_deep room (line l) after = rline_deep room l after
 
-abbrev pub member_deep : ℕ → Member → List Terminal → Option (List Terminal)
+abbrev pub member_deep : {two : Bool} → ℕ → Member two → List Terminal → Option (List Terminal)
 member_deep room m after = expr_deep room m.body after
 
-abbrev pub definition_deep : ℕ → Definition → List Terminal → Option (List Terminal)
+abbrev pub definition_deep : {two : Bool} → ℕ → Definition two → List Terminal → Option (List Terminal)
 definition_deep room (relation x params l ls) after =
     or_else (rline_deep room l (flat_map rline_spelled ls ++ right_brace ∷ after)) (all_deep rline_spelled (rline_deep room) ls (right_brace ∷ after))
 definition_deep room (group m ms) after =
@@ -63,40 +62,3 @@ abbrev pub file_deep : ℕ → Derivation → List Terminal → Option (List Ter
 file_deep room d after =
     or_else (all_deep definition_spelled (definition_deep room) d.definitions (system_spelled d.lines ++ after))
     (all_deep sline_spelled (sline_deep room) d.lines (right_brace ∷ after))
-
--- ---- the depth of a derivation: the greatest level of an expression in it
-
-abbrev mutual
-  pub expr_depth : Expr → ℕ
-  expr_depth (alone o) = suc (operand_depth o)
-  expr_depth (binary op a d) = suc (max (operand_depth a) (operand_depth d))
-  expr_depth (delay a m) = suc (operand_depth a)
-  expr_depth (await a m) = suc (operand_depth a)
-  expr_depth (filter a m) = suc (operand_depth a)
-  expr_depth (delayed a at n d) = suc (max (operand_depth a) (operand_depth d))
-  expr_depth (choice q a d) = suc (max (expr_depth a) (expr_depth d))
-
-  pub operand_depth : Operand → ℕ
-  operand_depth (named x) = 0
-  operand_depth (called x args) = 0
-  operand_depth never = 0
-  operand_depth (parens e) = expr_depth e
-
-abbrev pub rline_depth : Rline → ℕ
-rline_depth (define x e) = expr_depth e
-rline_depth (constrain a r b) = 0
-rline_depth (call x args) = 0
-
-abbrev pub sline_depth : Sline → ℕ
-sline_depth (clocks x xs) = 0
-sline_depth (line l) = rline_depth l
-
-abbrev pub member_depth : Member → ℕ
-member_depth m = expr_depth m.body
-
-abbrev pub definition_depth : Definition → ℕ
-definition_depth (relation x params l ls) = greatest (map rline_depth (l ∷ ls))
-definition_depth (group m ms) = greatest (map member_depth (m ∷ ms))
-
-abbrev pub derivation_depth : Derivation → ℕ
-derivation_depth d = max (greatest (map definition_depth d.definitions)) (greatest (map sline_depth d.lines))

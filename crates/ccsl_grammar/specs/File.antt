@@ -1,9 +1,9 @@
 -- What is in the grammar, and where a list of terminals leaves it.
-use Rattle.std.specs.Prelude.{◌≡◌, ℕ, ◌≤◌, List, [], ◌∷◌, ◌++◌, Some}
+use Rattle.std.specs.Prelude.{◌≡◌, ℕ, List, [], ◌∷◌, ◌++◌, Some, None}
 use Rattle.ccsl_ast.specs.Trees.{PlainFile}
 use Rattle.ccsl_grammar.specs.Terminals.{Terminal}
 use Rattle.ccsl_grammar.specs.Grammar.{Derivation, file_spelled, file_tree}
-use Rattle.ccsl_grammar.specs.Deep.{file_deep, derivation_depth}
+use Rattle.ccsl_grammar.specs.Deep.{file_deep}
 use Rattle.ccsl_grammar.specs.Reader.{no_syntax, too_deep, Reply, took, stopped}
 
 -- THE GRAMMAR AS A RELATION: these terminals have this tree
@@ -12,12 +12,12 @@ pub record IsFile (ts : List Terminal) (f : PlainFile) : Type 0 where
   pub spelled : file_spelled derivation ≡ ts
   pub tree : file_tree derivation ≡ f
 
--- these terminals have this tree, and no expression of theirs has a level above room
+-- these terminals have this tree, and none of their expressions has a level above room
 pub record Parses (room : ℕ) (ts : List Terminal) (f : PlainFile) : Type 0 where
   pub derivation : Derivation
   pub spelled : file_spelled derivation ≡ ts
   pub tree : file_tree derivation ≡ f
-  pub depth : derivation_depth derivation ≤ room
+  pub none_deep : file_deep room derivation [] ≡ None
 
 -- these terminals can be continued to a file
 pub record CanGoOn (front : List Terminal) : Type 0 where

@@ -1,8 +1,10 @@
--- THE GRAMMAR of a specification's text, version 1. Braces mean any number of times, brackets at most once.
--- A derivation has one constructor for each production, `.._spelled` gives the terminals that it derives, and `.._tree` its tree.
-use Rattle.std.specs.Prelude.{ℕ, List, [], ◌∷◌, ◌++◌, map}
+-- THE GRAMMAR of a specification's text. Braces mean any number of times, brackets at most once.
+-- A derivation has one constructor for each production, `.._spelled` gives the terminals that it derives, and `.._tree` its
+-- tree. The forms of version 2, `upto weakly` and `precedes within`, are there only where the version is 2.
+--     two    whether the version is 2
+use Rattle.std.specs.Prelude.{ℕ, Bool, List, [], ◌∷◌, ◌++◌, map, if◌then◌else◌, IsTrue}
 use Rattle.std.specs.List.{flat_map}
-use Rattle.ccsl_lex.specs.declared.reserved.Reserved.TheVariants as w
+use Rattle.ccsl_base.specs.declared.reserved.Reserved.TheVariants as w
 use Rattle.ccsl_ast.specs.declared.spot.Spot.{Spot}
 use Rattle.ccsl_ast.specs.declared.term.Sign.{Sign}
 use Rattle.ccsl_ast.specs.declared.term.Sign.TheVariants.{Plus, Minus}
@@ -23,6 +25,7 @@ use Rattle.ccsl_ast.specs.declared.definition.Kind.{Kind}
 use Rattle.ccsl_ast.specs.declared.definition.Kind.TheVariants as kind
 use Rattle.ccsl_ast.specs.declared.definition.Param.{Param}
 use Rattle.ccsl_ast.specs.Trees.{Expression, EName, ECall, ENever, EBinary, EDelay, EAwait, EFilter, EDelayed, EIf, Line, LDefine, LConstraint, LCall, SLine, SClocks, SLineOf, PlainMember, PlainDefinition, DRelation, DGroup, PlainFile}
+use Rattle.ccsl_ast.specs.Kept.{binop_in, relop_in}
 use Rattle.ccsl_grammar.specs.Terminals.{Terminal, word, symbol, name, number, quoted}
 
 -- ( ) + , - ; < = { }
@@ -119,14 +122,17 @@ abbrev pub params_spelled : List Param → List Terminal
 params_spelled params = list_spelled param_spelled params
 
 -- relop = "subclock" | "coincides" | "excludes" | "precedes" | "precedes" "weakly"
+--       | "precedes" "within" NUM, in version 2
 abbrev pub relop_spelled : Relation → List Terminal
 relop_spelled rel.Subclock = word w.Subclock ∷ []
 relop_spelled rel.Coincides = word w.Coincides ∷ []
 relop_spelled rel.Excludes = word w.Excludes ∷ []
 relop_spelled rel.Precedes = word w.Precedes ∷ []
 relop_spelled rel.PrecedesWeakly = word w.Precedes ∷ word w.Weakly ∷ []
+relop_spelled (rel.PrecedesWithin at n) = word w.Precedes ∷ word w.Within ∷ number at n ∷ []
 
--- binop = "union" | "inter" | "minus" | "inf" | "sup" | "upto" | "then"; "sampled" [ "weakly" ] "on" stands between operands too
+-- binop = "union" | "inter" | "minus" | "inf" | "sup" | "upto" | "then" | "sampled" [ "weakly" ] "on"
+--       | "upto" "weakly", in version 2
 abbrev pub binop_spelled : BinaryOp → List Terminal
 binop_spelled op.Union = word w.Union ∷ []
 binop_spelled op.Inter = word w.Inter ∷ []
@@ -134,6 +140,7 @@ binop_spelled op.Minus = word w.Minus ∷ []
 binop_spelled op.Inf = word w.Inf ∷ []
 binop_spelled op.Sup = word w.Sup ∷ []
 binop_spelled op.Upto = word w.Upto ∷ []
+binop_spelled op.UptoWeakly = word w.Upto ∷ word w.Weakly ∷ []
 binop_spelled op.Then = word w.Then ∷ []
 binop_spelled op.Sampled = word w.Sampled ∷ word w.On ∷ []
 binop_spelled op.SampledWeakly = word w.Sampled ∷ word w.Weakly ∷ word w.On ∷ []
@@ -142,51 +149,50 @@ binop_spelled op.SampledWeakly = word w.Sampled ∷ word w.Weakly ∷ word w.On 
 
 mutual
   -- expr = operand | operand binop operand | operand ( "delay" | "await" ) term | operand "filter" wterm
-  --      | operand "sampled" [ "weakly" ] "on" operand | operand "delayed" NUM "on" operand
-  --      | "if" test "use" expr "else" expr
-  pub data Expr : Type 0 where
-    alone : Operand → Expr
-    binary : BinaryOp → Operand → Operand → Expr
-    delay : Operand → Term → Expr
-    await : Operand → Term → Expr
-    filter : Operand → WordTerm → Expr
-    delayed : Operand → ℕ → ℕ → Operand → Expr
-    choice : Test → Expr → Expr → Expr
+  --      | operand "delayed" NUM "on" operand | "if" test "use" expr "else" expr
+  pub data Expr (two : Bool) : Type 0 where
+    alone : Operand two → Expr two
+    binary : (op : BinaryOp) → IsTrue (binop_in two op) → Operand two → Operand two → Expr two
+    delay : Operand two → Term → Expr two
+    await : Operand two → Term → Expr two
+    filter : Operand two → WordTerm → Expr two
+    delayed : Operand two → ℕ → ℕ → Operand two → Expr two
+    choice : Test → Expr two → Expr two → Expr two
 
   -- operand = NAME | NAME "(" [ args ] ")" | "never" | "(" expr ")"
-  pub data Operand : Type 0 where
-    named : Spot → Operand
-    called : Spot → List Argument → Operand
-    never : Operand
-    parens : Expr → Operand
+  pub data Operand (two : Bool) : Type 0 where
+    named : Spot → Operand two
+    called : Spot → List Argument → Operand two
+    never : Operand two
+    parens : Expr two → Operand two
 
 abbrev mutual
-  pub expr_spelled : Expr → List Terminal
+  pub expr_spelled : {two : Bool} → Expr two → List Terminal
   expr_spelled (alone o) = operand_spelled o
-  expr_spelled (binary op a d) = operand_spelled a ++ (binop_spelled op ++ operand_spelled d)
+  expr_spelled (binary op v a d) = operand_spelled a ++ (binop_spelled op ++ operand_spelled d)
   expr_spelled (delay a m) = operand_spelled a ++ word w.Delay ∷ term_spelled m
   expr_spelled (await a m) = operand_spelled a ++ word w.Await ∷ term_spelled m
   expr_spelled (filter a m) = operand_spelled a ++ word w.Filter ∷ wterm_spelled m
   expr_spelled (delayed a at n d) = operand_spelled a ++ word w.Delayed ∷ number at n ∷ word w.On ∷ operand_spelled d
   expr_spelled (choice q a d) = word w.If ∷ (test_spelled q ++ word w.Use ∷ (expr_spelled a ++ word w.Else ∷ expr_spelled d))
 
-  pub operand_spelled : Operand → List Terminal
+  pub operand_spelled : {two : Bool} → Operand two → List Terminal
   operand_spelled (named x) = name x ∷ []
   operand_spelled (called x args) = name x ∷ opening ∷ (args_spelled args ++ closing ∷ [])
   operand_spelled never = word w.Never ∷ []
   operand_spelled (parens e) = opening ∷ (expr_spelled e ++ closing ∷ [])
 
 abbrev mutual
-  pub expr_tree : Expr → Expression
+  pub expr_tree : {two : Bool} → Expr two → Expression
   expr_tree (alone o) = operand_tree o
-  expr_tree (binary op a d) = EBinary op (operand_tree a) (operand_tree d)
+  expr_tree (binary op v a d) = EBinary op (operand_tree a) (operand_tree d)
   expr_tree (delay a m) = EDelay (operand_tree a) m
   expr_tree (await a m) = EAwait (operand_tree a) m
   expr_tree (filter a m) = EFilter (operand_tree a) m
   expr_tree (delayed a at n d) = EDelayed (operand_tree a) at n (operand_tree d)
   expr_tree (choice q a d) = EIf q (expr_tree a) (expr_tree d)
 
-  pub operand_tree : Operand → Expression
+  pub operand_tree : {two : Bool} → Operand two → Expression
   operand_tree (named x) = EName x
   operand_tree (called x args) = ECall x args
   operand_tree never = ENever
@@ -195,83 +201,94 @@ abbrev mutual
 -- ---- lines
 
 -- rline = "define" NAME "=" expr ";" | NAME relop NAME ";" | NAME "(" [ args ] ")" ";"
-pub data Rline : Type 0 where
-  define : Spot → Expr → Rline
-  constrain : Spot → Relation → Spot → Rline
-  call : Spot → List Argument → Rline
+pub data Rline (two : Bool) : Type 0 where
+  define : Spot → Expr two → Rline two
+  constrain : Spot → (r : Relation) → IsTrue (relop_in two r) → Spot → Rline two
+  call : Spot → List Argument → Rline two
 
-abbrev pub rline_spelled : Rline → List Terminal
+abbrev pub rline_spelled : {two : Bool} → Rline two → List Terminal
 rline_spelled (define x e) = word w.Define ∷ name x ∷ equals ∷ (expr_spelled e ++ semicolon ∷ [])
-rline_spelled (constrain a r b) = name a ∷ (relop_spelled r ++ name b ∷ semicolon ∷ [])
+rline_spelled (constrain a r v b) = name a ∷ (relop_spelled r ++ name b ∷ semicolon ∷ [])
 rline_spelled (call x args) = name x ∷ opening ∷ (args_spelled args ++ closing ∷ semicolon ∷ [])
 
-abbrev pub rline_tree : Rline → Line
+abbrev pub rline_tree : {two : Bool} → Rline two → Line
 rline_tree (define x e) = LDefine x (expr_tree e)
-rline_tree (constrain a r b) = LConstraint a r b
+rline_tree (constrain a r v b) = LConstraint a r b
 rline_tree (call x args) = LCall x args
 
 -- sline = "clock" NAME { "," NAME } ";" | rline
-pub data Sline : Type 0 where
-  clocks : Spot → List Spot → Sline
-  line : Rline → Sline
+pub data Sline (two : Bool) : Type 0 where
+  clocks : Spot → List Spot → Sline two
+  line : Rline two → Sline two
 
 abbrev pub clock_spelled : Spot → List Terminal
 clock_spelled x = name x ∷ []
 
-abbrev pub sline_spelled : Sline → List Terminal
+abbrev pub sline_spelled : {two : Bool} → Sline two → List Terminal
 sline_spelled (clocks x xs) = word w.Clock ∷ name x ∷ (flat_map (further_spelled clock_spelled) xs ++ semicolon ∷ [])
 sline_spelled (line l) = rline_spelled l
 
-abbrev pub sline_tree : Sline → SLine
+abbrev pub sline_tree : {two : Bool} → Sline two → SLine
 sline_tree (clocks x xs) = SClocks (x ∷ xs)
 sline_tree (line l) = SLineOf (rline_tree l)
 
 -- ---- definitions
 
 -- member = NAME "(" [ params ] ")" "=" expr
-pub record Member : Type 0 where
+pub record Member (two : Bool) : Type 0 where
   pub name : Spot
   pub params : List Param
-  pub body : Expr
+  pub body : Expr two
 
-abbrev pub member_spelled : Member → List Terminal
+abbrev pub member_spelled : {two : Bool} → Member two → List Terminal
 member_spelled m = name m.name ∷ opening ∷ (params_spelled m.params ++ closing ∷ equals ∷ expr_spelled m.body)
 
-abbrev pub further_member : Member → List Terminal
+abbrev pub further_member : {two : Bool} → Member two → List Terminal
 further_member m = word w.And ∷ member_spelled m
 
-abbrev pub member_tree : Member → PlainMember
+abbrev pub member_tree : {two : Bool} → Member two → PlainMember
 member_tree m = record { name = m.name; params = m.params; body = expr_tree m.body }
 
 -- relation = "relation" NAME "(" [ params ] ")" "{" rline { rline } "}"
 -- group = "expression" member { "and" member } ";"
-pub data Definition : Type 0 where
-  relation : Spot → List Param → Rline → List Rline → Definition
-  group : Member → List Member → Definition
+pub data Definition (two : Bool) : Type 0 where
+  relation : Spot → List Param → Rline two → List (Rline two) → Definition two
+  group : Member two → List (Member two) → Definition two
 
-abbrev pub definition_spelled : Definition → List Terminal
+abbrev pub definition_spelled : {two : Bool} → Definition two → List Terminal
 definition_spelled (relation x params l ls) =
-    word w.Relation ∷ name x ∷ opening ∷ (params_spelled params ++ closing ∷ left_brace ∷ (rline_spelled l ++ (flat_map rline_spelled ls ++ right_brace ∷ [])))
+    word w.Relation ∷ name x ∷ opening
+    ∷ (params_spelled params ++ closing ∷ left_brace ∷ (rline_spelled l ++ (flat_map rline_spelled ls ++ right_brace ∷ [])))
 definition_spelled (group m ms) = word w.Expression ∷ (member_spelled m ++ (flat_map further_member ms ++ semicolon ∷ []))
 
-abbrev pub definition_tree : Definition → PlainDefinition
+abbrev pub definition_tree : {two : Bool} → Definition two → PlainDefinition
 definition_tree (relation x params l ls) = DRelation x params (rline_tree l ∷ map rline_tree ls)
 definition_tree (group m ms) = DGroup (member_tree m ∷ map member_tree ms)
 
 -- ---- files
 
--- file = "ccsl" NUM ";" { relation | group } system, where the value of NUM is 1
+-- file = "ccsl" NUM ";" { relation | group } system, where the value of NUM, the version, is 1 or 2
 -- system = "system" "{" { sline } "}"
 pub record Derivation : Type 0 where
   pub at : ℕ  -- the place of NUM
-  pub definitions : List Definition
-  pub lines : List Sline
+  pub two : Bool
+  pub definitions : List (Definition two)
+  pub lines : List (Sline two)
 
-abbrev pub system_spelled : List Sline → List Terminal
+abbrev pub version : Bool → ℕ
+version two = if two then 2 else 1
+
+abbrev pub system_spelled : {two : Bool} → List (Sline two) → List Terminal
 system_spelled ls = word w.System ∷ left_brace ∷ (flat_map sline_spelled ls ++ right_brace ∷ [])
 
 abbrev pub file_spelled : Derivation → List Terminal
-file_spelled d = word w.Ccsl ∷ number d.at 1 ∷ semicolon ∷ (flat_map definition_spelled d.definitions ++ system_spelled d.lines)
+file_spelled d =
+    word w.Ccsl ∷ number d.at (version d.two) ∷ semicolon
+    ∷ (flat_map definition_spelled d.definitions ++ system_spelled d.lines)
 
 abbrev pub file_tree : Derivation → PlainFile
-file_tree d = record { version = 1; definitions = map definition_tree d.definitions; lines = map sline_tree d.lines }
+file_tree d = record {
+  version = version d.two;
+  definitions = map definition_tree d.definitions;
+  lines = map sline_tree d.lines;
+}

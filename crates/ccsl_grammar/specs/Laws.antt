@@ -5,12 +5,10 @@ use Rattle.ccsl_ast.specs.Trees.{PlainFile}
 use Rattle.ccsl_ast.specs.Depth.{file_depth}
 use Rattle.ccsl_ast.specs.Kept.{file_kept}
 use Rattle.ccsl_grammar.specs.Terminals.{Terminal, terminals}
-use Rattle.ccsl_grammar.specs.Grammar.{Derivation, file_tree}
-use Rattle.ccsl_grammar.specs.Deep.{derivation_depth}
 use Rattle.ccsl_grammar.specs.Reader.{Reply}
 use Rattle.ccsl_grammar.specs.Parser.{file_at}
 use Rattle.ccsl_grammar.specs.File.{IsFile, Parses, Verdict}
-use Rattle.ccsl_grammar.specs.Canonical.{file_of, canonical_terminals}
+use Rattle.ccsl_grammar.specs.Canonical.{canonical_terminals}
 use Rattle.ccsl_grammar.specs.Kept.{kept}
 use Rattle.ccsl_grammar.specs.Bare.{bares, bare_file}
 
@@ -26,13 +24,9 @@ ReaderIsRight = (room : ℕ) (ts : List Terminal) → Verdict room ts (file_at r
 abbrev pub OneVerdict : Type 0
 OneVerdict = (room : ℕ) (ts : List Terminal) (r : Reply PlainFile) → Verdict room ts r → file_at room ts ≡ r
 
--- the depth of a file is that of its canonical text
-abbrev pub CanonicalDepth : Type 0
-CanonicalDepth = (f : PlainFile) → IsTrue (file_kept f) → derivation_depth (file_of f) ≡ file_depth f
-
--- no text of a file is less deep
+-- no text of a file is less deep than the file
 abbrev pub LeastDepth : Type 0
-LeastDepth = (d : Derivation) → file_depth (file_tree d) ≤ derivation_depth d
+LeastDepth = (room : ℕ) (ts : List Terminal) (f : PlainFile) → Parses room ts f → file_depth f ≤ room
 
 -- what the tokens of a file keep, the file keeps
 abbrev pub FileKeeps : Type 0
@@ -42,12 +36,13 @@ FileKeeps = (ts : List Token) (f : PlainFile) → IsFile (terminals ts) f → Is
 abbrev pub CanonicalKeeps : Type 0
 CanonicalKeeps = (f : PlainFile) → IsTrue (file_kept f) → IsTrue (kept (canonical_terminals f))
 
--- the canonical terminals of a file have the tree that they were made from, and are not too deep
+-- the canonical terminals of a file have the tree that they were made from, and are no deeper than the file
 abbrev pub CanonicalParses : Type 0
-CanonicalParses = (f : PlainFile) → IsTrue (file_kept f) → file_depth f ≤ 128 → Parses 128 (canonical_terminals f) f
+CanonicalParses = (room : ℕ) (f : PlainFile) → IsTrue (file_kept f) → file_depth f ≤ room → Parses room (canonical_terminals f) f
 
--- terminals that are the canonical ones but for their places have a tree, not too deep, that is the file but for its places
+-- terminals that are the canonical ones but for their places have a tree that is the file but for its places,
+-- and are no deeper than the file
 abbrev pub CanonicalReadsBack : Type 0
-CanonicalReadsBack = (f : PlainFile) → IsTrue (file_kept f) → file_depth f ≤ 128
+CanonicalReadsBack = (room : ℕ) (f : PlainFile) → IsTrue (file_kept f) → file_depth f ≤ room
     → (ts : List Terminal) → bares ts ≡ bares (canonical_terminals f)
-    → (g : PlainFile) × Parses 128 ts g × (bare_file g ≡ bare_file f)
+    → (g : PlainFile) × Parses room ts g × (bare_file g ≡ bare_file f)

@@ -1,7 +1,9 @@
 -- The grammar read from the left, production by production, with the first fault.
-use Rattle.std.specs.Prelude.{ℕ, zero, suc, Bool, true, false, cond, List, [], ◌∷◌, Option, Some, None, is_some, ◌||◌, not, nat_eq}
-use Rattle.ccsl_lex.specs.declared.reserved.Reserved.{Reserved}
-use Rattle.ccsl_lex.specs.declared.reserved.Reserved.TheVariants as w
+--     two     whether the version is 2
+--     room    how many levels are left
+use Rattle.std.specs.Prelude.{ℕ, zero, suc, Bool, true, false, cond, List, [], ◌∷◌, Option, Some, None, is_some, ◌||◌, not, nat_eq, ◌&&◌}
+use Rattle.ccsl_base.specs.declared.reserved.Reserved.{Reserved}
+use Rattle.ccsl_base.specs.declared.reserved.Reserved.TheVariants as w
 use Rattle.ccsl_ast.specs.declared.spot.Spot.{Spot}
 use Rattle.ccsl_ast.specs.declared.term.Sign.{Sign}
 use Rattle.ccsl_ast.specs.declared.term.Sign.TheVariants.{Plus, Minus}
@@ -23,6 +25,7 @@ use Rattle.ccsl_ast.specs.declared.definition.Kind.TheVariants as kind
 use Rattle.ccsl_ast.specs.declared.definition.Param.{Param}
 use Rattle.ccsl_ast.specs.Trees.{Expression, EName, ECall, ENever, EBinary, EDelay, EAwait, EFilter, EDelayed, EIf, Line, LDefine, LConstraint, LCall, SLine, SClocks, SLineOf, PlainMember, PlainDefinition, DRelation, DGroup, PlainFile}
 use Rattle.ccsl_grammar.specs.Terminals.{Terminal, word, symbol, name, number, quoted, is_word, is_symbol, is_name, is_quoted}
+use Rattle.ccsl_grammar.specs.Grammar.{version}
 use Rattle.ccsl_grammar.specs.Reader.{no_syntax, too_deep, took, stopped, Reader, ◌>>=◌, ◌>>◌, given, accept, choose, many}
 
 -- ---- one terminal
@@ -150,22 +153,32 @@ relop_of (word w.Coincides) = Some rel.Coincides
 relop_of (word w.Excludes) = Some rel.Excludes
 relop_of _ = None
 
-unfoldable pub precedes_at : Reader Relation
-precedes_at = do
+-- a word that goes on a form of version 2
+abbrev pub goes_on_by : Bool → Reserved → Terminal → Bool
+goes_on_by two v t = is_word v t && two
+
+unfoldable pub within_at : Reader Relation
+within_at = do
+  word_at w.Within
+  n ← num_at
+  given (rel.PrecedesWithin n.0 n.1)
+
+unfoldable pub precedes_at : Bool → Reader Relation
+precedes_at two = do
   word_at w.Precedes
-  choose (is_word w.Weakly) (do word_at w.Weakly; given rel.PrecedesWeakly) (given rel.Precedes)
+  choose (is_word w.Weakly) (do word_at w.Weakly; given rel.PrecedesWeakly)
+      (choose (goes_on_by two w.Within) within_at (given rel.Precedes))
 
-unfoldable pub relop_at : Reader Relation
-relop_at = choose (is_word w.Precedes) precedes_at (accept relop_of)
+unfoldable pub relop_at : Bool → Reader Relation
+relop_at two = choose (is_word w.Precedes) (precedes_at two) (accept relop_of)
 
--- the operators of one word
+-- the operators of one word that no other begins
 abbrev pub binop_of : Terminal → Option BinaryOp
 binop_of (word w.Union) = Some op.Union
 binop_of (word w.Inter) = Some op.Inter
 binop_of (word w.Minus) = Some op.Minus
 binop_of (word w.Inf) = Some op.Inf
 binop_of (word w.Sup) = Some op.Sup
-binop_of (word w.Upto) = Some op.Upto
 binop_of (word w.Then) = Some op.Then
 binop_of _ = None
 
@@ -174,13 +187,38 @@ sampled_at = do
   word_at w.Sampled
   choose (is_word w.Weakly) (do word_at w.Weakly; word_at w.On; given op.SampledWeakly) (do word_at w.On; given op.Sampled)
 
-unfoldable pub binop_at : Reader BinaryOp
-binop_at = choose (is_word w.Sampled) sampled_at (accept binop_of)
+unfoldable pub upto_at : Bool → Reader BinaryOp
+upto_at two = do
+  word_at w.Upto
+  choose (goes_on_by two w.Weakly) (do word_at w.Weakly; given op.UptoWeakly) (given op.Upto)
+
+unfoldable pub binop_at : Bool → Reader BinaryOp
+binop_at two = choose (is_word w.Sampled) sampled_at (choose (is_word w.Upto) (upto_at two) (accept binop_of))
 
 abbrev pub is_binop : Terminal → Bool
-is_binop t = is_word w.Sampled t || is_some (binop_of t)
+is_binop t = is_word w.Sampled t || is_word w.Upto t || is_some (binop_of t)
 
 -- ---- expressions
+
+-- what may stand behind an operand, where no second operand does
+
+unfoldable pub delay_at : Expression → Reader Expression
+delay_at a = do
+  word_at w.Delay
+  m ← term_at
+  given (EDelay a m)
+
+unfoldable pub await_at : Expression → Reader Expression
+await_at a = do
+  word_at w.Await
+  m ← term_at
+  given (EAwait a m)
+
+unfoldable pub filter_at : Expression → Reader Expression
+filter_at a = do
+  word_at w.Filter
+  m ← wterm_at
+  given (EFilter a m)
 
 -- what stands behind an operand's name
 unfoldable pub named_at : Spot → Reader Expression
@@ -199,9 +237,9 @@ module _ (inner : Reader Expression) where
       choose is_name (do x ← name_at; named_at x)
       (choose (is_word w.Never) (do word_at w.Never; given ENever) parens_at)
 
-  unfoldable pub binary_at : Expression → Reader Expression
-  binary_at a = do
-    op ← binop_at
+  unfoldable pub binary_at : Bool → Expression → Reader Expression
+  binary_at two a = do
+    op ← binop_at two
     d ← operand_at
     given (EBinary op a d)
 
@@ -214,27 +252,32 @@ module _ (inner : Reader Expression) where
     given (EDelayed a n.0 n.1 d)
 
   -- what stands behind the first operand
-  unfoldable pub rest_at : Expression → Reader Expression
-  rest_at a =
-      choose is_binop (binary_at a)
-      (choose (is_word w.Delay) (do word_at w.Delay; m ← term_at; given (EDelay a m))
-      (choose (is_word w.Await) (do word_at w.Await; m ← term_at; given (EAwait a m))
-      (choose (is_word w.Filter) (do word_at w.Filter; m ← wterm_at; given (EFilter a m))
+  unfoldable pub rest_at : Bool → Expression → Reader Expression
+  rest_at two a =
+      choose is_binop (binary_at two a)
+      (choose (is_word w.Delay) (delay_at a)
+      (choose (is_word w.Await) (await_at a)
+      (choose (is_word w.Filter) (filter_at a)
       (choose (is_word w.Delayed) (delayed_at a)
       (given a)))))
 
-  unfoldable pub choice_at : Reader Expression
-  choice_at = do
-    word_at w.If
-    q ← test_at
+  -- what stands behind the test of an if
+  unfoldable pub branches_at : Test → Reader Expression
+  branches_at q = do
     word_at w.Use
     a ← inner
     word_at w.Else
     d ← inner
     given (EIf q a d)
 
-  unfoldable pub expr_with : Reader Expression
-  expr_with = choose (is_word w.If) choice_at (do a ← operand_at; rest_at a)
+  unfoldable pub choice_at : Reader Expression
+  choice_at = do
+    word_at w.If
+    q ← test_at
+    branches_at q
+
+  unfoldable pub expr_with : Bool → Reader Expression
+  expr_with two = choose (is_word w.If) choice_at (do a ← operand_at; rest_at two a)
 
 abbrev pub is_expr : Terminal → Bool
 is_expr t = is_name t || is_word w.Never t || is_symbol 40 t || is_word w.If t
@@ -243,19 +286,18 @@ is_expr t = is_name t || is_word w.Never t || is_symbol 40 t || is_word w.If t
 unfoldable pub no_room : Reader Expression
 no_room = choose is_expr (stopped too_deep) (stopped no_syntax)
 
--- an expression, where so many levels are left
-unfoldable pub expr_at : ℕ → Reader Expression
-expr_at zero = no_room
-expr_at (suc room) = expr_with (expr_at room)
+unfoldable pub expr_at : Bool → ℕ → Reader Expression
+expr_at two zero = no_room
+expr_at two (suc room) = expr_with (expr_at two room) two
 
 -- ---- lines
 
-unfoldable pub define_at : ℕ → Reader Line
-define_at room = do
+unfoldable pub define_at : Bool → ℕ → Reader Line
+define_at two room = do
   word_at w.Define
   x ← name_at
   symbol_at 61
-  e ← expr_at room
+  e ← expr_at two room
   symbol_at 59
   given (LDefine x e)
 
@@ -266,17 +308,17 @@ call_at x = do
   symbol_at 59
   given (LCall x args)
 
-unfoldable pub constraint_at : Spot → Reader Line
-constraint_at a = do
-  r ← relop_at
+unfoldable pub constraint_at : Bool → Spot → Reader Line
+constraint_at two a = do
+  r ← relop_at two
   b ← name_at
   symbol_at 59
   given (LConstraint a r b)
 
-unfoldable pub rline_at : ℕ → Reader Line
-rline_at room = choose (is_word w.Define) (define_at room) (do
+unfoldable pub rline_at : Bool → ℕ → Reader Line
+rline_at two room = choose (is_word w.Define) (define_at two room) (do
   x ← name_at
-  choose (is_symbol 40) (call_at x) (constraint_at x))
+  choose (is_symbol 40) (call_at x) (constraint_at two x))
 
 unfoldable pub clocks_at : Reader SLine
 clocks_at = do
@@ -286,73 +328,73 @@ clocks_at = do
   symbol_at 59
   given (SClocks (x ∷ xs))
 
-unfoldable pub sline_at : ℕ → Reader SLine
-sline_at room = choose (is_word w.Clock) clocks_at (do l ← rline_at room; given (SLineOf l))
+unfoldable pub sline_at : Bool → ℕ → Reader SLine
+sline_at two room = choose (is_word w.Clock) clocks_at (do l ← rline_at two room; given (SLineOf l))
 
 abbrev pub no_brace : Terminal → Bool
 no_brace t = not (is_symbol 125 t)
 
 -- ---- definitions
 
-unfoldable pub relation_at : ℕ → Reader PlainDefinition
-relation_at room = do
+unfoldable pub relation_at : Bool → ℕ → Reader PlainDefinition
+relation_at two room = do
   word_at w.Relation
   x ← name_at
   symbol_at 40
   params ← list_at param_at
   symbol_at 123
-  l ← rline_at room
-  ls ← many no_brace (rline_at room)
+  l ← rline_at two room
+  ls ← many no_brace (rline_at two room)
   symbol_at 125
   given (DRelation x params (l ∷ ls))
 
-unfoldable pub member_at : ℕ → Reader PlainMember
-member_at room = do
+unfoldable pub member_at : Bool → ℕ → Reader PlainMember
+member_at two room = do
   x ← name_at
   symbol_at 40
   params ← list_at param_at
   symbol_at 61
-  e ← expr_at room
+  e ← expr_at two room
   given (record { name = x; params = params; body = e })
 
-unfoldable pub further_member_at : ℕ → Reader PlainMember
-further_member_at room = do
+unfoldable pub further_member_at : Bool → ℕ → Reader PlainMember
+further_member_at two room = do
   word_at w.And
-  member_at room
+  member_at two room
 
-unfoldable pub group_at : ℕ → Reader PlainDefinition
-group_at room = do
+unfoldable pub group_at : Bool → ℕ → Reader PlainDefinition
+group_at two room = do
   word_at w.Expression
-  m ← member_at room
-  ms ← many (is_word w.And) (further_member_at room)
+  m ← member_at two room
+  ms ← many (is_word w.And) (further_member_at two room)
   symbol_at 59
   given (DGroup (m ∷ ms))
 
-unfoldable pub definition_at : ℕ → Reader PlainDefinition
-definition_at room = choose (is_word w.Relation) (relation_at room) (group_at room)
+unfoldable pub definition_at : Bool → ℕ → Reader PlainDefinition
+definition_at two room = choose (is_word w.Relation) (relation_at two room) (group_at two room)
 
 abbrev pub is_definition : Terminal → Bool
 is_definition t = is_word w.Relation t || is_word w.Expression t
 
 -- ---- files
 
--- the place of a number whose value is 1
-abbrev pub one_of : Terminal → Option ℕ
-one_of (number at n) = cond (nat_eq n 1) (Some at) None
-one_of _ = None
+-- which of the versions a number is
+abbrev pub version_of : Terminal → Option Bool
+version_of (number at n) = cond (nat_eq n 1) (Some false) (cond (nat_eq n 2) (Some true) None)
+version_of _ = None
 
-unfoldable pub version_at : Reader ℕ
+unfoldable pub version_at : Reader Bool
 version_at = do
   word_at w.Ccsl
-  at ← accept one_of
+  two ← accept version_of
   symbol_at 59
-  given at
+  given two
 
-unfoldable pub system_at : ℕ → Reader (List SLine)
-system_at room = do
+unfoldable pub system_at : Bool → ℕ → Reader (List SLine)
+system_at two room = do
   word_at w.System
   symbol_at 123
-  ls ← many no_brace (sline_at room)
+  ls ← many no_brace (sline_at two room)
   symbol_at 125
   given ls
 
@@ -363,7 +405,7 @@ ends v (t ∷ ts) = stopped no_syntax (t ∷ ts)
 
 unfoldable pub file_at : ℕ → Reader PlainFile
 file_at room = do
-  version_at
-  ds ← many is_definition (definition_at room)
-  ls ← system_at room
-  ends (record { version = 1; definitions = ds; lines = ls })
+  two ← version_at
+  ds ← many is_definition (definition_at two room)
+  ls ← system_at two room
+  ends (record { version = version two; definitions = ds; lines = ls })

@@ -1,6 +1,6 @@
 //! The laws of the grammar. Each function does nothing; its contract is the law.
 
-ghost use Rattle.ccsl_grammar.specs.Laws.{OneTree, ReaderIsRight, OneVerdict, CanonicalDepth, LeastDepth, FileKeeps, CanonicalKeeps, CanonicalParses, CanonicalReadsBack};
+ghost use Rattle.ccsl_grammar.specs.Laws.{OneTree, ReaderIsRight, OneVerdict, LeastDepth, FileKeeps, CanonicalKeeps, CanonicalParses, CanonicalReadsBack};
 
 /// A list of terminals has at most one tree, whatever its depth.
 pub fn one_tree()
@@ -16,11 +16,6 @@ pub fn reader_is_right()
 /// The grammar says one answer alone, so each answer comes exactly where its condition holds.
 pub fn one_verdict()
     ensures { OneVerdict }
-{}
-
-/// The depth of a file, as defined with the trees, is the nesting of its canonical text.
-pub fn canonical_depth()
-    ensures { CanonicalDepth }
 {}
 
 /// No text of a file is less deep than the file.
@@ -39,12 +34,12 @@ pub fn canonical_keeps()
     ensures { CanonicalKeeps }
 {}
 
-/// The canonical terminals of a file have the tree that they were made from, and no expression of theirs stands too deep.
+/// The canonical terminals of a file have the tree that they were made from, and are no deeper than the file.
 pub fn canonical_parses()
     ensures { CanonicalParses }
 {}
 
-/// Terminals that are the canonical ones but for their places have the same tree but for its places.
+/// Terminals that are the canonical ones but for their places have the same tree but for its places, and are no deeper.
 pub fn canonical_reads_back()
     ensures { CanonicalReadsBack }
 {}

@@ -4,14 +4,16 @@ use Rattle.std.specs.Prelude.{◌⊎◌}
 use Rattle.std.specs.List.{prefix_len}
 use Rattle.std.proofs.lemmas.Bool.{leb-true, leb-false}
 use Rattle.std.proofs.lemmas.Bool.Decides.{eqb_tells}
+use Rattle.ccsl_base.specs.declared.limits.TheConstants.{MAX_NAME_BYTES, MAX_NUMBER}
+use Rattle.ccsl_base.specs.Decimal.{decimal_value}
 use Rattle.ccsl_base.specs.Name.{is_letter, is_digit, is_inner}
-use Rattle.ccsl_lex.specs.declared.reserved.Reserved.{Reserved}
+use Rattle.ccsl_base.specs.declared.reserved.Reserved.{Reserved}
 use Rattle.ccsl_lex.specs.declared.token.TokenKind.{TokenKind}
 use Rattle.ccsl_lex.specs.declared.fault.LexFault.{LexFault}
 use Rattle.ccsl_lex.specs.declared.fault.LexFault.TheVariants.{BadByte, NameTooLong, NumberTooLarge, OpenText}
 use Rattle.ccsl_base.specs.Quoted.{is_quotable}
-use Rattle.ccsl_lex.specs.Words.{reserved}
-use Rattle.ccsl_lex.specs.Tokens.{starts, is_white, is_mark, is_remark, value, token_at, PlainToken, AreTokens, CutAt, is_bad, IsFirstFault}
+use Rattle.ccsl_base.specs.ReservedWords.{reserved}
+use Rattle.ccsl_lex.specs.Tokens.{starts, is_white, is_mark, is_remark, token_at, PlainToken, AreTokens, CutAt, is_bad, IsFirstFault}
 use Rattle.ccsl_lex.specs.Laws.{TokensOrFault}
 use Rattle.ccsl_lex.specs.Found.{Found}
 use Rattle.ccsl_lex.proofs.Front.{found_blank, found_mark, found_comment, found_name, found_word, long_name, found_number, large_number, found_quoted, open_text}
@@ -31,20 +33,20 @@ answer false = inr refl
 above : (m n : ℕ) → (n < m) ⊎ (m ≤ n)
 above m n = elim (answer (leb m n)) [ inl l ↦ inr (leb-true m n l) | inr l ↦ inl (leb-false m n l) ]
 
-name_in : (at : ℕ) (text : List ℕ) → starts is_letter text ≡ true → (found : Option Reserved) → reserved (take (prefix_len is_inner text) text) ≡ found → prefix_len is_inner text ≤ 64 → InFront at text
+name_in : (at : ℕ) (text : List ℕ) → starts is_letter text ≡ true → (found : Option Reserved) → reserved (take (prefix_len is_inner text) text) ≡ found → prefix_len is_inner text ≤ MAX_NAME_BYTES → InFront at text
 name_in at text h None r l = piece (prefix_len is_inner text) _ (found_name text h l r)
 name_in at text h (Some word) r l = piece (prefix_len is_inner text) _ (found_word text h word l r)
 
 letters_in : (at : ℕ) (text : List ℕ) → starts is_letter text ≡ true → InFront at text
-letters_in at text h = elim (above (prefix_len is_inner text) 64) [
+letters_in at text h = elim (above (prefix_len is_inner text) MAX_NAME_BYTES) [
   | inl l ↦ fault (NameTooLong at) (λ t c. record { rest = text; before = c; fault = long_name text h l })
   | inr l ↦ name_in at text h (reserved (take (prefix_len is_inner text) text)) refl l
 ]
 
 digits_in : (at : ℕ) (text : List ℕ) → starts is_digit text ≡ true → InFront at text
-digits_in at text h = elim (above (value (take (prefix_len is_digit text) text)) 4294967295) [
+digits_in at text h = elim (above (decimal_value (take (prefix_len is_digit text) text)) MAX_NUMBER) [
   | inl l ↦ fault (NumberTooLarge at) (λ t c. record { rest = text; before = c; fault = large_number text h l })
-  | inr l ↦ piece (prefix_len is_digit text) _ (found_number text h (value (take (prefix_len is_digit text) text)) l refl)
+  | inr l ↦ piece (prefix_len is_digit text) _ (found_number text h (decimal_value (take (prefix_len is_digit text) text)) l refl)
 ]
 
 open_in : (at : ℕ) (rest : List ℕ) → (prefix_len is_quotable rest < length rest → get_or rest (prefix_len is_quotable rest) 0 ≡ 34 → ⊥) → InFront at (34 ∷ rest)

@@ -5,8 +5,10 @@ use Rattle.std.proofs.lemmas.List.{append-nil, drop_at}
 use Rattle.std.proofs.lemmas.List.Folds.{list_all-append}
 use Rattle.std.proofs.lemmas.Grind.{flat_map-append}
 use Rattle.ccsl_lex.specs.declared.token.TokenKind.{TokenKind}
-use Rattle.ccsl_lex.specs.Tokens.{Piece, text_of, Stands, AreCut, fits, goes_on, starts, PlainToken, token_at, tokens_of, kind_of, CutAt, AreTokens}
-use Rattle.ccsl_lex.specs.Found.{Found}
+use Rattle.ccsl_lex.specs.Tokens.{Piece, text_of, Stands, AreCut, fits, goes_on, starts, PlainToken, token_at, tokens_of, kind_of, CutAt, AreTokens, IsFirstFault}
+use Rattle.ccsl_lex.specs.declared.fault.LexFault.{LexFault}
+use Rattle.ccsl_lex.specs.declared.fault.LexFault.TheVariants.{BadByte, NameTooLong, NumberTooLarge, OpenText, Memory}
+use Rattle.ccsl_lex.specs.Found.{Found, BeginsFault, UnlessMemory}
 
 spelled_more : (ps : List Piece) (p : Piece) (rest : List ℕ) → flat_map text_of (ps ++ p ∷ []) ++ rest ≡ flat_map text_of ps ++ (text_of p ++ rest)
 spelled_more ps p rest = rw (flat_map-append text_of ps (p ∷ []), append-nil (text_of p)) (append_assoc (flat_map text_of ps) (text_of p) rest)
@@ -65,3 +67,11 @@ lexed_token text at len k found ts e l f = lexed_more text at len (Some k) ts l 
 pub lexed_nothing : (text : List ℕ) (at len : ℕ) (found : Option TokenKind) (ts : List PlainToken) → found ≡ None → Lexed text at ts → Found (drop at text) len found → Lexed text (at + len) ts
 lexed_nothing text at len found ts e l f =
     subst (λ (z : List PlainToken). Lexed text (at + len) z) (append-nil ts) (lexed_more text at len None ts l (subst (λ (o : Option TokenKind). Found (drop at text) len o) e f))
+
+-- a fault that stands where the text is cut up to is its first
+pub first_fault : (text : List ℕ) (at : ℕ) (e : LexFault) → CutAt text at (drop at text) → BeginsFault e at (drop at text) → UnlessMemory e (IsFirstFault e text)
+first_fault text at (BadByte a) c f = record { rest = drop at text; before = rw f.0 c; fault = f.1 }
+first_fault text at (NameTooLong a) c f = record { rest = drop at text; before = rw f.0 c; fault = f.1 }
+first_fault text at (NumberTooLarge a) c f = record { rest = drop at text; before = rw f.0 c; fault = f.1 }
+first_fault text at (OpenText a) c f = record { rest = drop at text; before = rw f.0 c; fault = f.1 }
+first_fault text at Memory c f = tt

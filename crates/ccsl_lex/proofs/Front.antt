@@ -5,19 +5,22 @@ use Rattle.std.specs.List.{list_all, prefix_len}
 use Rattle.std.proofs.lemmas.List.{take-append-drop, length-take, length-drop, get_or-drop}
 use Rattle.std.proofs.Math.Seq.{take-suc}
 use Rattle.std.proofs.lemmas.List.Sums.{prefix_len-le-length}
-use Rattle.std.proofs.lemmas.Bool.{le-leb, lt-leb, lt-ltb}
+use Rattle.std.proofs.lemmas.Bool.{le-leb, lt-leb}
 use Rattle.std.proofs.lemmas.Bool.Decides.{eqb_tells}
+use Rattle.ccsl_base.specs.declared.limits.TheConstants.{MAX_NAME_BYTES, MAX_NUMBER}
+use Rattle.ccsl_base.specs.Decimal.{are_digits, decimal_value}
 use Rattle.ccsl_base.specs.Name.{is_letter, is_digit, is_inner, is_name, is_word}
-use Rattle.ccsl_lex.specs.declared.reserved.Reserved.{Reserved}
+use Rattle.ccsl_base.specs.declared.reserved.Reserved.{Reserved}
 use Rattle.ccsl_lex.specs.declared.token.TokenKind.{TokenKind}
 use Rattle.ccsl_lex.specs.declared.token.TokenKind.TheVariants.{Name, Num, Quoted, Word, Symbol}
 use Rattle.ccsl_lex.specs.Kept.{kind_kept}
 use Rattle.ccsl_base.specs.Quoted.{is_quotable}
-use Rattle.ccsl_lex.specs.Words.{reserved}
-use Rattle.ccsl_lex.specs.Tokens.{Piece, blank, comment, letters, digits, quoted, mark, text_of, starts, is_piece, is_remark, Stands, value, fits, is_white, is_mark, kind_of, IsPastLimit, IsOpen}
+use Rattle.ccsl_base.specs.ReservedWords.{reserved}
+use Rattle.ccsl_lex.specs.Tokens.{Piece, blank, comment, letters, digits, quoted, mark, text_of, starts, is_piece, is_remark, Stands, fits, is_white, is_mark, kind_of, IsPastLimit, IsOpen}
 use Rattle.ccsl_lex.specs.Found.{Found, IsKept}
 use Rattle.ccsl_lex.proofs.RunLists.{run_passes, run_ends}
-use Rattle.ccsl_lex.proofs.WordLists.{not_reserved}
+use Rattle.ccsl_lex.proofs.Values.{some_digits}
+use Rattle.ccsl_base.proofs.ReservedWords.{not_reserved}
 
 -- the run in front of a text whose first byte belongs to it
 module _ (first test : ℕ → Bool) (belongs : (b : ℕ) → first b ≡ true → test b ≡ true) where
@@ -53,9 +56,9 @@ front text n p kind e l s stands fit kind_is kept = record {
 }
 
 -- letters that are no reserved word are a name
-name_is : (bytes : List ℕ) → is_piece (letters bytes) ≡ true → length bytes ≤ 64 → reserved bytes ≡ None → is_name bytes ≡ true
+name_is : (bytes : List ℕ) → is_piece (letters bytes) ≡ true → length bytes ≤ MAX_NAME_BYTES → reserved bytes ≡ None → is_name bytes ≡ true
 name_is [] h l r = absurd cc
-name_is (b ∷ bytes) h l r = rw (letters_word b bytes h, le-leb (length (b ∷ bytes)) 64 l, not_reserved (b ∷ bytes) r) refl
+name_is (b ∷ bytes) h l r = rw (letters_word b bytes h, le-leb (length (b ∷ bytes)) MAX_NAME_BYTES l, not_reserved (b ∷ bytes) r) refl
 
 -- a name or a word: its n bytes, which go on as long as can be
 module _ (text : List ℕ) (h : starts is_letter text ≡ true) where
@@ -65,24 +68,24 @@ module _ (text : List ℕ) (h : starts is_letter text ≡ true) where
   letters_long : length (take (prefix_len is_inner text) text) ≡ prefix_len is_inner text
   letters_long = omega (arith, length-take (prefix_len is_inner text) text, prefix_len-le-length is_inner text)
 
-  found_letters : (kind : TokenKind) → prefix_len is_inner text ≤ 64 → kind_of (letters (take (prefix_len is_inner text) text)) ≡ Some kind → IsTrue (kind_kept kind) → Found text (prefix_len is_inner text) (Some kind)
+  found_letters : (kind : TokenKind) → prefix_len is_inner text ≤ MAX_NAME_BYTES → kind_of (letters (take (prefix_len is_inner text) text)) ≡ Some kind → IsTrue (kind_kept kind) → Found text (prefix_len is_inner text) (Some kind)
   found_letters kind l k kept = front text (prefix_len is_inner text) (letters (take (prefix_len is_inner text) text)) (Some kind) refl
       (prefix_len-le-length is_inner text) (run_some is_letter is_inner letter_inner text h) letters_stand
-      (le-leb (length (take (prefix_len is_inner text) text)) 64 (omega (arith, letters_long))) k kept
+      (le-leb (length (take (prefix_len is_inner text) text)) MAX_NAME_BYTES (omega (arith, letters_long))) k kept
 
-  pub found_word : (word : Reserved) → prefix_len is_inner text ≤ 64 → reserved (take (prefix_len is_inner text) text) ≡ Some word → Found text (prefix_len is_inner text) (Some (Word word))
+  pub found_word : (word : Reserved) → prefix_len is_inner text ≤ MAX_NAME_BYTES → reserved (take (prefix_len is_inner text) text) ≡ Some word → Found text (prefix_len is_inner text) (Some (Word word))
   found_word word l r = found_letters (Word word) l (rw r refl) refl
 
-  pub found_name : prefix_len is_inner text ≤ 64 → reserved (take (prefix_len is_inner text) text) ≡ None → Found text (prefix_len is_inner text) (Some (Name (take (prefix_len is_inner text) text)))
+  pub found_name : prefix_len is_inner text ≤ MAX_NAME_BYTES → reserved (take (prefix_len is_inner text) text) ≡ None → Found text (prefix_len is_inner text) (Some (Name (take (prefix_len is_inner text) text)))
   found_name l r = found_letters (Name (take (prefix_len is_inner text) text)) l (rw r refl) (name_is (take (prefix_len is_inner text) text) letters_stand.is (omega (arith, letters_long)) r)
 
-  pub long_name : 64 < prefix_len is_inner text → IsPastLimit letters text
+  pub long_name : MAX_NAME_BYTES < prefix_len is_inner text → IsPastLimit letters text
   long_name l = record {
     bytes = take (prefix_len is_inner text) text;
     behind = drop (prefix_len is_inner text) text;
     whole = sym (take-append-drop (prefix_len is_inner text) text);
     stands = letters_stand;
-    past = lt-leb (length (take (prefix_len is_inner text) text)) 64 (omega (arith, letters_long));
+    past = lt-leb (length (take (prefix_len is_inner text) text)) MAX_NAME_BYTES (omega (arith, letters_long));
   }
 
 -- a number
@@ -90,18 +93,22 @@ module _ (text : List ℕ) (h : starts is_digit text ≡ true) where
   digits_stand : Stands (digits (take (prefix_len is_digit text) text)) (drop (prefix_len is_digit text) text)
   digits_stand = record { is = rw (run_starts is_digit is_digit (λ b i. i) text h) (run_passes is_digit text); longest = run_ends is_digit text }
 
-  pub found_number : (n : ℕ) → n ≤ 4294967295 → n ≡ value (take (prefix_len is_digit text) text) → Found text (prefix_len is_digit text) (Some (Num n))
+  pub found_number : (n : ℕ) → n ≤ MAX_NUMBER → n ≡ decimal_value (take (prefix_len is_digit text) text) → Found text (prefix_len is_digit text) (Some (Num n))
   found_number n l e = front text (prefix_len is_digit text) (digits (take (prefix_len is_digit text) text)) (Some (Num n)) refl
       (prefix_len-le-length is_digit text) (run_some is_digit is_digit (λ b i. i) text h) digits_stand
-      (rw (← e) (le-leb n 4294967295 l)) (rw (← e) refl) (lt-ltb n 4294967296 (omega arith))
+      (rw (← e) (le-leb n MAX_NUMBER l)) (rw (← e) refl) (le-leb n MAX_NUMBER l)
 
-  pub large_number : 4294967295 < value (take (prefix_len is_digit text) text) → IsPastLimit digits text
+  -- all of them, and at least one
+  pub are_run : are_digits (take (prefix_len is_digit text) text) ≡ true
+  are_run = some_digits (take (prefix_len is_digit text) text) (run_starts is_digit is_digit (λ b i. i) text h) (run_passes is_digit text)
+
+  pub large_number : MAX_NUMBER < decimal_value (take (prefix_len is_digit text) text) → IsPastLimit digits text
   large_number l = record {
     bytes = take (prefix_len is_digit text) text;
     behind = drop (prefix_len is_digit text) text;
     whole = sym (take-append-drop (prefix_len is_digit text) text);
     stands = digits_stand;
-    past = lt-leb (value (take (prefix_len is_digit text) text)) 4294967295 l;
+    past = lt-leb (decimal_value (take (prefix_len is_digit text) text)) MAX_NUMBER l;
   }
 
 never_starts : (rest : List ℕ) → starts (λ c. false) rest ≡ false

@@ -1,5 +1,4 @@
 pub mod RunLists
-pub mod WordLists
 pub mod Front
 pub mod Values
 pub mod Cutting

@@ -1,6 +1,6 @@
 -- A text has at most one list of tokens, at most one first fault, and not both.
-use Rattle.std.proofs.Common.{◌≡◌, ℕ, ◌≤◌, Bool, true, false, ◌||◌, List, [], ◌∷◌, ◌++◌, length, refl, sym, ap, ◌∙◌, arith, append_assoc}
-use Rattle.std.specs.Prelude.{nat_eq}
+use Rattle.std.proofs.Common.{◌≡◌, ℕ, ◌≤◌, Bool, true, false, ◌||◌, List, [], ◌∷◌, ◌++◌, length, refl, sym, ap, ◌∙◌, inl, inr, arith, append_assoc}
+use Rattle.std.specs.Prelude.{nat_eq, ◌⊎◌}
 use Rattle.std.specs.List.{list_all, flat_map}
 use Rattle.std.proofs.lemmas.List.{append-nil}
 use Rattle.std.proofs.lemmas.List.Folds.{list_all-append}
@@ -9,7 +9,7 @@ use Rattle.ccsl_lex.specs.declared.fault.LexFault.{LexFault}
 use Rattle.ccsl_lex.specs.declared.fault.LexFault.TheVariants.{BadByte, NameTooLong, NumberTooLarge, OpenText, Memory}
 use Rattle.ccsl_base.specs.Quoted.{is_quotable}
 use Rattle.ccsl_lex.specs.Tokens.{Piece, blank, comment, letters, digits, quoted, mark, text_of, starts, is_piece, Stands, AreCut, is_white, is_mark, fits, PlainToken, tokens_of, AreTokens, CutAt, is_bad, IsBad, IsOpen, IsPastLimit, IsFirstFault}
-use Rattle.ccsl_lex.specs.Laws.{OneTokens, OneFault, NotBoth}
+use Rattle.ccsl_lex.specs.Found.{UnlessMemory}
 use Rattle.ccsl_lex.proofs.Classes.{both, clash, class_of, class_at, class_is, bad_class, quote_class, piece_some}
 use Rattle.ccsl_lex.proofs.Longest.{first_same, run_longest, split_same}
 
@@ -41,7 +41,7 @@ ahead (p ∷ ps) r (q ∷ qs) s c d e =
 fit_in : (qs : List Piece) (m : Piece) (ms ps : List Piece) → ps ≡ qs ++ m ∷ ms → list_all fits ps ≡ true → fits m ≡ true
 fit_in qs m ms ps e h = (both (fits m) (list_all fits ms) (both (list_all fits qs) (list_all fits (m ∷ ms)) (sym (list_all-append fits qs (m ∷ ms)) ∙ ap (list_all fits) (sym e) ∙ h)).1).0
 
-pub one_tokens : OneTokens
+pub one_tokens : (text : List ℕ) (ts us : List PlainToken) → AreTokens text ts → AreTokens text us → ts ≡ us
 one_tokens text ts us a b = one_as (ahead a.pieces [] b.pieces [] a.cut b.cut (ap (λ z. z ++ []) (sym a.whole ∙ b.whole)))
   where
     one_as : Ahead a.pieces [] b.pieces [] → ts ≡ us
@@ -171,12 +171,27 @@ same_fault (OpenText a) (OpenText b) k p = ap OpenText p
 same_fault Memory Memory k p = refl
 same_fault e f k p = absurd (omega arith)
 
-pub one_fault : OneFault
+pub one_fault : (text : List ℕ) (e f : LexFault) → IsFirstFault e text → IsFirstFault f text → e ≡ f
 one_fault text e f x y =
     let p = broken_by text e x in
     let q = broken_by text f y in
     let n = one_place text (place_of e) (place_of f) p.rest q.rest p.before q.before p.broken q.broken in
     same_fault e f (sym p.class ∙ ap class_at n.1 ∙ q.class) n.0
 
-pub not_both : NotBoth
+pub not_both : (text : List ℕ) (ts : List PlainToken) (e : LexFault) → AreTokens text ts → IsFirstFault e text → ⊥
 not_both text ts e t x = let p = broken_by text e x in not_broken text ts (place_of e) p.rest t p.before p.broken
+
+-- where a fault is answered that is not want of memory, the text has no tokens and no other first fault
+pub fault_tokens : (text : List ℕ) (e : LexFault) → UnlessMemory e (IsFirstFault e text) → (ts : List PlainToken) → AreTokens text ts → e ≡ Memory
+fault_tokens text Memory h ts a = refl
+fault_tokens text (BadByte at) h ts a = absurd (not_both text ts (BadByte at) a h)
+fault_tokens text (NameTooLong at) h ts a = absurd (not_both text ts (NameTooLong at) a h)
+fault_tokens text (NumberTooLarge at) h ts a = absurd (not_both text ts (NumberTooLarge at) a h)
+fault_tokens text (OpenText at) h ts a = absurd (not_both text ts (OpenText at) a h)
+
+pub fault_fault : (text : List ℕ) (e : LexFault) → UnlessMemory e (IsFirstFault e text) → (f : LexFault) → IsFirstFault f text → (e ≡ f) ⊎ (e ≡ Memory)
+fault_fault text Memory h f x = inr refl
+fault_fault text (BadByte at) h f x = inl (one_fault text (BadByte at) f h x)
+fault_fault text (NameTooLong at) h f x = inl (one_fault text (NameTooLong at) f h x)
+fault_fault text (NumberTooLarge at) h f x = inl (one_fault text (NumberTooLarge at) f h x)
+fault_fault text (OpenText at) h f x = inl (one_fault text (OpenText at) f h x)

@@ -2,25 +2,14 @@
 use Rattle.std.specs.Prelude.{◌≡◌, ℕ, ◌+◌, ◌≤◌, ◌⊎◌, Bool, true, false, List, [], ◌∷◌, ◌++◌, length}
 use Rattle.std.specs.List.{list_all, flat_map}
 use Rattle.ccsl_base.specs.Name.{is_digit}
+use Rattle.ccsl_base.specs.Decimal.{decimal_value}
 use Rattle.ccsl_lex.specs.declared.token.TokenKind.{TokenKind}
 use Rattle.ccsl_lex.specs.declared.token.TokenKind.TheVariants.{Name, Num, Quoted, Word, Symbol}
 use Rattle.ccsl_lex.specs.declared.fault.LexFault.{LexFault}
-use Rattle.ccsl_lex.specs.Words.{spelling}
-use Rattle.ccsl_lex.specs.Tokens.{Piece, blank, comment, text_of, is_white, is_remark, is_piece, Stands, value, PlainToken, AreTokens, IsFirstFault}
+use Rattle.ccsl_base.specs.ReservedWords.{spelling}
+use Rattle.ccsl_lex.specs.Tokens.{Piece, blank, comment, text_of, is_white, is_remark, is_piece, Stands, PlainToken, AreTokens, IsFirstFault}
 
--- a text has at most one list of tokens
-abbrev pub OneTokens : Type 0
-OneTokens = (text : List ℕ) (ts us : List PlainToken) → AreTokens text ts → AreTokens text us → ts ≡ us
-
--- a text has at most one first fault, and so one place for it
-abbrev pub OneFault : Type 0
-OneFault = (text : List ℕ) (e f : LexFault) → IsFirstFault e text → IsFirstFault f text → e ≡ f
-
--- no text has both
-abbrev pub NotBoth : Type 0
-NotBoth = (text : List ℕ) (ts : List PlainToken) (e : LexFault) → AreTokens text ts → IsFirstFault e text → ⊥
-
--- each text has one or the other
+-- each text has tokens or a first fault
 abbrev pub TokensOrFault : Type 0
 TokensOrFault = (text : List ℕ) → ((ts : List PlainToken) × AreTokens text ts) ⊎ ((e : LexFault) × IsFirstFault e text)
 
@@ -31,7 +20,7 @@ NoneLonger = (p q : Piece) (rest behind : List ℕ) → Stands p rest → is_pie
 -- these bytes spell a token of this kind
 abbrev pub IsSpelled : TokenKind → List ℕ → Type 0
 IsSpelled (Name name) bytes = bytes ≡ name
-IsSpelled (Num n) bytes = (list_all is_digit bytes ≡ true) × (n ≡ value bytes)
+IsSpelled (Num n) bytes = (list_all is_digit bytes ≡ true) × (n ≡ decimal_value bytes)
 IsSpelled (Quoted text) bytes = bytes ≡ 34 ∷ (text ++ 34 ∷ [])
 IsSpelled (Word word) bytes = bytes ≡ spelling word
 IsSpelled (Symbol b) bytes = bytes ≡ b ∷ []

@@ -1,5 +1,4 @@
 pub mod Kept
-pub mod Words
 pub mod Tokens
 pub mod Runs
 pub mod Laws

@@ -2,17 +2,19 @@
 --
 -- A text is cut into pieces: tokens, comments and bytes of white space. The table says what a piece is, and which byte behind
 -- it would still belong to it. The tokens of a text are those of its pieces, and each is as long as possible.
-use Rattle.std.specs.Prelude.{◌≡◌, ℕ, ◌+◌, ◌-◌, ◌*◌, Bool, true, false, ◌&&◌, ◌||◌, not, List, [], ◌∷◌, ◌++◌, length, Option, Some, None, nat_eq, nat_le, codes}
+use Rattle.std.specs.Prelude.{◌≡◌, ℕ, ◌+◌, Bool, true, false, ◌&&◌, ◌||◌, not, List, [], ◌∷◌, ◌++◌, length, Option, Some, None, nat_eq, nat_le, codes}
 use Rattle.std.specs.List.{list_all, list_any, flat_map}
+use Rattle.ccsl_base.specs.declared.limits.TheConstants.{MAX_NAME_BYTES, MAX_NUMBER}
 use Rattle.ccsl_base.specs.Name.{is_letter, is_digit, is_inner}
-use Rattle.ccsl_lex.specs.declared.reserved.Reserved.{Reserved}
+use Rattle.ccsl_base.specs.Decimal.{decimal_value}
+use Rattle.ccsl_base.specs.declared.reserved.Reserved.{Reserved}
 use Rattle.ccsl_lex.specs.declared.token.TokenKind.{TokenKind}
 use Rattle.ccsl_lex.specs.declared.token.TokenKind.TheVariants.{Name, Num, Quoted, Word, Symbol}
 use Rattle.ccsl_lex.specs.declared.token.Token.{Token}
 use Rattle.ccsl_lex.specs.declared.fault.LexFault.{LexFault}
 use Rattle.ccsl_lex.specs.declared.fault.LexFault.TheVariants.{BadByte, NameTooLong, NumberTooLarge, OpenText, Memory}
 use Rattle.ccsl_base.specs.Quoted.{is_quotable}
-use Rattle.ccsl_lex.specs.Words.{reserved}
+use Rattle.ccsl_base.specs.ReservedWords.{reserved}
 
 -- ## Pieces
 
@@ -77,18 +79,10 @@ AreCut (p ∷ ps) rest = Stands p (flat_map text_of ps ++ rest) × AreCut ps res
 
 -- ## Tokens
 
-abbrev pub value_from : ℕ → List ℕ → ℕ
-value_from n [] = n
-value_from n (d ∷ ds) = value_from (n * 10 + (d - 48)) ds
-
--- the value of digits, where leading zeros count for nothing
-abbrev pub value : List ℕ → ℕ
-value ds = value_from 0 ds
-
--- whether a piece is within the limits: names and words of letters of 64 bytes, numbers up to 4294967295
+-- whether a piece is within the limits on names and words of letters, and on numbers
 abbrev pub fits : Piece → Bool
-fits (letters bytes) = nat_le (length bytes) 64
-fits (digits bytes) = nat_le (value bytes) 4294967295
+fits (letters bytes) = nat_le (length bytes) MAX_NAME_BYTES
+fits (digits bytes) = nat_le (decimal_value bytes) MAX_NUMBER
 fits _ = true
 
 -- a token as clauses speak of it: its first byte, the byte behind it, and what it is
@@ -109,7 +103,7 @@ abbrev pub kind_of : Piece → Option TokenKind
 kind_of (blank b) = None
 kind_of (comment bytes) = None
 kind_of (letters bytes) = Some (name_or_word bytes (reserved bytes))
-kind_of (digits bytes) = Some (Num (value bytes))
+kind_of (digits bytes) = Some (Num (decimal_value bytes))
 kind_of (quoted bytes) = Some (Quoted bytes)
 kind_of (mark b) = Some (Symbol b)
 

@@ -1,7 +1,6 @@
-//! Kinds of bytes.
+//! Kinds of bytes that names have no part in.
 
 ghost use Rattle.std.specs.Prelude.{◌≡◌};
-ghost use Rattle.ccsl_base.specs.Name.{is_letter, is_digit, is_inner};
 ghost use Rattle.ccsl_base.specs.Quoted.{is_quotable};
 ghost use Rattle.ccsl_lex.specs.Tokens.{is_white, is_mark, is_remark};
 
@@ -9,24 +8,6 @@ pub fn is_white(b: u8) -> bool
     ensures { result ≡ is_white b }
 {
     matches!(b, b' ' | b'\t' | b'\n' | b'\r')
-}
-
-pub fn is_letter(b: u8) -> bool
-    ensures { result ≡ is_letter b }
-{
-    matches!(b, b'A'..=b'Z' | b'a'..=b'z' | b'_')
-}
-
-pub fn is_digit(b: u8) -> bool
-    ensures { result ≡ is_digit b }
-{
-    matches!(b, b'0'..=b'9')
-}
-
-pub fn is_inner(b: u8) -> bool
-    ensures { result ≡ is_inner b }
-{
-    is_letter(b) || is_digit(b)
 }
 
 pub fn is_mark(b: u8) -> bool

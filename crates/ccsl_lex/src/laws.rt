@@ -2,32 +2,17 @@
 
 ghost use Rattle.std.specs.Prelude.{IsTrue};
 ghost use Rattle.ccsl_lex.specs.Kept.{kind_kept};
-ghost use Rattle.ccsl_lex.specs.Laws.{OneTokens, OneFault, NotBoth, TokensOrFault, NoneLonger, TextAgain};
-ghost use Rattle.ccsl_lex.specs.Words.{WordsAreReserved, WordsReadBack};
+ghost use Rattle.ccsl_lex.specs.Laws.{TokensOrFault, NoneLonger, TextAgain};
 
 use crate::token::Token;
 
-/// Every token's name is a name of the grammar, and its quoted text has only bytes that may stand between quotes.
+/// Every token's name is a name of the grammar, its number is below 2^32, and its quoted text has only bytes that may stand
+/// between quotes.
 pub fn every_token_is_kept(token: &Token)
     ensures { IsTrue (kind_kept token.now.kind) }
 {}
 
-/// A text has at most one list of tokens.
-pub fn one_tokens()
-    ensures { OneTokens }
-{}
-
-/// A text has at most one first fault, and so one place for it.
-pub fn one_fault()
-    ensures { OneFault }
-{}
-
-/// No text has both.
-pub fn not_both()
-    ensures { NotBoth }
-{}
-
-/// Each text has one or the other.
+/// Each text has tokens or a first fault.
 pub fn tokens_or_fault()
     ensures { TokensOrFault }
 {}
@@ -40,14 +25,4 @@ pub fn none_longer()
 /// The tokens of a text with what stands between them are the text again.
 pub fn text_again()
     ensures { TextAgain }
-{}
-
-/// The words of `Reserved` are the words that no name may be.
-pub fn words_are_reserved()
-    ensures { WordsAreReserved }
-{}
-
-/// Each word's letters are read as that word.
-pub fn words_read_back()
-    ensures { WordsReadBack }
 {}

@@ -6,13 +6,12 @@ pub mod fault;
 pub mod laws;
 mod lexer;
 mod piece;
-pub mod reserved;
 mod run;
 pub mod token;
 
+pub use ccsl_base::Reserved;
 pub use fault::LexFault;
 pub use lexer::tokens;
-pub use reserved::Reserved;
 pub use token::{Token, TokenKind};
 
 #[cfg(test)]

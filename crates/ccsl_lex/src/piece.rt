@@ -1,17 +1,15 @@
 //! The piece in front of a text: a token, a comment or a byte of white space.
 
-ghost use Rattle.std.specs.Prelude.{◌≡◌, ◌≤◌, ◌<◌, ◌∷◌, true, length, MatchOption, IfOk, IfErr};
-ghost use Rattle.std.specs.List.{list_all};
+ghost use Rattle.std.specs.Prelude.{◌≡◌, ◌<◌, ◌∷◌, true, length, IfOk, IfErr};
 ghost use Rattle.ccsl_base.specs.Name.{is_digit, is_letter};
-ghost use Rattle.ccsl_lex.specs.Tokens.{value, starts};
+ghost use Rattle.ccsl_lex.specs.Tokens.{starts};
 ghost use Rattle.ccsl_lex.specs.Found.{Found, BeginsFault};
 
-use crate::byte::{is_digit, is_letter, is_mark, is_white};
+use crate::byte::{is_mark, is_white};
 use crate::fault::LexFault;
-use crate::reserved::Reserved;
 use crate::run::Run;
 use crate::token::TokenKind;
-use ccsl_base::text::Text;
+use ccsl_base::{MAX_NAME_BYTES, MAX_NUMBER, Reserved, Text, decimal, is_digit, is_letter};
 use std::alloc::Global;
 
 /// How many bytes a piece has, and which token it is, if it is one.
@@ -21,21 +19,6 @@ pub struct Piece {
     pub kind: Option<TokenKind>,
 }
 
-/// The value of digits, where it is at most 4294967295.
-fn number(digits: &[u8]) -> Option<u32>
-    requires { list_all is_digit digits.now ≡ true }
-    ensures { MatchOption result (4294967295 < value digits.now) (λ n. n ≡ value digits.now) }
-{
-    let mut total: u64 = 0;
-    for digit in digits {
-        total = total * 10 + (*digit - b'0') as u64;
-        if total > 4294967295 {
-            return None;
-        }
-    }
-    Some(total as u32)
-}
-
 /// The name or reserved word in front.
 fn name_piece(alloc: Global, at: usize, text: &[u8]) -> Result<Piece, LexFault>
     requires { starts is_letter text.now ≡ true }
@@ -43,7 +26,7 @@ fn name_piece(alloc: Global, at: usize, text: &[u8]) -> Result<Piece, LexFault>
     ensures fault { IfErr result (λ e. BeginsFault e at text.now) }
 {
     let len = Run::Inner.len(text);
-    if len > 64 {
+    if len > MAX_NAME_BYTES {
         return Err(LexFault::NameTooLong(at));
     }
     let name = &text[..len];
@@ -69,10 +52,10 @@ fn number_piece(at: usize, text: &[u8]) -> Result<Piece, LexFault>
     ensures fault { IfErr result (λ e. BeginsFault e at text.now) }
 {
     let len = Run::Digits.len(text);
-    match number(&text[..len]) {
+    match decimal(&text[..len], MAX_NUMBER) {
         Some(value) => Ok(Piece {
             len,
-            kind: Some(TokenKind::Num(value)),
+            kind: Some(TokenKind::Num(value as u32)),
         }),
         None => Err(LexFault::NumberTooLarge(at)),
     }

@@ -2,8 +2,8 @@
 
 use crate::fault::LexFault;
 use crate::lexer::tokens;
-use crate::reserved::WORDS;
 use crate::token::{Token, TokenKind};
+use ccsl_base::reserved::WORDS;
 use std::alloc::{AllocError, Global};
 use std::test::Fail;
 
@@ -52,7 +52,7 @@ fn answer(alloc: Global, text: &[u8]) -> Result<String, AllocError> {
 
 #[test]
 fn texts(rt: HostRuntime) -> Result<(), Fail> {
-    let cases: [(&[u8], &str); 30] = [
+    let cases: [(&[u8], &str); 32] = [
         (b"", ""),
         (b" \t\r\n ", ""),
         (b"a $", "BadByte(2)"),
@@ -87,6 +87,8 @@ fn texts(rt: HostRuntime) -> Result<(), Fail> {
         (b"a //b", "0-1:[a] "),
         (b"//", ""),
         (b"\x80", "BadByte(0)"),
+        (b"a\x0b", "BadByte(1)"),
+        (b"a \x0cb", "BadByte(2)"),
         (b"$ 4294967296", "BadByte(0)"),
         (b"4294967296 $ \"", "NumberTooLarge(0)"),
     ];
@@ -103,6 +105,12 @@ fn names_have_64_bytes_at_most(rt: HostRuntime) -> Result<(), Fail> {
         Ok(_) => assert!(rt; false, "65 bytes"),
         Err(fault) => assert_eq!(rt; fault, LexFault::NameTooLong(0)),
     }
+    let mut text = Vec::from_slice(rt.alloc(), b"ccsl 1; ")?;
+    text.extend_from_slice(letters.as_slice())?;
+    assert_eq!(rt;
+        answer(rt.alloc(), text.as_slice())?.as_str(),
+        "NameTooLong(8)"
+    );
     let name = tokens(rt.alloc(), &letters.as_slice()[..64])
         .ok()
         .ok_or("64 bytes")?;

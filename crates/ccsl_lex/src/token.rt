@@ -3,7 +3,7 @@
 ghost use Rattle.std.specs.Prelude.{IsTrue};
 ghost use Rattle.ccsl_lex.specs.Kept.{kind_kept};
 
-use crate::reserved::Reserved;
+use ccsl_base::Reserved;
 use ccsl_base::text::Text;
 
 /// What a token is. A quoted text has the bytes between its quotes, a symbol its byte.

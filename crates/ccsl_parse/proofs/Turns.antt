@@ -8,7 +8,7 @@ use Rattle.ccsl_grammar.specs.Loop.{prefixed}
 use Rattle.ccsl_grammar.proofs.Loop.{Falls, stops}
 use Rattle.ccsl_parse.specs.declared.stop.Stop.{Stop}
 use Rattle.ccsl_parse.specs.declared.stop.Stop.TheVariants.{Memory, Syntax, TooDeep}
-use Rattle.ccsl_parse.specs.Gives.{Fails}
+use Rattle.ccsl_parse.specs.Reads.{Fails}
 
 module _ {A : Type 0} (test : Terminal → Bool) (f : Reader A) (falls : Falls f) where
   -- a turn that fails

@@ -1,3 +1,2 @@
 pub mod Answered
-pub mod Gives
-pub mod Pieces
+pub mod Reads

@@ -4,7 +4,7 @@ ghost use Rattle.ccsl_grammar.specs.Terminals.{terminals};
 ghost use Rattle.ccsl_grammar.specs.Reader.{took};
 ghost use Rattle.ccsl_grammar.specs.Parser.{arg_at};
 ghost use Rattle.ccsl_grammar.proofs.Loop.{further_arg_falls};
-ghost use Rattle.ccsl_parse.specs.Gives.{Gives};
+ghost use Rattle.ccsl_parse.specs.Reads.{Reads};
 
 use crate::leaf::{begins_quoted, begins_word, name_at, quoted_at, word_at};
 use crate::list::Listed;
@@ -16,7 +16,7 @@ use std::alloc::Global;
 
 #[tactic(auto, unfolding(ccsl_grammar::specs::Parser::arg_at))]
 fn arg_at<'a>(alloc: Global, tokens: &'a [Token]) -> Result<(Argument, &'a [Token]), Stop<'a>>
-    ensures { Gives (λ x. took x.0 (terminals x.1.now)) result (arg_at (terminals tokens.now)) }
+    ensures { Reads result arg_at tokens.now }
 {
     if begins_quoted(tokens) {
         let ((at, text), rest) = quoted_at(alloc, tokens)?;

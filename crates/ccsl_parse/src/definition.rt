@@ -4,15 +4,16 @@ ghost use Rattle.ccsl_ast.specs.Trees.{PlainMember, PlainDefinition, plain_membe
 ghost use Rattle.ccsl_grammar.specs.Terminals.{terminals, is_word};
 ghost use Rattle.ccsl_grammar.specs.Reader.{took};
 ghost use Rattle.ccsl_grammar.specs.Parser.{relation_at, member_at, further_member_at, group_at, definition_at, is_definition};
-ghost use Rattle.ccsl_lex.specs.declared.reserved.Reserved.TheVariants as w;
+ghost use Rattle.ccsl_base.specs.declared.reserved.Reserved.TheVariants as w;
 ghost use Rattle.ccsl_grammar.proofs.Loop.{further_member_falls, definition_falls};
-ghost use Rattle.ccsl_parse.specs.Gives.{Gives};
+ghost use Rattle.ccsl_parse.specs.Reads.{ReadsAs};
 
 use crate::expression::expr_at;
 use crate::leaf::{begins_word, name_at, symbol_at, word_at};
-use crate::line::relation_line_at;
+use crate::line::rline_at;
 use crate::list::list_at;
 use crate::repeat::{Repeated, many_at};
+use crate::room::Room;
 use crate::stop::Stop;
 use ccsl_ast::{Definition, Member};
 use ccsl_lex::{Reserved, Token};
@@ -21,17 +22,17 @@ use std::alloc::Global;
 #[tactic(auto, using(crate::proofs::Turns::led, crate::proofs::Turns::led_stops), unfolding(ccsl_grammar::specs::Parser::relation_at))]
 fn relation_at<'a>(
     alloc: Global,
-    room: u32,
+    room: Room,
     tokens: &'a [Token],
 ) -> Result<(Definition, &'a [Token]), Stop<'a>>
-    ensures { Gives (λ x. took (plain_definition x.0) (terminals x.1.now)) result (relation_at room (terminals tokens.now)) }
+    ensures { ReadsAs plain_definition result (relation_at room.two room.levels) tokens.now }
 {
     let rest = word_at(tokens, Reserved::Relation)?;
     let (name, rest) = name_at(alloc, rest)?;
     let rest = symbol_at(rest, b'(')?;
     let (params, rest) = list_at(alloc, rest)?;
     let rest = symbol_at(rest, b'{')?;
-    let (line, rest) = relation_line_at(alloc, room, rest)?;
+    let (line, rest) = rline_at(alloc, room, rest)?;
     let mut first = Vec::new(alloc);
     first.push(line)?;
     let (lines, rest) = many_at(alloc, room, first, rest)?;
@@ -50,10 +51,10 @@ fn relation_at<'a>(
 #[tactic(auto, unfolding(ccsl_grammar::specs::Parser::member_at))]
 fn member_at<'a>(
     alloc: Global,
-    room: u32,
+    room: Room,
     tokens: &'a [Token],
 ) -> Result<(Member, &'a [Token]), Stop<'a>>
-    ensures { Gives (λ x. took (plain_member x.0) (terminals x.1.now)) result (member_at room (terminals tokens.now)) }
+    ensures { ReadsAs plain_member result (member_at room.two room.levels) tokens.now }
 {
     let (name, rest) = name_at(alloc, tokens)?;
     let rest = symbol_at(rest, b'(')?;
@@ -66,10 +67,10 @@ fn member_at<'a>(
 #[tactic(auto, unfolding(ccsl_grammar::specs::Parser::further_member_at))]
 fn further_member_at<'a>(
     alloc: Global,
-    room: u32,
+    room: Room,
     tokens: &'a [Token],
 ) -> Result<(Member, &'a [Token]), Stop<'a>>
-    ensures { Gives (λ x. took (plain_member x.0) (terminals x.1.now)) result (further_member_at room (terminals tokens.now)) }
+    ensures { ReadsAs plain_member result (further_member_at room.two room.levels) tokens.now }
 {
     let rest = word_at(tokens, Reserved::And)?;
     member_at(alloc, room, rest)
@@ -78,10 +79,10 @@ fn further_member_at<'a>(
 #[tactic(auto, using(crate::proofs::Turns::led, crate::proofs::Turns::led_stops), unfolding(ccsl_grammar::specs::Parser::group_at))]
 fn group_at<'a>(
     alloc: Global,
-    room: u32,
+    room: Room,
     tokens: &'a [Token],
 ) -> Result<(Definition, &'a [Token]), Stop<'a>>
-    ensures { Gives (λ x. took (plain_definition x.0) (terminals x.1.now)) result (group_at room (terminals tokens.now)) }
+    ensures { ReadsAs plain_definition result (group_at room.two room.levels) tokens.now }
 {
     let rest = word_at(tokens, Reserved::Expression)?;
     let (member, rest) = member_at(alloc, room, rest)?;
@@ -95,10 +96,10 @@ fn group_at<'a>(
 #[tactic(auto, unfolding(ccsl_grammar::specs::Parser::definition_at))]
 fn definition_at<'a>(
     alloc: Global,
-    room: u32,
+    room: Room,
     tokens: &'a [Token],
 ) -> Result<(Definition, &'a [Token]), Stop<'a>>
-    ensures { Gives (λ x. took (plain_definition x.0) (terminals x.1.now)) result (definition_at room (terminals tokens.now)) }
+    ensures { ReadsAs plain_definition result (definition_at room.two room.levels) tokens.now }
 {
     if begins_word(tokens, Reserved::Relation) {
         relation_at(alloc, room, tokens)
@@ -117,7 +118,7 @@ impl Repeated for Member {
 
     ghost reader = { further_member_at };
 
-    ghost falls = { λ room. (further_member_falls room).at };
+    ghost falls = { λ two levels. (further_member_falls two levels).at };
 
     fn begins(tokens: &[Token]) -> bool {
         begins_word(tokens, Reserved::And)
@@ -125,7 +126,7 @@ impl Repeated for Member {
 
     fn read<'a>(
         alloc: Global,
-        room: u32,
+        room: Room,
         tokens: &'a [Token],
     ) -> Result<(Member, &'a [Token]), Stop<'a>> {
         further_member_at(alloc, room, tokens)
@@ -141,7 +142,7 @@ impl Repeated for Definition {
 
     ghost reader = { definition_at };
 
-    ghost falls = { λ room. (definition_falls room).at };
+    ghost falls = { λ two levels. (definition_falls two levels).at };
 
     fn begins(tokens: &[Token]) -> bool {
         begins_word(tokens, Reserved::Relation) || begins_word(tokens, Reserved::Expression)
@@ -149,7 +150,7 @@ impl Repeated for Definition {
 
     fn read<'a>(
         alloc: Global,
-        room: u32,
+        room: Room,
         tokens: &'a [Token],
     ) -> Result<(Definition, &'a [Token]), Stop<'a>> {
         definition_at(alloc, room, tokens)

@@ -1,16 +1,16 @@
-//! Expressions. `room` is the number of levels that are left.
+//! Expressions.
 
 ghost use Rattle.std.specs.Prelude.{◌≡◌, IfOk};
 ghost use Rattle.ccsl_ast.specs.Trees.{plain, EBinary, EDelayed, EIf};
 ghost use Rattle.ccsl_grammar.specs.Terminals.{terminals};
 ghost use Rattle.ccsl_grammar.specs.Reader.{took, begins};
-ghost use Rattle.ccsl_grammar.specs.Parser.{named_at, parens_at, operand_at, binary_at, delayed_at, rest_at, choice_at, expr_with, is_expr, no_room, expr_at};
-ghost use Rattle.ccsl_parse.specs.Gives.{Gives};
-ghost use Rattle.ccsl_parse.specs.Pieces.{delay_at, await_at, filter_at, branches_at};
+ghost use Rattle.ccsl_grammar.specs.Parser.{named_at, parens_at, operand_at, binary_at, delayed_at, delay_at, await_at, filter_at, rest_at, branches_at, choice_at, expr_with, is_expr, no_room, expr_at};
+ghost use Rattle.ccsl_parse.specs.Reads.{ReadsAs};
 
 use crate::leaf::{begins_name, begins_symbol, begins_word, name_at, num_at, symbol_at, word_at};
 use crate::list::list_at;
 use crate::operator::{begins_binop, binop_at};
+use crate::room::Room;
 use crate::stop::Stop;
 use crate::term::{term_at, wterm_at};
 use crate::test::test_at;
@@ -25,7 +25,7 @@ fn named_at<'a>(
     name: Spot,
     tokens: &'a [Token],
 ) -> Result<(Tree, &'a [Token]), Stop<'a>>
-    ensures { Gives (λ x. took (plain x.0) (terminals x.1.now)) result (named_at name (terminals tokens.now)) }
+    ensures { ReadsAs plain result (named_at name) tokens.now }
 {
     if begins_symbol(tokens, b'(') {
         let rest = symbol_at(tokens, b'(')?;
@@ -64,36 +64,39 @@ fn delayed(
     ))
 }
 
+#[tactic(auto, unfolding(ccsl_grammar::specs::Parser::delay_at))]
 fn delay_at<'a>(
     alloc: Global,
     operand: Tree,
     tokens: &'a [Token],
 ) -> Result<(Tree, &'a [Token]), Stop<'a>>
-    ensures { Gives (λ x. took (plain x.0) (terminals x.1.now)) result (delay_at (plain operand) (terminals tokens.now)) }
+    ensures { ReadsAs plain result (delay_at (plain operand)) tokens.now }
 {
     let rest = word_at(tokens, Reserved::Delay)?;
     let (term, rest) = term_at(alloc, rest)?;
     Ok((Tree::Delay(Box::new(alloc, operand)?, term), rest))
 }
 
+#[tactic(auto, unfolding(ccsl_grammar::specs::Parser::await_at))]
 fn await_at<'a>(
     alloc: Global,
     operand: Tree,
     tokens: &'a [Token],
 ) -> Result<(Tree, &'a [Token]), Stop<'a>>
-    ensures { Gives (λ x. took (plain x.0) (terminals x.1.now)) result (await_at (plain operand) (terminals tokens.now)) }
+    ensures { ReadsAs plain result (await_at (plain operand)) tokens.now }
 {
     let rest = word_at(tokens, Reserved::Await)?;
     let (term, rest) = term_at(alloc, rest)?;
     Ok((Tree::Await(Box::new(alloc, operand)?, term), rest))
 }
 
+#[tactic(auto, unfolding(ccsl_grammar::specs::Parser::filter_at))]
 fn filter_at<'a>(
     alloc: Global,
     operand: Tree,
     tokens: &'a [Token],
 ) -> Result<(Tree, &'a [Token]), Stop<'a>>
-    ensures { Gives (λ x. took (plain x.0) (terminals x.1.now)) result (filter_at (plain operand) (terminals tokens.now)) }
+    ensures { ReadsAs plain result (filter_at (plain operand)) tokens.now }
 {
     let rest = word_at(tokens, Reserved::Filter)?;
     let (word, rest) = wterm_at(alloc, rest)?;
@@ -112,7 +115,7 @@ fn begins_expr(tokens: &[Token]) -> bool
 /// Why there is no expression where no level is left.
 #[tactic(auto, unfolding(ccsl_grammar::specs::Parser::no_room))]
 fn no_room<'a>(tokens: &'a [Token]) -> Result<(Tree, &'a [Token]), Stop<'a>>
-    ensures { Gives (λ x. took (plain x.0) (terminals x.1.now)) result (no_room (terminals tokens.now)) }
+    ensures { ReadsAs plain result no_room tokens.now }
 {
     if begins_expr(tokens) {
         Err(Stop::TooDeep(tokens))
@@ -126,15 +129,19 @@ fn no_room<'a>(tokens: &'a [Token]) -> Result<(Tree, &'a [Token]), Stop<'a>>
 #[tactic(auto, unfolding(ccsl_grammar::specs::Parser::expr_at))]
 pub fn expr_at<'a>(
     alloc: Global,
-    room: u32,
+    room: Room,
     tokens: &'a [Token],
 ) -> Result<(Tree, &'a [Token]), Stop<'a>>
-    ensures { Gives (λ x. took (plain x.0) (terminals x.1.now)) result (expr_at room (terminals tokens.now)) }
+    ensures { ReadsAs plain result (expr_at room.two room.levels) tokens.now }
 {
-    if room == 0 {
+    if room.levels == 0 {
         no_room(tokens)
     } else {
-        expr_with(alloc, room - 1, tokens)
+        let inner = Room {
+            levels: room.levels - 1,
+            two: room.two,
+        };
+        expr_with(alloc, inner, tokens)
     }
 }
 
@@ -142,10 +149,10 @@ pub fn expr_at<'a>(
 #[tactic(auto, unfolding(ccsl_grammar::specs::Parser::expr_with))]
 fn expr_with<'a>(
     alloc: Global,
-    room: u32,
+    room: Room,
     tokens: &'a [Token],
 ) -> Result<(Tree, &'a [Token]), Stop<'a>>
-    ensures { Gives (λ x. took (plain x.0) (terminals x.1.now)) result (expr_with (expr_at room) (terminals tokens.now)) }
+    ensures { ReadsAs plain result (expr_with (expr_at room.two room.levels) room.two) tokens.now }
 {
     if begins_word(tokens, Reserved::If) {
         choice_at(alloc, room, tokens)
@@ -159,10 +166,10 @@ fn expr_with<'a>(
 #[tactic(auto, unfolding(ccsl_grammar::specs::Parser::choice_at))]
 fn choice_at<'a>(
     alloc: Global,
-    room: u32,
+    room: Room,
     tokens: &'a [Token],
 ) -> Result<(Tree, &'a [Token]), Stop<'a>>
-    ensures { Gives (λ x. took (plain x.0) (terminals x.1.now)) result (choice_at (expr_at room) (terminals tokens.now)) }
+    ensures { ReadsAs plain result (choice_at (expr_at room.two room.levels)) tokens.now }
 {
     let rest = word_at(tokens, Reserved::If)?;
     let (test, rest) = test_at(alloc, rest)?;
@@ -171,13 +178,14 @@ fn choice_at<'a>(
 
 /// What stands behind the test of an `if`.
 #[cycle(expr)]
+#[tactic(auto, unfolding(ccsl_grammar::specs::Parser::branches_at))]
 fn branches_at<'a>(
     alloc: Global,
-    room: u32,
+    room: Room,
     test: Test,
     tokens: &'a [Token],
 ) -> Result<(Tree, &'a [Token]), Stop<'a>>
-    ensures { Gives (λ x. took (plain x.0) (terminals x.1.now)) result (branches_at (expr_at room) test (terminals tokens.now)) }
+    ensures { ReadsAs plain result (branches_at (expr_at room.two room.levels) test) tokens.now }
 {
     let rest = word_at(tokens, Reserved::Use)?;
     let (yes, rest) = expr_at(alloc, room, rest)?;
@@ -192,11 +200,11 @@ fn branches_at<'a>(
 #[tactic(auto, unfolding(ccsl_grammar::specs::Parser::rest_at))]
 fn rest_at<'a>(
     alloc: Global,
-    room: u32,
+    room: Room,
     operand: Tree,
     tokens: &'a [Token],
 ) -> Result<(Tree, &'a [Token]), Stop<'a>>
-    ensures { Gives (λ x. took (plain x.0) (terminals x.1.now)) result (rest_at (expr_at room) (plain operand) (terminals tokens.now)) }
+    ensures { ReadsAs plain result (rest_at (expr_at room.two room.levels) room.two (plain operand)) tokens.now }
 {
     if begins_binop(tokens) {
         binary_at(alloc, room, operand, tokens)
@@ -217,13 +225,13 @@ fn rest_at<'a>(
 #[tactic(auto, unfolding(ccsl_grammar::specs::Parser::binary_at))]
 fn binary_at<'a>(
     alloc: Global,
-    room: u32,
+    room: Room,
     operand: Tree,
     tokens: &'a [Token],
 ) -> Result<(Tree, &'a [Token]), Stop<'a>>
-    ensures { Gives (λ x. took (plain x.0) (terminals x.1.now)) result (binary_at (expr_at room) (plain operand) (terminals tokens.now)) }
+    ensures { ReadsAs plain result (binary_at (expr_at room.two room.levels) room.two (plain operand)) tokens.now }
 {
-    let (op, rest) = binop_at(tokens)?;
+    let (op, rest) = binop_at(room, tokens)?;
     let (other, rest) = operand_at(alloc, room, rest)?;
     let tree = binary(alloc, op, operand, other)?;
     Ok((tree, rest))
@@ -233,11 +241,11 @@ fn binary_at<'a>(
 #[tactic(auto, unfolding(ccsl_grammar::specs::Parser::delayed_at))]
 fn delayed_at<'a>(
     alloc: Global,
-    room: u32,
+    room: Room,
     operand: Tree,
     tokens: &'a [Token],
 ) -> Result<(Tree, &'a [Token]), Stop<'a>>
-    ensures { Gives (λ x. took (plain x.0) (terminals x.1.now)) result (delayed_at (expr_at room) (plain operand) (terminals tokens.now)) }
+    ensures { ReadsAs plain result (delayed_at (expr_at room.two room.levels) (plain operand)) tokens.now }
 {
     let rest = word_at(tokens, Reserved::Delayed)?;
     let (number, rest) = num_at(rest)?;
@@ -252,10 +260,10 @@ fn delayed_at<'a>(
 #[tactic(auto, unfolding(ccsl_grammar::specs::Parser::operand_at))]
 fn operand_at<'a>(
     alloc: Global,
-    room: u32,
+    room: Room,
     tokens: &'a [Token],
 ) -> Result<(Tree, &'a [Token]), Stop<'a>>
-    ensures { Gives (λ x. took (plain x.0) (terminals x.1.now)) result (operand_at (expr_at room) (terminals tokens.now)) }
+    ensures { ReadsAs plain result (operand_at (expr_at room.two room.levels)) tokens.now }
 {
     if begins_name(tokens) {
         let (name, rest) = name_at(alloc, tokens)?;
@@ -272,10 +280,10 @@ fn operand_at<'a>(
 #[tactic(auto, unfolding(ccsl_grammar::specs::Parser::parens_at))]
 fn parens_at<'a>(
     alloc: Global,
-    room: u32,
+    room: Room,
     tokens: &'a [Token],
 ) -> Result<(Tree, &'a [Token]), Stop<'a>>
-    ensures { Gives (λ x. took (plain x.0) (terminals x.1.now)) result (parens_at (expr_at room) (terminals tokens.now)) }
+    ensures { ReadsAs plain result (parens_at (expr_at room.two room.levels)) tokens.now }
 {
     let rest = symbol_at(tokens, b'(')?;
     let (tree, rest) = expr_at(alloc, room, rest)?;

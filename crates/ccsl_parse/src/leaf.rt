@@ -4,7 +4,7 @@ ghost use Rattle.std.specs.Prelude.{◌≡◌, true, IfOk};
 ghost use Rattle.ccsl_grammar.specs.Terminals.{terminal, terminals, is_word, is_symbol, is_name, is_quoted};
 ghost use Rattle.ccsl_grammar.specs.Reader.{took, begins};
 ghost use Rattle.ccsl_grammar.specs.Parser.{word_at, symbol_at, name_at, num_at, quoted_at};
-ghost use Rattle.ccsl_parse.specs.Gives.{Gives};
+ghost use Rattle.ccsl_parse.specs.Reads.{Reads, Skips};
 
 use crate::stop::Stop;
 use ccsl_ast::Spot;
@@ -87,7 +87,7 @@ pub fn begins_quoted(tokens: &[Token]) -> bool
 /// The reserved word.
 #[tactic(auto, unfolding(ccsl_grammar::specs::Parser::word_at))]
 pub fn word_at<'a>(tokens: &'a [Token], word: Reserved) -> Result<&'a [Token], Stop<'a>>
-    ensures { Gives (λ rest. took true (terminals rest.now)) result (word_at word (terminals tokens.now)) }
+    ensures { Skips result (word_at word) true tokens.now }
 {
     match tokens {
         [token, rest @ ..] => {
@@ -104,7 +104,7 @@ pub fn word_at<'a>(tokens: &'a [Token], word: Reserved) -> Result<&'a [Token], S
 /// The symbol of this byte.
 #[tactic(auto, unfolding(ccsl_grammar::specs::Parser::symbol_at))]
 pub fn symbol_at<'a>(tokens: &'a [Token], byte: u8) -> Result<&'a [Token], Stop<'a>>
-    ensures { Gives (λ rest. took true (terminals rest.now)) result (symbol_at byte (terminals tokens.now)) }
+    ensures { Skips result (symbol_at byte) true tokens.now }
 {
     match tokens {
         [token, rest @ ..] => {
@@ -128,7 +128,7 @@ pub fn copied(alloc: Global, text: &Text) -> Result<Text, AllocError>
 /// A name.
 #[tactic(auto, unfolding(ccsl_grammar::specs::Parser::name_at))]
 pub fn name_at<'a>(alloc: Global, tokens: &'a [Token]) -> Result<(Spot, &'a [Token]), Stop<'a>>
-    ensures { Gives (λ x. took x.0 (terminals x.1.now)) result (name_at (terminals tokens.now)) }
+    ensures { Reads result name_at tokens.now }
 {
     match tokens {
         [token, rest @ ..] => match &token.kind {
@@ -145,7 +145,7 @@ pub fn name_at<'a>(alloc: Global, tokens: &'a [Token]) -> Result<(Spot, &'a [Tok
 /// A number: its place, and its value.
 #[tactic(auto, unfolding(ccsl_grammar::specs::Parser::num_at))]
 pub fn num_at<'a>(tokens: &'a [Token]) -> Result<((usize, u32), &'a [Token]), Stop<'a>>
-    ensures { Gives (λ x. took x.0 (terminals x.1.now)) result (num_at (terminals tokens.now)) }
+    ensures { Reads result num_at tokens.now }
 {
     match tokens {
         [token, rest @ ..] => match &token.kind {
@@ -162,7 +162,7 @@ pub fn quoted_at<'a>(
     alloc: Global,
     tokens: &'a [Token],
 ) -> Result<((usize, Text), &'a [Token]), Stop<'a>>
-    ensures { Gives (λ x. took x.0 (terminals x.1.now)) result (quoted_at (terminals tokens.now)) }
+    ensures { Reads result quoted_at tokens.now }
 {
     match tokens {
         [token, rest @ ..] => match &token.kind {

@@ -13,6 +13,7 @@ mod param;
 mod parser;
 mod relation;
 mod repeat;
+mod room;
 mod stop;
 mod term;
 mod test;

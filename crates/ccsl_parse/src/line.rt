@@ -6,13 +6,14 @@ ghost use Rattle.ccsl_grammar.specs.Terminals.{terminals};
 ghost use Rattle.ccsl_grammar.specs.Reader.{took, begins};
 ghost use Rattle.ccsl_grammar.specs.Parser.{define_at, call_at, constraint_at, rline_at, clocks_at, sline_at, no_brace};
 ghost use Rattle.ccsl_grammar.proofs.Loop.{rline_falls, sline_falls};
-ghost use Rattle.ccsl_parse.specs.Gives.{Gives};
+ghost use Rattle.ccsl_parse.specs.Reads.{ReadsAs};
 
 use crate::expression::expr_at;
 use crate::leaf::{begins_symbol, begins_word, is_symbol, name_at, symbol_at, word_at};
 use crate::list::{further_members, list_at};
 use crate::relation::relop_at;
 use crate::repeat::Repeated;
+use crate::room::Room;
 use crate::stop::Stop;
 use ccsl_ast::{RelationLine, Spot, SystemLine};
 use ccsl_lex::{Reserved, Token};
@@ -21,10 +22,10 @@ use std::alloc::Global;
 #[tactic(auto, unfolding(ccsl_grammar::specs::Parser::define_at))]
 fn define_at<'a>(
     alloc: Global,
-    room: u32,
+    room: Room,
     tokens: &'a [Token],
 ) -> Result<(RelationLine, &'a [Token]), Stop<'a>>
-    ensures { Gives (λ x. took (plain_line x.0) (terminals x.1.now)) result (define_at room (terminals tokens.now)) }
+    ensures { ReadsAs plain_line result (define_at room.two room.levels) tokens.now }
 {
     let rest = word_at(tokens, Reserved::Define)?;
     let (name, rest) = name_at(alloc, rest)?;
@@ -41,7 +42,7 @@ fn call_at<'a>(
     name: Spot,
     tokens: &'a [Token],
 ) -> Result<(RelationLine, &'a [Token]), Stop<'a>>
-    ensures { Gives (λ x. took (plain_line x.0) (terminals x.1.now)) result (call_at name (terminals tokens.now)) }
+    ensures { ReadsAs plain_line result (call_at name) tokens.now }
 {
     let rest = symbol_at(tokens, b'(')?;
     let (args, rest) = list_at(alloc, rest)?;
@@ -53,12 +54,13 @@ fn call_at<'a>(
 #[tactic(auto, unfolding(ccsl_grammar::specs::Parser::constraint_at))]
 fn constraint_at<'a>(
     alloc: Global,
+    room: Room,
     left: Spot,
     tokens: &'a [Token],
 ) -> Result<(RelationLine, &'a [Token]), Stop<'a>>
-    ensures { Gives (λ x. took (plain_line x.0) (terminals x.1.now)) result (constraint_at left (terminals tokens.now)) }
+    ensures { ReadsAs plain_line result (constraint_at room.two left) tokens.now }
 {
-    let (relation, rest) = relop_at(tokens)?;
+    let (relation, rest) = relop_at(room, tokens)?;
     let (right, rest) = name_at(alloc, rest)?;
     let rest = symbol_at(rest, b';')?;
     Ok((RelationLine::Constraint(left, relation, right), rest))
@@ -66,12 +68,12 @@ fn constraint_at<'a>(
 
 /// A line of a relation's body.
 #[tactic(auto, unfolding(ccsl_grammar::specs::Parser::rline_at))]
-pub fn relation_line_at<'a>(
+pub fn rline_at<'a>(
     alloc: Global,
-    room: u32,
+    room: Room,
     tokens: &'a [Token],
 ) -> Result<(RelationLine, &'a [Token]), Stop<'a>>
-    ensures { Gives (λ x. took (plain_line x.0) (terminals x.1.now)) result (rline_at room (terminals tokens.now)) }
+    ensures { ReadsAs plain_line result (rline_at room.two room.levels) tokens.now }
 {
     if begins_word(tokens, Reserved::Define) {
         define_at(alloc, room, tokens)
@@ -80,14 +82,14 @@ pub fn relation_line_at<'a>(
         if begins_symbol(rest, b'(') {
             call_at(alloc, name, rest)
         } else {
-            constraint_at(alloc, name, rest)
+            constraint_at(alloc, room, name, rest)
         }
     }
 }
 
 #[tactic(auto, using(crate::proofs::Turns::led, crate::proofs::Turns::led_stops), unfolding(ccsl_grammar::specs::Parser::clocks_at))]
 fn clocks_at<'a>(alloc: Global, tokens: &'a [Token]) -> Result<(SystemLine, &'a [Token]), Stop<'a>>
-    ensures { Gives (λ x. took (plain_sline x.0) (terminals x.1.now)) result (clocks_at (terminals tokens.now)) }
+    ensures { ReadsAs plain_sline result clocks_at tokens.now }
 {
     let rest = word_at(tokens, Reserved::Clock)?;
     let (name, rest) = name_at(alloc, rest)?;
@@ -100,17 +102,17 @@ fn clocks_at<'a>(alloc: Global, tokens: &'a [Token]) -> Result<(SystemLine, &'a 
 
 /// A line of the system.
 #[tactic(auto, unfolding(ccsl_grammar::specs::Parser::sline_at))]
-fn system_line_at<'a>(
+fn sline_at<'a>(
     alloc: Global,
-    room: u32,
+    room: Room,
     tokens: &'a [Token],
 ) -> Result<(SystemLine, &'a [Token]), Stop<'a>>
-    ensures { Gives (λ x. took (plain_sline x.0) (terminals x.1.now)) result (sline_at room (terminals tokens.now)) }
+    ensures { ReadsAs plain_sline result (sline_at room.two room.levels) tokens.now }
 {
     if begins_word(tokens, Reserved::Clock) {
         clocks_at(alloc, tokens)
     } else {
-        let (line, rest) = relation_line_at(alloc, room, tokens)?;
+        let (line, rest) = rline_at(alloc, room, tokens)?;
         Ok((SystemLine::Line(line), rest))
     }
 }
@@ -134,7 +136,7 @@ impl Repeated for RelationLine {
 
     ghost reader = { rline_at };
 
-    ghost falls = { λ room. (rline_falls room).at };
+    ghost falls = { λ two levels. (rline_falls two levels).at };
 
     fn begins(tokens: &[Token]) -> bool {
         begins_line(tokens)
@@ -142,10 +144,10 @@ impl Repeated for RelationLine {
 
     fn read<'a>(
         alloc: Global,
-        room: u32,
+        room: Room,
         tokens: &'a [Token],
     ) -> Result<(RelationLine, &'a [Token]), Stop<'a>> {
-        relation_line_at(alloc, room, tokens)
+        rline_at(alloc, room, tokens)
     }
 }
 
@@ -158,7 +160,7 @@ impl Repeated for SystemLine {
 
     ghost reader = { sline_at };
 
-    ghost falls = { λ room. (sline_falls room).at };
+    ghost falls = { λ two levels. (sline_falls two levels).at };
 
     fn begins(tokens: &[Token]) -> bool {
         begins_line(tokens)
@@ -166,9 +168,9 @@ impl Repeated for SystemLine {
 
     fn read<'a>(
         alloc: Global,
-        room: u32,
+        room: Room,
         tokens: &'a [Token],
     ) -> Result<(SystemLine, &'a [Token]), Stop<'a>> {
-        system_line_at(alloc, room, tokens)
+        sline_at(alloc, room, tokens)
     }
 }

@@ -3,9 +3,9 @@
 ghost use Rattle.std.specs.Prelude.{◌≡◌};
 ghost use Rattle.ccsl_grammar.specs.Terminals.{terminals, is_symbol};
 ghost use Rattle.ccsl_grammar.specs.Reader.{took, many};
-ghost use Rattle.ccsl_grammar.specs.Loop.{prefixed};
+ghost use Rattle.ccsl_grammar.specs.Loop.{behind};
 ghost use Rattle.ccsl_grammar.specs.Parser.{further_at, list_at};
-ghost use Rattle.ccsl_parse.specs.Gives.{Gives};
+ghost use Rattle.ccsl_parse.specs.Reads.{Reads};
 
 use crate::leaf::{begins_symbol, name_at, symbol_at};
 use crate::stop::Stop;
@@ -23,9 +23,10 @@ pub trait Listed: Drop {
     ghost reader: { Reader Self };
 
     fn read<'a>(alloc: Global, tokens: &'a [Token]) -> Result<(Self, &'a [Token]), Stop<'a>>
-        ensures { Gives (λ x. took x.0 (terminals x.1.now)) result (reader (terminals tokens.now)) };
+        ensures { Reads result reader tokens.now };
 
-    ghost falls: { (ts : List Terminal) (v : Self) (rest : List Terminal) → further_at reader ts ≡ took v rest → length rest < length ts };
+    ghost falls: { (ts : List Terminal) (v : Self) (rest : List Terminal)
+        → further_at reader ts ≡ took v rest → length rest < length ts };
 }
 
 /// What follows a comma.
@@ -34,7 +35,7 @@ fn further_at<'a, T: Listed>(
     alloc: Global,
     tokens: &'a [Token],
 ) -> Result<(T, &'a [Token]), Stop<'a>>
-    ensures { Gives (λ x. took x.0 (terminals x.1.now)) result (further_at T.reader (terminals tokens.now)) }
+    ensures { Reads result (further_at T.reader) tokens.now }
 {
     let rest = symbol_at(tokens, b',')?;
     T::read(alloc, rest)
@@ -46,7 +47,7 @@ pub fn further_members<'a, T: Listed>(
     first: Vec<T>,
     tokens: &'a [Token],
 ) -> Result<(Seq<T>, &'a [Token]), Stop<'a>>
-    ensures { Gives (λ x. took x.0 (terminals x.1.now)) result (prefixed first.items (many (is_symbol 44) (further_at T.reader) (terminals tokens.now))) }
+    ensures { Reads result (behind first.items (many (is_symbol 44) (further_at T.reader))) tokens.now }
 {
     let mut members = first;
     let mut rest = tokens;
@@ -64,7 +65,7 @@ pub fn list_at<'a, T: Listed>(
     alloc: Global,
     tokens: &'a [Token],
 ) -> Result<(Seq<T>, &'a [Token]), Stop<'a>>
-    ensures { Gives (λ x. took x.0 (terminals x.1.now)) result (list_at T.reader (terminals tokens.now)) }
+    ensures { Reads result (list_at T.reader) tokens.now }
 {
     if begins_symbol(tokens, b')') {
         let rest = symbol_at(tokens, b')')?;

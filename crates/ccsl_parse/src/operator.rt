@@ -3,10 +3,11 @@
 ghost use Rattle.std.specs.Prelude.{◌≡◌};
 ghost use Rattle.ccsl_grammar.specs.Terminals.{terminal, terminals};
 ghost use Rattle.ccsl_grammar.specs.Reader.{took, begins, accept};
-ghost use Rattle.ccsl_grammar.specs.Parser.{binop_of, sampled_at, binop_at, is_binop};
-ghost use Rattle.ccsl_parse.specs.Gives.{Gives};
+ghost use Rattle.ccsl_grammar.specs.Parser.{binop_of, sampled_at, upto_at, binop_at, is_binop};
+ghost use Rattle.ccsl_parse.specs.Reads.{Reads};
 
 use crate::leaf::{begins_word, is_word, word_at};
+use crate::room::Room;
 use crate::stop::Stop;
 use ccsl_ast::BinaryOp;
 use ccsl_lex::{Reserved, Token, TokenKind};
@@ -21,7 +22,6 @@ fn binop_of(token: &Token) -> Option<BinaryOp>
         TokenKind::Word(Reserved::Minus) => Some(BinaryOp::Minus),
         TokenKind::Word(Reserved::Inf) => Some(BinaryOp::Inf),
         TokenKind::Word(Reserved::Sup) => Some(BinaryOp::Sup),
-        TokenKind::Word(Reserved::Upto) => Some(BinaryOp::Upto),
         TokenKind::Word(Reserved::Then) => Some(BinaryOp::Then),
         _ => None,
     }
@@ -31,13 +31,17 @@ pub fn begins_binop(tokens: &[Token]) -> bool
     ensures { result ≡ begins is_binop (terminals tokens.now) }
 {
     match tokens {
-        [token, ..] => is_word(token, Reserved::Sampled) || binop_of(token).is_some(),
+        [token, ..] => {
+            is_word(token, Reserved::Sampled)
+                || is_word(token, Reserved::Upto)
+                || binop_of(token).is_some()
+        },
         [] => false,
     }
 }
 
 fn word_binop_at<'a>(tokens: &'a [Token]) -> Result<(BinaryOp, &'a [Token]), Stop<'a>>
-    ensures { Gives (λ x. took x.0 (terminals x.1.now)) result (accept binop_of (terminals tokens.now)) }
+    ensures { Reads result (accept binop_of) tokens.now }
 {
     match tokens {
         [token, rest @ ..] => match binop_of(token) {
@@ -50,7 +54,7 @@ fn word_binop_at<'a>(tokens: &'a [Token]) -> Result<(BinaryOp, &'a [Token]), Sto
 
 #[tactic(auto, unfolding(ccsl_grammar::specs::Parser::sampled_at))]
 fn sampled_at<'a>(tokens: &'a [Token]) -> Result<(BinaryOp, &'a [Token]), Stop<'a>>
-    ensures { Gives (λ x. took x.0 (terminals x.1.now)) result (sampled_at (terminals tokens.now)) }
+    ensures { Reads result sampled_at tokens.now }
 {
     let rest = word_at(tokens, Reserved::Sampled)?;
     if begins_word(rest, Reserved::Weakly) {
@@ -63,13 +67,28 @@ fn sampled_at<'a>(tokens: &'a [Token]) -> Result<(BinaryOp, &'a [Token]), Stop<'
     }
 }
 
+#[tactic(auto, unfolding(ccsl_grammar::specs::Parser::upto_at))]
+fn upto_at<'a>(room: Room, tokens: &'a [Token]) -> Result<(BinaryOp, &'a [Token]), Stop<'a>>
+    ensures { Reads result (upto_at room.two) tokens.now }
+{
+    let rest = word_at(tokens, Reserved::Upto)?;
+    if room.two && begins_word(rest, Reserved::Weakly) {
+        let rest = word_at(rest, Reserved::Weakly)?;
+        Ok((BinaryOp::UptoWeakly, rest))
+    } else {
+        Ok((BinaryOp::Upto, rest))
+    }
+}
+
 /// An operator between two operands.
 #[tactic(auto, unfolding(ccsl_grammar::specs::Parser::binop_at))]
-pub fn binop_at<'a>(tokens: &'a [Token]) -> Result<(BinaryOp, &'a [Token]), Stop<'a>>
-    ensures { Gives (λ x. took x.0 (terminals x.1.now)) result (binop_at (terminals tokens.now)) }
+pub fn binop_at<'a>(room: Room, tokens: &'a [Token]) -> Result<(BinaryOp, &'a [Token]), Stop<'a>>
+    ensures { Reads result (binop_at room.two) tokens.now }
 {
     if begins_word(tokens, Reserved::Sampled) {
         sampled_at(tokens)
+    } else if begins_word(tokens, Reserved::Upto) {
+        upto_at(room, tokens)
     } else {
         word_binop_at(tokens)
     }

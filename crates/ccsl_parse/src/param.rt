@@ -4,7 +4,7 @@ ghost use Rattle.ccsl_grammar.specs.Terminals.{terminals};
 ghost use Rattle.ccsl_grammar.specs.Reader.{took};
 ghost use Rattle.ccsl_grammar.specs.Parser.{kind_at, param_at};
 ghost use Rattle.ccsl_grammar.proofs.Loop.{further_param_falls};
-ghost use Rattle.ccsl_parse.specs.Gives.{Gives};
+ghost use Rattle.ccsl_parse.specs.Reads.{Reads};
 
 use crate::leaf::name_at;
 use crate::list::Listed;
@@ -15,7 +15,7 @@ use std::alloc::Global;
 
 #[tactic(auto, unfolding(ccsl_grammar::specs::Parser::kind_at))]
 fn kind_at<'a>(tokens: &'a [Token]) -> Result<(Kind, &'a [Token]), Stop<'a>>
-    ensures { Gives (λ x. took x.0 (terminals x.1.now)) result (kind_at (terminals tokens.now)) }
+    ensures { Reads result kind_at tokens.now }
 {
     match tokens {
         [token, rest @ ..] => match &token.kind {
@@ -31,7 +31,7 @@ fn kind_at<'a>(tokens: &'a [Token]) -> Result<(Kind, &'a [Token]), Stop<'a>>
 /// A parameter.
 #[tactic(auto, unfolding(ccsl_grammar::specs::Parser::param_at))]
 pub fn param_at<'a>(alloc: Global, tokens: &'a [Token]) -> Result<(Param, &'a [Token]), Stop<'a>>
-    ensures { Gives (λ x. took x.0 (terminals x.1.now)) result (param_at (terminals tokens.now)) }
+    ensures { Reads result param_at tokens.now }
 {
     let (kind, rest) = kind_at(tokens)?;
     let (name, rest) = name_at(alloc, rest)?;

@@ -1,59 +1,58 @@
 //! The parser.
 
-ghost use Rattle.std.specs.Prelude.{◌≡◌, ◌-◌, ◌≤◌, ℕ, [], Err, length, map, take, drop, IfOk, IfErr, IsOkAnd};
+ghost use Rattle.std.specs.Prelude.{◌≡◌, ◌⊎◌, ◌-◌, ◌≤◌, ℕ, [], Err, length, map, take, drop, IfOk, IfErr, IsOkAnd};
 ghost use Rattle.ccsl_ast.specs.Trees.{PlainFile, plain_sline, plain_parts};
 ghost use Rattle.ccsl_ast.specs.Files.{plain_file};
 ghost use Rattle.ccsl_grammar.specs.Terminals.{terminals};
 ghost use Rattle.ccsl_grammar.specs.Reader.{took, accept};
-ghost use Rattle.ccsl_grammar.specs.Parser.{one_of, version_at, system_at, file_at};
+ghost use Rattle.ccsl_grammar.specs.Parser.{version_of, version_at, system_at, file_at};
 ghost use Rattle.ccsl_grammar.specs.File.{Parses};
 ghost use Rattle.ccsl_grammar.specs.Faults.{place, last_end, SyntaxAt, TooDeepAt};
-ghost use Rattle.ccsl_parse.specs.Gives.{Gives, Fails};
-ghost use Rattle.ccsl_parse.specs.Answered.{StandsIn, UnlessMemory};
+ghost use Rattle.ccsl_parse.specs.Reads.{Reads, ReadsAs, Fails};
+ghost use Rattle.ccsl_parse.specs.Answered.{StandsIn};
 
 use crate::fault::ParseFault;
 use crate::leaf::{symbol_at, word_at};
 use crate::repeat::many_at;
+use crate::room::Room;
 use crate::stop::Stop;
 use ccsl_ast::{Definition, File, SystemLine};
-use ccsl_base::Seq;
+use ccsl_base::{MAX_LEVELS, Seq};
 use ccsl_lex::{Reserved, Token, TokenKind};
 use std::alloc::Global;
 
-/// The deepest level at which an expression may stand.
-const LEVELS: u32 = 128;
-
-/// The place of the number 1.
-fn one_at<'a>(tokens: &'a [Token]) -> Result<(usize, &'a [Token]), Stop<'a>>
-    ensures { Gives (λ x. took x.0 (terminals x.1.now)) result (accept one_of (terminals tokens.now)) }
+/// Which version a number is.
+fn number_at<'a>(tokens: &'a [Token]) -> Result<(bool, &'a [Token]), Stop<'a>>
+    ensures { Reads result (accept version_of) tokens.now }
 {
     match tokens {
         [token, rest @ ..] => match &token.kind {
-            TokenKind::Num(1) => Ok((token.at, rest)),
+            TokenKind::Num(1) => Ok((false, rest)),
+            TokenKind::Num(2) => Ok((true, rest)),
             _ => Err(Stop::Syntax(tokens)),
         },
         [] => Err(Stop::Syntax(tokens)),
     }
 }
 
-/// The first statement; the place of its number.
+/// The first statement: whether it says version 2.
 #[tactic(auto, unfolding(ccsl_grammar::specs::Parser::version_at))]
-fn version_at<'a>(tokens: &'a [Token]) -> Result<(usize, &'a [Token]), Stop<'a>>
-    ensures { Gives (λ x. took x.0 (terminals x.1.now)) result (version_at (terminals tokens.now)) }
+fn version_at<'a>(tokens: &'a [Token]) -> Result<(bool, &'a [Token]), Stop<'a>>
+    ensures { Reads result version_at tokens.now }
 {
     let rest = word_at(tokens, Reserved::Ccsl)?;
-    let (at, rest) = one_at(rest)?;
+    let (two, rest) = number_at(rest)?;
     let rest = symbol_at(rest, b';')?;
-    Ok((at, rest))
+    Ok((two, rest))
 }
 
 #[tactic(auto, using(crate::proofs::Lists::unled), unfolding(ccsl_grammar::specs::Parser::system_at))]
 fn system_at<'a>(
     alloc: Global,
-    room: u32,
+    room: Room,
     tokens: &'a [Token],
 ) -> Result<(Seq<SystemLine>, &'a [Token]), Stop<'a>>
-    ensures { Gives (λ x. took (map plain_sline x.0) (terminals x.1.now)) result (system_at room (terminals tokens.now)) }
+    ensures { ReadsAs (map plain_sline) result (system_at room.two room.levels) tokens.now }
 {
     let rest = word_at(tokens, Reserved::System)?;
     let rest = symbol_at(rest, b'{')?;
@@ -62,19 +61,38 @@ fn system_at<'a>(
     Ok((lines, rest))
 }
 
+/// What a file is made of.
+#[derive(Drop)]
+struct Parts {
+    version: u32,
+    definitions: Seq<Definition>,
+    lines: Seq<SystemLine>,
+}
+
+/// A file, behind which nothing stands.
 #[tactic(auto, using(crate::proofs::Lists::unled), unfolding(ccsl_grammar::specs::Parser::file_at))]
 fn file_at<'a>(
     alloc: Global,
-    room: u32,
+    levels: u32,
     tokens: &'a [Token],
-) -> Result<(Seq<Definition>, Seq<SystemLine>), Stop<'a>>
-    ensures { Gives (λ x. took (plain_parts 1 x.0 x.1) []) result (file_at room (terminals tokens.now)) }
+) -> Result<(Parts, &'a [Token]), Stop<'a>>
+    ensures { ReadsAs (λ f. plain_parts f.version f.definitions f.lines) result
+        (file_at levels) tokens.now }
 {
-    let (_, rest) = version_at(tokens)?;
+    let (two, rest) = version_at(tokens)?;
+    let version = if two { 2 } else { 1 };
+    let room = Room { levels, two };
     let (definitions, rest) = many_at(alloc, room, Vec::new(alloc), rest)?;
     let (lines, rest) = system_at(alloc, room, rest)?;
     match rest {
-        [] => Ok((definitions, lines)),
+        [] => Ok((
+            Parts {
+                version,
+                definitions,
+                lines,
+            },
+            rest,
+        )),
         _ => Err(Stop::Syntax(rest)),
     }
 }
@@ -102,7 +120,7 @@ fn place(tokens: &[Token], left: usize) -> usize
 
 /// The fault at which the parser stopped.
 fn fault(tokens: &[Token], stop: Stop) -> ParseFault
-    requires { Fails stop (file_at 128 (terminals tokens.now)) }
+    requires { Fails stop (file_at MAX_LEVELS (terminals tokens.now)) }
     ensures { StandsIn result tokens.now }
 {
     match stop {
@@ -116,23 +134,30 @@ fn fault(tokens: &[Token], stop: Stop) -> ParseFault
 ///
 /// The list may be any list, and need not be that of a text.
 pub fn parse(alloc: Global, tokens: &[Token]) -> Result<File, ParseFault>
-    ensures tree { IfOk result (λ file. Parses 128 (terminals tokens.now) (plain_file file)) }
+    ensures tree { IfOk result (λ file. Parses MAX_LEVELS (terminals tokens.now) (plain_file file)) }
     ensures fault { IfErr result (λ fault. StandsIn fault tokens.now) }
 
     // Each answer comes wherever it is true of the tokens, unless memory runs out.
-    ensures each_tree { (f : PlainFile) → Parses 128 (terminals tokens.now) f
-        → UnlessMemory result (IsOkAnd result (λ file. plain_file file ≡ f)) }
-    ensures each_syntax { (at : ℕ) → SyntaxAt 128 tokens.now at
-        → UnlessMemory result (result ≡ Err (ParseFault.Syntax at)) }
-    ensures each_too_deep { (at : ℕ) → TooDeepAt 128 tokens.now at
-        → UnlessMemory result (result ≡ Err (ParseFault.TooDeep at)) }
+    ensures each_tree { (f : PlainFile) → Parses MAX_LEVELS (terminals tokens.now) f
+        → IsOkAnd result (λ file. plain_file file ≡ f) ⊎ (result ≡ Err ParseFault.Memory) }
+    ensures each_syntax { (at : ℕ) → SyntaxAt MAX_LEVELS tokens.now at
+        → (result ≡ Err (ParseFault.Syntax at)) ⊎ (result ≡ Err ParseFault.Memory) }
+    ensures each_too_deep { (at : ℕ) → TooDeepAt MAX_LEVELS tokens.now at
+        → (result ≡ Err (ParseFault.TooDeep at)) ⊎ (result ≡ Err ParseFault.Memory) }
 {
-    match file_at(alloc, LEVELS, tokens) {
-        Ok((definitions, lines)) => Ok(File {
-            version: 1,
-            definitions,
-            lines,
-        }),
+    match file_at(alloc, MAX_LEVELS, tokens) {
+        Ok((parts, _)) => {
+            let Parts {
+                version,
+                definitions,
+                lines,
+            } = parts;
+            Ok(File {
+                version,
+                definitions,
+                lines,
+            })
+        }
         Err(stop) => Err(fault(tokens, stop)),
     }
 }

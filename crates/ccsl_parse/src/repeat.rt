@@ -3,15 +3,16 @@
 ghost use Rattle.std.specs.Prelude.{◌≡◌, map};
 ghost use Rattle.ccsl_grammar.specs.Terminals.{terminals};
 ghost use Rattle.ccsl_grammar.specs.Reader.{took, many};
-ghost use Rattle.ccsl_grammar.specs.Loop.{prefixed};
-ghost use Rattle.ccsl_parse.specs.Gives.{Gives};
+ghost use Rattle.ccsl_grammar.specs.Loop.{behind};
+ghost use Rattle.ccsl_parse.specs.Reads.{ReadsAs};
 
+use crate::room::Room;
 use crate::stop::Stop;
 use ccsl_base::Seq;
 use ccsl_lex::Token;
 use std::alloc::Global;
 
-/// What may stand any number of times. `room` is the number of levels that its expressions have.
+/// What may stand any number of times.
 pub trait Repeated: Drop {
     ghost use Rattle.std.specs.Prelude.{ℕ, Bool, List, length, ◌<◌};
     ghost use Rattle.ccsl_grammar.specs.Terminals.{Terminal};
@@ -23,7 +24,7 @@ pub trait Repeated: Drop {
 
     ghost starts: { Terminal → Bool };
 
-    ghost reader: { ℕ → Reader Plain };
+    ghost reader: { Bool → ℕ → Reader Plain };
 
     /// Whether one more begins here.
     fn begins(tokens: &[Token]) -> bool
@@ -31,22 +32,24 @@ pub trait Repeated: Drop {
 
     fn read<'a>(
         alloc: Global,
-        room: u32,
+        room: Room,
         tokens: &'a [Token],
     ) -> Result<(Self, &'a [Token]), Stop<'a>>
-        ensures { Gives (λ x. took (plain x.0) (terminals x.1.now)) result (reader room (terminals tokens.now)) };
+        ensures { ReadsAs plain result (reader room.two room.levels) tokens.now };
 
-    ghost falls: { (room : ℕ) (ts : List Terminal) (v : Plain) (rest : List Terminal) → reader room ts ≡ took v rest → length rest < length ts };
+    ghost falls: { (two : Bool) (levels : ℕ) (ts : List Terminal) (v : Plain) (rest : List Terminal)
+        → reader two levels ts ≡ took v rest → length rest < length ts };
 }
 
 /// As many as stand here, behind the first ones.
 pub fn many_at<'a, T: Repeated>(
     alloc: Global,
-    room: u32,
+    room: Room,
     first: Vec<T>,
     tokens: &'a [Token],
 ) -> Result<(Seq<T>, &'a [Token]), Stop<'a>>
-    ensures { Gives (λ x. took (map T.plain x.0) (terminals x.1.now)) result (prefixed (map T.plain first.items) (many T.starts (T.reader room) (terminals tokens.now))) }
+    ensures { ReadsAs (map T.plain) result
+        (behind (map T.plain first.items) (many T.starts (T.reader room.two room.levels))) tokens.now }
 {
     let mut members = first;
     let mut rest = tokens;

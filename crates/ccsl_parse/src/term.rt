@@ -4,7 +4,7 @@ ghost use Rattle.std.specs.Prelude.{◌≡◌};
 ghost use Rattle.ccsl_grammar.specs.Terminals.{terminals};
 ghost use Rattle.ccsl_grammar.specs.Reader.{took, many, begins};
 ghost use Rattle.ccsl_grammar.specs.Parser.{prim_at, sign_at, is_sign, signed_at, term_at, wterm_at};
-ghost use Rattle.ccsl_parse.specs.Gives.{Gives};
+ghost use Rattle.ccsl_parse.specs.Reads.{Reads};
 
 use crate::leaf::{begins_name, begins_symbol, begins_word, copied, name_at, quoted_at, word_at};
 use crate::stop::Stop;
@@ -15,7 +15,7 @@ use std::alloc::Global;
 
 #[tactic(auto, unfolding(ccsl_grammar::specs::Parser::prim_at))]
 fn prim_at<'a>(alloc: Global, tokens: &'a [Token]) -> Result<(Prim, &'a [Token]), Stop<'a>>
-    ensures { Gives (λ x. took x.0 (terminals x.1.now)) result (prim_at (terminals tokens.now)) }
+    ensures { Reads result prim_at tokens.now }
 {
     match tokens {
         [token, rest @ ..] => match &token.kind {
@@ -38,7 +38,7 @@ fn begins_sign(tokens: &[Token]) -> bool
 
 #[tactic(auto, unfolding(ccsl_grammar::specs::Parser::sign_at))]
 fn sign_at<'a>(tokens: &'a [Token]) -> Result<(Sign, &'a [Token]), Stop<'a>>
-    ensures { Gives (λ x. took x.0 (terminals x.1.now)) result (sign_at (terminals tokens.now)) }
+    ensures { Reads result sign_at tokens.now }
 {
     match tokens {
         [token, rest @ ..] => match &token.kind {
@@ -55,7 +55,7 @@ fn signed_at<'a>(
     alloc: Global,
     tokens: &'a [Token],
 ) -> Result<((Sign, Prim), &'a [Token]), Stop<'a>>
-    ensures { Gives (λ x. took x.0 (terminals x.1.now)) result (signed_at (terminals tokens.now)) }
+    ensures { Reads result signed_at tokens.now }
 {
     let (sign, rest) = sign_at(tokens)?;
     let (prim, rest) = prim_at(alloc, rest)?;
@@ -66,7 +66,7 @@ fn further_signed<'a>(
     alloc: Global,
     tokens: &'a [Token],
 ) -> Result<(Seq<(Sign, Prim)>, &'a [Token]), Stop<'a>>
-    ensures { Gives (λ x. took x.0 (terminals x.1.now)) result (many is_sign signed_at (terminals tokens.now)) }
+    ensures { Reads result (many is_sign signed_at) tokens.now }
 {
     let mut members = Vec::new(alloc);
     let mut rest = tokens;
@@ -81,7 +81,7 @@ fn further_signed<'a>(
 /// A sum.
 #[tactic(auto, unfolding(ccsl_grammar::specs::Parser::term_at))]
 pub fn term_at<'a>(alloc: Global, tokens: &'a [Token]) -> Result<(Term, &'a [Token]), Stop<'a>>
-    ensures { Gives (λ x. took x.0 (terminals x.1.now)) result (term_at (terminals tokens.now)) }
+    ensures { Reads result term_at tokens.now }
 {
     let (first, rest) = prim_at(alloc, tokens)?;
     let (signed, rest) = further_signed(alloc, rest)?;
@@ -95,7 +95,7 @@ pub fn term_at<'a>(alloc: Global, tokens: &'a [Token]) -> Result<(Term, &'a [Tok
 /// What a filter goes by.
 #[tactic(auto, unfolding(ccsl_grammar::specs::Parser::wterm_at))]
 pub fn wterm_at<'a>(alloc: Global, tokens: &'a [Token]) -> Result<(WordTerm, &'a [Token]), Stop<'a>>
-    ensures { Gives (λ x. took x.0 (terminals x.1.now)) result (wterm_at (terminals tokens.now)) }
+    ensures { Reads result wterm_at tokens.now }
 {
     if begins_name(tokens) {
         let (name, rest) = name_at(alloc, tokens)?;

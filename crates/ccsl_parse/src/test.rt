@@ -3,7 +3,7 @@
 ghost use Rattle.ccsl_grammar.specs.Terminals.{terminals};
 ghost use Rattle.ccsl_grammar.specs.Reader.{took};
 ghost use Rattle.ccsl_grammar.specs.Parser.{comparison_at, test_at};
-ghost use Rattle.ccsl_parse.specs.Gives.{Gives};
+ghost use Rattle.ccsl_parse.specs.Reads.{Reads};
 
 use crate::leaf::{begins_symbol, begins_word, name_at, symbol_at, word_at};
 use crate::stop::Stop;
@@ -19,7 +19,7 @@ fn comparison_at<'a>(
     left: Term,
     tokens: &'a [Token],
 ) -> Result<(Test, &'a [Token]), Stop<'a>>
-    ensures { Gives (λ x. took x.0 (terminals x.1.now)) result (comparison_at left (terminals tokens.now)) }
+    ensures { Reads result (comparison_at left) tokens.now }
 {
     if begins_symbol(tokens, b'=') {
         let rest = symbol_at(tokens, b'=')?;
@@ -35,7 +35,7 @@ fn comparison_at<'a>(
 /// What an `if` asks.
 #[tactic(auto, unfolding(ccsl_grammar::specs::Parser::test_at))]
 pub fn test_at<'a>(alloc: Global, tokens: &'a [Token]) -> Result<(Test, &'a [Token]), Stop<'a>>
-    ensures { Gives (λ x. took x.0 (terminals x.1.now)) result (test_at (terminals tokens.now)) }
+    ensures { Reads result test_at tokens.now }
 {
     if begins_word(tokens, Reserved::Head) {
         let rest = word_at(tokens, Reserved::Head)?;

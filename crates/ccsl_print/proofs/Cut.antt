@@ -14,7 +14,8 @@ use Rattle.ccsl_lex.specs.declared.token.TokenKind.{TokenKind}
 use Rattle.ccsl_lex.specs.Tokens.{Piece, blank, text_of, starts, is_piece, goes_on, AreCut, fits, token_at, tokens_of}
 use Rattle.ccsl_grammar.specs.Terminals.{Terminal, word, symbol, name, number, quoted}
 use Rattle.ccsl_grammar.specs.Bare.{bare, bares}
-use Rattle.ccsl_print.specs.CanonicalText.{written, touches, laid, TextLine, line_text}
+use Rattle.ccsl_grammar.specs.Canonical.{TextLine}
+use Rattle.ccsl_print.specs.CanonicalText.{written, touches, laid, line_text}
 use Rattle.ccsl_print.specs.ReadsBack.{plain_terminal}
 use Rattle.ccsl_print.proofs.Pieces.{piece_of, written_is, is_kept, ReadsAs, reads_as, mark_apart}
 

@@ -5,8 +5,9 @@ use Rattle.std.specs.List.{flat_map}
 use Rattle.std.proofs.lemmas.List.{append-nil}
 use Rattle.ccsl_ast.specs.Trees.{PlainFile}
 use Rattle.ccsl_grammar.specs.Terminals.{Terminal, word, symbol, name, number, quoted, is_symbol}
+use Rattle.ccsl_grammar.specs.Canonical.{TextLine, file_lines}
 use Rattle.ccsl_print.specs.declared.edge.Edge.TheVariants.{Start, Opening, Other}
-use Rattle.ccsl_print.specs.CanonicalText.{written, touches, laid, TextLine, line_text, file_lines, canonical_text}
+use Rattle.ccsl_print.specs.CanonicalText.{written, touches, laid, line_text, canonical_text}
 use Rattle.ccsl_print.specs.Pages.{PlainPage, empty_page, is_parted_from, edge_of, blank_if, step, after, begun, ended, line_after, lines_after}
 
 -- what stands behind t

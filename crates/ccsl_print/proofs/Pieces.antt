@@ -1,25 +1,27 @@
 -- Each token that a kept file may have is written as one piece, within the limits, that is read as this token.
-use Rattle.std.proofs.Common.{◌≡◌, ℕ, ◌<◌, ◌^◌, Bool, true, false, ◌&&◌, ◌||◌, not, List, [], ◌∷◌, ◌++◌, length, Option, Some, None, refl, sym, ap, ◌∙◌, arith, leb}
+use Rattle.std.proofs.Common.{◌≡◌, ℕ, ◌<◌, ◌^◌, Bool, true, false, ◌&&◌, ◌||◌, not, List, [], ◌∷◌, ◌++◌, length, Option, Some, None, refl, sym, ap, ◌∙◌, arith, leb, ◌≤◌}
 use Rattle.std.specs.Prelude.{nat_eq, codes}
 use Rattle.std.specs.List.{list_all, list_any}
 use Rattle.std.specs.Str.{IsAscii}
 use Rattle.std.specs.Fmt.{decimal}
 use Rattle.std.specs.Int.{IsInRange}
-use Rattle.std.proofs.lemmas.Bool.{and_parts, and_from, ltb-true, le-leb, leb-true, eqb-true}
+use Rattle.std.proofs.lemmas.Bool.{and_parts, and_from, le-leb, leb-true, eqb-true}
 use Rattle.std.proofs.lemmas.Str.{IsAscii-append}
 use Rattle.std.proofs.lemmas.Str.Ascii.{IsAscii-nil, IsAscii-cons}
 use Rattle.std.proofs.lemmas.Str.Parse.{IsNumeralModel, numerals_by_fold}
 use Rattle.std.proofs.lemmas.Fmt.{IsAscii-decimal, decimal_nonempty, digits_decimal, digits_value-decimal}
-use Rattle.ccsl_base.specs.Name.{is_letter, is_digit, is_inner, is_reserved, is_word as spells_word}
-use Rattle.ccsl_lex.specs.declared.reserved.Reserved.{Reserved}
-use Rattle.ccsl_lex.specs.declared.reserved.Reserved.TheVariants as w
+use Rattle.ccsl_base.specs.Decimal.{value_behind, decimal_value}
+use Rattle.ccsl_base.specs.declared.limits.TheConstants.{MAX_NAME_BYTES, MAX_NUMBER}
+use Rattle.ccsl_base.specs.Name.{is_letter, is_digit, is_inner, is_word as spells_word}
+use Rattle.ccsl_base.specs.declared.reserved.Reserved.{Reserved}
+use Rattle.ccsl_base.specs.declared.reserved.Reserved.TheVariants as w
 use Rattle.ccsl_lex.specs.declared.token.TokenKind.{TokenKind}
 use Rattle.ccsl_lex.specs.declared.token.TokenKind.TheVariants as kind
-use Rattle.ccsl_lex.specs.Words.{spelling, reserved}
+use Rattle.ccsl_base.specs.ReservedWords.{spelling, reserved, is_reserved}
 use Rattle.ccsl_base.specs.Quoted.{is_quotable}
-use Rattle.ccsl_lex.specs.Tokens.{Piece, letters, digits, mark, text_of, starts, is_piece, is_mark, fits, kind_of, value, value_from, name_or_word}
+use Rattle.ccsl_lex.specs.Tokens.{Piece, letters, digits, mark, text_of, starts, is_piece, is_mark, fits, kind_of, name_or_word}
 use Rattle.ccsl_lex.specs.Tokens as piece
-use Rattle.ccsl_lex.proofs.WordLists.{reserved_spells, words_read_back}
+use Rattle.ccsl_base.proofs.ReservedWords.{reserved_spells, words_read_back}
 use Rattle.ccsl_ast.specs.declared.spot.Spot.{Spot}
 use Rattle.ccsl_ast.specs.Kept.{spot_kept, number_kept, text_kept}
 use Rattle.ccsl_grammar.specs.Terminals.{Terminal, word, symbol, name, number, quoted, seen_as}
@@ -94,7 +96,7 @@ word_ascii bytes h = ascii_from is_inner inner_small bytes (and_parts (starts is
 
 -- each reserved word is spelled as a word, within the limit, and is reserved
 abbrev is_fine : Reserved → Bool
-is_fine v = (spells_word (spelling v) && leb (length (spelling v)) 64) && is_reserved (spelling v)
+is_fine v = (spells_word (spelling v) && leb (length (spelling v)) MAX_NAME_BYTES) && is_reserved (spelling v)
 
 fine : (v : Reserved) → is_fine v ≡ true
 fine w.Ccsl = refl
@@ -140,25 +142,25 @@ unreserved bytes h = by_read (reserved bytes) refl
     by_read : (o : Option Reserved) → reserved bytes ≡ o → reserved bytes ≡ None
     by_read None e = e
     by_read (Some v) e =
-        let p : is_reserved bytes ≡ true = ap is_reserved (reserved_spells bytes v e) ∙ (and_parts (spells_word (spelling v) && leb (length (spelling v)) 64) (is_reserved (spelling v)) (fine v)).1 in
+        let p : is_reserved bytes ≡ true = ap is_reserved (reserved_spells bytes v e) ∙ (and_parts (spells_word (spelling v) && leb (length (spelling v)) MAX_NAME_BYTES) (is_reserved (spelling v)) (fine v)).1 in
         absurd (let q : false ≡ true = sym (ap not p) ∙ h in cc)
 
 word_reads : (v : Reserved) → ReadsAs (word v)
 word_reads v =
-    let p = and_parts (spells_word (spelling v) && leb (length (spelling v)) 64) (is_reserved (spelling v)) (fine v) in
-    let q = and_parts (spells_word (spelling v)) (leb (length (spelling v)) 64) p.0 in
+    let p = and_parts (spells_word (spelling v) && leb (length (spelling v)) MAX_NAME_BYTES) (is_reserved (spelling v)) (fine v) in
+    let q = and_parts (spells_word (spelling v)) (leb (length (spelling v)) MAX_NAME_BYTES) p.0 in
     record { piece = word_piece (spelling v) q.0; fit = q.1; ascii = word_ascii (spelling v) q.0; kind = kind.Word v; kind_is = ap (λ o. Some (name_or_word (spelling v) o)) (words_read_back v); same = λ at. refl }
 
 name_reads : (x : Spot) → spot_kept x ≡ true → ReadsAs (name x)
 name_reads x h =
-    let p = and_parts (spells_word x.name && leb (length x.name) 64) (not (is_reserved x.name)) h in
-    let q = and_parts (spells_word x.name) (leb (length x.name) 64) p.0 in
+    let p = and_parts (spells_word x.name && leb (length x.name) MAX_NAME_BYTES) (not (is_reserved x.name)) h in
+    let q = and_parts (spells_word x.name) (leb (length x.name) MAX_NAME_BYTES) p.0 in
     record { piece = word_piece x.name q.0; fit = q.1; ascii = word_ascii x.name q.0; kind = kind.Name x.name; kind_is = ap (λ o. Some (name_or_word x.name o)) (unreserved x.name p.1); same = λ at. refl }
 
 -- ---- numbers
 
-own : IsNumeralModel (λ ds. list_all is_digit ds ≡ true) (value_from 0)
-own = numerals_by_fold (λ ds. list_all is_digit ds ≡ true) (record { empty = refl; parts = parts; more = more }) value_from (record { empty = λ n. refl; more = λ n c cs h. refl })
+own : IsNumeralModel (λ ds. list_all is_digit ds ≡ true) (value_behind 0)
+own = numerals_by_fold (λ ds. list_all is_digit ds ≡ true) (record { empty = refl; parts = parts; more = more }) value_behind (record { empty = λ n. refl; more = λ n c cs h. refl })
   where
     parts : (c : ℕ) (cs : List ℕ) → list_all is_digit (c ∷ cs) ≡ true → IsInRange 48 57 c × (list_all is_digit cs ≡ true)
     parts c cs h =
@@ -175,12 +177,12 @@ digits_piece (d ∷ ds) n h = and_from (is_digit d) (list_all is_digit (d ∷ ds
 
 number_reads : (at n : ℕ) → number_kept n ≡ true → ReadsAs (number at n)
 number_reads at n h =
-    let small : n < 4294967296 = ltb-true n 4294967296 h in
+    let small : n ≤ 4294967295 = leb-true n MAX_NUMBER h in
     let below : n < 2 ^ 64 = omega arith in
-    let same : value (decimal n) ≡ n = digits_value-decimal own n below in
+    let same : decimal_value (decimal n) ≡ n = digits_value-decimal own n below in
     record {
       piece = digits_piece (decimal n) (decimal_nonempty n below) (digits_decimal own n below);
-      fit = ap (λ z. leb z 4294967295) same ∙ le-leb n 4294967295 (omega arith);
+      fit = ap (λ z. leb z MAX_NUMBER) same ∙ h;
       ascii = IsAscii-decimal n below;
       kind = kind.Num n;
       kind_is = ap (λ z. Some (kind.Num z)) same;

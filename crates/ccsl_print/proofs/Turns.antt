@@ -8,9 +8,8 @@ use Rattle.std.proofs.lemmas.Grind.{flat_map-append}
 use Rattle.ccsl_ast.specs.declared.definition.Member.{Member}
 use Rattle.ccsl_ast.specs.Trees.{plain_member}
 use Rattle.ccsl_grammar.specs.Terminals.{Terminal}
-use Rattle.ccsl_grammar.specs.Grammar.{further_spelled, list_spelled, member_spelled}
-use Rattle.ccsl_grammar.specs.Canonical.{member_of}
-use Rattle.ccsl_print.specs.CanonicalText.{TextLine, members_tokens, further_tokens}
+use Rattle.ccsl_grammar.specs.Grammar.{further_spelled, list_spelled}
+use Rattle.ccsl_grammar.specs.Canonical.{TextLine, member_tokens, members_tokens, further_tokens}
 use Rattle.ccsl_print.specs.Pages.{PlainPage, after, lines_after}
 use Rattle.ccsl_print.proofs.Steps.{after_append, lines_append}
 
@@ -46,9 +45,9 @@ led f p q xs x h e first =
     ∙ ap (λ z. after z rest) (ap (λ y. after p (f y)) (sym e) ∙ sym first)
 
 pub led_members : (p q : PlainPage) (xs : List Member) (x : Member) → 0 < length xs → x ≡ get_or xs 0 x
-    → q ≡ after p (member_spelled (member_of (plain_member x))) → after p (members_tokens (map plain_member xs)) ≡ after q (flat_map further_tokens (map plain_member (between 1 (length xs) xs)))
+    → q ≡ after p (member_tokens (plain_member x)) → after p (members_tokens (map plain_member xs)) ≡ after q (flat_map further_tokens (map plain_member (between 1 (length xs) xs)))
 led_members p q xs x h e first =
     let rest = flat_map further_tokens (map plain_member (between 1 (length xs) xs)) in
     ap (λ z. after p (members_tokens (map plain_member z))) (first_rest xs x h)
-    ∙ after_append p (member_spelled (member_of (plain_member (get_or xs 0 x)))) rest
-    ∙ ap (λ z. after z rest) (ap (λ y. after p (member_spelled (member_of (plain_member y)))) (sym e) ∙ sym first)
+    ∙ after_append p (member_tokens (plain_member (get_or xs 0 x))) rest
+    ∙ ap (λ z. after z rest) (ap (λ y. after p (member_tokens (plain_member y))) (sym e) ∙ sym first)

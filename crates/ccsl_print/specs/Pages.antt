@@ -3,7 +3,8 @@ use Rattle.std.specs.Prelude.{ℕ, Bool, true, false, ◌&&◌, ◌||◌, not, L
 use Rattle.ccsl_grammar.specs.Terminals.{Terminal, symbol, name}
 use Rattle.ccsl_print.specs.declared.edge.Edge.{Edge}
 use Rattle.ccsl_print.specs.declared.edge.Edge.TheVariants.{Start, Opening, Named, Other}
-use Rattle.ccsl_print.specs.CanonicalText.{written, TextLine}
+use Rattle.ccsl_grammar.specs.Canonical.{TextLine}
+use Rattle.ccsl_print.specs.CanonicalText.{written}
 
 -- the text so far, and the end of its last line
 pub record PlainPage : Type 0 where

@@ -4,9 +4,8 @@ ghost use Rattle.std.specs.Prelude.{◌≡◌, ◌∷◌, ◌++◌, [], map, OnO
 ghost use Rattle.std.specs.List.{flat_map};
 ghost use Rattle.ccsl_ast.specs.Trees.{plain_member, plain_definition, plain_line};
 ghost use Rattle.ccsl_grammar.specs.Terminals as t;
-ghost use Rattle.ccsl_grammar.specs.Grammar.{opening, closing, kind_spelled, param_spelled, params_spelled, member_spelled};
-ghost use Rattle.ccsl_grammar.specs.Canonical.{member_of};
-ghost use Rattle.ccsl_print.specs.CanonicalText.{outer, head_tokens, members_tokens, further_tokens, definition_lines, closing_line, body_line};
+ghost use Rattle.ccsl_grammar.specs.Grammar.{opening, closing, right_brace, kind_spelled, param_spelled, params_spelled};
+ghost use Rattle.ccsl_grammar.specs.Canonical.{outer, head_tokens, member_tokens, members_tokens, further_tokens, rline_tokens, body_lines, definition_lines};
 ghost use Rattle.ccsl_print.specs.Pages.{after, line_after, lines_after};
 
 use crate::expression::put_expression;
@@ -49,7 +48,7 @@ fn put_head(page: &mut Page, name: &Spot, params: &Seq<Param>) -> Result<(), Mem
 
 #[tactic(auto, using(crate::proofs::Steps::after_append))]
 fn put_member(page: &mut Page, member: &Member) -> Result<(), Memory>
-    ensures { OnOk result (page.new ≡ after page.old (member_spelled (member_of (plain_member member.now)))) }
+    ensures { OnOk result (page.new ≡ after page.old (member_tokens (plain_member member.now))) }
 {
     put_head(page, &member.name, &member.params)?;
     page.symbol(b'=')?;
@@ -91,21 +90,22 @@ fn put_head_line(page: &mut Page, name: &Spot, params: &Seq<Param>) -> Result<()
 
 /// The closing brace, on a line of its own.
 pub fn put_closing_line(page: &mut Page) -> Result<(), Memory>
-    ensures { OnOk result (page.new ≡ line_after page.old closing_line) }
+    ensures { OnOk result (page.new ≡ line_after page.old (outer (right_brace ∷ []))) }
 {
     page.begin_line(false)?;
     page.symbol(b'}')?;
     page.end_line()
 }
 
-#[tactic(auto, using(crate::proofs::Steps::lines_append, crate::proofs::Steps::body_lined))]
+#[tactic(auto, using(crate::proofs::Steps::lines_append, crate::proofs::Steps::rlines_lined))]
 fn put_relation(
     page: &mut Page,
     name: &Spot,
     params: &Seq<Param>,
     lines: &Seq<RelationLine>,
 ) -> Result<(), Memory>
-    ensures { OnOk result (page.new ≡ lines_after page.old (outer (head_tokens name.now params.now) ∷ (map body_line (map plain_line lines.now) ++ closing_line ∷ []))) }
+    ensures { OnOk result (page.new ≡ lines_after page.old
+        (outer (head_tokens name.now params.now) ∷ body_lines rline_tokens (map plain_line lines.now))) }
 {
     put_head_line(page, name, params)?;
     put_all(page, lines.members())?;
@@ -114,7 +114,9 @@ fn put_relation(
 
 #[tactic(auto, using(crate::proofs::Steps::after_append))]
 fn put_group(page: &mut Page, members: &[Member]) -> Result<(), Memory>
-    ensures { OnOk result (page.new ≡ lines_after page.old (outer (t.word Reserved.Expression ∷ (members_tokens (map plain_member members.now) ++ t.symbol 59 ∷ [])) ∷ [])) }
+    ensures { OnOk result (page.new ≡ lines_after page.old
+        (outer (t.word Reserved.Expression ∷ (members_tokens (map plain_member members.now) ++ t.symbol 59 ∷ []))
+        ∷ [])) }
 {
     page.begin_line(false)?;
     page.word(Reserved::Expression)?;

@@ -2,15 +2,14 @@
 
 ghost use Rattle.std.specs.Prelude.{◌≡◌, ◌∷◌, ◌++◌, [], OnOk};
 ghost use Rattle.ccsl_ast.specs.Trees.{plain, EIf};
-ghost use Rattle.ccsl_ast.specs.Depth.{stands_in_parens};
 ghost use Rattle.ccsl_grammar.specs.Terminals as t;
-ghost use Rattle.ccsl_grammar.specs.Grammar.{opening, closing, args_spelled, binop_spelled, expr_spelled, operand_spelled};
-ghost use Rattle.ccsl_grammar.specs.Canonical.{expr_of, operand_of};
+ghost use Rattle.ccsl_grammar.specs.Grammar.{opening, closing, args_spelled, binop_spelled};
+ghost use Rattle.ccsl_grammar.specs.Canonical.{expr_tokens, operand_tokens};
 ghost use Rattle.ccsl_print.specs.Pages.{after};
 
 use crate::list::put_list;
 use crate::page::Page;
-use crate::term::{put_term, put_test, put_word_term};
+use crate::term::{put_term, put_test, put_wterm};
 use ccsl_ast::{Argument, BinaryOp, Spot, Test, Tree};
 use ccsl_base::{Memory, Seq};
 use ccsl_lex::Reserved;
@@ -26,7 +25,7 @@ pub fn put_call(page: &mut Page, name: &Spot, args: &Seq<Argument>) -> Result<()
     page.symbol(b')')
 }
 
-fn put_operator(page: &mut Page, op: BinaryOp) -> Result<(), Memory>
+fn put_binop(page: &mut Page, op: BinaryOp) -> Result<(), Memory>
     ensures { OnOk result (page.new ≡ after page.old (binop_spelled op)) }
 {
     match op {
@@ -36,6 +35,10 @@ fn put_operator(page: &mut Page, op: BinaryOp) -> Result<(), Memory>
         BinaryOp::Inf => page.word(Reserved::Inf),
         BinaryOp::Sup => page.word(Reserved::Sup),
         BinaryOp::Upto => page.word(Reserved::Upto),
+        BinaryOp::UptoWeakly => {
+            page.word(Reserved::Upto)?;
+            page.word(Reserved::Weakly)
+        }
         BinaryOp::Then => page.word(Reserved::Then),
         BinaryOp::Sampled => {
             page.word(Reserved::Sampled)?;
@@ -49,29 +52,12 @@ fn put_operator(page: &mut Page, op: BinaryOp) -> Result<(), Memory>
     }
 }
 
-/// Whether an operand stands in parentheses.
-fn stands_in_parens(tree: &Tree) -> bool
-    ensures { result ≡ stands_in_parens (plain tree.now) }
-{
-    match tree {
-        Tree::Name(_) => false,
-        Tree::Call(_, _) => false,
-        Tree::Never => false,
-        Tree::Binary(_, _, _) => true,
-        Tree::Delay(_, _) => true,
-        Tree::Await(_, _) => true,
-        Tree::Filter(_, _) => true,
-        Tree::Delayed(_, _, _, _) => true,
-        Tree::If(_, _, _) => true,
-    }
-}
-
 #[cycle(expression)]
 #[tactic(auto, using(crate::proofs::Steps::after_append, crate::proofs::Steps::in_parens, crate::proofs::Steps::without_parens))]
 fn put_operand(page: &mut Page, tree: &Tree) -> Result<(), Memory>
-    ensures { OnOk result (page.new ≡ after page.old (operand_spelled (operand_of (plain tree.now)))) }
+    ensures { OnOk result (page.new ≡ after page.old (operand_tokens (plain tree.now) (expr_tokens (plain tree.now)))) }
 {
-    if stands_in_parens(tree) {
+    if tree.stands_in_parens() {
         page.symbol(b'(')?;
         put_expression(page, tree)?;
         page.symbol(b')')
@@ -83,7 +69,7 @@ fn put_operand(page: &mut Page, tree: &Tree) -> Result<(), Memory>
 #[cycle(expression)]
 #[tactic(auto, using(crate::proofs::Steps::after_append, crate::proofs::Steps::number_step))]
 pub fn put_expression(page: &mut Page, tree: &Tree) -> Result<(), Memory>
-    ensures { OnOk result (page.new ≡ after page.old (expr_spelled (expr_of (plain tree.now)))) }
+    ensures { OnOk result (page.new ≡ after page.old (expr_tokens (plain tree.now))) }
 {
     match tree {
         Tree::Name(name) => page.name(name),
@@ -91,7 +77,7 @@ pub fn put_expression(page: &mut Page, tree: &Tree) -> Result<(), Memory>
         Tree::Never => page.word(Reserved::Never),
         Tree::Binary(op, left, right) => {
             put_operand(page, left)?;
-            put_operator(page, *op)?;
+            put_binop(page, *op)?;
             put_operand(page, right)
         }
         Tree::Delay(operand, times) => {
@@ -107,7 +93,7 @@ pub fn put_expression(page: &mut Page, tree: &Tree) -> Result<(), Memory>
         Tree::Filter(operand, word) => {
             put_operand(page, operand)?;
             page.word(Reserved::Filter)?;
-            put_word_term(page, word)
+            put_wterm(page, word)
         }
         Tree::Delayed(operand, _, times, base) => {
             put_operand(page, operand)?;
@@ -123,7 +109,8 @@ pub fn put_expression(page: &mut Page, tree: &Tree) -> Result<(), Memory>
 #[cycle(expression)]
 #[tactic(auto, using(crate::proofs::Steps::after_append))]
 fn put_choice(page: &mut Page, test: &Test, first: &Tree, second: &Tree) -> Result<(), Memory>
-    ensures { OnOk result (page.new ≡ after page.old (expr_spelled (expr_of (EIf test.now (plain first.now) (plain second.now))))) }
+    ensures { OnOk result (page.new ≡ after page.old
+        (expr_tokens (EIf test.now (plain first.now) (plain second.now)))) }
 {
     page.word(Reserved::If)?;
     put_test(page, test)?;

@@ -1,11 +1,10 @@
 //! The lines of a system and of a relation's body.
 
 ghost use Rattle.std.specs.Prelude.{◌≡◌, ◌∷◌, ◌++◌, [], OnOk};
-ghost use Rattle.ccsl_ast.specs.Trees.{plain_line, plain_sline};
+ghost use Rattle.ccsl_ast.specs.Trees.{SClocks, plain_line, plain_sline};
 ghost use Rattle.ccsl_grammar.specs.Terminals as t;
-ghost use Rattle.ccsl_grammar.specs.Grammar.{equals, semicolon, relop_spelled, rline_spelled, clock_spelled};
-ghost use Rattle.ccsl_grammar.specs.Canonical.{rline_of};
-ghost use Rattle.ccsl_print.specs.CanonicalText.{body_line, system_line, clocks_tokens};
+ghost use Rattle.ccsl_grammar.specs.Grammar.{relop_spelled, clock_spelled};
+ghost use Rattle.ccsl_grammar.specs.Canonical.{inner, rline_tokens, sline_tokens};
 ghost use Rattle.ccsl_print.specs.Pages.{after};
 
 use crate::expression::{put_call, put_expression};
@@ -16,7 +15,8 @@ use ccsl_ast::{Relation, RelationLine, Spot, SystemLine, Tree};
 use ccsl_base::{Memory, Seq};
 use ccsl_lex::Reserved;
 
-fn put_relation(page: &mut Page, relation: Relation) -> Result<(), Memory>
+#[tactic(auto, using(crate::proofs::Steps::number_step))]
+fn put_relop(page: &mut Page, relation: Relation) -> Result<(), Memory>
     ensures { OnOk result (page.new ≡ after page.old (relop_spelled relation)) }
 {
     match relation {
@@ -28,12 +28,17 @@ fn put_relation(page: &mut Page, relation: Relation) -> Result<(), Memory>
             page.word(Reserved::Precedes)?;
             page.word(Reserved::Weakly)
         }
+        Relation::PrecedesWithin(_, number) => {
+            page.word(Reserved::Precedes)?;
+            page.word(Reserved::Within)?;
+            page.number(number)
+        }
     }
 }
 
 #[tactic(auto, using(crate::proofs::Steps::after_append))]
-fn put_body_line(page: &mut Page, line: &RelationLine) -> Result<(), Memory>
-    ensures { OnOk result (page.new ≡ after page.old (rline_spelled (rline_of (plain_line line.now)))) }
+fn put_rline(page: &mut Page, line: &RelationLine) -> Result<(), Memory>
+    ensures { OnOk result (page.new ≡ after page.old (rline_tokens (plain_line line.now))) }
 {
     match line {
         RelationLine::Define(name, tree) => {
@@ -45,7 +50,7 @@ fn put_body_line(page: &mut Page, line: &RelationLine) -> Result<(), Memory>
         }
         RelationLine::Constraint(left, relation, right) => {
             page.name(left)?;
-            put_relation(page, *relation)?;
+            put_relop(page, *relation)?;
             page.name(right)?;
             page.symbol(b';')
         }
@@ -66,7 +71,7 @@ impl Spelled for Spot {
 
 #[tactic(auto, using(crate::proofs::Steps::after_append))]
 fn put_clocks(page: &mut Page, names: &Seq<Spot>) -> Result<(), Memory>
-    ensures { OnOk result (page.new ≡ after page.old (clocks_tokens names.now)) }
+    ensures { OnOk result (page.new ≡ after page.old (sline_tokens (SClocks names.now))) }
 {
     page.word(Reserved::Clock)?;
     put_list(page, names.members())?;
@@ -74,17 +79,17 @@ fn put_clocks(page: &mut Page, names: &Seq<Spot>) -> Result<(), Memory>
 }
 
 impl Lined for RelationLine {
-    ghost lines = { λ l. body_line (plain_line l) ∷ [] };
+    ghost lines = { λ l. inner (rline_tokens (plain_line l)) ∷ [] };
 
     fn put_lines(&self, page: &mut Page) -> Result<(), Memory> {
         page.begin_line(true)?;
-        put_body_line(page, self)?;
+        put_rline(page, self)?;
         page.end_line()
     }
 }
 
 impl Lined for SystemLine {
-    ghost lines = { λ l. system_line (plain_sline l) ∷ [] };
+    ghost lines = { λ l. inner (sline_tokens (plain_sline l)) ∷ [] };
 
     fn put_lines(&self, page: &mut Page) -> Result<(), Memory> {
         match self {

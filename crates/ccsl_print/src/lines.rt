@@ -10,7 +10,7 @@ use ccsl_base::Memory;
 /// What has lines.
 pub trait Lined {
     ghost use Rattle.std.specs.Prelude.{List};
-    ghost use Rattle.ccsl_print.specs.CanonicalText.{TextLine};
+    ghost use Rattle.ccsl_grammar.specs.Canonical.{TextLine};
 
     ghost lines: { Self → List TextLine };
 

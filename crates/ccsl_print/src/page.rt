@@ -1,13 +1,13 @@
 //! The page that the printer writes on, token by token.
 
-ghost use Rattle.std.specs.Prelude.{◌≡◌, ◌<◌, ◌++◌, OnOk, string_bytes};
-ghost use Rattle.std.specs.Fmt.{decimal};
+ghost use Rattle.std.specs.Prelude.{◌≡◌, ◌++◌, OnOk, string_bytes};
 ghost use Rattle.std.specs.Str.{IsUtf8};
 
 use crate::edge::Edge;
 use ccsl_ast::Spot;
 use ccsl_base::{Memory, Text};
 use ccsl_lex::Reserved;
+use itoa::Buffer;
 use std::alloc::Global;
 use std::marker::Model;
 
@@ -24,21 +24,6 @@ impl Model for Page {
     ghost Value = { PlainPage };
 
     ghost view = { λ p. record { text = p.text.items; edge = p.edge } };
-}
-
-/// Writes the digits of a number, without leading zeros.
-#[tactic(auto, using(std::proofs::lemmas::Fmt::decimal_digit))]
-fn put_digits(text: &mut Vec<u8>, number: u32) -> Result<(), Memory>
-    ensures { OnOk result (text.new.items ≡ text.old.items ++ decimal number) }
-{
-    if number < 10 {
-        text.push(b'0' + number as u8)?;
-        Ok(())
-    } else {
-        put_digits(text, number / 10)?;
-        text.push(b'0' + (number % 10) as u8)?;
-        Ok(())
-    }
 }
 
 impl Page {
@@ -66,20 +51,13 @@ impl Page {
         }
     }
 
-    fn begin_token(&mut self, parted: bool, edge: Edge) -> Result<(), Memory>
-        ensures { OnOk result (self.new ≡ record { text = self.old.text ++ blank_if parted; edge = edge }) }
+    fn put(&mut self, parted: bool, edge: Edge, token: &[u8]) -> Result<(), Memory>
+        ensures { OnOk result (self.new ≡ record { text = self.old.text ++ (blank_if parted ++ token.now); edge = edge }) }
     {
         if parted {
             self.text.push(b' ')?;
         }
         self.edge = edge;
-        Ok(())
-    }
-
-    fn put(&mut self, parted: bool, edge: Edge, token: &[u8]) -> Result<(), Memory>
-        ensures { OnOk result (self.new ≡ record { text = self.old.text ++ (blank_if parted ++ token.now); edge = edge }) }
-    {
-        self.begin_token(parted, edge)?;
         self.text.extend_from_slice(token)?;
         Ok(())
     }
@@ -113,8 +91,7 @@ impl Page {
         ensures { OnOk result (self.new ≡ step self.old (t.number 0 number)) }
     {
         let parted = self.edge.is_parted();
-        self.begin_token(parted, Edge::Other)?;
-        put_digits(&mut self.text, number)
+        self.put(parted, Edge::Other, Buffer::new().format(number).as_bytes())
     }
 
     #[tactic(auto, unfolding(crate::specs::Pages::step))]

@@ -4,7 +4,8 @@ ghost use Rattle.std.specs.Prelude.{◌≡◌, ◌∷◌, ◌++◌, [], map, OnO
 ghost use Rattle.ccsl_ast.specs.Trees.{plain_sline};
 ghost use Rattle.ccsl_ast.specs.Files.{plain_file};
 ghost use Rattle.ccsl_grammar.specs.Terminals as t;
-ghost use Rattle.ccsl_print.specs.CanonicalText.{outer, system_lines, file_lines, canonical_text};
+ghost use Rattle.ccsl_grammar.specs.Canonical.{outer, system_lines, file_lines};
+ghost use Rattle.ccsl_print.specs.CanonicalText.{canonical_text};
 ghost use Rattle.ccsl_print.specs.Pages.{line_after, lines_after};
 ghost use Rattle.ccsl_print.specs.ReadsBack.{ReadsBack};
 
@@ -18,7 +19,8 @@ use std::alloc::Global;
 
 #[tactic(auto, using(crate::proofs::Steps::number_step))]
 pub fn put_version(page: &mut Page, version: u32) -> Result<(), Memory>
-    ensures { OnOk result (page.new ≡ line_after page.old (outer (t.word Reserved.Ccsl ∷ t.number 0 version ∷ t.symbol 59 ∷ []))) }
+    ensures { OnOk result (page.new ≡ line_after page.old
+        (outer (t.word Reserved.Ccsl ∷ t.number 0 version ∷ t.symbol 59 ∷ []))) }
 {
     page.begin_line(false)?;
     page.word(Reserved::Ccsl)?;
@@ -28,7 +30,8 @@ pub fn put_version(page: &mut Page, version: u32) -> Result<(), Memory>
 }
 
 fn put_system_head(page: &mut Page) -> Result<(), Memory>
-    ensures { OnOk result (page.new ≡ line_after page.old (outer (t.word Reserved.System ∷ t.symbol 123 ∷ []))) }
+    ensures { OnOk result (page.new ≡ line_after page.old
+        (outer (t.word Reserved.System ∷ t.symbol 123 ∷ []))) }
 {
     page.begin_line(false)?;
     page.word(Reserved::System)?;
@@ -36,7 +39,7 @@ fn put_system_head(page: &mut Page) -> Result<(), Memory>
     page.end_line()
 }
 
-#[tactic(auto, using(crate::proofs::Steps::lines_append, crate::proofs::Steps::system_lined))]
+#[tactic(auto, using(crate::proofs::Steps::lines_append, crate::proofs::Steps::slines_lined))]
 pub fn put_system(page: &mut Page, lines: &Seq<SystemLine>) -> Result<(), Memory>
     ensures { OnOk result (page.new ≡ lines_after page.old (system_lines (map plain_sline lines.now))) }
 {

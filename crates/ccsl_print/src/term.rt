@@ -63,7 +63,7 @@ fn put_named(page: &mut Page, word: Reserved, name: &Spot) -> Result<(), Memory>
 }
 
 #[tactic(auto, using(crate::proofs::Steps::quoted_step))]
-pub fn put_word_term(page: &mut Page, word: &WordTerm) -> Result<(), Memory>
+pub fn put_wterm(page: &mut Page, word: &WordTerm) -> Result<(), Memory>
     ensures { OnOk result (page.new ≡ after page.old (wterm_spelled word.now)) }
 {
     match word {

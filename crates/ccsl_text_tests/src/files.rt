@@ -36,7 +36,7 @@ fn files_that_stop(rt: HostRuntime) -> Result<(), Fail> {
     let cases = [
         ("", "system {}"),
         ("ccsl ", "; system {}"),
-        ("ccsl ", "2; system {}"),
+        ("ccsl ", "3; system {}"),
         ("ccsl ", "0; system {}"),
         ("ccsl 1 ", "system {}"),
         ("ccsl 1;", ""),

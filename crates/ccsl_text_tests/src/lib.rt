@@ -11,3 +11,5 @@ mod expressions;
 mod files;
 #[cfg(test)]
 mod lines;
+#[cfg(test)]
+mod versions;

@@ -1,4 +1,4 @@
-use Rattle.ccsl_grammar.proofs.Canonical.{least_depth}
+use Rattle.ccsl_grammar.proofs.Least.{least_depth}
 use Rattle.ccsl_grammar.proofs.laws.least_depth.Goals as goal
 
 pub returns : goal.returns

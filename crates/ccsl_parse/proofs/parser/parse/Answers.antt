@@ -1,4 +1,5 @@
-use Rattle.std.proofs.Common.{[]}
+use Rattle.std.proofs.Common.{inl}
+use Rattle.ccsl_base.specs.declared.limits.TheConstants.{MAX_LEVELS}
 use Rattle.ccsl_ast.specs.Trees.{plain_parts}
 use Rattle.ccsl_grammar.specs.Terminals.{terminals}
 use Rattle.ccsl_grammar.specs.Reader.{took}
@@ -8,27 +9,27 @@ use Rattle.ccsl_parse.proofs.parser.parse.Goals as goal
 
 pub invariant_of-result : goal.invariant_of-result
 invariant_of-result c =
-    let file = plain_parts 1 c.in-Ok.definitions c.in-Ok.lines in
-    let parsed = (said c.args.tokens.now (took file []) c.in-Ok.ensures).0 in
-    record { kept = parsed_keeps 128 c.args.tokens.now file parsed; depth = parsed_depth 128 (terminals c.args.tokens.now) file parsed }
+    let file = plain_parts c.in-Ok.parts.version c.in-Ok.parts.definitions c.in-Ok.parts.lines in
+    let parsed = (said c.args.tokens.now (took file (terminals c.in-Ok.field-0-1.now)) c.in-Ok.ensures).0 in
+    record { kept = parsed_keeps MAX_LEVELS c.args.tokens.now file parsed; depth = parsed_depth MAX_LEVELS (terminals c.args.tokens.now) file parsed }
 
 pub returns-in-Ok-clause-tree : goal.returns-in-Ok-clause-tree
-returns-in-Ok-clause-tree c = (said c.args.tokens.now (took (plain_parts 1 c.in-Ok.definitions c.in-Ok.lines) []) c.in-Ok.ensures).0
+returns-in-Ok-clause-tree c = (said c.args.tokens.now (took (plain_parts c.in-Ok.parts.version c.in-Ok.parts.definitions c.in-Ok.parts.lines) (terminals c.in-Ok.field-0-1.now)) c.in-Ok.ensures).0
 
 pub returns-in-Ok-clause-each_tree : goal.returns-in-Ok-clause-each_tree
 returns-in-Ok-clause-each_tree c =
-    let file = plain_parts 1 c.in-Ok.definitions c.in-Ok.lines in
-    λ f p. one_file c.args.tokens.now file f (said c.args.tokens.now (took file []) c.in-Ok.ensures).0 p
+    let file = plain_parts c.in-Ok.parts.version c.in-Ok.parts.definitions c.in-Ok.parts.lines in
+    λ f p. inl (one_file c.args.tokens.now file f (said c.args.tokens.now (took file (terminals c.in-Ok.field-0-1.now)) c.in-Ok.ensures).0 p)
 
 pub returns-in-Ok-clause-each_syntax : goal.returns-in-Ok-clause-each_syntax
 returns-in-Ok-clause-each_syntax c =
-    let file = plain_parts 1 c.in-Ok.definitions c.in-Ok.lines in
-    λ at s. absurd (tree_or_syntax c.args.tokens.now file at (said c.args.tokens.now (took file []) c.in-Ok.ensures).0 s)
+    let file = plain_parts c.in-Ok.parts.version c.in-Ok.parts.definitions c.in-Ok.parts.lines in
+    λ at s. absurd (tree_or_syntax c.args.tokens.now file at (said c.args.tokens.now (took file (terminals c.in-Ok.field-0-1.now)) c.in-Ok.ensures).0 s)
 
 pub returns-in-Ok-clause-each_too_deep : goal.returns-in-Ok-clause-each_too_deep
 returns-in-Ok-clause-each_too_deep c =
-    let file = plain_parts 1 c.in-Ok.definitions c.in-Ok.lines in
-    λ at s. absurd (tree_or_too_deep c.args.tokens.now file at (said c.args.tokens.now (took file []) c.in-Ok.ensures).0 s)
+    let file = plain_parts c.in-Ok.parts.version c.in-Ok.parts.definitions c.in-Ok.parts.lines in
+    λ at s. absurd (tree_or_too_deep c.args.tokens.now file at (said c.args.tokens.now (took file (terminals c.in-Ok.field-0-1.now)) c.in-Ok.ensures).0 s)
 
 pub returns-in-Err-clause-each_tree : goal.returns-in-Err-clause-each_tree
 returns-in-Err-clause-each_tree c = fault_tree c.args.tokens.now c.fault.result c.fault.ensures

@@ -1,8 +1,6 @@
 use Rattle.std.proofs.Common.{arith, ap, ◌∙◌}
 use Rattle.ccsl_ast.specs.Trees.{plain_member}
-use Rattle.ccsl_grammar.specs.Grammar.{member_spelled}
-use Rattle.ccsl_grammar.specs.Canonical.{member_of}
-use Rattle.ccsl_print.specs.CanonicalText.{further_tokens}
+use Rattle.ccsl_grammar.specs.Canonical.{member_tokens, further_tokens}
 use Rattle.ccsl_print.specs.Pages.{after}
 use Rattle.ccsl_print.proofs.Turns.{mapped_turn}
 use Rattle.ccsl_print.proofs.definition.put_further_members.Goals as goal
@@ -10,4 +8,4 @@ use Rattle.ccsl_print.proofs.definition.put_further_members.Goals as goal
 pub loop-member-preserved : goal.loop-member-preserved
 loop-member-preserved c =
     mapped_turn further_tokens plain_member _ _ _ c.args.members.now c.loop-member.member-index c.member-item.result (omega arith) c.member-item.is c.loop-member.invariant
-    (c.in_ok-put_member.ensures ∙ ap (λ z. after z (member_spelled (member_of (plain_member c.member-item.result)))) c.in_ok-word.ensures)
+    (c.in_ok-put_member.ensures ∙ ap (λ z. after z (member_tokens (plain_member c.member-item.result))) c.in_ok-word.ensures)

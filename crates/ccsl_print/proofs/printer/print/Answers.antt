@@ -1,7 +1,7 @@
 use Rattle.std.proofs.Common.{ℕ, List, sym, ap, subst, ◌∙◌}
 use Rattle.std.specs.Str.{IsUtf8}
 use Rattle.ccsl_ast.specs.Files.{plain_file}
-use Rattle.ccsl_print.specs.CanonicalText.{file_lines}
+use Rattle.ccsl_grammar.specs.Canonical.{file_lines}
 use Rattle.ccsl_print.specs.Pages.{lines_after}
 use Rattle.ccsl_print.specs.ReadsBack.{ReadsBack}
 use Rattle.ccsl_print.proofs.PageText.{printed}

@@ -1,5 +1,0 @@
-use Rattle.ccsl_lex.proofs.Unique.{not_both}
-use Rattle.ccsl_lex.proofs.laws.not_both.Goals as goal
-
-pub returns : goal.returns
-returns c = not_both

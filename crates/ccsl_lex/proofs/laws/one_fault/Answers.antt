@@ -1,5 +1,0 @@
-use Rattle.ccsl_lex.proofs.Unique.{one_fault}
-use Rattle.ccsl_lex.proofs.laws.one_fault.Goals as goal
-
-pub returns : goal.returns
-returns c = one_fault
