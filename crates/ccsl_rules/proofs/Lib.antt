@@ -1,0 +1,15 @@
+pub mod Making
+pub mod Examples
+pub mod Refusals
+pub mod Random
+pub mod TheLibrary
+pub mod Counting
+pub mod Least
+pub mod Guarded
+pub mod Ordered
+pub mod Known
+pub mod Rising
+pub mod Ready
+pub mod There
+pub mod Apart
+pub mod Bodies
