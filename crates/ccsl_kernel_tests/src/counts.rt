@@ -77,12 +77,16 @@ fn names_of_clocks(rt: HostRuntime) -> Result<(), Fail> {
     Ok(())
 }
 
-/// So many names of three letters.
-fn three_letters(alloc: Global, count: u32) -> Result<Names, Memory> {
+/// So many names, each an x and three letters.
+fn many_names(alloc: Global, count: u32) -> Result<Names, Memory> {
     let mut names = Names::new(alloc);
     for i in 0..count {
-        let letters = [i / 676 % 26, i / 26 % 26, i % 26];
-        let name = [letter(letters[0]), letter(letters[1]), letter(letters[2])];
+        let name = [
+            b'x',
+            letter(i / 676 % 26),
+            letter(i / 26 % 26),
+            letter(i % 26),
+        ];
         add_name(&mut names, &name)?;
     }
     Ok(names)
@@ -104,7 +108,7 @@ fn clocks_up_to_the_limit(rt: HostRuntime) -> Result<(), Fail> {
     ];
     for (count, accepted) in table {
         let mut parts = parts(rt.alloc(), &[], &[])?;
-        parts.names = three_letters(rt.alloc(), count)?;
+        parts.names = many_names(rt.alloc(), count)?;
         parts.declared = count;
         parts.written = count;
         assert_eq!(rt; parts.accepted(rt.alloc())?, accepted, "{count} clocks");

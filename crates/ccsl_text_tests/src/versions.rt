@@ -30,7 +30,7 @@ fn version_2_is_read(rt: HostRuntime) -> Result<(), Fail> {
 fn version_2_that_stops(rt: HostRuntime) -> Result<(), Fail> {
     let cases = [
         ("a precedes within ", "b;"),
-        ("a precedes within ", "1 + 1 b;"),
+        ("a precedes within 1 ", "+ 1 b;"),
         ("a precedes within 1 ", ";"),
         ("a precedes within 1 ", "weakly b;"),
         ("a precedes weakly ", "within 1 b;"),
