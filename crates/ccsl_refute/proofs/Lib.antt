@@ -7,7 +7,6 @@ pub mod Checking
 pub mod Sound
 pub mod FirstBad
 pub mod Tokens
-pub mod Numbers
 pub mod InOrder
 pub mod Lines
 pub mod Words

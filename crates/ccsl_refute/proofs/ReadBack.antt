@@ -1,15 +1,18 @@
 -- What is written reads back.
-use Rattle.std.proofs.Common.{◌≡◌, ℕ, zero, suc, ◌+◌, ◌<◌, ◌^◌, List, [], ◌∷◌, ◌++◌, length, map, get_or, cond, Bool, true, false, not, ◌&&◌, ◌||◌, Some, None, Ok, nat_eq, nat_lt, codes, decimal, refl, sym, ap, ap₂, ◌∙◌, subst, slice_get, arith, append_assoc, append-nil}
+use Rattle.std.proofs.Common.{◌≡◌, ℕ, zero, suc, ◌+◌, ◌*◌, ◌-◌, ◌<◌, ◌≤◌, ◌^◌, List, [], ◌∷◌, ◌++◌, length, map, get_or, cond, Bool, true, false, not, ◌&&◌, ◌||◌, Some, None, Ok, nat_eq, nat_lt, nat_le, codes, decimal, refl, sym, ap, ap₂, ◌∙◌, subst, slice_get, arith, append_assoc, append-nil}
 use Rattle.std.specs.List.{All, list_all, position_or_len, slice_split}
 use Rattle.std.specs.Str.{bytes_eq}
-use Rattle.std.specs.Str.Parse.{AllDigits, IsNumeral, digits_value}
+use Rattle.std.specs.Char.{digit_value}
+use Rattle.std.specs.Str.Parse.{AllDigits, IsNumeral, digits_value, digits_value_after}
 use Rattle.std.proofs.lemmas.Bool.{lt-ltb, le-leb, and_parts, not-true, or_right}
 use Rattle.std.proofs.lemmas.Fmt.{decimal_is_IsNumeral}
+use Rattle.std.proofs.lemmas.Str.{digit_value_digit}
 use Rattle.std.proofs.lemmas.Str.Parse.{digit_from_value}
 use Rattle.std.proofs.lemmas.List.Elements.{All-head, All-tail}
 use Rattle.std.proofs.lemmas.List.Splits.{slice_split_at, length-slice_split}
 use Rattle.std.proofs.lemmas.Option.{slice_get-get_or, unwrap_or-slice_get}
 use Rattle.ccsl_base.specs.Name.{is_digit}
+use Rattle.ccsl_base.specs.Decimal.{value_behind, decimal_value, number_up_to}
 use Rattle.ccsl_base.specs.Names.{is_among, find_name, are_distinct}
 use Rattle.ccsl_base.proofs.Tables.{bytes_eq-true, bytes_eq-refl}
 use Rattle.ccsl_refute.specs.declared.fault.CertFault.TheVariants.{Syntax, UnknownName}
@@ -17,9 +20,10 @@ use Rattle.ccsl_refute.specs.declared.line.Lit.{Lit}
 use Rattle.ccsl_refute.specs.declared.line.Line.{Line}
 use Rattle.ccsl_refute.specs.declared.line.Line.TheVariants.{Nonempty, Item, Derived}
 use Rattle.ccsl_refute.specs.Below.{AreBelow}
-use Rattle.ccsl_refute.specs.CertNames.{is_visible, is_cert_name, are_cert_names, AllBelow, NumbersFit}
+use Rattle.ccsl_base.specs.Name.{is_visible, is_cert_name, are_cert_names}
+use Rattle.ccsl_refute.specs.NumbersFit.{AllBelow, NumbersFit}
 use Rattle.ccsl_refute.specs.Text.{placed, is_line_feed, without_returns, lines_from, tokens}
-use Rattle.ccsl_refute.specs.Reading.{number_below, literal_of, literal, read_first, read_literals, read_numbers, before_from, after_from, read_hints, item_line, derived_line, read_tokens, read_more, read_line, read_lines}
+use Rattle.ccsl_refute.specs.Reading.{literal_of, literal, read_first, read_literals, read_numbers, before_from, after_from, read_hints, item_line, derived_line, read_tokens, read_more, read_line, read_lines}
 use Rattle.ccsl_refute.specs.Writing.{spaced, name_of, literal_text, line_text, lines_text, literals}
 use Rattle.ccsl_refute.proofs.Cases.{by_cases}
 use Rattle.ccsl_refute.proofs.Lines.{followed}
@@ -71,26 +75,33 @@ digits-visible (d ∷ ds) h =
     let range = digit_from_value d h.0 in
     ap₂ (λ s t. s && t) (ap₂ (λ s t. s && t) (le-leb 33 d (omega (arith, range.0))) (le-leb d 126 (omega (arith, range.1)))) (digits-visible ds h.1)
 
-digits-read : (limit n : ℕ) (ds : List ℕ) → IsNumeral 10 ds → digits_value 10 ds ≡ n → n < limit → number_below limit ds ≡ Some n
-digits-read limit n [] h e l = absurd (omega (arith, h.0))
-digits-read limit n (d ∷ ds) h e l =
-    ap (λ b. cond (b && nat_lt (digits_value 10 (d ∷ ds)) limit) (Some (digits_value 10 (d ∷ ds))) None) (are-digits (d ∷ ds) h.1)
-    ∙ ap (λ v. cond (nat_lt v limit) (Some v) None) e
-    ∙ ap (λ b. cond b (Some n) None) (lt-ltb n limit l)
+-- the number that digits write, by the standard library's word and by this project's
+value-same : (n : ℕ) (ds : List ℕ) → AllDigits 10 ds → value_behind n ds ≡ digits_value_after 10 n ds
+value-same n [] h = refl
+value-same n (d ∷ ds) h =
+    let value : d - 48 ≡ digit_value d = omega (arith, digit_value_digit d (digit_from_value d h.0)) in
+    ap (λ v. value_behind (n * 10 + v) ds) value ∙ value-same (n * 10 + digit_value d) ds h.1
+
+digits-read : (most n : ℕ) (ds : List ℕ) → IsNumeral 10 ds → digits_value 10 ds ≡ n → n ≤ most → number_up_to most ds ≡ Some n
+digits-read most n [] h e l = absurd (omega (arith, h.0))
+digits-read most n (d ∷ ds) h e l =
+    ap (λ b. cond (b && nat_le (decimal_value (d ∷ ds)) most) (Some (decimal_value (d ∷ ds))) None) (are-digits (d ∷ ds) h.1)
+    ∙ ap (λ v. cond (nat_le v most) (Some v) None) (value-same 0 (d ∷ ds) h.1 ∙ e)
+    ∙ ap (λ b. cond b (Some n) None) (le-leb n most l)
 
 digits-word : (ds : List ℕ) → IsNumeral 10 ds → is_word ds ≡ true
 digits-word [] h = absurd (omega (arith, h.0))
 digits-word (d ∷ ds) h = digits-visible (d ∷ ds) h.1
 
-number-read : (limit n : ℕ) → n < limit → n < 2 ^ 64 → number_below limit (decimal n) ≡ Some n
-number-read limit n l m = let h = decimal_is_IsNumeral n m in digits-read limit n (decimal n) h.0 h.1 l
+number-read : (most n : ℕ) → n ≤ most → n < 2 ^ 64 → number_up_to most (decimal n) ≡ Some n
+number-read most n l m = let h = decimal_is_IsNumeral n m in digits-read most n (decimal n) h.0 h.1 l
 
 number-word : (n : ℕ) → n < 2 ^ 64 → is_word (decimal n) ≡ true
 number-word n m = digits-word (decimal n) (decimal_is_IsNumeral n m).0
 
 numbers-back : (hints : List ℕ) (at : ℕ) → AllBelow (2 ^ 64) hints → read_numbers (placed at (map decimal hints)) ≡ Ok hints
 numbers-back [] at b = refl
-numbers-back (n ∷ ns) at b = ap₂ (λ o r. read_first (Syntax at) o r) (number-read (2 ^ 64) n b.0 b.0) (numbers-back ns (suc (at + length (decimal n))) b.1)
+numbers-back (n ∷ ns) at b = ap₂ (λ o r. read_first (Syntax at) o r) (number-read (2 ^ 64 - 1) n (omega (arith, b.0)) b.0) (numbers-back ns (suc (at + length (decimal n))) b.1)
 
 numbers-words : (hints : List ℕ) → AllBelow (2 ^ 64) hints → are_words (map decimal hints) ≡ true
 numbers-words [] b = refl
@@ -210,7 +221,7 @@ module _ (names : List (List ℕ)) (distinct : are_distinct names ≡ true) (pro
       read_tokens names end (at, first_word line) (placed k (later_words names line)) ≡ Ok line
   words-back Nonempty end at k b f = refl
   words-back (Item item lits) end at k b f =
-      ap₂ (λ o r. item_line k o r) (number-read (2 ^ 32) item f (omega (arith, f))) (literals-back lits (suc (k + length (decimal item))) b)
+      ap₂ (λ o r. item_line k o r) (number-read (2 ^ 32 - 1) item (omega (arith, f)) (omega (arith, f))) (literals-back lits (suc (k + length (decimal item))) b)
   words-back (Derived lits hints) end at k b f =
       let after = after-back lits (map decimal hints) k b in
       ap₂ (λ r s. derived_line r s)

@@ -4,7 +4,7 @@ use Rattle.std.specs.List.{All, list_all, slice_split}
 use Rattle.std.specs.Str.Lines.{strip_carriage_return}
 use Rattle.std.proofs.lemmas.Bool.{ne_eqb, leb-true, and_parts, not-true}
 use Rattle.std.proofs.lemmas.List.Splits.{slice_split_none, slice_split_at}
-use Rattle.ccsl_refute.specs.CertNames.{is_visible}
+use Rattle.ccsl_base.specs.Name.{is_visible}
 use Rattle.ccsl_refute.specs.Text.{placed, is_blank, is_line_feed, has_bytes, tokens}
 use Rattle.ccsl_refute.specs.Writing.{spaced}
 

@@ -4,7 +4,7 @@ use Rattle.std.specs.List.{All}
 use Rattle.std.proofs.lemmas.Grind.{flat_map-append}
 use Rattle.std.proofs.lemmas.List.Elements.{All-append}
 use Rattle.ccsl_refute.specs.declared.line.Line.{Line}
-use Rattle.ccsl_refute.specs.CertNames.{AllBelow}
+use Rattle.ccsl_refute.specs.NumbersFit.{AllBelow}
 use Rattle.ccsl_refute.specs.Writing.{line_text, lines_text}
 use Rattle.ccsl_refute.proofs.Lists.{take-at}
 

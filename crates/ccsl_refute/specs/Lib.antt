@@ -8,4 +8,4 @@ pub mod Text
 pub mod Reading
 pub mod Read
 pub mod Writing
-pub mod CertNames
+pub mod NumbersFit

@@ -2,12 +2,10 @@
 --   n                   Nonempty
 --   i K LITS            Item K LITS
 --   r LITS from J ..    Derived LITS J ..
-use Rattle.std.specs.Prelude.{ℕ, ◌+◌, ◌^◌, List, [], ◌∷◌, Bool, true, false, ◌&&◌, Option, Some, None, Ok, Err, if◌then◌else◌, nat_eq, nat_lt, length, codes}
+use Rattle.std.specs.Prelude.{ℕ, ◌+◌, ◌-◌, ◌^◌, List, [], ◌∷◌, Bool, true, false, Option, Some, None, Ok, Err, if◌then◌else◌, nat_eq, length, codes}
 use Rattle.std.specs.declared.result.Result.{Result}
-use Rattle.std.specs.List.{list_all}
 use Rattle.std.specs.Str.{bytes_eq}
-use Rattle.std.specs.Str.Parse.{digits_value}
-use Rattle.ccsl_base.specs.Name.{is_digit}
+use Rattle.ccsl_base.specs.Decimal.{number_up_to}
 use Rattle.ccsl_base.specs.Names.{find_name}
 use Rattle.ccsl_refute.specs.declared.fault.CertFault.{CertFault}
 use Rattle.ccsl_refute.specs.declared.fault.CertFault.TheVariants.{Syntax, UnknownName}
@@ -15,14 +13,6 @@ use Rattle.ccsl_refute.specs.declared.line.Lit.{Lit}
 use Rattle.ccsl_refute.specs.declared.line.Line.{Line}
 use Rattle.ccsl_refute.specs.declared.line.Line.TheVariants.{Nonempty, Item, Derived}
 use Rattle.ccsl_refute.specs.Text.{Piece, tokens, lines_from}
-
-abbrev pub are_digits : List ℕ → Bool
-are_digits [] = false
-are_digits (d ∷ ds) = list_all is_digit (d ∷ ds)
-
--- the number that digits write, where it is below a limit; leading zeros count for nothing
-abbrev pub number_below : ℕ → List ℕ → Option ℕ
-number_below limit ds = if are_digits ds && nat_lt (digits_value 10 ds) limit then Some (digits_value 10 ds) else None
 
 abbrev pub literal_of : Bool → Option ℕ → Option Lit
 literal_of sign None = None
@@ -45,7 +35,7 @@ read_literals names (t ∷ ts) = read_first (UnknownName t.0) (literal names t.1
 
 abbrev pub read_numbers : List Piece → Result (List ℕ) CertFault
 read_numbers [] = Ok []
-read_numbers (t ∷ ts) = read_first (Syntax t.0) (number_below (2 ^ 64) t.1) (read_numbers ts)
+read_numbers (t ∷ ts) = read_first (Syntax t.0) (number_up_to (2 ^ 64 - 1) t.1) (read_numbers ts)
 
 abbrev pub is_from : Piece → Bool
 is_from t = bytes_eq t.1 (codes "from")
@@ -79,7 +69,7 @@ read_nonempty (t ∷ ts) = Err (Syntax t.0)
 
 abbrev pub read_item : List (List ℕ) → ℕ → List Piece → Result Line CertFault
 read_item names end [] = Err (Syntax end)
-read_item names end (t ∷ ts) = item_line t.0 (number_below (2 ^ 32) t.1) (read_literals names ts)
+read_item names end (t ∷ ts) = item_line t.0 (number_up_to (2 ^ 32 - 1) t.1) (read_literals names ts)
 
 abbrev pub read_derived : List (List ℕ) → ℕ → List Piece → Result Line CertFault
 read_derived names end ts = derived_line (read_literals names (before_from ts)) (read_hints end (after_from ts))

@@ -6,7 +6,6 @@ pub mod clause;
 pub mod fault;
 pub mod laws;
 pub mod line;
-mod number;
 pub mod reader;
 mod token;
 pub mod writer;

@@ -2,15 +2,15 @@
 
 ghost use Rattle.std.specs.Prelude.{◌≡◌, ◌≤◌, ◌^◌, ◌<◌, ◌+◌, [], Some, None, Ok, IfOk, if◌then◌else◌, length};
 ghost use Rattle.std.specs.List.{position_or_len};
+ghost use Rattle.ccsl_base.specs.Decimal.{number_up_to};
 ghost use Rattle.ccsl_refute.specs.Text.{is_line_feed, line_before, tokens};
-ghost use Rattle.ccsl_refute.specs.Reading.{literal, number_below, read_literals, read_numbers, before_from, after_from, read_nonempty, read_item, read_derived, read_tokens, read_line, reading};
+ghost use Rattle.ccsl_refute.specs.Reading.{literal, read_literals, read_numbers, before_from, after_from, read_nonempty, read_item, read_derived, read_tokens, read_line, reading};
 ghost use Rattle.ccsl_refute.specs.Read.{Reads, members};
 
 use crate::fault::CertFault;
 use crate::line::{Line, Lit};
-use crate::number::number;
 use crate::token::{Token, Tokens};
-use ccsl_base::{Names, Seq};
+use ccsl_base::{Names, Seq, decimal};
 use std::alloc::Global;
 
 /// The literal that a token names.
@@ -45,7 +45,7 @@ fn numbers(alloc: Global, tokens: &mut Tokens) -> Result<Vec<u64>, CertFault>
 {
     let mut hints = Vec::new(alloc);
     'numbers: while let Some(token) = tokens.next() {
-        match number(token.bytes) {
+        match decimal(token.bytes, u64::MAX) {
             Some(hint) => hints.push(hint)?,
             None => return Err(CertFault::Syntax(token.at)),
         }
@@ -102,9 +102,10 @@ fn item(alloc: Global, tokens: &mut Tokens, names: &Names) -> Result<Line, CertF
 
 /// The number of an item.
 fn item_number(text: &[u8]) -> Option<u32>
-    ensures { result ≡ number_below (2 ^ 32) text.now }
+    ensures { result ≡ number_up_to u32.MAX text.now }
 {
-    u32::try_from(number(text)?).ok()
+    let item = decimal(text, u64::from(u32::MAX))?;
+    Some(item as u32)
 }
 
 /// What stands behind `r`.

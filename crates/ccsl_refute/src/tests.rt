@@ -70,6 +70,27 @@ fn a_third_line_closes_or_not(rt: HostRuntime) -> Result<(), Fail> {
     Ok(())
 }
 
+/// What the checker says of `n` and one literal of a clock, against `not x` where `x` is the last of 1,024 clocks.
+fn last_clock(alloc: Global, clock: u32) -> Result<Result<(), CheckFault>, AllocError> {
+    let formulas = vec![in alloc; Formula::Not(Box::new(alloc, Formula::Var(1023))?)]?;
+    let item = Line::Item(0, lits(alloc, &[(clock, false)])?);
+    let lines = vec![in alloc; Line::Nonempty, item]?;
+    let scope = Scope {
+        declared: 1024,
+        named: 1024,
+    };
+    Ok(check(alloc, &lines, &formulas, &scope))
+}
+
+#[test]
+fn the_last_of_all_clocks(rt: HostRuntime) -> Result<(), Fail> {
+    let bad = |number: u64| Err(CheckFault::BadLine(number));
+    assert_eq!(rt; last_clock(rt.alloc(), 1023)?, bad(3));
+    assert_eq!(rt; last_clock(rt.alloc(), 1022)?, bad(2));
+    assert_eq!(rt; last_clock(rt.alloc(), 1024)?, bad(2));
+    Ok(())
+}
+
 #[test]
 fn no_lines_are_no_certificate(rt: HostRuntime) {
     let scope = Scope {
@@ -174,8 +195,12 @@ fn lines_are_written_with_one_blank(rt: HostRuntime) -> Result<(), Fail> {
         clock: 1,
         positive: false,
     })?;
-    let lines = [Line::Nonempty, Line::Item(10, Seq::new(members))];
+    let line = derived(alloc, &[(0, true), (1, false)], &[1, u64::MAX])?;
+    let lines = [Line::Nonempty, Line::Item(10, Seq::new(members)), line];
     let text = write(alloc, &lines, &names)?;
-    assert_eq!(rt; text.as_slice(), b"n\ni 10 -from_b\n".as_slice());
+    let expected = b"n\ni 10 -from_b\nr a -from_b from 1 18446744073709551615\n";
+    assert_eq!(rt; text.as_slice(), expected.as_slice());
+    let again = write(alloc, &read(alloc, &text, &names)?, &names)?;
+    assert_eq!(rt; again.as_slice(), expected.as_slice());
     Ok(())
 }

@@ -1,8 +1,8 @@
 //! Writing the text of a certificate.
 
 ghost use Rattle.std.specs.Prelude.{◌≡◌, ◌<◌, ◌^◌, [], ◌∷◌, ◌++◌, true, All, IfOk, Ok, decimal, length, map};
-ghost use Rattle.ccsl_base.specs.Names.{are_distinct};
-ghost use Rattle.ccsl_refute.specs.CertNames.{are_cert_names, AllBelow, NumbersFit};
+ghost use Rattle.ccsl_base.specs.Name.{are_cert_names};
+ghost use Rattle.ccsl_refute.specs.NumbersFit.{AllBelow, NumbersFit};
 ghost use Rattle.ccsl_refute.specs.Reading.{reading};
 ghost use Rattle.ccsl_refute.specs.Below.{AreBelow};
 ghost use Rattle.ccsl_refute.specs.Writing.{spaced, literal_text, line_text, lines_text, literals};
@@ -85,9 +85,10 @@ fn write_line(text: &mut Vec<u8>, line: &Line, names: &Names) -> Result<(), Memo
 pub fn write(alloc: Global, lines: &[Line], names: &Names) -> Result<Vec<u8>, Memory>
     requires { All (λ line. AreBelow (length names.now) (literals line)) lines.now }
     ensures text { IfOk result (λ text. text.items ≡ lines_text names.now lines.now) }
-    ensures reads_back { are_distinct names.now ≡ true → are_cert_names names.now ≡ true →
+    ensures reads_back { are_cert_names names.now ≡ true →
         IfOk result (λ text. reading names.now text.items ≡ Ok lines.now) }
 {
+    names.are_distinct();
     let mut text = Vec::new(alloc);
     'lines: for line in lines {
         write_line(&mut text, line, names)?;

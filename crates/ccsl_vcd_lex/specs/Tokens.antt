@@ -1,6 +1,7 @@
 -- The tokens of a whole value change dump, with their places. IEEE 1364-2005, clause 18.2: the file is free in format, and
 -- white space separates its parts.
 use Rattle.std.specs.Prelude.{ℕ, ◌+◌, List, [], ◌∷◌, length, Bool, true, false, Option, Some, None, nat_le, nat_lt, ◌==◌, ◌&&◌, ◌||◌, if◌then◌else◌, filter, map}
+use Rattle.ccsl_base.specs.declared.limits.TheConstants.{MAX_TOKEN_BYTES}
 
 -- white space: tab, line feed, vertical tab, form feed, carriage return, blank
 unfoldable pub is_white : ℕ → Bool
@@ -39,9 +40,9 @@ tokens_from fresh at (b ∷ bs) =
 abbrev pub tokens : List ℕ → List Token
 tokens bytes = tokens_from true 0 bytes
 
--- a token with more than 65,536 bytes
+-- a token with more than MAX_TOKEN_BYTES
 abbrev pub is_long : Token → Bool
-is_long t = nat_lt 65536 (length t.text)
+is_long t = nat_lt MAX_TOKEN_BYTES (length t.text)
 
 -- the tokens that no later byte can change: those that end inside these bytes, and those that are too long already
 abbrev pub closed : List ℕ → List Token
@@ -63,7 +64,7 @@ heard bytes = map hear (tokens bytes)
 abbrev pub settled : List ℕ → List Heard
 settled bytes = map hear (closed bytes)
 
--- where the first token with more than 65,536 bytes begins
+-- where the first token with more than MAX_TOKEN_BYTES begins
 unfoldable pub first_long : List Token → Option ℕ
 first_long [] = None
 first_long (t ∷ ts) = if is_long t then Some t.at else first_long ts

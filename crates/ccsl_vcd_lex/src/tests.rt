@@ -20,6 +20,7 @@ fn heard(
     size: usize,
 ) -> Result<(Vec<Span>, Option<u64>), Fail> {
     let mut tokenizer = Tokenizer::open(alloc)?;
+    assert!(rt; tokenizer.token().is_empty());
     let mut found = Vec::new(alloc);
     let mut rest = text;
     while !rest.is_empty() {

@@ -7,12 +7,10 @@ ghost use Rattle.ccsl_vcd_lex.specs.Lexing.{StandsFor, BreaksWithin, named, Span
 
 use crate::scan::{LANES, copy_part, is_space, run_end, white_end};
 use crate::span::{Fed, Span, TokenTooLong};
-use ccsl_base::Memory;
+use ccsl_base::{MAX_TOKEN_BYTES, Memory};
 use std::alloc::{AllocError, Global};
 use std::marker::Model;
 use std::mem;
-
-const MAX_TOKEN: usize = 65536;
 
 /// Takes the bytes of a file, and says which tokens end. It keeps the token that is open and the one that ended last.
 #[derive(Drop)]
@@ -29,6 +27,7 @@ pub struct Tokenizer {
 
 impl Model for Tokenizer {
     ghost use Rattle.std.specs.Prelude.{◌≡◌, ◌≤◌, take, vec_len};
+    ghost use Rattle.ccsl_base.specs.declared.limits.TheConstants.{MAX_TOKEN_BYTES};
     ghost use Rattle.ccsl_vcd_lex.specs.Lexing.{Lexing};
 
     ghost Value = { Lexing };
@@ -40,20 +39,22 @@ impl Model for Tokenizer {
       failed = t.failed;
     } };
 
-    ghost invariant = { λ t. (vec_len t.current ≡ 65552) × (t.current_len ≤ 65536) × (vec_len t.last ≡ 65552) × (t.last_len ≤ 65536) };
+    ghost invariant = { λ t.
+        (vec_len t.current ≡ 65552) × (t.current_len ≤ MAX_TOKEN_BYTES) × (vec_len t.last ≡ 65552) × (t.last_len ≤ MAX_TOKEN_BYTES) };
 }
 
 // A buffer with room for the longest token, and for one vector behind it.
 fn room(alloc: Global) -> Result<Vec<u8>, AllocError>
     ensures { IfOk result (λ v. vec_len v ≡ 65552) }
 {
-    vec![in alloc; 0; MAX_TOKEN + LANES]
+    vec![in alloc; 0; MAX_TOKEN_BYTES + LANES]
 }
 
 impl Tokenizer {
-    /// A tokenizer before the first byte.
+    /// A tokenizer before the first byte, where no token has ended.
     pub fn open(alloc: Global) -> Result<Tokenizer, Memory>
-        ensures { IfOk result (λ t. StandsFor t []) }
+        ensures stands { IfOk result (λ t. StandsFor t []) }
+        ensures last { IfOk result (λ t. t.last ≡ []) }
     {
         let current = room(alloc)?;
         let last = room(alloc)?;
@@ -69,7 +70,7 @@ impl Tokenizer {
 
     // One more byte of the open token.
     fn push(&mut self, byte: u8)
-        requires { length self.old.open_text < 65536 }
+        requires { length self.old.open_text < MAX_TOKEN_BYTES }
         ensures { self.new ≡ record self.old { open_text = self.old.open_text ++ byte ∷ [] } }
     {
         self.current[self.current_len] = byte;
@@ -80,7 +81,7 @@ impl Tokenizer {
     fn append(&mut self, piece: &[u8], start: usize, end: usize)
         requires ordered { start ≤ end }
         requires within { end ≤ length piece.now }
-        requires room { length self.old.open_text + (end - start) ≤ 65536 }
+        requires room { length self.old.open_text + (end - start) ≤ MAX_TOKEN_BYTES }
         ensures { self.new ≡ record self.old { open_text = self.old.open_text ++ slice_range piece.now start end } }
     {
         copy_part(
@@ -186,7 +187,7 @@ impl Tokenizer {
             }
             return Ok(Some(self.end_token()));
         }
-        if self.current_len == MAX_TOKEN {
+        if self.current_len == MAX_TOKEN_BYTES {
             return Err(self.refuse());
         }
         self.push(byte);
@@ -225,7 +226,7 @@ impl Tokenizer {
         }
         let start = self.skip_front(piece);
         let end = run_end(piece, start);
-        if end - start > MAX_TOKEN - self.current_len {
+        if end - start > MAX_TOKEN_BYTES - self.current_len {
             return Err(self.refuse());
         }
         self.append(piece, start, end);
@@ -255,7 +256,7 @@ impl Tokenizer {
         Some(self.close())
     }
 
-    /// The bytes of the token that ended last.
+    /// The bytes of the token that ended last; none before one has.
     pub fn token(&self) -> &[u8]
         ensures { result.now ≡ self.now.last }
     {

@@ -1,6 +1,7 @@
--- Why a text is no word. A text is read from its front, as far as that front can go on to a word and has at most 4,096 letters, and no further:
+-- Why a text is no word. A text is read from its front, as far as that front can go on to a word and has at most MAX_LETTERS letters, and no further:
 -- what stands at the next place, or that the text ends there, is the one fault.
 use Rattle.std.specs.Prelude.{◌≡◌, ℕ, ◌+◌, ◌<◌, ◌≤◌, List, [], ◌++◌, length, take, codes, count_by, Bool, ◌⊎◌}
+use Rattle.ccsl_base.specs.declared.limits.TheConstants.{MAX_LETTERS}
 use Rattle.ccsl_words.specs.declared.fault.WordFault.{WordFault}
 use Rattle.ccsl_words.specs.declared.fault.WordFault.TheVariants as fault
 use Rattle.ccsl_words.specs.Word.{BinaryWord}
@@ -25,18 +26,18 @@ EndsInsidePeriod front = (prefix period : List Bool) × (front ≡ digits prefix
 pub record IsReadTo (text : List ℕ) (place : ℕ) : Type 0 where
   pub within : place ≤ length text
   pub goes_on : CanGoOn (take place text)
-  pub few_letters : letter_count (take place text) ≤ 4096
+  pub few_letters : letter_count (take place text) ≤ MAX_LETTERS
 
 -- the byte at the place is the ) of a period without letters
 pub record ClosesEmptyAt (text : List ℕ) (place : ℕ) : Type 0 where
   pub read : IsReadTo text place
   pub closes : EndsWithoutPeriod (take (place + 1) text)
 
--- the byte at the place is letter number 4,097
+-- the byte at the place is one letter too many
 pub record PassesLimitAt (text : List ℕ) (place : ℕ) : Type 0 where
   pub read : IsReadTo text place
   pub goes_on : CanGoOn (take (place + 1) text)
-  pub letters : letter_count (take (place + 1) text) ≡ 4097
+  pub letters : letter_count (take (place + 1) text) ≡ MAX_LETTERS + 1
 
 -- the byte at the place can't stand there
 pub record StrayAt (text : List ℕ) (place : ℕ) : Type 0 where

@@ -4,11 +4,12 @@ ghost use Rattle.std.specs.Prelude.{◌≡◌, ◌+◌, ◌≤◌, ◌≢◌, If
 ghost use Rattle.ccsl_words.specs.Front.{LeadsWith, HasLetters};
 
 use crate::fault::WordFault;
+use ccsl_base::MAX_LETTERS;
 use std::alloc::Global;
 
 /// All letters at the front of a text, with room for so many.
 pub fn letters_at_front(alloc: Global, text: &[u8], room: usize) -> Result<Vec<bool>, WordFault>
-    requires { room ≤ 4096 }
+    requires { room ≤ MAX_LETTERS }
     ensures letters { IfOk result (λ v. LeadsWith text.now v.items) }
     ensures few { IfOk result (λ v. vec_len v ≤ room) }
     ensures cause { IfErr result (λ e. e ≢ WordFault.Memory → e ≡ WordFault.TooLong) }

@@ -6,6 +6,8 @@ ghost use Rattle.ccsl_words.specs.Word.{BinaryWord, is_finite, word_len, letter,
 ghost use Rattle.ccsl_words.specs.Spelling.{spelling, read_word, Reads};
 ghost use Rattle.ccsl_words.specs.Verdict.{IsVerdict};
 
+use ccsl_base::MAX_LETTERS;
+
 /// Each text reads as a word or has a fault.
 pub fn text_has_verdict()
     ensures { (text : List ℕ) → (v : Result BinaryWord WordFault) × IsVerdict text v }
@@ -21,9 +23,9 @@ pub fn spellings_differ()
     ensures { (v w : BinaryWord) → spelling v ≡ spelling w → v ≡ w }
 {}
 
-/// The spelling of a word with 1 to 4,096 letters reads as that word.
+/// The spelling of a word with 1 to [`MAX_LETTERS`] letters reads as that word.
 pub fn spelling_reads_back()
-    ensures { (w : BinaryWord) → 0 < word_len w → word_len w ≤ 4096 → read_word (spelling w) ≡ Some w }
+    ensures { (w : BinaryWord) → 0 < word_len w → word_len w ≤ MAX_LETTERS → read_word (spelling w) ≡ Some w }
 {}
 
 /// The word that is computed from a text is the one whose spelling the text is.

@@ -7,14 +7,11 @@ ghost use Rattle.ccsl_words.specs.Fault.{IsFault};
 
 use crate::fault::WordFault;
 use crate::front::letters_at_front;
-use ccsl_base::Seq;
+use ccsl_base::{MAX_LETTERS, Seq};
 use std::alloc::Global;
 use std::marker::Model;
 
-/// The most letters of a word, in prefix and period together.
-pub const MAX_LETTERS: usize = 4096;
-
-/// A binary word with at least one letter and at most `MAX_LETTERS`.
+/// A binary word with at least one letter and at most [`MAX_LETTERS`].
 #[derive(Drop)]
 pub struct Word {
     prefix: Seq<bool>,
@@ -23,13 +20,14 @@ pub struct Word {
 
 impl Model for Word {
     ghost use Rattle.std.specs.Prelude.{◌<◌, ◌≤◌, ◌+◌, length};
+    ghost use Rattle.ccsl_base.specs.declared.limits.TheConstants.{MAX_LETTERS};
     ghost use Rattle.ccsl_words.specs.Word.{BinaryWord};
 
     ghost Value = { BinaryWord };
 
     ghost view = { λ w. record { prefix = w.prefix; period = w.period } };
 
-    ghost invariant = { λ w. (0 < length w.prefix + length w.period) × (length w.prefix + length w.period ≤ 4096) };
+    ghost invariant = { λ w. (0 < length w.prefix + length w.period) × (length w.prefix + length w.period ≤ MAX_LETTERS) };
 }
 
 impl Word {
@@ -59,7 +57,7 @@ impl Word {
 
     /// Goes on behind a prefix and the ( of a period.
     fn with_period(alloc: Global, prefix: Vec<bool>, inside: &[u8]) -> Result<Word, WordFault>
-        requires { vec_len prefix ≤ 4096 }
+        requires { vec_len prefix ≤ MAX_LETTERS }
         ensures word { IfOk result (λ w. Reads (digits prefix.items ++ 40 ∷ inside.now) w) }
         ensures fault { IfErr result (λ e. e ≢ WordFault.Memory → IsFault (digits prefix.items ++ 40 ∷ inside.now) e) }
     {
@@ -106,7 +104,7 @@ impl Word {
     /// The letters of prefix and period together.
     pub fn len(&self) -> u64
         ensures letters { result ≡ word_len self.now }
-        ensures few { result ≤ 4096 }
+        ensures few { result ≤ MAX_LETTERS }
         ensures some { 0 < result }
     {
         self.prefix.members().len() as u64 + self.period.members().len() as u64

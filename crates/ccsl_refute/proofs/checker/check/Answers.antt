@@ -1,4 +1,5 @@
 use Rattle.std.proofs.Common.{◌≡◌, ◌+◌, List, true, drop, take, map, sym, ap, subst, ◌∙◌, arith}
+use Rattle.ccsl_base.specs.declared.limits.TheConstants.{MAX_CLOCKS}
 use Rattle.ccsl_formula.specs.Plain.{plain}
 use Rattle.ccsl_refute.specs.declared.line.Line.{Line}
 use Rattle.ccsl_refute.specs.Validity.{is_valid, bad_from}
@@ -27,9 +28,9 @@ loop-i-preserved c =
           ∙ sym (ap (bad_from scope fs ((take c.loop-i.i lines))) after)
           ∙ c.loop-i.invariant.same;
       below =
-          subst (λ (es : List Line). ClausesBelow 64 scope.declared es) (sym before)
-          (below-snoc 64 scope.declared ((take c.loop-i.i lines)) line c.loop-i.invariant.below
-          (valid-below scope fs ((take c.loop-i.i lines)) line 64 c.requires.declared c.requires.named valid));
+          subst (λ (es : List Line). ClausesBelow MAX_CLOCKS scope.declared es) (sym before)
+          (below-snoc MAX_CLOCKS scope.declared ((take c.loop-i.i lines)) line c.loop-i.invariant.below
+          (valid-below scope fs ((take c.loop-i.i lines)) line MAX_CLOCKS c.requires.declared c.requires.named valid));
     }
 
 pub returns-then-ends_empty-clause-sound : goal.returns-then-ends_empty-clause-sound

@@ -1,4 +1,5 @@
 use Rattle.std.proofs.Common.{◌+◌, drop, sym, ap, ◌∙◌, arith}
+use Rattle.ccsl_base.specs.declared.limits.TheConstants.{MAX_CLOCKS}
 use Rattle.ccsl_formula.specs.Known.{known}
 use Rattle.ccsl_refute.specs.Validity.{closes}
 use Rattle.ccsl_refute.proofs.Closing.{unit_at-below, closes-at_unit}
@@ -6,7 +7,7 @@ use Rattle.ccsl_refute.proofs.checker.closes.Goals as goal
 
 pub set-requires : goal.set-requires
 set-requires c =
-    unit_at-below 64 c.args.scope.now.declared c.args.lines.now (known c.loop-i.part) _ c.in-Some.lit c.requires.below (sym c.unit_at.ensures ∙ c.in-Some.is)
+    unit_at-below MAX_CLOCKS c.args.scope.now.declared c.args.lines.now (known c.loop-i.part) _ c.in-Some.lit c.requires.below (sym c.unit_at.ensures ∙ c.in-Some.is)
 
 pub loop-i-preserved : goal.loop-i-preserved
 loop-i-preserved c =

@@ -2,7 +2,7 @@ use Rattle.std.proofs.Common.{◌≡◌, ◌++◌, ◌∷◌, [], List, take, sy
 use Rattle.std.specs.List.{All}
 use Rattle.std.proofs.lemmas.List.{take_all}
 use Rattle.ccsl_refute.specs.declared.line.Line.{Line}
-use Rattle.ccsl_refute.specs.CertNames.{NumbersFit}
+use Rattle.ccsl_refute.specs.NumbersFit.{NumbersFit}
 use Rattle.ccsl_refute.specs.Reading.{reading}
 use Rattle.ccsl_refute.specs.Writing.{line_text, lines_text}
 use Rattle.ccsl_refute.proofs.ReadBack.{lines-back}
@@ -24,9 +24,9 @@ lines-preserved c =
     }
 
 pub returns-clause-reads_back : goal.returns-clause-reads_back
-returns-clause-reads_back c distinct proper =
+returns-clause-reads_back c proper =
     let names = c.args.names.now in
     let lines = c.args.lines.now in
     let all : take c.lines.line-index lines ≡ lines = take_all c.lines.line-index lines c.lines-test.false in
     ap (reading names) (c.lines.invariant.text ∙ ap (lines_text names) all)
-    ∙ lines-back names distinct proper lines 0 c.requires (subst (λ (ls : List Line). All NumbersFit ls) all c.lines.invariant.fit)
+    ∙ lines-back names c.are_distinct.ensures proper lines 0 c.requires (subst (λ (ls : List Line). All NumbersFit ls) all c.lines.invariant.fit)

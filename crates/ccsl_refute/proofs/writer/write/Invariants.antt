@@ -1,6 +1,6 @@
 use Rattle.std.proofs.Common.{◌≡◌, take}
 use Rattle.std.specs.List.{All}
-use Rattle.ccsl_refute.specs.CertNames.{NumbersFit}
+use Rattle.ccsl_refute.specs.NumbersFit.{NumbersFit}
 use Rattle.ccsl_refute.specs.Writing.{lines_text}
 use Rattle.ccsl_refute.proofs.writer.write.Given as goal
 

@@ -4,7 +4,7 @@ use Rattle.ccsl_vcd_lex.proofs.Rooms.{opened, less, less-at-fault}
 use Rattle.ccsl_vcd_lex.proofs.tests.heard.Goals as goal
 
 pub loop-rest-init : goal.loop-rest-init
-loop-rest-init g c = opened _ _ c.in_ok-tokenizer.ensures (omega arith)
+loop-rest-init g c = opened _ _ c.in_ok-tokenizer.ensures.stands (omega arith)
 
 pub loop-rest-preserved : goal.loop-rest-preserved
 loop-rest-preserved g c =

@@ -3,7 +3,7 @@ use Rattle.ccsl_vcd_lex.proofs.Rooms.{opened, less, less-at-fault}
 use Rattle.ccsl_vcd_lex.proofs.tests.heard_by_bytes.Goals as goal
 
 pub loop-byte-init : goal.loop-byte-init
-loop-byte-init g c = opened _ _ c.in_ok-tokenizer.ensures (omega arith)
+loop-byte-init g c = opened _ _ c.in_ok-tokenizer.ensures.stands (omega arith)
 
 pub feed-requires-in-Err : goal.feed-requires-in-Err
 feed-requires-in-Err g c = less-at-fault _ _ _ _ _ c.in-Err.ensures.stands (omega arith) c.loop-byte.invariant

@@ -66,8 +66,8 @@ returns-then-is_space c =
     }
 
 -- byte 65,537 of a token
-pub returns-then-self-eq-MAX_TOKEN : goal.returns-then-self-eq-MAX_TOKEN
-returns-then-self-eq-MAX_TOKEN c =
+pub returns-then-self-eq-MAX_TOKEN_BYTES : goal.returns-then-self-eq-MAX_TOKEN_BYTES
+returns-then-self-eq-MAX_TOKEN_BYTES c =
     let old = c.args.self.now in
     let new = c.refuse.new.self in
     let v = seen old _ _ _ _ _ c.self.view_is (omega (arith, c.self.inside.current.ok.0)) (omega arith) in

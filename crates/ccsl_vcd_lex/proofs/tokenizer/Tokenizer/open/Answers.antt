@@ -3,9 +3,9 @@ use Rattle.ccsl_vcd_lex.specs.Tokens.{tokens_from, first_long}
 use Rattle.ccsl_vcd_lex.specs.Runs.{fresh_after}
 use Rattle.ccsl_vcd_lex.proofs.tokenizer.Tokenizer.open.Goals as goal
 
-pub returns : goal.returns
+pub returns-clause-stands : goal.returns-clause-stands
 unfolding fresh_after tokens_from first_long
-returns c = record {
+returns-clause-stands c = record {
   before = [];
   more = [];
   whole = refl;
