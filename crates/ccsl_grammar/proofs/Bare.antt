@@ -11,8 +11,8 @@ use Rattle.ccsl_ast.specs.declared.line.Relation.TheVariants as rel
 use Rattle.ccsl_ast.specs.Trees.{Expression, EName, ECall, ENever, EBinary, EDelay, EAwait, EFilter, EDelayed, EIf, LDefine, LConstraint, LCall, SClocks, SLineOf, DRelation, DGroup, PlainFile}
 use Rattle.ccsl_grammar.specs.Terminals.{Terminal, word, symbol, name, number, quoted, is_word, is_symbol, is_name, is_quoted}
 use Rattle.ccsl_grammar.specs.Grammar.{version}
-use Rattle.ccsl_grammar.specs.Reader.{no_syntax, too_deep, Reply, took, stopped, Reader, ◌>>=◌, given, many}
-use Rattle.ccsl_grammar.specs.Parser.{name_at, num_of, num_at, quoted_of, quoted_at, further_at, list_at, prim_of, prim_at, sign_of, sign_at, is_sign, signed_at, term_at, wterm_at, comparison_at, test_at, arg_at, kind_of, kind_at, param_at, relop_of, goes_on_by, within_at, precedes_at, relop_at, binop_of, sampled_at, upto_at, binop_at, is_binop, named_at, parens_at, operand_at, binary_at, delayed_at, delay_at, await_at, filter_at, rest_at, branches_at, choice_at, expr_with, is_expr, no_room, expr_at, define_at, call_at, constraint_at, rline_at, clocks_at, sline_at, no_brace, relation_at, member_at, further_member_at, group_at, definition_at, is_definition, version_of, version_at, system_at, ends, file_at}
+use Rattle.ccsl_grammar.specs.Reader.{no_syntax, too_deep, Reply, took, stopped, Reader, ◌>>=◌, given, many, ◌>>◌}
+use Rattle.ccsl_grammar.specs.Parser.{name_at, num_of, num_at, quoted_of, quoted_at, further_at, list_at, prim_of, prim_at, sign_of, sign_at, is_sign, signed_at, term_at, wterm_at, comparison_at, test_at, arg_at, kind_of, kind_at, param_at, relop_of, goes_on_by, within_at, precedes_at, relop_at, binop_of, sampled_at, upto_at, binop_at, is_binop, named_at, parens_at, operand_at, binary_at, second_at, delayed_at, delay_at, await_at, filter_at, rest_at, branches_at, choice_at, expr_with, is_expr, no_room, expr_at, define_at, call_at, constraint_at, rline_at, clocks_at, sline_at, no_brace, relation_at, member_at, further_member_at, group_at, definition_at, is_definition, version_of, version_at, system_at, ends, file_at, word_at}
 use Rattle.ccsl_grammar.specs.File.{Parses, Verdict}
 use Rattle.ccsl_grammar.specs.Bare.{bare_spot, bare, bares, bare_prim, bare_signed, bare_term, bare_wterm, bare_test, bare_arg, bare_param, bare_relop, bare_expression, bare_line, bare_sline, bare_member, bare_definition, bare_file}
 use Rattle.ccsl_grammar.specs.Canonical.{canonical_terminals}
@@ -129,7 +129,7 @@ param_blind : Blind bare_param param_at param_at
 unfolding param_at kind_at
 param_blind = bind kept bare_param _ _ _ _ (one kept kind_of kind_is) (λ k. bind bare_spot bare_param _ _ _ _ name_blind (λ x. give bare_param (record { kind = k; name = x })))
 
-within_blind : Blind bare_relop within_at within_at
+within_blind : Blind bare_relop (word_at w.Within >> within_at) (word_at w.Within >> within_at)
 unfolding within_at
 within_blind = word_then bare_relop _ _ (bind bare_pair bare_relop _ _ _ _ num_blind (λ n. give bare_relop (rel.PrecedesWithin n.0 n.1))) w.Within
 
@@ -162,15 +162,15 @@ named_blind x = either bare_expression (is_symbol 40) (symbol_same 40) _ _ _ _
     (symbol_then bare_expression _ _ (bind (map bare_arg) bare_expression _ _ _ _ args_blind (λ args. give bare_expression (ECall x args))) 40)
     (give bare_expression (EName x))
 
-delay_blind : (a : Expression) → Blind bare_expression (delay_at (bare_expression a)) (delay_at a)
+delay_blind : (a : Expression) → Blind bare_expression (word_at w.Delay >> delay_at (bare_expression a)) (word_at w.Delay >> delay_at a)
 unfolding delay_at
 delay_blind a = word_then bare_expression _ _ (bind bare_term bare_expression _ _ _ _ term_blind (λ m. give bare_expression (EDelay a m))) w.Delay
 
-await_blind : (a : Expression) → Blind bare_expression (await_at (bare_expression a)) (await_at a)
+await_blind : (a : Expression) → Blind bare_expression (word_at w.Await >> await_at (bare_expression a)) (word_at w.Await >> await_at a)
 unfolding await_at
 await_blind a = word_then bare_expression _ _ (bind bare_term bare_expression _ _ _ _ term_blind (λ m. give bare_expression (EAwait a m))) w.Await
 
-filter_blind : (a : Expression) → Blind bare_expression (filter_at (bare_expression a)) (filter_at a)
+filter_blind : (a : Expression) → Blind bare_expression (word_at w.Filter >> filter_at (bare_expression a)) (word_at w.Filter >> filter_at a)
 unfolding filter_at
 filter_blind a = word_then bare_expression _ _ (bind bare_wterm bare_expression _ _ _ _ wterm_blind (λ m. give bare_expression (EFilter a m))) w.Filter
 
@@ -183,10 +183,10 @@ module _ (two : Bool) (inner : Reader Expression) (h : Blind bare_expression inn
 
   module _ (a : Expression) where
     binary_blind : Blind bare_expression (binary_at inner two (bare_expression a)) (binary_at inner two a)
-    unfolding binary_at
+    unfolding binary_at second_at
     binary_blind = bind kept bare_expression _ _ _ _ (binop_blind two) (λ o. bind bare_expression bare_expression _ _ _ _ operand_blind (λ d. give bare_expression (EBinary o a d)))
 
-    delayed_blind : Blind bare_expression (delayed_at inner (bare_expression a)) (delayed_at inner a)
+    delayed_blind : Blind bare_expression (word_at w.Delayed >> delayed_at inner (bare_expression a)) (word_at w.Delayed >> delayed_at inner a)
     unfolding delayed_at
     delayed_blind = word_then bare_expression _ _ (bind bare_pair bare_expression _ _ _ _ num_blind
         (λ n. word_then bare_expression _ _ (bind bare_expression bare_expression _ _ _ _ operand_blind (λ d. give bare_expression (EDelayed a n.0 n.1 d))) w.On)) w.Delayed
@@ -232,7 +232,7 @@ module _ (two : Bool) (room : ℕ) where
       (word_then bare_sline _ _ (bind bare_spot bare_sline _ _ _ _ name_blind (λ x. bind (map bare_spot) bare_sline _ _ _ _ (furthers_blind bare_spot name_at name_blind) (λ xs. symbol_then bare_sline _ _ (give bare_sline (SClocks (x ∷ xs))) 59))) w.Clock)
       (bind bare_line bare_sline _ _ _ _ rline_blind (λ l. give bare_sline (SLineOf l)))
 
-  relation_blind : Blind bare_definition (relation_at two room) (relation_at two room)
+  relation_blind : Blind bare_definition (word_at w.Relation >> relation_at two room) (word_at w.Relation >> relation_at two room)
   unfolding relation_at
   relation_blind = word_then bare_definition _ _ (bind bare_spot bare_definition _ _ _ _ name_blind (λ x. symbol_then bare_definition _ _ (bind (map bare_param) bare_definition _ _ _ _ params_blind
       (λ ps. symbol_then bare_definition _ _ (bind bare_line bare_definition _ _ _ _ rline_blind (λ l. bind (map bare_line) bare_definition _ _ _ _ (again bare_line no_brace brace_same (rline_at two room) rline_blind)
@@ -243,7 +243,7 @@ module _ (two : Bool) (room : ℕ) where
   member_blind = bind bare_spot bare_member _ _ _ _ name_blind (λ x. symbol_then bare_member _ _ (bind (map bare_param) bare_member _ _ _ _ params_blind
       (λ ps. symbol_then bare_member _ _ (bind bare_expression bare_member _ _ _ _ (expr_blind two room) (λ e. give bare_member (record { name = x; params = ps; body = e }))) 61)) 40)
 
-  group_blind : Blind bare_definition (group_at two room) (group_at two room)
+  group_blind : Blind bare_definition (word_at w.Expression >> group_at two room) (word_at w.Expression >> group_at two room)
   unfolding group_at further_member_at
   group_blind = word_then bare_definition _ _ (bind bare_member bare_definition _ _ _ _ member_blind (λ m. bind (map bare_member) bare_definition _ _ _ _
       (again bare_member (is_word w.And) (word_same w.And) _ (word_then bare_member _ _ member_blind w.And)) (λ ms. symbol_then bare_definition _ _ (give bare_definition (DGroup (m ∷ ms))) 59))) w.Expression

@@ -14,7 +14,7 @@ use Rattle.ccsl_grammar.specs.Terminals.{Terminal, word, name, number, is_word, 
 use Rattle.ccsl_grammar.specs.Reader.{too_deep, took, stopped, Reader, followed, ◌>>=◌, ◌>>◌, given, begins}
 use Rattle.ccsl_grammar.specs.Deep.{or_else, expr_deep, operand_deep}
 use Rattle.ccsl_grammar.specs.Grammar.{opening, closing, semicolon, arg_spelled, binop_spelled, term_spelled, wterm_spelled, test_spelled, Expr, alone, binary, delay, await, filter, delayed, choice, Operand, named, called, never, parens, expr_spelled, operand_spelled, expr_tree, operand_tree}
-use Rattle.ccsl_grammar.specs.Parser.{word_at, symbol_at, name_at, num_at, is_sign, sampled_at, goes_on_by, upto_at, binop_at, is_binop, named_at, parens_at, operand_at, binary_at, delayed_at, delay_at, await_at, filter_at, rest_at, branches_at, choice_at, expr_with, is_expr, no_room, expr_at}
+use Rattle.ccsl_grammar.specs.Parser.{word_at, symbol_at, name_at, num_at, is_sign, sampled_at, goes_on_by, upto_at, binop_at, is_binop, named_at, parens_at, operand_at, binary_at, second_at, delayed_at, delay_at, await_at, filter_at, rest_at, branches_at, choice_at, expr_with, is_expr, no_room, expr_at}
 use Rattle.ccsl_grammar.proofs.Leaves.{closed_spelled}
 use Rattle.ccsl_grammar.proofs.Outcome.{outcome, outcome_then, outcome_last}
 use Rattle.ccsl_grammar.proofs.CompleteLeaves.{term_complete, wterm_complete, test_complete, args_complete}
@@ -71,7 +71,7 @@ no_room_complete e rest = rw (expr_first e rest) refl
 
 module _ (two : Bool) (inner : Reader Expression) where
   rest_binary : (a : Expression) (o : BinaryOp) → binop_in two o ≡ true → (z : List Terminal) → begins (goes_on_by two w.Weakly) z ≡ false → rest_at inner two a (binop_spelled o ++ z) ≡ followed (operand_at inner z) (λ d. given (EBinary o a d))
-  unfolding rest_at binary_at binop_at sampled_at upto_at word_at
+  unfolding rest_at binary_at second_at binop_at sampled_at upto_at word_at
   rest_binary a op.Upto h z b = rw b refl
   rest_binary a op.UptoWeakly h z b = rw h refl
   rest_binary a op.Union h z b = refl

@@ -8,11 +8,11 @@ use Rattle.ccsl_ast.specs.declared.definition.Kind.TheVariants as kind
 use Rattle.ccsl_ast.specs.declared.definition.Param.{Param}
 use Rattle.ccsl_ast.specs.Trees.{DRelation, DGroup}
 use Rattle.ccsl_grammar.specs.Terminals.{Terminal, word, name, is_word}
-use Rattle.ccsl_grammar.specs.Reader.{many}
+use Rattle.ccsl_grammar.specs.Reader.{many, ◌>>◌}
 use Rattle.ccsl_grammar.specs.Deep.{all_deep, expr_deep, rline_deep, member_deep, definition_deep}
 use Rattle.ccsl_grammar.specs.Places.{Stops, Is, shallow}
 use Rattle.ccsl_grammar.specs.Grammar.{opening, closing, semicolon, equals, left_brace, right_brace, list_spelled, param_spelled, alone, never, expr_spelled, expr_tree, Rline, call, rline_spelled, rline_tree, Member, member_spelled, further_member, member_tree, Definition, relation, group, definition_spelled, definition_tree}
-use Rattle.ccsl_grammar.specs.Parser.{list_at, param_at, rline_at, no_brace, relation_at, member_at, further_member_at, group_at, definition_at}
+use Rattle.ccsl_grammar.specs.Parser.{list_at, param_at, rline_at, no_brace, relation_at, member_at, further_member_at, group_at, definition_at, word_at}
 use Rattle.ccsl_grammar.proofs.Good.{Good, give, either}
 use Rattle.ccsl_grammar.proofs.Parts.{Reads, within, inside, begun, built, part_then, part_last}
 use Rattle.ccsl_grammar.proofs.Many.{many_reads}
@@ -77,7 +77,7 @@ module _ (two : Bool) (room : ℕ) where
   further_members : Reads (flat_map (further_member {two = two})) (all_deep (further_member {two = two}) (member_deep room)) (map member_tree) (many (is_word w.And) (further_member_at two room))
   further_members = many_reads (further_member {two = two}) (member_deep room) member_tree (is_word w.And) (further_member_at two room) (λ m. omega arith) further_member_reads
 
-  group_reads : (ts : List Terminal) → Good (Stops (definition_spelled {two = two}) (definition_deep room)) (Is (definition_spelled {two = two}) (definition_deep room) definition_tree) (group_at two room) ts
+  group_reads : (ts : List Terminal) → Good (Stops (definition_spelled {two = two}) (definition_deep room)) (Is (definition_spelled {two = two}) (definition_deep room) definition_tree) (word_at w.Expression >> group_at two room) ts
   unfolding group_at
   group_reads ts = word_then _ _ w.Expression _ ts (λ z. begun (group some_member []) (word w.Expression ∷ name some_spot ∷ opening ∷ closing ∷ (member_end ++ semicolon ∷ [])) refl)
       (λ z. part_then member_reads _ _ _ z
@@ -105,7 +105,7 @@ module _ (two : Bool) (room : ℕ) where
   relation_is : (x : Spot) (ps : List Param) (l : Rline two) (ls : List (Rline two)) → definition_spelled (relation x ps l ls) ≡ heading x ps (rline_spelled l ++ (flat_map rline_spelled ls ++ right_brace ∷ []))
   relation_is x ps l ls = ap (λ q. word w.Relation ∷ name x ∷ opening ∷ q) (sym (append_assoc (list_spelled param_spelled ps) (closing ∷ []) (left_brace ∷ (rline_spelled l ++ (flat_map rline_spelled ls ++ right_brace ∷ [])))))
 
-  relation_reads : (ts : List Terminal) → Good (Stops (definition_spelled {two = two}) (definition_deep room)) (Is (definition_spelled {two = two}) (definition_deep room) definition_tree) (relation_at two room) ts
+  relation_reads : (ts : List Terminal) → Good (Stops (definition_spelled {two = two}) (definition_deep room)) (Is (definition_spelled {two = two}) (definition_deep room) definition_tree) (word_at w.Relation >> relation_at two room) ts
   unfolding relation_at
   relation_reads ts = word_then _ _ w.Relation _ ts (λ z. begun (relation some_spot [] some_rline []) (word w.Relation ∷ name some_spot ∷ opening ∷ closing ∷ left_brace ∷ (rline_rest ++ right_brace ∷ [])) refl)
       (λ z. name_then _ _ _ z (λ z. begun (relation some_spot [] some_rline []) (name some_spot ∷ opening ∷ closing ∷ left_brace ∷ (rline_rest ++ right_brace ∷ [])) refl)

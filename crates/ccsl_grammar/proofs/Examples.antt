@@ -15,7 +15,7 @@ use Rattle.ccsl_ast.specs.Trees.{EName, ECall, ENever, EBinary, EDelay, EAwait, 
 use Rattle.ccsl_grammar.specs.Terminals.{Terminal, word, name, number, quoted}
 use Rattle.ccsl_grammar.specs.Grammar.{opening, closing, plus, comma, dash, semicolon, below, equals, left_brace, right_brace}
 use Rattle.ccsl_grammar.specs.Reader.{no_syntax, too_deep, took, stopped, many}
-use Rattle.ccsl_grammar.specs.Parser.{word_at, symbol_at, name_at, num_at, quoted_at, further_at, list_at, prim_at, sign_at, signed_at, term_at, wterm_at, comparison_at, test_at, arg_at, kind_at, param_at, precedes_at, relop_at, within_at, upto_at, sampled_at, binop_at, named_at, parens_at, operand_at, binary_at, delayed_at, delay_at, await_at, filter_at, rest_at, branches_at, choice_at, expr_with, no_room, expr_at, define_at, call_at, constraint_at, rline_at, clocks_at, sline_at, relation_at, member_at, further_member_at, group_at, definition_at, version_at, system_at, file_at}
+use Rattle.ccsl_grammar.specs.Parser.{word_at, symbol_at, name_at, num_at, quoted_at, further_at, list_at, prim_at, sign_at, signed_at, term_at, wterm_at, comparison_at, test_at, arg_at, kind_at, param_at, precedes_at, relop_at, within_at, upto_at, sampled_at, binop_at, named_at, parens_at, operand_at, binary_at, second_at, delayed_at, delay_at, await_at, filter_at, rest_at, branches_at, choice_at, expr_with, no_room, expr_at, define_at, call_at, constraint_at, rline_at, clocks_at, sline_at, relation_at, member_at, further_member_at, group_at, definition_at, version_at, system_at, file_at}
 
 abbrev a : Spot
 a = record { at = 20; name = 97 ∷ [] }
@@ -126,9 +126,9 @@ record Fails : Type 0 where
   no_third : file_at 2 (defined (opening ∷ opening ∷ semicolon ∷ [])) ≡ stopped no_syntax (semicolon ∷ [])
 
 reads : Reads
-unfolding many word_at symbol_at name_at num_at quoted_at further_at list_at prim_at sign_at signed_at term_at wterm_at comparison_at test_at arg_at kind_at param_at precedes_at relop_at within_at upto_at sampled_at binop_at named_at parens_at operand_at binary_at delayed_at delay_at await_at filter_at rest_at branches_at choice_at expr_with no_room expr_at define_at call_at constraint_at rline_at clocks_at sline_at relation_at member_at further_member_at group_at definition_at version_at system_at file_at
+unfolding many word_at symbol_at name_at num_at quoted_at further_at list_at prim_at sign_at signed_at term_at wterm_at comparison_at test_at arg_at kind_at param_at precedes_at relop_at within_at upto_at sampled_at binop_at named_at parens_at operand_at binary_at second_at delayed_at delay_at await_at filter_at rest_at branches_at choice_at expr_with no_room expr_at define_at call_at constraint_at rline_at clocks_at sline_at relation_at member_at further_member_at group_at definition_at version_at system_at file_at
 reads = record { relation = refl; group = refl; tests = refl; operators = refl; two = refl }
 
 fails : Fails
-unfolding many word_at symbol_at name_at num_at quoted_at further_at list_at prim_at sign_at signed_at term_at wterm_at comparison_at test_at arg_at kind_at param_at precedes_at relop_at within_at upto_at sampled_at binop_at named_at parens_at operand_at binary_at delayed_at delay_at await_at filter_at rest_at branches_at choice_at expr_with no_room expr_at define_at call_at constraint_at rline_at clocks_at sline_at relation_at member_at further_member_at group_at definition_at version_at system_at file_at
+unfolding many word_at symbol_at name_at num_at quoted_at further_at list_at prim_at sign_at signed_at term_at wterm_at comparison_at test_at arg_at kind_at param_at precedes_at relop_at within_at upto_at sampled_at binop_at named_at parens_at operand_at binary_at second_at delayed_at delay_at await_at filter_at rest_at branches_at choice_at expr_with no_room expr_at define_at call_at constraint_at rline_at clocks_at sline_at relation_at member_at further_member_at group_at definition_at version_at system_at file_at
 fails = record { no_end = refl; no_brace = refl; goes_on = refl; version_zero = refl; version_three = refl; no_line = refl; no_argument = refl; two_operators = refl; upto_weakly = refl; precedes_within = refl; three_levels = refl; no_third = refl }

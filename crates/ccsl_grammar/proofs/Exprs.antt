@@ -13,7 +13,7 @@ use Rattle.ccsl_grammar.specs.Reader.{Fault, no_syntax, too_deep, stopped, Reade
 use Rattle.ccsl_grammar.specs.Deep.{expr_deep, operand_deep}
 use Rattle.ccsl_grammar.specs.Places.{BeginsDeep, Stops, Is}
 use Rattle.ccsl_grammar.specs.Grammar.{opening, closing, arg_spelled, binop_spelled, term_spelled, wterm_spelled, test_spelled, Expr, alone, binary, delay, await, filter, delayed, choice, Operand, named, called, never, parens, expr_spelled, operand_spelled, expr_tree, operand_tree}
-use Rattle.ccsl_grammar.specs.Parser.{word_at, arg_at, term_at, wterm_at, named_at, parens_at, operand_at, is_binop, binary_at, delayed_at, delay_at, await_at, filter_at, rest_at, branches_at, choice_at, expr_with, is_expr, no_room, expr_at}
+use Rattle.ccsl_grammar.specs.Parser.{word_at, arg_at, term_at, wterm_at, named_at, parens_at, operand_at, is_binop, binary_at, second_at, delayed_at, delay_at, await_at, filter_at, rest_at, branches_at, choice_at, expr_with, is_expr, no_room, expr_at}
 use Rattle.ccsl_grammar.proofs.Good.{Good, give, either}
 use Rattle.ccsl_grammar.proofs.Parts.{Reads, Self, within, inside, begun, built, part_then}
 use Rattle.ccsl_grammar.proofs.Steps.{word_then, symbol_then, name_then, word_is, symbol_is}
@@ -105,7 +105,7 @@ module _ (two : Bool) (room : ℕ) (inner : Reader Expression) (reads : Reads (e
     here z = begun (alone o) [] (rw (append-nil (operand_spelled o), append-nil (operand_spelled o)) refl)
 
     binary_reads : (ts : List Terminal) → Good Here Found (binary_at inner two (operand_tree o)) ts
-    unfolding binary_at
+    unfolding binary_at second_at
     binary_reads ts = part_then (binop_reads two) _ _ _ ts
         (inside (λ (p : Binop two). binop_spelled p.0) (expr_spelled {two = two}) (expr_deep (suc room)) (λ p. binary p.0 p.1 o never) (λ q. operand_spelled o ++ q) (word w.Never ∷ []) (λ x y. sym (append_assoc (operand_spelled o) x y)) (λ p. refl))
         (λ p d y. part_then operand_reads _ _ _ y
@@ -116,7 +116,7 @@ module _ (two : Bool) (room : ℕ) (inner : Reader Expression) (reads : Reads (e
         (λ c d z. give _ _ (EBinary p.0 (operand_tree o) (operand_tree c)) z (built (binary p.0 p.1 o c) (rw (append-nil (operand_spelled c)) refl)
         (λ after. rw (shallow_is (binop_spelled p.0 ++ (operand_spelled c ++ after))) (d after)))))
 
-    delayed_reads : (ts : List Terminal) → Good Here Found (delayed_at inner (operand_tree o)) ts
+    delayed_reads : (ts : List Terminal) → Good Here Found (word_at w.Delayed >> delayed_at inner (operand_tree o)) ts
     unfolding delayed_at
     delayed_reads ts = word_then _ _ w.Delayed _ ts here
         (λ z. num_then _ _ _ z (λ z. begun (delayed o 0 0 never) (number 0 0 ∷ word w.On ∷ word w.Never ∷ []) (sym (append_assoc (operand_spelled o) (word w.Delayed ∷ []) (number 0 0 ∷ word w.On ∷ word w.Never ∷ []))))
@@ -149,7 +149,7 @@ module _ (two : Bool) (room : ℕ) (inner : Reader Expression) (reads : Reads (e
 
   -- ---- an if
 
-  choice_reads : (ts : List Terminal) → Good (Stops (expr_spelled {two = two}) (expr_deep (suc room))) (Is (expr_spelled {two = two}) (expr_deep (suc room)) expr_tree) (choice_at inner) ts
+  choice_reads : (ts : List Terminal) → Good (Stops (expr_spelled {two = two}) (expr_deep (suc room))) (Is (expr_spelled {two = two}) (expr_deep (suc room)) expr_tree) (word_at w.If >> choice_at inner) ts
   unfolding choice_at branches_at
   choice_reads ts = word_then _ _ w.If _ ts (λ z. begun (alone never) (word w.Never ∷ []) refl)
       (λ z. part_then test_reads _ _ _ z

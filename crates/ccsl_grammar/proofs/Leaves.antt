@@ -259,7 +259,7 @@ module _ (two : Bool) where
   relop_tree c = c.0
 
   within_reads : two ≡ true → (ts : List Terminal)
-      → Good (λ k q z. Stops relop_terminals shallow k (word w.Precedes ∷ q) z) (λ v q. Is relop_terminals shallow relop_tree v (word w.Precedes ∷ q)) within_at ts
+      → Good (λ k q z. Stops relop_terminals shallow k (word w.Precedes ∷ q) z) (λ v q. Is relop_terminals shallow relop_tree v (word w.Precedes ∷ q)) (word_at w.Within >> within_at) ts
   unfolding within_at
   within_reads h ts = word_then _ _ w.Within _ ts (λ z. begun (rel.PrecedesWithin 0 0, h) (word w.Within ∷ number 0 0 ∷ []) refl)
       (λ z. num_then _ _ _ z (λ z. begun (rel.PrecedesWithin 0 0, h) (number 0 0 ∷ []) refl)

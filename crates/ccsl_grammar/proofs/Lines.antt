@@ -10,7 +10,8 @@ use Rattle.ccsl_grammar.specs.Terminals.{Terminal, word, name, is_word, is_symbo
 use Rattle.ccsl_grammar.specs.Deep.{expr_deep, rline_deep, sline_deep}
 use Rattle.ccsl_grammar.specs.Places.{Begins, Stops, Is}
 use Rattle.ccsl_grammar.specs.Grammar.{opening, closing, semicolon, equals, further_spelled, list_spelled, arg_spelled, relop_spelled, alone, never, expr_spelled, expr_tree, Rline, define, constrain, call, rline_spelled, rline_tree, Sline, clocks, line, clock_spelled, sline_spelled, sline_tree}
-use Rattle.ccsl_grammar.specs.Parser.{name_at, arg_at, define_at, call_at, constraint_at, rline_at, clocks_at, sline_at}
+use Rattle.ccsl_grammar.specs.Reader.{◌>>◌}
+use Rattle.ccsl_grammar.specs.Parser.{name_at, arg_at, define_at, call_at, constraint_at, rline_at, clocks_at, sline_at, word_at, symbol_at}
 use Rattle.ccsl_grammar.proofs.Good.{Good, give, either}
 use Rattle.ccsl_grammar.proofs.Parts.{Reads, within, inside, begun, built, part_then}
 use Rattle.ccsl_grammar.proofs.Steps.{word_then, symbol_then, name_then}
@@ -31,7 +32,7 @@ sline_nonempty (clocks x xs) = omega arith
 sline_nonempty (line l) = rline_nonempty l
 
 module _ (two : Bool) (room : ℕ) where
-  define_reads : (ts : List Terminal) → Good (Stops (rline_spelled {two = two}) (rline_deep room)) (Is (rline_spelled {two = two}) (rline_deep room) rline_tree) (define_at two room) ts
+  define_reads : (ts : List Terminal) → Good (Stops (rline_spelled {two = two}) (rline_deep room)) (Is (rline_spelled {two = two}) (rline_deep room) rline_tree) (word_at w.Define >> define_at two room) ts
   unfolding define_at
   define_reads ts = word_then _ _ w.Define _ ts some_line
       (λ z. name_then _ _ _ z (λ z. begun (define some_spot (alone never)) (name some_spot ∷ equals ∷ word w.Never ∷ semicolon ∷ []) refl)
@@ -42,7 +43,7 @@ module _ (two : Bool) (room : ℕ) where
       (λ z. give _ _ (LDefine x (expr_tree e)) z (built (define x e) refl (λ after. d (semicolon ∷ after))))))))
 
   -- behind a line's name
-  call_reads : (x : Spot) (ts : List Terminal) → Good (λ k q z. Stops (rline_spelled {two = two}) (rline_deep room) k (name x ∷ q) z) (λ v q. Is (rline_spelled {two = two}) (rline_deep room) rline_tree v (name x ∷ q)) (call_at x) ts
+  call_reads : (x : Spot) (ts : List Terminal) → Good (λ k q z. Stops (rline_spelled {two = two}) (rline_deep room) k (name x ∷ q) z) (λ v q. Is (rline_spelled {two = two}) (rline_deep room) rline_tree v (name x ∷ q)) (symbol_at 40 >> call_at x) ts
   unfolding call_at
   call_reads x ts = symbol_then _ _ 40 _ ts (λ z. begun (call x []) (opening ∷ closing ∷ semicolon ∷ []) refl)
       (λ z. part_then (list_reads arg_spelled arg_at (arg.Tail some_spot) arg_reads) _ _ _ z
@@ -66,7 +67,7 @@ module _ (two : Bool) (room : ℕ) where
         (λ b. name_then _ _ _ ts some_line (λ x z. either _ _ (is_symbol 40) _ _ z (λ b. call_reads x z) (λ b. constraint_reads x z)));
   }
 
-  clocks_reads : (ts : List Terminal) → Good (Stops (sline_spelled {two = two}) (sline_deep room)) (Is (sline_spelled {two = two}) (sline_deep room) sline_tree) clocks_at ts
+  clocks_reads : (ts : List Terminal) → Good (Stops (sline_spelled {two = two}) (sline_deep room)) (Is (sline_spelled {two = two}) (sline_deep room) sline_tree) (word_at w.Clock >> clocks_at) ts
   unfolding clocks_at
   clocks_reads ts = word_then _ _ w.Clock _ ts (λ z. begun (clocks some_spot []) (word w.Clock ∷ name some_spot ∷ semicolon ∷ []) refl)
       (λ z. name_then _ _ _ z (λ z. begun (clocks some_spot []) (name some_spot ∷ semicolon ∷ []) refl)

@@ -159,18 +159,16 @@ goes_on_by two v t = is_word v t && two
 
 unfoldable pub within_at : Reader Relation
 within_at = do
-  word_at w.Within
   n ← num_at
   given (rel.PrecedesWithin n.0 n.1)
 
 unfoldable pub precedes_at : Bool → Reader Relation
-precedes_at two = do
-  word_at w.Precedes
-  choose (is_word w.Weakly) (do word_at w.Weakly; given rel.PrecedesWeakly)
-      (choose (goes_on_by two w.Within) within_at (given rel.Precedes))
+precedes_at two =
+    choose (is_word w.Weakly) (do word_at w.Weakly; given rel.PrecedesWeakly)
+    (choose (goes_on_by two w.Within) (do word_at w.Within; within_at) (given rel.Precedes))
 
 unfoldable pub relop_at : Bool → Reader Relation
-relop_at two = choose (is_word w.Precedes) (precedes_at two) (accept relop_of)
+relop_at two = choose (is_word w.Precedes) (do word_at w.Precedes; precedes_at two) (accept relop_of)
 
 -- the operators of one word that no other begins
 abbrev pub binop_of : Terminal → Option BinaryOp
@@ -183,40 +181,38 @@ binop_of (word w.Then) = Some op.Then
 binop_of _ = None
 
 unfoldable pub sampled_at : Reader BinaryOp
-sampled_at = do
-  word_at w.Sampled
-  choose (is_word w.Weakly) (do word_at w.Weakly; word_at w.On; given op.SampledWeakly) (do word_at w.On; given op.Sampled)
+sampled_at =
+    choose (is_word w.Weakly) (do word_at w.Weakly; word_at w.On; given op.SampledWeakly) (do word_at w.On; given op.Sampled)
 
 unfoldable pub upto_at : Bool → Reader BinaryOp
-upto_at two = do
-  word_at w.Upto
-  choose (goes_on_by two w.Weakly) (do word_at w.Weakly; given op.UptoWeakly) (given op.Upto)
+upto_at two =
+    choose (goes_on_by two w.Weakly) (do word_at w.Weakly; given op.UptoWeakly) (given op.Upto)
 
 unfoldable pub binop_at : Bool → Reader BinaryOp
-binop_at two = choose (is_word w.Sampled) sampled_at (choose (is_word w.Upto) (upto_at two) (accept binop_of))
+binop_at two =
+    choose (is_word w.Sampled) (do word_at w.Sampled; sampled_at)
+    (choose (is_word w.Upto) (do word_at w.Upto; upto_at two)
+    (accept binop_of))
 
 abbrev pub is_binop : Terminal → Bool
 is_binop t = is_word w.Sampled t || is_word w.Upto t || is_some (binop_of t)
 
 -- ---- expressions
 
--- what may stand behind an operand, where no second operand does
+-- what stands behind an operand and a word, where that is no second operand
 
 unfoldable pub delay_at : Expression → Reader Expression
 delay_at a = do
-  word_at w.Delay
   m ← term_at
   given (EDelay a m)
 
 unfoldable pub await_at : Expression → Reader Expression
 await_at a = do
-  word_at w.Await
   m ← term_at
   given (EAwait a m)
 
 unfoldable pub filter_at : Expression → Reader Expression
 filter_at a = do
-  word_at w.Filter
   m ← wterm_at
   given (EFilter a m)
 
@@ -237,15 +233,18 @@ module _ (inner : Reader Expression) where
       choose is_name (do x ← name_at; named_at x)
       (choose (is_word w.Never) (do word_at w.Never; given ENever) parens_at)
 
-  unfoldable pub binary_at : Bool → Expression → Reader Expression
-  binary_at two a = do
-    op ← binop_at two
+  unfoldable pub second_at : BinaryOp → Expression → Reader Expression
+  second_at op a = do
     d ← operand_at
     given (EBinary op a d)
 
+  unfoldable pub binary_at : Bool → Expression → Reader Expression
+  binary_at two a = do
+    op ← binop_at two
+    second_at op a
+
   unfoldable pub delayed_at : Expression → Reader Expression
   delayed_at a = do
-    word_at w.Delayed
     n ← num_at
     word_at w.On
     d ← operand_at
@@ -255,10 +254,10 @@ module _ (inner : Reader Expression) where
   unfoldable pub rest_at : Bool → Expression → Reader Expression
   rest_at two a =
       choose is_binop (binary_at two a)
-      (choose (is_word w.Delay) (delay_at a)
-      (choose (is_word w.Await) (await_at a)
-      (choose (is_word w.Filter) (filter_at a)
-      (choose (is_word w.Delayed) (delayed_at a)
+      (choose (is_word w.Delay) (do word_at w.Delay; delay_at a)
+      (choose (is_word w.Await) (do word_at w.Await; await_at a)
+      (choose (is_word w.Filter) (do word_at w.Filter; filter_at a)
+      (choose (is_word w.Delayed) (do word_at w.Delayed; delayed_at a)
       (given a)))))
 
   -- what stands behind the test of an if
@@ -272,12 +271,11 @@ module _ (inner : Reader Expression) where
 
   unfoldable pub choice_at : Reader Expression
   choice_at = do
-    word_at w.If
     q ← test_at
     branches_at q
 
   unfoldable pub expr_with : Bool → Reader Expression
-  expr_with two = choose (is_word w.If) choice_at (do a ← operand_at; rest_at two a)
+  expr_with two = choose (is_word w.If) (do word_at w.If; choice_at) (do a ← operand_at; rest_at two a)
 
 abbrev pub is_expr : Terminal → Bool
 is_expr t = is_name t || is_word w.Never t || is_symbol 40 t || is_word w.If t
@@ -294,7 +292,6 @@ expr_at two (suc room) = expr_with (expr_at two room) two
 
 unfoldable pub define_at : Bool → ℕ → Reader Line
 define_at two room = do
-  word_at w.Define
   x ← name_at
   symbol_at 61
   e ← expr_at two room
@@ -303,7 +300,6 @@ define_at two room = do
 
 unfoldable pub call_at : Spot → Reader Line
 call_at x = do
-  symbol_at 40
   args ← list_at arg_at
   symbol_at 59
   given (LCall x args)
@@ -316,20 +312,19 @@ constraint_at two a = do
   given (LConstraint a r b)
 
 unfoldable pub rline_at : Bool → ℕ → Reader Line
-rline_at two room = choose (is_word w.Define) (define_at two room) (do
+rline_at two room = choose (is_word w.Define) (do word_at w.Define; define_at two room) (do
   x ← name_at
-  choose (is_symbol 40) (call_at x) (constraint_at two x))
+  choose (is_symbol 40) (do symbol_at 40; call_at x) (constraint_at two x))
 
 unfoldable pub clocks_at : Reader SLine
 clocks_at = do
-  word_at w.Clock
   x ← name_at
   xs ← many (is_symbol 44) (further_at name_at)
   symbol_at 59
   given (SClocks (x ∷ xs))
 
 unfoldable pub sline_at : Bool → ℕ → Reader SLine
-sline_at two room = choose (is_word w.Clock) clocks_at (do l ← rline_at two room; given (SLineOf l))
+sline_at two room = choose (is_word w.Clock) (do word_at w.Clock; clocks_at) (do l ← rline_at two room; given (SLineOf l))
 
 abbrev pub no_brace : Terminal → Bool
 no_brace t = not (is_symbol 125 t)
@@ -338,7 +333,6 @@ no_brace t = not (is_symbol 125 t)
 
 unfoldable pub relation_at : Bool → ℕ → Reader PlainDefinition
 relation_at two room = do
-  word_at w.Relation
   x ← name_at
   symbol_at 40
   params ← list_at param_at
@@ -364,14 +358,13 @@ further_member_at two room = do
 
 unfoldable pub group_at : Bool → ℕ → Reader PlainDefinition
 group_at two room = do
-  word_at w.Expression
   m ← member_at two room
   ms ← many (is_word w.And) (further_member_at two room)
   symbol_at 59
   given (DGroup (m ∷ ms))
 
 unfoldable pub definition_at : Bool → ℕ → Reader PlainDefinition
-definition_at two room = choose (is_word w.Relation) (relation_at two room) (group_at two room)
+definition_at two room = choose (is_word w.Relation) (do word_at w.Relation; relation_at two room) (do word_at w.Expression; group_at two room)
 
 abbrev pub is_definition : Terminal → Bool
 is_definition t = is_word w.Relation t || is_word w.Expression t

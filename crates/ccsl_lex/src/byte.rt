@@ -1,7 +1,6 @@
 //! Kinds of bytes that names have no part in.
 
 ghost use Rattle.std.specs.Prelude.{◌≡◌};
-ghost use Rattle.ccsl_base.specs.Quoted.{is_quotable};
 ghost use Rattle.ccsl_lex.specs.Tokens.{is_white, is_mark, is_remark};
 
 pub fn is_white(b: u8) -> bool
@@ -17,12 +16,6 @@ pub fn is_mark(b: u8) -> bool
         b,
         b'(' | b')' | b'{' | b'}' | b',' | b';' | b'=' | b'<' | b'+' | b'-'
     )
-}
-
-pub fn is_quotable(b: u8) -> bool
-    ensures { result ≡ is_quotable b }
-{
-    matches!(b, 32..=126) && b != b'"'
 }
 
 pub fn is_remark(b: u8) -> bool

@@ -16,7 +16,8 @@ pub fn tokens(alloc: Global, text: &[u8]) -> Result<Vec<Token>, LexFault>
 
     // Each answer comes wherever it is true of the text, unless memory runs out.
     ensures each_tokens { (ts : List PlainToken) → AreTokens text.now ts
-        → IsOkAnd result (λ found. map plain_token found.items ≡ ts) ⊎ (result ≡ Err LexFault.Memory) }
+        → IsOkAnd result (λ found. map plain_token found.items ≡ ts)
+        ⊎ (result ≡ Err LexFault.Memory) }
     ensures each_fault { (e : LexFault) → IsFirstFault e text.now
         → (result ≡ Err e) ⊎ (result ≡ Err LexFault.Memory) }
 {

@@ -52,7 +52,7 @@ fn number_piece(at: usize, text: &[u8]) -> Result<Piece, LexFault>
     ensures fault { IfErr result (λ e. BeginsFault e at text.now) }
 {
     let len = Run::Digits.len(text);
-    match decimal(&text[..len], MAX_NUMBER as u64) {
+    match decimal(&text[..len], u64::from(MAX_NUMBER)) {
         Some(value) => Ok(Piece {
             len,
             kind: Some(TokenKind::Num(value as u32)),

@@ -3,8 +3,8 @@
 ghost use Rattle.std.specs.Prelude.{◌≡◌, ◌≤◌, length};
 ghost use Rattle.std.specs.List.{prefix_len};
 
-use crate::byte::{is_quotable, is_remark};
-use ccsl_base::{is_digit, is_inner};
+use crate::byte::is_remark;
+use ccsl_base::{is_digit, is_inner, is_quotable};
 
 /// What a run is made of: what goes on a name, digits, what goes on a comment, what may stand between quotes.
 #[derive(Clone, Copy)]

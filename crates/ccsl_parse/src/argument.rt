@@ -6,7 +6,7 @@ ghost use Rattle.ccsl_grammar.specs.Parser.{arg_at};
 ghost use Rattle.ccsl_grammar.proofs.Loop.{further_arg_falls};
 ghost use Rattle.ccsl_parse.specs.Reads.{Reads};
 
-use crate::leaf::{begins_quoted, begins_word, name_at, quoted_at, word_at};
+use crate::leaf::{behind_word, name_at, some_quoted_at};
 use crate::list::Listed;
 use crate::stop::Stop;
 use crate::term::term_at;
@@ -18,16 +18,19 @@ use std::alloc::Global;
 fn arg_at<'a>(alloc: Global, tokens: &'a [Token]) -> Result<(Argument, &'a [Token]), Stop<'a>>
     ensures { Reads result arg_at tokens.now }
 {
-    if begins_quoted(tokens) {
-        let ((at, text), rest) = quoted_at(alloc, tokens)?;
-        Ok((Argument::Text(at, text), rest))
-    } else if begins_word(tokens, Reserved::Tail) {
-        let rest = word_at(tokens, Reserved::Tail)?;
-        let (name, rest) = name_at(alloc, rest)?;
-        Ok((Argument::Tail(name), rest))
-    } else {
-        let (term, rest) = term_at(alloc, tokens)?;
-        Ok((Argument::Term(term), rest))
+    match some_quoted_at(alloc, tokens)? {
+        Some(((at, text), rest)) => return Ok((Argument::Text(at, text), rest)),
+        None => {}
+    }
+    match behind_word(tokens, Reserved::Tail) {
+        Some(rest) => {
+            let (name, rest) = name_at(alloc, rest)?;
+            Ok((Argument::Tail(name), rest))
+        }
+        None => {
+            let (term, rest) = term_at(alloc, tokens)?;
+            Ok((Argument::Term(term), rest))
+        }
     }
 }
 

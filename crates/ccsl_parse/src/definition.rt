@@ -9,7 +9,7 @@ ghost use Rattle.ccsl_grammar.proofs.Loop.{further_member_falls, definition_fall
 ghost use Rattle.ccsl_parse.specs.Reads.{ReadsAs};
 
 use crate::expression::expr_at;
-use crate::leaf::{begins_word, name_at, symbol_at, word_at};
+use crate::leaf::{behind_word, is_word, name_at, symbol_at};
 use crate::line::rline_at;
 use crate::list::list_at;
 use crate::repeat::{Repeated, many_at};
@@ -19,6 +19,7 @@ use ccsl_ast::{Definition, Member};
 use ccsl_lex::{Reserved, Token};
 use std::alloc::Global;
 
+/// What stands behind the word of a relation.
 #[tactic(auto, using(crate::proofs::Turns::led, crate::proofs::Turns::led_stops), unfolding(ccsl_grammar::specs::Parser::relation_at))]
 fn relation_at<'a>(
     alloc: Global,
@@ -27,8 +28,7 @@ fn relation_at<'a>(
 ) -> Result<(Definition, &'a [Token]), Stop<'a>>
     ensures { ReadsAs plain_definition result (relation_at room.two room.levels) tokens.now }
 {
-    let rest = word_at(tokens, Reserved::Relation)?;
-    let (name, rest) = name_at(alloc, rest)?;
+    let (name, rest) = name_at(alloc, tokens)?;
     let rest = symbol_at(rest, b'(')?;
     let (params, rest) = list_at(alloc, rest)?;
     let rest = symbol_at(rest, b'{')?;
@@ -64,18 +64,7 @@ fn member_at<'a>(
     Ok((Member { name, params, body }, rest))
 }
 
-#[tactic(auto, unfolding(ccsl_grammar::specs::Parser::further_member_at))]
-fn further_member_at<'a>(
-    alloc: Global,
-    room: Room,
-    tokens: &'a [Token],
-) -> Result<(Member, &'a [Token]), Stop<'a>>
-    ensures { ReadsAs plain_member result (further_member_at room.two room.levels) tokens.now }
-{
-    let rest = word_at(tokens, Reserved::And)?;
-    member_at(alloc, room, rest)
-}
-
+/// What stands behind the word of a group.
 #[tactic(auto, using(crate::proofs::Turns::led, crate::proofs::Turns::led_stops), unfolding(ccsl_grammar::specs::Parser::group_at))]
 fn group_at<'a>(
     alloc: Global,
@@ -84,28 +73,12 @@ fn group_at<'a>(
 ) -> Result<(Definition, &'a [Token]), Stop<'a>>
     ensures { ReadsAs plain_definition result (group_at room.two room.levels) tokens.now }
 {
-    let rest = word_at(tokens, Reserved::Expression)?;
-    let (member, rest) = member_at(alloc, room, rest)?;
+    let (member, rest) = member_at(alloc, room, tokens)?;
     let mut first = Vec::new(alloc);
     first.push(member)?;
     let (members, rest) = many_at(alloc, room, first, rest)?;
     let rest = symbol_at(rest, b';')?;
     Ok((Definition::Group(members), rest))
-}
-
-#[tactic(auto, unfolding(ccsl_grammar::specs::Parser::definition_at))]
-fn definition_at<'a>(
-    alloc: Global,
-    room: Room,
-    tokens: &'a [Token],
-) -> Result<(Definition, &'a [Token]), Stop<'a>>
-    ensures { ReadsAs plain_definition result (definition_at room.two room.levels) tokens.now }
-{
-    if begins_word(tokens, Reserved::Relation) {
-        relation_at(alloc, room, tokens)
-    } else {
-        group_at(alloc, room, tokens)
-    }
 }
 
 /// The further members of a group, each with its `and`.
@@ -120,16 +93,19 @@ impl Repeated for Member {
 
     ghost falls = { λ two levels. (further_member_falls two levels).at };
 
-    fn begins(tokens: &[Token]) -> bool {
-        begins_word(tokens, Reserved::And)
-    }
-
-    fn read<'a>(
+    #[tactic(auto, unfolding(ccsl_grammar::specs::Parser::further_member_at))]
+    fn next<'a>(
         alloc: Global,
         room: Room,
         tokens: &'a [Token],
-    ) -> Result<(Member, &'a [Token]), Stop<'a>> {
-        further_member_at(alloc, room, tokens)
+    ) -> Result<Option<(Member, &'a [Token])>, Stop<'a>> {
+        match behind_word(tokens, Reserved::And) {
+            Some(rest) => {
+                let (member, rest) = member_at(alloc, room, rest)?;
+                Ok(Some((member, rest)))
+            }
+            None => Ok(None),
+        }
     }
 }
 
@@ -144,15 +120,22 @@ impl Repeated for Definition {
 
     ghost falls = { λ two levels. (definition_falls two levels).at };
 
-    fn begins(tokens: &[Token]) -> bool {
-        begins_word(tokens, Reserved::Relation) || begins_word(tokens, Reserved::Expression)
-    }
-
-    fn read<'a>(
+    #[tactic(auto, unfolding(ccsl_grammar::specs::Parser::definition_at, ccsl_grammar::specs::Parser::word_at))]
+    fn next<'a>(
         alloc: Global,
         room: Room,
         tokens: &'a [Token],
-    ) -> Result<(Definition, &'a [Token]), Stop<'a>> {
-        definition_at(alloc, room, tokens)
+    ) -> Result<Option<(Definition, &'a [Token])>, Stop<'a>> {
+        match tokens {
+            [token, rest @ ..] if is_word(token, Reserved::Relation) => {
+                let (relation, rest) = relation_at(alloc, room, rest)?;
+                Ok(Some((relation, rest)))
+            }
+            [token, rest @ ..] if is_word(token, Reserved::Expression) => {
+                let (group, rest) = group_at(alloc, room, rest)?;
+                Ok(Some((group, rest)))
+            }
+            _ => Ok(None),
+        }
     }
 }

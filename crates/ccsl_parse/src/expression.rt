@@ -4,12 +4,15 @@ ghost use Rattle.std.specs.Prelude.{◌≡◌, IfOk};
 ghost use Rattle.ccsl_ast.specs.Trees.{plain, EBinary, EDelayed, EIf};
 ghost use Rattle.ccsl_grammar.specs.Terminals.{terminals};
 ghost use Rattle.ccsl_grammar.specs.Reader.{took, begins};
-ghost use Rattle.ccsl_grammar.specs.Parser.{named_at, parens_at, operand_at, binary_at, delayed_at, delay_at, await_at, filter_at, rest_at, branches_at, choice_at, expr_with, is_expr, no_room, expr_at};
+ghost use Rattle.ccsl_grammar.specs.Parser.{named_at, parens_at, operand_at, second_at, delayed_at, delay_at, await_at, filter_at, rest_at, branches_at, choice_at, expr_with, is_expr, no_room, expr_at};
 ghost use Rattle.ccsl_parse.specs.Reads.{ReadsAs};
 
-use crate::leaf::{begins_name, begins_symbol, begins_word, name_at, num_at, symbol_at, word_at};
+use crate::leaf::{
+    begins_name, begins_symbol, begins_word, behind_symbol, behind_word, num_at, some_name_at,
+    symbol_at, word_at,
+};
 use crate::list::list_at;
-use crate::operator::{begins_binop, binop_at};
+use crate::operator::some_binop_at;
 use crate::room::Room;
 use crate::stop::Stop;
 use crate::term::{term_at, wterm_at};
@@ -27,12 +30,12 @@ fn named_at<'a>(
 ) -> Result<(Tree, &'a [Token]), Stop<'a>>
     ensures { ReadsAs plain result (named_at name) tokens.now }
 {
-    if begins_symbol(tokens, b'(') {
-        let rest = symbol_at(tokens, b'(')?;
-        let (args, rest) = list_at(alloc, rest)?;
-        Ok((Tree::Call(name, args), rest))
-    } else {
-        Ok((Tree::Name(name), tokens))
+    match behind_symbol(tokens, b'(') {
+        Some(rest) => {
+            let (args, rest) = list_at(alloc, rest)?;
+            Ok((Tree::Call(name, args), rest))
+        }
+        None => Ok((Tree::Name(name), tokens)),
     }
 }
 
@@ -54,7 +57,8 @@ fn delayed(
     number: (usize, u32),
     base: Tree,
 ) -> Result<Tree, AllocError>
-    ensures { IfOk result (λ tree. plain tree ≡ EDelayed (plain operand) number.0 number.1 (plain base)) }
+    ensures { IfOk result (λ tree. plain tree
+        ≡ EDelayed (plain operand) number.0 number.1 (plain base)) }
 {
     Ok(Tree::Delayed(
         Box::new(alloc, operand)?,
@@ -64,6 +68,7 @@ fn delayed(
     ))
 }
 
+/// What stands behind an operand and `delay`.
 #[tactic(auto, unfolding(ccsl_grammar::specs::Parser::delay_at))]
 fn delay_at<'a>(
     alloc: Global,
@@ -72,11 +77,11 @@ fn delay_at<'a>(
 ) -> Result<(Tree, &'a [Token]), Stop<'a>>
     ensures { ReadsAs plain result (delay_at (plain operand)) tokens.now }
 {
-    let rest = word_at(tokens, Reserved::Delay)?;
-    let (term, rest) = term_at(alloc, rest)?;
+    let (term, rest) = term_at(alloc, tokens)?;
     Ok((Tree::Delay(Box::new(alloc, operand)?, term), rest))
 }
 
+/// What stands behind an operand and `await`.
 #[tactic(auto, unfolding(ccsl_grammar::specs::Parser::await_at))]
 fn await_at<'a>(
     alloc: Global,
@@ -85,11 +90,11 @@ fn await_at<'a>(
 ) -> Result<(Tree, &'a [Token]), Stop<'a>>
     ensures { ReadsAs plain result (await_at (plain operand)) tokens.now }
 {
-    let rest = word_at(tokens, Reserved::Await)?;
-    let (term, rest) = term_at(alloc, rest)?;
+    let (term, rest) = term_at(alloc, tokens)?;
     Ok((Tree::Await(Box::new(alloc, operand)?, term), rest))
 }
 
+/// What stands behind an operand and `filter`.
 #[tactic(auto, unfolding(ccsl_grammar::specs::Parser::filter_at))]
 fn filter_at<'a>(
     alloc: Global,
@@ -98,8 +103,7 @@ fn filter_at<'a>(
 ) -> Result<(Tree, &'a [Token]), Stop<'a>>
     ensures { ReadsAs plain result (filter_at (plain operand)) tokens.now }
 {
-    let rest = word_at(tokens, Reserved::Filter)?;
-    let (word, rest) = wterm_at(alloc, rest)?;
+    let (word, rest) = wterm_at(alloc, tokens)?;
     Ok((Tree::Filter(Box::new(alloc, operand)?, word), rest))
 }
 
@@ -154,14 +158,16 @@ fn expr_with<'a>(
 ) -> Result<(Tree, &'a [Token]), Stop<'a>>
     ensures { ReadsAs plain result (expr_with (expr_at room.two room.levels) room.two) tokens.now }
 {
-    if begins_word(tokens, Reserved::If) {
-        choice_at(alloc, room, tokens)
-    } else {
-        let (operand, rest) = operand_at(alloc, room, tokens)?;
-        rest_at(alloc, room, operand, rest)
+    match behind_word(tokens, Reserved::If) {
+        Some(rest) => choice_at(alloc, room, rest),
+        None => {
+            let (operand, rest) = operand_at(alloc, room, tokens)?;
+            rest_at(alloc, room, operand, rest)
+        }
     }
 }
 
+/// What stands behind `if`.
 #[cycle(expr)]
 #[tactic(auto, unfolding(ccsl_grammar::specs::Parser::choice_at))]
 fn choice_at<'a>(
@@ -171,8 +177,7 @@ fn choice_at<'a>(
 ) -> Result<(Tree, &'a [Token]), Stop<'a>>
     ensures { ReadsAs plain result (choice_at (expr_at room.two room.levels)) tokens.now }
 {
-    let rest = word_at(tokens, Reserved::If)?;
-    let (test, rest) = test_at(alloc, rest)?;
+    let (test, rest) = test_at(alloc, tokens)?;
     branches_at(alloc, room, test, rest)
 }
 
@@ -197,46 +202,57 @@ fn branches_at<'a>(
 
 /// What stands behind the first operand.
 #[cycle(expr)]
-#[tactic(auto, unfolding(ccsl_grammar::specs::Parser::rest_at))]
+#[tactic(auto, unfolding(ccsl_grammar::specs::Parser::rest_at, ccsl_grammar::specs::Parser::binary_at))]
 fn rest_at<'a>(
     alloc: Global,
     room: Room,
     operand: Tree,
     tokens: &'a [Token],
 ) -> Result<(Tree, &'a [Token]), Stop<'a>>
-    ensures { ReadsAs plain result (rest_at (expr_at room.two room.levels) room.two (plain operand)) tokens.now }
+    ensures { ReadsAs plain result
+        (rest_at (expr_at room.two room.levels) room.two (plain operand)) tokens.now }
 {
-    if begins_binop(tokens) {
-        binary_at(alloc, room, operand, tokens)
-    } else if begins_word(tokens, Reserved::Delay) {
-        delay_at(alloc, operand, tokens)
-    } else if begins_word(tokens, Reserved::Await) {
-        await_at(alloc, operand, tokens)
-    } else if begins_word(tokens, Reserved::Filter) {
-        filter_at(alloc, operand, tokens)
-    } else if begins_word(tokens, Reserved::Delayed) {
-        delayed_at(alloc, room, operand, tokens)
-    } else {
-        Ok((operand, tokens))
+    match some_binop_at(room, tokens)? {
+        Some((op, rest)) => return second_at(alloc, room, op, operand, rest),
+        None => {}
+    }
+    match behind_word(tokens, Reserved::Delay) {
+        Some(rest) => return delay_at(alloc, operand, rest),
+        None => {}
+    }
+    match behind_word(tokens, Reserved::Await) {
+        Some(rest) => return await_at(alloc, operand, rest),
+        None => {}
+    }
+    match behind_word(tokens, Reserved::Filter) {
+        Some(rest) => return filter_at(alloc, operand, rest),
+        None => {}
+    }
+    match behind_word(tokens, Reserved::Delayed) {
+        Some(rest) => delayed_at(alloc, room, operand, rest),
+        None => Ok((operand, tokens)),
     }
 }
 
+/// The second operand.
 #[cycle(expr)]
-#[tactic(auto, unfolding(ccsl_grammar::specs::Parser::binary_at))]
-fn binary_at<'a>(
+#[tactic(auto, unfolding(ccsl_grammar::specs::Parser::second_at))]
+fn second_at<'a>(
     alloc: Global,
     room: Room,
+    op: BinaryOp,
     operand: Tree,
     tokens: &'a [Token],
 ) -> Result<(Tree, &'a [Token]), Stop<'a>>
-    ensures { ReadsAs plain result (binary_at (expr_at room.two room.levels) room.two (plain operand)) tokens.now }
+    ensures { ReadsAs plain result
+        (second_at (expr_at room.two room.levels) op (plain operand)) tokens.now }
 {
-    let (op, rest) = binop_at(room, tokens)?;
-    let (other, rest) = operand_at(alloc, room, rest)?;
+    let (other, rest) = operand_at(alloc, room, tokens)?;
     let tree = binary(alloc, op, operand, other)?;
     Ok((tree, rest))
 }
 
+/// What stands behind an operand and `delayed`.
 #[cycle(expr)]
 #[tactic(auto, unfolding(ccsl_grammar::specs::Parser::delayed_at))]
 fn delayed_at<'a>(
@@ -245,10 +261,10 @@ fn delayed_at<'a>(
     operand: Tree,
     tokens: &'a [Token],
 ) -> Result<(Tree, &'a [Token]), Stop<'a>>
-    ensures { ReadsAs plain result (delayed_at (expr_at room.two room.levels) (plain operand)) tokens.now }
+    ensures { ReadsAs plain result
+        (delayed_at (expr_at room.two room.levels) (plain operand)) tokens.now }
 {
-    let rest = word_at(tokens, Reserved::Delayed)?;
-    let (number, rest) = num_at(rest)?;
+    let (number, rest) = num_at(tokens)?;
     let rest = word_at(rest, Reserved::On)?;
     let (base, rest) = operand_at(alloc, room, rest)?;
     let tree = delayed(alloc, operand, number, base)?;
@@ -265,14 +281,13 @@ fn operand_at<'a>(
 ) -> Result<(Tree, &'a [Token]), Stop<'a>>
     ensures { ReadsAs plain result (operand_at (expr_at room.two room.levels)) tokens.now }
 {
-    if begins_name(tokens) {
-        let (name, rest) = name_at(alloc, tokens)?;
-        named_at(alloc, name, rest)
-    } else if begins_word(tokens, Reserved::Never) {
-        let rest = word_at(tokens, Reserved::Never)?;
-        Ok((Tree::Never, rest))
-    } else {
-        parens_at(alloc, room, tokens)
+    match some_name_at(alloc, tokens)? {
+        Some((name, rest)) => return named_at(alloc, name, rest),
+        None => {}
+    }
+    match behind_word(tokens, Reserved::Never) {
+        Some(rest) => Ok((Tree::Never, rest)),
+        None => parens_at(alloc, room, tokens),
     }
 }
 

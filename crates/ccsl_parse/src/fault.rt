@@ -7,10 +7,11 @@ use thiserror::Error;
 /// The offset is that of the first byte of the token at fault, or of the byte behind the last token where one is missing.
 #[derive(Clone, Copy, Debug, PartialEq, Eq, Error)]
 pub enum ParseFault {
-    /// No file goes on as the tokens do from here.
+    /// What stands before can go on to a file, and not with this token; or no file ends with the last token. The offset is
+    /// 0 where there is no token.
     #[error("syntax at byte {0}")]
     Syntax(usize),
-    /// An expression of level 129.
+    /// An expression begins here that stands deeper than [`MAX_LEVELS`](ccsl_base::MAX_LEVELS).
     #[error("too deep at byte {0}")]
     TooDeep(usize),
     #[error("no memory")]

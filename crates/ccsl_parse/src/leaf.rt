@@ -3,9 +3,10 @@
 ghost use Rattle.std.specs.Prelude.{◌≡◌, true, IfOk};
 ghost use Rattle.ccsl_grammar.specs.Terminals.{terminal, terminals, is_word, is_symbol, is_name, is_quoted};
 ghost use Rattle.ccsl_grammar.specs.Reader.{took, begins};
-ghost use Rattle.ccsl_grammar.specs.Parser.{word_at, symbol_at, name_at, num_at, quoted_at};
-ghost use Rattle.ccsl_parse.specs.Reads.{Reads, Skips};
+ghost use Rattle.ccsl_grammar.specs.Parser.{goes_on_by, word_at, symbol_at, name_at, num_at, quoted_at};
+ghost use Rattle.ccsl_parse.specs.Reads.{Reads, ReadsWhere, Passes, Skips};
 
+use crate::room::Room;
 use crate::stop::Stop;
 use ccsl_ast::Spot;
 use ccsl_base::Text;
@@ -33,19 +34,7 @@ pub fn is_symbol(token: &Token, byte: u8) -> bool
 pub fn is_name(token: &Token) -> bool
     ensures { result ≡ is_name (terminal token.now) }
 {
-    match &token.kind {
-        TokenKind::Name(_) => true,
-        _ => false,
-    }
-}
-
-pub fn is_quoted(token: &Token) -> bool
-    ensures { result ≡ is_quoted (terminal token.now) }
-{
-    match &token.kind {
-        TokenKind::Quoted(_) => true,
-        _ => false,
-    }
+    matches!(&token.kind, TokenKind::Name(_))
 }
 
 pub fn begins_word(tokens: &[Token], word: Reserved) -> bool
@@ -75,12 +64,58 @@ pub fn begins_name(tokens: &[Token]) -> bool
     }
 }
 
-pub fn begins_quoted(tokens: &[Token]) -> bool
-    ensures { result ≡ begins is_quoted (terminals tokens.now) }
+/// The tokens behind the next one, where that is the reserved word.
+#[tactic(auto, unfolding(ccsl_grammar::specs::Parser::word_at))]
+pub fn behind_word<'a>(tokens: &'a [Token], word: Reserved) -> Option<&'a [Token]>
+    ensures { Passes result (is_word word) (word_at word) true tokens.now }
 {
     match tokens {
-        [token, ..] => is_quoted(token),
-        [] => false,
+        [token, rest @ ..] => {
+            if is_word(token, word) {
+                Some(rest)
+            } else {
+                None
+            }
+        }
+        [] => None,
+    }
+}
+
+/// The tokens behind the next one, where that is the reserved word and the text is of version 2.
+#[tactic(auto, unfolding(ccsl_grammar::specs::Parser::word_at))]
+pub fn behind_word_of_two<'a>(
+    room: Room,
+    tokens: &'a [Token],
+    word: Reserved,
+) -> Option<&'a [Token]>
+    ensures { Passes result (goes_on_by room.two word) (word_at word) true tokens.now }
+{
+    match tokens {
+        [token, rest @ ..] => {
+            if is_word(token, word) && room.two {
+                Some(rest)
+            } else {
+                None
+            }
+        }
+        [] => None,
+    }
+}
+
+/// The tokens behind the next one, where that is the symbol of this byte.
+#[tactic(auto, unfolding(ccsl_grammar::specs::Parser::symbol_at))]
+pub fn behind_symbol<'a>(tokens: &'a [Token], byte: u8) -> Option<&'a [Token]>
+    ensures { Passes result (is_symbol byte) (symbol_at byte) true tokens.now }
+{
+    match tokens {
+        [token, rest @ ..] => {
+            if is_symbol(token, byte) {
+                Some(rest)
+            } else {
+                None
+            }
+        }
+        [] => None,
     }
 }
 
@@ -142,6 +177,26 @@ pub fn name_at<'a>(alloc: Global, tokens: &'a [Token]) -> Result<(Spot, &'a [Tok
     }
 }
 
+/// A name, where one stands here.
+#[tactic(auto, unfolding(ccsl_grammar::specs::Parser::name_at))]
+pub fn some_name_at<'a>(
+    alloc: Global,
+    tokens: &'a [Token],
+) -> Result<Option<(Spot, &'a [Token])>, Stop<'a>>
+    ensures { ReadsWhere (λ x. x) result is_name name_at tokens.now }
+{
+    match tokens {
+        [token, rest @ ..] => match &token.kind {
+            TokenKind::Name(text) => {
+                let name = copied(alloc, text)?;
+                Ok(Some((Spot { at: token.at, name }, rest)))
+            }
+            _ => Ok(None),
+        },
+        [] => Ok(None),
+    }
+}
+
 /// A number: its place, and its value.
 #[tactic(auto, unfolding(ccsl_grammar::specs::Parser::num_at))]
 pub fn num_at<'a>(tokens: &'a [Token]) -> Result<((usize, u32), &'a [Token]), Stop<'a>>
@@ -173,5 +228,25 @@ pub fn quoted_at<'a>(
             _ => Err(Stop::Syntax(tokens)),
         },
         [] => Err(Stop::Syntax(tokens)),
+    }
+}
+
+/// A quoted text, where one stands here.
+#[tactic(auto, unfolding(ccsl_grammar::specs::Parser::quoted_at))]
+pub fn some_quoted_at<'a>(
+    alloc: Global,
+    tokens: &'a [Token],
+) -> Result<Option<((usize, Text), &'a [Token])>, Stop<'a>>
+    ensures { ReadsWhere (λ x. x) result is_quoted quoted_at tokens.now }
+{
+    match tokens {
+        [token, rest @ ..] => match &token.kind {
+            TokenKind::Quoted(text) => {
+                let text = copied(alloc, text)?;
+                Ok(Some(((token.at, text), rest)))
+            }
+            _ => Ok(None),
+        },
+        [] => Ok(None),
     }
 }

@@ -9,7 +9,7 @@ ghost use Rattle.ccsl_grammar.proofs.Loop.{rline_falls, sline_falls};
 ghost use Rattle.ccsl_parse.specs.Reads.{ReadsAs};
 
 use crate::expression::expr_at;
-use crate::leaf::{begins_symbol, begins_word, is_symbol, name_at, symbol_at, word_at};
+use crate::leaf::{behind_symbol, behind_word, is_symbol, name_at, symbol_at};
 use crate::list::{further_members, list_at};
 use crate::relation::relop_at;
 use crate::repeat::Repeated;
@@ -19,6 +19,7 @@ use ccsl_ast::{RelationLine, Spot, SystemLine};
 use ccsl_lex::{Reserved, Token};
 use std::alloc::Global;
 
+/// What stands behind the word of a definition.
 #[tactic(auto, unfolding(ccsl_grammar::specs::Parser::define_at))]
 fn define_at<'a>(
     alloc: Global,
@@ -27,15 +28,14 @@ fn define_at<'a>(
 ) -> Result<(RelationLine, &'a [Token]), Stop<'a>>
     ensures { ReadsAs plain_line result (define_at room.two room.levels) tokens.now }
 {
-    let rest = word_at(tokens, Reserved::Define)?;
-    let (name, rest) = name_at(alloc, rest)?;
+    let (name, rest) = name_at(alloc, tokens)?;
     let rest = symbol_at(rest, b'=')?;
     let (tree, rest) = expr_at(alloc, room, rest)?;
     let rest = symbol_at(rest, b';')?;
     Ok((RelationLine::Define(name, tree), rest))
 }
 
-/// What stands behind the name of a called relation.
+/// What stands behind the name of a called relation and its parenthesis.
 #[tactic(auto, unfolding(ccsl_grammar::specs::Parser::call_at))]
 fn call_at<'a>(
     alloc: Global,
@@ -44,8 +44,7 @@ fn call_at<'a>(
 ) -> Result<(RelationLine, &'a [Token]), Stop<'a>>
     ensures { ReadsAs plain_line result (call_at name) tokens.now }
 {
-    let rest = symbol_at(tokens, b'(')?;
-    let (args, rest) = list_at(alloc, rest)?;
+    let (args, rest) = list_at(alloc, tokens)?;
     let rest = symbol_at(rest, b';')?;
     Ok((RelationLine::Call(name, args), rest))
 }
@@ -75,24 +74,23 @@ pub fn rline_at<'a>(
 ) -> Result<(RelationLine, &'a [Token]), Stop<'a>>
     ensures { ReadsAs plain_line result (rline_at room.two room.levels) tokens.now }
 {
-    if begins_word(tokens, Reserved::Define) {
-        define_at(alloc, room, tokens)
-    } else {
-        let (name, rest) = name_at(alloc, tokens)?;
-        if begins_symbol(rest, b'(') {
-            call_at(alloc, name, rest)
-        } else {
-            constraint_at(alloc, room, name, rest)
-        }
+    match behind_word(tokens, Reserved::Define) {
+        Some(rest) => return define_at(alloc, room, rest),
+        None => {}
+    }
+    let (name, tokens) = name_at(alloc, tokens)?;
+    match behind_symbol(tokens, b'(') {
+        Some(rest) => call_at(alloc, name, rest),
+        None => constraint_at(alloc, room, name, tokens),
     }
 }
 
+/// What stands behind the word of declared clocks.
 #[tactic(auto, using(crate::proofs::Turns::led, crate::proofs::Turns::led_stops), unfolding(ccsl_grammar::specs::Parser::clocks_at))]
 fn clocks_at<'a>(alloc: Global, tokens: &'a [Token]) -> Result<(SystemLine, &'a [Token]), Stop<'a>>
     ensures { ReadsAs plain_sline result clocks_at tokens.now }
 {
-    let rest = word_at(tokens, Reserved::Clock)?;
-    let (name, rest) = name_at(alloc, rest)?;
+    let (name, rest) = name_at(alloc, tokens)?;
     let mut first = Vec::new(alloc);
     first.push(name)?;
     let (names, rest) = further_members(alloc, first, rest)?;
@@ -109,11 +107,12 @@ fn sline_at<'a>(
 ) -> Result<(SystemLine, &'a [Token]), Stop<'a>>
     ensures { ReadsAs plain_sline result (sline_at room.two room.levels) tokens.now }
 {
-    if begins_word(tokens, Reserved::Clock) {
-        clocks_at(alloc, tokens)
-    } else {
-        let (line, rest) = rline_at(alloc, room, tokens)?;
-        Ok((SystemLine::Line(line), rest))
+    match behind_word(tokens, Reserved::Clock) {
+        Some(rest) => clocks_at(alloc, rest),
+        None => {
+            let (line, rest) = rline_at(alloc, room, tokens)?;
+            Ok((SystemLine::Line(line), rest))
+        }
     }
 }
 
@@ -138,16 +137,16 @@ impl Repeated for RelationLine {
 
     ghost falls = { λ two levels. (rline_falls two levels).at };
 
-    fn begins(tokens: &[Token]) -> bool {
-        begins_line(tokens)
-    }
-
-    fn read<'a>(
+    fn next<'a>(
         alloc: Global,
         room: Room,
         tokens: &'a [Token],
-    ) -> Result<(RelationLine, &'a [Token]), Stop<'a>> {
-        rline_at(alloc, room, tokens)
+    ) -> Result<Option<(RelationLine, &'a [Token])>, Stop<'a>> {
+        if !begins_line(tokens) {
+            return Ok(None);
+        }
+        let (line, rest) = rline_at(alloc, room, tokens)?;
+        Ok(Some((line, rest)))
     }
 }
 
@@ -162,15 +161,15 @@ impl Repeated for SystemLine {
 
     ghost falls = { λ two levels. (sline_falls two levels).at };
 
-    fn begins(tokens: &[Token]) -> bool {
-        begins_line(tokens)
-    }
-
-    fn read<'a>(
+    fn next<'a>(
         alloc: Global,
         room: Room,
         tokens: &'a [Token],
-    ) -> Result<(SystemLine, &'a [Token]), Stop<'a>> {
-        sline_at(alloc, room, tokens)
+    ) -> Result<Option<(SystemLine, &'a [Token])>, Stop<'a>> {
+        if !begins_line(tokens) {
+            return Ok(None);
+        }
+        let (line, rest) = sline_at(alloc, room, tokens)?;
+        Ok(Some((line, rest)))
     }
 }

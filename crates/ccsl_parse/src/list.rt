@@ -5,9 +5,9 @@ ghost use Rattle.ccsl_grammar.specs.Terminals.{terminals, is_symbol};
 ghost use Rattle.ccsl_grammar.specs.Reader.{took, many};
 ghost use Rattle.ccsl_grammar.specs.Loop.{behind};
 ghost use Rattle.ccsl_grammar.specs.Parser.{further_at, list_at};
-ghost use Rattle.ccsl_parse.specs.Reads.{Reads};
+ghost use Rattle.ccsl_parse.specs.Reads.{Reads, ReadsWhere};
 
-use crate::leaf::{begins_symbol, name_at, symbol_at};
+use crate::leaf::{behind_symbol, name_at, symbol_at};
 use crate::stop::Stop;
 use ccsl_ast::Spot;
 use ccsl_base::Seq;
@@ -29,16 +29,21 @@ pub trait Listed: Drop {
         → further_at reader ts ≡ took v rest → length rest < length ts };
 }
 
-/// What follows a comma.
+/// What follows a comma, where one stands here.
 #[tactic(auto, unfolding(ccsl_grammar::specs::Parser::further_at))]
-fn further_at<'a, T: Listed>(
+fn some_further_at<'a, T: Listed>(
     alloc: Global,
     tokens: &'a [Token],
-) -> Result<(T, &'a [Token]), Stop<'a>>
-    ensures { Reads result (further_at T.reader) tokens.now }
+) -> Result<Option<(T, &'a [Token])>, Stop<'a>>
+    ensures { ReadsWhere (λ x. x) result (is_symbol 44) (further_at T.reader) tokens.now }
 {
-    let rest = symbol_at(tokens, b',')?;
-    T::read(alloc, rest)
+    match behind_symbol(tokens, b',') {
+        Some(rest) => {
+            let (item, rest) = T::read(alloc, rest)?;
+            Ok(Some((item, rest)))
+        }
+        None => Ok(None),
+    }
 }
 
 /// The members behind the first ones, each with its comma.
@@ -47,12 +52,12 @@ pub fn further_members<'a, T: Listed>(
     first: Vec<T>,
     tokens: &'a [Token],
 ) -> Result<(Seq<T>, &'a [Token]), Stop<'a>>
-    ensures { Reads result (behind first.items (many (is_symbol 44) (further_at T.reader))) tokens.now }
+    ensures { Reads result
+        (behind first.items (many (is_symbol 44) (further_at T.reader))) tokens.now }
 {
     let mut members = first;
     let mut rest = tokens;
-    'turns: while begins_symbol(rest, b',') {
-        let (item, after) = further_at(alloc, rest)?;
+    'turns: while let Some((item, after)) = some_further_at(alloc, rest)? {
         members.push(item)?;
         rest = after;
     }
@@ -67,17 +72,16 @@ pub fn list_at<'a, T: Listed>(
 ) -> Result<(Seq<T>, &'a [Token]), Stop<'a>>
     ensures { Reads result (list_at T.reader) tokens.now }
 {
-    if begins_symbol(tokens, b')') {
-        let rest = symbol_at(tokens, b')')?;
-        Ok((Seq::new(Vec::new(alloc)), rest))
-    } else {
-        let (item, rest) = T::read(alloc, tokens)?;
-        let mut first = Vec::new(alloc);
-        first.push(item)?;
-        let (members, rest) = further_members(alloc, first, rest)?;
-        let rest = symbol_at(rest, b')')?;
-        Ok((members, rest))
+    match behind_symbol(tokens, b')') {
+        Some(rest) => return Ok((Seq::new(Vec::new(alloc)), rest)),
+        None => {}
     }
+    let (item, rest) = T::read(alloc, tokens)?;
+    let mut first = Vec::new(alloc);
+    first.push(item)?;
+    let (members, rest) = further_members(alloc, first, rest)?;
+    let rest = symbol_at(rest, b')')?;
+    Ok((members, rest))
 }
 
 impl Listed for Spot {

@@ -2,11 +2,11 @@
 
 ghost use Rattle.std.specs.Prelude.{◌≡◌};
 ghost use Rattle.ccsl_grammar.specs.Terminals.{terminal, terminals};
-ghost use Rattle.ccsl_grammar.specs.Reader.{took, begins, accept};
+ghost use Rattle.ccsl_grammar.specs.Reader.{took};
 ghost use Rattle.ccsl_grammar.specs.Parser.{binop_of, sampled_at, upto_at, binop_at, is_binop};
-ghost use Rattle.ccsl_parse.specs.Reads.{Reads};
+ghost use Rattle.ccsl_parse.specs.Reads.{Reads, ReadsWhere};
 
-use crate::leaf::{begins_word, is_word, word_at};
+use crate::leaf::{behind_word, behind_word_of_two, is_word, word_at};
 use crate::room::Room;
 use crate::stop::Stop;
 use ccsl_ast::BinaryOp;
@@ -27,69 +27,56 @@ fn binop_of(token: &Token) -> Option<BinaryOp>
     }
 }
 
-pub fn begins_binop(tokens: &[Token]) -> bool
-    ensures { result ≡ begins is_binop (terminals tokens.now) }
-{
-    match tokens {
-        [token, ..] => {
-            is_word(token, Reserved::Sampled)
-                || is_word(token, Reserved::Upto)
-                || binop_of(token).is_some()
-        },
-        [] => false,
-    }
-}
-
-fn word_binop_at<'a>(tokens: &'a [Token]) -> Result<(BinaryOp, &'a [Token]), Stop<'a>>
-    ensures { Reads result (accept binop_of) tokens.now }
-{
-    match tokens {
-        [token, rest @ ..] => match binop_of(token) {
-            Some(op) => Ok((op, rest)),
-            None => Err(Stop::Syntax(tokens)),
-        },
-        [] => Err(Stop::Syntax(tokens)),
-    }
-}
-
+/// What stands behind `sampled`.
 #[tactic(auto, unfolding(ccsl_grammar::specs::Parser::sampled_at))]
 fn sampled_at<'a>(tokens: &'a [Token]) -> Result<(BinaryOp, &'a [Token]), Stop<'a>>
     ensures { Reads result sampled_at tokens.now }
 {
-    let rest = word_at(tokens, Reserved::Sampled)?;
-    if begins_word(rest, Reserved::Weakly) {
-        let rest = word_at(rest, Reserved::Weakly)?;
-        let rest = word_at(rest, Reserved::On)?;
-        Ok((BinaryOp::SampledWeakly, rest))
-    } else {
-        let rest = word_at(rest, Reserved::On)?;
-        Ok((BinaryOp::Sampled, rest))
+    match behind_word(tokens, Reserved::Weakly) {
+        Some(rest) => {
+            let rest = word_at(rest, Reserved::On)?;
+            Ok((BinaryOp::SampledWeakly, rest))
+        }
+        None => {
+            let rest = word_at(tokens, Reserved::On)?;
+            Ok((BinaryOp::Sampled, rest))
+        }
     }
 }
 
+/// What stands behind `upto`.
 #[tactic(auto, unfolding(ccsl_grammar::specs::Parser::upto_at))]
-fn upto_at<'a>(room: Room, tokens: &'a [Token]) -> Result<(BinaryOp, &'a [Token]), Stop<'a>>
-    ensures { Reads result (upto_at room.two) tokens.now }
+fn upto_at<'a>(room: Room, tokens: &'a [Token]) -> (BinaryOp, &'a [Token])
+    ensures { upto_at room.two (terminals tokens.now) ≡ took result.0 (terminals result.1.now) }
 {
-    let rest = word_at(tokens, Reserved::Upto)?;
-    if room.two && begins_word(rest, Reserved::Weakly) {
-        let rest = word_at(rest, Reserved::Weakly)?;
-        Ok((BinaryOp::UptoWeakly, rest))
-    } else {
-        Ok((BinaryOp::Upto, rest))
+    match behind_word_of_two(room, tokens, Reserved::Weakly) {
+        Some(rest) => (BinaryOp::UptoWeakly, rest),
+        None => (BinaryOp::Upto, tokens),
     }
 }
 
-/// An operator between two operands.
-#[tactic(auto, unfolding(ccsl_grammar::specs::Parser::binop_at))]
-pub fn binop_at<'a>(room: Room, tokens: &'a [Token]) -> Result<(BinaryOp, &'a [Token]), Stop<'a>>
-    ensures { Reads result (binop_at room.two) tokens.now }
+/// An operator between two operands, where one stands here.
+#[tactic(auto, unfolding(ccsl_grammar::specs::Parser::binop_at, ccsl_grammar::specs::Parser::word_at))]
+pub fn some_binop_at<'a>(
+    room: Room,
+    tokens: &'a [Token],
+) -> Result<Option<(BinaryOp, &'a [Token])>, Stop<'a>>
+    ensures { ReadsWhere (λ x. x) result is_binop (binop_at room.two) tokens.now }
 {
-    if begins_word(tokens, Reserved::Sampled) {
-        sampled_at(tokens)
-    } else if begins_word(tokens, Reserved::Upto) {
-        upto_at(room, tokens)
-    } else {
-        word_binop_at(tokens)
+    match tokens {
+        [token, rest @ ..] => {
+            if is_word(token, Reserved::Sampled) {
+                let (op, rest) = sampled_at(rest)?;
+                Ok(Some((op, rest)))
+            } else if is_word(token, Reserved::Upto) {
+                Ok(Some(upto_at(room, rest)))
+            } else {
+                match binop_of(token) {
+                    Some(op) => Ok(Some((op, rest))),
+                    None => Ok(None),
+                }
+            }
+        }
+        [] => Ok(None),
     }
 }

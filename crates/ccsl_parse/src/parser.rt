@@ -109,7 +109,8 @@ fn last_end(tokens: &[Token]) -> usize
 /// Where a fault stands that so many tokens are left from.
 fn place(tokens: &[Token], left: usize) -> usize
     requires { left ≤ length tokens.now }
-    ensures { result ≡ place (take (length tokens.now - left) tokens.now) (drop (length tokens.now - left) tokens.now) }
+    ensures { result ≡ place (take (length tokens.now - left) tokens.now)
+        (drop (length tokens.now - left) tokens.now) }
 {
     let (front, back) = tokens.split_at(tokens.len() - left);
     match back {
@@ -134,7 +135,8 @@ fn fault(tokens: &[Token], stop: Stop) -> ParseFault
 ///
 /// The list may be any list, and need not be that of a text.
 pub fn parse(alloc: Global, tokens: &[Token]) -> Result<File, ParseFault>
-    ensures tree { IfOk result (λ file. Parses MAX_LEVELS (terminals tokens.now) (plain_file file)) }
+    ensures tree { IfOk result (λ file.
+        Parses MAX_LEVELS (terminals tokens.now) (plain_file file)) }
     ensures fault { IfErr result (λ fault. StandsIn fault tokens.now) }
 
     // Each answer comes wherever it is true of the tokens, unless memory runs out.

@@ -5,14 +5,14 @@ ghost use Rattle.ccsl_grammar.specs.Reader.{took, accept};
 ghost use Rattle.ccsl_grammar.specs.Parser.{relop_of, within_at, precedes_at, relop_at};
 ghost use Rattle.ccsl_parse.specs.Reads.{Reads};
 
-use crate::leaf::{begins_word, num_at, word_at};
+use crate::leaf::{behind_word, behind_word_of_two, num_at};
 use crate::room::Room;
 use crate::stop::Stop;
 use ccsl_ast::Relation;
 use ccsl_lex::{Reserved, Token, TokenKind};
 
 /// A relation of one word that no other begins.
-fn word_relation_at<'a>(tokens: &'a [Token]) -> Result<(Relation, &'a [Token]), Stop<'a>>
+fn word_relop_at<'a>(tokens: &'a [Token]) -> Result<(Relation, &'a [Token]), Stop<'a>>
     ensures { Reads result (accept relop_of) tokens.now }
 {
     match tokens {
@@ -26,28 +26,27 @@ fn word_relation_at<'a>(tokens: &'a [Token]) -> Result<(Relation, &'a [Token]), 
     }
 }
 
-/// How many steps the left clock may be ahead.
+/// What stands behind `precedes within`: how many steps the left clock may be ahead.
 #[tactic(auto, unfolding(ccsl_grammar::specs::Parser::within_at))]
 fn within_at<'a>(tokens: &'a [Token]) -> Result<(Relation, &'a [Token]), Stop<'a>>
     ensures { Reads result within_at tokens.now }
 {
-    let rest = word_at(tokens, Reserved::Within)?;
-    let ((at, number), rest) = num_at(rest)?;
+    let ((at, number), rest) = num_at(tokens)?;
     Ok((Relation::PrecedesWithin(at, number), rest))
 }
 
+/// What stands behind `precedes`.
 #[tactic(auto, unfolding(ccsl_grammar::specs::Parser::precedes_at))]
 fn precedes_at<'a>(room: Room, tokens: &'a [Token]) -> Result<(Relation, &'a [Token]), Stop<'a>>
     ensures { Reads result (precedes_at room.two) tokens.now }
 {
-    let rest = word_at(tokens, Reserved::Precedes)?;
-    if begins_word(rest, Reserved::Weakly) {
-        let rest = word_at(rest, Reserved::Weakly)?;
-        Ok((Relation::PrecedesWeakly, rest))
-    } else if room.two && begins_word(rest, Reserved::Within) {
-        within_at(rest)
-    } else {
-        Ok((Relation::Precedes, rest))
+    match behind_word(tokens, Reserved::Weakly) {
+        Some(rest) => return Ok((Relation::PrecedesWeakly, rest)),
+        None => {}
+    }
+    match behind_word_of_two(room, tokens, Reserved::Within) {
+        Some(rest) => within_at(rest),
+        None => Ok((Relation::Precedes, tokens)),
     }
 }
 
@@ -56,9 +55,8 @@ fn precedes_at<'a>(room: Room, tokens: &'a [Token]) -> Result<(Relation, &'a [To
 pub fn relop_at<'a>(room: Room, tokens: &'a [Token]) -> Result<(Relation, &'a [Token]), Stop<'a>>
     ensures { Reads result (relop_at room.two) tokens.now }
 {
-    if begins_word(tokens, Reserved::Precedes) {
-        precedes_at(room, tokens)
-    } else {
-        word_relation_at(tokens)
+    match behind_word(tokens, Reserved::Precedes) {
+        Some(rest) => precedes_at(room, rest),
+        None => word_relop_at(tokens),
     }
 }

@@ -4,7 +4,7 @@ ghost use Rattle.std.specs.Prelude.{◌≡◌, map};
 ghost use Rattle.ccsl_grammar.specs.Terminals.{terminals};
 ghost use Rattle.ccsl_grammar.specs.Reader.{took, many};
 ghost use Rattle.ccsl_grammar.specs.Loop.{behind};
-ghost use Rattle.ccsl_parse.specs.Reads.{ReadsAs};
+ghost use Rattle.ccsl_parse.specs.Reads.{ReadsAs, ReadsWhere};
 
 use crate::room::Room;
 use crate::stop::Stop;
@@ -16,7 +16,7 @@ use std::alloc::Global;
 pub trait Repeated: Drop {
     ghost use Rattle.std.specs.Prelude.{ℕ, Bool, List, length, ◌<◌};
     ghost use Rattle.ccsl_grammar.specs.Terminals.{Terminal};
-    ghost use Rattle.ccsl_grammar.specs.Reader.{Reader, begins};
+    ghost use Rattle.ccsl_grammar.specs.Reader.{Reader};
 
     ghost Plain: { Type 0 };
 
@@ -26,16 +26,13 @@ pub trait Repeated: Drop {
 
     ghost reader: { Bool → ℕ → Reader Plain };
 
-    /// Whether one more begins here.
-    fn begins(tokens: &[Token]) -> bool
-        ensures { result ≡ begins starts (terminals tokens.now) };
-
-    fn read<'a>(
+    /// One more, where it begins here.
+    fn next<'a>(
         alloc: Global,
         room: Room,
         tokens: &'a [Token],
-    ) -> Result<(Self, &'a [Token]), Stop<'a>>
-        ensures { ReadsAs plain result (reader room.two room.levels) tokens.now };
+    ) -> Result<Option<(Self, &'a [Token])>, Stop<'a>>
+        ensures { ReadsWhere plain result starts (reader room.two room.levels) tokens.now };
 
     ghost falls: { (two : Bool) (levels : ℕ) (ts : List Terminal) (v : Plain) (rest : List Terminal)
         → reader two levels ts ≡ took v rest → length rest < length ts };
@@ -49,12 +46,12 @@ pub fn many_at<'a, T: Repeated>(
     tokens: &'a [Token],
 ) -> Result<(Seq<T>, &'a [Token]), Stop<'a>>
     ensures { ReadsAs (map T.plain) result
-        (behind (map T.plain first.items) (many T.starts (T.reader room.two room.levels))) tokens.now }
+        (behind (map T.plain first.items) (many T.starts (T.reader room.two room.levels)))
+        tokens.now }
 {
     let mut members = first;
     let mut rest = tokens;
-    'turns: while T::begins(rest) {
-        let (item, after) = T::read(alloc, room, rest)?;
+    'turns: while let Some((item, after)) = T::next(alloc, room, rest)? {
         members.push(item)?;
         rest = after;
     }

@@ -2,11 +2,11 @@
 
 ghost use Rattle.std.specs.Prelude.{◌≡◌};
 ghost use Rattle.ccsl_grammar.specs.Terminals.{terminals};
-ghost use Rattle.ccsl_grammar.specs.Reader.{took, many, begins};
+ghost use Rattle.ccsl_grammar.specs.Reader.{many};
 ghost use Rattle.ccsl_grammar.specs.Parser.{prim_at, sign_at, is_sign, signed_at, term_at, wterm_at};
-ghost use Rattle.ccsl_parse.specs.Reads.{Reads};
+ghost use Rattle.ccsl_parse.specs.Reads.{Reads, ReadsWhere};
 
-use crate::leaf::{begins_name, begins_symbol, begins_word, copied, name_at, quoted_at, word_at};
+use crate::leaf::{behind_word, copied, name_at, quoted_at, some_name_at};
 use crate::stop::Stop;
 use ccsl_ast::{Prim, Primary, Sign, Spot, Term, WordTerm};
 use ccsl_base::Seq;
@@ -30,36 +30,24 @@ fn prim_at<'a>(alloc: Global, tokens: &'a [Token]) -> Result<(Prim, &'a [Token])
     }
 }
 
-fn begins_sign(tokens: &[Token]) -> bool
-    ensures { result ≡ begins is_sign (terminals tokens.now) }
-{
-    begins_symbol(tokens, b'+') || begins_symbol(tokens, b'-')
-}
-
-#[tactic(auto, unfolding(ccsl_grammar::specs::Parser::sign_at))]
-fn sign_at<'a>(tokens: &'a [Token]) -> Result<(Sign, &'a [Token]), Stop<'a>>
-    ensures { Reads result sign_at tokens.now }
-{
-    match tokens {
-        [token, rest @ ..] => match &token.kind {
-            TokenKind::Symbol(b'+') => Ok((Sign::Plus, rest)),
-            TokenKind::Symbol(b'-') => Ok((Sign::Minus, rest)),
-            _ => Err(Stop::Syntax(tokens)),
-        },
-        [] => Err(Stop::Syntax(tokens)),
-    }
-}
-
-#[tactic(auto, unfolding(ccsl_grammar::specs::Parser::signed_at))]
-fn signed_at<'a>(
+/// A sign and what it goes with, where one stands here.
+#[tactic(auto, unfolding(ccsl_grammar::specs::Parser::signed_at, ccsl_grammar::specs::Parser::sign_at))]
+fn some_signed_at<'a>(
     alloc: Global,
     tokens: &'a [Token],
-) -> Result<((Sign, Prim), &'a [Token]), Stop<'a>>
-    ensures { Reads result signed_at tokens.now }
+) -> Result<Option<((Sign, Prim), &'a [Token])>, Stop<'a>>
+    ensures { ReadsWhere (λ x. x) result is_sign signed_at tokens.now }
 {
-    let (sign, rest) = sign_at(tokens)?;
+    let (sign, rest) = match tokens {
+        [token, rest @ ..] => match &token.kind {
+            TokenKind::Symbol(b'+') => (Sign::Plus, rest),
+            TokenKind::Symbol(b'-') => (Sign::Minus, rest),
+            _ => return Ok(None),
+        },
+        [] => return Ok(None),
+    };
     let (prim, rest) = prim_at(alloc, rest)?;
-    Ok(((sign, prim), rest))
+    Ok(Some(((sign, prim), rest)))
 }
 
 fn further_signed<'a>(
@@ -70,8 +58,7 @@ fn further_signed<'a>(
 {
     let mut members = Vec::new(alloc);
     let mut rest = tokens;
-    'turns: while begins_sign(rest) {
-        let (item, after) = signed_at(alloc, rest)?;
+    'turns: while let Some((item, after)) = some_signed_at(alloc, rest)? {
         members.push(item)?;
         rest = after;
     }
@@ -97,15 +84,18 @@ pub fn term_at<'a>(alloc: Global, tokens: &'a [Token]) -> Result<(Term, &'a [Tok
 pub fn wterm_at<'a>(alloc: Global, tokens: &'a [Token]) -> Result<(WordTerm, &'a [Token]), Stop<'a>>
     ensures { Reads result wterm_at tokens.now }
 {
-    if begins_name(tokens) {
-        let (name, rest) = name_at(alloc, tokens)?;
-        Ok((WordTerm::Name(name), rest))
-    } else if begins_word(tokens, Reserved::Tail) {
-        let rest = word_at(tokens, Reserved::Tail)?;
-        let (name, rest) = name_at(alloc, rest)?;
-        Ok((WordTerm::Tail(name), rest))
-    } else {
-        let ((at, text), rest) = quoted_at(alloc, tokens)?;
-        Ok((WordTerm::Text(at, text), rest))
+    match some_name_at(alloc, tokens)? {
+        Some((name, rest)) => return Ok((WordTerm::Name(name), rest)),
+        None => {}
+    }
+    match behind_word(tokens, Reserved::Tail) {
+        Some(rest) => {
+            let (name, rest) = name_at(alloc, rest)?;
+            Ok((WordTerm::Tail(name), rest))
+        }
+        None => {
+            let ((at, text), rest) = quoted_at(alloc, tokens)?;
+            Ok((WordTerm::Text(at, text), rest))
+        }
     }
 }

@@ -5,7 +5,7 @@ ghost use Rattle.ccsl_grammar.specs.Reader.{took};
 ghost use Rattle.ccsl_grammar.specs.Parser.{comparison_at, test_at};
 ghost use Rattle.ccsl_parse.specs.Reads.{Reads};
 
-use crate::leaf::{begins_symbol, begins_word, name_at, symbol_at, word_at};
+use crate::leaf::{behind_symbol, behind_word, name_at, symbol_at};
 use crate::stop::Stop;
 use crate::term::term_at;
 use ccsl_ast::{Term, Test};
@@ -21,14 +21,16 @@ fn comparison_at<'a>(
 ) -> Result<(Test, &'a [Token]), Stop<'a>>
     ensures { Reads result (comparison_at left) tokens.now }
 {
-    if begins_symbol(tokens, b'=') {
-        let rest = symbol_at(tokens, b'=')?;
-        let (right, rest) = term_at(alloc, rest)?;
-        Ok((Test::Equal(left, right), rest))
-    } else {
-        let rest = symbol_at(tokens, b'<')?;
-        let (right, rest) = term_at(alloc, rest)?;
-        Ok((Test::Less(left, right), rest))
+    match behind_symbol(tokens, b'=') {
+        Some(rest) => {
+            let (right, rest) = term_at(alloc, rest)?;
+            Ok((Test::Equal(left, right), rest))
+        }
+        None => {
+            let rest = symbol_at(tokens, b'<')?;
+            let (right, rest) = term_at(alloc, rest)?;
+            Ok((Test::Less(left, right), rest))
+        }
     }
 }
 
@@ -37,16 +39,21 @@ fn comparison_at<'a>(
 pub fn test_at<'a>(alloc: Global, tokens: &'a [Token]) -> Result<(Test, &'a [Token]), Stop<'a>>
     ensures { Reads result test_at tokens.now }
 {
-    if begins_word(tokens, Reserved::Head) {
-        let rest = word_at(tokens, Reserved::Head)?;
-        let (name, rest) = name_at(alloc, rest)?;
-        Ok((Test::Head(name), rest))
-    } else if begins_word(tokens, Reserved::Ended) {
-        let rest = word_at(tokens, Reserved::Ended)?;
-        let (name, rest) = name_at(alloc, rest)?;
-        Ok((Test::Ended(name), rest))
-    } else {
-        let (left, rest) = term_at(alloc, tokens)?;
-        comparison_at(alloc, left, rest)
+    match behind_word(tokens, Reserved::Head) {
+        Some(rest) => {
+            let (name, rest) = name_at(alloc, rest)?;
+            return Ok((Test::Head(name), rest));
+        }
+        None => {}
+    }
+    match behind_word(tokens, Reserved::Ended) {
+        Some(rest) => {
+            let (name, rest) = name_at(alloc, rest)?;
+            Ok((Test::Ended(name), rest))
+        }
+        None => {
+            let (left, rest) = term_at(alloc, tokens)?;
+            comparison_at(alloc, left, rest)
+        }
     }
 }

@@ -1,22 +1,14 @@
 -- The canonical text reads back.
-use Rattle.std.proofs.Common.{◌≡◌, ℕ, true, false, ◌&&◌, List, [], ◌∷◌, ◌++◌, map, refl, sym, ap, subst, ◌∙◌, append_assoc}
-use Rattle.std.specs.Prelude.{nat_eq}
-use Rattle.std.specs.List.{list_all, flat_map}
+use Rattle.std.proofs.Common.{◌≡◌, ℕ, true, List, [], ◌∷◌, map, refl, sym, ap, subst, ◌∙◌}
 use Rattle.std.specs.Str.{IsAscii, IsUtf8}
-use Rattle.std.proofs.lemmas.Bool.{and_parts, eqb-true}
-use Rattle.std.proofs.lemmas.List.{append-nil}
-use Rattle.std.proofs.lemmas.List.Folds.{flat_map-map}
-use Rattle.std.proofs.lemmas.Grind.{flat_map-append}
 use Rattle.std.proofs.lemmas.Str.{IsUtf8-from_ascii}
-use Rattle.ccsl_base.specs.declared.reserved.Reserved.TheVariants as w
 use Rattle.ccsl_base.specs.declared.limits.TheConstants.{MAX_LEVELS}
 use Rattle.ccsl_lex.specs.declared.token.Token.{Token}
 use Rattle.ccsl_lex.specs.Tokens.{plain_token, tokens_of}
 use Rattle.ccsl_lex.proofs.Unique.{one_tokens}
-use Rattle.ccsl_ast.specs.Trees.{Line, SLine, SClocks, SLineOf, PlainDefinition, DRelation, DGroup, PlainFile}
-use Rattle.ccsl_ast.specs.Kept.{spot_kept, sline_kept, param_kept, definition_kept, file_kept}
-use Rattle.ccsl_grammar.specs.Terminals.{Terminal, word, name, number, terminals}
-use Rattle.ccsl_grammar.specs.Grammar.{opening, closing, semicolon, left_brace, right_brace, params_spelled, rline_spelled, sline_spelled, member_spelled, further_member, definition_spelled}
+use Rattle.ccsl_ast.specs.Trees.{PlainFile}
+use Rattle.ccsl_ast.specs.Kept.{file_kept}
+use Rattle.ccsl_grammar.specs.Terminals.{Terminal, terminals}
 use Rattle.ccsl_grammar.specs.Canonical.{file_lines, canonical_terminals}
 use Rattle.ccsl_grammar.specs.Bare.{bares}
 use Rattle.ccsl_grammar.specs.File.{Parses}

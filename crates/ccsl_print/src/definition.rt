@@ -38,7 +38,8 @@ impl Spelled for Param {
 /// A defined name and its parameters, in parentheses also where there are none.
 #[tactic(auto, using(crate::proofs::Steps::after_append))]
 fn put_head(page: &mut Page, name: &Spot, params: &Seq<Param>) -> Result<(), Memory>
-    ensures { OnOk result (page.new ≡ after page.old (t.name name.now ∷ opening ∷ (params_spelled params.now ++ closing ∷ []))) }
+    ensures { OnOk result (page.new ≡ after page.old
+        (t.name name.now ∷ opening ∷ (params_spelled params.now ++ closing ∷ []))) }
 {
     page.name(name)?;
     page.symbol(b'(')?;
@@ -56,7 +57,8 @@ fn put_member(page: &mut Page, member: &Member) -> Result<(), Memory>
 }
 
 fn put_further_members(page: &mut Page, members: &[Member]) -> Result<(), Memory>
-    ensures { OnOk result (page.new ≡ after page.old (flat_map further_tokens (map plain_member members.now))) }
+    ensures { OnOk result (page.new ≡ after page.old
+        (flat_map further_tokens (map plain_member members.now))) }
 {
     for member in members {
         page.word(Reserved::And)?;
@@ -66,7 +68,8 @@ fn put_further_members(page: &mut Page, members: &[Member]) -> Result<(), Memory
 }
 
 fn put_members(page: &mut Page, members: &[Member]) -> Result<(), Memory>
-    ensures { OnOk result (page.new ≡ after page.old (members_tokens (map plain_member members.now))) }
+    ensures { OnOk result (page.new ≡ after page.old
+        (members_tokens (map plain_member members.now))) }
 {
     match members {
         [] => Ok(()),
@@ -79,7 +82,8 @@ fn put_members(page: &mut Page, members: &[Member]) -> Result<(), Memory>
 
 #[tactic(auto, using(crate::proofs::Steps::after_append))]
 fn put_head_line(page: &mut Page, name: &Spot, params: &Seq<Param>) -> Result<(), Memory>
-    ensures { OnOk result (page.new ≡ line_after page.old (outer (head_tokens name.now params.now))) }
+    ensures { OnOk result (page.new ≡ line_after page.old
+        (outer (head_tokens name.now params.now))) }
 {
     page.begin_line(false)?;
     page.word(Reserved::Relation)?;
@@ -105,7 +109,8 @@ fn put_relation(
     lines: &Seq<RelationLine>,
 ) -> Result<(), Memory>
     ensures { OnOk result (page.new ≡ lines_after page.old
-        (outer (head_tokens name.now params.now) ∷ body_lines rline_tokens (map plain_line lines.now))) }
+        (outer (head_tokens name.now params.now)
+        ∷ body_lines rline_tokens (map plain_line lines.now))) }
 {
     put_head_line(page, name, params)?;
     put_all(page, lines.members())?;
@@ -115,7 +120,8 @@ fn put_relation(
 #[tactic(auto, using(crate::proofs::Steps::after_append))]
 fn put_group(page: &mut Page, members: &[Member]) -> Result<(), Memory>
     ensures { OnOk result (page.new ≡ lines_after page.old
-        (outer (t.word Reserved.Expression ∷ (members_tokens (map plain_member members.now) ++ t.symbol 59 ∷ []))
+        (outer (t.word Reserved.Expression
+            ∷ (members_tokens (map plain_member members.now) ++ t.symbol 59 ∷ []))
         ∷ [])) }
 {
     page.begin_line(false)?;

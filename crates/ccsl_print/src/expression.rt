@@ -17,7 +17,8 @@ use ccsl_lex::Reserved;
 /// A name and its arguments, in parentheses also where there are none.
 #[tactic(auto, using(crate::proofs::Steps::after_append))]
 pub fn put_call(page: &mut Page, name: &Spot, args: &Seq<Argument>) -> Result<(), Memory>
-    ensures { OnOk result (page.new ≡ after page.old (t.name name.now ∷ opening ∷ (args_spelled args.now ++ closing ∷ []))) }
+    ensures { OnOk result (page.new ≡ after page.old
+        (t.name name.now ∷ opening ∷ (args_spelled args.now ++ closing ∷ []))) }
 {
     page.name(name)?;
     page.symbol(b'(')?;
@@ -55,7 +56,8 @@ fn put_binop(page: &mut Page, op: BinaryOp) -> Result<(), Memory>
 #[cycle(expression)]
 #[tactic(auto, using(crate::proofs::Steps::after_append, crate::proofs::Steps::in_parens, crate::proofs::Steps::without_parens))]
 fn put_operand(page: &mut Page, tree: &Tree) -> Result<(), Memory>
-    ensures { OnOk result (page.new ≡ after page.old (operand_tokens (plain tree.now) (expr_tokens (plain tree.now)))) }
+    ensures { OnOk result (page.new ≡ after page.old
+        (operand_tokens (plain tree.now) (expr_tokens (plain tree.now)))) }
 {
     if tree.stands_in_parens() {
         page.symbol(b'(')?;

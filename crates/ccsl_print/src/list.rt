@@ -21,7 +21,8 @@ pub trait Spelled {
 
 /// Writes each with a comma before it.
 fn put_further<T: Spelled>(page: &mut Page, items: &[T]) -> Result<(), Memory>
-    ensures { OnOk result (page.new ≡ after page.old (flat_map (further_spelled T.tokens) items.now)) }
+    ensures { OnOk result (page.new ≡ after page.old
+        (flat_map (further_spelled T.tokens) items.now)) }
 {
     for item in items {
         page.symbol(b',')?;

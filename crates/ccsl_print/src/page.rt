@@ -52,7 +52,8 @@ impl Page {
     }
 
     fn put(&mut self, parted: bool, edge: Edge, token: &[u8]) -> Result<(), Memory>
-        ensures { OnOk result (self.new ≡ record { text = self.old.text ++ (blank_if parted ++ token.now); edge = edge }) }
+        ensures { OnOk result (self.new ≡ record
+            { text = self.old.text ++ (blank_if parted ++ token.now); edge = edge }) }
     {
         if parted {
             self.text.push(b' ')?;

@@ -41,7 +41,8 @@ fn put_system_head(page: &mut Page) -> Result<(), Memory>
 
 #[tactic(auto, using(crate::proofs::Steps::lines_append, crate::proofs::Steps::slines_lined))]
 pub fn put_system(page: &mut Page, lines: &Seq<SystemLine>) -> Result<(), Memory>
-    ensures { OnOk result (page.new ≡ lines_after page.old (system_lines (map plain_sline lines.now))) }
+    ensures { OnOk result (page.new ≡ lines_after page.old
+        (system_lines (map plain_sline lines.now))) }
 {
     put_system_head(page)?;
     put_all(page, lines.members())?;

@@ -16,8 +16,8 @@ decreases-branches_at l = 6 * l.room.levels + 3
 abbrev pub decreases-rest_at : goal.decreases-rest_at
 decreases-rest_at l = 6 * l.room.levels + 4
 
-abbrev pub decreases-binary_at : goal.decreases-binary_at
-decreases-binary_at l = 6 * l.room.levels + 3
+abbrev pub decreases-second_at : goal.decreases-second_at
+decreases-second_at l = 6 * l.room.levels + 3
 
 abbrev pub decreases-delayed_at : goal.decreases-delayed_at
 decreases-delayed_at l = 6 * l.room.levels + 3

@@ -1,4 +1,3 @@
-use Rattle.std.proofs.Common.{sym}
 use Rattle.std.proofs.lemmas.Result.{err_from_is_err_and}
 use Rattle.ccsl_grammar.specs.Terminals.{terminals}
 use Rattle.ccsl_grammar.specs.Reader.{many}
@@ -10,14 +9,17 @@ use Rattle.ccsl_parse.proofs.term.further_signed.Goals as goal
 pub returns-in_err-item : goal.returns-in_err-item
 returns-in_err-item c =
     let p = err_from_is_err_and c.from_residual.result c.from_residual.ensures.1 in
-    rw (p.1, p.2) (fails is_sign signed_at signed_falls c.turns.members.items c.in_err-item.field-0.0 (terminals c.turns.rest.now) (many is_sign signed_at (terminals c.args.tokens.now)) (sym c.turns-test.ensures) c.in_err-item.ensures c.turns.invariant)
+    rw (p.1, p.2) (fails is_sign signed_at signed_falls c.turns.members.items c.in_err-item.field-0.0 (terminals c.turns.rest.now) (many is_sign signed_at (terminals c.args.tokens.now)) c.in_err-item.ensures.0 c.in_err-item.ensures.1 c.turns.invariant)
 
 pub turns-smaller : goal.turns-smaller
-turns-smaller c = shorter is_sign signed_at signed_falls c.turns.rest.now c.in_ok-item.after.now c.in_ok-item.item c.in_ok-item.ensures
+turns-smaller c =
+    let f = rw c.in-Some.is at c.in_ok-item.ensures in
+    shorter is_sign signed_at signed_falls c.turns.rest.now c.in-Some.after.now c.in-Some.item f.1
 
 pub turns-preserved : goal.turns-preserved
 turns-preserved c =
-    rw c.in_ok-push.ensures.items (goes_on is_sign signed_at signed_falls c.turns.members.items c.in_ok-item.item (terminals c.turns.rest.now) (terminals c.in_ok-item.after.now) (many is_sign signed_at (terminals c.args.tokens.now)) (sym c.turns-test.ensures) c.in_ok-item.ensures c.turns.invariant)
+    let f = rw c.in-Some.is at c.in_ok-item.ensures in
+    rw c.in_ok-push.ensures.items (goes_on is_sign signed_at signed_falls c.turns.members.items c.in-Some.item (terminals c.turns.rest.now) (terminals c.in-Some.after.now) (many is_sign signed_at (terminals c.args.tokens.now)) f.0 f.1 c.turns.invariant)
 
 pub returns : goal.returns
-returns c = rw c.new.ensures (is_done is_sign signed_at signed_falls c.turns.members.items (terminals c.turns.rest.now) (many is_sign signed_at (terminals c.args.tokens.now)) (sym c.turns-test.ensures) c.turns.invariant)
+returns c = rw c.new.ensures (is_done is_sign signed_at signed_falls c.turns.members.items (terminals c.turns.rest.now) (many is_sign signed_at (terminals c.args.tokens.now)) (rw c.in_default.is at c.in_ok-item.ensures) c.turns.invariant)
