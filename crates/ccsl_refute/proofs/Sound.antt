@@ -136,7 +136,7 @@ item-true [] v k f t e = absurd (cc)
 item-true (g ∷ fs) v zero f t e = let q : g ≡ f = cc in subst (λ (h : Formula). truth h v ≡ true) q t.0
 item-true (g ∷ fs) v (suc k) f t e = item-true fs v k f t.1 e
 
-no-refuted : (fs : List Formula) (v : Assignment) (p : Part) (k : ℕ) → AllTrue fs v → Agrees v p → is_refuted p (slice_get fs k) ≡ true → ⊥
+pub no-refuted : (fs : List Formula) (v : Assignment) (p : Part) (k : ℕ) → AllTrue fs v → Agrees v p → is_refuted p (slice_get fs k) ≡ true → ⊥
 no-refuted fs v p k t a e =
     (elim (slice_get fs k) as (λ o. slice_get fs k ≡ o → is_refuted p o ≡ true → ⊥) [
       | None ↦ λ q f. absurd (cc)

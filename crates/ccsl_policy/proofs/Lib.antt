@@ -1,0 +1,4 @@
+pub mod Drawn
+pub mod Order
+pub mod First
+pub mod Ranking

@@ -1,0 +1,4 @@
+pub mod Words
+pub mod Priority
+pub mod Chosen
+pub mod Ranks

@@ -1,0 +1,11 @@
+pub mod Tests
+pub mod Parts
+pub mod Units
+pub mod Lines
+pub mod Clauses
+pub mod Conflicts
+pub mod Complete
+pub mod Best
+pub mod Answering
+pub mod Denials
+pub mod Searching

@@ -1,0 +1,114 @@
+//! Conflicts: why some values can't all hold.
+
+ghost use Rattle.std.specs.Prelude.{◌≡◌, ◌≢◌, ℕ, not, length, reverse, IfOk, OnOk};
+ghost use Rattle.ccsl_formula.specs.declared.truth3.Truth3.TheVariants.{Open};
+ghost use Rattle.ccsl_formula.specs.Truth.{Part};
+ghost use Rattle.ccsl_formula.specs.Known.{known, with_value, with_truth, joined};
+ghost use Rattle.ccsl_solve.specs.Under.{Under, IsInside};
+ghost use Rattle.ccsl_solve.specs.Conflict.{IsClause, IsConflict, IsDenial, Extends};
+ghost use Rattle.ccsl_solve.specs.Posed.{AreValid};
+
+use crate::problem::Problem;
+use ccsl_base::{Memory, Seq};
+use ccsl_formula::Partial;
+use ccsl_refute::{Line, Lit};
+use std::alloc::Global;
+
+/// Some values that can't all hold, and the numbers of the lines that show it, the last one first.
+#[derive(Drop)]
+pub struct Conflict {
+    pub part: Box<Partial>,
+    pub hints: Vec<u64>,
+}
+
+/// A line whose clause says that not all values of `part` hold.
+#[derive(Drop)]
+pub struct Clash {
+    pub line: u64,
+    pub part: Box<Partial>,
+}
+
+/// The literals that say that not all values of `part` hold.
+pub fn denial(alloc: Global, part: &Partial) -> Result<Vec<Lit>, Memory>
+    ensures { (n : ℕ) → IsInside n (known part.now) → IfOk result (λ v. IsDenial n v.items (known part.now)) }
+{
+    let mut lits = Vec::new(alloc);
+    for (clock, value) in part.pairs() {
+        lits.push(Lit {
+            clock,
+            positive: !value,
+        })?;
+    }
+    Ok(lits)
+}
+
+/// Takes over each value of another partial assignment, but none of one clock.
+fn join_without(part: &mut Partial, other: &Partial, clock: u32)
+    ensures { known part.new ≡ with_truth (joined (known part.old) (known other.now)) clock Open }
+{
+    part.join(other);
+    part.forget(clock);
+}
+
+/// The same numbers in reversed order.
+fn reversed(alloc: Global, numbers: &[u64]) -> Result<Vec<u64>, Memory>
+    ensures { IfOk result (λ v. v.items ≡ reverse numbers.now) }
+{
+    let reversed = numbers.iter().rev().copied().collect(alloc)?;
+    Ok(reversed)
+}
+
+/// The number of a new last line whose clause says that not all values of the conflict hold.
+pub fn derived(problem: &Problem, lines: &mut Vec<Line>, conflict: &Conflict) -> Result<u64, Memory>
+    requires valid { AreValid problem.now lines.old.items }
+    requires inside { IsInside problem.now.scope.named (known conflict.now.part.value) }
+    requires conflict { (p : Part) × IsConflict problem.now.scope lines.old.items p (known conflict.now.part.value) (reverse conflict.now.hints.items) }
+    ensures valid { OnOk result (AreValid problem.now lines.new.items) }
+    ensures extends { OnOk result (Extends lines.old.items lines.new.items) }
+    ensures clause { IfOk result (λ j. IsClause problem.now.scope lines.new.items j (known conflict.now.part.value)) }
+    ensures last { IfOk result (λ j. j ≡ length lines.new.items) }
+{
+    let lits = denial(problem.alloc, &conflict.part)?;
+    let hints = reversed(problem.alloc, &conflict.hints)?;
+    lines.push(Line::Derived(Seq::new(lits), Seq::new(hints)))?;
+    Ok(lines.len() as u64)
+}
+
+/// The number of a line whose clause says that not all values of the conflict hold.
+pub fn learned(problem: &Problem, lines: &mut Vec<Line>, conflict: &Conflict) -> Result<u64, Memory>
+    requires valid { AreValid problem.now lines.old.items }
+    requires inside { IsInside problem.now.scope.named (known conflict.now.part.value) }
+    requires conflict { (p : Part) × IsConflict problem.now.scope lines.old.items p (known conflict.now.part.value) (reverse conflict.now.hints.items) }
+    ensures valid { OnOk result (AreValid problem.now lines.new.items) }
+    ensures extends { OnOk result (Extends lines.old.items lines.new.items) }
+    ensures clause { IfOk result (λ j. IsClause problem.now.scope lines.new.items j (known conflict.now.part.value)) }
+{
+    if conflict.hints.len() == 1 {
+        return Ok(conflict.hints[0]);
+    }
+    derived(problem, lines, conflict)
+}
+
+/// The conflict before a clock had a value, from one at each value, where a line shows the first one.
+pub fn resolved(
+    problem: &Problem,
+    lines: &[Line],
+    before: &Partial,
+    lit: Lit,
+    first: Clash,
+    second: Conflict,
+) -> Result<Conflict, Memory>
+    requires first { Under (known first.part.value) (with_value (known before.now) lit.clock lit.positive) }
+    requires first_has { known first.part.value lit.clock ≢ Open }
+    requires clause { IsClause problem.now.scope lines.now first.line (known first.part.value) }
+    requires second { IsConflict problem.now.scope lines.now (with_value (known before.now) lit.clock (not lit.positive)) (known second.part.value) (reverse second.hints.items) }
+    requires second_has { known second.part.value lit.clock ≢ Open }
+    requires free { known before.now lit.clock ≡ Open }
+    ensures { IfOk result (λ c. IsConflict problem.now.scope lines.now (known before.now) (known c.part.value) (reverse c.hints.items)) }
+{
+    let mut part = second.part;
+    let mut hints = second.hints;
+    join_without(&mut part, &first.part, lit.clock);
+    hints.push(first.line)?;
+    Ok(Conflict { part, hints })
+}

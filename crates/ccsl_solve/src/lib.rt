@@ -1,0 +1,19 @@
+//! A solver for the formulas of a step: a set of clocks that satisfies them, the best one by a list of wishes,
+//! or the lines of a certificate that there is none. It learns a clause at each conflict.
+#![tactic(auto)]
+
+pub mod conflict;
+pub mod explain;
+pub mod guide;
+pub mod look;
+pub mod order;
+pub mod plan;
+pub mod problem;
+pub mod readers;
+pub mod reason;
+pub mod search;
+pub mod solver;
+pub mod values;
+pub mod watches;
+
+pub use solver::{Answer, solve, solve_by};

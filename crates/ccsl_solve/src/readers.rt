@@ -1,0 +1,100 @@
+//! Which items read a clock.
+
+use crate::problem::Problem;
+use ccsl_base::Memory;
+use ccsl_formula::Formula;
+
+/// For each clock the items that read it, once for each place.
+#[derive(Drop)]
+pub struct Readers {
+    /// Where the items of a clock begin, and those of the next one.
+    starts: Vec<usize>,
+    items: Vec<u32>,
+}
+
+impl Readers {
+    pub fn open(problem: &Problem) -> Result<Readers, Memory> {
+        let mut readers = Readers {
+            starts: vec![in problem.alloc; 0usize; problem.scope.named as usize + 2]?,
+            items: Vec::new(problem.alloc),
+        };
+        for formula in problem.formulas {
+            readers.count(formula);
+        }
+        let total = readers.sum();
+        readers.items = vec![in problem.alloc; 0u32; total]?;
+        let mut item = 0u32;
+        for formula in problem.formulas {
+            readers.enter(formula, item);
+            item = item.wrapping_add(1);
+        }
+        Ok(readers)
+    }
+
+    /// The items that read a clock.
+    pub fn of(&self, clock: u32) -> &[u32] {
+        let first = self.start(clock as usize);
+        let end = self.start(clock as usize + 1);
+        if first <= end && end <= self.items.len() {
+            &self.items[first..end]
+        } else {
+            &[]
+        }
+    }
+
+    fn start(&self, place: usize) -> usize {
+        match self.starts.get(place) {
+            None => 0,
+            Some(start) => *start,
+        }
+    }
+
+    /// Counts the places where a formula reads a clock, two places behind the clock's own.
+    fn count(&mut self, formula: &Formula) {
+        match formula {
+            Formula::True => {}
+            Formula::False => {}
+            Formula::Var(x) => {
+                if let Some(count) = self.starts.get_mut(*x as usize + 2) {
+                    *count = count.wrapping_add(1);
+                }
+            }
+            Formula::Not(f) => self.count(f),
+            Formula::And(f, g) | Formula::Or(f, g) | Formula::Iff(f, g) => {
+                self.count(f);
+                self.count(g);
+            }
+        }
+    }
+
+    /// Sums up the counts, so that one place behind a clock's own stands where its next item goes.
+    fn sum(&mut self) -> usize {
+        let mut total = 0usize;
+        for start in self.starts.iter_mut() {
+            total = total.wrapping_add(*start);
+            *start = total;
+        }
+        total
+    }
+
+    /// Enters an item at each clock that its formula reads.
+    fn enter(&mut self, formula: &Formula, item: u32) {
+        match formula {
+            Formula::True => {}
+            Formula::False => {}
+            Formula::Var(x) => {
+                if let Some(next) = self.starts.get_mut(*x as usize + 1) {
+                    if let Some(place) = self.items.get_mut(*next) {
+                        *place = item;
+                    }
+                    *next = next.wrapping_add(1);
+                }
+            }
+            Formula::Not(f) => self.enter(f, item),
+            Formula::And(f, g) | Formula::Or(f, g) | Formula::Iff(f, g) => {
+                self.enter(f, item);
+                self.enter(g, item);
+            }
+        }
+    }
+}
