@@ -1,0 +1,93 @@
+-- Declared codes and their numbers.
+use Rattle.std.proofs.Common.{◌≡◌, ℕ, ◌+◌, suc, List, [], ◌∷◌, ◌++◌, length, Bool, true, false, not, nat_lt, ◌||◌, cond, Some, None, refl, sym, ap, ◌∙◌, arith}
+use Rattle.std.specs.Prelude.{bytes_eq, fold, is_some, nat_eq}
+use Rattle.std.specs.List.{list_any, position_or_len, slice_get}
+use Rattle.std.proofs.lemmas.Bool.{lt-ltb, eq-eqb}
+use Rattle.std.proofs.lemmas.List.Folds.{list_any-append}
+use Rattle.std.proofs.lemmas.Grind.{common_steps}
+use Rattle.ccsl_base.specs.Names.{is_among, find_name}
+use Rattle.ccsl_base.proofs.Tables.{bytes_eq-true, bytes_eq-refl, bytes_eq-sym, find_name-there}
+use Rattle.ccsl_vcd.specs.Binding.{Declaration}
+use Rattle.ccsl_vcd.specs.Body.{is_declared}
+use Rattle.ccsl_bind.specs.Codes.{put_code, codes_of, number_of}
+
+less-suc : (k n : ℕ) → nat_lt (1 + k) (suc n) ≡ nat_lt k n
+less-suc k n = grind (arith, common_steps)
+
+any-within : {X : Type 0} (p : X → Bool) (xs : List X) → list_any p xs ≡ nat_lt (position_or_len p xs) (length xs)
+any-within p [] = refl
+any-within p (x ∷ xs) =
+    elim (p x) as (λ w. (w || list_any p xs) ≡ nat_lt (cond (not w) (1 + position_or_len p xs) 0) (suc (length xs))) [
+      | true ↦ sym (lt-ltb 0 (suc (length xs)) (omega arith))
+      | false ↦ any-within p xs ∙ sym (less-suc (position_or_len p xs) (length xs))
+    ]
+
+some-if : (b : Bool) (n : ℕ) → is_some (cond b (Some n) None) ≡ b
+some-if true n = refl
+some-if false n = refl
+
+pub among-found : (name : List ℕ) (names : List (List ℕ)) → is_among name names ≡ is_some (find_name name names)
+among-found name names = any-within (bytes_eq name) names ∙ sym (some-if (nat_lt (position_or_len (bytes_eq name) names) (length names)) (position_or_len (bytes_eq name) names))
+
+pub same-either : (x y : List ℕ) → bytes_eq x y ≡ bytes_eq y x
+same-either x y =
+    (elim (bytes_eq x y) as (λ w. bytes_eq x y ≡ w → w ≡ bytes_eq y x) [
+      | true ↦ λ e. sym (bytes_eq-refl y x (sym (bytes_eq-true x y e)))
+      | false ↦ λ e. sym (bytes_eq-sym x y e)
+    ]) refl
+
+or-true : (b : Bool) → (b || true) ≡ true
+or-true true = refl
+or-true false = refl
+
+or-none : (b : Bool) → (b || false) ≡ b
+or-none true = refl
+or-none false = refl
+
+or-both : (a b c : Bool) → ((a || b) || c) ≡ (a || (b || c))
+or-both true b c = refl
+or-both false b c = refl
+
+among-put : (code x : List ℕ) (codes : List (List ℕ)) → is_among code (put_code codes x) ≡ (is_among code codes || bytes_eq x code)
+among-put code x codes =
+    (elim (is_among x codes) as (λ w. is_among x codes ≡ w → is_among code (cond w codes (codes ++ x ∷ [])) ≡ (is_among code codes || bytes_eq x code)) [
+      | true ↦ λ e.
+          (elim (bytes_eq x code) as (λ w. bytes_eq x code ≡ w → is_among code codes ≡ (is_among code codes || w)) [
+            | true ↦ λ s. ap (λ y. is_among y codes) (sym (bytes_eq-true x code s)) ∙ e ∙ sym (or-true (is_among code codes))
+            | false ↦ λ s. sym (or-none (is_among code codes))
+          ]) refl
+      | false ↦ λ e. list_any-append (bytes_eq code) codes (x ∷ []) ∙ ap (λ w. is_among code codes || w) (or-none (bytes_eq code x) ∙ same-either code x)
+    ]) refl
+
+among-all : (code : List ℕ) (ds : List Declaration) (codes : List (List ℕ)) → is_among code (fold (λ cs d. put_code cs d.code) codes ds) ≡ (is_among code codes || is_declared ds code)
+among-all code [] codes = sym (or-none (is_among code codes))
+among-all code (d ∷ ds) codes =
+    among-all code ds (put_code codes d.code) ∙ ap (λ w. w || is_declared ds code) (among-put code d.code codes) ∙ or-both (is_among code codes) (bytes_eq d.code code) (is_declared ds code)
+
+-- A code is declared exactly where it has a number.
+pub declared-number : (ds : List Declaration) (code : List ℕ) → is_declared ds code ≡ is_some (number_of code (codes_of ds))
+unfolding codes_of
+declared-number ds code = sym (among-all code ds []) ∙ among-found code (codes_of ds)
+
+-- Two codes are one exactly where their numbers are.
+pub same-number : (codes : List (List ℕ)) (x y : List ℕ) (n m : ℕ) → number_of x codes ≡ Some n → number_of y codes ≡ Some m → nat_eq m n ≡ bytes_eq x y
+same-number codes x y n m e f =
+    (elim (bytes_eq x y) as (λ w. bytes_eq x y ≡ w → nat_eq m n ≡ w) [
+      | true ↦ λ s.
+          let k : Some m ≡ Some n = sym f ∙ ap (λ z. number_of z codes) (sym (bytes_eq-true x y s)) ∙ e in
+          eq-eqb m n (cc)
+      | false ↦ λ s. differ s
+    ]) refl
+  where
+    differ : bytes_eq x y ≡ false → nat_eq m n ≡ false
+    differ s =
+        (elim (nat_eq m n) as (λ w. nat_eq m n ≡ w → w ≡ false) [
+          | true ↦ λ t.
+              let e' = find_name-there x codes n e in
+              let f' = find_name-there y codes m f in
+              let k : m ≡ n = grind (arith, common_steps) in
+              let both : Some x ≡ Some y = sym e' ∙ ap (slice_get codes) (sym k) ∙ f' in
+              let xy : x ≡ y = cc in
+              sym (bytes_eq-refl x y xy) ∙ s
+          | false ↦ λ t. refl
+        ]) refl

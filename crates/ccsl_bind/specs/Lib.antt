@@ -1,0 +1,5 @@
+pub mod Codes
+pub mod Candidates
+pub mod Slots
+pub mod Bindings
+pub mod Collected

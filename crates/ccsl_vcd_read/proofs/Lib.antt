@@ -1,0 +1,12 @@
+pub mod Numbers
+pub mod InPlace
+pub mod Ticking
+pub mod MarkLaws
+pub mod BodyPictures
+pub mod HeadPictures
+pub mod Openings
+pub mod StagePictures
+pub mod Taking
+pub mod Faults
+pub mod Feeding
+pub mod Ending

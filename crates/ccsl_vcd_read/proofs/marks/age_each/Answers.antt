@@ -1,0 +1,13 @@
+use Rattle.std.proofs.Common.{arith, refl}
+use Rattle.ccsl_vcd_read.specs.Marks.{aged}
+use Rattle.ccsl_vcd_read.proofs.InPlace.{goes-on, ends}
+use Rattle.ccsl_vcd_read.proofs.marks.age_each.Goals as goal
+
+pub loop-i-init : goal.loop-i-init
+loop-i-init c = record { front = refl; back = refl }
+
+pub loop-i-preserved : goal.loop-i-preserved
+loop-i-preserved c = goes-on aged c.args.marks.now c.loop-i.marks c.loop-i.i _ c.aged.result (omega arith) c.loop-i.auto.marks c.loop-i.invariant c.aged.ensures
+
+pub returns : goal.returns
+returns c = ends aged c.args.marks.now c.loop-i.marks c.loop-i.i (omega arith) c.loop-i.auto.marks c.loop-i.invariant

@@ -1,0 +1,60 @@
+use Rattle.std.proofs.Common.{◌≡◌, ◌≤◌, ◌<◌, ◌^◌, ◌+◌, ◌-◌, ℕ, List, ◌++◌, length, true, false, refl, sym, ap, ◌∙◌, subst, arith}
+use Rattle.std.specs.Prelude.{IfNone}
+use Rattle.ccsl_vcd.specs.declared.fault.VcdFault.{VcdFault}
+use Rattle.ccsl_vcd.specs.declared.fault.VcdFault.TheVariants as faults
+use Rattle.ccsl_vcd.specs.Binding.{Wanted}
+use Rattle.ccsl_vcd.specs.Reading.{reading}
+use Rattle.ccsl_vcd.specs.Rows.{complete, done}
+use Rattle.ccsl_vcd_read.specs.Staging.{ends_well, row_left}
+use Rattle.ccsl_vcd_read.specs.Reading.{Reading, StandsFor, Pushes}
+use Rattle.ccsl_vcd_read.proofs.HeadPictures.{weaken}
+use Rattle.ccsl_vcd_read.proofs.StagePictures.{caused-map}
+use Rattle.ccsl_vcd_read.proofs.Taking.{running-of}
+use Rattle.ccsl_vcd_read.proofs.Faults.{rows-fit}
+use Rattle.ccsl_vcd_read.proofs.Ending.{truncated, cut-pushes, accepted, end-pushes, end-counts, stopped-refuses, when-none, refused-pushes}
+use Rattle.ccsl_vcd_read.proofs.reader.Reader.finish.Goals as goal
+
+pub returns-in-Some-clause-refuses : goal.returns-in-Some-clause-refuses
+returns-in-Some-clause-refuses c = stopped-refuses c.args.self.now c.in-Some.fault (ap (λ (x : Reading). x.fault) (sym c.self.view_is) ∙ c.in-Some.is)
+
+pub last_token-requires-clause-stands : goal.last_token-requires-clause-stands
+last_token-requires-clause-stands c =
+    subst (λ o. IfNone o ((x : Wanted) × (y : List ℕ) × StandsFor x c.args.self.now y)) (ap (λ (x : Reading). x.fault) (sym c.self.view_is) ∙ c.in_default.is) c.requires.stands
+
+pub last_token-requires-clause-rows : goal.last_token-requires-clause-rows
+last_token-requires-clause-rows c =
+    let none = ap (λ (x : Reading). x.fault) (sym c.self.view_is) ∙ c.in_default.is in
+    let w = subst (λ o. IfNone o ((x : Wanted) × (y : List ℕ) × StandsFor x c.args.self.now y)) none c.requires.stands in
+    let fits : c.self.inside.taken < 2 ^ 64 = omega arith in
+    rows-fit w.0 c.args.self.now w.1 (running-of w.0 c.args.self.now w.1 none w.2) (subst (λ (x : Reading). x.taken < 2 ^ 64) c.self.view_is fits)
+
+pub returns-then-not-may_end-clause-refuses : goal.returns-then-not-may_end-clause-refuses
+returns-then-not-may_end-clause-refuses c =
+    weaken c.fail.result (λ (wanted : Wanted) (bytes : List ℕ) (t : StandsFor wanted c.args.self.now bytes).
+    let a = c.in-Ok.ensures.ends wanted bytes t in
+    let e : ends_well c.last_token.new.self.stage ≡ false = ap (λ (x : Reading). ends_well x.stage) (sym c.self-in-Ok.view_is) ∙ sym c.may_end.ensures ∙ c.if-not-may_end.true in
+    let n = ap (λ (x : Reading). x.taken) c.self.view_is ∙ a.taken in
+    truncated wanted c.args.self.now c.last_token.new.self bytes _ _ a e ∙ ap (λ k. Rattle.std.proofs.Common.Some (faults.Truncated k)) (sym n) ∙ ap (λ f. Rattle.std.proofs.Common.Some f) (sym c.fail.ensures.result))
+
+pub returns-then-not-may_end-clause-completes : goal.returns-then-not-may_end-clause-completes
+returns-then-not-may_end-clause-completes c =
+    when-none c.args.self.now.fault (λ _. weaken c.fail.result (λ (wanted : Wanted) (bytes : List ℕ) (t : StandsFor wanted c.args.self.now bytes).
+    cut-pushes wanted c.args.self.now c.last_token.new.self bytes _ _ (c.in-Ok.ensures.ends wanted bytes t)))
+
+pub returns-else-not-may_end-clause-accepts : goal.returns-else-not-may_end-clause-accepts
+returns-else-not-may_end-clause-accepts c = λ wanted bytes t.
+    let e : ends_well c.last_token.new.self.stage ≡ true = ap (λ (x : Reading). ends_well x.stage) (sym c.self-in-Ok.view_is) ∙ sym c.may_end.ensures ∙ c.if-not-may_end.false in
+    accepted wanted c.args.self.now c.last_token.new.self bytes _ _ (c.in-Ok.ensures.ends wanted bytes t) e
+
+pub returns-else-not-may_end-clause-pushes : goal.returns-else-not-may_end-clause-pushes
+returns-else-not-may_end-clause-pushes c = λ wanted bytes t.
+    end-pushes wanted c.args.self.now c.last_token.new.self bytes _ _ (c.in-Ok.ensures.ends wanted bytes t) c.give_left.new.out.rows
+    (ap (λ x. x.rows) c.give_left.ensures ∙ ap (λ (x : Reading). c.last_token.new.out.rows ++ row_left x.stage) c.self-in-Ok.view_is)
+
+pub returns-else-not-may_end-clause-counts : goal.returns-else-not-may_end-clause-counts
+returns-else-not-may_end-clause-counts c = λ wanted bytes t.
+    end-counts wanted c.args.self.now c.last_token.new.self bytes _ _ (c.in-Ok.ensures.ends wanted bytes t) c.give_left.new.out.rows _ _
+    (ap (λ x. x.rows) c.give_left.ensures ∙ ap (λ (x : Reading). c.last_token.new.out.rows ++ row_left x.stage) c.self-in-Ok.view_is)
+    (ap (λ (x : Reading). x.rows + (c.len.result - c.len-before.result)) c.self-in-Ok.view_is
+    ∙ ap (λ k. c.last_token.new.self.rows + (k - c.len-before.result)) c.len.ensures ∙ ap (λ k. c.last_token.new.self.rows + (length c.give_left.new.out.rows - k)) c.len-before.ensures)
+    (ap (λ (x : Reading). x.taken) c.self.view_is)

@@ -1,0 +1,157 @@
+//! The tokens of a body.
+
+ghost use Rattle.std.specs.Prelude.{◌≡◌, ◌<◌, ◌≤◌, ◌+◌, ◌++◌, length, [], Ok};
+ghost use Rattle.ccsl_vcd_read.specs.Step.{Says, row_of, time_says, changed_says, skipped_says, remark_says, word_says, hear_of};
+ghost use Rattle.ccsl_vcd.specs.Words.{dump, close};
+ghost use Rattle.ccsl_vcd_read.specs.Meant.{meant, rest_of};
+
+use crate::amid::Amid;
+use crate::marks::Marks;
+use crate::word::{Word, is_text, word_of};
+use ccsl_base::{Block, Row};
+use ccsl_bind::Binding;
+use ccsl_vcd::VcdFault;
+
+/// What is kept of a body that is being read.
+#[derive(Drop)]
+pub(crate) struct Body {
+    pub binding: Binding,
+    pub marks: Marks,
+    pub present: u64,
+    pub amid: Amid,
+    pub dumping: bool,
+}
+
+/// Gives out the row of the present time, if a clock ticks.
+pub(crate) fn give(body: &Body, out: &mut Block)
+    requires { length out.old.rows + length (row_of body.now) ≤ out.old.room }
+    ensures { out.new ≡ record out.old { rows = out.old.rows ++ row_of body.now } }
+{
+    let ticks = body.marks.ticking();
+    if !ticks.is_empty() {
+        out.push(Row {
+            time: body.present,
+            ticks,
+        });
+    }
+}
+
+impl Body {
+    fn time(&mut self, at: u64, time: u64, out: &mut Block) -> Result<(), VcdFault>
+        requires { length out.old.rows < out.old.room }
+        ensures said { Says (time_says self.old at time) result self.old self.new out.old.rows out.new.rows }
+        ensures room { out.new.room ≡ out.old.room }
+    {
+        if time < self.present {
+            return Err(VcdFault::TimeBack {
+                at,
+                present: self.present,
+                time,
+            });
+        }
+        if time > self.present {
+            give(self, out);
+            self.marks.age();
+            self.present = time;
+        }
+        Ok(())
+    }
+
+    // A change of a code to a value that is 1 or not.
+    fn change(&mut self, at: u64, code: &[u8], one: bool) -> Result<(), VcdFault>
+        ensures { Says (changed_says self.old at code.now one) result self.old self.new [] [] }
+    {
+        let Some(number) = self.binding.find(code) else {
+            return Err(VcdFault::UnknownCode { at });
+        };
+        self.marks.change(number, one, self.dumping);
+        self.amid = Amid::Changes;
+        Ok(())
+    }
+
+    // The code of a value that is skipped.
+    fn pass(&mut self, at: u64, code: &[u8]) -> Result<(), VcdFault>
+        ensures { Says (skipped_says self.old at code.now) result self.old self.new [] [] }
+    {
+        if self.binding.find(code).is_none() {
+            return Err(VcdFault::UnknownCode { at });
+        }
+        self.amid = Amid::Changes;
+        Ok(())
+    }
+
+    fn remark(&mut self, text: &[u8]) -> Result<(), VcdFault>
+        ensures { Says (remark_says self.old text.now) result self.old self.new [] [] }
+    {
+        if is_text(text, b"$end") {
+            self.amid = Amid::Changes;
+        }
+        Ok(())
+    }
+
+    fn dump(&mut self, at: u64) -> Result<(), VcdFault>
+        ensures { Says (word_says self.old at dump) result self.old self.new [] [] }
+    {
+        if self.dumping {
+            return Err(VcdFault::UnknownCommand { at });
+        }
+        self.dumping = true;
+        Ok(())
+    }
+
+    fn close(&mut self, at: u64) -> Result<(), VcdFault>
+        ensures { Says (word_says self.old at close) result self.old self.new [] [] }
+    {
+        if !self.dumping {
+            return Err(VcdFault::UnknownCommand { at });
+        }
+        self.dumping = false;
+        Ok(())
+    }
+
+    // What stands there until the next token.
+    fn go(&mut self, amid: Amid) -> Result<(), VcdFault>
+        ensures { Says (Ok (record self.old { amid = amid }, [])) result self.old self.new [] [] }
+    {
+        self.amid = amid;
+        Ok(())
+    }
+
+    // A word in a change's place; `code` is the rest of its token.
+    fn say(&mut self, at: u64, word: Word, code: &[u8], out: &mut Block) -> Result<(), VcdFault>
+        requires { length out.old.rows < out.old.room }
+        ensures said { Says (word_says self.old at (meant word code.now)) result self.old self.new out.old.rows out.new.rows }
+        ensures room { out.new.room ≡ out.old.room }
+    {
+        match word {
+            Word::Time(time) => self.time(at, time, out),
+            Word::Scalar(one) => self.change(at, code, one),
+            Word::Vector(one) => self.go(Amid::Code(one)),
+            Word::Skipped => self.go(Amid::CodeSkipped),
+            Word::Comment => self.go(Amid::Remark),
+            Word::Dump => self.dump(at),
+            Word::Close => self.close(at),
+            Word::Gap if !self.dumping => Err(VcdFault::Gap { at }),
+            Word::Gap | Word::Unknown => Err(VcdFault::UnknownCommand { at }),
+            Word::BadTime => Err(VcdFault::BadTime { at }),
+            Word::BadChange => Err(VcdFault::BadChange { at }),
+        }
+    }
+
+    /// A token that ended, at a place.
+    pub(crate) fn hear(&mut self, at: u64, text: &[u8], out: &mut Block) -> Result<(), VcdFault>
+        requires { length out.old.rows < out.old.room }
+        ensures said { Says (hear_of self.old at text.now) result self.old self.new out.old.rows out.new.rows }
+        ensures room { out.new.room ≡ out.old.room }
+    {
+        match self.amid {
+            Amid::Changes => {
+                let code = if text.is_empty() { text } else { &text[1..] };
+                self.say(at, word_of(text), code, out)
+            }
+            Amid::Remark => self.remark(text),
+            Amid::Code(one) => self.change(at, text, one),
+            Amid::CodeSkipped => self.pass(at, text),
+        }
+    }
+}

@@ -1,0 +1,74 @@
+//! The commands of a header.
+
+ghost use Rattle.std.specs.Prelude.{◌≡◌, ◌&&◌, nat_le};
+ghost use Rattle.std.specs.List.{list_all};
+ghost use Rattle.ccsl_vcd.specs.Header.{header_word, is_code};
+ghost use Rattle.ccsl_vcd_read.specs.Meant.{header_meant};
+
+use crate::word::is_text;
+
+/// What stands in a header: in a command's place, or inside a command; in a declaration, which of its words comes next.
+#[derive(Clone, Copy, Debug, PartialEq, Eq)]
+pub enum Command {
+    Between,
+    Kind,
+    Size,
+    Code,
+    Reference,
+    More,
+    /// the place of its `$scope`
+    Scope(u64),
+    Upscope,
+    EndDefinitions,
+    Other,
+}
+
+/// What a token of a header is.
+#[derive(Clone, Copy, Debug, PartialEq, Eq)]
+pub enum HeaderWord {
+    Var,
+    Scope,
+    Upscope,
+    EndDefinitions,
+    OtherCommand,
+    End,
+    Plain,
+}
+
+pub(crate) fn header_word(text: &[u8]) -> HeaderWord
+    ensures { header_word text.now ≡ header_meant result }
+{
+    if is_text(text, b"$end") {
+        HeaderWord::End
+    } else if is_text(text, b"$var") {
+        HeaderWord::Var
+    } else if is_text(text, b"$scope") {
+        HeaderWord::Scope
+    } else if is_text(text, b"$upscope") {
+        HeaderWord::Upscope
+    } else if is_text(text, b"$enddefinitions") {
+        HeaderWord::EndDefinitions
+    } else if text.first() == Some(&b'$') {
+        HeaderWord::OtherCommand
+    } else {
+        HeaderWord::Plain
+    }
+}
+
+fn is_visible(b: u8) -> bool
+    ensures { result ≡ (nat_le 33 b && nat_le b 126) }
+{
+    b >= 33 && b <= 126
+}
+
+fn all_visible(text: &[u8]) -> bool
+    ensures { result ≡ list_all (λ b. nat_le 33 b && nat_le b 126) text.now }
+{
+    text.iter().all(|b| is_visible(*b))
+}
+
+pub(crate) fn is_code(text: &[u8]) -> bool
+    ensures { result ≡ is_code text.now }
+{
+    text.len() <= 32 && all_visible(text)
+}
