@@ -1,0 +1,4 @@
+pub mod Line
+pub mod Texts
+pub mod Room
+pub mod Parts

@@ -1,0 +1,22 @@
+//! Every line that the program reports: its text, and the calls that make it.
+#![tactic(auto)]
+
+pub mod answer;
+mod fault;
+mod item;
+pub mod judged;
+mod line;
+pub mod refusal;
+
+pub use answer::{
+    cert_no_line, cert_no_run, cert_valid, checked, deadlocked, run_no, run_yes, simulated,
+    trial_done,
+};
+pub use judged::{judge_room, put_no_run, put_run, put_trace_fault};
+pub use refusal::{
+    cert_refused, cert_too_long, lex_refused, parse_refused, refused, spec_too_long, trace_refused,
+    usage,
+};
+
+#[cfg(test)]
+mod tests;

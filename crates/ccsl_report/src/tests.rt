@@ -1,0 +1,237 @@
+//! Every text once. The expected lines are those that users read.
+
+use super::*;
+use ccsl_base::{Memory, Names, Seq, Text};
+use ccsl_command::{Key, Usage};
+use ccsl_kernel::{Constraint, Expr, NumPrim, NumTerm, Parts, Place, RelationKind, System};
+use ccsl_lex::LexFault;
+use ccsl_parse::ParseFault;
+use ccsl_refute::CertFault;
+use ccsl_rules::Refusal;
+use ccsl_vcd::VcdFault;
+use std::alloc::Global;
+use std::test::*;
+
+fn constraint(alloc: Global, left: u32, right: u32, label: &[u8]) -> Result<Constraint, Memory> {
+    Ok(Constraint {
+        kind: RelationKind::Precedes,
+        left,
+        right,
+        label: Text::new(Vec::from_slice(alloc, label)?),
+    })
+}
+
+/// Clocks `a` and `b`, the hidden clock of `alternates(a, b);`, and its constraints behind one of the system itself.
+fn parts(alloc: Global) -> Result<Parts, Memory> {
+    let mut names = Names::new(alloc);
+    for name in [
+        b"a".as_slice(),
+        b"b".as_slice(),
+        b"alternates@1.next".as_slice(),
+    ] {
+        if names.len() < 3 {
+            names.add(name)?;
+        }
+    }
+    let one = NumTerm {
+        first: NumPrim::Num(1),
+        rest: Seq::new(Vec::new(alloc)),
+    };
+    let next = Expr::Delay(Box::new(alloc, Expr::Name(Place::Clock(0)))?, one);
+    let mut constraints = Vec::new(alloc);
+    constraints.push(constraint(alloc, 0, 1, b"")?)?;
+    constraints.push(constraint(alloc, 1, 2, b"alternates@1")?)?;
+    Ok(Parts {
+        names,
+        declared: 2,
+        written: 2,
+        groups: Seq::new(Vec::new(alloc)),
+        words: Seq::new(Vec::new(alloc)),
+        definitions: Seq::new(vec![in alloc; next]?),
+        constraints: Seq::new(constraints),
+    })
+}
+
+fn system(alloc: Global) -> Result<Option<System>, Memory> {
+    let parts = parts(alloc)?;
+    if !parts.accepted(alloc)? {
+        return Ok(None);
+    }
+    let count = parts.cells(alloc)?;
+    Ok(Some(System::assemble(parts, count)))
+}
+
+#[test]
+fn answers_without_a_system(rt: HostRuntime) -> Result<(), Fail> {
+    let alloc = rt.alloc();
+    assert_eq!(rt;
+        run_yes(alloc, 1)?.as_slice(),
+        b"run: yes, 1 steps\n".as_slice()
+    );
+    assert_eq!(rt;
+        simulated(alloc, 10)?.as_slice(),
+        b"simulate: done, 10 steps\n".as_slice()
+    );
+    assert_eq!(rt;
+        deadlocked(alloc, 0)?.as_slice(),
+        b"simulate: deadlock after 0 steps\n".as_slice()
+    );
+    assert_eq!(rt;
+        cert_valid(alloc, 18446744073709551615)?.as_slice(),
+        b"certificate: valid, 18446744073709551615 steps\n".as_slice()
+    );
+    assert_eq!(rt;
+        cert_no_line(alloc, 3)?.as_slice(),
+        b"certificate: no, line 3\n".as_slice()
+    );
+    assert_eq!(rt;
+        trial_done(alloc, 2, 4, 4)?.as_slice(),
+        b"trial: clocks 2, steps 4, ticks 4, run: yes\n".as_slice()
+    );
+    Ok(())
+}
+
+#[test]
+fn refused_words(rt: HostRuntime) -> Result<(), Fail> {
+    let alloc = rt.alloc();
+    assert_eq!(rt;
+        usage(alloc, &Usage::NoCommand)?.as_slice(),
+        b"words: no command\n".as_slice()
+    );
+    assert_eq!(rt;
+        usage(alloc, &Usage::UnknownCommand)?.as_slice(),
+        b"words: unknown command\n".as_slice()
+    );
+    assert_eq!(rt;
+        usage(alloc, &Usage::NotPair(1))?.as_slice(),
+        b"words: word 1 is no pair\n".as_slice()
+    );
+    assert_eq!(rt;
+        usage(alloc, &Usage::UnknownKey(2))?.as_slice(),
+        b"words: unknown key in word 2\n".as_slice()
+    );
+    assert_eq!(rt;
+        usage(alloc, &Usage::Repeated(3))?.as_slice(),
+        b"words: repeated key in word 3\n".as_slice()
+    );
+    assert_eq!(rt;
+        usage(alloc, &Usage::BadValue(3))?.as_slice(),
+        b"words: bad value in word 3\n".as_slice()
+    );
+    assert_eq!(rt;
+        usage(alloc, &Usage::Missing(Key::Trace))?.as_slice(),
+        b"words: missing trace\n".as_slice()
+    );
+    assert_eq!(rt;
+        usage(alloc, &Usage::SameName)?.as_slice(),
+        b"words: same name\n".as_slice()
+    );
+    Ok(())
+}
+
+#[test]
+fn refused_files(rt: HostRuntime) -> Result<(), Fail> {
+    let alloc = rt.alloc();
+    assert_eq!(rt;
+        spec_too_long(alloc)?.as_slice(),
+        b"spec: more than 1048576 bytes\n".as_slice()
+    );
+    assert_eq!(rt;
+        lex_refused(alloc, &LexFault::NumberTooLarge(7))?.as_slice(),
+        b"spec: number too large at byte 7\n".as_slice()
+    );
+    assert_eq!(rt;
+        parse_refused(alloc, &ParseFault::Syntax(40))?.as_slice(),
+        b"spec: syntax at byte 40\n".as_slice()
+    );
+    assert_eq!(rt;
+        refused(alloc, &Refusal::Unguarded(32))?.as_slice(),
+        b"spec: unguarded call at byte 32\n".as_slice()
+    );
+    assert_eq!(rt;
+        refused(alloc, &Refusal::TooManyClocks(1025))?.as_slice(),
+        b"spec: 1025 clocks, at most 1024\n".as_slice()
+    );
+    assert_eq!(rt;
+        refused(alloc, &Refusal::StateTooLarge(34040))?.as_slice(),
+        b"spec: 34040 cells, at most 32768\n".as_slice()
+    );
+    assert_eq!(rt;
+        cert_refused(alloc, &CertFault::UnknownName(6))?.as_slice(),
+        b"certificate: unknown name at byte 6\n".as_slice()
+    );
+    assert_eq!(rt;
+        cert_too_long(alloc)?.as_slice(),
+        b"certificate: more than 68719476736 bytes\n".as_slice()
+    );
+    Ok(())
+}
+
+#[test]
+fn lines_on_a_system(rt: HostRuntime) -> Result<(), Fail> {
+    let alloc = rt.alloc();
+    let Some(system) = system(alloc)? else {
+        assert!(rt; false, "the system is not accepted");
+        return Ok(());
+    };
+    assert_eq!(rt;
+        checked(alloc, &system)?.as_slice(),
+        b"check: accepted, declared 2, defined 1, constraints 2, cells 6\n".as_slice()
+    );
+    if system.items() == 3 {
+        assert_eq!(rt;
+            run_no(alloc, 2, 6, 1, &system)?.as_slice(),
+            b"run: no, step 2, time 6, constraint 0\n".as_slice()
+        );
+        assert_eq!(rt;
+            cert_no_run(alloc, 1, 1, 2, &system)?.as_slice(),
+            b"certificate: no, step 1, time 1, constraint 1 of alternates@1\n".as_slice()
+        );
+    }
+    Ok(())
+}
+
+#[test]
+fn lines_on_traces(rt: HostRuntime) -> Result<(), Fail> {
+    let alloc = rt.alloc();
+    let Some(system) = system(alloc)? else {
+        assert!(rt; false, "the system is not accepted");
+        return Ok(());
+    };
+    let back = VcdFault::TimeBack {
+        at: 71,
+        present: 7,
+        time: 5,
+    };
+    assert_eq!(rt;
+        trace_refused(alloc, &back, &system)?.as_slice(),
+        b"trace: time goes back from 7 to 5 at byte 71\n".as_slice()
+    );
+    assert_eq!(rt;
+        trace_refused(alloc, &VcdFault::Gap { at: 74 }, &system)?.as_slice(),
+        b"trace: gap at byte 74\n".as_slice()
+    );
+    let mut out = Vec::new(alloc);
+    out.reserve(judge_room(&system))?;
+    put_trace_fault(&VcdFault::Truncated { at: 76 }, &system, &mut out);
+    assert_eq!(rt; out.as_slice(), b"trace: truncated at byte 76\n".as_slice());
+    if system.names().len() == 3 {
+        assert_eq!(rt;
+            trace_refused(alloc, &VcdFault::Unbound { clock: 1 }, &system)?.as_slice(),
+            b"trace: unbound clock b\n".as_slice()
+        );
+    }
+    Ok(())
+}
+
+#[test]
+fn the_line_of_a_run_needs_64_bytes(rt: HostRuntime) -> Result<(), Fail> {
+    let mut out = Vec::new(rt.alloc());
+    out.reserve(64)?;
+    put_run(18446744073709551615, &mut out);
+    assert_eq!(rt;
+        out.as_slice(),
+        b"run: yes, 18446744073709551615 steps\n".as_slice()
+    );
+    Ok(())
+}
