@@ -1,7 +1,7 @@
 -- Tokens in the body of a trace.
-use Rattle.std.proofs.Common.{◌≡◌, ℕ, ◌-◌, ◌≤◌, List, [], ◌∷◌, length, take, drop, cond, None, sym, ap, ◌∙◌, arith, nat_eq, slice_index_or}
+use Rattle.std.proofs.Common.{◌≡◌, ℕ, ◌-◌, ◌^◌, ◌≤◌, List, [], ◌∷◌, length, take, drop, cond, None, sym, ap, ◌∙◌, arith, nat_eq, slice_index_or}
 use Rattle.ccsl_top.specs.Trace.{Reading, change_says, changed, timed}
-use Rattle.ccsl_top.specs.Numbers.{number_of}
+use Rattle.ccsl_base.specs.Decimal.{number_up_to}
 use Rattle.std.proofs.lemmas.List.{take_all}
 use Rattle.std.proofs.lemmas.Bool.{eq-eqb, ne_eqb}
 
@@ -13,6 +13,6 @@ pub change_says-tick : (names : List (List ℕ)) (r : Reading) (text : List ℕ)
     change_says names r text ≡ changed names r (take (length text - 1) (drop 1 text))
 change_says-tick names r [] l e = absurd (omega arith)
 change_says-tick names r (b ∷ bs) l e =
-    ap (λ t. cond t (timed r (number_of bs)) (cond (nat_eq b 49) (changed names r bs) None)) (ne_eqb b 35 (λ q. omega arith))
+    ap (λ t. cond t (timed r (number_up_to (2 ^ 64 - 1) bs)) (cond (nat_eq b 49) (changed names r bs) None)) (ne_eqb b 35 (λ q. omega arith))
     ∙ ap (λ t. cond t (changed names r bs) None) (eq-eqb b 49 e)
     ∙ ap (changed names r) (sym (behind_first b bs))

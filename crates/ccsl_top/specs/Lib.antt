@@ -1,5 +1,4 @@
 pub mod Words
-pub mod Numbers
 pub mod Trace
 pub mod Specification
 pub mod Judged

@@ -3,7 +3,7 @@
 --     $enddefinitions $end
 --     #TIME 1CODE 1CODE ..               any number of times, each time greater than the one before
 -- The table goes token by token. What it has read is a record; `None` stands for a trace of another form.
-use Rattle.std.specs.Prelude.{ℕ, List, [], ◌∷◌, ◌++◌, length, Bool, true, false, not, ◌&&◌, ◌||◌, Option, Some, None, is_none, nat_eq, nat_lt, nat_le, slice_get, codes, if◌then◌else◌}
+use Rattle.std.specs.Prelude.{ℕ, ◌-◌, ◌^◌, List, [], ◌∷◌, ◌++◌, length, Bool, true, false, not, ◌&&◌, ◌||◌, Option, Some, None, is_none, nat_eq, nat_lt, nat_le, slice_get, codes, if◌then◌else◌}
 use Rattle.std.specs.List.{list_all, find, fold}
 use Rattle.std.specs.Str.{bytes_eq}
 use Rattle.ccsl_base.specs.Clocks.{with_clock}
@@ -14,7 +14,7 @@ use Rattle.ccsl_vcd_lex.specs.Tokens.{Heard, word, too_long, heard}
 use Rattle.ccsl_top.specs.declared.trace.Dump.{Dump}
 use Rattle.ccsl_top.specs.declared.trace.Place.{Place}
 use Rattle.ccsl_top.specs.declared.trace.Place.TheVariants.{Commands, Variable, Closing, Changes}
-use Rattle.ccsl_top.specs.Numbers.{number_of}
+use Rattle.ccsl_base.specs.Decimal.{number_up_to}
 
 pub record Reading : Type 0 where
   -- where the next token stands
@@ -115,7 +115,7 @@ changed names r code = changed_at names r r.present (find_name code r.codes_of)
 abbrev pub change_says : List (List ℕ) → Reading → List ℕ → Option Reading
 change_says names r [] = None
 change_says names r (b ∷ bs) =
-    if nat_eq b 35 then timed r (number_of bs) else if nat_eq b 49 then changed names r bs else None
+    if nat_eq b 35 then timed r (number_up_to (2 ^ 64 - 1) bs) else if nat_eq b 49 then changed names r bs else None
 
 abbrev pub command_says : Reading → List ℕ → Option Reading
 command_says r text =

@@ -3,7 +3,6 @@
 
 mod files;
 mod judge;
-mod number;
 pub mod program;
 mod reply;
 mod specification;

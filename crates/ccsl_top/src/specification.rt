@@ -1,12 +1,13 @@
 //! Specifications of the form that this version reads, token by token.
 
 ghost use Rattle.std.specs.Prelude.{◌≡◌, ◌<◌, ◌≤◌, IfOk, IfSome, OnOk, Some, None, if◌then◌else◌, length, map, MatchOption};
+ghost use Rattle.ccsl_base.specs.declared.limits.TheConstants.{MAX_CLOCKS, MAX_CONSTRAINTS};
 ghost use Rattle.ccsl_base.specs.Names.{find_name};
 ghost use Rattle.ccsl_top.specs.declared.specification.Line.TheVariants.{NameEnd};
 ghost use Rattle.ccsl_top.specs.Specification.{no_spec, after_word, with_name, with_left, with_right, after_name, with_constraint, after_symbol, after_number, token_says, may_name, spec_from, done_at, HasNoTokens, IsSpecification, IsNoSpecification};
 ghost use Rattle.ccsl_lex.specs.Tokens.{AreTokens, plain_token};
 
-use ccsl_base::{MAX_CLOCKS, Memory, Names, Seq, Text};
+use ccsl_base::{MAX_CLOCKS, MAX_CONSTRAINTS, Memory, Names, Seq, Text};
 use ccsl_kernel::{Constraint, RelationKind};
 use ccsl_lex::{LexFault, Reserved, Token, TokenKind};
 use std::alloc::Global;
@@ -30,9 +31,6 @@ pub enum Line {
     Done,
 }
 
-/// The most constraints of a specification.
-const MAX_CONSTRAINTS: usize = 4096;
-
 /// What the tokens so far say.
 #[derive(Drop)]
 pub(crate) struct SpecReader {
@@ -46,6 +44,7 @@ pub(crate) struct SpecReader {
 
 impl Model for SpecReader {
     ghost use Rattle.std.specs.Prelude.{◌≤◌, length};
+    ghost use Rattle.ccsl_base.specs.declared.limits.TheConstants.{MAX_CLOCKS, MAX_CONSTRAINTS};
     ghost use Rattle.ccsl_top.specs.Specification.{Spec};
 
     ghost Value = { Spec };
@@ -58,7 +57,7 @@ impl Model for SpecReader {
       constraints = r.constraints.items;
     } };
 
-    ghost invariant = { λ r. (length r.names ≤ 64) × (length r.constraints.items ≤ 4096) };
+    ghost invariant = { λ r. (length r.names ≤ MAX_CLOCKS) × (length r.constraints.items ≤ MAX_CONSTRAINTS) };
 }
 
 fn after_word(place: Line, word: Reserved) -> Option<Line>
@@ -212,7 +211,7 @@ impl SpecReader {
     fn end_constraint(&mut self) -> Result<bool, Memory>
         ensures { IfOk result (λ taken. with_constraint self.old ≡ (if taken then Some self.new else None)) }
     {
-        if self.constraints.len() >= MAX_CONSTRAINTS {
+        if self.constraints.len() >= MAX_CONSTRAINTS as usize {
             return Ok(false);
         }
         self.constraints.push(Constraint {
@@ -231,8 +230,8 @@ impl SpecReader {
 pub(crate) struct Specification {
     pub names: Names,
     pub constraints: Seq<Constraint>,
-    ghost few_clocks: { length names ≤ 64 },
-    ghost few_constraints: { length constraints ≤ 4096 },
+    ghost few_clocks: { length names ≤ MAX_CLOCKS },
+    ghost few_constraints: { length constraints ≤ MAX_CONSTRAINTS },
 }
 
 impl SpecReader {

@@ -3,12 +3,11 @@
 ghost use Rattle.std.specs.Prelude.{◌≡◌, ◌<◌, ◌≤◌, IfOk, IfSome, OnOk, Some, None, if◌then◌else◌, length, nat_le, ◌&&◌};
 ghost use Rattle.std.specs.List.{list_all};
 ghost use Rattle.ccsl_top.specs.declared.trace.Place.TheVariants.{Changes};
-ghost use Rattle.ccsl_top.specs.Numbers.{number_of};
+ghost use Rattle.ccsl_base.specs.Decimal.{number_up_to};
 ghost use Rattle.ccsl_vcd_lex.specs.Lexing.{named};
 ghost use Rattle.ccsl_top.specs.Trace.{reading_from, is_later, before_all, may_declare, declared, with_tick, says, command_says, variable_says, declared_by, change_says, timed, changed, is_end, is_visible, is_code, rows_so_far, ended_at, trace_of};
 
-use crate::number::number;
-use ccsl_base::{ClockSet, MAX_CLOCKS, Memory, Names, Row, Seq, Text};
+use ccsl_base::{ClockSet, MAX_CLOCKS, Memory, Names, Row, Seq, Text, decimal};
 use ccsl_vcd_lex::{Span, Tokenizer};
 use std::alloc::Global;
 use std::marker::Model;
@@ -221,9 +220,9 @@ impl TraceReader {
     }
 
     fn take_time(&mut self, digits: &[u8]) -> Result<bool, Memory>
-        ensures { IfOk result (λ taken. timed self.old (number_of digits.now) ≡ (if taken then Some self.new else None)) }
+        ensures { IfOk result (λ taken. timed self.old (number_up_to u64.MAX digits.now) ≡ (if taken then Some self.new else None)) }
     {
-        let Some(time) = number(digits) else {
+        let Some(time) = decimal(digits, u64::MAX) else {
             return Ok(false);
         };
         if !self.is_later(time) {

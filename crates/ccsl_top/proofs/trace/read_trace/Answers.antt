@@ -10,7 +10,7 @@ none : (names : List (List ℕ)) (bytes : List ℕ) → length bytes ≤ 1677721
 none names bytes l e = sym (trace_of-within names bytes l ∙ ap ended e)
 
 pub pieces-init : goal.pieces-init
-pieces-init c = (rw c.new-reader.ensures (read-none c.args.names.now c.args.bytes.now c.in_ok-tokenizer.tokenizer c.in_ok-tokenizer.ensures), c.if-bytes-gt-MAX_TRACE.false)
+pieces-init c = (rw c.new-reader.ensures (read-none c.args.names.now c.args.bytes.now c.in_ok-tokenizer.tokenizer c.in_ok-tokenizer.ensures.stands), c.if-bytes-gt-MAX_TRACE.false)
 
 pub returns-in-Err : goal.returns-in-Err
 returns-in-Err c =
