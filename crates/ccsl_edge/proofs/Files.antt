@@ -39,7 +39,7 @@ find_push_first p (x ∷ xs) y none passes =
     (elim (p x) as (λ b. cond b (Some x) (find p xs) ≡ None → cond b (Some x) (find p (xs ++ y ∷ [])) ≡ Some y)
     [ true ↦ λ found. cc | false ↦ λ h. find_push_first p xs y h passes ]) none
 
-position-None : {X : Type 0} (p : X → Bool) (xs : List X) → position p xs ≡ None → find p xs ≡ None
+pub position-None : {X : Type 0} (p : X → Bool) (xs : List X) → position p xs ≡ None → find p xs ≡ None
 position-None p xs none =
     find_at p xs
     ∙ slice_get_past xs (position_or_len p xs)

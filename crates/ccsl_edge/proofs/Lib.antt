@@ -6,3 +6,4 @@ pub mod Reading
 pub mod Slots
 pub mod Untold
 pub mod Writing
+pub mod Sources

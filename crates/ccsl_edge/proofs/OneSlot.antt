@@ -3,7 +3,7 @@ use Rattle.std.proofs.Common.{◌≡◌, ℕ, ◌<◌, ◌≤◌, List, ◌++◌
 use Rattle.std.proofs.lemmas.List.{get_or_default, nil_from_length}
 use Rattle.ccsl_edge.specs.declared.slot.Slot.{Slot}
 use Rattle.ccsl_edge.specs.Slots.{index_of}
-use Rattle.ccsl_edge.specs.World.{SlotState, State, Rose, risen}
+use Rattle.ccsl_edge.specs.World.{SlotState, State, Told, Rose, risen}
 use Rattle.ccsl_edge.specs.Calls.{ChangesOnly, Fails, Takes, Adds}
 use Rattle.ccsl_edge.specs.SlotTable.{slot_in, unused}
 use Rattle.ccsl_edge.specs.Memory.{tells_all}
@@ -48,14 +48,14 @@ Fails-at files slots slot i d now at long after rose =
     }
 
 -- one slot has less left
-pub Takes-at : (files : List (List ℕ × List ℕ)) (slots : List SlotState) (slot : Slot) (i : ℕ) (d now : SlotState)
+pub Takes-at : (told : Told) (files : List (List ℕ × List ℕ)) (slots : List SlotState) (slot : Slot) (i : ℕ) (d now : SlotState)
     (count most room : ℕ) (buf : List ℕ)
     → i ≡ index_of slot → length slots ≡ 7
     → now ≡ record (get_or slots i d) { left = drop count (get_or slots i d).left }
     → take count buf ≡ take count (get_or slots i d).left
     → 1 ≤ most → 0 < room → length buf ≡ room → count ≡ min most (min room (length (get_or slots i d).left))
-    → Takes tells_all slot count (state_of files slots) (state_of files (set slots i now)) buf
-Takes-at files slots slot i d now count most room buf at long after moved some more has counted =
+    → Takes told slot count (state_of files slots) (state_of files (set slots i now)) buf
+Takes-at told files slots slot i d now count most room buf at long after moved some more has counted =
     let sets = SetsSlot-at files slots slot i d now at long in
     record {
       within = omega arith;

@@ -4,3 +4,4 @@ pub mod Calls
 pub mod SlotTable
 pub mod Memory
 pub mod FileSystem
+pub mod Steady

@@ -78,7 +78,7 @@ pub(crate) fn store(
 }
 
 /// The place of the first file of this name.
-fn position_of(files: &[HeldFile], name: &str) -> Option<usize>
+pub(crate) fn position_of(files: &[HeldFile], name: &str) -> Option<usize>
     ensures { result ≡ position (λ file. bytes_eq file.0 name.now) files.now }
 {
     files.iter().position(|file| file.is_named(name))

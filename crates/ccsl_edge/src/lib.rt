@@ -9,6 +9,7 @@ pub mod memory;
 pub(crate) mod place;
 pub mod plan;
 pub mod slot;
+pub mod steady;
 pub mod whole;
 pub mod world;
 
@@ -17,8 +18,13 @@ pub use held::HeldFile;
 pub use memory::MemoryWorld;
 pub use plan::CallKind;
 pub use slot::Slot;
+pub use steady::SteadyWorld;
 pub use whole::{ReadFault, read_all, write_all};
 pub use world::{Failed, World};
 
 #[cfg(test)]
+mod fake;
+#[cfg(test)]
 mod tests;
+#[cfg(test)]
+mod tests_failed;

@@ -39,6 +39,16 @@ impl Model for Place {
     ghost invariant = { λ p. p.taken ≤ length p.input.items };
 }
 
+/// Moves at most so many of the bytes that are left to the front of a buffer.
+pub(crate) fn move_front(left: &[u8], most: usize, buf: &mut [u8]) -> usize
+    ensures count { result ≡ min most (min (length buf.old) (length left.now)) }
+    ensures moved { take result buf.new ≡ take result left.now }
+{
+    let count = most.min(buf.len().min(left.len()));
+    buf[..count].copy_from_slice(&left[..count]);
+    count
+}
+
 impl Place {
     pub(crate) fn new(alloc: Global, is_open: bool) -> Place
         ensures { result ≡ unused is_open }
@@ -83,9 +93,7 @@ impl Place {
         ensures moved { take result buf.new ≡ take result self.old.left }
         ensures rest { self.new ≡ record self.old { left = drop result self.old.left } }
     {
-        let left = &self.input[self.taken..];
-        let count = most.min(buf.len().min(left.len()));
-        buf[..count].copy_from_slice(&left[..count]);
+        let count = move_front(&self.input[self.taken..], most, buf);
         self.taken += count;
         count
     }

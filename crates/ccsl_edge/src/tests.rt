@@ -1,7 +1,8 @@
 //! The worlds at work: what a proof can't see of them.
 
 use crate::{
-    CallKind, Failed, FileWorld, HeldFile, MemoryWorld, ReadFault, Slot, World, read_all, write_all,
+    CallKind, Failed, FileWorld, HeldFile, MemoryWorld, ReadFault, Slot, SteadyWorld, World,
+    read_all, write_all,
 };
 use std::alloc::{AllocError, Global};
 use std::test::Fail;
@@ -98,6 +99,41 @@ fn holds_files_by_name(rt: HostRuntime) -> Result<(), Fail> {
     }
     assert_eq!(rt; world.file("once"), Some(b"xyz".as_slice()));
     assert_eq!(rt; world.written(Slot::Spec).len(), 0);
+    Ok(())
+}
+
+#[test]
+fn steady_files_are_read_again(rt: HostRuntime) -> Result<(), Fail> {
+    let mut world = SteadyWorld::new(three_files(rt.alloc())?, 4);
+    for _ in 0..2 {
+        world.open_in(Slot::Trace, "twice")?;
+        let all = read_all(rt.alloc(), &mut world, Slot::Trace, 9)?;
+        assert_eq!(rt; all.as_slice(), b"abcdef".as_slice());
+    }
+    world.open_in(Slot::Cert, "absent")?;
+    assert_eq!(rt; read_all(rt.alloc(), &mut world, Slot::Cert, 9)?.len(), 0);
+    Ok(())
+}
+
+#[test]
+fn steady_output_is_taken(rt: HostRuntime) -> Result<(), Fail> {
+    let mut world = SteadyWorld::new(three_files(rt.alloc())?, 4);
+    write_all(&mut world, Slot::Report, b"some bytes")?;
+    world.open_out(Slot::TraceOut, "once")?;
+    write_all(&mut world, Slot::TraceOut, b"some bytes")?;
+    world.close_out(Slot::TraceOut)?;
+    Ok(())
+}
+
+fn may_be_shared<T: Send + Sync>(_value: &T) {}
+
+#[test]
+fn worlds_may_be_shared_by_threads(rt: HostRuntime) -> Result<(), Fail> {
+    let files = vec![in rt.alloc()]?;
+    may_be_shared(&SteadyWorld::new(files, 1));
+    let (files, failing) = (vec![in rt.alloc()]?, vec![in rt.alloc()]?);
+    may_be_shared(&MemoryWorld::new(rt.alloc(), files, failing, 1));
+    may_be_shared(&FileWorld::new(&rt));
     Ok(())
 }
 

@@ -45,7 +45,7 @@ impl From<AllocError> for ReadFault {
 const BUFFER: u64 = 65536;
 
 /// Reads all the bytes that an input slot has left. It asks the world for no byte behind the first one that is
-/// past the limit, and takes memory by what it reads.
+/// past the limit. It takes memory for a buffer of at most 64 KiB, and for what it reads.
 pub fn read_all<W: World>(
     alloc: Global,
     world: &mut W,
