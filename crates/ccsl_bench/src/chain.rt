@@ -66,8 +66,16 @@ fn formulas(alloc: Global, clocks: u32, named: u32, counts: &[u64]) -> Result<Ve
         let before = count_of(counts, i);
         let after = count_of(counts, i + 1);
         let later = count_of(counts, next);
-        add(named, &mut items, delayed(alloc, named, next, i, before > 0)?)?;
-        add(named, &mut items, held(alloc, named, i + 1, before == after)?)?;
+        add(
+            named,
+            &mut items,
+            delayed(alloc, named, next, i, before > 0)?,
+        )?;
+        add(
+            named,
+            &mut items,
+            held(alloc, named, i + 1, before == after)?,
+        )?;
         add(named, &mut items, held(alloc, named, next, after == later)?)?;
     }
     Ok(items)

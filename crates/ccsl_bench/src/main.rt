@@ -34,11 +34,7 @@ fn asked(words: &[String]) -> Option<Command> {
     let size = words.get(1)?.as_str().parse::<u32>().ok()?;
     let times = words.get(2)?.as_str().parse::<u64>().ok()?;
     match name {
-        "chain" => Some(Command::Chain(
-            size,
-            times,
-            policy(words.get(3)?.as_str())?,
-        )),
+        "chain" => Some(Command::Chain(size, times, policy(words.get(3)?.as_str())?)),
         "pigeons" => Some(Command::Pigeons(size, times)),
         "check" => Some(Command::Check(size, times)),
         _ => None,

@@ -121,7 +121,7 @@ fn put_relation(
 fn put_group(page: &mut Page, members: &[Member]) -> Result<(), Memory>
     ensures { OnOk result (page.new ≡ lines_after page.old
         (outer (t.word Reserved.Expression
-            ∷ (members_tokens (map plain_member members.now) ++ t.symbol 59 ∷ []))
+        ∷ (members_tokens (map plain_member members.now) ++ t.symbol 59 ∷ []))
         ∷ [])) }
 {
     page.begin_line(false)?;
