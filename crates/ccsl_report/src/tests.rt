@@ -260,3 +260,169 @@ fn the_line_of_a_run_needs_64_bytes(rt: HostRuntime) -> Result<(), Fail> {
     );
     Ok(())
 }
+
+#[test]
+fn kinds_of_refused_specifications(rt: HostRuntime) -> Result<(), Fail> {
+    let alloc = rt.alloc();
+    assert!(rt;
+        is(
+            lex_refused(alloc, &LexFault::BadByte(2)),
+            "spec: bad byte at byte 2\n"
+        )
+    );
+    assert!(rt;
+        is(
+            lex_refused(alloc, &LexFault::NameTooLong(8)),
+            "spec: name too long at byte 8\n"
+        )
+    );
+    assert!(rt;
+        is(
+            lex_refused(alloc, &LexFault::OpenText(9)),
+            "spec: open text at byte 9\n"
+        )
+    );
+    assert!(rt;
+        is(
+            parse_refused(alloc, &ParseFault::TooDeep(7)),
+            "spec: too deep at byte 7\n"
+        )
+    );
+    assert!(rt;
+        is(
+            refused(alloc, &Refusal::Duplicate(1)),
+            "spec: duplicate name at byte 1\n"
+        )
+    );
+    assert!(rt;
+        is(
+            refused(alloc, &Refusal::Unknown(2)),
+            "spec: unknown name at byte 2\n"
+        )
+    );
+    assert!(rt;
+        is(
+            refused(alloc, &Refusal::Later(3)),
+            "spec: later name at byte 3\n"
+        )
+    );
+    assert!(rt;
+        is(
+            refused(alloc, &Refusal::WrongKind(4)),
+            "spec: wrong kind at byte 4\n"
+        )
+    );
+    assert!(rt;
+        is(
+            refused(alloc, &Refusal::TooTall(5)),
+            "spec: too tall at byte 5\n"
+        )
+    );
+    assert!(rt;
+        is(
+            refused(alloc, &Refusal::Arguments(6)),
+            "spec: wrong arguments at byte 6\n"
+        )
+    );
+    assert!(rt;
+        is(
+            refused(alloc, &Refusal::BadWord(7)),
+            "spec: bad word at byte 7\n"
+        )
+    );
+    assert!(rt;
+        is(
+            refused(alloc, &Refusal::TooManyConstraints(4097)),
+            "spec: 4097 constraints, at most 4096\n"
+        )
+    );
+    assert!(rt;
+        is(
+            cert_refused(alloc, &CertFault::Syntax(2)),
+            "certificate: syntax at byte 2\n"
+        )
+    );
+    Ok(())
+}
+
+#[test]
+fn kinds_of_refused_traces(rt: HostRuntime) -> Result<(), Fail> {
+    let alloc = rt.alloc();
+    let Some(system) = system(alloc)? else {
+        assert!(rt; false, "the system is not accepted");
+        return Ok(());
+    };
+    let of = |fault: VcdFault, wanted: &str| is(trace_refused(alloc, &fault, &system), wanted);
+    assert!(rt;
+        of(
+            VcdFault::TokenTooLong { at: 1 },
+            "trace: token too long at byte 1\n"
+        )
+    );
+    assert!(rt;
+        of(
+            VcdFault::BadHeader { at: 2 },
+            "trace: bad header at byte 2\n"
+        )
+    );
+    assert!(rt;
+        of(
+            VcdFault::TooManyVars { at: 3 },
+            "trace: too many variables at byte 3\n"
+        )
+    );
+    assert!(rt; of(VcdFault::TooDeep { at: 4 }, "trace: too deep at byte 4\n"));
+    assert!(rt; of(VcdFault::BadTime { at: 5 }, "trace: bad time at byte 5\n"));
+    assert!(rt;
+        of(
+            VcdFault::BadChange { at: 6 },
+            "trace: bad change at byte 6\n"
+        )
+    );
+    assert!(rt;
+        of(
+            VcdFault::UnknownCode { at: 7 },
+            "trace: unknown code at byte 7\n"
+        )
+    );
+    assert!(rt;
+        of(
+            VcdFault::UnknownCommand { at: 8 },
+            "trace: unknown command at byte 8\n"
+        )
+    );
+    assert!(rt;
+        of(
+            VcdFault::Truncated { at: 9 },
+            "trace: truncated at byte 9\n"
+        )
+    );
+    assert!(rt; of(VcdFault::TooLong { at: 10 }, "trace: too long at byte 10\n"));
+    Ok(())
+}
+
+#[test]
+fn clocks_and_definitions_by_name(rt: HostRuntime) -> Result<(), Fail> {
+    let alloc = rt.alloc();
+    let Some(system) = system(alloc)? else {
+        assert!(rt; false, "the system is not accepted");
+        return Ok(());
+    };
+    if system.names().len() == 3 && system.items() == 3 {
+        let ambiguous = trace_refused(alloc, &VcdFault::Ambiguous { clock: 0 }, &system);
+        assert!(rt; is(ambiguous, "trace: ambiguous clock a\n"));
+        let hidden = run_no(alloc, 0, 0, 0, &system);
+        assert!(rt;
+            is(
+                hidden,
+                "run: no, step 0, time 0, definition alternates@1.next\n"
+            )
+        );
+        let mut out = Vec::new(alloc);
+        out.reserve(judge_room(&system))?;
+        put_no_run(3, 40, 2, &system, &mut out);
+        let line = b"run: no, step 3, time 40, constraint 1 of alternates@1\n";
+        assert!(rt; out.as_slice() == line.as_slice());
+    }
+    Ok(())
+}
