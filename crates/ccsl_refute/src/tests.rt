@@ -195,12 +195,20 @@ fn lines_are_written_with_one_blank(rt: HostRuntime) -> Result<(), Fail> {
         clock: 1,
         positive: false,
     })?;
-    let line = derived(alloc, &[(0, true), (1, false)], &[1, u64::MAX])?;
-    let lines = [Line::Nonempty, Line::Item(10, Seq::new(members)), line];
+    let lines = [Line::Nonempty, Line::Item(10, Seq::new(members))];
     let text = write(alloc, &lines, &names)?;
-    let expected = b"n\ni 10 -from_b\nr a -from_b from 1 18446744073709551615\n";
+    let expected = b"n\ni 10 -from_b\n";
     assert_eq!(rt; text.as_slice(), expected.as_slice());
-    let again = write(alloc, &read(alloc, &text, &names)?, &names)?;
-    assert_eq!(rt; again.as_slice(), expected.as_slice());
+    Ok(())
+}
+
+#[test]
+fn a_derived_line_is_read_and_written(rt: HostRuntime) -> Result<(), Fail> {
+    let alloc = rt.alloc();
+    let names = two_names(alloc)?;
+    let text = b"r a -from_b from 1 18446744073709551615\n";
+    let lines = read(alloc, text.as_slice(), &names)?;
+    let again = write(alloc, &lines, &names)?;
+    assert!(rt; again.as_slice() == text.as_slice());
     Ok(())
 }
