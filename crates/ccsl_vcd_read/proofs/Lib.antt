@@ -7,6 +7,7 @@ pub mod HeadPictures
 pub mod Openings
 pub mod StagePictures
 pub mod Taking
-pub mod Faults
+pub mod Calm
+mod Faults
 pub mod Feeding
 pub mod Ending

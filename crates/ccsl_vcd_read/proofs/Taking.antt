@@ -62,6 +62,10 @@ same-shown wanted limits (stage.Header h) st x = sym (ap (λ (y : Story). shown_
 same-shown wanted limits (stage.Body b) st x = sym (ap (λ (y : Story). shown_at y.place) x.told)
 same-shown wanted limits stage.Unbound st x = absurd x
 
+-- the header has ended where a body is kept
+pub runs-past : (wanted : Wanted) (v : Reading) (bytes : List ℕ) → Running wanted v bytes → past_header wanted v.limits bytes ≡ is_body v.stage
+runs-past wanted v bytes s = ap (λ (x : Story). is_past x.place) (so_far-within wanted v.limits bytes s.within) ∙ same-past wanted v.limits v.stage (story wanted v.limits (settled bytes)) s.pictures
+
 -- what the tokenizer made of more bytes
 pub record Fed (v : Reading) (lx : lexer.Lexing) (bytes more : List ℕ) (n : ℕ) (hs : List Said) : Type 0 where
   pub lexes : lexer.StandsFor lx more
@@ -144,7 +148,7 @@ module _ (wanted : Wanted) (v : Reading) (lx : lexer.Lexing) (bytes more : List 
   }
 
   past-before : past_header wanted v.limits bytes ≡ is_body v.stage
-  past-before = ap (λ (x : Story). is_past x.place) (so_far-within wanted v.limits bytes s.within) ∙ same-past wanted v.limits v.stage (story wanted v.limits (settled bytes)) s.pictures
+  past-before = runs-past wanted v bytes s
 
   past-after : (t : Stage) (ended : Bool) (old new : List Row) → Token t ended old new → past_header wanted v.limits more ≡ is_body t
   past-after t ended old new h =

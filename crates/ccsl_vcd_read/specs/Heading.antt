@@ -179,3 +179,7 @@ Caused _ cause = cause
 
 abbrev pub IsMemory : VcdFault → Type 0
 IsMemory f = f ≡ faults.Memory
+
+abbrev pub NotMemory : VcdFault → Type 0
+NotMemory faults.Memory = ⊥
+NotMemory _ = Unit {0}

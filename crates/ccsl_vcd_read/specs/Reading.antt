@@ -10,7 +10,7 @@ use Rattle.ccsl_vcd.specs.Places as p
 use Rattle.ccsl_vcd.specs.Reading.{story, so_far, reading}
 use Rattle.ccsl_vcd.specs.Rows.{complete, done, recorded}
 use Rattle.ccsl_vcd_read.specs.declared.stage.Stage.{Stage}
-use Rattle.ccsl_vcd_read.specs.Heading.{Caused}
+use Rattle.ccsl_vcd_read.specs.Heading.{Caused, NotMemory}
 use Rattle.ccsl_vcd_read.specs.Staging.{Pictures, shown, shown_at, is_body}
 
 -- a reader as contracts see it
@@ -27,6 +27,10 @@ pub record Reading : Type 0 where
 abbrev pub FewRows : Bool → ℕ → ℕ → Type 0
 FewRows false rows taken = rows ≡ 0
 FewRows true rows taken = rows < taken
+
+-- the bound clocks as a reader shows them, once it has bound them
+abbrev pub shows : Reading → Option (List ℕ)
+shows v = shown v.stage
 
 pub record Running (wanted : Wanted) (v : Reading) (bytes : List ℕ) : Type 0 where
   pub lexes : lexer.StandsFor v.lexing bytes
@@ -71,6 +75,10 @@ is_past (p.body b) = true
 
 abbrev pub past_header : Wanted → Limits → List ℕ → Bool
 past_header wanted limits bytes = is_past (so_far wanted limits bytes).place
+
+-- once these bytes have ended the header, the fault is no want of memory
+abbrev pub IsCalm : Wanted → Limits → List ℕ → VcdFault → Type 0
+IsCalm wanted limits bytes f = past_header wanted limits bytes ≡ true → NotMemory f
 
 -- The header ends at the last of some bytes of a piece.
 pub record EndsHeader (wanted : Wanted) (limits : Limits) (bytes piece : List ℕ) (n : ℕ) : Type 0 where

@@ -7,9 +7,9 @@ ghost use Rattle.ccsl_vcd_lex.specs.Tokens.{token, word};
 ghost use Rattle.ccsl_vcd.specs.Reading.{so_far, reading, Story, next};
 ghost use Rattle.ccsl_vcd.specs.Rows.{complete, done, recorded};
 ghost use Rattle.ccsl_bind.specs.Collected.{wanted_of};
-ghost use Rattle.ccsl_vcd_read.specs.Heading.{Caused, Refuses};
-ghost use Rattle.ccsl_vcd_read.specs.Staging.{Pictures, Heard, row_left, shown, shown_at};
-ghost use Rattle.ccsl_vcd_read.specs.Reading.{StandsFor, Pushes, Decides, HeaderSo, IsFront, AtEnd, Refused, AreCounts};
+ghost use Rattle.ccsl_vcd_read.specs.Heading.{Caused, NotMemory, Refuses};
+ghost use Rattle.ccsl_vcd_read.specs.Staging.{Pictures, Heard, is_body, row_left, shown, shown_at};
+ghost use Rattle.ccsl_vcd_read.specs.Reading.{StandsFor, Pushes, Decides, HeaderSo, IsCalm, IsFront, shows, AtEnd, Refused, AreCounts};
 
 use crate::buffer::Buffer;
 use crate::command::Command;
@@ -68,6 +68,7 @@ impl Reader {
     /// A reader before the first byte of a trace, for the written clocks of a system.
     pub fn open(alloc: Global, system: &System, limits: &Limits) -> Result<Reader, Memory>
         ensures limits { IfOk result (λ r. r.limits ≡ limits.now) }
+        ensures runs { IfOk result (λ r. r.fault ≡ None) }
         ensures stands { IfOk result (λ r. StandsFor (wanted_of system.now) r []) }
     {
         let tokenizer = Tokenizer::open(alloc)?;
@@ -117,6 +118,7 @@ impl Reader {
         ensures refuses { IfErr result (λ f. Caused f ((wanted : Wanted) (st : Story) → Pictures wanted self.old.limits self.old.stage st →
             Refuses f st (next wanted self.old.limits st (word (token at self.old.lexing.last))))) }
         ensures stops { IfErr result (λ f. self.new ≡ record self.old { stage = self.new.stage; fault = Some f }) }
+        ensures calm { IfErr result (λ f. is_body self.old.stage ≡ true → NotMemory f) }
         ensures kept { OnErr result ((out.new ≡ out.old) × (shown self.new.stage ≡ shown self.old.stage)) }
         ensures room { out.new.room ≡ out.old.room }
     {
@@ -154,6 +156,7 @@ impl Reader {
         ensures decides { IfErr result (λ f. Caused f ((wanted : Wanted) (bytes : List ℕ) → StandsFor wanted self.old bytes →
             Decides wanted self.old.limits bytes piece.now f out.old.rows out.new.rows)) }
         ensures stops { IfErr result (λ f. self.new.fault ≡ Some f) }
+        ensures calm { IfErr result (λ f. is_body self.old.stage ≡ true → NotMemory f) }
         ensures still { OnErr result ((wanted : Wanted) (bytes : List ℕ) → StandsFor wanted self.old bytes →
             StandsFor wanted self.new (bytes ++ piece.now)) }
     {
@@ -212,6 +215,9 @@ impl Reader {
         // It is the fault of every file that begins with the bytes so far and this piece.
         ensures refuses { IfErr result (λ f. Caused f ((wanted : Wanted) (bytes more : List ℕ) → StandsFor wanted self.old bytes →
             (reading wanted self.old.limits (bytes ++ (piece.now ++ more))).fault ≡ Some f)) }
+        // Once the header has ended it is no want of memory.
+        ensures calm { IfErr result (λ f. IfNone self.old.fault ((wanted : Wanted) (bytes : List ℕ) → StandsFor wanted self.old bytes →
+            IsCalm wanted self.old.limits bytes f)) }
         ensures faulty { IfErr result (λ f. self.new.fault ≡ Some f) }
         ensures still { OnErr result ((wanted : Wanted) (bytes : List ℕ) → StandsFor wanted self.old bytes →
             StandsFor wanted self.new (bytes ++ piece.now)) }
@@ -255,6 +261,7 @@ impl Reader {
         ensures refuses { IfErr result (λ f. Caused f ((wanted : Wanted) (bytes : List ℕ) → StandsFor wanted self.old bytes →
             Refused wanted self.old bytes f)) }
         ensures stops { IfErr result (λ f. self.new.fault ≡ Some f) }
+        ensures calm { IfErr result (λ f. is_body self.old.stage ≡ true → NotMemory f) }
         ensures kept { OnErr result (out.new ≡ out.old) }
         ensures room { out.new.room ≡ out.old.room }
     {
@@ -278,12 +285,18 @@ impl Reader {
             Pushes (done wanted self.old.limits bytes) (recorded wanted self.old.limits bytes) out.old.rows out.new.rows) }
         ensures counts { IfOk result (λ n. (wanted : Wanted) (bytes : List ℕ) → StandsFor wanted self.old bytes →
             AreCounts wanted self.old.limits bytes n.rows n.bytes) }
+        // It shows the bound clocks, also where the end of the trace ended the header.
+        ensures shows { OnOk result ((wanted : Wanted) (bytes : List ℕ) → StandsFor wanted self.old bytes →
+            shows self.new ≡ shown_at (reading wanted self.old.limits bytes).place) }
 
         ensures refuses { IfErr result (λ f. Caused f ((wanted : Wanted) (bytes : List ℕ) → StandsFor wanted self.old bytes →
             (reading wanted self.old.limits bytes).fault ≡ Some f)) }
         // The rows that were pushed are those that the last token completes.
         ensures completes { IfErr result (λ f. IfNone self.old.fault (Caused f ((wanted : Wanted) (bytes : List ℕ) → StandsFor wanted self.old bytes →
             Pushes (done wanted self.old.limits bytes) (complete (reading wanted self.old.limits bytes)) out.old.rows out.new.rows))) }
+        // Once the header has ended it is no want of memory.
+        ensures calm { IfErr result (λ f. IfNone self.old.fault ((wanted : Wanted) (bytes : List ℕ) → StandsFor wanted self.old bytes →
+            IsCalm wanted self.old.limits bytes f)) }
         ensures faulty { IfErr result (λ f. self.new.fault ≡ Some f) }
         ensures sticks { IfSome self.old.fault (λ f. (result ≡ Err f) × (self.new ≡ self.old) × (out.new ≡ out.old)) }
     {
@@ -309,6 +322,7 @@ impl Reader {
 
     /// The bound clocks, once the header has ended and bound them.
     pub fn bound(&self) -> Option<&ClockSet>
+        ensures shows { option_copied result ≡ shows self.now }
         ensures runs { IfNone self.now.fault ((wanted : Wanted) (bytes : List ℕ) → StandsFor wanted self.now bytes →
             option_copied result ≡ shown_at (so_far wanted self.now.limits bytes).place) }
         ensures stopped { IfSome self.now.fault (λ f. Caused f ((wanted : Wanted) (bytes : List ℕ) → StandsFor wanted self.now bytes →

@@ -1,12 +1,12 @@
 //! The header, the body, and the step from one to the other.
 
-ghost use Rattle.std.specs.Prelude.{◌≡◌, ◌<◌, ◌≤◌, ◌+◌, ◌++◌, length, IfOk, IfErr, OnErr, None};
+ghost use Rattle.std.specs.Prelude.{◌≡◌, ◌<◌, ◌≤◌, ◌+◌, ◌++◌, length, IfOk, IfErr, OnErr, None, true};
 ghost use Rattle.std.specs.Option.{option_copied};
 ghost use Rattle.ccsl_vcd_lex.specs.Tokens.{token, word};
 ghost use Rattle.ccsl_vcd.specs.Binding.{Wanted};
 ghost use Rattle.ccsl_vcd.specs.Reading.{Story, next};
-ghost use Rattle.ccsl_vcd_read.specs.Heading.{Refuses, Caused};
-ghost use Rattle.ccsl_vcd_read.specs.Staging.{Pictures, Heard, IsClosing, Begins, row_left, shown, ends_well};
+ghost use Rattle.ccsl_vcd_read.specs.Heading.{Refuses, Caused, NotMemory};
+ghost use Rattle.ccsl_vcd_read.specs.Staging.{Pictures, Heard, IsClosing, Begins, row_left, shown, ends_well, is_body};
 
 use crate::body::{Body, give};
 use crate::heading::Heading;
@@ -63,6 +63,7 @@ pub(crate) fn hear(
     ensures refuses { IfErr result (λ f. Caused f ((wanted : Wanted) (st : Story) → Pictures wanted limits stage.old st →
         Refuses f st (next wanted limits st (word (token at text.now))))) }
     ensures kept { OnErr result ((out.new ≡ out.old) × (shown stage.new ≡ shown stage.old)) }
+    ensures calm { IfErr result (λ f. is_body stage.old ≡ true → NotMemory f) }
     ensures room { out.new.room ≡ out.old.room }
 {
     match stage {

@@ -7,6 +7,7 @@ use Rattle.ccsl_vcd_read.specs.Reading.{Reading, StandsFor, HeaderSo}
 use Rattle.ccsl_vcd_read.proofs.StagePictures.{caused-map}
 use Rattle.ccsl_vcd_read.proofs.Feeding.{starts, passes, more-stands, more-pushes, more-header, piece-decides, piece-refuses, piece-still, stays-stopped, all-refused, rest_at, if-none}
 use Rattle.ccsl_vcd_read.proofs.reader.Reader.feed.Goals as goal
+use Rattle.ccsl_vcd_read.proofs.Calm.{piece-calm}
 
 pub returns-in-Some-clause-refuses : goal.returns-in-Some-clause-refuses
 returns-in-Some-clause-refuses c =
@@ -97,3 +98,8 @@ returns-clause-pushes c = c.loop-from.invariant.pushes
 
 pub returns-clause-header : goal.returns-clause-header
 returns-clause-header c = c.loop-from.invariant.header
+
+pub returns-in-Err-clause-calm : goal.returns-in-Err-clause-calm
+returns-in-Err-clause-calm c =
+    if-none c.args.self.now.fault c.loop-from.invariant.old_runs
+    (piece-calm c.args.self.now c.loop-from.self c.args.out.now c.loop-from.out c.args.piece.now c.loop-from.from c.in-Err.fault c.loop-from.invariant c.in-Err.ensures.calm)

@@ -11,8 +11,9 @@ use Rattle.ccsl_vcd_read.proofs.HeadPictures.{weaken}
 use Rattle.ccsl_vcd_read.proofs.StagePictures.{caused-map}
 use Rattle.ccsl_vcd_read.proofs.Taking.{running-of}
 use Rattle.ccsl_vcd_read.proofs.Faults.{rows-fit}
-use Rattle.ccsl_vcd_read.proofs.Ending.{truncated, cut-pushes, accepted, end-pushes, end-counts, stopped-refuses, when-none, refused-pushes}
+use Rattle.ccsl_vcd_read.proofs.Ending.{truncated, end-shown, cut-pushes, accepted, end-pushes, end-counts, stopped-refuses, when-none, refused-pushes}
 use Rattle.ccsl_vcd_read.proofs.reader.Reader.finish.Goals as goal
+use Rattle.ccsl_vcd_read.proofs.Calm.{calm-of}
 
 pub returns-in-Some-clause-refuses : goal.returns-in-Some-clause-refuses
 returns-in-Some-clause-refuses c = stopped-refuses c.args.self.now c.in-Some.fault (ap (λ (x : Reading). x.fault) (sym c.self.view_is) ∙ c.in-Some.is)
@@ -58,3 +59,12 @@ returns-else-not-may_end-clause-counts c = λ wanted bytes t.
     (ap (λ (x : Reading). x.rows + (c.len.result - c.len-before.result)) c.self-in-Ok.view_is
     ∙ ap (λ k. c.last_token.new.self.rows + (k - c.len-before.result)) c.len.ensures ∙ ap (λ k. c.last_token.new.self.rows + (length c.give_left.new.out.rows - k)) c.len-before.ensures)
     (ap (λ (x : Reading). x.taken) c.self.view_is)
+
+pub returns-in-Err-clause-calm : goal.returns-in-Err-clause-calm
+returns-in-Err-clause-calm c =
+    when-none c.args.self.now.fault (λ none. λ (wanted : Wanted) (bytes : List ℕ) (t : StandsFor wanted c.args.self.now bytes).
+    calm-of wanted c.args.self.now bytes c.in-Err.fault none t c.in-Err.ensures.calm)
+
+pub returns-else-not-may_end-clause-shows : goal.returns-else-not-may_end-clause-shows
+returns-else-not-may_end-clause-shows c = λ wanted bytes t.
+    end-shown wanted c.args.self.now c.last_token.new.self bytes _ _ (c.in-Ok.ensures.ends wanted bytes t)

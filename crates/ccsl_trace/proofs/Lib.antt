@@ -1,0 +1,5 @@
+pub mod Binding
+pub mod Handing
+pub mod Passing
+pub mod Ending
+pub mod Follow
