@@ -1,0 +1,248 @@
+-- The tree that a region holds depends on its own cells alone.
+use Rattle.std.proofs.Common.{◌≡◌, ℕ, zero, suc, ◌+◌, ◌<◌, ◌≤◌, List, [], ◌∷◌, ◌++◌, length, map, take, drop, slice_index, max, min, Bool, true, false, Option, Some, None, nat_lt, nat_eq, if◌then◌else◌, refl, sym, ap, ap₂, subst, ◌∙◌, arith, ltb-true, ◌%◌, ◌^◌, ⊎_elim}
+use Rattle.std.proofs.lemmas.Bool.{eqb-true, eqb-false, cases_lt}
+use Rattle.std.proofs.lemmas.List.{length-take-le, take-take}
+use Rattle.ccsl_kernel.specs.declared.expr.ExprOp.{ExprOp}
+use Rattle.ccsl_kernel.specs.declared.expr.ExprOp.TheVariants as op
+use Rattle.ccsl_kernel.specs.declared.actual.Actual.{Actual}
+use Rattle.ccsl_kernel.specs.Syntax.{Expression, EName, ECall, ENever, EBinary, EDelay, EAwait, EFilter, EDelayed, EIf, Body, System, body_of}
+use Rattle.ccsl_kernel.specs.Actuals.{number_of, suffix_of, test_of, word_of}
+use Rattle.ccsl_kernel.specs.Cells.{cells_in, cells_of_two}
+use Rattle.ccsl_state.specs.Tree.{Tree, TNever, TOne, TTwo, Delaying, Awaiting, Filtering, Leading, Trailing, Ending, EndingWeakly, Sampling, SamplingWeakly, Lagging}
+use Rattle.ccsl_state.specs.Layout.{count_of, offset_of, flag_of, flag_at, bits_of, rotated, own_cells, two_at, then_at, words_of, lag_at, actual_of, read_in, read_body, read_call, read, region_of}
+use Rattle.ccsl_state.specs.Standing.{is_then, IsEnough}
+use Rattle.ccsl_state.specs.Nodes.{pair_at}
+use Rattle.ccsl_state.proofs.Pairs.{binary_pair}
+use Rattle.ccsl_state.proofs.Regions.{fewer, within, first_same, second_same, take_own}
+
+-- AN OPERATOR'S OWN CELLS, and those of both operands
+pub cells_pair : (o : ExprOp) (m n : ℕ) → is_then o ≡ false → cells_of_two o m n ≡ own_cells o + m + n
+cells_pair op.Union m n e = refl
+cells_pair op.Inter m n e = refl
+cells_pair op.Minus m n e = refl
+cells_pair op.Inf m n e = refl
+cells_pair op.Sup m n e = refl
+cells_pair op.Upto m n e = refl
+cells_pair op.UptoWeakly m n e = refl
+cells_pair op.Then m n e = let z : ⊥ = cc in absurd z
+cells_pair op.Sampled m n e = refl
+cells_pair op.SampledWeakly m n e = refl
+
+own_within : (o : ExprOp) (m n : ℕ) → own_cells o ≤ cells_of_two o m n
+own_within op.Union m n = omega arith
+own_within op.Inter m n = omega arith
+own_within op.Minus m n = omega arith
+own_within op.Inf m n = omega arith
+own_within op.Sup m n = omega arith
+own_within op.Upto m n = omega arith
+own_within op.UptoWeakly m n = omega arith
+own_within op.Then m n = omega arith
+own_within op.Sampled m n = omega arith
+own_within op.SampledWeakly m n = omega arith
+
+pub two_same : (o : ExprOp) (xs ys : List ℕ) → take (own_cells o) xs ≡ take (own_cells o) ys → two_at o xs ≡ two_at o ys
+two_same op.Union xs ys e = refl
+two_same op.Inter xs ys e = refl
+two_same op.Minus xs ys e = refl
+two_same op.Inf xs ys e = ap₂ (λ a d. Some (Leading (count_of a) (count_of d))) (first_same 2 xs ys e (omega arith)) (second_same 2 xs ys e (omega arith))
+two_same op.Sup xs ys e = ap₂ (λ a d. Some (Trailing (count_of a) (count_of d))) (first_same 2 xs ys e (omega arith)) (second_same 2 xs ys e (omega arith))
+two_same op.Upto xs ys e = ap (λ n. Some (Ending (flag_of n))) (first_same 1 xs ys e (omega arith))
+two_same op.UptoWeakly xs ys e = ap (λ n. Some (EndingWeakly (flag_of n))) (first_same 1 xs ys e (omega arith))
+two_same op.Then xs ys e = refl
+two_same op.Sampled xs ys e = ap (λ n. Some (Sampling (flag_of n))) (first_same 1 xs ys e (omega arith))
+two_same op.SampledWeakly xs ys e = ap (λ n. Some (SamplingWeakly (flag_of n))) (first_same 1 xs ys e (omega arith))
+
+-- a delayed's own cells
+pub lag_front : (m : ℕ) (head rest : List ℕ) → length head ≡ 2 + words_of m → lag_at m (head ++ rest) ≡ lag_at m head
+lag_front m head rest l =
+    let own = 2 + words_of m in
+    let e : take own (head ++ rest) ≡ take own head = sym (take_own own head rest l) in
+    ap₂ (λ k bits. Lagging m (rotated k (take m (bits_of bits)))) (first_same own (head ++ rest) head e (omega arith)) (within own 2 (words_of m) (head ++ rest) head e (omega arith))
+
+module _ (K : System) (earlier : List ℕ) (calls : ℕ → List ℕ → Tree)
+    (calls_same : (group : ℕ) (xs ys : List ℕ) → group < length earlier → slice_index earlier group ≤ 32768 → take (slice_index earlier group) xs ≡ take (slice_index earlier group) ys → calls group xs ≡ calls group ys)
+  where
+    -- the region of an expression under some actual parameters
+    abbrev Same : Expression → List Actual → Type 0
+    Same e ρ = (xs ys : List ℕ) → cells_in earlier e ≤ 32768 → take (cells_in earlier e) xs ≡ take (cells_in earlier e) ys → read_in K earlier calls e ρ xs ≡ read_in K earlier calls e ρ ys
+
+    binary_same : (o : ExprOp) (a d : Expression) (ρ : List Actual) → Same a ρ → Same d ρ → Same (EBinary o a d) ρ
+    binary_same o a d ρ same_a same_d xs ys l e = on (is_then o) refl
+      where
+        then_same : (o : ExprOp) → is_then o ≡ true → cells_in earlier (EBinary o a d) ≤ 32768 → take (cells_in earlier (EBinary o a d)) xs ≡ take (cells_in earlier (EBinary o a d)) ys →
+            read_in K earlier calls (EBinary o a d) ρ xs ≡ read_in K earlier calls (EBinary o a d) ρ ys
+        then_same op.Then is l e =
+            let m = cells_in earlier a in
+            let n = cells_in earlier d in
+            ap₂ (λ late t. then_at late t (read_in K earlier calls d ρ (drop 1 xs)) d ρ)
+            (ap flag_of (first_same (1 + max m n) xs ys e (omega arith)))
+            (same_a (drop 1 xs) (drop 1 ys) (omega arith) (within (1 + max m n) 1 m xs ys e (omega arith)))
+            ∙ ap (λ t. then_at (flag_at ys) (read_in K earlier calls a ρ (drop 1 ys)) t d ρ)
+            (same_d (drop 1 xs) (drop 1 ys) (omega arith) (within (1 + max m n) 1 n xs ys e (omega arith)))
+        then_same op.Union is l e = let z : ⊥ = cc in absurd z
+        then_same op.Inter is l e = let z : ⊥ = cc in absurd z
+        then_same op.Minus is l e = let z : ⊥ = cc in absurd z
+        then_same op.Inf is l e = let z : ⊥ = cc in absurd z
+        then_same op.Sup is l e = let z : ⊥ = cc in absurd z
+        then_same op.Upto is l e = let z : ⊥ = cc in absurd z
+        then_same op.UptoWeakly is l e = let z : ⊥ = cc in absurd z
+        then_same op.Sampled is l e = let z : ⊥ = cc in absurd z
+        then_same op.SampledWeakly is l e = let z : ⊥ = cc in absurd z
+
+        on : (t : Bool) → is_then o ≡ t → read_in K earlier calls (EBinary o a d) ρ xs ≡ read_in K earlier calls (EBinary o a d) ρ ys
+        on true is = then_same o is l e
+        on false is =
+            let m = cells_in earlier a in
+            let n = cells_in earlier d in
+            let c = cells_pair o m n is in
+            let total = own_cells o + m + n in
+            let e' : take total xs ≡ take total ys = subst (λ k. take k xs ≡ take k ys) c e in
+            let l' : total ≤ 32768 = subst (λ k. k ≤ 32768) c l in
+            let A = λ (zs : List ℕ). read_in K earlier calls a ρ (drop (own_cells o) zs) in
+            let D = λ (zs : List ℕ). read_in K earlier calls d ρ (drop (own_cells o + m) zs) in
+            let X = λ (zs : List ℕ). then_at (flag_at zs) (read_in K earlier calls a ρ (drop 1 zs)) (read_in K earlier calls d ρ (drop 1 zs)) d ρ in
+            binary_pair o xs is (A xs) (D xs) (X xs)
+            ∙ ap (λ o'. pair_at o' (A xs) (D xs)) (two_same o xs ys (fewer total (own_cells o) xs ys e' (omega arith)))
+            ∙ ap₂ (pair_at (two_at o ys))
+            (same_a (drop (own_cells o) xs) (drop (own_cells o) ys) (omega arith) (within total (own_cells o) m xs ys e' (omega arith)))
+            (same_d (drop (own_cells o + m) xs) (drop (own_cells o + m) ys) (omega arith) (within total (own_cells o + m) n xs ys e' (omega arith)))
+            ∙ sym (binary_pair o ys is (A ys) (D ys) (X ys))
+
+    lag_same : (a : Expression) (m : ℕ) (d : Expression) (ρ : List Actual) → Same a ρ → Same d ρ → Same (EDelayed a m d) ρ
+    lag_same a m d ρ same_a same_d xs ys l e =
+        let total = 2 + words_of m + cells_in earlier a + cells_in earlier d in
+        let w = words_of m in
+        let p = cells_in earlier a in
+        let q = cells_in earlier d in
+        ap₂ (λ k bits. TTwo (Lagging m (rotated k (take m (bits_of bits)))) (read_in K earlier calls a ρ (drop (2 + w) xs)) (read_in K earlier calls d ρ (drop (2 + w + p) xs)))
+        (first_same total xs ys e (omega arith)) (within total 2 w xs ys e (omega arith))
+        ∙ ap₂ (TTwo (lag_at m ys))
+        (same_a (drop (2 + w) xs) (drop (2 + w) ys) (omega arith) (within total (2 + w) p xs ys e (omega arith)))
+        (same_d (drop (2 + w + p) xs) (drop (2 + w + p) ys) (omega arith) (within total (2 + w + p) q xs ys e (omega arith)))
+
+    pub read_in_same : (e : Expression) (ρ : List Actual) (xs ys : List ℕ) → cells_in earlier e ≤ 32768 → take (cells_in earlier e) xs ≡ take (cells_in earlier e) ys →
+        read_in K earlier calls e ρ xs ≡ read_in K earlier calls e ρ ys
+    read_in_same (EName x) ρ xs ys l e = refl
+    read_in_same (ECall group member args) ρ xs ys l e = on (nat_lt group (length earlier)) refl
+      where
+        on : (t : Bool) → nat_lt group (length earlier) ≡ t → (if t then calls group xs else TNever) ≡ (if t then calls group ys else TNever)
+        on true is = calls_same group xs ys (ltb-true group (length earlier) is) l e
+        on false is = refl
+    read_in_same ENever ρ xs ys l e = refl
+    read_in_same (EBinary o a d) ρ xs ys l e = binary_same o a d ρ (λ xs ys l e. read_in_same a ρ xs ys l e) (λ xs ys l e. read_in_same d ρ xs ys l e) xs ys l e
+    read_in_same (EDelay a m) ρ xs ys l e =
+        ap₂ (λ n t. TOne (Delaying (number_of m ρ) (count_of n)) t) (first_same (1 + cells_in earlier a) xs ys e (omega arith))
+        (read_in_same a ρ (drop 1 xs) (drop 1 ys) (omega arith) (within (1 + cells_in earlier a) 1 (cells_in earlier a) xs ys e (omega arith)))
+    read_in_same (EAwait a m) ρ xs ys l e =
+        ap₂ (λ n t. TOne (Awaiting (number_of m ρ) (count_of n)) t) (first_same (1 + cells_in earlier a) xs ys e (omega arith))
+        (read_in_same a ρ (drop 1 xs) (drop 1 ys) (omega arith) (within (1 + cells_in earlier a) 1 (cells_in earlier a) xs ys e (omega arith)))
+    read_in_same (EFilter a w) ρ xs ys l e =
+        let v = word_of K.words (suffix_of K.words w ρ).word in
+        ap₂ (λ n t. TOne (Filtering v (offset_of v n)) t) (first_same (1 + cells_in earlier a) xs ys e (omega arith))
+        (read_in_same a ρ (drop 1 xs) (drop 1 ys) (omega arith) (within (1 + cells_in earlier a) 1 (cells_in earlier a) xs ys e (omega arith)))
+    read_in_same (EDelayed a m d) ρ xs ys l e = lag_same a m d ρ (λ xs ys l e. read_in_same a ρ xs ys l e) (λ xs ys l e. read_in_same d ρ xs ys l e) xs ys l e
+    read_in_same (EIf q a d) ρ xs ys l e =
+        let total = 1 + max (cells_in earlier a) (cells_in earlier d) in
+        ap₂ (λ s t. if test_of K.words q ρ then s else t)
+        (read_in_same a ρ (drop 1 xs) (drop 1 ys) (omega arith) (within total 1 (cells_in earlier a) xs ys e (omega arith)))
+        (read_in_same d ρ (drop 1 xs) (drop 1 ys) (omega arith) (within total 1 (cells_in earlier d) xs ys e (omega arith)))
+
+-- of the table before a group
+pub taken : (earlier : List ℕ) (g k : ℕ) → k ≤ g → take k (take g earlier) ≡ take k earlier
+taken earlier g k l = take-take k g earlier l
+
+pub taken_at : (earlier : List ℕ) (g k : ℕ) → k < g → slice_index (take g earlier) k ≡ slice_index earlier k
+taken_at [] zero k l = absurd (omega (arith, l))
+taken_at [] (suc g) k l = refl
+taken_at (n ∷ earlier) zero k l = absurd (omega (arith, l))
+taken_at (n ∷ earlier) (suc g) zero l = refl
+taken_at (n ∷ earlier) (suc g) (suc k) l = taken_at earlier g k (omega (arith, l))
+
+module _ (K : System) where
+  pub enough_before : (earlier : List ℕ) (g : ℕ) → g ≤ length earlier → IsEnough K earlier → IsEnough K (take g earlier)
+  enough_before earlier g l enough g' l' =
+      let len : length (take g earlier) ≡ g = length-take-le g earlier l in
+      let below : g' < g = omega (arith, l', len) in
+      let h = enough g' (omega (arith, below, l)) in
+      let at = taken_at earlier g g' below in (
+        subst (λ n. 1 ≤ n) (sym at) h.0,
+        λ m b is.
+            subst (λ ns. min 4294967295 (1 + length b.params + cells_in ns b.root) ≤ slice_index (take g earlier) g') (sym (taken earlier g g' (omega (arith, below))))
+            (subst (λ n. min 4294967295 (1 + length b.params + cells_in (take g' earlier) b.root) ≤ n) (sym at) (h.1 m b is)),
+      )
+
+  -- the region of a call is that of its group behind the earlier ones
+  call_step : (earlier : List ℕ) (n group : ℕ) (row : List ℕ) → group < suc n → n ≤ length earlier →
+      (group < n → read_call K earlier n group row ≡ region_of K (take group earlier) row) → read_call K earlier (suc n) group row ≡ region_of K (take group earlier) row
+  call_step earlier n group row l u below = on (nat_eq group n) refl
+    where
+      on : (t : Bool) → nat_eq group n ≡ t →
+          elim t [ true ↦ read_body K (take n earlier) (read_call K (take n earlier) n) (body_of K.groups n (slice_index row 0 % 2 ^ 32)) (drop 1 row) | false ↦ read_call K earlier n group row ]
+          ≡ region_of K (take group earlier) row
+      on true e =
+          let len : length (take n earlier) ≡ n = length-take-le n earlier u in
+          let same : group ≡ n = eqb-true group n e in
+          ap₂ (λ k j. read_body K (take n earlier) (read_call K (take n earlier) k) (body_of K.groups j (slice_index row 0 % 2 ^ 32)) (drop 1 row)) (sym len) (sym len)
+          ∙ ap (λ k. region_of K (take k earlier) row) (sym same)
+      on false e = below (let other = eqb-false group n e in ⊎_elim (λ (k : group < n). k) (λ k. absurd (other (omega (arith, k, l)))) (cases_lt group n))
+
+  pub read_call_is : (earlier : List ℕ) (n group : ℕ) (row : List ℕ) → group < n → n ≤ length earlier → read_call K earlier n group row ≡ region_of K (take group earlier) row
+  read_call_is earlier zero group row l u = absurd (omega (arith, l))
+  read_call_is earlier (suc n) group row l u = call_step earlier n group row l (omega (arith, u)) (λ k. read_call_is earlier n group row k (omega (arith, u)))
+
+  -- the region of a call depends on its own cells alone
+  region_step : (earlier : List ℕ) (n : ℕ) (xs ys : List ℕ) → IsEnough K earlier → 1 ≤ n →
+      ((m : ℕ) (b : Body) → body_of K.groups (length earlier) m ≡ Some b → 1 + length b.params + cells_in earlier b.root ≤ n) → n ≤ 32768 → take n xs ≡ take n ys →
+      ((b : Body) (ρ : List Actual) (xs ys : List ℕ) → cells_in earlier b.root ≤ 32768 → take (cells_in earlier b.root) xs ≡ take (cells_in earlier b.root) ys → read K earlier b.root ρ xs ≡ read K earlier b.root ρ ys) →
+      region_of K earlier xs ≡ region_of K earlier ys
+  region_step earlier n xs ys enough pos room few e same =
+      ap (λ k. read_body K earlier (read_call K earlier (length earlier)) (body_of K.groups (length earlier) (k % 2 ^ 32)) (drop 1 xs)) (first_same n xs ys e pos)
+      ∙ on (body_of K.groups (length earlier) (slice_index ys 0 % 2 ^ 32)) refl
+    where
+      on : (o : Option Body) → body_of K.groups (length earlier) (slice_index ys 0 % 2 ^ 32) ≡ o →
+          read_body K earlier (read_call K earlier (length earlier)) o (drop 1 xs) ≡ read_body K earlier (read_call K earlier (length earlier)) o (drop 1 ys)
+      on None is = refl
+      on (Some b) is =
+          let r = room (slice_index ys 0 % 2 ^ 32) b is in
+          let p = length b.params in
+          ap (λ cells. read K earlier b.root (map (actual_of K.words) cells) (drop p (drop 1 xs))) (within n 1 p xs ys e (omega (arith, r)))
+          ∙ same b (map (actual_of K.words) (take p (drop 1 ys))) (drop p (drop 1 xs)) (drop p (drop 1 ys)) (omega (arith, r, few))
+          (within (p + cells_in earlier b.root) p (cells_in earlier b.root) (drop 1 xs) (drop 1 ys) (within n 1 (p + cells_in earlier b.root) xs ys e (omega (arith, r))) (omega arith))
+
+  -- the tree in the region of a body, for all bodies of a group
+  abbrev SameBodies : List ℕ → Type 0
+  SameBodies earlier = (b : Body) (ρ : List Actual) (xs ys : List ℕ) → cells_in earlier b.root ≤ 32768 → take (cells_in earlier b.root) xs ≡ take (cells_in earlier b.root) ys →
+      read K earlier b.root ρ xs ≡ read K earlier b.root ρ ys
+
+  -- the cells of a call before a body, where they are no more than there are
+  pub call_room : (earlier : List ℕ) (group m : ℕ) (b : Body) → IsEnough K earlier → group < length earlier → slice_index earlier group ≤ 32768 →
+      body_of K.groups (length (take group earlier)) m ≡ Some b → 1 + length b.params + cells_in (take group earlier) b.root ≤ slice_index earlier group
+  call_room earlier group m b enough below few is =
+      let len : length (take group earlier) ≡ group = length-take-le group earlier (omega (arith, below)) in
+      let h = (enough group below).1 m b (subst (λ k. body_of K.groups k m ≡ Some b) len is) in
+      omega (arith, h, few)
+
+  call_same : (earlier : List ℕ) (group : ℕ) (xs ys : List ℕ) → IsEnough K earlier → group < length earlier → slice_index earlier group ≤ 32768 →
+      take (slice_index earlier group) xs ≡ take (slice_index earlier group) ys → SameBodies (take group earlier) →
+      read_call K earlier (length earlier) group xs ≡ read_call K earlier (length earlier) group ys
+  call_same earlier group xs ys enough below few e same =
+      read_call_is earlier (length earlier) group xs below (omega arith)
+      ∙ region_step (take group earlier) (slice_index earlier group) xs ys (enough_before earlier group (omega (arith, below)) enough) ((enough group below).0)
+      (λ m b is. call_room earlier group m b enough below few is) few e same
+      ∙ sym (read_call_is earlier (length earlier) group ys below (omega arith))
+
+  -- for each group in turn
+  pub read_same_to : (bound : ℕ) (earlier : List ℕ) (e : Expression) (ρ : List Actual) (xs ys : List ℕ) → length earlier < bound → IsEnough K earlier → cells_in earlier e ≤ 32768 →
+      take (cells_in earlier e) xs ≡ take (cells_in earlier e) ys → read K earlier e ρ xs ≡ read K earlier e ρ ys
+  read_same_to zero earlier e ρ xs ys l enough few same = absurd (omega (arith, l))
+  read_same_to (suc bound) earlier e ρ xs ys l enough few same =
+      read_in_same K earlier (read_call K earlier (length earlier))
+      (λ group xs ys below few' e'. call_same earlier group xs ys enough below few' e'
+      (λ b ρ xs ys l' e''. read_same_to bound (take group earlier) b.root ρ xs ys (let len : length (take group earlier) ≡ group = length-take-le group earlier (omega (arith, below)) in omega (arith, len, below, l))
+      (enough_before earlier group (omega (arith, below)) enough) l' e''))
+      e ρ xs ys few same
+
+  -- THE FRAME
+  pub read_same : (earlier : List ℕ) (e : Expression) (ρ : List Actual) (xs ys : List ℕ) → IsEnough K earlier → cells_in earlier e ≤ 32768 →
+      take (cells_in earlier e) xs ≡ take (cells_in earlier e) ys → read K earlier e ρ xs ≡ read K earlier e ρ ys
+  read_same earlier e ρ xs ys enough few same = read_same_to (suc (length earlier)) earlier e ρ xs ys (omega arith) enough few same

@@ -1,0 +1,166 @@
+-- The whole row of an accepted system: there is room for its regions, and what the trees and the counts become in a step.
+use Rattle.std.proofs.Common.{◌≡◌, ℕ, suc, ◌+◌, ◌-◌, ◌*◌, ◌<◌, ◌≤◌, List, [], ◌∷◌, ◌++◌, length, take, drop, Bool, true, false, ◌||◌, ◌&&◌, nat_eq, Some, slice_get, refl, sym, ap, ap₂, subst, ◌∙◌, arith, length-append}
+use Rattle.std.proofs.lemmas.Bool.{ne_eqb}
+use Rattle.std.proofs.Math.Seq.{take-length}
+use Rattle.ccsl_base.specs.Clocks.{ticks_in, with_clock}
+use Rattle.ccsl_formula.specs.Formula.{eval}
+use Rattle.ccsl_kernel.specs.Syntax.{Expression, System, definition_of}
+use Rattle.ccsl_kernel.specs.Cells.{cells_in, cells}
+use Rattle.ccsl_kernel.specs.Lives.{Step}
+use Rattle.ccsl_kernel.specs.Accepted.{IsAccepted}
+use Rattle.ccsl_kernel.proofs.Definitions.{definitions-are}
+use Rattle.ccsl_kernel.proofs.Scoped.{NamesBelow}
+use Rattle.ccsl_kernel.proofs.AcceptedParts.{accepted_scoped}
+use Rattle.ccsl_kernel.proofs.Sets.{ticks_in-with_clock}
+use Rattle.ccsl_state.specs.Tree.{Tree, next, formula_of, dead_of}
+use Rattle.ccsl_state.specs.Moves.{gone_in}
+use Rattle.ccsl_state.specs.Standing.{IsEnough}
+use Rattle.ccsl_state.specs.States.{put, cells_from, next_all, deaths_from, derived_in, passed_all, trees_in, opened_all}
+use Rattle.ccsl_state.specs.Below.{TreeBelow, TreesBelow}
+use Rattle.ccsl_state.specs.Held.{Held, calls_of, trees_of, deaths_of, counts_of, derived_by, CellsCount, Advances}
+use Rattle.ccsl_state.proofs.TableLaws.{table_len, table_enough, table_room}
+use Rattle.ccsl_state.proofs.BelowLaws.{opening_below, next_below, next_same}
+use Rattle.ccsl_state.proofs.Frame.{read_same}
+use Rattle.ccsl_state.proofs.Regions.{behind_head, front_head, within, fewer}
+
+-- the trees don't depend on what lies behind their regions
+pub trees_same : (K : System) (earlier : List ℕ) (es : List Expression) (n : ℕ) (xs ys : List ℕ) → IsEnough K earlier → cells_from earlier es ≤ n → n ≤ 32768 → take n xs ≡ take n ys →
+    trees_in K earlier es xs ≡ trees_in K earlier es ys
+trees_same K earlier [] n xs ys enough room few same = refl
+trees_same K earlier (e ∷ es) n xs ys enough room few same =
+    let m = cells_in earlier e in
+    ap₂ (λ t ts. t ∷ ts)
+    (read_same K earlier e [] xs ys enough (omega arith) (fewer n m xs ys same (omega arith)))
+    (trees_same K earlier es (n - m) (drop m xs) (drop m ys) enough (omega arith) (omega arith) (within n m (n - m) xs ys same (omega arith)))
+
+-- THE TREES NAME LOWER CLOCKS
+module _ (K : System) (ok : IsAccepted K) where
+  opened-from : (x : ℕ) (es : List Expression) → ((j : ℕ) → slice_get es j ≡ definition_of K (x + j)) → TreesBelow x (opened_all K es)
+  opened-from x [] h = tt
+  opened-from x (e ∷ es) h = (
+    opening_below x K (accepted_scoped K ok).bodies e [] ((accepted_scoped K ok).definitions x e (sym (h 0 ∙ ap (definition_of K) (let z : x + 0 ≡ x = omega arith in z)))) tt,
+    opened-from (suc x) es (λ j. h (suc j) ∙ ap (definition_of K) (let z : x + suc j ≡ suc x + j = omega arith in z)),
+  )
+
+  pub opened_below : TreesBelow K.declared (opened_all K K.definitions)
+  opened_below = opened-from K.declared K.definitions (definitions-are K)
+
+  pub nexts_below : (s : Step) (known : List ℕ) (x : ℕ) (ts : List Tree) → TreesBelow x ts → TreesBelow x (next_all K s known x ts)
+  nexts_below s known x [] h = tt
+  nexts_below s known x (t ∷ ts) h = (
+    next_below x K (accepted_scoped K ok).bodies s (gone_in known) t h.0,
+    nexts_below s (put (dead_of (gone_in known) (next K s (gone_in known) t)) x known) (suc x) ts h.1,
+  )
+
+-- THE FULL STEP ON THE WAY. What is derived from clock x on has the same lower clocks
+derived-keeps : (ts : List Tree) (x : ℕ) (s : Step) (y : ℕ) → y < x → ticks_in y (derived_in ts x s) ≡ ticks_in y s
+derived-keeps [] x s y l = refl
+derived-keeps (t ∷ ts) x s y l = derived-keeps ts (suc x) (put (eval (formula_of t) s) x s) y (omega (arith, l)) ∙ kept (eval (formula_of t) s)
+  where
+    kept : (c : Bool) → ticks_in y (put c x s) ≡ ticks_in y s
+    kept true = ticks_in-with_clock y x s ∙ ap (λ b. b || ticks_in y s) (ne_eqb y x (λ e. let z : ⊥ = omega (arith, e, l) in z))
+    kept false = refl
+
+pub passed_is : (K : System) (s : Step) (known : List ℕ) (x : ℕ) (ts : List Tree) → TreesBelow x ts → passed_all K s known x ts ≡ next_all K (derived_in ts x s) known x ts
+passed_is K s known x [] h = refl
+passed_is K s known x (t ∷ ts) h =
+    let s' = derived_in (t ∷ ts) x s in
+    let here : next K s (gone_in known) t ≡ next K s' (gone_in known) t = next_same x K (gone_in known) s s' (λ y l. sym (derived-keeps (t ∷ ts) x s y l)) t h.0 in
+    ap₂ (λ t' ts'. t' ∷ ts') here
+    (passed_is K (put (eval (formula_of t) s) x s) (put (dead_of (gone_in known) (next K s (gone_in known) t)) x known) (suc x) ts h.1
+    ∙ ap (λ t'. next_all K s' (put (dead_of (gone_in known) t') x known) (suc x) ts) here)
+
+-- A ROW AFTER A STEP, from its two parts
+pub record RowAdvanced (K : System) (row : List ℕ) (declared step gone : List ℕ) (row' : List ℕ) : Type 0 where
+  pub derived : step ≡ derived_by (record { system = K; row = row }) declared
+  pub next : Advances (record { system = K; row = row }) step (record { system = K; row = row' })
+  pub deaths : gone ≡ deaths_of (record { system = K; row = row' })
+  pub below : TreesBelow K.declared (trees_of (record { system = K; row = row' }))
+
+pub counts_behind : (front counts : List ℕ) (n : ℕ) → length counts ≡ n → drop (length (front ++ counts) - n) (front ++ counts) ≡ counts
+counts_behind front counts n l = behind_head (length (front ++ counts) - n) front counts (omega (arith, l, length-append front counts))
+
+module _ (K : System) (ok : IsAccepted K) where
+  -- the trees are those of the front
+  pub trees_front : (front counts : List ℕ) → length counts ≡ 2 * length K.constraints → length (front ++ counts) ≡ cells K →
+      trees_in K (calls_of K) K.definitions (front ++ counts) ≡ trees_in K (calls_of K) K.definitions front
+  trees_front front counts l whole =
+      let room = table_room K ok in
+      let few = ok.few_cells in
+      trees_same K (calls_of K) K.definitions (length front) (front ++ counts) front (table_enough K) (omega (arith, room, whole, l, length-append front counts)) (omega (arith, few, whole, length-append front counts))
+      (front_head (length front) front counts refl ∙ sym (take-length front))
+
+  pub row_advances : (declared step gone front counts front' counts' : List ℕ) → length front' ≡ length front → length counts ≡ 2 * length K.constraints → length counts' ≡ length counts →
+      length (front ++ counts) ≡ cells K → TreesBelow K.declared (trees_in K (calls_of K) K.definitions (front ++ counts)) →
+      trees_in K (calls_of K) K.definitions front' ≡ passed_all K declared [] K.declared (trees_in K (calls_of K) K.definitions front) →
+      step ≡ derived_in (trees_in K (calls_of K) K.definitions front) K.declared declared →
+      gone ≡ deaths_from [] K.declared (trees_in K (calls_of K) K.definitions front') →
+      CellsCount K.constraints step counts counts' → RowAdvanced K (front ++ counts) declared step gone (front' ++ counts')
+  row_advances declared step gone front counts front' counts' same few same' whole below trees step_is gone_is counted =
+      let C = calls_of K in
+      let D = K.definitions in
+      let whole' : length (front' ++ counts') ≡ cells K = omega (arith, same, same', whole, length-append front counts, length-append front' counts') in
+      let old = trees_front front counts few whole in
+      let new = trees_front front' counts' (same' ∙ few) whole' in
+      let derived : step ≡ derived_in (trees_in K C D (front ++ counts)) K.declared declared = step_is ∙ ap (λ ts. derived_in ts K.declared declared) (sym old) in
+      let nexts : trees_in K C D (front' ++ counts') ≡ next_all K step [] K.declared (trees_in K C D (front ++ counts)) =
+      new ∙ trees ∙ ap (passed_all K declared [] K.declared) (sym old) ∙ passed_is K declared [] K.declared (trees_in K C D (front ++ counts)) below
+      ∙ ap (λ s. next_all K s [] K.declared (trees_in K C D (front ++ counts))) (sym derived) in
+      record {
+        derived = derived;
+        next = record {
+          system = refl;
+          trees = nexts;
+          counts = subst (λ xs. CellsCount K.constraints step xs (counts_of (record { system = K; row = front' ++ counts' }))) (sym (counts_behind front counts (2 * length K.constraints) few))
+              (subst (CellsCount K.constraints step counts) (sym (counts_behind front' counts' (2 * length K.constraints) (same' ∙ few))) counted);
+        };
+        deaths = gone_is ∙ ap (deaths_from [] K.declared) (sym new);
+        below = subst (TreesBelow K.declared) (sym nexts) (nexts_below K ok step [] K.declared (trees_in K C D (front ++ counts)) below);
+      }
+
+-- WHAT THE TABLE OF CALLS OWES, where it is the system's
+pub record IsReady (K : System) (C : List ℕ) : Type 0 where
+  pub table : IsEnough K C
+  pub groups : length C ≡ length K.groups
+  pub room : cells_from C K.definitions + 2 * length K.constraints ≤ cells K
+  pub few : cells K ≤ 32768
+
+pub ready_table : (K : System) (C : List ℕ) → IsAccepted K → C ≡ calls_of K → IsReady K C
+ready_table K C ok is = subst (IsReady K) (sym is) (record { table = table_enough K; groups = table_len K.groups; room = table_room K ok; few = ok.few_cells })
+
+module _ (K : System) (ok : IsAccepted K) (C : List ℕ) (is : C ≡ calls_of K) (x : ℕ) (at : x ≡ K.declared) where
+  pub row_goes_on : (declared step gone front counts front' counts' row row' : List ℕ) → row ≡ front ++ counts → row' ≡ front' ++ counts' →
+      length front' ≡ length front → length counts ≡ 2 * length K.constraints → length counts' ≡ length counts → length row ≡ cells K →
+      TreesBelow K.declared (trees_in K (calls_of K) K.definitions row) →
+      trees_in K C K.definitions front' ≡ passed_all K declared [] x (trees_in K C K.definitions front) →
+      step ≡ derived_in (trees_in K C K.definitions front) x declared →
+      gone ≡ deaths_from [] x (trees_in K C K.definitions front') →
+      CellsCount K.constraints step counts counts' → RowAdvanced K row declared step gone row'
+  row_goes_on declared step gone front counts front' counts' row row' row_is row_is' same few same' whole below trees step_is gone_is counted =
+      let D = K.definitions in
+      let here = λ (C : List ℕ) (x : ℕ). (trees_in K C D front' ≡ passed_all K declared [] x (trees_in K C D front)) × ((step ≡ derived_in (trees_in K C D front) x declared) × (gone ≡ deaths_from [] x (trees_in K C D front'))) in
+      let all : here (calls_of K) K.declared = subst (λ x. here (calls_of K) x) at (subst (λ C. here C x) is (trees, (step_is, gone_is))) in
+      subst (λ r. RowAdvanced K row declared step gone r) (sym row_is')
+      (subst (λ r. RowAdvanced K r declared step gone (front' ++ counts')) (sym row_is)
+      (row_advances K ok declared step gone front counts front' counts' same few same' (ap length (sym row_is) ∙ whole) (subst (λ r. TreesBelow K.declared (trees_in K (calls_of K) D r)) row_is below) all.0 all.1.0 all.1.1 counted))
+
+-- A ROW AT THE OPENING
+pub record RowOpened (K : System) (row gone row' : List ℕ) : Type 0 where
+  pub trees : trees_of (record { system = K; row = row' }) ≡ opened_all K K.definitions
+  pub counts : counts_of (record { system = K; row = row' }) ≡ counts_of (record { system = K; row = row })
+  pub deaths : gone ≡ deaths_of (record { system = K; row = row' })
+  pub below : TreesBelow K.declared (trees_of (record { system = K; row = row' }))
+
+module _ (K : System) (ok : IsAccepted K) (C : List ℕ) (is : C ≡ calls_of K) (x : ℕ) (at : x ≡ K.declared) where
+  pub row_opens : (gone front counts front' row : List ℕ) → row ≡ front ++ counts → length front' ≡ length front → length counts ≡ 2 * length K.constraints → length row ≡ cells K →
+      trees_in K C K.definitions front' ≡ opened_all K K.definitions → gone ≡ deaths_from [] x (opened_all K K.definitions) → RowOpened K row gone (front' ++ counts)
+  row_opens gone front counts front' row row_is same few whole trees gone_is =
+      let D = K.definitions in
+      let whole' : length (front' ++ counts) ≡ cells K = (let e = ap length row_is in omega (arith, e, same, whole, length-append front counts, length-append front' counts)) in
+      let new : trees_in K (calls_of K) D (front' ++ counts) ≡ opened_all K D = trees_front K ok front' counts few whole' ∙ subst (λ C. trees_in K C D front' ≡ opened_all K D) is trees in
+      record {
+        trees = new;
+        counts = counts_behind front' counts (2 * length K.constraints) few ∙ sym (ap (λ r. drop (length r - 2 * length K.constraints) r) row_is ∙ counts_behind front counts (2 * length K.constraints) few);
+        deaths = gone_is ∙ ap₂ (λ x ts. deaths_from [] x ts) at (sym new);
+        below = subst (TreesBelow K.declared) (sym new) (opened_below K ok);
+      }

@@ -1,0 +1,32 @@
+-- The table of calls is the system's, and there is room for the regions.
+use Rattle.std.proofs.Common.{◌≡◌, ◌+◌, ◌*◌, ◌++◌, [], length, refl, sym, ap, subst, ◌∙◌, arith}
+use Rattle.ccsl_state.proofs.WholeLaws.{ready_table, row_goes_on}
+use Rattle.ccsl_state.proofs.whole.row_advanced.Goals as goal
+
+pub advance_from-requires-clause-table : goal.advance_from-requires-clause-table
+advance_from-requires-clause-table c = (ready_table c.args.lay.now.system.now c.args.lay.now.earlier.now c.requires.accepted c.requires.whole.calls).table
+
+pub advance_from-requires-clause-groups : goal.advance_from-requires-clause-groups
+advance_from-requires-clause-groups c = (ready_table c.args.lay.now.system.now c.args.lay.now.earlier.now c.requires.accepted c.requires.whole.calls).groups
+
+pub advance_from-requires-clause-room : goal.advance_from-requires-clause-room
+advance_from-requires-clause-room c =
+    let ready = ready_table c.args.lay.now.system.now c.args.lay.now.earlier.now c.requires.accepted c.requires.whole.calls in
+    let room = ready.room in
+    let size = c.requires.whole.size in
+    let front = c.split_at_mut-front.ensures.front_len in
+    let end = c.before_counts-end.ensures in
+    omega arith
+
+pub returns : goal.returns
+returns c =
+    let K = c.args.lay.now.system.now in
+    let first : K.declared + 0 ≡ K.declared = omega arith in
+    let front = c.split_at_mut-front.result.0.now in
+    let counts = c.split_at_mut-front.result.1.now in
+    let few : length counts ≡ 2 * length K.constraints = (let back = c.split_at_mut-front.ensures.back_len in let end = c.before_counts-end.ensures in omega arith) in
+    let r = row_goes_on K c.requires.accepted c.args.lay.now.earlier.now c.requires.whole.calls (K.declared + 0) first c.args.declared.now c.advance_from.new.step c.advance_from.new.gone
+    front counts c.advance_from.new.row c.count_ticks.new.cells c.args.row.now (c.advance_from.new.row ++ c.count_ticks.new.cells) c.split_at_mut-front.ensures.value refl
+    c.advance_from.auto.row few c.count_ticks.auto.cells c.requires.whole.size c.requires.below
+    (rw (c.copy-step.ensures, c.empty-gone.ensures) at c.advance_from.ensures.trees) (rw c.copy-step.ensures at c.advance_from.ensures.step) (rw c.empty-gone.ensures at c.advance_from.ensures.gone) c.count_ticks.ensures in
+    record { step = r.derived; next = r.next; gone = r.deaths; below = r.below }

@@ -1,0 +1,13 @@
+pub mod Tree
+pub mod Layout
+pub mod Standing
+pub mod Moves
+pub mod Nodes
+pub mod Rings
+pub mod Grown
+pub mod States
+pub mod Below
+pub mod Held
+pub mod Laws
+pub mod Whole
+pub mod Laid

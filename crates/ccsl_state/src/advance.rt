@@ -1,0 +1,438 @@
+//! The region of an expression after a step. One pass tells the tick in the step, rewrites the cells, and tells the death after it.
+
+ghost use Rattle.std.specs.Prelude.{◌≡◌, ◌<◌, ◌≤◌, ◌+◌, ◌*◌, ◌^◌, ◌%◌, ℕ, false, true, not, drop, length, max, option_map, slice_index, Option, Some, None, IfSome};
+ghost use Rattle.ccsl_formula.specs.Formula.{eval};
+ghost use Rattle.ccsl_kernel.specs.Syntax.{Body, ECall, body_of};
+ghost use Rattle.ccsl_kernel.specs.Plain.{plain_expr};
+ghost use Rattle.ccsl_kernel.specs.Deep.{deep};
+ghost use Rattle.ccsl_kernel.specs.Cells.{cells_in};
+ghost use Rattle.ccsl_kernel.specs.Fit.{ActualFits, ActualsFit, TestFits};
+ghost use Rattle.ccsl_kernel.specs.Fitting.{ValuesFit, ExprFits};
+ghost use Rattle.ccsl_state.specs.Tree.{leaf, opening, formula_of, dead_of, one_ticks, one_next, one_dead, two_ticks, two_dead, two_next, next};
+ghost use Rattle.ccsl_state.specs.Layout.{words_of, lag_at, own_cells, two_at, then_at, flag_at, read, region_of};
+ghost use Rattle.ccsl_state.specs.Standing.{is_then, IsCall, Stands, is_own, IsEnough};
+ghost use Rattle.ccsl_state.specs.Nodes.{one_at, node_ticks, node_dead};
+ghost use Rattle.ccsl_state.specs.Moves.{gone_in, IsTail, Outcome};
+
+use crate::cells::{is_then, own_cells, size_of};
+use crate::lag::{lag_cells, lag_dead, lag_moved, lag_ticks};
+use crate::lay::Lay;
+use crate::moved::{Moved, Stepped, TailCall};
+use crate::node::{Unary, filter_from, two_dead, two_moved, two_ticks};
+use crate::open::{call_opened, is_gone, opened};
+use crate::params::actuals_at;
+use ccsl_base::ClockSet;
+use ccsl_kernel::{Actual, Expr, ExprOp};
+
+/// The call of the own group that an expression comes to by its choices.
+fn own_call<'s>(lay: &Lay<'s>, e: &'s Expr, actuals: &[Actual]) -> Option<TailCall<'s>>
+    requires offsets { ExprFits lay.now.system.now.words (plain_expr e.now) }
+    requires stands { Stands lay.now.system.now (length lay.now.earlier.now) false (plain_expr e.now) }
+    requires actuals { ActualsFit lay.now.system.now.words actuals.now }
+    ensures none { result ≡ None → is_own lay.now.system.now.words (length lay.now.earlier.now) (plain_expr e.now) actuals.now ≡ false }
+    ensures call { IfSome result (λ call. IsTail lay.now.system.now (length lay.now.earlier.now) actuals.now (opening lay.now.system.now (plain_expr e.now) actuals.now) call) }
+    ensures inner { Stands lay.now.system.now (length lay.now.earlier.now) true (plain_expr e.now) → result ≡ None }
+{
+    match e {
+        Expr::Call {
+            group,
+            member,
+            args,
+        } => {
+            if (*group as usize) < lay.earlier.len() {
+                None
+            } else {
+                Some(TailCall {
+                    member: *member,
+                    args: args.members(),
+                })
+            }
+        }
+        Expr::If(test, a, d) => {
+            if test.holds(lay.system.words(), actuals) {
+                own_call(lay, a, actuals)
+            } else {
+                own_call(lay, d, actuals)
+            }
+        }
+        _ => None,
+    }
+}
+
+/// Whether a name ticks in a step.
+pub fn name_ticks(actual: Actual, step: &ClockSet) -> bool
+    ensures { result ≡ eval (formula_of (leaf actual)) step.now }
+{
+    match actual {
+        Actual::Clock(x) => step.has(x),
+        Actual::Number(_) | Actual::Word(_, _) => false,
+    }
+}
+
+/// Rewrites the region of an expression.
+#[cycle(advance)]
+#[tactic(auto, using(crate::proofs::Places::inner_stands, crate::proofs::Evals::one_eval, crate::proofs::Evals::two_eval, crate::proofs::Evals::pair_eval))]
+pub fn advanced<'s>(
+    lay: &Lay<'s>,
+    e: &'s Expr,
+    actuals: &[Actual],
+    row: &mut [u64],
+    step: &ClockSet,
+    gone: &ClockSet,
+) -> Moved<'s>
+    requires table { IsEnough lay.now.system.now lay.now.earlier.now }
+    requires groups { length lay.now.earlier.now ≤ length lay.now.system.now.groups }
+    requires shallow { deep (plain_expr e.now) ≤ 129 }
+    requires offsets { ExprFits lay.now.system.now.words (plain_expr e.now) }
+    requires stands { Stands lay.now.system.now (length lay.now.earlier.now) false (plain_expr e.now) }
+    requires actuals { ActualsFit lay.now.system.now.words actuals.now }
+    requires room { cells_in lay.now.earlier.now (plain_expr e.now) ≤ length row.old }
+    requires few { length row.old ≤ 32768 }
+    ensures tick { result.tick ≡ eval (formula_of (read lay.now.system.now lay.now.earlier.now (plain_expr e.now) actuals.now row.old)) step.now }
+    ensures next { Outcome lay.now.system.now step.now (gone_in gone.now) (length lay.now.earlier.now) actuals.now (read lay.now.system.now lay.now.earlier.now (plain_expr e.now) actuals.now row.old)
+        (read lay.now.system.now lay.now.earlier.now (plain_expr e.now) actuals.now row.new) result.dead result.tail }
+    ensures rest { drop (cells_in lay.now.earlier.now (plain_expr e.now)) row.new ≡ drop (cells_in lay.now.earlier.now (plain_expr e.now)) row.old }
+    ensures size { result.size ≡ cells_in lay.now.earlier.now (plain_expr e.now) }
+    ensures inner { Stands lay.now.system.now (length lay.now.earlier.now) true (plain_expr e.now) → result.tail ≡ None }
+{
+    match e {
+        Expr::Name(place) => {
+            let actual = place.actual(actuals);
+            Moved {
+                tick: name_ticks(actual, step),
+                dead: is_gone(actual, gone),
+                size: 1,
+                tail: None,
+            }
+        }
+        Expr::Call { group, .. } => {
+            if (*group as usize) < lay.earlier.len() {
+                let inner = lay.before(*group);
+                let stepped = call_advanced(&inner, *group, row, step, gone);
+                Moved {
+                    tick: stepped.tick,
+                    dead: stepped.dead,
+                    size: lay.earlier[*group as usize] as usize,
+                    tail: None,
+                }
+            } else {
+                Moved {
+                    tick: false,
+                    dead: false,
+                    size: 0,
+                    tail: None,
+                }
+            }
+        }
+        Expr::Never => Moved {
+            tick: false,
+            dead: false,
+            size: 1,
+            tail: None,
+        },
+        Expr::Binary(op, a, d) => {
+            if is_then(*op) {
+                then_advanced(lay, a, d, actuals, row, step, gone)
+            } else {
+                two_advanced(lay, *op, a, d, actuals, row, step, gone)
+            }
+        }
+        Expr::Delay(a, m) => {
+            let unary = Unary::Delay(m.number(actuals));
+            one_advanced(lay, unary, a, actuals, row, step, gone)
+        }
+        Expr::Await(a, m) => {
+            let unary = Unary::Await(m.number(actuals));
+            one_advanced(lay, unary, a, actuals, row, step, gone)
+        }
+        Expr::Filter(a, word) => {
+            let words = lay.system.words();
+            let unary = filter_from(words, word.suffix(words, actuals));
+            one_advanced(lay, unary, a, actuals, row, step, gone)
+        }
+        Expr::Delayed(a, m, d) => lag_advanced(lay, a, *m, d, actuals, row, step, gone),
+        Expr::If(test, a, d) => {
+            let (_, rest) = row.split_at_mut(1);
+            if test.holds(lay.system.words(), actuals) {
+                let moved = advanced(lay, a, actuals, rest, step, gone);
+                Moved {
+                    tick: moved.tick,
+                    dead: moved.dead,
+                    size: 1 + moved.size.max(size_of(d, lay.earlier)),
+                    tail: moved.tail,
+                }
+            } else {
+                let moved = advanced(lay, d, actuals, rest, step, gone);
+                Moved {
+                    tick: moved.tick,
+                    dead: moved.dead,
+                    size: 1 + moved.size.max(size_of(a, lay.earlier)),
+                    tail: moved.tail,
+                }
+            }
+        }
+    }
+}
+
+/// An operator of one operand.
+#[cycle(advance)]
+#[tactic(auto, using(crate::proofs::Places::inner_stands))]
+fn one_advanced<'s>(
+    lay: &Lay<'s>,
+    unary: Unary,
+    a: &'s Expr,
+    actuals: &[Actual],
+    row: &mut [u64],
+    step: &ClockSet,
+    gone: &ClockSet,
+) -> Moved<'s>
+    requires table { IsEnough lay.now.system.now lay.now.earlier.now }
+    requires groups { length lay.now.earlier.now ≤ length lay.now.system.now.groups }
+    requires shallow { deep (plain_expr a.now) ≤ 128 }
+    requires offsets { ExprFits lay.now.system.now.words (plain_expr a.now) }
+    requires stands { Stands lay.now.system.now (length lay.now.earlier.now) true (plain_expr a.now) }
+    requires actuals { ActualsFit lay.now.system.now.words actuals.now }
+    requires room { 1 + cells_in lay.now.earlier.now (plain_expr a.now) ≤ length row.old }
+    requires few { length row.old ≤ 32768 }
+    ensures tick { result.tick ≡ one_ticks (one_at lay.now.system.now.words unary (slice_index row.old 0)) (eval (formula_of (read lay.now.system.now lay.now.earlier.now (plain_expr a.now) actuals.now (drop 1 row.old))) step.now) }
+    ensures node { one_at lay.now.system.now.words unary (slice_index row.new 0) ≡
+        one_next (one_at lay.now.system.now.words unary (slice_index row.old 0)) (eval (formula_of (read lay.now.system.now lay.now.earlier.now (plain_expr a.now) actuals.now (drop 1 row.old))) step.now) }
+    ensures tree { read lay.now.system.now lay.now.earlier.now (plain_expr a.now) actuals.now (drop 1 row.new) ≡
+        next lay.now.system.now step.now (gone_in gone.now) (read lay.now.system.now lay.now.earlier.now (plain_expr a.now) actuals.now (drop 1 row.old)) }
+    ensures dead { result.dead ≡ one_dead (one_at lay.now.system.now.words unary (slice_index row.new 0)) (dead_of (gone_in gone.now) (read lay.now.system.now lay.now.earlier.now (plain_expr a.now) actuals.now (drop 1 row.new))) }
+    ensures rest { drop (1 + cells_in lay.now.earlier.now (plain_expr a.now)) row.new ≡ drop (1 + cells_in lay.now.earlier.now (plain_expr a.now)) row.old }
+    ensures size { result.size ≡ 1 + cells_in lay.now.earlier.now (plain_expr a.now) }
+    ensures tail { result.tail ≡ None }
+{
+    let (head, rest) = row.split_at_mut(1);
+    let moved = advanced(lay, a, actuals, rest, step, gone);
+    let stepped = unary.stepped(lay.system.words(), &mut head[0], moved.tick, moved.dead);
+    Moved {
+        tick: stepped.tick,
+        dead: stepped.dead,
+        size: 1 + moved.size,
+        tail: None,
+    }
+}
+
+/// An operator of two operands.
+#[cycle(advance)]
+#[tactic(auto, using(crate::proofs::Places::inner_stands))]
+fn two_advanced<'s>(
+    lay: &Lay<'s>,
+    op: ExprOp,
+    a: &'s Expr,
+    d: &'s Expr,
+    actuals: &[Actual],
+    row: &mut [u64],
+    step: &ClockSet,
+    gone: &ClockSet,
+) -> Moved<'s>
+    requires table { IsEnough lay.now.system.now lay.now.earlier.now }
+    requires groups { length lay.now.earlier.now ≤ length lay.now.system.now.groups }
+    requires shallow_left { deep (plain_expr a.now) ≤ 128 }
+    requires shallow_right { deep (plain_expr d.now) ≤ 128 }
+    requires offsets_left { ExprFits lay.now.system.now.words (plain_expr a.now) }
+    requires offsets_right { ExprFits lay.now.system.now.words (plain_expr d.now) }
+    requires stands_left { Stands lay.now.system.now (length lay.now.earlier.now) true (plain_expr a.now) }
+    requires stands_right { Stands lay.now.system.now (length lay.now.earlier.now) true (plain_expr d.now) }
+    requires actuals { ActualsFit lay.now.system.now.words actuals.now }
+    requires room { own_cells op + cells_in lay.now.earlier.now (plain_expr a.now) + cells_in lay.now.earlier.now (plain_expr d.now) ≤ length row.old }
+    requires few { length row.old ≤ 32768 }
+    ensures tick { result.tick ≡ node_ticks (two_at op row.old) (eval (formula_of (read lay.now.system.now lay.now.earlier.now (plain_expr a.now) actuals.now (drop (own_cells op) row.old))) step.now)
+        (eval (formula_of (read lay.now.system.now lay.now.earlier.now (plain_expr d.now) actuals.now (drop (own_cells op + cells_in lay.now.earlier.now (plain_expr a.now)) row.old))) step.now) }
+    ensures node { two_at op row.new ≡ option_map (λ o. two_next o (eval (formula_of (read lay.now.system.now lay.now.earlier.now (plain_expr a.now) actuals.now (drop (own_cells op) row.old))) step.now)
+        (eval (formula_of (read lay.now.system.now lay.now.earlier.now (plain_expr d.now) actuals.now (drop (own_cells op + cells_in lay.now.earlier.now (plain_expr a.now)) row.old))) step.now)) (two_at op row.old) }
+    ensures left { read lay.now.system.now lay.now.earlier.now (plain_expr a.now) actuals.now (drop (own_cells op) row.new) ≡
+        next lay.now.system.now step.now (gone_in gone.now) (read lay.now.system.now lay.now.earlier.now (plain_expr a.now) actuals.now (drop (own_cells op) row.old)) }
+    ensures right { read lay.now.system.now lay.now.earlier.now (plain_expr d.now) actuals.now (drop (own_cells op + cells_in lay.now.earlier.now (plain_expr a.now)) row.new) ≡
+        next lay.now.system.now step.now (gone_in gone.now) (read lay.now.system.now lay.now.earlier.now (plain_expr d.now) actuals.now (drop (own_cells op + cells_in lay.now.earlier.now (plain_expr a.now)) row.old)) }
+    ensures dead { result.dead ≡ node_dead (two_at op row.new) (dead_of (gone_in gone.now) (read lay.now.system.now lay.now.earlier.now (plain_expr a.now) actuals.now (drop (own_cells op) row.new)))
+        (dead_of (gone_in gone.now) (read lay.now.system.now lay.now.earlier.now (plain_expr d.now) actuals.now (drop (own_cells op + cells_in lay.now.earlier.now (plain_expr a.now)) row.new))) }
+    ensures rest { let n = own_cells op + cells_in lay.now.earlier.now (plain_expr a.now) + cells_in lay.now.earlier.now (plain_expr d.now) in drop n row.new ≡ drop n row.old }
+    ensures size { result.size ≡ own_cells op + cells_in lay.now.earlier.now (plain_expr a.now) + cells_in lay.now.earlier.now (plain_expr d.now) }
+    ensures tail { result.tail ≡ None }
+{
+    let (head, rest) = row.split_at_mut(own_cells(op));
+    let left = advanced(lay, a, actuals, rest, step, gone);
+    let (_, behind) = rest.split_at_mut(left.size);
+    let right = advanced(lay, d, actuals, behind, step, gone);
+    let tick = two_ticks(op, head, left.tick, right.tick);
+    two_moved(op, head, left.tick, right.tick);
+    Moved {
+        tick,
+        dead: two_dead(op, head, left.dead, right.dead),
+        size: own_cells(op) + left.size + right.size,
+        tail: None,
+    }
+}
+
+/// A then. Where its left operand has died, its right operand is born: in its region, or as a call of the own group.
+#[cycle(advance)]
+#[tactic(auto, using(crate::proofs::Places::inner_stands))]
+fn then_advanced<'s>(
+    lay: &Lay<'s>,
+    a: &'s Expr,
+    d: &'s Expr,
+    actuals: &[Actual],
+    row: &mut [u64],
+    step: &ClockSet,
+    gone: &ClockSet,
+) -> Moved<'s>
+    requires table { IsEnough lay.now.system.now lay.now.earlier.now }
+    requires groups { length lay.now.earlier.now ≤ length lay.now.system.now.groups }
+    requires shallow_left { deep (plain_expr a.now) ≤ 128 }
+    requires shallow_right { deep (plain_expr d.now) ≤ 128 }
+    requires offsets_left { ExprFits lay.now.system.now.words (plain_expr a.now) }
+    requires offsets_right { ExprFits lay.now.system.now.words (plain_expr d.now) }
+    requires stands_left { Stands lay.now.system.now (length lay.now.earlier.now) true (plain_expr a.now) }
+    requires stands_right { Stands lay.now.system.now (length lay.now.earlier.now) false (plain_expr d.now) }
+    requires actuals { ActualsFit lay.now.system.now.words actuals.now }
+    requires room { 1 + max (cells_in lay.now.earlier.now (plain_expr a.now)) (cells_in lay.now.earlier.now (plain_expr d.now)) ≤ length row.old }
+    requires few { length row.old ≤ 32768 }
+    ensures tick { result.tick ≡ eval (formula_of (then_at (flag_at row.old) (read lay.now.system.now lay.now.earlier.now (plain_expr a.now) actuals.now (drop 1 row.old))
+        (read lay.now.system.now lay.now.earlier.now (plain_expr d.now) actuals.now (drop 1 row.old)) (plain_expr d.now) actuals.now)) step.now }
+    ensures next { Outcome lay.now.system.now step.now (gone_in gone.now) (length lay.now.earlier.now) actuals.now
+        (then_at (flag_at row.old) (read lay.now.system.now lay.now.earlier.now (plain_expr a.now) actuals.now (drop 1 row.old)) (read lay.now.system.now lay.now.earlier.now (plain_expr d.now) actuals.now (drop 1 row.old)) (plain_expr d.now) actuals.now)
+        (then_at (flag_at row.new) (read lay.now.system.now lay.now.earlier.now (plain_expr a.now) actuals.now (drop 1 row.new)) (read lay.now.system.now lay.now.earlier.now (plain_expr d.now) actuals.now (drop 1 row.new)) (plain_expr d.now) actuals.now)
+        result.dead result.tail }
+    ensures rest { let n = 1 + max (cells_in lay.now.earlier.now (plain_expr a.now)) (cells_in lay.now.earlier.now (plain_expr d.now)) in drop n row.new ≡ drop n row.old }
+    ensures size { result.size ≡ 1 + max (cells_in lay.now.earlier.now (plain_expr a.now)) (cells_in lay.now.earlier.now (plain_expr d.now)) }
+    ensures inner { Stands lay.now.system.now (length lay.now.earlier.now) true (plain_expr d.now) → result.tail ≡ None }
+{
+    let (head, rest) = row.split_at_mut(1);
+    if head[0] != 0 {
+        let right = advanced(lay, d, actuals, rest, step, gone);
+        return Moved {
+            tick: right.tick,
+            dead: right.dead,
+            size: 1 + right.size.max(size_of(a, lay.earlier)),
+            tail: right.tail,
+        };
+    }
+    let left = advanced(lay, a, actuals, rest, step, gone);
+    let size = 1 + left.size.max(size_of(d, lay.earlier));
+    if !left.dead {
+        return Moved {
+            tick: left.tick,
+            dead: false,
+            size,
+            tail: None,
+        };
+    }
+    match own_call(lay, d, actuals) {
+        Some(call) => Moved {
+            tick: left.tick,
+            dead: false,
+            size,
+            tail: Some(call),
+        },
+        None => {
+            head[0] = 1;
+            let born = opened(lay, d, actuals, rest, gone);
+            Moved {
+                tick: left.tick,
+                dead: born.dead,
+                size,
+                tail: None,
+            }
+        }
+    }
+}
+
+/// The region of a call to the group behind all that `lay` has. Where its body comes to a call of the group, the whole region is
+/// written anew; the parameters were taken from their cells before.
+#[cycle(advance)]
+fn call_advanced(
+    lay: &Lay<'_>,
+    group: u32,
+    row: &mut [u64],
+    step: &ClockSet,
+    gone: &ClockSet,
+) -> Stepped
+    requires table { IsEnough lay.now.system.now lay.now.earlier.now }
+    requires group { length lay.now.earlier.now ≡ group }
+    requires groups { group < length lay.now.system.now.groups }
+    requires some { 1 ≤ length row.old }
+    requires room { (m : ℕ) (b : Body) → body_of lay.now.system.now.groups group m ≡ Some b → 1 + length b.params + cells_in lay.now.earlier.now b.root ≤ length row.old }
+    requires few { length row.old ≤ 32768 }
+    ensures tick { result.tick ≡ eval (formula_of (region_of lay.now.system.now lay.now.earlier.now row.old)) step.now }
+    ensures tree { region_of lay.now.system.now lay.now.earlier.now row.new ≡ next lay.now.system.now step.now (gone_in gone.now) (region_of lay.now.system.now lay.now.earlier.now row.old) }
+    ensures dead { result.dead ≡ dead_of (gone_in gone.now) (region_of lay.now.system.now lay.now.earlier.now row.new) }
+    ensures rest { (n : ℕ) → 1 ≤ n → ((m : ℕ) (b : Body) → body_of lay.now.system.now.groups group m ≡ Some b → 1 + length b.params + cells_in lay.now.earlier.now b.root ≤ n) → drop n row.new ≡ drop n row.old }
+{
+    let (first, rest) = row.split_at_mut(1);
+    match lay.system.body(group, (first[0] % (1 << 32)) as u32) {
+        Some(body) => {
+            let mut array = [Actual::Number(0); 8];
+            let count = body.params.members().len();
+            let actuals = &mut array[..count];
+            let (cells, region) = rest.split_at_mut(count);
+            actuals_at(lay.system.words(), cells, actuals);
+            let moved = advanced(lay, &body.root, actuals, region, step, gone);
+            match moved.tail {
+                None => Stepped {
+                    tick: moved.tick,
+                    dead: moved.dead,
+                },
+                Some(call) => Stepped {
+                    tick: moved.tick,
+                    dead: call_opened(lay, group, call.member, call.args, actuals, row, gone),
+                },
+            }
+        }
+        None => Stepped {
+            tick: false,
+            dead: false,
+        },
+    }
+}
+
+/// A delayed.
+#[cycle(advance)]
+#[tactic(auto, using(crate::proofs::Places::inner_stands))]
+fn lag_advanced<'s>(
+    lay: &Lay<'s>,
+    a: &'s Expr,
+    m: u32,
+    d: &'s Expr,
+    actuals: &[Actual],
+    row: &mut [u64],
+    step: &ClockSet,
+    gone: &ClockSet,
+) -> Moved<'s>
+    requires table { IsEnough lay.now.system.now lay.now.earlier.now }
+    requires groups { length lay.now.earlier.now ≤ length lay.now.system.now.groups }
+    requires some { 1 ≤ m }
+    requires short { m ≤ 4096 }
+    requires shallow_left { deep (plain_expr a.now) ≤ 128 }
+    requires shallow_right { deep (plain_expr d.now) ≤ 128 }
+    requires offsets_left { ExprFits lay.now.system.now.words (plain_expr a.now) }
+    requires offsets_right { ExprFits lay.now.system.now.words (plain_expr d.now) }
+    requires stands_left { Stands lay.now.system.now (length lay.now.earlier.now) true (plain_expr a.now) }
+    requires stands_right { Stands lay.now.system.now (length lay.now.earlier.now) true (plain_expr d.now) }
+    requires actuals { ActualsFit lay.now.system.now.words actuals.now }
+    requires room { 2 + words_of m + cells_in lay.now.earlier.now (plain_expr a.now) + cells_in lay.now.earlier.now (plain_expr d.now) ≤ length row.old }
+    requires few { length row.old ≤ 32768 }
+    ensures tick { result.tick ≡ two_ticks (lag_at m row.old) (eval (formula_of (read lay.now.system.now lay.now.earlier.now (plain_expr a.now) actuals.now (drop (2 + words_of m) row.old))) step.now) (eval (formula_of (read lay.now.system.now lay.now.earlier.now (plain_expr d.now) actuals.now (drop (2 + words_of m + cells_in lay.now.earlier.now (plain_expr a.now)) row.old))) step.now) }
+    ensures node { lag_at m row.new ≡ two_next (lag_at m row.old) (eval (formula_of (read lay.now.system.now lay.now.earlier.now (plain_expr a.now) actuals.now (drop (2 + words_of m) row.old))) step.now) (eval (formula_of (read lay.now.system.now lay.now.earlier.now (plain_expr d.now) actuals.now (drop (2 + words_of m + cells_in lay.now.earlier.now (plain_expr a.now)) row.old))) step.now) }
+    ensures left { read lay.now.system.now lay.now.earlier.now (plain_expr a.now) actuals.now (drop (2 + words_of m) row.new) ≡ next lay.now.system.now step.now (gone_in gone.now) (read lay.now.system.now lay.now.earlier.now (plain_expr a.now) actuals.now (drop (2 + words_of m) row.old)) }
+    ensures right { read lay.now.system.now lay.now.earlier.now (plain_expr d.now) actuals.now (drop (2 + words_of m + cells_in lay.now.earlier.now (plain_expr a.now)) row.new) ≡ next lay.now.system.now step.now (gone_in gone.now) (read lay.now.system.now lay.now.earlier.now (plain_expr d.now) actuals.now (drop (2 + words_of m + cells_in lay.now.earlier.now (plain_expr a.now)) row.old)) }
+    ensures dead { result.dead ≡ two_dead (lag_at m row.new) (dead_of (gone_in gone.now) (read lay.now.system.now lay.now.earlier.now (plain_expr a.now) actuals.now (drop (2 + words_of m) row.new))) (dead_of (gone_in gone.now) (read lay.now.system.now lay.now.earlier.now (plain_expr d.now) actuals.now (drop (2 + words_of m + cells_in lay.now.earlier.now (plain_expr a.now)) row.new))) }
+    ensures rest { let n = 2 + words_of m + cells_in lay.now.earlier.now (plain_expr a.now) + cells_in lay.now.earlier.now (plain_expr d.now) in drop n row.new ≡ drop n row.old }
+    ensures size { result.size ≡ 2 + words_of m + cells_in lay.now.earlier.now (plain_expr a.now) + cells_in lay.now.earlier.now (plain_expr d.now) }
+    ensures tail { result.tail ≡ None }
+{
+    let (head, rest) = row.split_at_mut(lag_cells(m));
+    let left = advanced(lay, a, actuals, rest, step, gone);
+    let (_, behind) = rest.split_at_mut(left.size);
+    let right = advanced(lay, d, actuals, behind, step, gone);
+    let tick = lag_ticks(m, head, right.tick);
+    lag_moved(m, head, left.tick, right.tick);
+    Moved {
+        tick,
+        dead: lag_dead(m, head, left.dead, right.dead),
+        size: lag_cells(m) + left.size + right.size,
+        tail: None,
+    }
+}

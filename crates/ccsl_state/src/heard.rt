@@ -1,0 +1,163 @@
+//! Whether an expression ticks in a step, from its region.
+
+ghost use Rattle.std.specs.Prelude.{◌≡◌, ◌<◌, ◌≤◌, ◌+◌, ◌*◌, ◌^◌, ◌%◌, ℕ, false, true, drop, length, max, slice_index, Some};
+ghost use Rattle.ccsl_formula.specs.Formula.{eval};
+ghost use Rattle.ccsl_kernel.specs.Syntax.{Body, body_of};
+ghost use Rattle.ccsl_kernel.specs.Plain.{plain_expr};
+ghost use Rattle.ccsl_kernel.specs.Deep.{deep};
+ghost use Rattle.ccsl_kernel.specs.Cells.{cells_in};
+ghost use Rattle.ccsl_kernel.specs.Fit.{ActualsFit, TestFits};
+ghost use Rattle.ccsl_kernel.specs.Fitting.{ExprFits};
+ghost use Rattle.ccsl_state.specs.Tree.{formula_of};
+ghost use Rattle.ccsl_state.specs.Layout.{own_cells, two_at, read, region_of};
+ghost use Rattle.ccsl_state.specs.Standing.{is_then, Stands, IsEnough};
+
+use crate::advance::name_ticks;
+use crate::cells::{is_then, own_cells, size_of};
+use crate::lag::{lag_cells, lag_ticks};
+use crate::lay::Lay;
+use crate::moved::Heard;
+use crate::node::{Unary, filter_from, two_ticks};
+use crate::params::actuals_at;
+use ccsl_base::ClockSet;
+use ccsl_kernel::{Actual, Expr};
+
+/// Whether an expression ticks, and how many cells its region has.
+#[cycle(hear)]
+#[tactic(auto, using(crate::proofs::Places::inner_stands, crate::proofs::Evals::one_eval, crate::proofs::Evals::two_eval, crate::proofs::Evals::pair_eval))]
+pub fn heard(lay: &Lay<'_>, e: &Expr, actuals: &[Actual], row: &[u64], step: &ClockSet) -> Heard
+    requires table { IsEnough lay.now.system.now lay.now.earlier.now }
+    requires groups { length lay.now.earlier.now ≤ length lay.now.system.now.groups }
+    requires shallow { deep (plain_expr e.now) ≤ 129 }
+    requires offsets { ExprFits lay.now.system.now.words (plain_expr e.now) }
+    requires stands { Stands lay.now.system.now (length lay.now.earlier.now) false (plain_expr e.now) }
+    requires actuals { ActualsFit lay.now.system.now.words actuals.now }
+    requires room { cells_in lay.now.earlier.now (plain_expr e.now) ≤ length row.now }
+    requires few { length row.now ≤ 32768 }
+    ensures tick { result.tick ≡ eval (formula_of (read lay.now.system.now lay.now.earlier.now (plain_expr e.now) actuals.now row.now)) step.now }
+    ensures size { result.size ≡ cells_in lay.now.earlier.now (plain_expr e.now) }
+{
+    match e {
+        Expr::Name(place) => Heard {
+            tick: name_ticks(place.actual(actuals), step),
+            size: 1,
+        },
+        Expr::Call { group, .. } => {
+            if (*group as usize) < lay.earlier.len() {
+                let inner = lay.before(*group);
+                Heard {
+                    tick: call_heard(&inner, *group, row, step),
+                    size: lay.earlier[*group as usize] as usize,
+                }
+            } else {
+                Heard {
+                    tick: false,
+                    size: 0,
+                }
+            }
+        }
+        Expr::Never => Heard {
+            tick: false,
+            size: 1,
+        },
+        Expr::Binary(op, a, d) => {
+            if is_then(*op) {
+                if row[0] == 0 {
+                    let left = heard(lay, a, actuals, &row[1..], step);
+                    Heard {
+                        tick: left.tick,
+                        size: 1 + left.size.max(size_of(d, lay.earlier)),
+                    }
+                } else {
+                    let right = heard(lay, d, actuals, &row[1..], step);
+                    Heard {
+                        tick: right.tick,
+                        size: 1 + right.size.max(size_of(a, lay.earlier)),
+                    }
+                }
+            } else {
+                let own = own_cells(*op);
+                let left = heard(lay, a, actuals, &row[own..], step);
+                let right = heard(lay, d, actuals, &row[own + left.size..], step);
+                Heard {
+                    tick: two_ticks(*op, row, left.tick, right.tick),
+                    size: own + left.size + right.size,
+                }
+            }
+        }
+        Expr::Delay(a, m) => {
+            let unary = Unary::Delay(m.number(actuals));
+            let inner = heard(lay, a, actuals, &row[1..], step);
+            Heard {
+                tick: unary.ticks(lay.system.words(), row[0], inner.tick),
+                size: 1 + inner.size,
+            }
+        }
+        Expr::Await(a, m) => {
+            let unary = Unary::Await(m.number(actuals));
+            let inner = heard(lay, a, actuals, &row[1..], step);
+            Heard {
+                tick: unary.ticks(lay.system.words(), row[0], inner.tick),
+                size: 1 + inner.size,
+            }
+        }
+        Expr::Filter(a, word) => {
+            let words = lay.system.words();
+            let unary = filter_from(words, word.suffix(words, actuals));
+            let inner = heard(lay, a, actuals, &row[1..], step);
+            Heard {
+                tick: unary.ticks(words, row[0], inner.tick),
+                size: 1 + inner.size,
+            }
+        }
+        Expr::Delayed(a, m, d) => {
+            let own = lag_cells(*m);
+            let left = heard(lay, a, actuals, &row[own..], step);
+            let right = heard(lay, d, actuals, &row[own + left.size..], step);
+            Heard {
+                tick: lag_ticks(*m, row, right.tick),
+                size: own + left.size + right.size,
+            }
+        }
+        Expr::If(test, a, d) => {
+            if test.holds(lay.system.words(), actuals) {
+                let inner = heard(lay, a, actuals, &row[1..], step);
+                Heard {
+                    tick: inner.tick,
+                    size: 1 + inner.size.max(size_of(d, lay.earlier)),
+                }
+            } else {
+                let inner = heard(lay, d, actuals, &row[1..], step);
+                Heard {
+                    tick: inner.tick,
+                    size: 1 + inner.size.max(size_of(a, lay.earlier)),
+                }
+            }
+        }
+    }
+}
+
+/// Whether a call to the group behind all that `lay` has ticks.
+#[cycle(hear)]
+fn call_heard(lay: &Lay<'_>, group: u32, row: &[u64], step: &ClockSet) -> bool
+    requires table { IsEnough lay.now.system.now lay.now.earlier.now }
+    requires group { length lay.now.earlier.now ≡ group }
+    requires groups { group < length lay.now.system.now.groups }
+    requires some { 1 ≤ length row.now }
+    requires room { (m : ℕ) (b : Body) → body_of lay.now.system.now.groups group m ≡ Some b → 1 + length b.params + cells_in lay.now.earlier.now b.root ≤ length row.now }
+    requires few { length row.now ≤ 32768 }
+    ensures { result ≡ eval (formula_of (region_of lay.now.system.now lay.now.earlier.now row.now)) step.now }
+{
+    let (first, rest) = row.split_at(1);
+    match lay.system.body(group, (first[0] % (1 << 32)) as u32) {
+        Some(body) => {
+            let mut array = [Actual::Number(0); 8];
+            let count = body.params.members().len();
+            let actuals = &mut array[..count];
+            let (cells, region) = rest.split_at(count);
+            actuals_at(lay.system.words(), cells, actuals);
+            heard(lay, &body.root, actuals, region, step).tick
+        }
+        None => false,
+    }
+}

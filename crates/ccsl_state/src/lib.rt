@@ -1,0 +1,22 @@
+//! The states of a system in a fixed row of cells.
+#![tactic(auto)]
+
+mod advance;
+mod cells;
+mod counts;
+mod definitions;
+mod heard;
+mod items;
+mod lag;
+pub mod laws;
+mod lay;
+mod moved;
+mod node;
+mod open;
+mod params;
+mod relation;
+pub mod states;
+mod told;
+mod whole;
+
+pub use states::States;

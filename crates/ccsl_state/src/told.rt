@@ -1,0 +1,287 @@
+//! The formula of an expression, from its region.
+
+ghost use Rattle.std.specs.Prelude.{◌≡◌, ◌<◌, ◌≤◌, ◌+◌, ◌*◌, ◌^◌, ◌%◌, ℕ, false, true, drop, length, max, slice_index, Some, IfOk, if◌then◌else◌};
+ghost use Rattle.ccsl_formula.specs.Formula.{Formula as Plain, FFalse, FNot, FAnd, FOr};
+ghost use Rattle.ccsl_formula.specs.Plain.{plain};
+ghost use Rattle.ccsl_kernel.specs.Syntax.{Body, body_of};
+ghost use Rattle.ccsl_kernel.specs.Plain.{plain_expr};
+ghost use Rattle.ccsl_kernel.specs.Deep.{deep};
+ghost use Rattle.ccsl_kernel.specs.Cells.{cells_in};
+ghost use Rattle.ccsl_kernel.specs.Fit.{ActualsFit, TestFits};
+ghost use Rattle.ccsl_kernel.specs.Fitting.{ExprFits};
+ghost use Rattle.ccsl_state.specs.Tree.{leaf, formula_of, one_formula};
+ghost use Rattle.ccsl_state.specs.Layout.{own_cells, two_at, read, region_of};
+ghost use Rattle.ccsl_state.specs.Standing.{is_then, Stands, IsEnough};
+ghost use Rattle.ccsl_state.specs.Nodes.{one_at, node_formula};
+
+use crate::cells::{count_at, is_next, is_then, own_cells, size_of, suffix_at};
+use crate::lag::{lag_cells, lag_ticks};
+use crate::lay::Lay;
+use crate::node::{Unary, filter_from};
+use crate::params::actuals_at;
+use ccsl_base::Memory;
+use ccsl_formula::Formula;
+use ccsl_kernel::actual::letter_at;
+use ccsl_kernel::{Actual, Expr, ExprOp};
+use ccsl_words::Word;
+use std::alloc::Global;
+
+/// A formula, and how many cells its region has.
+#[derive(Drop)]
+pub struct Part {
+    pub formula: Formula,
+    pub size: usize,
+}
+
+fn name_formula(actual: Actual) -> Formula
+    ensures { plain result ≡ formula_of (leaf actual) }
+{
+    match actual {
+        Actual::Clock(x) => Formula::Var(x),
+        Actual::Number(_) | Actual::Word(_, _) => Formula::False,
+    }
+}
+
+/// Whether an operator of one operand lets its operand's formula through.
+fn is_open(unary: Unary, words: &[Word], cell: u64) -> bool
+    ensures { (f : Plain) → one_formula (one_at words.now unary cell) f ≡ (if result then f else FFalse) }
+{
+    match unary {
+        Unary::Delay(m) => u64::from(m) <= count_at(cell),
+        Unary::Await(m) => is_next(count_at(cell), m),
+        Unary::Filter(word) => letter_at(words, word, suffix_at(words, word, cell).offset),
+    }
+}
+
+fn through(lets: bool, f: Formula) -> Formula
+    ensures { plain result ≡ (if lets then plain f else FFalse) }
+{
+    if lets { f } else { Formula::False }
+}
+
+fn or(alloc: Global, f: Formula, g: Formula) -> Result<Formula, Memory>
+    ensures { IfOk result (λ r. plain r ≡ FOr (plain f) (plain g)) }
+{
+    Ok(Formula::Or(Box::new(alloc, f)?, Box::new(alloc, g)?))
+}
+
+fn and(alloc: Global, f: Formula, g: Formula) -> Result<Formula, Memory>
+    ensures { IfOk result (λ r. plain r ≡ FAnd (plain f) (plain g)) }
+{
+    Ok(Formula::And(Box::new(alloc, f)?, Box::new(alloc, g)?))
+}
+
+fn not(alloc: Global, f: Formula) -> Result<Formula, Memory>
+    ensures { IfOk result (λ r. plain r ≡ FNot (plain f)) }
+{
+    Ok(Formula::Not(Box::new(alloc, f)?))
+}
+
+/// The formula of an operator, from its cells and its operands' formulas.
+fn joined(
+    alloc: Global,
+    op: ExprOp,
+    head: &[u64],
+    f: Formula,
+    g: Formula,
+) -> Result<Formula, Memory>
+    requires { own_cells op ≤ length head.now }
+    ensures { IfOk result (λ r. plain r ≡ node_formula (two_at op head.now) (plain f) (plain g)) }
+{
+    match op {
+        ExprOp::Union => or(alloc, f, g),
+        ExprOp::Inter => and(alloc, f, g),
+        ExprOp::Minus => and(alloc, f, not(alloc, g)?),
+        ExprOp::Inf => {
+            let (a, d) = (count_at(head[0]), count_at(head[1]));
+            if d < a {
+                Ok(f)
+            } else if a < d {
+                Ok(g)
+            } else {
+                or(alloc, f, g)
+            }
+        }
+        ExprOp::Sup => {
+            let (a, d) = (count_at(head[0]), count_at(head[1]));
+            if a < d {
+                Ok(f)
+            } else if d < a {
+                Ok(g)
+            } else {
+                and(alloc, f, g)
+            }
+        }
+        ExprOp::Upto => {
+            if head[0] != 0 {
+                Ok(Formula::False)
+            } else {
+                and(alloc, f, not(alloc, g)?)
+            }
+        }
+        ExprOp::UptoWeakly => {
+            if head[0] != 0 {
+                Ok(Formula::False)
+            } else {
+                Ok(f)
+            }
+        }
+        ExprOp::Then => Ok(Formula::False),
+        ExprOp::Sampled => Ok(through(head[0] != 0, g)),
+        ExprOp::SampledWeakly => {
+            if head[0] != 0 {
+                Ok(g)
+            } else {
+                and(alloc, g, f)
+            }
+        }
+    }
+}
+
+/// The formula of an expression.
+#[cycle(tell)]
+#[tactic(auto, using(crate::proofs::Places::inner_stands, crate::proofs::Evals::pair_formula, crate::proofs::Evals::open_formula))]
+pub fn told(
+    alloc: Global,
+    lay: &Lay<'_>,
+    e: &Expr,
+    actuals: &[Actual],
+    row: &[u64],
+) -> Result<Part, Memory>
+    requires table { IsEnough lay.now.system.now lay.now.earlier.now }
+    requires groups { length lay.now.earlier.now ≤ length lay.now.system.now.groups }
+    requires shallow { deep (plain_expr e.now) ≤ 129 }
+    requires offsets { ExprFits lay.now.system.now.words (plain_expr e.now) }
+    requires stands { Stands lay.now.system.now (length lay.now.earlier.now) false (plain_expr e.now) }
+    requires actuals { ActualsFit lay.now.system.now.words actuals.now }
+    requires room { cells_in lay.now.earlier.now (plain_expr e.now) ≤ length row.now }
+    requires few { length row.now ≤ 32768 }
+    ensures formula { IfOk result (λ t. plain t.formula ≡ formula_of (read lay.now.system.now lay.now.earlier.now (plain_expr e.now) actuals.now row.now)) }
+    ensures size { IfOk result (λ t. t.size ≡ cells_in lay.now.earlier.now (plain_expr e.now)) }
+{
+    match e {
+        Expr::Name(place) => Ok(Part {
+            formula: name_formula(place.actual(actuals)),
+            size: 1,
+        }),
+        Expr::Call { group, .. } => {
+            if (*group as usize) < lay.earlier.len() {
+                let inner = lay.before(*group);
+                Ok(Part {
+                    formula: call_told(alloc, &inner, *group, row)?,
+                    size: lay.earlier[*group as usize] as usize,
+                })
+            } else {
+                Ok(Part {
+                    formula: Formula::False,
+                    size: 0,
+                })
+            }
+        }
+        Expr::Never => Ok(Part {
+            formula: Formula::False,
+            size: 1,
+        }),
+        Expr::Binary(op, a, d) => {
+            if is_then(*op) {
+                if row[0] == 0 {
+                    let left = told(alloc, lay, a, actuals, &row[1..])?;
+                    Ok(Part {
+                        formula: left.formula,
+                        size: 1 + left.size.max(size_of(d, lay.earlier)),
+                    })
+                } else {
+                    let right = told(alloc, lay, d, actuals, &row[1..])?;
+                    Ok(Part {
+                        formula: right.formula,
+                        size: 1 + right.size.max(size_of(a, lay.earlier)),
+                    })
+                }
+            } else {
+                let own = own_cells(*op);
+                let left = told(alloc, lay, a, actuals, &row[own..])?;
+                let right = told(alloc, lay, d, actuals, &row[own + left.size..])?;
+                let size = own + left.size + right.size;
+                Ok(Part {
+                    formula: joined(alloc, *op, row, left.formula, right.formula)?,
+                    size,
+                })
+            }
+        }
+        Expr::Delay(a, m) => {
+            let unary = Unary::Delay(m.number(actuals));
+            let inner = told(alloc, lay, a, actuals, &row[1..])?;
+            Ok(Part {
+                formula: through(is_open(unary, lay.system.words(), row[0]), inner.formula),
+                size: 1 + inner.size,
+            })
+        }
+        Expr::Await(a, m) => {
+            let unary = Unary::Await(m.number(actuals));
+            let inner = told(alloc, lay, a, actuals, &row[1..])?;
+            Ok(Part {
+                formula: through(is_open(unary, lay.system.words(), row[0]), inner.formula),
+                size: 1 + inner.size,
+            })
+        }
+        Expr::Filter(a, word) => {
+            let words = lay.system.words();
+            let unary = filter_from(words, word.suffix(words, actuals));
+            let inner = told(alloc, lay, a, actuals, &row[1..])?;
+            Ok(Part {
+                formula: through(is_open(unary, words, row[0]), inner.formula),
+                size: 1 + inner.size,
+            })
+        }
+        Expr::Delayed(a, m, d) => {
+            let own = lag_cells(*m);
+            let left = told(alloc, lay, a, actuals, &row[own..])?;
+            let right = told(alloc, lay, d, actuals, &row[own + left.size..])?;
+            Ok(Part {
+                formula: through(lag_ticks(*m, row, true), right.formula),
+                size: own + left.size + right.size,
+            })
+        }
+        Expr::If(test, a, d) => {
+            if test.holds(lay.system.words(), actuals) {
+                let inner = told(alloc, lay, a, actuals, &row[1..])?;
+                Ok(Part {
+                    formula: inner.formula,
+                    size: 1 + inner.size.max(size_of(d, lay.earlier)),
+                })
+            } else {
+                let inner = told(alloc, lay, d, actuals, &row[1..])?;
+                Ok(Part {
+                    formula: inner.formula,
+                    size: 1 + inner.size.max(size_of(a, lay.earlier)),
+                })
+            }
+        }
+    }
+}
+
+/// The formula of a call to the group behind all that `lay` has.
+#[cycle(tell)]
+fn call_told(alloc: Global, lay: &Lay<'_>, group: u32, row: &[u64]) -> Result<Formula, Memory>
+    requires table { IsEnough lay.now.system.now lay.now.earlier.now }
+    requires group { length lay.now.earlier.now ≡ group }
+    requires groups { group < length lay.now.system.now.groups }
+    requires some { 1 ≤ length row.now }
+    requires room { (m : ℕ) (b : Body) → body_of lay.now.system.now.groups group m ≡ Some b → 1 + length b.params + cells_in lay.now.earlier.now b.root ≤ length row.now }
+    requires few { length row.now ≤ 32768 }
+    ensures { IfOk result (λ f. plain f ≡ formula_of (region_of lay.now.system.now lay.now.earlier.now row.now)) }
+{
+    let (first, rest) = row.split_at(1);
+    match lay.system.body(group, (first[0] % (1 << 32)) as u32) {
+        Some(body) => {
+            let mut array = [Actual::Number(0); 8];
+            let count = body.params.members().len();
+            let actuals = &mut array[..count];
+            let (cells, region) = rest.split_at(count);
+            actuals_at(lay.system.words(), cells, actuals);
+            let inner = told(alloc, lay, &body.root, actuals, region)?;
+            Ok(inner.formula)
+        }
+        None => Ok(Formula::False),
+    }
+}
