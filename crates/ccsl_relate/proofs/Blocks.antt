@@ -1,0 +1,39 @@
+-- The rows of a block, taken one by one.
+use Rattle.std.proofs.Common.{◌≡◌, ℕ, ◌+◌, ◌<◌, ◌≤◌, ◌^◌, List, [], ◌∷◌, ◌++◌, length, take, slice_get, Some, refl, sym, ap, ◌∙◌, subst, arith, append_assoc, length-append, length-take-le}
+use Rattle.std.proofs.lemmas.List.{append-nil, take_all}
+use Rattle.ccsl_base.specs.declared.rows.Row.{Row}
+use Rattle.ccsl_relate.specs.Watching.{Watching, StandsFor}
+
+-- so many of the rows were taken
+pub record Taken (start now : Watching) (block : List Row) (i : ℕ) : Type 0 where
+  pub within : i ≤ length block
+  pub system : now.system ≡ start.system
+  pub item : now.item ≡ start.item
+  pub stands : (recorded : List ℕ) (rows : List Row) → StandsFor recorded start rows → length rows + length block < 2 ^ 64 → StandsFor recorded now (rows ++ take i block)
+
+pub taken-none : (v : Watching) (block : List Row) → Taken v v block 0
+taken-none v block = record { within = omega arith; system = refl; item = refl; stands = λ recorded rows s l. subst (λ rs. StandsFor recorded v rs) (sym (append-nil rows)) s }
+
+take-more : (block : List Row) (i : ℕ) (row : Row) → slice_get block i ≡ Some row → take (i + 1) block ≡ take i block ++ row ∷ []
+take-more [] i row e = absurd (cc)
+take-more (x ∷ block) Rattle.std.proofs.Common.zero row e = ap (λ y. y ∷ []) (let q : x ≡ row = cc in q)
+take-more (x ∷ block) (Rattle.std.proofs.Common.suc i) row e =
+    let k : Rattle.std.proofs.Common.suc i + 1 ≡ Rattle.std.proofs.Common.suc (i + 1) = omega arith in
+    ap (λ j. take j (x ∷ block)) k ∙ ap (λ ys. x ∷ ys) (take-more block i row e)
+
+pub few-rows : (block : List Row) (i : ℕ) (rows : List Row) → i < length block → length rows + length block < 2 ^ 64 → length (rows ++ take i block) + 1 < 2 ^ 64
+few-rows block i rows l h = omega (arith, length-append rows (take i block), length-take-le i block (omega (arith, l)), l, h)
+
+pub taken-more : (start now next : Watching) (block : List Row) (i : ℕ) (row : Row) → Taken start now block i → slice_get block i ≡ Some row → i < length block → next.system ≡ now.system → next.item ≡ now.item
+    → ((recorded : List ℕ) (rows : List Row) → StandsFor recorded now rows → length rows + 1 < 2 ^ 64 → StandsFor recorded next (rows ++ row ∷ [])) → Taken start next block (i + 1)
+taken-more start now next block i row t e l a b f = record {
+  within = omega (arith, l);
+  system = a ∙ t.system;
+  item = b ∙ t.item;
+  stands = λ recorded rows s h.
+      subst (λ rs. StandsFor recorded next rs) (append_assoc rows (take i block) (row ∷ []) ∙ ap (λ rs. rows ++ rs) (sym (take-more block i row e)))
+      (f recorded (rows ++ take i block) (t.stands recorded rows s h) (few-rows block i rows l h));
+}
+
+pub taken-all : (start now : Watching) (block : List Row) (i : ℕ) → Taken start now block i → length block ≤ i → (recorded : List ℕ) (rows : List Row) → StandsFor recorded start rows → length rows + length block < 2 ^ 64 → StandsFor recorded now (rows ++ block)
+taken-all start now block i t l recorded rows s h = subst (λ rs. StandsFor recorded now (rows ++ rs)) (take_all i block l) (t.stands recorded rows s h)

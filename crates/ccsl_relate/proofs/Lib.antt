@@ -1,0 +1,7 @@
+pub mod Ascending
+pub mod Within
+pub mod History
+pub mod Judging
+pub mod Finding
+pub mod Undeclared
+pub mod Blocks
