@@ -19,6 +19,7 @@ fn begin_watch<R: Watch>(reader: &Reader, ended: bool, watch: &mut R) -> Result<
     requires runs { reader.now.fault ≡ None }
     requires due { (wanted : Wanted) × (bytes : List ℕ) × (complete : List Row) × (block : List Row) × StandsFor wanted reader.now bytes
         × Due ended (R.waits watch.old) (R.stands watch.old) (bound_by wanted reader.now.limits bytes) complete block }
+    ensures system { R.system watch.new ≡ R.system watch.old }
     ensures early { OnErr result (ended ≡ true) }
     ensures watched { OnOk result ((wanted : Wanted) (bytes : List ℕ) (complete block : List Row) → StandsFor wanted reader.now bytes →
         Due ended (R.waits watch.old) (R.stands watch.old) (bound_by wanted reader.now.limits bytes) complete block →
@@ -38,6 +39,7 @@ fn give_full<R: Watch>(block: &mut Block, watch: &mut R)
     ensures watched { (shown : Option (List ℕ)) (complete : List Row) →
         Watched (R.waits watch.old) (R.stands watch.old) shown complete block.old.rows →
         Watched (R.waits watch.new) (R.stands watch.new) shown complete block.new.rows }
+    ensures system { R.system watch.new ≡ R.system watch.old }
     ensures rest { length block.new.rows < block.new.room }
     ensures same { block.new.room ≡ block.old.room }
 {
@@ -58,6 +60,7 @@ pub(crate) fn pass<R: Watch>(
     requires room { length block.old.rows < block.old.room }
     requires follows { (wanted : Wanted) × (bytes : List ℕ)
         × Follows wanted reader.old bytes (R.waits watch.old) (R.stands watch.old) block.old.rows }
+    ensures system { R.system watch.new ≡ R.system watch.old }
     ensures limits { reader.new.limits ≡ reader.old.limits }
     ensures room { OnOk result (length block.new.rows < block.new.room) }
     ensures follows { OnOk result ((wanted : Wanted) (bytes : List ℕ) →
@@ -89,6 +92,7 @@ pub(crate) fn pass<R: Watch>(
 // Where the end of the trace ended the header, the watch learns the bound clocks now.
 fn begin_late<R: Watch>(reader: &Reader, ended: bool, watch: &mut R) -> Result<(), Memory>
     requires { ended ≡ false → R.waits watch.old }
+    ensures system { R.system watch.new ≡ R.system watch.old }
     ensures early { OnErr result (ended ≡ false) }
     ensures same { OnOk result (ended ≡ true → watch.new ≡ watch.old) }
     ensures begun { OnOk result (ended ≡ false → (bound : List ℕ) → shows reader.now ≡ Some bound → R.stands watch.new bound []) }
@@ -108,6 +112,7 @@ pub(crate) fn end<R: Watch>(
     requires room { length block.old.rows < block.old.room }
     requires follows { (wanted : Wanted) × (bytes : List ℕ)
         × Follows wanted reader.old bytes (R.waits watch.old) (R.stands watch.old) block.old.rows }
+    ensures system { R.system watch.new ≡ R.system watch.old }
     ensures ends { IfOk result (λ n. (wanted : Wanted) (bytes : List ℕ) →
         Follows wanted reader.old bytes (R.waits watch.old) (R.stands watch.old) block.old.rows →
         Ends wanted reader.old.limits bytes (R.stands watch.new) n.rows n.bytes) }

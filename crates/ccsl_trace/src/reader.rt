@@ -35,6 +35,7 @@ fn read_on<W: World, R: Watch>(
     requires few { reader.old.limits.bytes < 2 ^ 64 }
     requires room { length block.old.rows < block.old.room }
     requires follows { (wanted : Wanted) × Follows wanted reader.old [] (R.waits watch.old) (R.stands watch.old) block.old.rows }
+    ensures system { R.system watch.new ≡ R.system watch.old }
     ensures room { OnOk result (length block.new.rows < block.new.room) }
     ensures reads { OnOk result (ReadsOn W.told (W.state world.old) (W.state world.new) reader.old reader.new
         (R.waits watch.old) (R.stands watch.old) block.old.rows (R.waits watch.new) (R.stands watch.new) block.new.rows) }
@@ -88,6 +89,7 @@ fn read_whole<W: World, R: Watch>(
     requires few { desk.old.reader.limits.bytes < 2 ^ 64 }
     requires room { length desk.old.block.rows < desk.old.block.room }
     requires follows { (wanted : Wanted) × Follows wanted desk.old.reader [] (R.waits watch.old) (R.stands watch.old) desk.old.block.rows }
+    ensures system { R.system watch.new ≡ R.system watch.old }
     ensures read { IfOk result (λ n. (wanted : Wanted) →
         Follows wanted desk.old.reader [] (R.waits watch.old) (R.stands watch.old) desk.old.block.rows →
         IsReadBy W.told wanted desk.old.reader.limits (W.state world.old) (W.state world.new) (R.stands watch.new) n.rows n.bytes) }
@@ -116,6 +118,7 @@ pub fn read_trace<W: World, R: Watch>(
     watch: &mut R,
 ) -> Result<Counts, TraceFault>
     requires waits { R.waits watch.old }
+    ensures system { R.system watch.new ≡ R.system watch.old }
     ensures read { IfOk result (λ n. IsReadBy W.told (wanted_of system.now) limits.now (W.state world.old) (W.state world.new)
         (R.stands watch.new) n.rows n.bytes) }
     ensures unread { IfErr result (λ fault.

@@ -1,6 +1,6 @@
 //! Traces of a system whose clocks a and b are declared, watched by a tally.
 
-ghost use Rattle.std.specs.Prelude.{◌≡◌, ◌≤◌, length};
+ghost use Rattle.std.specs.Prelude.{◌≡◌, ◌≤◌, [], length};
 
 use super::*;
 use ccsl_base::{Block, ClockSet, Memory, Names, Seq};
@@ -18,6 +18,16 @@ struct Tally {
 }
 
 impl Watch for Tally {
+    ghost system = { λ t. record {
+      names = [];
+      declared = 0;
+      written = 0;
+      groups = [];
+      words = [];
+      definitions = [];
+      constraints = [];
+    } };
+
     ghost waits = { λ t. t.rows ≡ 0 };
 
     ghost stands = { λ t bound rows. t.rows ≡ length rows };

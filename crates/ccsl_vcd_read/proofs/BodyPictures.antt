@@ -1,5 +1,5 @@
 -- What is kept of a body, token by token.
-use Rattle.std.proofs.Common.{◌≡◌, ℕ, ◌≤◌, ◌<◌, List, [], ◌∷◌, ◌++◌, Bool, true, false, Option, Some, None, Result, Ok, Err, nat_lt, cond, refl, sym, ap, ◌∙◌, append_assoc, arith, map, subst, filter}
+use Rattle.std.proofs.Common.{◌≡◌, ℕ, ◌≤◌, ◌<◌, List, [], ◌∷◌, ◌++◌, Bool, true, false, Some, None, Result, Ok, Err, nat_lt, cond, refl, sym, ap, ◌∙◌, append_assoc, arith, map, subst, filter}
 use Rattle.std.specs.Prelude.{bytes_eq, codes, is_some}
 use Rattle.std.proofs.lemmas.List.{append-nil}
 use Rattle.std.proofs.lemmas.Bool.{ltb-true, ltb-false}
@@ -9,18 +9,18 @@ use Rattle.ccsl_vcd.specs.declared.fault.VcdFault.{VcdFault}
 use Rattle.ccsl_vcd.specs.declared.fault.VcdFault.TheVariants as faults
 use Rattle.ccsl_vcd.specs.declared.limits.Limits.{Limits}
 use Rattle.ccsl_vcd.specs.Words as w
-use Rattle.ccsl_vcd.specs.Binding.{Declaration, Wanted, Bound}
+use Rattle.ccsl_vcd.specs.Binding.{Declaration, Wanted}
 use Rattle.ccsl_vcd.specs.Places as p
 use Rattle.ccsl_vcd.specs.Body.{is_declared, change_says, body_says}
 use Rattle.ccsl_vcd.specs.Reading.{Story, next, says, told}
 use Rattle.ccsl_vcd.specs.Rows.{complete, rows, has_ticks, row}
 use Rattle.ccsl_vcd.proofs.RowLaws.{Earlier, Now, rows-all, rows-done, row_now}
-use Rattle.ccsl_bind.specs.Codes.{codes_of, number_of}
+use Rattle.ccsl_bind.specs.Codes.{number_of}
 use Rattle.ccsl_vcd_read.specs.declared.amid.Amid.{Amid}
 use Rattle.ccsl_vcd_read.specs.declared.amid.Amid.TheVariants.{Changes, Remark, Code, CodeSkipped}
 use Rattle.ccsl_vcd_read.specs.declared.body.Body.{Body}
 use Rattle.ccsl_vcd_read.specs.Meant.{amid_of}
-use Rattle.ccsl_vcd_read.specs.Marks.{put, aged, ticking, mark_of}
+use Rattle.ccsl_vcd_read.specs.Marks.{put, aged, ticking}
 use Rattle.ccsl_vcd_read.specs.Step.{row_of, time_says, changed_says, put_number, skipped_says, pass_number, remark_says, word_says, hear_at, hear_of}
 use Rattle.ccsl_vcd_read.specs.Picture.{place_of, Shows}
 use Rattle.ccsl_bind.proofs.Codes.{declared-number}

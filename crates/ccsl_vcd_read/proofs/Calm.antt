@@ -1,5 +1,5 @@
 -- Where there is no want of memory: in a body.
-use Rattle.std.proofs.Common.{◌≡◌, ℕ, ◌++◌, List, [], take, Bool, true, false, nat_lt, cond, Option, Some, None, Result, Ok, Err, map, sym, ap, ◌∙◌, subst}
+use Rattle.std.proofs.Common.{◌≡◌, ℕ, ◌++◌, List, [], take, Bool, true, false, nat_lt, cond, Some, None, Result, Ok, Err, sym, ◌∙◌, subst}
 use Rattle.std.specs.Prelude.{bytes_eq, codes}
 use Rattle.ccsl_base.specs.declared.rows.Row.{Row}
 use Rattle.ccsl_base.specs.Rows.{RowList}
@@ -11,7 +11,6 @@ use Rattle.ccsl_bind.specs.Codes.{number_of}
 use Rattle.ccsl_vcd_read.specs.declared.amid.Amid.{Amid}
 use Rattle.ccsl_vcd_read.specs.declared.amid.Amid.TheVariants.{Changes, Remark, Code, CodeSkipped}
 use Rattle.ccsl_vcd_read.specs.declared.body.Body.{Body}
-use Rattle.ccsl_vcd_read.specs.Marks.{put}
 use Rattle.ccsl_vcd_read.specs.Heading.{NotMemory}
 use Rattle.ccsl_vcd_read.specs.Step.{row_of, time_says, changed_says, put_number, skipped_says, pass_number, word_says, hear_at, hear_of, Says}
 use Rattle.ccsl_vcd_read.specs.Staging.{is_body}

@@ -1,10 +1,10 @@
 -- The end of a trace.
-use Rattle.std.proofs.Common.{◌≡◌, ℕ, ◌+◌, ◌-◌, ◌≤◌, ◌<◌, ◌^◌, List, [], ◌∷◌, ◌++◌, length, Bool, true, false, not, ◌&&◌, cond, Option, Some, None, refl, sym, ap, ◌∙◌, subst, append_assoc, arith, length-append}
+use Rattle.std.proofs.Common.{◌≡◌, ℕ, ◌+◌, ◌-◌, ◌≤◌, List, [], ◌∷◌, ◌++◌, length, Bool, true, false, cond, Option, Some, None, refl, sym, ap, ◌∙◌, subst, append_assoc, arith, length-append}
 use Rattle.std.specs.Prelude.{IfNone, IfSome}
 use Rattle.std.proofs.lemmas.List.{append-nil}
 use Rattle.std.proofs.lemmas.Bool.{le-ltb}
 use Rattle.ccsl_base.specs.declared.rows.Row.{Row}
-use Rattle.ccsl_vcd_lex.specs.Tokens.{token, Heard as Said, word, settled, heard}
+use Rattle.ccsl_vcd_lex.specs.Tokens.{token, word, settled, heard}
 use Rattle.ccsl_vcd.specs.declared.fault.VcdFault.{VcdFault}
 use Rattle.ccsl_vcd.specs.declared.fault.VcdFault.TheVariants as faults
 use Rattle.ccsl_vcd.specs.declared.limits.Limits.{Limits}
@@ -16,7 +16,7 @@ use Rattle.ccsl_vcd.proofs.RowLaws.{rows-all}
 use Rattle.ccsl_vcd_read.specs.declared.stage.Stage.{Stage}
 use Rattle.ccsl_vcd_read.specs.declared.stage.Stage.TheVariants as stage
 use Rattle.ccsl_vcd_read.specs.Heading.{Caused, Refuses}
-use Rattle.ccsl_vcd_read.specs.Staging.{Pictures, Heard, row_left, ends_well, is_body, shown, shown_at}
+use Rattle.ccsl_vcd_read.specs.Staging.{Pictures, Heard, row_left, ends_well, shown, shown_at}
 use Rattle.ccsl_vcd_read.specs.Reading.{Reading, Running, Stopped, StandsFor, Pushes, AtEnd, Refused, AreCounts}
 use Rattle.ccsl_vcd_read.proofs.BodyPictures.{complete-is, row-given}
 use Rattle.ccsl_vcd_read.proofs.StagePictures.{caused-map, row-short}

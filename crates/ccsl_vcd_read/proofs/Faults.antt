@@ -1,9 +1,9 @@
 -- Where a reader stops, and what it took of a piece.
-use Rattle.std.proofs.Common.{◌≡◌, ℕ, ◌+◌, ◌-◌, ◌≤◌, ◌<◌, ◌^◌, List, [], ◌∷◌, ◌++◌, length, take, drop, Bool, true, false, Option, Some, None, nat_lt, refl, sym, ap, ◌∙◌, subst, append_assoc, arith, length-append, length-take}
-use Rattle.std.proofs.lemmas.List.{append-nil, take-append-drop, take-append-le}
+use Rattle.std.proofs.Common.{◌≡◌, ℕ, ◌+◌, ◌-◌, ◌≤◌, ◌<◌, ◌^◌, List, [], ◌∷◌, ◌++◌, length, take, drop, Bool, true, false, Option, Some, None, nat_lt, refl, sym, ap, ◌∙◌, subst, append_assoc, arith, length-append}
+use Rattle.std.proofs.lemmas.List.{append-nil, take-append-drop}
 use Rattle.std.proofs.lemmas.Bool.{lt-ltb}
 use Rattle.std.proofs.lemmas.Grind.{common_steps}
-use Rattle.std.proofs.Math.Seq.{take-append_seam, take-append-add}
+use Rattle.std.proofs.Math.Seq.{take-append_seam}
 use Rattle.ccsl_base.specs.declared.rows.Row.{Row}
 use Rattle.ccsl_vcd_lex.specs.Tokens.{token, Heard as Said, word, too_long, tokens, settled, first_long}
 use Rattle.ccsl_vcd_lex.specs.Lexing as lexer
@@ -11,16 +11,13 @@ use Rattle.ccsl_vcd.specs.declared.fault.VcdFault.{VcdFault}
 use Rattle.ccsl_vcd.specs.declared.fault.VcdFault.TheVariants as faults
 use Rattle.ccsl_vcd.specs.declared.limits.Limits.{Limits}
 use Rattle.ccsl_vcd.specs.Binding.{Wanted}
-use Rattle.ccsl_vcd.specs.Places as p
 use Rattle.ccsl_vcd.specs.Reading.{Story, next, says, story, so_far, reading, decides, or_else}
 use Rattle.ccsl_vcd.specs.Rows.{complete, done}
-use Rattle.ccsl_vcd.proofs.Decided.{story-more, so_far-further, so_far-stays, decided-first}
-use Rattle.ccsl_vcd_read.specs.declared.stage.Stage.{Stage}
-use Rattle.ccsl_vcd_read.specs.Heading.{Caused, Refuses}
-use Rattle.ccsl_vcd_read.specs.Staging.{Pictures, is_body, shown, shown_at}
+use Rattle.ccsl_vcd.proofs.Decided.{story-more, so_far-further, so_far-stays}
+use Rattle.ccsl_vcd_read.specs.Heading.{Refuses}
+use Rattle.ccsl_vcd_read.specs.Staging.{is_body, shown, shown_at}
 use Rattle.ccsl_vcd_read.specs.Reading.{Reading, FewRows, Running, Stopped, StandsFor, Pushes, Decides, IsFront}
-use Rattle.ccsl_vcd_read.proofs.StagePictures.{caused-map}
-use Rattle.ccsl_vcd_read.proofs.Taking.{running-of, stands-stopped, so_far-within, done-within, done-told, no-fault, same-shown, Fed, word-fault, word-shown, refused-pushes}
+use Rattle.ccsl_vcd_read.proofs.Taking.{running-of, so_far-within, done-within, done-told, no-fault, same-shown, Fed, word-fault, word-shown, refused-pushes}
 
 -- The front of a piece.
 

@@ -1,9 +1,8 @@
 -- What a reader stands for, piece by piece.
-use Rattle.std.proofs.Common.{◌≡◌, ℕ, ◌+◌, ◌-◌, ◌≤◌, ◌<◌, List, [], ◌∷◌, ◌++◌, length, take, drop, Bool, true, false, Option, Some, None, refl, sym, ap, ◌∙◌, subst, append_assoc, arith, length-append, length-drop}
+use Rattle.std.proofs.Common.{◌≡◌, ℕ, ◌+◌, ◌-◌, ◌≤◌, ◌<◌, List, [], ◌++◌, length, take, drop, Bool, true, false, Option, Some, None, refl, sym, ap, ◌∙◌, subst, append_assoc, arith, length-drop}
 use Rattle.std.specs.Prelude.{IfNone}
 use Rattle.std.proofs.lemmas.List.{append-nil, take-append-drop, take_all}
 use Rattle.std.proofs.Math.Seq.{take-add}
-use Rattle.std.proofs.lemmas.Grind.{common_steps}
 use Rattle.ccsl_base.specs.declared.rows.Row.{Row}
 use Rattle.ccsl_base.specs.Rows.{RowList}
 use Rattle.ccsl_vcd.specs.declared.fault.VcdFault.{VcdFault}
@@ -14,7 +13,7 @@ use Rattle.ccsl_vcd.specs.Reading.{so_far, reading}
 use Rattle.ccsl_vcd.specs.Rows.{done}
 use Rattle.ccsl_vcd.proofs.Decided.{decided-first}
 use Rattle.ccsl_vcd_read.specs.Heading.{Caused}
-use Rattle.ccsl_vcd_read.specs.Reading.{Reading, Running, Stopped, StandsFor, Pushes, Decides, EndsHeader, HeaderSo, past_header}
+use Rattle.ccsl_vcd_read.specs.Reading.{Reading, Stopped, StandsFor, Pushes, Decides, EndsHeader, HeaderSo, past_header}
 use Rattle.ccsl_vcd_read.proofs.StagePictures.{caused-map}
 use Rattle.ccsl_vcd_read.proofs.Taking.{stands-stopped, stopped-is}
 use Rattle.ccsl_vcd_read.proofs.Faults.{stopped-further}

@@ -1,5 +1,5 @@
 -- What is kept of a header, token by token.
-use Rattle.std.proofs.Common.{◌≡◌, ℕ, ◌+◌, ◌-◌, ◌≤◌, ◌<◌, ◌^◌, List, [], ◌∷◌, ◌++◌, length, take, drop, Bool, true, false, Option, Some, None, Result, Ok, Err, nat_le, cond, ◌&&◌, refl, sym, ap, ◌∙◌, append_assoc, arith, subst, length-append}
+use Rattle.std.proofs.Common.{◌≡◌, ℕ, ◌+◌, ◌-◌, ◌<◌, ◌^◌, List, [], ◌∷◌, ◌++◌, length, take, drop, Bool, true, false, Some, None, Result, Ok, Err, nat_le, cond, ◌&&◌, refl, sym, ap, ◌∙◌, append_assoc, arith, subst, length-append}
 use Rattle.std.specs.Prelude.{bytes_eq, codes}
 use Rattle.std.proofs.lemmas.List.{append-nil}
 use Rattle.std.proofs.lemmas.Grind.{common_steps}
@@ -12,7 +12,6 @@ use Rattle.ccsl_vcd.specs.Binding.{Declaration, Wanted, bind}
 use Rattle.ccsl_vcd.specs.Places as p
 use Rattle.ccsl_vcd.specs.Header as d
 use Rattle.ccsl_vcd.specs.Reading.{Story, next, says, told}
-use Rattle.ccsl_vcd.specs.Rows.{complete}
 use Rattle.ccsl_bind.specs.Collected.{StandsFor}
 use Rattle.ccsl_vcd_read.specs.declared.command.Command.{Command}
 use Rattle.ccsl_vcd_read.specs.declared.command.Command.TheVariants.{Between, Kind, Size, Code, Reference, More, Scope, Upscope, EndDefinitions, Other}

@@ -1,5 +1,5 @@
 -- What is kept of a trace, token by token.
-use Rattle.std.proofs.Common.{◌≡◌, ℕ, ◌+◌, ◌≤◌, List, [], ◌∷◌, ◌++◌, length, Bool, true, false, not, ◌&&◌, nat_lt, cond, Option, Some, None, Result, Ok, Err, filter, map, refl, sym, ap, ◌∙◌, subst, arith, length-append}
+use Rattle.std.proofs.Common.{◌≡◌, ℕ, ◌+◌, ◌≤◌, List, [], ◌∷◌, length, Bool, true, false, not, ◌&&◌, nat_lt, cond, Some, None, Result, Ok, Err, filter, map, refl, sym, ap, ◌∙◌, subst, arith, length-append}
 use Rattle.std.specs.Prelude.{bytes_eq, codes}
 use Rattle.std.proofs.lemmas.List.{append-nil}
 use Rattle.ccsl_base.specs.declared.rows.Row.{Row}
@@ -8,12 +8,11 @@ use Rattle.ccsl_vcd.specs.declared.fault.VcdFault.{VcdFault}
 use Rattle.ccsl_vcd.specs.declared.fault.VcdFault.TheVariants as faults
 use Rattle.ccsl_vcd.specs.declared.limits.Limits.{Limits}
 use Rattle.ccsl_vcd.specs.Words as w
-use Rattle.ccsl_vcd.specs.Binding.{Declaration, Wanted, Bound, bind}
+use Rattle.ccsl_vcd.specs.Binding.{Wanted, bind}
 use Rattle.ccsl_vcd.specs.Places as p
 use Rattle.ccsl_vcd.specs.Header as d
 use Rattle.ccsl_vcd.specs.Reading.{Story, next, told}
 use Rattle.ccsl_vcd.specs.Rows.{complete, rows, has_ticks}
-use Rattle.ccsl_bind.specs.Bindings.{Bindings}
 use Rattle.ccsl_bind.specs.Codes.{number_of}
 use Rattle.ccsl_vcd_read.specs.declared.amid.Amid.{Amid}
 use Rattle.ccsl_vcd_read.specs.declared.amid.Amid.TheVariants.{Changes, Remark, Code, CodeSkipped}
@@ -23,14 +22,13 @@ use Rattle.ccsl_vcd_read.specs.declared.heading.Heading.{Heading}
 use Rattle.ccsl_vcd_read.specs.declared.stage.Stage.{Stage}
 use Rattle.ccsl_vcd_read.specs.declared.stage.Stage.TheVariants as stage
 use Rattle.ccsl_vcd_read.specs.Meant.{amid_of}
-use Rattle.ccsl_vcd_read.specs.Marks.{put, aged, is_ticking, ticking, mark_of}
-use Rattle.ccsl_vcd_read.specs.Step.{row_of, time_says, changed_says, put_number, skipped_says, pass_number, remark_says, word_says, hear_at, hear_of, Says}
+use Rattle.ccsl_vcd_read.specs.Marks.{put, aged, is_ticking, ticking}
+use Rattle.ccsl_vcd_read.specs.Step.{row_of, time_says, changed_says, put_number, skipped_says, pass_number, word_says, hear_at, hear_of, Says}
 use Rattle.ccsl_vcd_read.specs.Picture.{place_of, Shows}
-use Rattle.ccsl_vcd_read.specs.Heading.{opening, HeadShows, HeadGoes, Closes, Refuses, Caused}
-use Rattle.ccsl_vcd_read.specs.Opening.{IsBeginning, IsOpened}
-use Rattle.ccsl_vcd_read.specs.Staging.{Pictures, Heard, IsClosing, Begins, is_body}
+use Rattle.ccsl_vcd_read.specs.Heading.{HeadShows, Closes, Refuses, Caused}
+use Rattle.ccsl_vcd_read.specs.Opening.{IsOpened}
+use Rattle.ccsl_vcd_read.specs.Staging.{Heard, Begins}
 use Rattle.ccsl_vcd_read.proofs.BodyPictures.{Hears, hears, at_time}
-use Rattle.ccsl_vcd_read.proofs.HeadPictures.{weaken}
 
 -- One row at most.
 

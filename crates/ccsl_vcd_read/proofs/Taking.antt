@@ -1,22 +1,21 @@
 -- What a reader stands for, token by token.
-use Rattle.std.proofs.Common.{◌≡◌, ℕ, ◌+◌, ◌-◌, ◌≤◌, ◌<◌, ◌^◌, List, [], ◌∷◌, ◌++◌, length, take, Bool, true, false, not, ◌&&◌, Option, Some, None, refl, sym, ap, ◌∙◌, subst, arith, length-append}
+use Rattle.std.proofs.Common.{◌≡◌, ℕ, ◌+◌, ◌-◌, ◌≤◌, ◌<◌, List, [], ◌∷◌, ◌++◌, length, take, Bool, true, false, not, ◌&&◌, Option, Some, None, refl, sym, ap, ◌∙◌, subst, arith, length-append}
 use Rattle.std.proofs.lemmas.List.{append-nil}
 use Rattle.std.proofs.lemmas.Bool.{le-ltb}
 use Rattle.ccsl_base.specs.declared.rows.Row.{Row}
-use Rattle.ccsl_vcd_lex.specs.Tokens.{token, Heard as Said, word, too_long, tokens, tokens_from, settled, first_long}
+use Rattle.ccsl_vcd_lex.specs.Tokens.{token, Heard as Said, word, tokens, settled, first_long}
 use Rattle.ccsl_vcd_lex.specs.Lexing as lexer
 use Rattle.ccsl_vcd.specs.declared.fault.VcdFault.{VcdFault}
-use Rattle.ccsl_vcd.specs.declared.fault.VcdFault.TheVariants as faults
 use Rattle.ccsl_vcd.specs.declared.limits.Limits.{Limits}
 use Rattle.ccsl_vcd.specs.Binding.{Wanted}
-use Rattle.ccsl_vcd.specs.Reading.{Story, next, says, story, so_far}
+use Rattle.ccsl_vcd.specs.Reading.{Story, next, story, so_far}
 use Rattle.ccsl_vcd.specs.Rows.{complete, done, rows}
 use Rattle.ccsl_vcd.proofs.Decided.{story-more}
 use Rattle.ccsl_vcd_read.specs.declared.stage.Stage.{Stage}
 use Rattle.ccsl_vcd_read.specs.declared.stage.Stage.TheVariants as stage
 use Rattle.ccsl_vcd_read.specs.Heading.{Caused, Refuses}
 use Rattle.ccsl_vcd_read.specs.Staging.{Pictures, Heard, is_body, shown, shown_at}
-use Rattle.ccsl_vcd_read.specs.Reading.{Reading, FewRows, Running, Stopped, Stands, StandsFor, Pushes, is_past, past_header, EndsHeader, HeaderSo}
+use Rattle.ccsl_vcd_read.specs.Reading.{Reading, FewRows, Running, Stopped, Stands, StandsFor, Pushes, is_past, past_header, HeaderSo}
 
 pub running-of : (wanted : Wanted) (v : Reading) (bytes : List ℕ) → v.fault ≡ None → StandsFor wanted v bytes → Running wanted v bytes
 unfolding StandsFor

@@ -1,15 +1,14 @@
 -- Ascending clocks, and those that tick among them.
-use Rattle.std.proofs.Common.{◌≡◌, ℕ, ◌+◌, ◌<◌, ◌≤◌, List, [], ◌∷◌, ◌++◌, length, take, drop, get_or, drop-cons, add-one, Bool, true, false, not, nat_lt, nat_eq, ◌&&◌, ◌||◌, cond, filter, map, refl, sym, ap, ◌∙◌, subst, arith}
-use Rattle.std.specs.List.{AllByRecursion, list_all}
-use Rattle.std.proofs.lemmas.Bool.{ltb-true, lt-ltb, le-ltb}
+use Rattle.std.proofs.Common.{◌≡◌, ℕ, ◌+◌, ◌<◌, List, [], ◌∷◌, ◌++◌, length, take, drop, get_or, drop-cons, add-one, Bool, true, false, not, nat_lt, nat_eq, ◌&&◌, ◌||◌, cond, filter, map, refl, sym, ap, ◌∙◌, subst}
+use Rattle.std.specs.List.{list_all}
+use Rattle.std.proofs.lemmas.Bool.{ltb-true}
 use Rattle.std.proofs.lemmas.List.{take_more, map-append, take-append-drop, append-nil, length-map}
 use Rattle.std.proofs.Math.Seq.{take-append_seam}
 use Rattle.std.proofs.lemmas.List.Elements.{filter-append}
-use Rattle.std.proofs.lemmas.Grind.{common_steps}
 use Rattle.ccsl_base.specs.Clocks.{with_clock, is_ascending, are_below}
 use Rattle.ccsl_bind.proofs.Above.{AllBelow, with_clock-last}
 use Rattle.ccsl_vcd_read.specs.declared.marks.Mark.{Mark}
-use Rattle.ccsl_vcd_read.specs.Marks.{is_ticking, ticking, put, aged}
+use Rattle.ccsl_vcd_read.specs.Marks.{is_ticking, ticking, put}
 
 pub and-both : (a b : Bool) → (a && b) ≡ true → (a ≡ true) × (b ≡ true)
 and-both true b h = (refl, h)

@@ -1,6 +1,6 @@
 -- What is kept of a header, the story of which it is kept, and what a token makes of it.
-use Rattle.std.specs.Prelude.{◌≡◌, ℕ, ◌+◌, ◌-◌, ◌<◌, ◌≤◌, List, [], ◌∷◌, ◌++◌, length, take, drop, Bool, true, false, Option, Some, None, Result, Ok, Err, nat_le, ◌&&◌, if◌then◌else◌, codes, bytes_eq}
-use Rattle.ccsl_vcd_lex.specs.Tokens.{Token, word, token}
+use Rattle.std.specs.Prelude.{◌≡◌, ℕ, ◌+◌, ◌-◌, ◌<◌, List, [], ◌∷◌, ◌++◌, length, take, drop, Bool, true, false, Option, Some, None, Result, Ok, Err, nat_le, ◌&&◌, if◌then◌else◌, codes, bytes_eq}
+use Rattle.ccsl_vcd_lex.specs.Tokens.{Token}
 use Rattle.ccsl_vcd.specs.declared.fault.VcdFault.{VcdFault}
 use Rattle.ccsl_vcd.specs.declared.fault.VcdFault.TheVariants as faults
 use Rattle.ccsl_vcd.specs.declared.limits.Limits.{Limits}

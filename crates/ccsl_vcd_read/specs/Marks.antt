@@ -1,5 +1,5 @@
 -- What a reader keeps of the changes, for each bound clock.
-use Rattle.std.specs.Prelude.{ℕ, List, ◌++◌, Bool, true, false, not, Option, Some, None, ◌==◌, ◌&&◌, ◌||◌, if◌then◌else◌, filter, map, unwrap_or}
+use Rattle.std.specs.Prelude.{ℕ, List, Bool, true, false, not, Option, Some, None, ◌==◌, ◌&&◌, ◌||◌, if◌then◌else◌, filter, map, unwrap_or}
 use Rattle.ccsl_vcd.specs.Binding.{Bound}
 use Rattle.ccsl_vcd.specs.Places.{Change}
 use Rattle.ccsl_vcd.specs.Rows.{later, last_value, event_ticks}

@@ -1,5 +1,5 @@
 -- What is kept of a body, and the story of which it is kept.
-use Rattle.std.specs.Prelude.{◌≡◌, ℕ, ◌<◌, List, ◌++◌, true, None, map}
+use Rattle.std.specs.Prelude.{◌≡◌, ◌<◌, List, ◌++◌, true, None, map}
 use Rattle.std.specs.List.{AllByRecursion}
 use Rattle.ccsl_vcd.specs.Binding.{Declaration}
 use Rattle.ccsl_vcd.specs.Places as p

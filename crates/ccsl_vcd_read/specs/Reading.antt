@@ -1,5 +1,5 @@
 -- What a reader stands for.
-use Rattle.std.specs.Prelude.{◌≡◌, ℕ, ◌≤◌, ◌<◌, List, ◌++◌, length, take, Bool, true, false, not, ◌&&◌, Option, Some, None, ◌-◌}
+use Rattle.std.specs.Prelude.{◌≡◌, ℕ, ◌≤◌, ◌<◌, List, ◌++◌, length, take, Bool, true, false, Option, Some, None, ◌-◌}
 use Rattle.ccsl_base.specs.declared.rows.Row.{Row}
 use Rattle.ccsl_vcd_lex.specs.Tokens.{tokens, settled, heard, first_long}
 use Rattle.ccsl_vcd_lex.specs.Lexing as lexer

@@ -28,4 +28,4 @@ returns-clause-ends g c = λ wanted bytes f.
     let fine = c.in-Ok.ensures.accepts wanted bytes f.reads in
     let l = last-end wanted c.args.reader.now c.finish.new.self bytes _ (g.R.Watch.stands c.args.watch.now) (g.R.Watch.stands c.begin_late.new.watch) c.args.block.now.rows c.finish.new.out.rows c.is_some-ended.result f (c.in-Ok.ensures.pushes wanted bytes f.reads) ended fine (c.in-Ok.ensures.shows wanted bytes f.reads)
     (λ e. ap g.R.Watch.stands (c.in-Ok-begin_late.ensures.same e)) c.in-Ok-begin_late.ensures.begun in
-    ends-of wanted c.args.reader.now.limits bytes (g.R.Watch.stands c.begin_late.new.watch) (g.R.Watch.stands c.take.new.self) c.finish.new.out.rows l.0 c.in-Ok.counts.rows c.in-Ok.counts.bytes fine l.1 (c.in-Ok.ensures.counts wanted bytes f.reads) l.2 c.take.ensures
+    ends-of wanted c.args.reader.now.limits bytes (g.R.Watch.stands c.begin_late.new.watch) (g.R.Watch.stands c.take.new.self) c.finish.new.out.rows l.0 c.in-Ok.counts.rows c.in-Ok.counts.bytes fine l.1 (c.in-Ok.ensures.counts wanted bytes f.reads) l.2 c.take.ensures.taken

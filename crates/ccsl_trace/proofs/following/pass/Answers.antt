@@ -51,6 +51,7 @@ give_full-requires-clause-watched g c =
 
 pub loop-rest-preserved : goal.loop-rest-preserved
 loop-rest-preserved g c = record {
+  system = c.give_full.ensures.system ∙ c.begin_watch.ensures.system ∙ c.loop-rest.invariant.system;
   room = c.give_full.ensures.rest;
   passed =
       subst (λ xs. Rattle.ccsl_trace.proofs.Passing.Passed c.args.reader.now c.feed.new.self c.args.piece.now xs (g.R.Watch.waits c.args.watch.now) (g.R.Watch.stands c.args.watch.now) c.args.block.now.rows (g.R.Watch.waits c.give_full.new.watch) (g.R.Watch.stands c.give_full.new.watch) c.give_full.new.block.rows) (sym c.split_at.ensures.back)

@@ -1,4 +1,4 @@
-use Rattle.std.proofs.Common.{◌≡◌, ◌<◌, ◌≤◌, ◌++◌, take, length, sym, subst, arith, length-take-le}
+use Rattle.std.proofs.Common.{◌≡◌, ◌∙◌, ◌<◌, ◌≤◌, ◌++◌, take, length, sym, subst, arith, length-take-le}
 use Rattle.ccsl_trace.specs.Traces.{IsUnread}
 use Rattle.ccsl_trace.proofs.Follow.{reads-more, pass-unread, smaller}
 use Rattle.ccsl_trace.proofs.reader.read_on.Goals as goal
@@ -13,6 +13,7 @@ loop-count-smaller g c =
 
 pub loop-count-preserved : goal.loop-count-preserved
 loop-count-preserved g c = record {
+  system = c.pass.ensures.system ∙ c.loop-count.invariant.system;
   some = omega (arith, c.loop-count.invariant.some, c.read.auto.buf);
   most = omega (arith, c.loop-count.invariant.most, c.read.auto.buf);
   room = c.in-Ok-pass.ensures.room;

@@ -1,4 +1,4 @@
-use Rattle.std.proofs.Common.{◌<◌, ◌≤◌, ◌+◌, ◌-◌, length}
+use Rattle.std.proofs.Common.{◌≡◌, ◌<◌, ◌≤◌, ◌+◌, ◌-◌, length}
 use Rattle.ccsl_trace.specs.declared.reader.TheConstants.{PIECE}
 use Rattle.ccsl_trace.specs.Following.{ReadsOn}
 use Rattle.ccsl_trace.proofs.reader.read_on.Given as goal
@@ -6,6 +6,7 @@ use Rattle.ccsl_trace.proofs.reader.read_on.Given as goal
 -- what was read so far was followed, and the buffer is as long as it was
 abbrev pub invariant-loop-count : goal.invariant-loop-count
 invariant-loop-count g l = record {
+  system : g.R.Watch.system l.watch ≡ g.R.Watch.system l.fn.watch;
   some : 0 < length l.buf;
   most : length l.buf ≤ PIECE;
   room : length l.block.rows < l.block.room;

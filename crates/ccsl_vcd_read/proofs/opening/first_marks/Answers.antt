@@ -1,8 +1,6 @@
-use Rattle.std.proofs.Common.{◌≡◌, ℕ, ◌+◌, ◌<◌, ◌≤◌, List, [], true, not, map, refl, sym, ap, ◌∙◌, arith, Option, Some, None, subst}
+use Rattle.std.proofs.Common.{◌≡◌, ◌+◌, [], true, not, map, sym, ap, ◌∙◌, arith}
 use Rattle.ccsl_base.specs.Clocks.{is_ascending, are_below}
 use Rattle.ccsl_base.specs.declared.limits.TheConstants.{MAX_CLOCKS}
-use Rattle.ccsl_vcd.specs.Binding.{Bound}
-use Rattle.ccsl_bind.specs.Bindings.{code_number}
 use Rattle.ccsl_vcd_read.specs.Marks.{mark_of}
 use Rattle.ccsl_vcd_read.proofs.Openings.{below-none, below-all, found, marks-more, marks-none, marks-ascend}
 use Rattle.ccsl_vcd_read.proofs.opening.first_marks.Goals as goal

@@ -1,10 +1,9 @@
-use Rattle.std.proofs.Common.{◌≡◌, ℕ, List, false, Ok, Err, refl, sym, ap, ◌∙◌, subst}
+use Rattle.std.proofs.Common.{false, sym, subst}
 use Rattle.ccsl_vcd_lex.specs.Tokens.{token, word}
 use Rattle.ccsl_vcd.specs.Binding.{Wanted}
 use Rattle.ccsl_vcd.specs.Reading.{Story, next}
 use Rattle.ccsl_vcd_read.specs.declared.stage.Stage.{Stage}
 use Rattle.ccsl_vcd_read.specs.declared.stage.Stage.TheVariants as stage
-use Rattle.ccsl_vcd_read.specs.Heading.{Refuses}
 use Rattle.ccsl_vcd_read.specs.Staging.{Pictures, Heard}
 use Rattle.ccsl_vcd_read.proofs.HeadPictures.{weaken}
 use Rattle.ccsl_vcd_read.proofs.StagePictures.{body-heard, body-refused, room-left}

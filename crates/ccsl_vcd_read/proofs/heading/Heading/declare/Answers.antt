@@ -1,4 +1,4 @@
-use Rattle.std.proofs.Common.{List, ◌∷◌, [], ◌++◌, ap, ◌∙◌, subst}
+use Rattle.std.proofs.Common.{◌∷◌, [], ◌++◌, ap, ◌∙◌, subst}
 use Rattle.ccsl_vcd.specs.Binding.{Declaration}
 use Rattle.ccsl_bind.specs.Collected.{StandsFor}
 use Rattle.ccsl_vcd_read.specs.Heading.{reference_in}

@@ -1,10 +1,10 @@
-use Rattle.std.proofs.Common.{◌≡◌, sym, ap, ◌∙◌, subst, Ok, Err, Result}
+use Rattle.std.proofs.Common.{sym, subst, Ok, Err}
 use Rattle.ccsl_vcd_lex.specs.Tokens.{token, word}
 use Rattle.ccsl_vcd.specs.Binding.{Wanted}
 use Rattle.ccsl_vcd.specs.Header as d
 use Rattle.ccsl_vcd.specs.Reading.{Story, next}
 use Rattle.ccsl_vcd_read.specs.Heading.{start_of, word_in, HeadShows, Refuses, Becomes}
-use Rattle.ccsl_vcd_read.proofs.HeadPictures.{is-end, starts, words, goes-by, caused-by, faulty}
+use Rattle.ccsl_vcd_read.proofs.HeadPictures.{starts, words, goes-by, caused-by, faulty}
 use Rattle.ccsl_vcd_read.proofs.heading.Heading.hear.Goals as goal
 
 pub returns-in-Ok-clause-goes : goal.returns-in-Ok-clause-goes

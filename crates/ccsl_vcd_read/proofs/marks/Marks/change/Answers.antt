@@ -1,4 +1,4 @@
-use Rattle.std.proofs.Common.{List, IsTrue}
+use Rattle.std.proofs.Common.{IsTrue}
 use Rattle.ccsl_base.specs.Clocks.{is_ascending, are_below}
 use Rattle.ccsl_base.specs.declared.limits.TheConstants.{MAX_CLOCKS}
 use Rattle.ccsl_vcd_read.specs.Marks.{put}

@@ -1,6 +1,5 @@
-use Rattle.std.proofs.Common.{◌≡◌, ℕ, ◌+◌, ◌-◌, ◌<◌, List, [], ◌∷◌, ◌++◌, length, take, drop, false, None, Some, refl, sym, ap, ◌∙◌, subst, arith}
+use Rattle.std.proofs.Common.{◌≡◌, ℕ, ◌+◌, ◌-◌, List, [], ◌∷◌, ◌++◌, take, drop, refl, sym, ap, ◌∙◌, subst, arith}
 use Rattle.std.proofs.lemmas.List.{append-nil}
-use Rattle.ccsl_base.specs.declared.rows.Row.{Row}
 use Rattle.ccsl_vcd_lex.specs.Tokens.{token, word, settled}
 use Rattle.ccsl_vcd_lex.specs.Lexing.{named}
 use Rattle.ccsl_vcd.specs.declared.fault.VcdFault.{VcdFault}
@@ -8,13 +7,13 @@ use Rattle.ccsl_vcd.specs.declared.fault.VcdFault.TheVariants as faults
 use Rattle.ccsl_vcd.specs.Binding.{Wanted}
 use Rattle.ccsl_vcd.specs.Reading.{story, next}
 use Rattle.ccsl_vcd.specs.Rows.{done}
-use Rattle.ccsl_vcd_read.specs.Heading.{Caused, Refuses}
+use Rattle.ccsl_vcd_read.specs.Heading.{Refuses}
 use Rattle.ccsl_vcd_read.specs.Staging.{shown}
 use Rattle.ccsl_vcd_read.specs.Reading.{Reading, StandsFor, Running, Pushes, Decides, HeaderSo, past_header}
 use Rattle.ccsl_vcd_read.proofs.HeadPictures.{weaken}
 use Rattle.ccsl_vcd_read.proofs.StagePictures.{caused-map}
-use Rattle.ccsl_vcd_read.proofs.Taking.{stands-of, stands-stopped, quiet, quiet-pushes, quiet-past, word-runs, word-pushes, word-header, word-fault, word-shown, refused-pushes, Fed}
-use Rattle.ccsl_vcd_read.proofs.Faults.{enter, fed-of, before-last, room-for, take-cut, Breaks, decides-of, stopped-of, over-breaks, long-breaks, front-back, rows-fit, cut-some, refused-breaks}
+use Rattle.ccsl_vcd_read.proofs.Taking.{stands-of, stands-stopped, quiet, quiet-pushes, quiet-past, word-runs, word-pushes, word-header}
+use Rattle.ccsl_vcd_read.proofs.Faults.{enter, fed-of, before-last, room-for, take-cut, decides-of, stopped-of, over-breaks, long-breaks, front-back, rows-fit, cut-some, refused-breaks}
 use Rattle.ccsl_vcd_read.proofs.reader.Reader.advance.Goals as goal
 
 pub overflow_sub-left : goal.overflow_sub-left

@@ -1,6 +1,4 @@
-use Rattle.std.proofs.Common.{◌≡◌, Option, Some, None, refl, ap, ◌∙◌, sym}
-use Rattle.std.specs.Prelude.{IfNone, IfSome}
-use Rattle.ccsl_vcd.specs.declared.fault.VcdFault.{VcdFault}
+use Rattle.std.proofs.Common.{ap, ◌∙◌}
 use Rattle.ccsl_vcd_read.specs.Staging.{shown}
 use Rattle.ccsl_vcd_read.specs.Reading.{Reading}
 use Rattle.ccsl_vcd_read.proofs.StagePictures.{caused-map}

@@ -1,8 +1,6 @@
-use Rattle.std.proofs.Common.{◌≡◌, ◌<◌, ℕ, ◌+◌, List, ◌++◌, false, None, sym, ap, ◌∙◌, subst, arith}
+use Rattle.std.proofs.Common.{ℕ, List, ◌++◌, sym, ap, ◌∙◌, subst, arith}
 use Rattle.std.proofs.lemmas.Grind.{common_steps}
-use Rattle.ccsl_vcd.specs.declared.fault.VcdFault.{VcdFault}
 use Rattle.ccsl_vcd.specs.Binding.{Wanted}
-use Rattle.ccsl_vcd_read.specs.Heading.{Caused}
 use Rattle.ccsl_vcd_read.specs.Reading.{Reading, StandsFor, HeaderSo}
 use Rattle.ccsl_vcd_read.proofs.StagePictures.{caused-map}
 use Rattle.ccsl_vcd_read.proofs.Feeding.{starts, passes, more-stands, more-pushes, more-header, piece-decides, piece-refuses, piece-still, stays-stopped, all-refused, rest_at, if-none}

@@ -1,4 +1,4 @@
-use Rattle.std.proofs.Common.{ℕ, ◌-◌, length}
+use Rattle.std.proofs.Common.{◌-◌, length}
 use Rattle.ccsl_vcd_read.proofs.Feeding.{Passed}
 use Rattle.ccsl_vcd_read.proofs.reader.Reader.feed.Given as goal
 

@@ -1,17 +1,13 @@
 use Rattle.std.proofs.Common.{◌≡◌, ◌≤◌, ◌<◌, ◌^◌, ◌+◌, ◌-◌, ℕ, List, ◌++◌, length, true, false, refl, sym, ap, ◌∙◌, subst, arith}
 use Rattle.std.specs.Prelude.{IfNone}
-use Rattle.ccsl_vcd.specs.declared.fault.VcdFault.{VcdFault}
 use Rattle.ccsl_vcd.specs.declared.fault.VcdFault.TheVariants as faults
 use Rattle.ccsl_vcd.specs.Binding.{Wanted}
-use Rattle.ccsl_vcd.specs.Reading.{reading}
-use Rattle.ccsl_vcd.specs.Rows.{complete, done}
 use Rattle.ccsl_vcd_read.specs.Staging.{ends_well, row_left}
-use Rattle.ccsl_vcd_read.specs.Reading.{Reading, StandsFor, Pushes}
+use Rattle.ccsl_vcd_read.specs.Reading.{Reading, StandsFor}
 use Rattle.ccsl_vcd_read.proofs.HeadPictures.{weaken}
-use Rattle.ccsl_vcd_read.proofs.StagePictures.{caused-map}
 use Rattle.ccsl_vcd_read.proofs.Taking.{running-of}
 use Rattle.ccsl_vcd_read.proofs.Faults.{rows-fit}
-use Rattle.ccsl_vcd_read.proofs.Ending.{truncated, end-shown, cut-pushes, accepted, end-pushes, end-counts, stopped-refuses, when-none, refused-pushes}
+use Rattle.ccsl_vcd_read.proofs.Ending.{truncated, end-shown, cut-pushes, accepted, end-pushes, end-counts, stopped-refuses, when-none}
 use Rattle.ccsl_vcd_read.proofs.reader.Reader.finish.Goals as goal
 use Rattle.ccsl_vcd_read.proofs.Calm.{calm-of}
 

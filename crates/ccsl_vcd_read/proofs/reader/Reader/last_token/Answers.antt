@@ -1,6 +1,5 @@
-use Rattle.std.proofs.Common.{◌≡◌, ◌≤◌, ◌<◌, ◌+◌, ◌^◌, ℕ, List, [], ◌∷◌, ◌++◌, length, refl, sym, ap, ◌∙◌, subst, arith}
-use Rattle.ccsl_vcd_lex.specs.Tokens.{token, word, settled, heard}
-use Rattle.ccsl_vcd_lex.specs.Lexing.{named}
+use Rattle.std.proofs.Common.{◌<◌, ◌+◌, ◌^◌, ℕ, List, refl, sym, ap, subst, arith}
+use Rattle.ccsl_vcd_lex.specs.Tokens.{token, word, settled}
 use Rattle.ccsl_vcd.specs.Binding.{Wanted}
 use Rattle.ccsl_vcd.specs.Reading.{story, next}
 use Rattle.ccsl_vcd_read.specs.Heading.{Refuses}
