@@ -1,0 +1,9 @@
+pub mod Lines
+pub mod CodeLaws
+pub mod Stories
+pub mod HeaderStory
+pub mod Binds
+pub mod BodyStory
+pub mod StepRows
+pub mod Spelling
+pub mod Traces

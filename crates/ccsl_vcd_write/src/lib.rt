@@ -1,0 +1,7 @@
+//! The written trace: the steps of a system as a value change dump, and the law that it reads back.
+#![tactic(auto)]
+
+mod code;
+pub mod laws;
+
+pub use laws::read_back;
