@@ -54,10 +54,10 @@ own-candidate : (ds : List Declaration) (clock : ℕ) (name : List ℕ) (names :
     → candidates name (ds ++ declaration clock name ∷ declarations (clock + 1) names) ≡ declaration clock name ∷ []
 own-candidate ds clock name names h f =
     ap outermost (
-      filter-append (qualifies name) ds (declaration clock name ∷ declarations (clock + 1) names)
-      ∙ ap (λ (xs : List Declaration). xs ++ filter (qualifies name) (declaration clock name ∷ declarations (clock + 1) names)) h
-      ∙ ap (λ w. cond w (declaration clock name ∷ filter (qualifies name) (declarations (clock + 1) names)) (filter (qualifies name) (declarations (clock + 1) names))) (own-qualifies clock name)
-      ∙ ap (λ (xs : List Declaration). declaration clock name ∷ xs) (others-away name (clock + 1) names f))
+    filter-append (qualifies name) ds (declaration clock name ∷ declarations (clock + 1) names)
+    ∙ ap (λ (xs : List Declaration). xs ++ filter (qualifies name) (declaration clock name ∷ declarations (clock + 1) names)) h
+    ∙ ap (λ w. cond w (declaration clock name ∷ filter (qualifies name) (declarations (clock + 1) names)) (filter (qualifies name) (declarations (clock + 1) names))) (own-qualifies clock name)
+    ∙ ap (λ (xs : List Declaration). declaration clock name ∷ xs) (others-away name (clock + 1) names f))
 
 binds-from : (declared clock : ℕ) (ds : List Declaration) (names : List (List ℕ)) → are_distinct names ≡ true → AreAway ds names
     → bind_from clock declared names (ds ++ declarations clock names) ≡ Ok (bounds clock (length names))

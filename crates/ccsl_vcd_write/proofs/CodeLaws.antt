@@ -28,7 +28,7 @@ by-form P x one two =
 pub code-visible : (x : ℕ) → x < 1024 → list_all is_visible (code_of x) ≡ true
 code-visible x h =
     by-form (λ c. list_all is_visible c ≡ true) x (λ l. ap₂ (λ a b. a && b) (visible x l) refl)
-        (λ l. ap₂ (λ a b. a && b) (visible ((x - 94) / 94) (high x h)) (ap₂ (λ a b. a && b) (visible ((x - 94) % 94) (low x)) refl))
+    (λ l. ap₂ (λ a b. a && b) (visible ((x - 94) / 94) (high x h)) (ap₂ (λ a b. a && b) (visible ((x - 94) % 94) (low x)) refl))
 
 pub code-some : (x : ℕ) → 1 ≤ length (code_of x)
 code-some x = by-form (λ c. 1 ≤ length c) x (λ _. omega arith) (λ _. omega arith)
@@ -54,9 +54,9 @@ codes-equal x y =
     (elim (nat_eq x y) as (λ w. nat_eq x y ≡ w → bytes_eq (code_of y) (code_of x) ≡ w) [
       | true ↦ λ e. let same : y ≡ x = grind (arith, common_steps) in bytes_eq-refl (code_of y) (code_of x) (ap code_of same)
       | false ↦ λ e. not-equal (code_of y) (code_of x) (λ t.
-        let same : y ≡ x = sym (clock_of-code y) ∙ ap clock_of (bytes_eq-true (code_of y) (code_of x) t) ∙ clock_of-code x in
-        let other : nat_eq x y ≡ true = eq-eqb x y (sym same) in
-        absurd (cc))
+          let same : y ≡ x = sym (clock_of-code y) ∙ ap clock_of (bytes_eq-true (code_of y) (code_of x) t) ∙ clock_of-code x in
+          let other : nat_eq x y ≡ true = eq-eqb x y (sym same) in
+          absurd (cc))
     ]) refl
 
 pub longer-equal : (a b : List ℕ) → length a < length b → bytes_eq a b ≡ false

@@ -35,7 +35,7 @@ ends_command plain = false
 short-word : (text : List ℕ) → length text ≤ 2 → ends_command (header_word text) ≡ false
 short-word text h =
     rw (longer-equal text (codes "$end") (omega arith), longer-equal text (codes "$var") (omega arith), longer-equal text (codes "$scope") (omega arith), longer-equal text (codes "$upscope") (omega arith), longer-equal text (codes "$enddefinitions") (omega arith))
-        (elim (begins_command text) as (λ w. ends_command (cond w other_command plain) ≡ false) [ true ↦ refl | false ↦ refl ])
+    (elim (begins_command text) as (λ w. ends_command (cond w other_command plain) ≡ false) [ true ↦ refl | false ↦ refl ])
 
 letter-other : (b : ℕ) → is_letter b ≡ true → nat_eq b 36 ≡ false
 letter-other b h = grind (arith, common_steps)

@@ -7,3 +7,4 @@ pub mod BodyStory
 pub mod StepRows
 pub mod Spelling
 pub mod Traces
+pub mod Growing

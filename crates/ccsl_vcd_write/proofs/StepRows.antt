@@ -68,7 +68,7 @@ picked test low high (suc n) (x ∷ xs) e h t =
           let here : test (own_bound low) ≡ true = t low (omega arith) ∙ ap (λ w. w || ticks_in low xs) q in
           let From : ℕ → Type 0 = λ y. IsWithin (y + 1) high xs in
           rw here (ap₂ (λ (y : ℕ) (ys : List ℕ). y ∷ ys) same (picked test (low + 1) high n xs (omega arith) (subst From (sym same) h.2)
-              (λ y l. t y (omega (arith, l)) ∙ ap (λ w. w || ticks_in y xs) (unequal' y x (omega (arith, l, same))))))
+          (λ y l. t y (omega (arith, l)) ∙ ap (λ w. w || ticks_in y xs) (unequal' y x (omega (arith, l, same))))))
       | false ↦ λ q.
           let other : low + 1 ≤ x = let a = h.0 in grind (arith, common_steps) in
           let here : test (own_bound low) ≡ false = t low (omega arith) ∙ absent (low + 1) high low (x ∷ xs) (other, h.1, h.2) (omega arith) in

@@ -111,10 +111,10 @@ declared-from : (clock x : ℕ) (names : List (List ℕ)) → clock ≤ x → x 
 declared-from clock x [] l h = absurd (omega arith)
 declared-from clock x (name ∷ names) l h =
     rw (codes-equal x clock) (
-      (elim (nat_eq x clock) as (λ w. nat_eq x clock ≡ w → (w || is_declared (declarations (clock + 1) names) (code_of x)) ≡ true) [
-        | true ↦ λ e. refl
-        | false ↦ λ e. let other : clock + 1 ≤ x = grind (arith, common_steps) in declared-from (clock + 1) x names other (omega arith)
-      ]) refl)
+    (elim (nat_eq x clock) as (λ w. nat_eq x clock ≡ w → (w || is_declared (declarations (clock + 1) names) (code_of x)) ≡ true) [
+      | true ↦ λ e. refl
+      | false ↦ λ e. let other : clock + 1 ≤ x = grind (arith, common_steps) in declared-from (clock + 1) x names other (omega arith)
+    ]) refl)
 
 parts-ticking : (K : System) (steps : List (List ℕ)) → All (IsShown K) steps → AllByRecursion (IsTicking K.written) (written_parts K steps)
 parts-ticking K [] h = tt
@@ -188,7 +188,7 @@ trace-reading : (K : System) (limits : Limits) (steps : List (List ℕ)) → Has
 unfolding reading
 trace-reading K limits steps n r b =
     rw (le-ltb limits.bytes (length (vcd_text K steps)) r.bytes)
-        (ap (ends_at (length (vcd_text K steps))) (trace-story K limits steps n (shows K limits steps r b) r.vars r.scopes))
+    (ap (ends_at (length (vcd_text K steps))) (trace-story K limits steps n (shows K limits steps r b) r.vars r.scopes))
 
 -- A written trace is read without a fault.
 pub trace-read : (K : System) (limits : Limits) → HasNames K → limits.bytes < 2 ^ 64 → (steps : List (List ℕ)) → IsReadable K limits steps → IsRead (wanted_of K) limits (vcd_text K steps)

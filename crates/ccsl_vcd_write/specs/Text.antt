@@ -31,12 +31,15 @@ header_lines K =
 abbrev pub written_part : System → List ℕ → List ℕ
 written_part K step = filter (λ x. nat_lt x K.written) step
 
+abbrev pub time_line : ℕ → List ℕ
+time_line time = codes "#" ++ decimal time
+
 abbrev pub tick_line : ℕ → List ℕ
 tick_line clock = codes "1" ++ code_of clock
 
 -- the time of step k, and a change of each clock that ticks
 abbrev pub step_lines : ℕ → System → List ℕ → List (List ℕ)
-step_lines k K step = (codes "#" ++ decimal k) ∷ map tick_line (written_part K step)
+step_lines k K step = time_line k ∷ map tick_line (written_part K step)
 
 abbrev pub header_text : System → List ℕ
 header_text K = text_of (header_lines K)

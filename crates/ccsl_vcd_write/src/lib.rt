@@ -3,5 +3,10 @@
 
 mod code;
 pub mod laws;
+pub mod writer;
 
 pub use laws::read_back;
+pub use writer::{header, step};
+
+#[cfg(test)]
+mod tests;

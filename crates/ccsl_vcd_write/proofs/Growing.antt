@@ -1,0 +1,71 @@
+-- How the written text grows.
+use Rattle.std.proofs.Common.{◌≡◌, ℕ, zero, suc, ◌+◌, ◌*◌, ◌^◌, ◌≤◌, ◌<◌, List, [], ◌∷◌, ◌++◌, length, map, take, filter, Bool, true, false, nat_lt, cond, Some, slice_get, refl, sym, ap, ◌∙◌, arith, lit<, add-one, length-append, append_assoc, append-nil, decimal, codes}
+use Rattle.std.proofs.lemmas.Fmt.{length-decimal-le}
+use Rattle.ccsl_kernel.specs.Syntax.{System}
+use Rattle.ccsl_vcd_write.specs.Code.{code_of}
+use Rattle.ccsl_vcd_write.specs.Room.{step_room}
+use Rattle.ccsl_vcd_write.specs.Text.{text_of, var_line, var_lines, written_names, written_part, time_line, tick_line, step_text, steps_text, header_text, vcd_text}
+use Rattle.ccsl_vcd_write.proofs.CodeLaws.{code-short}
+use Rattle.ccsl_vcd_write.proofs.Lines.{text_of-append}
+
+-- one more declaration
+vars-snoc : (clock n : ℕ) (names : List (List ℕ)) (name : List ℕ) → slice_get names n ≡ Some name → var_lines clock (take (suc n) names) ≡ var_lines clock (take n names) ++ var_line (clock + n) name ∷ []
+vars-snoc clock n [] name e = absurd (cc)
+vars-snoc clock zero (x ∷ names) name e =
+    let same : x ≡ name = cc in
+    let here : clock ≡ clock + 0 = omega arith in
+    ap (λ (y : List ℕ). var_line clock y ∷ []) same ∙ ap (λ (k : ℕ). var_line k name ∷ []) here
+vars-snoc clock (suc n) (x ∷ names) name e =
+    let place : clock + 1 + n ≡ clock + suc n = omega arith in
+    ap (λ (ls : List (List ℕ)). var_line clock x ∷ ls) (vars-snoc (clock + 1) n names name e ∙ ap (λ (k : ℕ). var_lines (clock + 1) (take n names) ++ var_line k name ∷ []) place)
+
+pub vars-more : (n : ℕ) (names : List (List ℕ)) (name : List ℕ) → slice_get names n ≡ Some name → text_of (var_lines 0 (take (n + 1) names)) ≡ text_of (var_lines 0 (take n names)) ++ text_of (var_line n name ∷ [])
+vars-more n names name e =
+    let here : 0 + n ≡ n = omega arith in
+    ap (λ (k : ℕ). text_of (var_lines 0 (take k names))) (add-one n)
+    ∙ ap text_of (vars-snoc 0 n names name e ∙ ap (λ (k : ℕ). var_lines 0 (take n names) ++ var_line k name ∷ []) here)
+    ∙ text_of-append (var_lines 0 (take n names)) (var_line n name ∷ [])
+
+-- a step has room
+
+ticks-room : (written : ℕ) (step : List ℕ) → length (text_of (map tick_line (filter (λ x. nat_lt x written) step))) ≤ 4 * length step
+ticks-room written [] = omega arith
+ticks-room written (x ∷ step) =
+    let rest : length (text_of (map tick_line (filter (λ y. nat_lt y written) step))) ≤ 4 * length step = ticks-room written step in
+    elim (nat_lt x written) as (λ w. length (text_of (map tick_line (cond w (x ∷ filter (λ y. nat_lt y written) step) (filter (λ y. nat_lt y written) step)))) ≤ 4 * length (x ∷ step)) [
+      | true ↦ omega (arith, length-append (tick_line x) (10 ∷ text_of (map tick_line (filter (λ y. nat_lt y written) step))), code-short x, rest)
+      | false ↦ omega (arith, rest)
+    ]
+
+pub step-room : (k : ℕ) (K : System) (step : List ℕ) → k < 2 ^ 64 → length (step_text k K step) ≤ step_room step
+step-room k K step h =
+    let digits : length (decimal k) ≤ 20 = length-decimal-le 20 k (lit< tt) (omega arith) h in
+    omega (arith, length-append (time_line k) (10 ∷ text_of (map tick_line (written_part K step))), digits, ticks-room K.written step)
+
+-- A trace with one more step is the trace, and then that step.
+
+steps-snoc : (k : ℕ) (K : System) (steps : List (List ℕ)) (step : List ℕ) → steps_text k K (steps ++ step ∷ []) ≡ steps_text k K steps ++ step_text (k + length steps) K step
+steps-snoc k K [] step =
+    let here : k ≡ k + 0 = omega arith in
+    append-nil (step_text k K step) ∙ ap (λ (n : ℕ). step_text n K step) here
+steps-snoc k K (s ∷ steps) step =
+    let place : k + 1 + length steps ≡ k + length (s ∷ steps) = omega arith in
+    ap (λ (bs : List ℕ). step_text k K s ++ bs) (steps-snoc (k + 1) K steps step)
+    ∙ sym (append_assoc (step_text k K s) (steps_text (k + 1) K steps) (step_text (k + 1 + length steps) K step))
+    ∙ ap (λ (n : ℕ). (step_text k K s ++ steps_text (k + 1) K steps) ++ step_text n K step) place
+
+pub trace-snoc : (K : System) (steps : List (List ℕ)) (step : List ℕ) → vcd_text K (steps ++ step ∷ []) ≡ vcd_text K steps ++ step_text (length steps) K step
+trace-snoc K steps step =
+    let here : 0 + length steps ≡ length steps = omega arith in
+    ap (λ (bs : List ℕ). header_text K ++ bs) (steps-snoc 0 K steps step ∙ ap (λ (n : ℕ). steps_text 0 K steps ++ step_text n K step) here)
+    ∙ sym (append_assoc (header_text K) (steps_text 0 K steps) (step_text (length steps) K step))
+
+-- the header's lines, one behind the other
+pub header-parts : (out : List ℕ) (K : System)
+    → ((((((out ++ text_of (codes "$version ccsl $end" ∷ [])) ++ text_of (codes "$timescale 1 ns $end" ∷ [])) ++ text_of (codes "$scope module ccsl $end" ∷ [])) ++ text_of (var_lines 0 (written_names K))) ++ text_of (codes "$upscope $end" ∷ [])) ++ text_of (codes "$enddefinitions $end" ∷ []))
+    ≡ out ++ header_text K
+header-parts out K =
+    let vars : List (List ℕ) = var_lines 0 (written_names K) in
+    let back : List (List ℕ) = codes "$upscope $end" ∷ codes "$enddefinitions $end" ∷ [] in
+    let front : List ℕ → List ℕ = λ bs. codes "$version ccsl $end\n$timescale 1 ns $end\n$scope module ccsl $end\n" ++ bs in
+    simp append_assoc (ap (λ (bs : List ℕ). out ++ front bs) (sym (text_of-append vars back)))
