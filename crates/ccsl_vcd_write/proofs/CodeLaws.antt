@@ -65,6 +65,3 @@ longer-equal [] (y ∷ ys) h = refl
 longer-equal (x ∷ xs) [] h = refl
 longer-equal (x ∷ xs) (y ∷ ys) h =
     elim (nat_eq x y) as (λ w. (w && bytes_eq xs ys) ≡ false) [ true ↦ longer-equal xs ys (omega arith) | false ↦ refl ]
-
-worked : (code_of 93 ≡ codes "~") × (code_of 94 ≡ codes "!!") × (code_of 187 ≡ codes "!~") × (code_of 188 ≡ codes "\"!") × (code_of 1023 ≡ codes "*t")
-worked = (refl, refl, refl, refl, refl)

@@ -8,3 +8,4 @@ pub mod StepRows
 pub mod Spelling
 pub mod Traces
 pub mod Growing
+pub mod Worked
