@@ -8,29 +8,31 @@ use crate::code::put_code;
 use ccsl_base::{ClockSet, MAX_CLOCKS, Memory, Names};
 use ccsl_kernel::System;
 use itoa::Buffer;
-use std::alloc::{AllocError, Global};
+use std::alloc::Global;
 
-fn put_line(line: &[u8], out: &mut Vec<u8>) -> Result<(), AllocError>
+fn put_line(line: &[u8], out: &mut Vec<u8>) -> Result<(), Memory>
     ensures { OnOk result (out.new.items ≡ out.old.items ++ text_of (line.now ∷ [])) }
 {
     out.extend_from_slice(line)?;
-    out.extend_from_slice(b"\n")
+    out.push(b'\n')?;
+    Ok(())
 }
 
 /// The line that declares a clock.
-fn put_var(clock: u32, name: &[u8], out: &mut Vec<u8>) -> Result<(), AllocError>
+fn put_var(clock: u32, name: &[u8], out: &mut Vec<u8>) -> Result<(), Memory>
     requires { clock < MAX_CLOCKS }
     ensures { OnOk result (out.new.items ≡ out.old.items ++ text_of (var_line clock name.now ∷ [])) }
 {
     out.extend_from_slice(b"$var event 1 ")?;
     put_code(clock, out)?;
-    out.extend_from_slice(b" ")?;
+    out.push(b' ')?;
     out.extend_from_slice(name)?;
-    out.extend_from_slice(b" $end\n")
+    out.extend_from_slice(b" $end\n")?;
+    Ok(())
 }
 
 /// The lines that declare the clocks below `written`.
-fn put_vars(names: &Names, written: u32, out: &mut Vec<u8>) -> Result<(), AllocError>
+fn put_vars(names: &Names, written: u32, out: &mut Vec<u8>) -> Result<(), Memory>
     requires named { written ≤ length names.now }
     requires few { written ≤ MAX_CLOCKS }
     ensures { OnOk result (out.new.items ≡
@@ -42,7 +44,7 @@ fn put_vars(names: &Names, written: u32, out: &mut Vec<u8>) -> Result<(), AllocE
     Ok(())
 }
 
-fn put_header(system: &System, out: &mut Vec<u8>) -> Result<(), AllocError>
+fn put_header(system: &System, out: &mut Vec<u8>) -> Result<(), Memory>
     ensures { OnOk result (out.new.items ≡ out.old.items ++ header_text system.now) }
 {
     put_line(b"$version ccsl $end", out)?;
@@ -64,7 +66,7 @@ pub fn header(alloc: Global, system: &System) -> Result<Vec<u8>, Memory>
 }
 
 /// The line of a time.
-fn put_time(k: u64, out: &mut Vec<u8>) -> Result<(), AllocError>
+fn put_time(k: u64, out: &mut Vec<u8>) -> Result<(), Memory>
     ensures text { OnOk result (out.new.items ≡ out.old.items ++ text_of (time_line k ∷ [])) }
     ensures full { OnErr result (vec_capacity out.old <
         vec_len out.old + length (text_of (time_line k ∷ []))) }
@@ -72,13 +74,14 @@ fn put_time(k: u64, out: &mut Vec<u8>) -> Result<(), AllocError>
         vec_len out.old + length (text_of (time_line k ∷ []))) }
     ensures capacity { vec_capacity out.old ≤ vec_capacity out.new }
 {
-    out.extend_from_slice(b"#")?;
+    out.push(b'#')?;
     out.extend_from_slice(Buffer::new().format(k).as_bytes())?;
-    out.extend_from_slice(b"\n")
+    out.push(b'\n')?;
+    Ok(())
 }
 
 /// The line of a clock that ticks.
-fn put_tick(clock: u32, out: &mut Vec<u8>) -> Result<(), AllocError>
+fn put_tick(clock: u32, out: &mut Vec<u8>) -> Result<(), Memory>
     requires { clock < MAX_CLOCKS }
     ensures text { OnOk result (out.new.items ≡ out.old.items ++ text_of (tick_line clock ∷ [])) }
     ensures full { OnErr result (vec_capacity out.old <
@@ -87,13 +90,14 @@ fn put_tick(clock: u32, out: &mut Vec<u8>) -> Result<(), AllocError>
         vec_len out.old + length (text_of (tick_line clock ∷ []))) }
     ensures capacity { vec_capacity out.old ≤ vec_capacity out.new }
 {
-    out.extend_from_slice(b"1")?;
+    out.push(b'1')?;
     put_code(clock, out)?;
-    out.extend_from_slice(b"\n")
+    out.push(b'\n')?;
+    Ok(())
 }
 
 /// The lines of the clocks below `written` that tick.
-fn put_ticks(ticks: &ClockSet, system: &System, out: &mut Vec<u8>) -> Result<(), AllocError>
+fn put_ticks(ticks: &ClockSet, system: &System, out: &mut Vec<u8>) -> Result<(), Memory>
     ensures text { OnOk result (out.new.items ≡
         out.old.items ++ text_of (map tick_line (written_part system.now ticks.now))) }
     ensures full { OnErr result (vec_capacity out.old <
@@ -109,7 +113,7 @@ fn put_ticks(ticks: &ClockSet, system: &System, out: &mut Vec<u8>) -> Result<(),
 }
 
 /// The lines of a step.
-fn put_step(k: u64, ticks: &ClockSet, system: &System, out: &mut Vec<u8>) -> Result<(), AllocError>
+fn put_step(k: u64, ticks: &ClockSet, system: &System, out: &mut Vec<u8>) -> Result<(), Memory>
     ensures text { OnOk result (out.new.items ≡ out.old.items ++ step_text k system.now ticks.now) }
     ensures full { OnErr result (vec_capacity out.old <
         vec_len out.old + length (step_text k system.now ticks.now)) }
@@ -139,6 +143,5 @@ pub fn step(k: u64, ticks: &ClockSet, system: &System, out: &mut Vec<u8>) -> Res
     ensures room { OnErr result (vec_capacity out.old < vec_len out.old + step_room ticks.now) }
 {
     out.reserve(step_room(ticks))?;
-    put_step(k, ticks, system, out)?;
-    Ok(())
+    put_step(k, ticks, system, out)
 }
