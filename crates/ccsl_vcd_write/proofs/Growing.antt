@@ -28,19 +28,25 @@ vars-more n names name e =
 
 -- a step has room
 
-ticks-room : (written : ℕ) (step : List ℕ) → length (text_of (map tick_line (filter (λ x. nat_lt x written) step))) ≤ 4 * length step
-ticks-room written [] = omega arith
-ticks-room written (x ∷ step) =
-    let rest : length (text_of (map tick_line (filter (λ y. nat_lt y written) step))) ≤ 4 * length step = ticks-room written step in
-    elim (nat_lt x written) as (λ w. length (text_of (map tick_line (cond w (x ∷ filter (λ y. nat_lt y written) step) (filter (λ y. nat_lt y written) step)))) ≤ 4 * length (x ∷ step)) [
-      | true ↦ omega (arith, length-append (tick_line x) (10 ∷ text_of (map tick_line (filter (λ y. nat_lt y written) step))), code-short x, rest)
-      | false ↦ omega (arith, rest)
-    ]
+pub ticks-length : (xs : List ℕ) → length (text_of (map tick_line xs)) ≤ 4 * length xs
+ticks-length [] = omega arith
+ticks-length (x ∷ xs) = omega (arith, length-append (tick_line x) (10 ∷ text_of (map tick_line xs)), code-short x, ticks-length xs)
+
+pub time-length : (k : ℕ) → k < 2 ^ 64 → length (decimal k) ≤ 20
+time-length k h = length-decimal-le 20 k (lit< tt) (omega arith) h
+
+pub step-length : (k : ℕ) (K : System) (step : List ℕ) → k < 2 ^ 64 → length (step_text k K step) ≤ step_room (written_part K step)
+step-length k K step h =
+    omega (arith, length-append (time_line k) (10 ∷ text_of (map tick_line (written_part K step))), time-length k h, ticks-length (written_part K step))
+
+filter-shorter : (p : ℕ → Bool) (xs : List ℕ) → length (filter p xs) ≤ length xs
+filter-shorter p [] = omega arith
+filter-shorter p (x ∷ xs) =
+    let rest : length (filter p xs) ≤ length xs = filter-shorter p xs in
+    elim (p x) as (λ w. length (cond w (x ∷ filter p xs) (filter p xs)) ≤ length (x ∷ xs)) [ true ↦ omega arith | false ↦ omega arith ]
 
 pub step-room : (k : ℕ) (K : System) (step : List ℕ) → k < 2 ^ 64 → length (step_text k K step) ≤ step_room step
-step-room k K step h =
-    let digits : length (decimal k) ≤ 20 = length-decimal-le 20 k (lit< tt) (omega arith) h in
-    omega (arith, length-append (time_line k) (10 ∷ text_of (map tick_line (written_part K step))), digits, ticks-room K.written step)
+step-room k K step h = omega (arith, step-length k K step h, filter-shorter (λ x. nat_lt x K.written) step)
 
 -- A trace with one more step is the trace, and then that step.
 

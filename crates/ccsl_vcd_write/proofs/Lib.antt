@@ -9,3 +9,4 @@ pub mod Spelling
 pub mod Traces
 pub mod Growing
 pub mod Worked
+pub mod Sizes

@@ -1,5 +1,5 @@
 -- When a written trace reads back, and as which rows.
-use Rattle.std.specs.Prelude.{◌≡◌, ◌≢◌, ℕ, ◌+◌, ◌≤◌, List, [], ◌∷◌, length, All, true}
+use Rattle.std.specs.Prelude.{◌≢◌, ℕ, ◌+◌, ◌≤◌, List, [], ◌∷◌, length, All, IsTrue}
 use Rattle.ccsl_base.specs.Clocks.{is_ascending}
 use Rattle.ccsl_base.specs.declared.rows.Row.{Row}
 use Rattle.ccsl_kernel.specs.Syntax.{System}
@@ -8,7 +8,7 @@ use Rattle.ccsl_vcd_write.specs.Text.{written_part, vcd_text}
 
 -- a set of clocks, of which one at least is written
 pub record IsShown (K : System) (step : List ℕ) : Type 0 where
-  pub set : is_ascending step ≡ true
+  pub set : IsTrue (is_ascending step)
   pub ticks : written_part K step ≢ []
 
 -- each step shows, and the text keeps to the limits of the reading

@@ -5,7 +5,7 @@ mod code;
 pub mod laws;
 pub mod writer;
 
-pub use laws::read_back;
+pub use laws::{read_back, texts_fit};
 pub use writer::{header, step};
 
 #[cfg(test)]
