@@ -85,19 +85,24 @@ module _ (wanted : Wanted) (limits : Limits) where
       → goes wanted limits (at_header commands 1 ds) at (var_words clock name) ≡ at_header commands 1 (ds ++ declaration clock name ∷ [])
   unfolding says number
   var-story at ds clock name v c n =
+      let kind_at : ℕ = at + 4 + 1 in
+      let size_at : ℕ = kind_at + 5 + 1 in
+      let code_at : ℕ = size_at + 1 + 1 in
+      let name_at : ℕ = code_at + length (code_of clock) + 1 in
+      let end_at : ℕ = name_at + length name + 1 in
       let head : Token = token at (codes "$var") in
-      let kind : Token = token (at + 4 + 1) (codes "event") in
-      let size : Token = token (at + 4 + 1 + 5 + 1) (codes "1") in
-      let code : Token = token (at + 4 + 1 + 5 + 1 + 1 + 1) (code_of clock) in
-      let reference : Token = token (at + 4 + 1 + 5 + 1 + 1 + 1 + length (code_of clock) + 1) name in
+      let kind : Token = token kind_at (codes "event") in
+      let size : Token = token size_at (codes "1") in
+      let code : Token = token code_at (code_of clock) in
+      let reference : Token = token name_at name in
       let begins : next wanted limits (at_header commands 1 ds) (word head) ≡ at_header (inside head []) 1 ds = rw (lt-leb limits.vars (length ds) v) refl in
       let sized : next wanted limits (at_header (inside head (kind ∷ [])) 1 ds) (word size) ≡ at_header (inside head (kind ∷ size ∷ [])) 1 ds = refl in
       let coded = word-passes 1 ds head (kind ∷ size ∷ []) code (short-word (code_of clock) (code-short clock)) (code-fits clock c) in
       let named = word-passes 1 ds head (kind ∷ size ∷ code ∷ []) reference (name-plain name n) refl in
-      ap (λ (s : Story). goes wanted limits s (at + 4 + 1) (codes "event" ∷ codes "1" ∷ code_of clock ∷ name ∷ codes "$end" ∷ [])) begins
-      ∙ ap (λ (s : Story). goes wanted limits s (at + 4 + 1 + 5 + 1 + 1 + 1) (code_of clock ∷ name ∷ codes "$end" ∷ [])) sized
-      ∙ ap (λ (s : Story). goes wanted limits s (at + 4 + 1 + 5 + 1 + 1 + 1 + length (code_of clock) + 1) (name ∷ codes "$end" ∷ [])) coded
-      ∙ ap (λ (s : Story). goes wanted limits s (at + 4 + 1 + 5 + 1 + 1 + 1 + length (code_of clock) + 1 + length name + 1) (codes "$end" ∷ [])) named
+      ap (λ (s : Story). goes wanted limits s kind_at (codes "event" ∷ codes "1" ∷ code_of clock ∷ name ∷ codes "$end" ∷ [])) begins
+      ∙ ap (λ (s : Story). goes wanted limits s code_at (code_of clock ∷ name ∷ codes "$end" ∷ [])) sized
+      ∙ ap (λ (s : Story). goes wanted limits s name_at (name ∷ codes "$end" ∷ [])) coded
+      ∙ ap (λ (s : Story). goes wanted limits s end_at (codes "$end" ∷ [])) named
 
   pub vars-story : (at : ℕ) (ds : List Declaration) (clock : ℕ) (names : List (List ℕ)) → length ds + length names ≤ limits.vars → clock + length names ≤ 1024 → list_all is_word names ≡ true
       → goes wanted limits (at_header commands 1 ds) at (all_words (vars_words clock names)) ≡ at_header commands 1 (ds ++ declarations clock names)
