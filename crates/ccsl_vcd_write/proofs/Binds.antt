@@ -1,5 +1,5 @@
 -- Each written clock is bound to its declaration.
-use Rattle.std.proofs.Common.{◌≡◌, ℕ, suc, zero, ◌+◌, List, [], ◌∷◌, ◌++◌, length, map, Bool, true, false, ◌&&◌, ◌||◌, not, nat_lt, cond, Result, Ok, refl, sym, ap, ap₂, ◌∙◌, append_assoc, filter}
+use Rattle.std.proofs.Common.{◌≡◌, ℕ, suc, zero, ◌+◌, List, [], ◌∷◌, ◌++◌, length, map, Bool, true, false, ◌||◌, not, nat_lt, cond, Result, Ok, refl, sym, ap, ap₂, ◌∙◌, append_assoc, filter}
 use Rattle.std.specs.List.{AllByRecursion, range_with_len}
 use Rattle.std.specs.Str.{bytes_eq}
 use Rattle.std.proofs.lemmas.Bool.{and_parts, not-true}
@@ -7,7 +7,7 @@ use Rattle.std.proofs.lemmas.List.Elements.{filter-append}
 use Rattle.ccsl_base.specs.Names.{is_among, are_distinct}
 use Rattle.ccsl_base.proofs.Tables.{bytes_eq-refl, bytes_eq-sym}
 use Rattle.ccsl_vcd.specs.declared.fault.VcdFault.{VcdFault}
-use Rattle.ccsl_vcd.specs.Binding.{Declaration, Bound, Wanted, qualifies, candidates, outermost, joined, bind_from, bind_one, bind}
+use Rattle.ccsl_vcd.specs.Binding.{Declaration, Bound, qualifies, candidates, outermost, joined, bind_from, bind_one, bind}
 use Rattle.ccsl_vcd_write.specs.Code.{code_of}
 use Rattle.ccsl_vcd_write.proofs.HeaderStory.{declaration, declarations}
 

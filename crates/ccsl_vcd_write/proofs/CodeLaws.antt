@@ -1,12 +1,12 @@
 -- Codes are short and visible, and no two clocks have the same.
-use Rattle.std.proofs.Common.{◌≡◌, ℕ, ◌+◌, ◌-◌, ◌*◌, ◌/◌, ◌%◌, ◌≤◌, ◌<◌, List, [], ◌∷◌, ◌++◌, length, Bool, true, false, ◌&&◌, nat_le, nat_lt, nat_eq, cond, refl, sym, ap, ap₂, ◌∙◌, arith, codes}
+use Rattle.std.proofs.Common.{◌≡◌, ℕ, ◌+◌, ◌-◌, ◌*◌, ◌/◌, ◌%◌, ◌≤◌, ◌<◌, List, [], ◌∷◌, length, true, false, ◌&&◌, nat_lt, nat_eq, cond, refl, sym, ap, ap₂, ◌∙◌, arith, codes}
 use Rattle.std.specs.List.{list_all}
 use Rattle.std.specs.Str.{bytes_eq}
-use Rattle.std.proofs.lemmas.Bool.{le-leb, lt-ltb, le-ltb, ltb-true, ltb-false, eq-eqb}
+use Rattle.std.proofs.lemmas.Bool.{le-leb, ltb-true, ltb-false, eq-eqb}
 use Rattle.std.proofs.lemmas.Grind.{common_steps}
 use Rattle.ccsl_base.specs.Name.{is_visible}
 use Rattle.ccsl_base.proofs.Tables.{bytes_eq-true, bytes_eq-refl}
-use Rattle.ccsl_vcd_write.specs.Code.{code_byte, code_of}
+use Rattle.ccsl_vcd_write.specs.Code.{code_of}
 
 visible : (i : ℕ) → i < 94 → is_visible (33 + i) ≡ true
 visible i h = ap₂ (λ a b. a && b) (le-leb 33 (33 + i) (omega arith)) (le-leb (33 + i) 126 (omega arith))

@@ -1,8 +1,7 @@
 -- How the written text grows.
-use Rattle.std.proofs.Common.{◌≡◌, ℕ, zero, suc, ◌+◌, ◌*◌, ◌^◌, ◌≤◌, ◌<◌, List, [], ◌∷◌, ◌++◌, length, map, take, filter, Bool, true, false, nat_lt, cond, Some, slice_get, refl, sym, ap, ◌∙◌, arith, lit<, add-one, length-append, append_assoc, append-nil, decimal, codes}
+use Rattle.std.proofs.Common.{◌≡◌, ℕ, zero, suc, ◌+◌, ◌*◌, ◌^◌, ◌≤◌, ◌<◌, List, [], ◌∷◌, ◌++◌, length, map, take, filter, Bool, true, false, nat_lt, cond, Some, slice_get, sym, ap, ◌∙◌, arith, lit<, add-one, length-append, append_assoc, append-nil, decimal, codes}
 use Rattle.std.proofs.lemmas.Fmt.{length-decimal-le}
 use Rattle.ccsl_kernel.specs.Syntax.{System}
-use Rattle.ccsl_vcd_write.specs.Code.{code_of}
 use Rattle.ccsl_vcd_write.specs.Room.{step_room}
 use Rattle.ccsl_vcd_write.specs.Text.{text_of, var_line, var_lines, written_names, written_part, time_line, tick_line, step_text, steps_text, header_text, vcd_text}
 use Rattle.ccsl_vcd_write.proofs.CodeLaws.{code-short}

@@ -1,22 +1,20 @@
 -- The story of a written header.
-use Rattle.std.proofs.Common.{◌≡◌, ℕ, ◌+◌, ◌≤◌, ◌<◌, List, [], ◌∷◌, ◌++◌, length, map, Bool, true, false, ◌&&◌, nat_le, nat_lt, nat_eq, cond, Some, None, Ok, refl, sym, ap, ap₂, ◌∙◌, arith, codes, append_assoc, append-nil, length-append}
-use Rattle.std.specs.Prelude.{fold}
+use Rattle.std.proofs.Common.{◌≡◌, ℕ, ◌+◌, ◌≤◌, ◌<◌, List, [], ◌∷◌, ◌++◌, length, Bool, true, false, ◌&&◌, nat_eq, cond, Ok, refl, sym, ap, ap₂, ◌∙◌, arith, codes, append_assoc, append-nil, length-append}
 use Rattle.std.specs.List.{list_all}
-use Rattle.std.specs.Str.{bytes_eq}
 use Rattle.std.proofs.lemmas.Bool.{and_parts, le-leb, lt-leb}
 use Rattle.std.proofs.lemmas.Grind.{common_steps}
-use Rattle.ccsl_base.specs.Name.{is_visible, is_letter, is_inner, is_name, is_word}
+use Rattle.ccsl_base.specs.Name.{is_letter, is_inner, is_word}
 use Rattle.ccsl_vcd_lex.specs.Tokens.{Token, token, word}
 use Rattle.ccsl_vcd.specs.declared.limits.Limits.{Limits}
 use Rattle.ccsl_vcd.specs.declared.fault.VcdFault.TheVariants as faults
 use Rattle.ccsl_vcd.specs.Words.{number}
 use Rattle.ccsl_vcd.specs.Binding.{Wanted, Declaration, Bound, bind}
-use Rattle.ccsl_vcd.specs.Places.{Header, Among, commands, inside, Where, header, Said, goes as on, refused}
+use Rattle.ccsl_vcd.specs.Places.{Header, commands, inside, header, goes as on, refused}
 use Rattle.ccsl_vcd.specs.Header.{HeaderWord, end_command, var, scope, upscope, end_definitions, other_command, plain, begins_command, header_word, is_code, word_fits, inside_says}
 use Rattle.ccsl_vcd.specs.Reading.{Story, next, says}
 use Rattle.ccsl_vcd.specs.Grammar.{body_story}
 use Rattle.ccsl_vcd_write.specs.Code.{code_of}
-use Rattle.ccsl_vcd_write.proofs.Lines.{placed, behind, all_words, all_words-append}
+use Rattle.ccsl_vcd_write.proofs.Lines.{behind, all_words}
 use Rattle.ccsl_vcd_write.proofs.CodeLaws.{code-visible, code-short, longer-equal}
 use Rattle.ccsl_vcd_write.proofs.Stories.{goes, goes-append, at_header}
 

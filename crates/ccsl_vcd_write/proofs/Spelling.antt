@@ -1,5 +1,5 @@
 -- A written trace as lines of words.
-use Rattle.std.proofs.Common.{◌≡◌, ℕ, zero, suc, ◌+◌, ◌^◌, ◌≤◌, ◌<◌, List, [], ◌∷◌, ◌++◌, length, map, take, Bool, true, false, ◌&&◌, ◌||◌, not, nat_le, nat_lt, nat_eq, IsTrue, refl, sym, ap, ap₂, ◌∙◌, arith, lit<, append_assoc, decimal, codes}
+use Rattle.std.proofs.Common.{◌≡◌, ℕ, ◌+◌, ◌^◌, ◌≤◌, ◌<◌, List, [], ◌∷◌, ◌++◌, length, map, Bool, true, ◌&&◌, not, nat_le, refl, sym, ap, ap₂, ◌∙◌, arith, lit<, append_assoc, decimal, codes}
 use Rattle.std.specs.List.{list_all, AllByRecursion}
 use Rattle.std.specs.Str.Parse.{AllDigits}
 use Rattle.std.proofs.lemmas.Bool.{and_parts, le-leb, leb-true}
@@ -8,12 +8,12 @@ use Rattle.std.proofs.lemmas.Grind.{common_steps}
 use Rattle.std.proofs.lemmas.List.{map-append}
 use Rattle.std.proofs.lemmas.List.Folds.{list_all-append}
 use Rattle.std.proofs.lemmas.Str.Parse.{digit_from_value}
-use Rattle.ccsl_base.specs.Name.{is_visible, is_letter, is_digit, is_inner, is_word, is_name}
+use Rattle.ccsl_base.specs.Name.{is_visible, is_letter, is_inner, is_word, is_name}
 use Rattle.ccsl_base.specs.ReservedWords.{is_reserved}
 use Rattle.ccsl_kernel.specs.Syntax.{System}
 use Rattle.ccsl_vcd_write.specs.Code.{code_of}
-use Rattle.ccsl_vcd_write.specs.Text.{text_of, var_line, var_lines, written_names, header_lines, header_text, written_part, tick_line, step_lines, step_text, steps_text, vcd_text}
-use Rattle.ccsl_vcd_write.proofs.Lines.{is_spelled, are_spelled, spaced, is_line, are_lines, text_of-append}
+use Rattle.ccsl_vcd_write.specs.Text.{text_of, var_line, var_lines, written_names, header_lines, written_part, tick_line, steps_text, vcd_text}
+use Rattle.ccsl_vcd_write.proofs.Lines.{is_spelled, spaced, is_line, are_lines, text_of-append}
 use Rattle.ccsl_vcd_write.proofs.CodeLaws.{code-visible, code-some, code-short}
 use Rattle.ccsl_vcd_write.proofs.HeaderStory.{var_words, vars_words}
 use Rattle.ccsl_vcd_write.proofs.BodyStory.{AreBelow, step_words, steps_words}

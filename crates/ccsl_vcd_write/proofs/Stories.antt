@@ -1,12 +1,12 @@
 -- The story of words.
-use Rattle.std.proofs.Common.{◌≡◌, ℕ, List, [], ◌∷◌, ◌++◌, None, refl, ap, ◌∙◌, map}
+use Rattle.std.proofs.Common.{◌≡◌, ℕ, List, [], ◌++◌, None, ap, ◌∙◌, map}
 use Rattle.std.specs.Prelude.{fold}
 use Rattle.std.proofs.lemmas.List.{map-append}
 use Rattle.std.proofs.lemmas.Grind.{fold-append}
 use Rattle.ccsl_vcd_lex.specs.Tokens.{Token, word}
 use Rattle.ccsl_vcd.specs.Binding.{Wanted, Declaration}
 use Rattle.ccsl_vcd.specs.declared.limits.Limits.{Limits}
-use Rattle.ccsl_vcd.specs.Places.{Among, commands, inside, Where, header}
+use Rattle.ccsl_vcd.specs.Places.{Among, header}
 use Rattle.ccsl_vcd.specs.Reading.{Story, next}
 use Rattle.ccsl_vcd_write.proofs.Lines.{placed, behind, placed-append}
 

@@ -1,15 +1,14 @@
 -- THE READ-BACK LAW: the reading of a written trace is the story of its steps.
-use Rattle.std.proofs.Common.{◌≡◌, ◌≢◌, ℕ, zero, suc, ◌+◌, ◌^◌, ◌≤◌, ◌<◌, List, [], ◌∷◌, ◌++◌, length, map, take, filter, All, Bool, true, false, ◌&&◌, ◌||◌, not, nat_lt, nat_eq, IsTrue, cond, Ok, refl, sym, ap, ap₂, ◌∙◌, subst, arith, length-append, codes, decimal}
-use Rattle.std.specs.List.{list_all, list_any, AllByRecursion, range_with_len}
+use Rattle.std.proofs.Common.{◌≡◌, ℕ, zero, suc, ◌+◌, ◌^◌, ◌≤◌, ◌<◌, List, [], ◌∷◌, ◌++◌, length, map, take, All, true, false, ◌&&◌, ◌||◌, not, nat_lt, nat_eq, IsTrue, cond, Ok, refl, sym, ap, ap₂, ◌∙◌, arith, length-append, codes}
+use Rattle.std.specs.List.{list_all, AllByRecursion, range_with_len}
 use Rattle.std.specs.Str.{bytes_eq}
-use Rattle.std.proofs.lemmas.Bool.{and_parts, not-true, lt-ltb, le-ltb, or_right}
+use Rattle.std.proofs.lemmas.Bool.{and_parts, not-true, lt-ltb, le-ltb}
 use Rattle.std.proofs.lemmas.List.{length-take-le, length-map}
 use Rattle.std.proofs.lemmas.Grind.{common_steps}
 use Rattle.std.proofs.lemmas.List.Elements.{All-head, All-tail}
 use Rattle.ccsl_base.specs.Name.{is_word, is_name}
 use Rattle.ccsl_base.specs.Names.{is_among, are_distinct}
 use Rattle.ccsl_base.specs.declared.rows.Row.{Row}
-use Rattle.ccsl_base.proofs.Tables.{bytes_eq-refl}
 use Rattle.ccsl_kernel.specs.Syntax.{System}
 use Rattle.ccsl_kernel.specs.Accepted.{IsAccepted, Each, is_hidden}
 use Rattle.ccsl_vcd_lex.specs.Tokens.{word, hear, heard, tokens_from}
@@ -22,12 +21,12 @@ use Rattle.ccsl_vcd.specs.Rows.{rows, recorded, rows_of, bound_at, IsRead}
 use Rattle.ccsl_vcd.specs.Grammar.{body_story}
 use Rattle.ccsl_bind.specs.Collected.{wanted_of}
 use Rattle.ccsl_vcd_write.specs.Code.{code_of}
-use Rattle.ccsl_vcd_write.specs.Text.{written_names, written_part, header_text, step_text, steps_text, vcd_text, step_lines, text_of}
+use Rattle.ccsl_vcd_write.specs.Text.{written_names, written_part, header_text, step_text, steps_text, vcd_text}
 use Rattle.ccsl_vcd_write.specs.ReadsBack.{IsShown, IsReadable, rows_from, rows_of_steps}
-use Rattle.ccsl_vcd_write.proofs.Lines.{placed, behind, all_words, all_words-append, text-heard, are_lines}
+use Rattle.ccsl_vcd_write.proofs.Lines.{placed, behind, all_words, all_words-append, text-heard}
 use Rattle.ccsl_vcd_write.proofs.CodeLaws.{codes-equal}
 use Rattle.ccsl_vcd_write.proofs.Stories.{goes, goes-append, at_header}
-use Rattle.ccsl_vcd_write.proofs.HeaderStory.{declaration, declarations, vars_words, version-story, timescale-story, scope-story, vars-story, upscope-story, opening-story}
+use Rattle.ccsl_vcd_write.proofs.HeaderStory.{declarations, vars_words, version-story, timescale-story, scope-story, vars-story, upscope-story, opening-story}
 use Rattle.ccsl_vcd_write.proofs.Binds.{bounds, bound-clocks, binds, or-parts}
 use Rattle.ccsl_vcd_write.proofs.BodyStory.{AreBelow, steps_changes, steps_words, time_behind, steps-story}
 use Rattle.ccsl_vcd_write.proofs.StepRows.{IsTicking, within, all-from-0, are-below, plain_rows, steps-rows}
