@@ -1,5 +1,5 @@
 -- The story of written steps.
-use Rattle.std.proofs.Common.{◌≡◌, ℕ, ◌+◌, ◌*◌, ◌-◌, ◌^◌, ◌≤◌, ◌<◌, List, [], ◌∷◌, ◌++◌, length, map, true, false, ◌&&◌, nat_le, cond, Some, None, refl, sym, ap, ap₂, ◌∙◌, arith, append_assoc, append-nil, decimal, codes}
+use Rattle.std.proofs.Common.{◌≡◌, ℕ, ◌+◌, ◌*◌, ◌-◌, ◌^◌, ◌≤◌, ◌<◌, List, [], ◌∷◌, ◌++◌, length, map, true, false, ◌&&◌, nat_le, cond, Some, None, refl, sym, ap, ap₂, ◌∙◌, arith, append_assoc, append-nil, decimal}
 use Rattle.std.specs.List.{list_all, AllByRecursion}
 use Rattle.std.specs.Char.{digit_value}
 use Rattle.std.specs.Str.Parse.{AllDigits, IsNumeral, digits_value, digits_value_after}

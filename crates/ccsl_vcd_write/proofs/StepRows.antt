@@ -7,12 +7,12 @@ use Rattle.ccsl_base.specs.Clocks.{ticks_in, is_ascending}
 use Rattle.ccsl_base.specs.declared.rows.Row.{Row}
 use Rattle.ccsl_vcd.specs.Binding.{Bound}
 use Rattle.ccsl_vcd.specs.Places.{Change}
-use Rattle.ccsl_vcd.specs.Rows.{ticks, event_ticks, row, rows, has_ticks}
+use Rattle.ccsl_vcd.specs.Rows.{ticks, event_ticks, rows, has_ticks}
 use Rattle.ccsl_vcd.proofs.RowLaws.{Earlier, Now, rows-all}
 use Rattle.ccsl_vcd_write.specs.Code.{code_of}
 use Rattle.ccsl_vcd_write.proofs.CodeLaws.{codes-equal}
 use Rattle.ccsl_vcd_write.proofs.Binds.{own_bound, bounds}
-use Rattle.ccsl_vcd_write.proofs.BodyStory.{AreBelow, change, step_changes, steps_changes}
+use Rattle.ccsl_vcd_write.proofs.BodyStory.{AreBelow, step_changes, steps_changes}
 
 -- ascending numbers, from one on and below another
 abbrev pub IsWithin : ℕ → ℕ → List ℕ → Type 0
