@@ -1,0 +1,12 @@
+pub mod Lines
+pub mod CodeLaws
+pub mod Stories
+pub mod HeaderStory
+pub mod Binds
+pub mod BodyStory
+pub mod StepRows
+pub mod Spelling
+pub mod Traces
+pub mod Growing
+pub mod Worked
+pub mod Sizes

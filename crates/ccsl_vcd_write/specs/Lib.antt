@@ -1,0 +1,4 @@
+pub mod Code
+pub mod Text
+pub mod ReadsBack
+pub mod Room

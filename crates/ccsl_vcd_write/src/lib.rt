@@ -1,0 +1,12 @@
+//! The written trace: the steps of a system as a value change dump, and the law that it reads back.
+#![tactic(auto)]
+
+mod code;
+pub mod laws;
+pub mod writer;
+
+pub use laws::{read_back, texts_fit};
+pub use writer::{header, step};
+
+#[cfg(test)]
+mod tests;
