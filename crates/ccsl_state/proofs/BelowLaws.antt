@@ -1,6 +1,5 @@
 -- The trees of a system name lower clocks only, from the opening on.
-use Rattle.std.proofs.Common.{◌≡◌, ℕ, zero, suc, ◌<◌, ◌≤◌, List, [], ◌∷◌, map, length, get_or, Bool, true, false, ◌||◌, Option, Some, None, nat_le, nat_lt, nat_eq, ◌+◌, ◌-◌, refl, sym, ap, ap₂, subst, ◌∙◌, arith, if◌then◌else◌, slice_index_or, slice_get}
-use Rattle.std.proofs.lemmas.Bool.{ne_eqb}
+use Rattle.std.proofs.Common.{◌≡◌, ℕ, zero, suc, ◌<◌, List, [], ◌∷◌, map, length, get_or, Bool, true, false, Option, Some, None, nat_le, nat_lt, nat_eq, ◌+◌, ◌-◌, refl, ap, ap₂, ◌∙◌, arith, if◌then◌else◌, slice_index_or}
 use Rattle.ccsl_base.specs.Clocks.{ticks_in}
 use Rattle.ccsl_formula.specs.Formula.{Formula, FFalse, FNot, FAnd, FOr, eval}
 use Rattle.ccsl_words.specs.Word.{BinaryWord, letter}
@@ -16,7 +15,7 @@ use Rattle.ccsl_kernel.specs.Lives.{Step}
 use Rattle.ccsl_kernel.proofs.Scoped.{PlaceBelow, ArgsBelow, NamesBelow, ActualsBelow}
 use Rattle.ccsl_kernel.proofs.Scope.{ReadsOnly, eval_same}
 use Rattle.ccsl_state.specs.Tree.{Tree, TName, TNever, TOne, TTwo, TThen, One, Delaying, Awaiting, Filtering, Two, Uniting, Meeting, Lessening, Leading, Trailing, Ending, EndingWeakly, Sampling, SamplingWeakly, Lagging, leaf, over, two_opened, one_formula, one_next, two_formula, two_next, open_with, open_bodies, opening, then_or_right, next, formula_of, dead_of}
-use Rattle.ccsl_state.specs.Below.{TreeBelow, TreesBelow}
+use Rattle.ccsl_state.specs.Below.{TreeBelow}
 
 -- what names no clock names none above
 none_place : (X : ℕ) (x : Place) → PlaceBelow 0 x → PlaceBelow X x

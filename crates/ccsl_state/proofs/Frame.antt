@@ -1,5 +1,5 @@
 -- The tree that a region holds depends on its own cells alone.
-use Rattle.std.proofs.Common.{◌≡◌, ℕ, zero, suc, ◌+◌, ◌<◌, ◌≤◌, List, [], ◌∷◌, ◌++◌, length, map, take, drop, slice_index, max, min, Bool, true, false, Option, Some, None, nat_lt, nat_eq, if◌then◌else◌, refl, sym, ap, ap₂, subst, ◌∙◌, arith, ltb-true, ◌%◌, ◌^◌, ⊎_elim}
+use Rattle.std.proofs.Common.{◌≡◌, ℕ, zero, suc, ◌+◌, ◌<◌, ◌≤◌, List, [], ◌∷◌, ◌++◌, length, map, take, drop, slice_index, max, Bool, true, false, Option, Some, None, nat_lt, nat_eq, if◌then◌else◌, refl, sym, ap, ap₂, subst, ◌∙◌, arith, ltb-true, ◌%◌, ◌^◌, ⊎_elim}
 use Rattle.std.proofs.lemmas.Bool.{eqb-true, eqb-false, cases_lt}
 use Rattle.std.proofs.lemmas.List.{length-take-le, take-take}
 use Rattle.ccsl_kernel.specs.declared.expr.ExprOp.{ExprOp}
@@ -7,7 +7,7 @@ use Rattle.ccsl_kernel.specs.declared.expr.ExprOp.TheVariants as op
 use Rattle.ccsl_kernel.specs.declared.actual.Actual.{Actual}
 use Rattle.ccsl_kernel.specs.Syntax.{Expression, EName, ECall, ENever, EBinary, EDelay, EAwait, EFilter, EDelayed, EIf, Body, System, body_of}
 use Rattle.ccsl_kernel.specs.Actuals.{number_of, suffix_of, test_of, word_of}
-use Rattle.ccsl_kernel.specs.Cells.{cells_in, cells_of_two}
+use Rattle.ccsl_kernel.specs.Cells.{saturated, cells_in, cells_of_two}
 use Rattle.ccsl_state.specs.Tree.{Tree, TNever, TOne, TTwo, Delaying, Awaiting, Filtering, Leading, Trailing, Ending, EndingWeakly, Sampling, SamplingWeakly, Lagging}
 use Rattle.ccsl_state.specs.Layout.{count_of, offset_of, flag_of, flag_at, bits_of, rotated, own_cells, two_at, then_at, words_of, lag_at, actual_of, read_in, read_body, read_call, read, region_of}
 use Rattle.ccsl_state.specs.Standing.{is_then, IsEnough}
@@ -167,8 +167,8 @@ module _ (K : System) where
       let at = taken_at earlier g g' below in (
         subst (λ n. 1 ≤ n) (sym at) h.0,
         λ m b is.
-            subst (λ ns. min 4294967295 (1 + length b.params + cells_in ns b.root) ≤ slice_index (take g earlier) g') (sym (taken earlier g g' (omega (arith, below))))
-            (subst (λ n. min 4294967295 (1 + length b.params + cells_in (take g' earlier) b.root) ≤ n) (sym at) (h.1 m b is)),
+            subst (λ ns. saturated (1 + length b.params + cells_in ns b.root) ≤ slice_index (take g earlier) g') (sym (taken earlier g g' (omega (arith, below))))
+            (subst (λ n. saturated (1 + length b.params + cells_in (take g' earlier) b.root) ≤ n) (sym at) (h.1 m b is)),
       )
 
   -- the region of a call is that of its group behind the earlier ones

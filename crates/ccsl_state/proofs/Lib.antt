@@ -21,3 +21,4 @@ pub mod PlaceLaws
 pub mod WholeLaws
 pub mod StandLaws
 pub mod SilentLaws
+pub mod AnyBit

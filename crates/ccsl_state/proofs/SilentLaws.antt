@@ -14,7 +14,7 @@ use Rattle.ccsl_kernel.proofs.Completion.{asked_before, full_obeys}
 use Rattle.ccsl_kernel.proofs.Definitions.{step_at-front, step_at-last, definitions-are, definition_allowed, dead_below-same}
 use Rattle.ccsl_kernel.proofs.Silent.{obeying_silent}
 use Rattle.ccsl_kernel.proofs.TableHolds.{first_steps_matter}
-use Rattle.ccsl_state.specs.Held.{Held, is_dead, derived_by, Advances, StandsFor}
+use Rattle.ccsl_state.specs.Held.{Held, derived_by, Advances, StandsFor}
 use Rattle.ccsl_state.specs.Laws.{StaySilent}
 use Rattle.ccsl_state.proofs.StandLaws.{stands_derived, stands_dead, stands_next}
 

@@ -1,12 +1,11 @@
 -- What states that stand for a list of steps tell, and for which list they stand after one step more.
-use Rattle.std.proofs.Common.{◌≡◌, ℕ, zero, suc, ◌+◌, ◌-◌, ◌*◌, ◌<◌, ◌≤◌, ◌^◌, List, [], ◌∷◌, ◌++◌, length, take, drop, replicate, map, Bool, true, false, Option, Some, None, option_map, slice_get, slice_index, nat_eq, nat_le, if◌then◌else◌, refl, sym, ap, ap₂, subst, ◌∙◌, arith, ⊎_elim, eqb-true, ltb-false, length-append}
+use Rattle.std.proofs.Common.{◌≡◌, ℕ, zero, suc, ◌+◌, ◌-◌, ◌*◌, ◌<◌, ◌≤◌, ◌^◌, List, [], ◌∷◌, ◌++◌, length, drop, replicate, map, Bool, true, false, Option, Some, None, option_map, slice_get, slice_index, nat_eq, nat_le, if◌then◌else◌, refl, sym, ap, ap₂, subst, ◌∙◌, arith, ⊎_elim, eqb-true, length-append}
 use Rattle.std.proofs.Math.Seq.{take-length}
-use Rattle.std.proofs.lemmas.Bool.{or_cases, cases_lt}
+use Rattle.std.proofs.lemmas.Bool.{or_cases}
 use Rattle.std.proofs.lemmas.List.{map_push}
 use Rattle.std.proofs.lemmas.Option.{slice_get_within, slice_get_past, get_or_from_slice_get}
-use Rattle.std.specs.Prelude.{All}
-use Rattle.ccsl_base.specs.Clocks.{ticks_in, are_below}
-use Rattle.ccsl_formula.specs.Formula.{Formula, FTrue, FVar, FIff, FNot, FAnd, FOr, eval, reads, ReadsBelow}
+use Rattle.ccsl_base.specs.Clocks.{ticks_in}
+use Rattle.ccsl_formula.specs.Formula.{Formula, FTrue, FVar, FIff, FNot, FOr, reads, ReadsBelow}
 use Rattle.ccsl_kernel.specs.declared.constraint.Constraint.{Constraint}
 use Rattle.ccsl_kernel.specs.declared.constraint.RelationKind.{RelationKind}
 use Rattle.ccsl_kernel.specs.declared.constraint.RelationKind.TheVariants.{Subclock, Coincides, Excludes, Precedes, PrecedesWeakly, PrecedesWithin}
@@ -15,20 +14,19 @@ use Rattle.ccsl_kernel.specs.Cells.{cells_in}
 use Rattle.ccsl_kernel.specs.Lives.{Step}
 use Rattle.ccsl_kernel.specs.Ticks.{count}
 use Rattle.ccsl_kernel.specs.Meaning.{dead_at}
-use Rattle.ccsl_kernel.specs.Items.{clock_count, relation_formula, constraint_formula, definition_formula, constraint_or_true, item_or_constraint, item_formula}
-use Rattle.ccsl_kernel.specs.Runs.{full_step, completed, completed_after}
+use Rattle.ccsl_kernel.specs.Items.{clock_count, relation_formula, constraint_or_true, item_or_constraint, item_formula}
+use Rattle.ccsl_kernel.specs.Runs.{full_step}
 use Rattle.ccsl_kernel.specs.Accepted.{IsConstraint, IsAccepted}
 use Rattle.ccsl_kernel.proofs.Definitions.{definitions-are}
 use Rattle.ccsl_kernel.proofs.AcceptedParts.{accepted_guarded}
 use Rattle.ccsl_kernel.proofs.Bounded.{clocks_bounded}
-use Rattle.ccsl_kernel.proofs.Completion.{completed-append}
 use Rattle.ccsl_kernel.proofs.Quiet.{count-snoc}
 use Rattle.ccsl_kernel.proofs.Scope.{ReadsOnly, reads_only}
 use Rattle.ccsl_state.specs.Tree.{bumped, Tree, formula_of}
 use Rattle.ccsl_state.specs.Layout.{count_of}
 use Rattle.ccsl_state.specs.States.{trees_in, next_all, deaths_from, derived_in, tree_after, trees_from, trees_after, opened_all}
 use Rattle.ccsl_state.specs.Below.{TreeBelow, TreesBelow}
-use Rattle.ccsl_state.specs.Held.{Held, trees_of, deaths_of, is_dead, derived_by, counts_of, left_count, right_count, counted_formula, tree_or_constraint, formula_in, CellsCount, Advances, StandsFor}
+use Rattle.ccsl_state.specs.Held.{Held, trees_of, is_dead, derived_by, counts_of, left_count, right_count, counted_formula, tree_or_constraint, formula_in, Advances, StandsFor}
 use Rattle.ccsl_state.proofs.BelowLaws.{tree_reads}
 use Rattle.ccsl_state.proofs.StateLaws.{states_opened, states_step, states_dead, states_mean, states_derive}
 use Rattle.ccsl_kernel.specs.Table.{Now}

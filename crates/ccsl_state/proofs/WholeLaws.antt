@@ -1,23 +1,22 @@
 -- The whole row of an accepted system: there is room for its regions, and what the trees and the counts become in a step.
-use Rattle.std.proofs.Common.{◌≡◌, ℕ, suc, ◌+◌, ◌-◌, ◌*◌, ◌<◌, ◌≤◌, List, [], ◌∷◌, ◌++◌, length, take, drop, Bool, true, false, ◌||◌, ◌&&◌, nat_eq, Some, slice_get, refl, sym, ap, ap₂, subst, ◌∙◌, arith, length-append}
+use Rattle.std.proofs.Common.{◌≡◌, ℕ, suc, ◌+◌, ◌-◌, ◌*◌, ◌<◌, ◌≤◌, List, [], ◌∷◌, ◌++◌, length, take, drop, Bool, true, false, ◌||◌, slice_get, refl, sym, ap, ap₂, subst, ◌∙◌, arith, length-append}
 use Rattle.std.proofs.lemmas.Bool.{ne_eqb}
 use Rattle.std.proofs.Math.Seq.{take-length}
-use Rattle.ccsl_base.specs.Clocks.{ticks_in, with_clock}
+use Rattle.ccsl_base.specs.Clocks.{ticks_in}
 use Rattle.ccsl_formula.specs.Formula.{eval}
 use Rattle.ccsl_kernel.specs.Syntax.{Expression, System, definition_of}
 use Rattle.ccsl_kernel.specs.Cells.{cells_in, cells}
 use Rattle.ccsl_kernel.specs.Lives.{Step}
 use Rattle.ccsl_kernel.specs.Accepted.{IsAccepted}
 use Rattle.ccsl_kernel.proofs.Definitions.{definitions-are}
-use Rattle.ccsl_kernel.proofs.Scoped.{NamesBelow}
 use Rattle.ccsl_kernel.proofs.AcceptedParts.{accepted_scoped}
 use Rattle.ccsl_kernel.proofs.Sets.{ticks_in-with_clock}
 use Rattle.ccsl_state.specs.Tree.{Tree, next, formula_of, dead_of}
 use Rattle.ccsl_state.specs.Moves.{gone_in}
 use Rattle.ccsl_state.specs.Standing.{IsEnough}
 use Rattle.ccsl_state.specs.States.{put, cells_from, next_all, deaths_from, derived_in, passed_all, trees_in, opened_all}
-use Rattle.ccsl_state.specs.Below.{TreeBelow, TreesBelow}
-use Rattle.ccsl_state.specs.Held.{Held, calls_of, trees_of, deaths_of, counts_of, derived_by, CellsCount, Advances}
+use Rattle.ccsl_state.specs.Below.{TreesBelow}
+use Rattle.ccsl_state.specs.Held.{calls_of, trees_of, deaths_of, counts_of, derived_by, CellsCount, Advances}
 use Rattle.ccsl_state.proofs.TableLaws.{table_len, table_enough, table_room}
 use Rattle.ccsl_state.proofs.BelowLaws.{opening_below, next_below, next_same}
 use Rattle.ccsl_state.proofs.Frame.{read_same}

@@ -5,7 +5,7 @@
 --     formula_in      the formula of an item
 --     Advances      the states before a full step and after it
 --     StandsFor      the lists of steps after which the row is as it is
-use Rattle.std.specs.Prelude.{◌≡◌, ℕ, suc, ◌+◌, ◌-◌, ◌*◌, ◌<◌, ◌^◌, List, [], Bool, Option, Some, None, length, map, drop, slice_get, slice_index}
+use Rattle.std.specs.Prelude.{◌≡◌, ℕ, ◌+◌, ◌-◌, ◌*◌, ◌<◌, ◌^◌, List, [], Bool, Option, Some, None, length, map, drop, slice_get, slice_index}
 use Rattle.ccsl_base.specs.Clocks.{ticks_in}
 use Rattle.ccsl_formula.specs.Formula.{Formula, FTrue, FVar, FIff}
 use Rattle.ccsl_kernel.specs.declared.constraint.Constraint.{Constraint}

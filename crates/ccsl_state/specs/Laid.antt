@@ -1,6 +1,5 @@
 -- How states lie in memory: the tables that they keep are those of their system, and the dead clocks are those that the trees tell.
-use Rattle.std.specs.Prelude.{◌≡◌, List, ℕ, length}
-use Rattle.ccsl_kernel.specs.Syntax.{System}
+use Rattle.std.specs.Prelude.{◌≡◌, length}
 use Rattle.ccsl_kernel.specs.Cells.{cells}
 use Rattle.ccsl_kernel.specs.Accepted.{IsAccepted}
 use Rattle.ccsl_state.specs.declared.states.States.TheInside.{Inside}

@@ -11,3 +11,4 @@ pub mod Held
 pub mod Laws
 pub mod Whole
 pub mod Laid
+pub mod Regions

@@ -1,6 +1,7 @@
-//! The region of an expression after a step. One pass tells the tick in the step, rewrites the cells, and tells the death after it.
+//! The region of an expression after a step. One pass tells the tick in the step, rewrites the cells, and tells the death
+//! after it.
 
-ghost use Rattle.std.specs.Prelude.{◌≡◌, ◌<◌, ◌≤◌, ◌+◌, ◌*◌, ◌^◌, ◌%◌, ℕ, false, true, not, drop, length, max, option_map, slice_index, Option, Some, None, IfSome};
+ghost use Rattle.std.specs.Prelude.{suc, ◌≡◌, ◌<◌, ◌≤◌, ◌+◌, ◌*◌, ◌^◌, ◌%◌, ℕ, false, true, not, drop, length, max, option_map, slice_index, Option, Some, None, IfSome};
 ghost use Rattle.ccsl_formula.specs.Formula.{eval};
 ghost use Rattle.ccsl_kernel.specs.Syntax.{Body, ECall, body_of};
 ghost use Rattle.ccsl_kernel.specs.Plain.{plain_expr};
@@ -13,6 +14,7 @@ ghost use Rattle.ccsl_state.specs.Layout.{words_of, lag_at, own_cells, two_at, t
 ghost use Rattle.ccsl_state.specs.Standing.{is_then, IsCall, Stands, is_own, IsEnough};
 ghost use Rattle.ccsl_state.specs.Nodes.{one_at, node_ticks, node_dead};
 ghost use Rattle.ccsl_state.specs.Moves.{gone_in, IsTail, Outcome};
+ghost use Rattle.ccsl_state.specs.Regions.{tree, call_tree, size, newborn, after, ticks, HasTable, MayStand, WordsFit, ParamsFit, left_tree, right_tree, then_tree, HasRoom};
 
 use crate::cells::{is_then, own_cells, size_of};
 use crate::lag::{lag_cells, lag_dead, lag_moved, lag_ticks};
@@ -21,17 +23,19 @@ use crate::moved::{Moved, Stepped, TailCall};
 use crate::node::{Unary, filter_from, two_dead, two_moved, two_ticks};
 use crate::open::{call_opened, is_gone, opened};
 use crate::params::actuals_at;
-use ccsl_base::ClockSet;
+use ccsl_base::{ClockSet, MAX_CELLS, MAX_DELAY, MAX_LEVELS};
 use ccsl_kernel::{Actual, Expr, ExprOp};
 
 /// The call of the own group that an expression comes to by its choices.
 fn own_call<'s>(lay: &Lay<'s>, e: &'s Expr, actuals: &[Actual]) -> Option<TailCall<'s>>
-    requires offsets { ExprFits lay.now.system.now.words (plain_expr e.now) }
-    requires stands { Stands lay.now.system.now (length lay.now.earlier.now) false (plain_expr e.now) }
-    requires actuals { ActualsFit lay.now.system.now.words actuals.now }
-    ensures none { result ≡ None → is_own lay.now.system.now.words (length lay.now.earlier.now) (plain_expr e.now) actuals.now ≡ false }
-    ensures call { IfSome result (λ call. IsTail lay.now.system.now (length lay.now.earlier.now) actuals.now (opening lay.now.system.now (plain_expr e.now) actuals.now) call) }
-    ensures inner { Stands lay.now.system.now (length lay.now.earlier.now) true (plain_expr e.now) → result ≡ None }
+    requires offsets { WordsFit lay.now e.now }
+    requires stands { MayStand lay.now false e.now }
+    requires actuals { ParamsFit lay.now actuals.now }
+    ensures none { result ≡ None → is_own lay.now.system.now.words (length lay.now.earlier.now)
+        (plain_expr e.now) actuals.now ≡ false }
+    ensures call { IfSome result (λ call. IsTail lay.now.system.now
+        (length lay.now.earlier.now) actuals.now (newborn lay.now e.now actuals.now) call) }
+    ensures inner { MayStand lay.now true e.now → result ≡ None }
 {
     match e {
         Expr::Call {
@@ -80,20 +84,21 @@ pub fn advanced<'s>(
     step: &ClockSet,
     gone: &ClockSet,
 ) -> Moved<'s>
-    requires table { IsEnough lay.now.system.now lay.now.earlier.now }
+    requires table { HasTable lay.now }
     requires groups { length lay.now.earlier.now ≤ length lay.now.system.now.groups }
-    requires shallow { deep (plain_expr e.now) ≤ 129 }
-    requires offsets { ExprFits lay.now.system.now.words (plain_expr e.now) }
-    requires stands { Stands lay.now.system.now (length lay.now.earlier.now) false (plain_expr e.now) }
-    requires actuals { ActualsFit lay.now.system.now.words actuals.now }
-    requires room { cells_in lay.now.earlier.now (plain_expr e.now) ≤ length row.old }
-    requires few { length row.old ≤ 32768 }
-    ensures tick { result.tick ≡ eval (formula_of (read lay.now.system.now lay.now.earlier.now (plain_expr e.now) actuals.now row.old)) step.now }
-    ensures next { Outcome lay.now.system.now step.now (gone_in gone.now) (length lay.now.earlier.now) actuals.now (read lay.now.system.now lay.now.earlier.now (plain_expr e.now) actuals.now row.old)
-        (read lay.now.system.now lay.now.earlier.now (plain_expr e.now) actuals.now row.new) result.dead result.tail }
-    ensures rest { drop (cells_in lay.now.earlier.now (plain_expr e.now)) row.new ≡ drop (cells_in lay.now.earlier.now (plain_expr e.now)) row.old }
-    ensures size { result.size ≡ cells_in lay.now.earlier.now (plain_expr e.now) }
-    ensures inner { Stands lay.now.system.now (length lay.now.earlier.now) true (plain_expr e.now) → result.tail ≡ None }
+    requires shallow { deep (plain_expr e.now) ≤ suc MAX_LEVELS }
+    requires offsets { WordsFit lay.now e.now }
+    requires stands { MayStand lay.now false e.now }
+    requires actuals { ParamsFit lay.now actuals.now }
+    requires room { size lay.now e.now ≤ length row.old }
+    requires few { length row.old ≤ MAX_CELLS }
+    ensures tick { result.tick ≡ ticks (tree lay.now e.now actuals.now row.old) step.now }
+    ensures next { Outcome lay.now.system.now step.now (gone_in gone.now)
+        (length lay.now.earlier.now) actuals.now (tree lay.now e.now actuals.now row.old)
+        (tree lay.now e.now actuals.now row.new) result.dead result.tail }
+    ensures rest { drop (size lay.now e.now) row.new ≡ drop (size lay.now e.now) row.old }
+    ensures size { result.size ≡ size lay.now e.now }
+    ensures inner { MayStand lay.now true e.now → result.tail ≡ None }
 {
     match e {
         Expr::Name(place) => {
@@ -186,22 +191,25 @@ fn one_advanced<'s>(
     step: &ClockSet,
     gone: &ClockSet,
 ) -> Moved<'s>
-    requires table { IsEnough lay.now.system.now lay.now.earlier.now }
+    requires table { HasTable lay.now }
     requires groups { length lay.now.earlier.now ≤ length lay.now.system.now.groups }
-    requires shallow { deep (plain_expr a.now) ≤ 128 }
-    requires offsets { ExprFits lay.now.system.now.words (plain_expr a.now) }
-    requires stands { Stands lay.now.system.now (length lay.now.earlier.now) true (plain_expr a.now) }
-    requires actuals { ActualsFit lay.now.system.now.words actuals.now }
-    requires room { 1 + cells_in lay.now.earlier.now (plain_expr a.now) ≤ length row.old }
-    requires few { length row.old ≤ 32768 }
-    ensures tick { result.tick ≡ one_ticks (one_at lay.now.system.now.words unary (slice_index row.old 0)) (eval (formula_of (read lay.now.system.now lay.now.earlier.now (plain_expr a.now) actuals.now (drop 1 row.old))) step.now) }
+    requires shallow { deep (plain_expr a.now) ≤ MAX_LEVELS }
+    requires offsets { WordsFit lay.now a.now }
+    requires stands { MayStand lay.now true a.now }
+    requires actuals { ParamsFit lay.now actuals.now }
+    requires room { 1 + size lay.now a.now ≤ length row.old }
+    requires few { length row.old ≤ MAX_CELLS }
+    ensures tick { result.tick ≡ one_ticks (one_at lay.now.system.now.words unary
+        (slice_index row.old 0)) (ticks (left_tree lay.now a.now actuals.now 1 row.old) step.now) }
     ensures node { one_at lay.now.system.now.words unary (slice_index row.new 0) ≡
-        one_next (one_at lay.now.system.now.words unary (slice_index row.old 0)) (eval (formula_of (read lay.now.system.now lay.now.earlier.now (plain_expr a.now) actuals.now (drop 1 row.old))) step.now) }
-    ensures tree { read lay.now.system.now lay.now.earlier.now (plain_expr a.now) actuals.now (drop 1 row.new) ≡
-        next lay.now.system.now step.now (gone_in gone.now) (read lay.now.system.now lay.now.earlier.now (plain_expr a.now) actuals.now (drop 1 row.old)) }
-    ensures dead { result.dead ≡ one_dead (one_at lay.now.system.now.words unary (slice_index row.new 0)) (dead_of (gone_in gone.now) (read lay.now.system.now lay.now.earlier.now (plain_expr a.now) actuals.now (drop 1 row.new))) }
-    ensures rest { drop (1 + cells_in lay.now.earlier.now (plain_expr a.now)) row.new ≡ drop (1 + cells_in lay.now.earlier.now (plain_expr a.now)) row.old }
-    ensures size { result.size ≡ 1 + cells_in lay.now.earlier.now (plain_expr a.now) }
+        one_next (one_at lay.now.system.now.words unary (slice_index row.old 0))
+        (ticks (left_tree lay.now a.now actuals.now 1 row.old) step.now) }
+    ensures tree { left_tree lay.now a.now actuals.now 1 row.new ≡
+        after lay.now step.now gone.now (left_tree lay.now a.now actuals.now 1 row.old) }
+    ensures dead { result.dead ≡ one_dead (one_at lay.now.system.now.words unary (slice_index row.new 0))
+        (dead_of (gone_in gone.now) (left_tree lay.now a.now actuals.now 1 row.new)) }
+    ensures rest { drop (1 + size lay.now a.now) row.new ≡ drop (1 + size lay.now a.now) row.old }
+    ensures size { result.size ≡ 1 + size lay.now a.now }
     ensures tail { result.tail ≡ None }
 {
     let (head, rest) = row.split_at_mut(1);
@@ -228,29 +236,35 @@ fn two_advanced<'s>(
     step: &ClockSet,
     gone: &ClockSet,
 ) -> Moved<'s>
-    requires table { IsEnough lay.now.system.now lay.now.earlier.now }
+    requires table { HasTable lay.now }
     requires groups { length lay.now.earlier.now ≤ length lay.now.system.now.groups }
-    requires shallow_left { deep (plain_expr a.now) ≤ 128 }
-    requires shallow_right { deep (plain_expr d.now) ≤ 128 }
-    requires offsets_left { ExprFits lay.now.system.now.words (plain_expr a.now) }
-    requires offsets_right { ExprFits lay.now.system.now.words (plain_expr d.now) }
-    requires stands_left { Stands lay.now.system.now (length lay.now.earlier.now) true (plain_expr a.now) }
-    requires stands_right { Stands lay.now.system.now (length lay.now.earlier.now) true (plain_expr d.now) }
-    requires actuals { ActualsFit lay.now.system.now.words actuals.now }
-    requires room { own_cells op + cells_in lay.now.earlier.now (plain_expr a.now) + cells_in lay.now.earlier.now (plain_expr d.now) ≤ length row.old }
-    requires few { length row.old ≤ 32768 }
-    ensures tick { result.tick ≡ node_ticks (two_at op row.old) (eval (formula_of (read lay.now.system.now lay.now.earlier.now (plain_expr a.now) actuals.now (drop (own_cells op) row.old))) step.now)
-        (eval (formula_of (read lay.now.system.now lay.now.earlier.now (plain_expr d.now) actuals.now (drop (own_cells op + cells_in lay.now.earlier.now (plain_expr a.now)) row.old))) step.now) }
-    ensures node { two_at op row.new ≡ option_map (λ o. two_next o (eval (formula_of (read lay.now.system.now lay.now.earlier.now (plain_expr a.now) actuals.now (drop (own_cells op) row.old))) step.now)
-        (eval (formula_of (read lay.now.system.now lay.now.earlier.now (plain_expr d.now) actuals.now (drop (own_cells op + cells_in lay.now.earlier.now (plain_expr a.now)) row.old))) step.now)) (two_at op row.old) }
-    ensures left { read lay.now.system.now lay.now.earlier.now (plain_expr a.now) actuals.now (drop (own_cells op) row.new) ≡
-        next lay.now.system.now step.now (gone_in gone.now) (read lay.now.system.now lay.now.earlier.now (plain_expr a.now) actuals.now (drop (own_cells op) row.old)) }
-    ensures right { read lay.now.system.now lay.now.earlier.now (plain_expr d.now) actuals.now (drop (own_cells op + cells_in lay.now.earlier.now (plain_expr a.now)) row.new) ≡
-        next lay.now.system.now step.now (gone_in gone.now) (read lay.now.system.now lay.now.earlier.now (plain_expr d.now) actuals.now (drop (own_cells op + cells_in lay.now.earlier.now (plain_expr a.now)) row.old)) }
-    ensures dead { result.dead ≡ node_dead (two_at op row.new) (dead_of (gone_in gone.now) (read lay.now.system.now lay.now.earlier.now (plain_expr a.now) actuals.now (drop (own_cells op) row.new)))
-        (dead_of (gone_in gone.now) (read lay.now.system.now lay.now.earlier.now (plain_expr d.now) actuals.now (drop (own_cells op + cells_in lay.now.earlier.now (plain_expr a.now)) row.new))) }
-    ensures rest { let n = own_cells op + cells_in lay.now.earlier.now (plain_expr a.now) + cells_in lay.now.earlier.now (plain_expr d.now) in drop n row.new ≡ drop n row.old }
-    ensures size { result.size ≡ own_cells op + cells_in lay.now.earlier.now (plain_expr a.now) + cells_in lay.now.earlier.now (plain_expr d.now) }
+    requires shallow_left { deep (plain_expr a.now) ≤ MAX_LEVELS }
+    requires shallow_right { deep (plain_expr d.now) ≤ MAX_LEVELS }
+    requires offsets_left { WordsFit lay.now a.now }
+    requires offsets_right { WordsFit lay.now d.now }
+    requires stands_left { MayStand lay.now true a.now }
+    requires stands_right { MayStand lay.now true d.now }
+    requires actuals { ParamsFit lay.now actuals.now }
+    requires room { own_cells op + size lay.now a.now + size lay.now d.now ≤ length row.old }
+    requires few { length row.old ≤ MAX_CELLS }
+    ensures tick { result.tick ≡ node_ticks (two_at op row.old)
+        (ticks (left_tree lay.now a.now actuals.now (own_cells op) row.old) step.now)
+        (ticks (right_tree lay.now a.now d.now actuals.now (own_cells op) row.old) step.now) }
+    ensures node { two_at op row.new ≡ option_map (λ o. two_next o
+        (ticks (left_tree lay.now a.now actuals.now (own_cells op) row.old) step.now)
+        (ticks (right_tree lay.now a.now d.now actuals.now (own_cells op) row.old) step.now))
+        (two_at op row.old) }
+    ensures left { left_tree lay.now a.now actuals.now (own_cells op) row.new ≡
+        after lay.now step.now gone.now (left_tree lay.now a.now actuals.now (own_cells op) row.old) }
+    ensures right { right_tree lay.now a.now d.now actuals.now (own_cells op) row.new ≡
+        after lay.now step.now gone.now (right_tree lay.now a.now d.now actuals.now
+        (own_cells op) row.old) }
+    ensures dead { result.dead ≡ node_dead (two_at op row.new)
+        (dead_of (gone_in gone.now) (left_tree lay.now a.now actuals.now (own_cells op) row.new))
+        (dead_of (gone_in gone.now) (right_tree lay.now a.now d.now actuals.now (own_cells op) row.new)) }
+    ensures rest { let n = own_cells op + size lay.now a.now + size lay.now d.now in drop n row.new ≡
+        drop n row.old }
+    ensures size { result.size ≡ own_cells op + size lay.now a.now + size lay.now d.now }
     ensures tail { result.tail ≡ None }
 {
     let (head, rest) = row.split_at_mut(own_cells(op));
@@ -279,26 +293,27 @@ fn then_advanced<'s>(
     step: &ClockSet,
     gone: &ClockSet,
 ) -> Moved<'s>
-    requires table { IsEnough lay.now.system.now lay.now.earlier.now }
+    requires table { HasTable lay.now }
     requires groups { length lay.now.earlier.now ≤ length lay.now.system.now.groups }
-    requires shallow_left { deep (plain_expr a.now) ≤ 128 }
-    requires shallow_right { deep (plain_expr d.now) ≤ 128 }
-    requires offsets_left { ExprFits lay.now.system.now.words (plain_expr a.now) }
-    requires offsets_right { ExprFits lay.now.system.now.words (plain_expr d.now) }
-    requires stands_left { Stands lay.now.system.now (length lay.now.earlier.now) true (plain_expr a.now) }
-    requires stands_right { Stands lay.now.system.now (length lay.now.earlier.now) false (plain_expr d.now) }
-    requires actuals { ActualsFit lay.now.system.now.words actuals.now }
-    requires room { 1 + max (cells_in lay.now.earlier.now (plain_expr a.now)) (cells_in lay.now.earlier.now (plain_expr d.now)) ≤ length row.old }
-    requires few { length row.old ≤ 32768 }
-    ensures tick { result.tick ≡ eval (formula_of (then_at (flag_at row.old) (read lay.now.system.now lay.now.earlier.now (plain_expr a.now) actuals.now (drop 1 row.old))
-        (read lay.now.system.now lay.now.earlier.now (plain_expr d.now) actuals.now (drop 1 row.old)) (plain_expr d.now) actuals.now)) step.now }
-    ensures next { Outcome lay.now.system.now step.now (gone_in gone.now) (length lay.now.earlier.now) actuals.now
-        (then_at (flag_at row.old) (read lay.now.system.now lay.now.earlier.now (plain_expr a.now) actuals.now (drop 1 row.old)) (read lay.now.system.now lay.now.earlier.now (plain_expr d.now) actuals.now (drop 1 row.old)) (plain_expr d.now) actuals.now)
-        (then_at (flag_at row.new) (read lay.now.system.now lay.now.earlier.now (plain_expr a.now) actuals.now (drop 1 row.new)) (read lay.now.system.now lay.now.earlier.now (plain_expr d.now) actuals.now (drop 1 row.new)) (plain_expr d.now) actuals.now)
+    requires shallow_left { deep (plain_expr a.now) ≤ MAX_LEVELS }
+    requires shallow_right { deep (plain_expr d.now) ≤ MAX_LEVELS }
+    requires offsets_left { WordsFit lay.now a.now }
+    requires offsets_right { WordsFit lay.now d.now }
+    requires stands_left { MayStand lay.now true a.now }
+    requires stands_right { MayStand lay.now false d.now }
+    requires actuals { ParamsFit lay.now actuals.now }
+    requires room { 1 + max (size lay.now a.now) (size lay.now d.now) ≤ length row.old }
+    requires few { length row.old ≤ MAX_CELLS }
+    ensures tick { result.tick ≡ ticks (then_tree lay.now a.now d.now actuals.now row.old) step.now }
+    ensures next { Outcome lay.now.system.now step.now (gone_in gone.now)
+        (length lay.now.earlier.now) actuals.now
+        (then_tree lay.now a.now d.now actuals.now row.old)
+        (then_tree lay.now a.now d.now actuals.now row.new)
         result.dead result.tail }
-    ensures rest { let n = 1 + max (cells_in lay.now.earlier.now (plain_expr a.now)) (cells_in lay.now.earlier.now (plain_expr d.now)) in drop n row.new ≡ drop n row.old }
-    ensures size { result.size ≡ 1 + max (cells_in lay.now.earlier.now (plain_expr a.now)) (cells_in lay.now.earlier.now (plain_expr d.now)) }
-    ensures inner { Stands lay.now.system.now (length lay.now.earlier.now) true (plain_expr d.now) → result.tail ≡ None }
+    ensures rest { let n = 1 + max (size lay.now a.now) (size lay.now d.now) in drop n row.new ≡
+        drop n row.old }
+    ensures size { result.size ≡ 1 + max (size lay.now a.now) (size lay.now d.now) }
+    ensures inner { MayStand lay.now true d.now → result.tail ≡ None }
 {
     let (head, rest) = row.split_at_mut(1);
     if head[0] != 0 {
@@ -350,16 +365,16 @@ fn call_advanced(
     step: &ClockSet,
     gone: &ClockSet,
 ) -> Stepped
-    requires table { IsEnough lay.now.system.now lay.now.earlier.now }
+    requires table { HasTable lay.now }
     requires group { length lay.now.earlier.now ≡ group }
     requires groups { group < length lay.now.system.now.groups }
     requires some { 1 ≤ length row.old }
-    requires room { (m : ℕ) (b : Body) → body_of lay.now.system.now.groups group m ≡ Some b → 1 + length b.params + cells_in lay.now.earlier.now b.root ≤ length row.old }
-    requires few { length row.old ≤ 32768 }
-    ensures tick { result.tick ≡ eval (formula_of (region_of lay.now.system.now lay.now.earlier.now row.old)) step.now }
-    ensures tree { region_of lay.now.system.now lay.now.earlier.now row.new ≡ next lay.now.system.now step.now (gone_in gone.now) (region_of lay.now.system.now lay.now.earlier.now row.old) }
-    ensures dead { result.dead ≡ dead_of (gone_in gone.now) (region_of lay.now.system.now lay.now.earlier.now row.new) }
-    ensures rest { (n : ℕ) → 1 ≤ n → ((m : ℕ) (b : Body) → body_of lay.now.system.now.groups group m ≡ Some b → 1 + length b.params + cells_in lay.now.earlier.now b.root ≤ n) → drop n row.new ≡ drop n row.old }
+    requires room { HasRoom lay.now group (length row.old) }
+    requires few { length row.old ≤ MAX_CELLS }
+    ensures tick { result.tick ≡ ticks (call_tree lay.now row.old) step.now }
+    ensures tree { call_tree lay.now row.new ≡ after lay.now step.now gone.now (call_tree lay.now row.old) }
+    ensures dead { result.dead ≡ dead_of (gone_in gone.now) (call_tree lay.now row.new) }
+    ensures rest { (n : ℕ) → 1 ≤ n → HasRoom lay.now group n → drop n row.new ≡ drop n row.old }
 {
     let (first, rest) = row.split_at_mut(1);
     match lay.system.body(group, (first[0] % (1 << 32)) as u32) {
@@ -401,26 +416,36 @@ fn lag_advanced<'s>(
     step: &ClockSet,
     gone: &ClockSet,
 ) -> Moved<'s>
-    requires table { IsEnough lay.now.system.now lay.now.earlier.now }
+    requires table { HasTable lay.now }
     requires groups { length lay.now.earlier.now ≤ length lay.now.system.now.groups }
     requires some { 1 ≤ m }
-    requires short { m ≤ 4096 }
-    requires shallow_left { deep (plain_expr a.now) ≤ 128 }
-    requires shallow_right { deep (plain_expr d.now) ≤ 128 }
-    requires offsets_left { ExprFits lay.now.system.now.words (plain_expr a.now) }
-    requires offsets_right { ExprFits lay.now.system.now.words (plain_expr d.now) }
-    requires stands_left { Stands lay.now.system.now (length lay.now.earlier.now) true (plain_expr a.now) }
-    requires stands_right { Stands lay.now.system.now (length lay.now.earlier.now) true (plain_expr d.now) }
-    requires actuals { ActualsFit lay.now.system.now.words actuals.now }
-    requires room { 2 + words_of m + cells_in lay.now.earlier.now (plain_expr a.now) + cells_in lay.now.earlier.now (plain_expr d.now) ≤ length row.old }
-    requires few { length row.old ≤ 32768 }
-    ensures tick { result.tick ≡ two_ticks (lag_at m row.old) (eval (formula_of (read lay.now.system.now lay.now.earlier.now (plain_expr a.now) actuals.now (drop (2 + words_of m) row.old))) step.now) (eval (formula_of (read lay.now.system.now lay.now.earlier.now (plain_expr d.now) actuals.now (drop (2 + words_of m + cells_in lay.now.earlier.now (plain_expr a.now)) row.old))) step.now) }
-    ensures node { lag_at m row.new ≡ two_next (lag_at m row.old) (eval (formula_of (read lay.now.system.now lay.now.earlier.now (plain_expr a.now) actuals.now (drop (2 + words_of m) row.old))) step.now) (eval (formula_of (read lay.now.system.now lay.now.earlier.now (plain_expr d.now) actuals.now (drop (2 + words_of m + cells_in lay.now.earlier.now (plain_expr a.now)) row.old))) step.now) }
-    ensures left { read lay.now.system.now lay.now.earlier.now (plain_expr a.now) actuals.now (drop (2 + words_of m) row.new) ≡ next lay.now.system.now step.now (gone_in gone.now) (read lay.now.system.now lay.now.earlier.now (plain_expr a.now) actuals.now (drop (2 + words_of m) row.old)) }
-    ensures right { read lay.now.system.now lay.now.earlier.now (plain_expr d.now) actuals.now (drop (2 + words_of m + cells_in lay.now.earlier.now (plain_expr a.now)) row.new) ≡ next lay.now.system.now step.now (gone_in gone.now) (read lay.now.system.now lay.now.earlier.now (plain_expr d.now) actuals.now (drop (2 + words_of m + cells_in lay.now.earlier.now (plain_expr a.now)) row.old)) }
-    ensures dead { result.dead ≡ two_dead (lag_at m row.new) (dead_of (gone_in gone.now) (read lay.now.system.now lay.now.earlier.now (plain_expr a.now) actuals.now (drop (2 + words_of m) row.new))) (dead_of (gone_in gone.now) (read lay.now.system.now lay.now.earlier.now (plain_expr d.now) actuals.now (drop (2 + words_of m + cells_in lay.now.earlier.now (plain_expr a.now)) row.new))) }
-    ensures rest { let n = 2 + words_of m + cells_in lay.now.earlier.now (plain_expr a.now) + cells_in lay.now.earlier.now (plain_expr d.now) in drop n row.new ≡ drop n row.old }
-    ensures size { result.size ≡ 2 + words_of m + cells_in lay.now.earlier.now (plain_expr a.now) + cells_in lay.now.earlier.now (plain_expr d.now) }
+    requires short { m ≤ MAX_DELAY }
+    requires shallow_left { deep (plain_expr a.now) ≤ MAX_LEVELS }
+    requires shallow_right { deep (plain_expr d.now) ≤ MAX_LEVELS }
+    requires offsets_left { WordsFit lay.now a.now }
+    requires offsets_right { WordsFit lay.now d.now }
+    requires stands_left { MayStand lay.now true a.now }
+    requires stands_right { MayStand lay.now true d.now }
+    requires actuals { ParamsFit lay.now actuals.now }
+    requires room { 2 + words_of m + size lay.now a.now + size lay.now d.now ≤ length row.old }
+    requires few { length row.old ≤ MAX_CELLS }
+    ensures tick { result.tick ≡ two_ticks (lag_at m row.old)
+        (ticks (left_tree lay.now a.now actuals.now (2 + words_of m) row.old) step.now)
+        (ticks (right_tree lay.now a.now d.now actuals.now (2 + words_of m) row.old) step.now) }
+    ensures node { lag_at m row.new ≡ two_next (lag_at m row.old)
+        (ticks (left_tree lay.now a.now actuals.now (2 + words_of m) row.old) step.now)
+        (ticks (right_tree lay.now a.now d.now actuals.now (2 + words_of m) row.old) step.now) }
+    ensures left { left_tree lay.now a.now actuals.now (2 + words_of m) row.new ≡
+        after lay.now step.now gone.now (left_tree lay.now a.now actuals.now (2 + words_of m) row.old) }
+    ensures right { right_tree lay.now a.now d.now actuals.now (2 + words_of m) row.new ≡
+        after lay.now step.now gone.now (right_tree lay.now a.now d.now actuals.now
+        (2 + words_of m) row.old) }
+    ensures dead { result.dead ≡ two_dead (lag_at m row.new)
+        (dead_of (gone_in gone.now) (left_tree lay.now a.now actuals.now (2 + words_of m) row.new))
+        (dead_of (gone_in gone.now) (right_tree lay.now a.now d.now actuals.now (2 + words_of m) row.new)) }
+    ensures rest { let n = 2 + words_of m + size lay.now a.now + size lay.now d.now in drop n row.new ≡
+        drop n row.old }
+    ensures size { result.size ≡ 2 + words_of m + size lay.now a.now + size lay.now d.now }
     ensures tail { result.tail ≡ None }
 {
     let (head, rest) = row.split_at_mut(lag_cells(m));

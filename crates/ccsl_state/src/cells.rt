@@ -9,6 +9,7 @@ ghost use Rattle.ccsl_state.specs.Tree.{bumped};
 ghost use Rattle.ccsl_state.specs.Layout.{count_of, is_offset, offset_of, actual_of, own_cells};
 ghost use Rattle.ccsl_state.specs.Standing.{is_then};
 
+use ccsl_base::MAX_CELLS;
 use ccsl_kernel::{Expr, ExprOp, Suffix};
 use ccsl_words::Word;
 
@@ -76,7 +77,7 @@ pub fn own_cells(op: ExprOp) -> usize
 
 /// The cells of an expression.
 pub fn size_of(e: &Expr, earlier: &[u32]) -> usize
-    requires { cells_in earlier.now (plain_expr e.now) ≤ 32768 }
+    requires { cells_in earlier.now (plain_expr e.now) ≤ MAX_CELLS }
     ensures { result ≡ cells_in earlier.now (plain_expr e.now) }
 {
     match e {

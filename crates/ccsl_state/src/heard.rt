@@ -1,6 +1,6 @@
 //! Whether an expression ticks in a step, from its region.
 
-ghost use Rattle.std.specs.Prelude.{◌≡◌, ◌<◌, ◌≤◌, ◌+◌, ◌*◌, ◌^◌, ◌%◌, ℕ, false, true, drop, length, max, slice_index, Some};
+ghost use Rattle.std.specs.Prelude.{suc, ◌≡◌, ◌<◌, ◌≤◌, ◌+◌, ◌*◌, ◌^◌, ◌%◌, ℕ, false, true, drop, length, max, slice_index, Some};
 ghost use Rattle.ccsl_formula.specs.Formula.{eval};
 ghost use Rattle.ccsl_kernel.specs.Syntax.{Body, body_of};
 ghost use Rattle.ccsl_kernel.specs.Plain.{plain_expr};
@@ -11,6 +11,7 @@ ghost use Rattle.ccsl_kernel.specs.Fitting.{ExprFits};
 ghost use Rattle.ccsl_state.specs.Tree.{formula_of};
 ghost use Rattle.ccsl_state.specs.Layout.{own_cells, two_at, read, region_of};
 ghost use Rattle.ccsl_state.specs.Standing.{is_then, Stands, IsEnough};
+ghost use Rattle.ccsl_state.specs.Regions.{tree, call_tree, size, ticks, HasTable, MayStand, WordsFit, ParamsFit, HasRoom};
 
 use crate::advance::name_ticks;
 use crate::cells::{is_then, own_cells, size_of};
@@ -19,23 +20,23 @@ use crate::lay::Lay;
 use crate::moved::Heard;
 use crate::node::{Unary, filter_from, two_ticks};
 use crate::params::actuals_at;
-use ccsl_base::ClockSet;
+use ccsl_base::{ClockSet, MAX_CELLS, MAX_LEVELS};
 use ccsl_kernel::{Actual, Expr};
 
 /// Whether an expression ticks, and how many cells its region has.
 #[cycle(hear)]
 #[tactic(auto, using(crate::proofs::Places::inner_stands, crate::proofs::Evals::one_eval, crate::proofs::Evals::two_eval, crate::proofs::Evals::pair_eval))]
 pub fn heard(lay: &Lay<'_>, e: &Expr, actuals: &[Actual], row: &[u64], step: &ClockSet) -> Heard
-    requires table { IsEnough lay.now.system.now lay.now.earlier.now }
+    requires table { HasTable lay.now }
     requires groups { length lay.now.earlier.now ≤ length lay.now.system.now.groups }
-    requires shallow { deep (plain_expr e.now) ≤ 129 }
-    requires offsets { ExprFits lay.now.system.now.words (plain_expr e.now) }
-    requires stands { Stands lay.now.system.now (length lay.now.earlier.now) false (plain_expr e.now) }
-    requires actuals { ActualsFit lay.now.system.now.words actuals.now }
-    requires room { cells_in lay.now.earlier.now (plain_expr e.now) ≤ length row.now }
-    requires few { length row.now ≤ 32768 }
-    ensures tick { result.tick ≡ eval (formula_of (read lay.now.system.now lay.now.earlier.now (plain_expr e.now) actuals.now row.now)) step.now }
-    ensures size { result.size ≡ cells_in lay.now.earlier.now (plain_expr e.now) }
+    requires shallow { deep (plain_expr e.now) ≤ suc MAX_LEVELS }
+    requires offsets { WordsFit lay.now e.now }
+    requires stands { MayStand lay.now false e.now }
+    requires actuals { ParamsFit lay.now actuals.now }
+    requires room { size lay.now e.now ≤ length row.now }
+    requires few { length row.now ≤ MAX_CELLS }
+    ensures tick { result.tick ≡ ticks (tree lay.now e.now actuals.now row.now) step.now }
+    ensures size { result.size ≡ size lay.now e.now }
 {
     match e {
         Expr::Name(place) => Heard {
@@ -140,13 +141,13 @@ pub fn heard(lay: &Lay<'_>, e: &Expr, actuals: &[Actual], row: &[u64], step: &Cl
 /// Whether a call to the group behind all that `lay` has ticks.
 #[cycle(hear)]
 fn call_heard(lay: &Lay<'_>, group: u32, row: &[u64], step: &ClockSet) -> bool
-    requires table { IsEnough lay.now.system.now lay.now.earlier.now }
+    requires table { HasTable lay.now }
     requires group { length lay.now.earlier.now ≡ group }
     requires groups { group < length lay.now.system.now.groups }
     requires some { 1 ≤ length row.now }
-    requires room { (m : ℕ) (b : Body) → body_of lay.now.system.now.groups group m ≡ Some b → 1 + length b.params + cells_in lay.now.earlier.now b.root ≤ length row.now }
-    requires few { length row.now ≤ 32768 }
-    ensures { result ≡ eval (formula_of (region_of lay.now.system.now lay.now.earlier.now row.now)) step.now }
+    requires room { HasRoom lay.now group (length row.now) }
+    requires few { length row.now ≤ MAX_CELLS }
+    ensures { result ≡ ticks (call_tree lay.now row.now) step.now }
 {
     let (first, rest) = row.split_at(1);
     match lay.system.body(group, (first[0] % (1 << 32)) as u32) {

@@ -9,19 +9,20 @@ ghost use Rattle.ccsl_state.specs.Standing.{IsEnough};
 ghost use Rattle.ccsl_state.specs.States.{cells_from, places_from, trees_in};
 ghost use Rattle.ccsl_state.specs.Held.{formula_in};
 ghost use Rattle.ccsl_state.specs.Whole.{held_at, IsWhole};
+ghost use Rattle.ccsl_state.specs.Regions.{trees_from, HasTable};
 
 use crate::cells::{count_at, size_of};
 use crate::lay::Lay;
 use crate::relation::relation_formula;
 use crate::told::told;
 use crate::whole::before_counts;
-use ccsl_base::Memory;
+use ccsl_base::{MAX_CELLS, Memory};
 use ccsl_formula::Formula;
 use std::alloc::Global;
 
 /// Where each definition's region begins.
 pub fn places(alloc: Global, lay: &Lay<'_>) -> Result<Vec<u32>, Memory>
-    requires { cells_from lay.now.earlier.now lay.now.system.now.definitions ≤ 32768 }
+    requires { cells_from lay.now.earlier.now lay.now.system.now.definitions ≤ MAX_CELLS }
     ensures { IfOk result (λ v. v.items ≡ places_from lay.now.earlier.now 0 lay.now.system.now.definitions) }
 {
     let count = lay.system.definitions();
@@ -42,13 +43,15 @@ pub fn definition_formula(
     place: u32,
     row: &[u64],
 ) -> Result<Formula, Memory>
-    requires table { IsEnough lay.now.system.now lay.now.earlier.now }
+    requires table { HasTable lay.now }
     requires groups { length lay.now.earlier.now ≡ length lay.now.system.now.groups }
     requires within { i < length lay.now.system.now.definitions }
-    requires place { slice_get (places_from lay.now.earlier.now 0 lay.now.system.now.definitions) i ≡ Some place }
+    requires place { slice_get (places_from lay.now.earlier.now 0 lay.now.system.now.definitions) i ≡
+        Some place }
     requires room { cells_from lay.now.earlier.now lay.now.system.now.definitions ≤ length row.now }
-    requires few { length row.now ≤ 32768 }
-    ensures { IfOk result (λ f. Some (plain f) ≡ option_map formula_of (slice_get (trees_in lay.now.system.now lay.now.earlier.now lay.now.system.now.definitions row.now) i)) }
+    requires few { length row.now ≤ MAX_CELLS }
+    ensures { IfOk result (λ f. Some (plain f) ≡
+        option_map formula_of (slice_get (trees_from lay.now 0 row.now) i)) }
 {
     let e = lay.system.definition(i);
     let (_, region) = row.split_at(place as usize);
@@ -67,7 +70,8 @@ fn definition_item(
     requires accepted { IsAccepted lay.now.system.now }
     requires whole { IsWhole lay.now row.now }
     requires within { i < length lay.now.system.now.definitions }
-    requires place { slice_get (places_from lay.now.earlier.now 0 lay.now.system.now.definitions) i ≡ Some place }
+    requires place { slice_get (places_from lay.now.earlier.now 0 lay.now.system.now.definitions) i ≡
+        Some place }
     ensures { IfOk result (λ f. plain f ≡ formula_in (held_at lay.now row.now) i) }
 {
     let asked = definition_formula(alloc, lay, i, place, row)?;
@@ -80,7 +84,8 @@ fn constraint_item(alloc: Global, lay: &Lay<'_>, j: u32, row: &[u64]) -> Result<
     requires accepted { IsAccepted lay.now.system.now }
     requires whole { IsWhole lay.now row.now }
     requires within { j < length lay.now.system.now.constraints }
-    ensures { IfOk result (λ f. plain f ≡ formula_in (held_at lay.now row.now) (length lay.now.system.now.definitions + j)) }
+    ensures { IfOk result (λ f. plain f ≡ formula_in (held_at lay.now row.now)
+        (length lay.now.system.now.definitions + j)) }
 {
     let constraint = lay.system.constraint(j);
     let (_, counts) = row.split_at(before_counts(lay, row));

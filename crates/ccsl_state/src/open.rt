@@ -1,6 +1,6 @@
 //! The region of an expression at its birth.
 
-ghost use Rattle.std.specs.Prelude.{◌≡◌, ◌<◌, ◌≤◌, ◌+◌, ◌*◌, ℕ, false, true, drop, length, max, replicate, option_map, slice_index, Some};
+ghost use Rattle.std.specs.Prelude.{suc, ◌≡◌, ◌<◌, ◌≤◌, ◌+◌, ◌*◌, ℕ, false, true, drop, length, max, replicate, option_map, slice_index, Some};
 ghost use Rattle.ccsl_kernel.specs.Syntax.{Body, ECall, body_of};
 ghost use Rattle.ccsl_kernel.specs.Plain.{plain_expr};
 ghost use Rattle.ccsl_kernel.specs.Deep.{deep};
@@ -13,6 +13,7 @@ ghost use Rattle.ccsl_state.specs.Layout.{words_of, lag_at, own_cells, two_at, t
 ghost use Rattle.ccsl_state.specs.Standing.{is_then, IsCall, Stands, is_own, IsEnough};
 ghost use Rattle.ccsl_state.specs.Nodes.{one_at, pair_at};
 ghost use Rattle.ccsl_state.specs.Moves.{gone_in};
+ghost use Rattle.ccsl_state.specs.Regions.{tree, call_tree, size, newborn, HasTable, MayStand, WordsFit, ParamsFit, left_tree, right_tree, HasRoomFor};
 
 use crate::cells::{is_then, own_cells, size_of};
 use crate::lag::{lag_born, lag_cells, lag_dead};
@@ -20,7 +21,7 @@ use crate::lay::Lay;
 use crate::moved::Born;
 use crate::node::{Unary, filter_from, two_born, two_dead};
 use crate::params::{store, values};
-use ccsl_base::ClockSet;
+use ccsl_base::{ClockSet, MAX_CELLS, MAX_DELAY, MAX_LEVELS};
 use ccsl_kernel::{Actual, Expr, ExprOp, Value};
 
 /// Whether what a name stands for is dead: a clock is where it is among the dead ones.
@@ -37,19 +38,20 @@ pub fn is_gone(actual: Actual, gone: &ClockSet) -> bool
 #[cycle(open)]
 #[tactic(auto, using(crate::proofs::Places::inner_stands, crate::proofs::Places::inner_not_own))]
 pub fn opened(lay: &Lay<'_>, e: &Expr, actuals: &[Actual], row: &mut [u64], gone: &ClockSet) -> Born
-    requires table { IsEnough lay.now.system.now lay.now.earlier.now }
+    requires table { HasTable lay.now }
     requires groups { length lay.now.earlier.now ≤ length lay.now.system.now.groups }
-    requires shallow { deep (plain_expr e.now) ≤ 129 }
-    requires offsets { ExprFits lay.now.system.now.words (plain_expr e.now) }
-    requires stands { Stands lay.now.system.now (length lay.now.earlier.now) false (plain_expr e.now) }
-    requires placed { is_own lay.now.system.now.words (length lay.now.earlier.now) (plain_expr e.now) actuals.now ≡ false }
-    requires actuals { ActualsFit lay.now.system.now.words actuals.now }
-    requires room { cells_in lay.now.earlier.now (plain_expr e.now) ≤ length row.old }
-    requires few { length row.old ≤ 32768 }
-    ensures tree { read lay.now.system.now lay.now.earlier.now (plain_expr e.now) actuals.now row.new ≡ opening lay.now.system.now (plain_expr e.now) actuals.now }
-    ensures rest { drop (cells_in lay.now.earlier.now (plain_expr e.now)) row.new ≡ drop (cells_in lay.now.earlier.now (plain_expr e.now)) row.old }
-    ensures dead { result.dead ≡ dead_of (gone_in gone.now) (opening lay.now.system.now (plain_expr e.now) actuals.now) }
-    ensures size { result.size ≡ cells_in lay.now.earlier.now (plain_expr e.now) }
+    requires shallow { deep (plain_expr e.now) ≤ suc MAX_LEVELS }
+    requires offsets { WordsFit lay.now e.now }
+    requires stands { MayStand lay.now false e.now }
+    requires placed { is_own lay.now.system.now.words (length lay.now.earlier.now)
+        (plain_expr e.now) actuals.now ≡ false }
+    requires actuals { ParamsFit lay.now actuals.now }
+    requires room { size lay.now e.now ≤ length row.old }
+    requires few { length row.old ≤ MAX_CELLS }
+    ensures tree { tree lay.now e.now actuals.now row.new ≡ newborn lay.now e.now actuals.now }
+    ensures rest { drop (size lay.now e.now) row.new ≡ drop (size lay.now e.now) row.old }
+    ensures dead { result.dead ≡ dead_of (gone_in gone.now) (newborn lay.now e.now actuals.now) }
+    ensures size { result.size ≡ size lay.now e.now }
 {
     match e {
         Expr::Name(place) => Born {
@@ -124,19 +126,21 @@ fn one_opened(
     row: &mut [u64],
     gone: &ClockSet,
 ) -> Born
-    requires table { IsEnough lay.now.system.now lay.now.earlier.now }
+    requires table { HasTable lay.now }
     requires groups { length lay.now.earlier.now ≤ length lay.now.system.now.groups }
-    requires shallow { deep (plain_expr a.now) ≤ 128 }
-    requires offsets { ExprFits lay.now.system.now.words (plain_expr a.now) }
-    requires stands { Stands lay.now.system.now (length lay.now.earlier.now) true (plain_expr a.now) }
-    requires actuals { ActualsFit lay.now.system.now.words actuals.now }
-    requires room { 1 + cells_in lay.now.earlier.now (plain_expr a.now) ≤ length row.old }
-    requires few { length row.old ≤ 32768 }
-    ensures node { one_at lay.now.system.now.words unary (slice_index row.new 0) ≡ one_at lay.now.system.now.words unary first }
-    ensures tree { read lay.now.system.now lay.now.earlier.now (plain_expr a.now) actuals.now (drop 1 row.new) ≡ opening lay.now.system.now (plain_expr a.now) actuals.now }
-    ensures rest { drop (1 + cells_in lay.now.earlier.now (plain_expr a.now)) row.new ≡ drop (1 + cells_in lay.now.earlier.now (plain_expr a.now)) row.old }
-    ensures dead { result.dead ≡ dead_of (gone_in gone.now) (TOne (one_at lay.now.system.now.words unary first) (opening lay.now.system.now (plain_expr a.now) actuals.now)) }
-    ensures size { result.size ≡ 1 + cells_in lay.now.earlier.now (plain_expr a.now) }
+    requires shallow { deep (plain_expr a.now) ≤ MAX_LEVELS }
+    requires offsets { WordsFit lay.now a.now }
+    requires stands { MayStand lay.now true a.now }
+    requires actuals { ParamsFit lay.now actuals.now }
+    requires room { 1 + size lay.now a.now ≤ length row.old }
+    requires few { length row.old ≤ MAX_CELLS }
+    ensures node { one_at lay.now.system.now.words unary (slice_index row.new 0) ≡
+        one_at lay.now.system.now.words unary first }
+    ensures tree { left_tree lay.now a.now actuals.now 1 row.new ≡ newborn lay.now a.now actuals.now }
+    ensures rest { drop (1 + size lay.now a.now) row.new ≡ drop (1 + size lay.now a.now) row.old }
+    ensures dead { result.dead ≡ dead_of (gone_in gone.now)
+        (TOne (one_at lay.now.system.now.words unary first) (newborn lay.now a.now actuals.now)) }
+    ensures size { result.size ≡ 1 + size lay.now a.now }
 {
     let (head, rest) = row.split_at_mut(1);
     head[0] = first;
@@ -159,23 +163,27 @@ fn two_opened(
     row: &mut [u64],
     gone: &ClockSet,
 ) -> Born
-    requires table { IsEnough lay.now.system.now lay.now.earlier.now }
+    requires table { HasTable lay.now }
     requires groups { length lay.now.earlier.now ≤ length lay.now.system.now.groups }
-    requires shallow_left { deep (plain_expr a.now) ≤ 128 }
-    requires shallow_right { deep (plain_expr d.now) ≤ 128 }
-    requires offsets_left { ExprFits lay.now.system.now.words (plain_expr a.now) }
-    requires offsets_right { ExprFits lay.now.system.now.words (plain_expr d.now) }
-    requires stands_left { Stands lay.now.system.now (length lay.now.earlier.now) true (plain_expr a.now) }
-    requires stands_right { Stands lay.now.system.now (length lay.now.earlier.now) true (plain_expr d.now) }
-    requires actuals { ActualsFit lay.now.system.now.words actuals.now }
-    requires room { own_cells op + cells_in lay.now.earlier.now (plain_expr a.now) + cells_in lay.now.earlier.now (plain_expr d.now) ≤ length row.old }
-    requires few { length row.old ≤ 32768 }
+    requires shallow_left { deep (plain_expr a.now) ≤ MAX_LEVELS }
+    requires shallow_right { deep (plain_expr d.now) ≤ MAX_LEVELS }
+    requires offsets_left { WordsFit lay.now a.now }
+    requires offsets_right { WordsFit lay.now d.now }
+    requires stands_left { MayStand lay.now true a.now }
+    requires stands_right { MayStand lay.now true d.now }
+    requires actuals { ParamsFit lay.now actuals.now }
+    requires room { own_cells op + size lay.now a.now + size lay.now d.now ≤ length row.old }
+    requires few { length row.old ≤ MAX_CELLS }
     ensures node { two_at op row.new ≡ two_opened op }
-    ensures left { read lay.now.system.now lay.now.earlier.now (plain_expr a.now) actuals.now (drop (own_cells op) row.new) ≡ opening lay.now.system.now (plain_expr a.now) actuals.now }
-    ensures right { read lay.now.system.now lay.now.earlier.now (plain_expr d.now) actuals.now (drop (own_cells op + cells_in lay.now.earlier.now (plain_expr a.now)) row.new) ≡ opening lay.now.system.now (plain_expr d.now) actuals.now }
-    ensures rest { let n = own_cells op + cells_in lay.now.earlier.now (plain_expr a.now) + cells_in lay.now.earlier.now (plain_expr d.now) in drop n row.new ≡ drop n row.old }
-    ensures dead { result.dead ≡ dead_of (gone_in gone.now) (pair_at (two_opened op) (opening lay.now.system.now (plain_expr a.now) actuals.now) (opening lay.now.system.now (plain_expr d.now) actuals.now)) }
-    ensures size { result.size ≡ own_cells op + cells_in lay.now.earlier.now (plain_expr a.now) + cells_in lay.now.earlier.now (plain_expr d.now) }
+    ensures left { left_tree lay.now a.now actuals.now (own_cells op) row.new ≡
+        newborn lay.now a.now actuals.now }
+    ensures right { right_tree lay.now a.now d.now actuals.now (own_cells op) row.new ≡
+        newborn lay.now d.now actuals.now }
+    ensures rest { let n = own_cells op + size lay.now a.now + size lay.now d.now in drop n row.new ≡
+        drop n row.old }
+    ensures dead { result.dead ≡ dead_of (gone_in gone.now)
+        (pair_at (two_opened op) (newborn lay.now a.now actuals.now) (newborn lay.now d.now actuals.now)) }
+    ensures size { result.size ≡ own_cells op + size lay.now a.now + size lay.now d.now }
 {
     let (head, rest) = row.split_at_mut(own_cells(op));
     two_born(op, head);
@@ -199,19 +207,20 @@ fn then_opened(
     row: &mut [u64],
     gone: &ClockSet,
 ) -> Born
-    requires table { IsEnough lay.now.system.now lay.now.earlier.now }
+    requires table { HasTable lay.now }
     requires groups { length lay.now.earlier.now ≤ length lay.now.system.now.groups }
-    requires shallow { deep (plain_expr a.now) ≤ 128 }
-    requires offsets { ExprFits lay.now.system.now.words (plain_expr a.now) }
-    requires stands { Stands lay.now.system.now (length lay.now.earlier.now) true (plain_expr a.now) }
-    requires actuals { ActualsFit lay.now.system.now.words actuals.now }
-    requires room { 1 + max (cells_in lay.now.earlier.now (plain_expr a.now)) (cells_in lay.now.earlier.now (plain_expr d.now)) ≤ length row.old }
-    requires few { length row.old ≤ 32768 }
+    requires shallow { deep (plain_expr a.now) ≤ MAX_LEVELS }
+    requires offsets { WordsFit lay.now a.now }
+    requires stands { MayStand lay.now true a.now }
+    requires actuals { ParamsFit lay.now actuals.now }
+    requires room { 1 + max (size lay.now a.now) (size lay.now d.now) ≤ length row.old }
+    requires few { length row.old ≤ MAX_CELLS }
     ensures flag { flag_at row.new ≡ false }
-    ensures tree { read lay.now.system.now lay.now.earlier.now (plain_expr a.now) actuals.now (drop 1 row.new) ≡ opening lay.now.system.now (plain_expr a.now) actuals.now }
-    ensures rest { let n = 1 + max (cells_in lay.now.earlier.now (plain_expr a.now)) (cells_in lay.now.earlier.now (plain_expr d.now)) in drop n row.new ≡ drop n row.old }
+    ensures tree { left_tree lay.now a.now actuals.now 1 row.new ≡ newborn lay.now a.now actuals.now }
+    ensures rest { let n = 1 + max (size lay.now a.now) (size lay.now d.now) in drop n row.new ≡
+        drop n row.old }
     ensures dead { result.dead ≡ false }
-    ensures size { result.size ≡ 1 + max (cells_in lay.now.earlier.now (plain_expr a.now)) (cells_in lay.now.earlier.now (plain_expr d.now)) }
+    ensures size { result.size ≡ 1 + max (size lay.now a.now) (size lay.now d.now) }
 {
     let (head, rest) = row.split_at_mut(1);
     head[0] = 0;
@@ -234,17 +243,21 @@ pub fn call_opened(
     row: &mut [u64],
     gone: &ClockSet,
 ) -> bool
-    requires table { IsEnough lay.now.system.now lay.now.earlier.now }
+    requires table { HasTable lay.now }
     requires group { length lay.now.earlier.now ≡ group }
     requires groups { group < length lay.now.system.now.groups }
     requires is { IsCall lay.now.system.now group member args.now }
     requires fits { ValuesFit lay.now.system.now.words args.now }
-    requires actuals { ActualsFit lay.now.system.now.words actuals.now }
-    requires room { (b : Body) → body_of lay.now.system.now.groups group member ≡ Some b → 1 + length b.params + cells_in lay.now.earlier.now b.root ≤ length row.old }
-    requires few { length row.old ≤ 32768 }
-    ensures tree { region_of lay.now.system.now lay.now.earlier.now row.new ≡ opening lay.now.system.now (ECall group member args.now) actuals.now }
-    ensures rest { (b : Body) (n : ℕ) → body_of lay.now.system.now.groups group member ≡ Some b → 1 + length b.params + cells_in lay.now.earlier.now b.root ≤ n → drop n row.new ≡ drop n row.old }
-    ensures dead { result ≡ dead_of (gone_in gone.now) (opening lay.now.system.now (ECall group member args.now) actuals.now) }
+    requires actuals { ParamsFit lay.now actuals.now }
+    requires room { HasRoomFor lay.now group member (length row.old) }
+    requires few { length row.old ≤ MAX_CELLS }
+    ensures tree { call_tree lay.now row.new ≡
+        opening lay.now.system.now (ECall group member args.now) actuals.now }
+    ensures rest { (b : Body) (n : ℕ) → body_of lay.now.system.now.groups group member ≡
+        Some b → 1 + length b.params + cells_in lay.now.earlier.now b.root ≤ n → drop n row.new ≡
+        drop n row.old }
+    ensures dead { result ≡ dead_of (gone_in gone.now)
+        (opening lay.now.system.now (ECall group member args.now) actuals.now) }
 {
     let words = lay.system.words();
     match lay.system.body(group, member) {
@@ -274,25 +287,30 @@ fn lag_opened(
     row: &mut [u64],
     gone: &ClockSet,
 ) -> Born
-    requires table { IsEnough lay.now.system.now lay.now.earlier.now }
+    requires table { HasTable lay.now }
     requires groups { length lay.now.earlier.now ≤ length lay.now.system.now.groups }
     requires some { 1 ≤ m }
-    requires short { m ≤ 4096 }
-    requires shallow_left { deep (plain_expr a.now) ≤ 128 }
-    requires shallow_right { deep (plain_expr d.now) ≤ 128 }
-    requires offsets_left { ExprFits lay.now.system.now.words (plain_expr a.now) }
-    requires offsets_right { ExprFits lay.now.system.now.words (plain_expr d.now) }
-    requires stands_left { Stands lay.now.system.now (length lay.now.earlier.now) true (plain_expr a.now) }
-    requires stands_right { Stands lay.now.system.now (length lay.now.earlier.now) true (plain_expr d.now) }
-    requires actuals { ActualsFit lay.now.system.now.words actuals.now }
-    requires room { 2 + words_of m + cells_in lay.now.earlier.now (plain_expr a.now) + cells_in lay.now.earlier.now (plain_expr d.now) ≤ length row.old }
-    requires few { length row.old ≤ 32768 }
+    requires short { m ≤ MAX_DELAY }
+    requires shallow_left { deep (plain_expr a.now) ≤ MAX_LEVELS }
+    requires shallow_right { deep (plain_expr d.now) ≤ MAX_LEVELS }
+    requires offsets_left { WordsFit lay.now a.now }
+    requires offsets_right { WordsFit lay.now d.now }
+    requires stands_left { MayStand lay.now true a.now }
+    requires stands_right { MayStand lay.now true d.now }
+    requires actuals { ParamsFit lay.now actuals.now }
+    requires room { 2 + words_of m + size lay.now a.now + size lay.now d.now ≤ length row.old }
+    requires few { length row.old ≤ MAX_CELLS }
     ensures node { lag_at m row.new ≡ Lagging m (replicate m false) }
-    ensures left { read lay.now.system.now lay.now.earlier.now (plain_expr a.now) actuals.now (drop (2 + words_of m) row.new) ≡ opening lay.now.system.now (plain_expr a.now) actuals.now }
-    ensures right { read lay.now.system.now lay.now.earlier.now (plain_expr d.now) actuals.now (drop (2 + words_of m + cells_in lay.now.earlier.now (plain_expr a.now)) row.new) ≡ opening lay.now.system.now (plain_expr d.now) actuals.now }
-    ensures rest { let n = 2 + words_of m + cells_in lay.now.earlier.now (plain_expr a.now) + cells_in lay.now.earlier.now (plain_expr d.now) in drop n row.new ≡ drop n row.old }
-    ensures dead { result.dead ≡ two_dead (Lagging m (replicate m false)) (dead_of (gone_in gone.now) (opening lay.now.system.now (plain_expr a.now) actuals.now)) (dead_of (gone_in gone.now) (opening lay.now.system.now (plain_expr d.now) actuals.now)) }
-    ensures size { result.size ≡ 2 + words_of m + cells_in lay.now.earlier.now (plain_expr a.now) + cells_in lay.now.earlier.now (plain_expr d.now) }
+    ensures left { left_tree lay.now a.now actuals.now (2 + words_of m) row.new ≡
+        newborn lay.now a.now actuals.now }
+    ensures right { right_tree lay.now a.now d.now actuals.now (2 + words_of m) row.new ≡
+        newborn lay.now d.now actuals.now }
+    ensures rest { let n = 2 + words_of m + size lay.now a.now + size lay.now d.now in drop n row.new ≡
+        drop n row.old }
+    ensures dead { result.dead ≡ two_dead (Lagging m (replicate m false))
+        (dead_of (gone_in gone.now) (newborn lay.now a.now actuals.now))
+        (dead_of (gone_in gone.now) (newborn lay.now d.now actuals.now)) }
+    ensures size { result.size ≡ 2 + words_of m + size lay.now a.now + size lay.now d.now }
 {
     let (head, rest) = row.split_at_mut(lag_cells(m));
     lag_born(m, head);

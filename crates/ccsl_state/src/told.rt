@@ -1,6 +1,6 @@
 //! The formula of an expression, from its region.
 
-ghost use Rattle.std.specs.Prelude.{◌≡◌, ◌<◌, ◌≤◌, ◌+◌, ◌*◌, ◌^◌, ◌%◌, ℕ, false, true, drop, length, max, slice_index, Some, IfOk, if◌then◌else◌};
+ghost use Rattle.std.specs.Prelude.{suc, ◌≡◌, ◌<◌, ◌≤◌, ◌+◌, ◌*◌, ◌^◌, ◌%◌, ℕ, false, true, drop, length, max, slice_index, Some, IfOk, if◌then◌else◌};
 ghost use Rattle.ccsl_formula.specs.Formula.{Formula as Plain, FFalse, FNot, FAnd, FOr};
 ghost use Rattle.ccsl_formula.specs.Plain.{plain};
 ghost use Rattle.ccsl_kernel.specs.Syntax.{Body, body_of};
@@ -13,13 +13,14 @@ ghost use Rattle.ccsl_state.specs.Tree.{leaf, formula_of, one_formula};
 ghost use Rattle.ccsl_state.specs.Layout.{own_cells, two_at, read, region_of};
 ghost use Rattle.ccsl_state.specs.Standing.{is_then, Stands, IsEnough};
 ghost use Rattle.ccsl_state.specs.Nodes.{one_at, node_formula};
+ghost use Rattle.ccsl_state.specs.Regions.{tree, call_tree, size, HasTable, MayStand, WordsFit, ParamsFit, HasRoom};
 
 use crate::cells::{count_at, is_next, is_then, own_cells, size_of, suffix_at};
 use crate::lag::{lag_cells, lag_ticks};
 use crate::lay::Lay;
 use crate::node::{Unary, filter_from};
 use crate::params::actuals_at;
-use ccsl_base::Memory;
+use ccsl_base::{MAX_CELLS, MAX_LEVELS, Memory};
 use ccsl_formula::Formula;
 use ccsl_kernel::actual::letter_at;
 use ccsl_kernel::{Actual, Expr, ExprOp};
@@ -148,16 +149,17 @@ pub fn told(
     actuals: &[Actual],
     row: &[u64],
 ) -> Result<Part, Memory>
-    requires table { IsEnough lay.now.system.now lay.now.earlier.now }
+    requires table { HasTable lay.now }
     requires groups { length lay.now.earlier.now ≤ length lay.now.system.now.groups }
-    requires shallow { deep (plain_expr e.now) ≤ 129 }
-    requires offsets { ExprFits lay.now.system.now.words (plain_expr e.now) }
-    requires stands { Stands lay.now.system.now (length lay.now.earlier.now) false (plain_expr e.now) }
-    requires actuals { ActualsFit lay.now.system.now.words actuals.now }
-    requires room { cells_in lay.now.earlier.now (plain_expr e.now) ≤ length row.now }
-    requires few { length row.now ≤ 32768 }
-    ensures formula { IfOk result (λ t. plain t.formula ≡ formula_of (read lay.now.system.now lay.now.earlier.now (plain_expr e.now) actuals.now row.now)) }
-    ensures size { IfOk result (λ t. t.size ≡ cells_in lay.now.earlier.now (plain_expr e.now)) }
+    requires shallow { deep (plain_expr e.now) ≤ suc MAX_LEVELS }
+    requires offsets { WordsFit lay.now e.now }
+    requires stands { MayStand lay.now false e.now }
+    requires actuals { ParamsFit lay.now actuals.now }
+    requires room { size lay.now e.now ≤ length row.now }
+    requires few { length row.now ≤ MAX_CELLS }
+    ensures formula { IfOk result (λ t. plain t.formula ≡
+        formula_of (tree lay.now e.now actuals.now row.now)) }
+    ensures size { IfOk result (λ t. t.size ≡ size lay.now e.now) }
 {
     match e {
         Expr::Name(place) => Ok(Part {
@@ -263,13 +265,13 @@ pub fn told(
 /// The formula of a call to the group behind all that `lay` has.
 #[cycle(tell)]
 fn call_told(alloc: Global, lay: &Lay<'_>, group: u32, row: &[u64]) -> Result<Formula, Memory>
-    requires table { IsEnough lay.now.system.now lay.now.earlier.now }
+    requires table { HasTable lay.now }
     requires group { length lay.now.earlier.now ≡ group }
     requires groups { group < length lay.now.system.now.groups }
     requires some { 1 ≤ length row.now }
-    requires room { (m : ℕ) (b : Body) → body_of lay.now.system.now.groups group m ≡ Some b → 1 + length b.params + cells_in lay.now.earlier.now b.root ≤ length row.now }
-    requires few { length row.now ≤ 32768 }
-    ensures { IfOk result (λ f. plain f ≡ formula_of (region_of lay.now.system.now lay.now.earlier.now row.now)) }
+    requires room { HasRoom lay.now group (length row.now) }
+    requires few { length row.now ≤ MAX_CELLS }
+    ensures { IfOk result (λ f. plain f ≡ formula_of (call_tree lay.now row.now)) }
 {
     let (first, rest) = row.split_at(1);
     match lay.system.body(group, (first[0] % (1 << 32)) as u32) {

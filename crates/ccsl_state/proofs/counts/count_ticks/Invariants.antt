@@ -1,7 +1,4 @@
 -- The constraints so far are counted, and the cells behind them are as they were.
-use Rattle.std.proofs.Common.{◌≡◌, ℕ, ◌+◌, ◌*◌, ◌<◌, ◌≤◌, Some, slice_get, slice_index}
-use Rattle.ccsl_base.specs.Clocks.{ticks_in}
-use Rattle.ccsl_kernel.specs.declared.constraint.Constraint.{Constraint}
 use Rattle.ccsl_state.proofs.Counted.{SoFar}
 use Rattle.ccsl_state.proofs.counts.count_ticks.Given as goal
 

@@ -1,14 +1,13 @@
 -- A definition's region, and those behind it.
-use Rattle.std.proofs.Common.{rules, true, ◌≡◌, suc, ◌<◌, ◌≤◌, ◌+◌, [], ◌∷◌, ◌++◌, length, drop, Some, slice_get, sym, ap, ap₂, subst, ◌∙◌, arith}
+use Rattle.std.proofs.Common.{rules, ◌≡◌, suc, ◌<◌, ◌≤◌, ◌+◌, [], ◌∷◌, ◌++◌, length, drop, sym, ap, ap₂, subst, ◌∙◌, arith}
 use Rattle.ccsl_formula.specs.Formula.{eval}
 use Rattle.ccsl_formula.specs.declared.scope.Scope.{Scope}
 use Rattle.ccsl_kernel.specs.Plain.{plain_expr}
 use Rattle.ccsl_kernel.specs.Cells.{cells_in}
 use Rattle.ccsl_state.specs.Tree.{formula_of, dead_of, next}
 use Rattle.ccsl_state.specs.Layout.{read}
-use Rattle.ccsl_state.specs.Standing.{Stands}
 use Rattle.ccsl_state.specs.Moves.{gone_in, Outcome}
-use Rattle.ccsl_state.specs.States.{put, cells_from, passed_all, deaths_from, derived_in, trees_in}
+use Rattle.ccsl_state.specs.States.{put, passed_all, deaths_from, derived_in, trees_in}
 use Rattle.ccsl_state.proofs.Each.{passes, part_at, trees_new, trees_old}
 use Rattle.ccsl_state.proofs.definitions.+advance_from.Goals as goal
 

@@ -1,13 +1,12 @@
 -- A definition's region, and those behind it.
-use Rattle.std.proofs.Common.{rules, true, ◌≡◌, suc, ◌<◌, ◌≤◌, ◌+◌, [], ◌∷◌, length, drop, Some, slice_get, refl, sym, ap, ap₂, subst, ◌∙◌, arith}
+use Rattle.std.proofs.Common.{rules, ◌≡◌, suc, ◌<◌, ◌≤◌, ◌+◌, [], length, drop, refl, sym, ap, ap₂, ◌∙◌, arith}
 use Rattle.ccsl_formula.specs.Formula.{eval}
 use Rattle.ccsl_formula.specs.declared.scope.Scope.{Scope}
 use Rattle.ccsl_kernel.specs.Plain.{plain_expr}
 use Rattle.ccsl_kernel.specs.Cells.{cells_in}
 use Rattle.ccsl_state.specs.Tree.{formula_of}
 use Rattle.ccsl_state.specs.Layout.{read}
-use Rattle.ccsl_state.specs.Standing.{Stands}
-use Rattle.ccsl_state.specs.States.{put, cells_from, derived_in, trees_in}
+use Rattle.ccsl_state.specs.States.{put, derived_in, trees_in}
 use Rattle.ccsl_state.proofs.Each.{part_at, trees_old}
 use Rattle.ccsl_state.proofs.definitions.+derive_from.Goals as goal
 

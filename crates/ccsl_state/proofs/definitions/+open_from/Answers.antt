@@ -1,12 +1,11 @@
 -- A definition's region, and those behind it.
-use Rattle.std.proofs.Common.{rules, true, ◌≡◌, suc, ◌<◌, ◌≤◌, ◌+◌, [], ◌∷◌, ◌++◌, length, drop, Some, slice_get, sym, ap, ap₂, subst, ◌∙◌, arith}
+use Rattle.std.proofs.Common.{rules, ◌≡◌, suc, ◌<◌, ◌≤◌, ◌+◌, [], ◌∷◌, ◌++◌, length, drop, sym, ap, ap₂, ◌∙◌, arith}
 use Rattle.ccsl_formula.specs.declared.scope.Scope.{Scope}
 use Rattle.ccsl_kernel.specs.Plain.{plain_expr}
 use Rattle.ccsl_kernel.specs.Cells.{cells_in}
 use Rattle.ccsl_state.specs.Tree.{opening, dead_of}
-use Rattle.ccsl_state.specs.Standing.{Stands}
 use Rattle.ccsl_state.specs.Moves.{gone_in}
-use Rattle.ccsl_state.specs.States.{put, cells_from, deaths_from, trees_in, opened_all}
+use Rattle.ccsl_state.specs.States.{put, deaths_from, trees_in, opened_all}
 use Rattle.ccsl_state.proofs.Each.{part_at, trees_new}
 use Rattle.ccsl_state.proofs.Places.{inner_not_own}
 use Rattle.ccsl_state.proofs.definitions.+open_from.Goals as goal

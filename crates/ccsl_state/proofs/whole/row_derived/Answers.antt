@@ -1,5 +1,5 @@
 -- The table of calls is the system's, and there is room for the regions.
-use Rattle.std.proofs.Common.{◌≡◌, ◌+◌, ◌*◌, ◌++◌, [], length, refl, sym, ap, subst, ◌∙◌, arith}
+use Rattle.std.proofs.Common.{arith}
 use Rattle.ccsl_state.proofs.WholeLaws.{ready_table}
 use Rattle.ccsl_state.proofs.whole.row_derived.Goals as goal
 

@@ -1,5 +1,5 @@
 -- The kept set has the deaths that the trees tell.
-use Rattle.std.proofs.Common.{◌≡◌, ◌+◌, ap, ap₂, subst, ◌∙◌}
+use Rattle.std.proofs.Common.{◌+◌, ap, ap₂, subst, ◌∙◌}
 use Rattle.ccsl_base.specs.Clocks.{ticks_in}
 use Rattle.ccsl_formula.specs.declared.scope.Scope.{Scope}
 use Rattle.ccsl_kernel.specs.Accepted.{IsAccepted}

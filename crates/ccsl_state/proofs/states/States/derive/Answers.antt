@@ -1,5 +1,5 @@
 -- The derived step is the full one.
-use Rattle.std.proofs.Common.{◌≡◌, ap, subst, ◌∙◌}
+use Rattle.std.proofs.Common.{ap, subst, ◌∙◌}
 use Rattle.ccsl_kernel.specs.Accepted.{IsAccepted}
 use Rattle.ccsl_state.specs.Held.{Held, derived_by}
 use Rattle.ccsl_state.proofs.StandLaws.{stands_derived}

@@ -1,5 +1,5 @@
 -- The formula is that of the item, and reads named clocks alone.
-use Rattle.std.proofs.Common.{◌≡◌, ℕ, length, sym, ap, subst, ◌∙◌}
+use Rattle.std.proofs.Common.{◌≡◌, length, sym, ap, subst, ◌∙◌}
 use Rattle.ccsl_formula.specs.Formula.{ReadsBelow}
 use Rattle.ccsl_formula.specs.Plain.{plain}
 use Rattle.ccsl_kernel.specs.Accepted.{IsAccepted}

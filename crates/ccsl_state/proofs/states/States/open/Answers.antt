@@ -1,5 +1,5 @@
 -- There is room for the regions, and no clock has ticked.
-use Rattle.std.proofs.Common.{◌≡◌, ℕ, ◌-◌, ◌*◌, ◌≤◌, length, drop, replicate, slice_index, sym, ap, subst, ◌∙◌, arith}
+use Rattle.std.proofs.Common.{◌≡◌, ◌-◌, ◌*◌, length, drop, replicate, slice_index, ap, ◌∙◌, arith}
 use Rattle.std.specs.Vec.{with_items}
 use Rattle.ccsl_state.specs.States.{opened_all}
 use Rattle.ccsl_state.specs.Held.{Held, trees_of, counts_of}
