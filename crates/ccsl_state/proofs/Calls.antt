@@ -1,11 +1,11 @@
 -- The region of a call in its parts: the member, the parameters' cells, and the body's region.
-use Rattle.std.proofs.Common.{◌≡◌, ℕ, ◌<◌, ◌%◌, ◌^◌, List, [], ◌∷◌, ◌++◌, length, drop, map, slice_index, Some, None, refl, sym, ap, ap₂, ◌∙◌, arith}
+use Rattle.std.proofs.Common.{◌≡◌, ℕ, ◌<◌, ◌%◌, ◌^◌, List, [], ◌∷◌, ◌++◌, length, map, slice_index, Some, refl, sym, ap, ap₂, ◌∙◌, arith}
 use Rattle.ccsl_kernel.specs.declared.actual.Actual.{Actual}
 use Rattle.ccsl_kernel.specs.declared.expr.Value.{Value}
 use Rattle.ccsl_kernel.specs.Syntax.{Body, ECall, System, body_of, root_or_never}
 use Rattle.ccsl_kernel.specs.Actuals.{value_of}
 use Rattle.ccsl_kernel.proofs.GuardedCalls.{AreGuarded}
-use Rattle.ccsl_state.specs.Tree.{TNever, opening}
+use Rattle.ccsl_state.specs.Tree.{opening}
 use Rattle.ccsl_state.specs.Layout.{actual_of, read, read_body, read_call, region_of}
 use Rattle.ccsl_state.proofs.Opening.{opening_call}
 use Rattle.ccsl_state.proofs.Regions.{behind_head, front_head}
@@ -33,14 +33,6 @@ module _ (K : System) (earlier : List ℕ) where
       (ap₂ (body_of K.groups) is_g (ap (λ n. n % 2 ^ 32) (first_cell head (cells ++ region) l) ∙ at) ∙ is)
       (behind_head 1 head (cells ++ region) l)
       ∙ ap₂ (λ params rest. read K earlier b.root (map (actual_of K.words) params) rest) (front_head (length b.params) cells region few) (behind_head (length b.params) cells region few)
-
-  -- and where it is not
-  pub call_none : (head rest row : List ℕ) (member g : ℕ) → row ≡ head ++ rest → length head ≡ 1 → slice_index head 0 % 2 ^ 32 ≡ member → length earlier ≡ g →
-      body_of K.groups g member ≡ None → region_of K earlier row ≡ TNever
-  call_none head rest row member g row_is l at is_g is =
-      ap (region_of K earlier) row_is
-      ∙ ap (λ o. read_body K earlier (read_call K earlier (length earlier)) o (drop 1 (head ++ rest)))
-      (ap₂ (body_of K.groups) is_g (ap (λ n. n % 2 ^ 32) (first_cell head rest l) ∙ at) ∙ is)
 
   -- A CALL AT ITS BIRTH
   pub call_born : AreGuarded K → (head cells region : List ℕ) (member g : ℕ) (b : Body) (args : List Value) (ρ vals : List Actual) → length head ≡ 1 → slice_index head 0 ≡ member → member < 2 ^ 32 →

@@ -1,6 +1,5 @@
 -- One definition more, and its region in front of the others.
-use Rattle.std.proofs.Common.{◌≡◌, ℕ, zero, suc, ◌+◌, ◌≤◌, List, [], ◌∷◌, ◌++◌, length, drop, Bool, true, false, Some, slice_get, sym, ap, ap₂, subst, ◌∙◌, arith}
-use Rattle.ccsl_base.specs.Clocks.{with_clock}
+use Rattle.std.proofs.Common.{◌≡◌, ℕ, zero, suc, ◌+◌, ◌≤◌, List, [], ◌∷◌, ◌++◌, length, drop, true, false, Some, slice_get, sym, ap, ap₂, subst, ◌∙◌, arith}
 use Rattle.ccsl_kernel.specs.Syntax.{Expression, System}
 use Rattle.ccsl_kernel.specs.Cells.{cells_in}
 use Rattle.ccsl_kernel.specs.Accepted.{IsAccepted, IsDefinition, Each}
@@ -22,12 +21,6 @@ pub at_place : (es : List Expression) (i : ℕ) (e : Expression) → slice_get e
 at_place [] i e h = let z : ⊥ = cc in absurd z
 at_place (e' ∷ es) zero e h = let s : e' ≡ e = cc in ap (λ x. x ∷ es) s
 at_place (e' ∷ es) (suc i) e h = at_place es i e h ∙ ap (λ k. e ∷ drop k (e' ∷ es)) (let n : suc (i + 1) ≡ suc i + 1 = omega arith in n)
-
-pub put_true : (t : Bool) (x : ℕ) (s : List ℕ) → t ≡ true → with_clock x s ≡ put t x s
-put_true t x s e = ap (λ b. put b x s) (sym e)
-
-pub put_false : (t : Bool) (x : ℕ) (s : List ℕ) → t ≡ false → s ≡ put t x s
-put_false t x s e = ap (λ b. put b x s) (sym e)
 
 module _ (K : System) (earlier : List ℕ) (e : Expression) (es : List Expression) where
   -- the trees after the first region was rewritten, and then those behind

@@ -28,18 +28,6 @@ cells_pair op.Then m n e = let z : ⊥ = cc in absurd z
 cells_pair op.Sampled m n e = refl
 cells_pair op.SampledWeakly m n e = refl
 
-own_within : (o : ExprOp) (m n : ℕ) → own_cells o ≤ cells_of_two o m n
-own_within op.Union m n = omega arith
-own_within op.Inter m n = omega arith
-own_within op.Minus m n = omega arith
-own_within op.Inf m n = omega arith
-own_within op.Sup m n = omega arith
-own_within op.Upto m n = omega arith
-own_within op.UptoWeakly m n = omega arith
-own_within op.Then m n = omega arith
-own_within op.Sampled m n = omega arith
-own_within op.SampledWeakly m n = omega arith
-
 pub two_same : (o : ExprOp) (xs ys : List ℕ) → take (own_cells o) xs ≡ take (own_cells o) ys → two_at o xs ≡ two_at o ys
 two_same op.Union xs ys e = refl
 two_same op.Inter xs ys e = refl

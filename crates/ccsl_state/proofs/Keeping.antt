@@ -39,11 +39,6 @@ abbrev offset_after : BinaryWord → ℕ → List Bool → ℕ
 offset_after w o [] = o
 offset_after w o (t ∷ ts) = offset_after w (if t then rest w o else o) ts
 
--- counts
-bumped_is : (c : ℕ) (t : Bool) (k : ℕ) → c + suc k ≤ most → bumped t c ≡ (if t then suc c else c)
-bumped_is c true k h = omega (arith, h)
-bumped_is c false k h = refl
-
 counted : (c : ℕ) (t : Bool) (n k : ℕ) → c + suc k ≤ most → bumped t c + n ≡ c + (if t then suc n else n)
 counted c true n k h = omega (arith, h)
 counted c false n k h = refl

@@ -1,4 +1,3 @@
-pub mod Fill
 pub mod Opening
 pub mod Places
 pub mod Regions

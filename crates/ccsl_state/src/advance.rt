@@ -19,59 +19,14 @@ ghost use Rattle.ccsl_state.specs.Regions.{tree, call_tree, size, newborn, after
 use crate::cells::{is_then, own_cells, size_of};
 use crate::lag::{lag_cells, lag_dead, lag_moved, lag_ticks};
 use crate::lay::Lay;
-use crate::moved::{Moved, Stepped, TailCall};
+use crate::moved::{Moved, Stepped};
+use crate::name::{is_gone, name_ticks};
 use crate::node::{Unary, filter_from, two_dead, two_moved, two_ticks};
-use crate::open::{call_opened, is_gone, opened};
+use crate::open::{call_opened, opened};
 use crate::params::actuals_at;
+use crate::tail::own_call;
 use ccsl_base::{ClockSet, MAX_CELLS, MAX_DELAY, MAX_LEVELS};
 use ccsl_kernel::{Actual, Expr, ExprOp};
-
-/// The call of the own group that an expression comes to by its choices.
-fn own_call<'s>(lay: &Lay<'s>, e: &'s Expr, actuals: &[Actual]) -> Option<TailCall<'s>>
-    requires offsets { WordsFit lay.now e.now }
-    requires stands { MayStand lay.now false e.now }
-    requires actuals { ParamsFit lay.now actuals.now }
-    ensures none { result ≡ None → is_own lay.now.system.now.words (length lay.now.earlier.now)
-        (plain_expr e.now) actuals.now ≡ false }
-    ensures call { IfSome result (λ call. IsTail lay.now.system.now
-        (length lay.now.earlier.now) actuals.now (newborn lay.now e.now actuals.now) call) }
-    ensures inner { MayStand lay.now true e.now → result ≡ None }
-{
-    match e {
-        Expr::Call {
-            group,
-            member,
-            args,
-        } => {
-            if (*group as usize) < lay.earlier.len() {
-                None
-            } else {
-                Some(TailCall {
-                    member: *member,
-                    args: args.members(),
-                })
-            }
-        }
-        Expr::If(test, a, d) => {
-            if test.holds(lay.system.words(), actuals) {
-                own_call(lay, a, actuals)
-            } else {
-                own_call(lay, d, actuals)
-            }
-        }
-        _ => None,
-    }
-}
-
-/// Whether a name ticks in a step.
-pub fn name_ticks(actual: Actual, step: &ClockSet) -> bool
-    ensures { result ≡ eval (formula_of (leaf actual)) step.now }
-{
-    match actual {
-        Actual::Clock(x) => step.has(x),
-        Actual::Number(_) | Actual::Word(_, _) => false,
-    }
-}
 
 /// Rewrites the region of an expression.
 #[cycle(advance)]

@@ -13,11 +13,11 @@ ghost use Rattle.ccsl_state.specs.Layout.{own_cells, two_at, read, region_of};
 ghost use Rattle.ccsl_state.specs.Standing.{is_then, Stands, IsEnough};
 ghost use Rattle.ccsl_state.specs.Regions.{tree, call_tree, size, ticks, HasTable, MayStand, WordsFit, ParamsFit, HasRoom};
 
-use crate::advance::name_ticks;
 use crate::cells::{is_then, own_cells, size_of};
 use crate::lag::{lag_cells, lag_ticks};
 use crate::lay::Lay;
 use crate::moved::Heard;
+use crate::name::name_ticks;
 use crate::node::{Unary, filter_from, two_ticks};
 use crate::params::actuals_at;
 use ccsl_base::{ClockSet, MAX_CELLS, MAX_LEVELS};

@@ -11,11 +11,13 @@ mod lag;
 pub mod laws;
 mod lay;
 mod moved;
+mod name;
 mod node;
 mod open;
 mod params;
 mod relation;
 pub mod states;
+mod tail;
 mod told;
 mod whole;
 

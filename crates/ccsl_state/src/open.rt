@@ -19,20 +19,11 @@ use crate::cells::{is_then, own_cells, size_of};
 use crate::lag::{lag_born, lag_cells, lag_dead};
 use crate::lay::Lay;
 use crate::moved::Born;
+use crate::name::is_gone;
 use crate::node::{Unary, filter_from, two_born, two_dead};
 use crate::params::{store, values};
 use ccsl_base::{ClockSet, MAX_CELLS, MAX_DELAY, MAX_LEVELS};
 use ccsl_kernel::{Actual, Expr, ExprOp, Value};
-
-/// Whether what a name stands for is dead: a clock is where it is among the dead ones.
-pub fn is_gone(actual: Actual, gone: &ClockSet) -> bool
-    ensures { result ≡ dead_of (gone_in gone.now) (leaf actual) }
-{
-    match actual {
-        Actual::Clock(x) => gone.has(x),
-        Actual::Number(_) | Actual::Word(_, _) => false,
-    }
-}
 
 /// Writes the region of an expression at its birth, and tells whether it is dead there.
 #[cycle(open)]
