@@ -24,10 +24,7 @@ fn has_role(role: Role, wants_relation: bool) -> bool
 {
     match role {
         Role::Relation => wants_relation,
-        Role::Member {
-            group: _,
-            number: _,
-        } => !wants_relation,
+        Role::Member { .. } => !wants_relation,
     }
 }
 

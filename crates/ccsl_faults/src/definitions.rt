@@ -36,11 +36,7 @@ fn definition_faults<'a>(
         (seen_heights heights.now) number (plain_definition definition.now))) }
 {
     match definition {
-        Definition::Relation {
-            name: _,
-            params,
-            lines,
-        } => {
+        Definition::Relation { params, lines, .. } => {
             let home = Home {
                 alloc,
                 calls,

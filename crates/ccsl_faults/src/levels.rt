@@ -125,19 +125,14 @@ fn level(sort: Sort, calls: &Space<Callee>, before: &[usize], definition: &Defin
     ensures few { result ≤ length before.now + 1 }
 {
     match (sort, definition) {
-        (Sort::Groups, Definition::Group(members)) => members_height(
-            calls,
-            before,
-            members.members(),
-        ) + 1,
-        (
-            Sort::Relations,
-            Definition::Relation {
-                name: _,
-                params: _,
-                lines,
-            },
-        ) => lines_height(calls, before, lines.members()) + 1,
+        (Sort::Groups, Definition::Group(members)) => {
+            let height = members_height(calls, before, members.members());
+            height + 1
+        }
+        (Sort::Relations, Definition::Relation { lines, .. }) => {
+            let height = lines_height(calls, before, lines.members());
+            height + 1
+        }
         _ => 0,
     }
 }

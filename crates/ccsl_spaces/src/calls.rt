@@ -49,11 +49,7 @@ fn add_definition<'a>(
     ensures next { IfOk result (λ next. next ≡ group_after group (plain_definition definition.now)) }
 {
     match definition {
-        Definition::Relation {
-            name,
-            params,
-            lines: _,
-        } => {
+        Definition::Relation { name, params, .. } => {
             let callee = Callee {
                 role: Role::Relation,
                 block,
