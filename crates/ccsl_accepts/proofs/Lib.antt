@@ -9,3 +9,4 @@ pub mod Placing
 pub mod OwnLines
 pub mod Whole
 pub mod Accepts
+pub mod Distinct
