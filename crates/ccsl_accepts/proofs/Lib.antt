@@ -10,3 +10,4 @@ pub mod OwnLines
 pub mod Whole
 pub mod Accepts
 pub mod Distinct
+pub mod Lines
