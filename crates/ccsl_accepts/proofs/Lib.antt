@@ -11,3 +11,4 @@ pub mod Whole
 pub mod Accepts
 pub mod Distinct
 pub mod Lines
+pub mod Apart

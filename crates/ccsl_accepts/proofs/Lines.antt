@@ -121,7 +121,7 @@ module _ (K : Tables) (blocks : List PlainDefinition) (same : K.calls ≡ calls_
   some-line (l ∷ ls) h = omega arith
 
   -- the definition that stands next
-  next-full : (R : Unfoldings) → AreFull R → (two : Bool) (heights : Heights) (k : ℕ) (b : PlainDefinition) (ps : List Param) → IsRelation b ps → block_faults K.calls heights (length R) b ≡ [] → definition_kept two b ≡ true →
+  pub next-full : (R : Unfoldings) → AreFull R → (two : Bool) (heights : Heights) (k : ℕ) (b : PlainDefinition) (ps : List Param) → IsRelation b ps → block_faults K.calls heights (length R) b ≡ [] → definition_kept two b ≡ true →
       Full (unfold_block K.words K.calls R k b)
   next-full R full two heights k (DRelation name params lines) ps is f h path args =
       let locals : List (Known _) = params_space params ++ lines_space 0 (map SLineOf lines) in
@@ -133,7 +133,7 @@ module _ (K : Tables) (blocks : List PlainDefinition) (same : K.calls ≡ calls_
       omega arith
   next-full R full two heights k (DGroup members) ps is f h path args = absurd is
 
-  more-full : (R : Unfoldings) → AreFull R → (u : Unfolding) → ((name : List ℕ) (c : Known Callee) → look name K.calls ≡ Some c → c.what.role ≡ relation → c.what.block ≡ length R → Full u) → AreFull (R ++ u ∷ [])
+  pub more-full : (R : Unfoldings) → AreFull R → (u : Unfolding) → ((name : List ℕ) (c : Known Callee) → look name K.calls ≡ Some c → c.what.role ≡ relation → c.what.block ≡ length R → Full u) → AreFull (R ++ u ∷ [])
   more-full R full u this name c l r h =
       let a = length-append R (u ∷ []) in
       ⊎_elim (λ (s : c.what.block < length R). subst (λ x. Full (unfolding_at x)) (sym (get-front R (u ∷ []) c.what.block s)) (full name c l r s))
