@@ -12,3 +12,4 @@ pub mod Accepts
 pub mod Distinct
 pub mod Lines
 pub mod Apart
+pub mod NamesDistinct

@@ -55,18 +55,18 @@ all-at K front (t ∷ ts) e =
 
 -- ## Definitions of two lists
 
-unfoldings-length : (words : List BinaryWord) (calls : List (Known Callee)) (R : Unfoldings) (k : ℕ) (bs : List PlainDefinition) → length (unfoldings words calls R k bs) ≡ length R + length bs
+pub unfoldings-length : (words : List BinaryWord) (calls : List (Known Callee)) (R : Unfoldings) (k : ℕ) (bs : List PlainDefinition) → length (unfoldings words calls R k bs) ≡ length R + length bs
 unfoldings-length words calls R k [] = omega arith
 unfoldings-length words calls R k (b ∷ bs) =
     let a = length-append R (unfold_block words calls R k b ∷ []) in
     let r = unfoldings-length words calls (R ++ unfold_block words calls R k b ∷ []) (k + length (block_texts b)) bs in
     omega arith
 
-there-left : (groups : List (List Body)) (K : Tables) (home : ℕ) (bs cs : List PlainDefinition) → AreThere groups K home (bs ++ cs) → AreThere groups K home bs
+pub there-left : (groups : List (List Body)) (K : Tables) (home : ℕ) (bs cs : List PlainDefinition) → AreThere groups K home (bs ++ cs) → AreThere groups K home bs
 there-left groups K home [] cs a = tt
 there-left groups K home (b ∷ bs) cs a = (a.0, there-left groups K (home + 1) bs cs a.1)
 
-there-right : (groups : List (List Body)) (K : Tables) (home : ℕ) (bs cs : List PlainDefinition) → AreThere groups K home (bs ++ cs) → AreThere groups K (home + length bs) cs
+pub there-right : (groups : List (List Body)) (K : Tables) (home : ℕ) (bs cs : List PlainDefinition) → AreThere groups K home (bs ++ cs) → AreThere groups K (home + length bs) cs
 there-right groups K home [] cs a = let z : home ≡ home + 0 = omega arith in subst (λ n. AreThere groups K n cs) z a
 there-right groups K home (b ∷ bs) cs a =
     let z : home + 1 + length bs ≡ home + suc (length bs) = omega arith in subst (λ n. AreThere groups K n cs) z (there-right groups K (home + 1) bs cs a.1)
@@ -208,7 +208,7 @@ module _ (library file : PlainFile) (lib : IsLibrary library) (is : IsFile file)
 
   -- ## What files keep
 
-  kept-definitions : (f : PlainFile) → IsFile f → list_all (definition_kept (is_two f)) f.definitions ≡ true
+  pub kept-definitions : (f : PlainFile) → IsFile f → list_all (definition_kept (is_two f)) f.definitions ≡ true
   kept-definitions f k = (and_parts (list_all (definition_kept (is_two f)) f.definitions) (list_all (sline_kept (is_two f)) f.lines) (and_parts _ _ k.kept).1).0
 
   pub kept-lines : list_all (sline_kept (is_two file)) file.lines ≡ true
