@@ -1,5 +1,5 @@
 -- WHAT IS NOT REFUSED EXPANDS TO AN ACCEPTED SYSTEM.
-use Rattle.std.proofs.Common.{◌≡◌, ℕ, zero, suc, ◌+◌, ◌<◌, ◌≤◌, List, [], ◌∷◌, ◌++◌, Option, Some, None, Bool, true, false, cond, ◌&&◌, nat_lt, length, length-append, map, flat_map, max, filter_map, refl, sym, ap, ap₂, ◌∙◌, subst, arith, if◌then◌else◌, lt-ltb}
+use Rattle.std.proofs.Common.{◌≡◌, ℕ, suc, ◌+◌, ◌≤◌, List, [], ◌∷◌, ◌++◌, Option, Some, None, Bool, true, false, cond, nat_lt, length, length-append, map, flat_map, filter_map, refl, sym, ap, ◌∙◌, subst, arith, if◌then◌else◌, lt-ltb}
 use Rattle.std.specs.Prelude.{All, IsTrue}
 use Rattle.std.specs.List.{AllByRecursion, list_all}
 use Rattle.std.proofs.lemmas.Bool.{and_parts, and_from}
@@ -11,23 +11,22 @@ use Rattle.ccsl_base.specs.declared.limits.TheConstants.{MAX_CLOCKS, MAX_CONSTRA
 use Rattle.ccsl_ast.specs.declared.spot.Spot.{Spot}
 use Rattle.ccsl_ast.specs.Trees.{SLine, SClocks, SLineOf, PlainDefinition, DRelation, DGroup, PlainFile}
 use Rattle.ccsl_ast.specs.Kept.{is_two, has_member, spot_kept, sline_kept}
-use Rattle.ccsl_kernel.specs.Syntax.{Body, System}
+use Rattle.ccsl_kernel.specs.Syntax.{System}
 use Rattle.ccsl_kernel.specs.Cells.{cells}
 use Rattle.ccsl_kernel.specs.Accepted.{Each, IsBody, IsDefinition, IsConstraint, IsAccepted, is_hidden, group_levels}
 use Rattle.ccsl_rules.specs.Faults.{Fault}
-use Rattle.ccsl_rules.specs.declared.refusal.Refusal.{Refusal}
 use Rattle.ccsl_rules.specs.Spaces.{calls_space}
 use Rattle.ccsl_rules.specs.Blocks.{first_fault}
-use Rattle.ccsl_rules.specs.Elaborated.{totals_refusal, refusal_with, refusal}
+use Rattle.ccsl_rules.specs.Elaborated.{totals_refusal, refusal_with}
 use Rattle.ccsl_rules.specs.Resolved.{Tables}
 use Rattle.ccsl_rules.specs.Texts.{block_texts}
 use Rattle.ccsl_rules.specs.Unfolded.{Item, Defines, Binds}
-use Rattle.ccsl_rules.specs.Expansion.{groups_of, declared_names, item_name, item_definition, written_item, hidden_item, constraint_of, expand}
+use Rattle.ccsl_rules.specs.Expansion.{groups_of, declared_names, item_name, item_definition, written_item, hidden_item, expand}
 use Rattle.ccsl_rules.proofs.Ordered.{groups_in}
 use Rattle.ccsl_accepts.specs.Acceptance.{IsFile, IsLibrary, FilesExpand}
 use Rattle.ccsl_accepts.proofs.Lists.{all-listed, each-append}
 use Rattle.ccsl_accepts.proofs.GroupBodies.{groups-bodies}
-use Rattle.ccsl_accepts.proofs.GroupHeights.{State, none-tall, advance, group_levels-append}
+use Rattle.ccsl_accepts.proofs.GroupHeights.{none-tall, advance, group_levels-append}
 use Rattle.ccsl_accepts.proofs.Joined.{heights_of}
 use Rattle.ccsl_accepts.proofs.Sound.{Sound}
 use Rattle.ccsl_accepts.proofs.Placing.{map-append, hidden_names, written_names, bound-constraints, written-definitions, hidden-definitions}
@@ -108,10 +107,7 @@ groups-length K k (DRelation name params lines ∷ bs) cs = groups-length K (k +
 groups-length K k (DGroup members ∷ bs) cs = ap suc (groups-length K (k + length (block_texts (DGroup members))) bs cs)
 
 groups-whole : (K : Tables) (j k : ℕ) (bs cs : List PlainDefinition) → length (groups_of K j bs ++ groups_of K k cs) ≡ groups_in (length (bs ++ cs)) (bs ++ cs)
-groups-whole K j k [] cs = groups-length K k cs [] ∙ ap (groups_in (length cs)) (append-none cs) where
-  append-none : {X : Type 0} (xs : List X) → xs ++ [] ≡ xs
-  append-none [] = refl
-  append-none (x ∷ xs) = ap (λ l. x ∷ l) (append-none xs)
+groups-whole K j k [] cs = groups-length K k cs [] ∙ ap (groups_in (length cs)) (append-nil cs)
 groups-whole K j k (DRelation name params lines ∷ bs) cs = groups-whole K (j + length (block_texts (DRelation name params lines))) k bs cs
 groups-whole K j k (DGroup members ∷ bs) cs = ap suc (groups-whole K (j + length (block_texts (DGroup members))) k bs cs)
 

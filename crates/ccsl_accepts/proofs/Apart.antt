@@ -1,5 +1,5 @@
 -- The names that a body expands to are distinct.
-use Rattle.std.proofs.Common.{◌≡◌, ℕ, zero, suc, ◌+◌, ◌<◌, ◌≤◌, ◌^◌, List, [], ◌∷◌, ◌++◌, append_assoc, Option, Some, None, Bool, true, false, ◌&&◌, length, length-append, map, flat_map, take, slice_get, refl, sym, ap, ap₂, ◌∙◌, subst, arith, ◌⊎◌, inl, inr, ⊎_elim}
+use Rattle.std.proofs.Common.{◌≡◌, ℕ, zero, suc, ◌+◌, ◌<◌, ◌≤◌, ◌^◌, List, [], ◌∷◌, ◌++◌, append_assoc, Option, Some, None, Bool, true, length, length-append, map, flat_map, take, slice_get, refl, sym, ap, ap₂, ◌∙◌, subst, arith, ◌⊎◌, inl, inr, ⊎_elim}
 use Rattle.std.specs.Prelude.{decimal}
 use Rattle.std.specs.List.{AllByRecursion, list_all}
 use Rattle.std.proofs.lemmas.Bool.{and_parts}
@@ -8,11 +8,11 @@ use Rattle.ccsl_base.specs.Name.{is_name, is_inner}
 use Rattle.ccsl_ast.specs.declared.spot.Spot.{Spot}
 use Rattle.ccsl_ast.specs.declared.definition.Param.{Param}
 use Rattle.ccsl_ast.specs.declared.term.Argument.{Argument}
-use Rattle.ccsl_ast.specs.Trees.{Expression, Line, LDefine, LConstraint, LCall, SLine, SClocks, SLineOf, PlainDefinition, DRelation, DGroup}
+use Rattle.ccsl_ast.specs.Trees.{Expression, LDefine, LConstraint, LCall, SLine, SClocks, SLineOf, PlainDefinition, DRelation, DGroup}
 use Rattle.ccsl_ast.specs.Kept.{arg_kept, expression_kept, sline_kept, definition_kept}
 use Rattle.ccsl_rules.specs.Spaces.{Known, Callee, look, calls_space, clock_known, declared_by, repeated, spots, params_space, lines_space}
 use Rattle.ccsl_rules.specs.Uses.{Scene}
-use Rattle.ccsl_rules.specs.Blocks.{Heights, entries_faults, params_faults, block_faults, blocks_faults}
+use Rattle.ccsl_rules.specs.Blocks.{Heights, params_faults, block_faults, blocks_faults}
 use Rattle.ccsl_rules.specs.Settings.{Atom, Setting, argument_atoms}
 use Rattle.ccsl_rules.specs.Texts.{entry_texts, block_texts}
 use Rattle.ccsl_rules.specs.Resolved.{Tables}
@@ -25,7 +25,7 @@ use Rattle.ccsl_rules.proofs.Ordered.{all-append}
 use Rattle.ccsl_rules.proofs.Rising.{names_in}
 use Rattle.ccsl_rules.proofs.Apart.{Without, calls-apart}
 use Rattle.ccsl_accepts.proofs.HiddenNames.{name-inner}
-use Rattle.ccsl_accepts.proofs.Distinct.{In, Distinct, in-parts, in-left, in-right, distinct-join, distinct-right, by-parts, names_of_spots, declared-once}
+use Rattle.ccsl_accepts.proofs.Distinct.{In, Distinct, in-parts, distinct-join, distinct-right, by-parts, names_of_spots, declared-once}
 use Rattle.ccsl_accepts.proofs.OwnLines.{defined_names}
 use Rattle.ccsl_accepts.proofs.Lines.{AreFull, next-full, more-full, body-full, none-declared, lines-kept, relation-lines}
 

@@ -1,5 +1,5 @@
 -- The members of groups without a fault are bodies of an accepted system.
-use Rattle.std.proofs.Common.{◌≡◌, ℕ, zero, suc, ◌+◌, ◌<◌, ◌≤◌, List, [], ◌∷◌, ◌++◌, Some, true, length, length-append, map, max, flat_map, take, drop, slice_get, refl, sym, ap, ap₂, ◌∙◌, subst, arith}
+use Rattle.std.proofs.Common.{◌≡◌, ℕ, suc, ◌+◌, ◌≤◌, List, [], ◌∷◌, ◌++◌, Some, true, length, length-append, map, flat_map, take, drop, slice_get, refl, sym, ap, ap₂, ◌∙◌, subst, arith}
 use Rattle.std.specs.Prelude.{All}
 use Rattle.std.specs.List.{AllByRecursion}
 use Rattle.ccsl_ast.specs.declared.definition.Param.{Param}
@@ -10,13 +10,12 @@ use Rattle.ccsl_ast.specs.Depth.{depth, greatest, member_depth, definition_depth
 use Rattle.ccsl_kernel.specs.declared.position.Position.TheVariants.{Tail}
 use Rattle.ccsl_kernel.specs.declared.group.ParamKind.{ParamKind}
 use Rattle.ccsl_kernel.specs.Syntax.{Body, System, body_of}
-use Rattle.ccsl_kernel.specs.Guarded.{Allowed}
 use Rattle.ccsl_kernel.specs.Accepted.{Each, IsBody}
-use Rattle.ccsl_rules.specs.Faults.{Fault, where_so, Arguments}
+use Rattle.ccsl_rules.specs.Faults.{where_so, Arguments}
 use Rattle.ccsl_rules.specs.Spaces.{Known, Callee, member, look, calls_space, repeated, spots, params_space}
 use Rattle.ccsl_rules.specs.Uses.{Scene, expr_faults}
 use Rattle.ccsl_rules.specs.Blocks.{Heights, params_faults, part_faults, block_faults, blocks_faults}
-use Rattle.ccsl_rules.specs.Settings.{Atom, AParam, Setting, atom_of}
+use Rattle.ccsl_rules.specs.Settings.{Atom, AParam, Setting}
 use Rattle.ccsl_rules.specs.Texts.{texts, block_texts}
 use Rattle.ccsl_rules.specs.Resolved.{Tables, resolve}
 use Rattle.ccsl_rules.specs.Expansion.{kind_in, own_params, part_body, part_bodies, groups_of}
@@ -71,7 +70,7 @@ module _ (K : Tables) (params : List ParamKind) where
 
 module _ (K : Tables) (system : System) (blocks : List PlainDefinition) (calls : K.calls ≡ calls_space 0 0 blocks) (words : K.words ≡ system.words)
     (bodies : (name : List ℕ) (c : Known Callee) (group number : ℕ) → look name K.calls ≡ Some c → c.what.role ≡ member group number →
-        (b : Body) × (body_of system.groups group number ≡ Some b) × (b.params ≡ map (λ p. kind_in p.kind) c.what.params)) where
+    (b : Body) × (body_of system.groups group number ≡ Some b) × (b.params ≡ map (λ p. kind_in p.kind) c.what.params)) where
   abbrev Texts : ℕ → List (List ℕ) → Type 0
   Texts k ts = AreAt [] 0 [] K (nowhere [] K) [] k ts
 

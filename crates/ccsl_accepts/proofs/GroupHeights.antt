@@ -1,7 +1,8 @@
 -- The groups of an accepted file are no taller than groups may be.
-use Rattle.std.proofs.Common.{◌≡◌, ℕ, zero, suc, ◌+◌, ◌-◌, ◌<◌, ◌≤◌, List, [], ◌∷◌, ◌++◌, Option, Some, None, true, false, Bool, nat_lt, length, length-append, map, max, flat_map, take, slice_index, bytes_eq, refl, sym, ap, ap₂, ◌∙◌, subst, arith, ◌⊎◌, inl, inr, ⊎_elim}
+use Rattle.std.proofs.Common.{◌≡◌, ℕ, zero, suc, ◌+◌, ◌-◌, ◌<◌, ◌≤◌, List, [], ◌∷◌, ◌++◌, Option, Some, None, true, false, nat_lt, length, length-append, map, max, flat_map, take, slice_index, bytes_eq, refl, sym, ap, ◌∙◌, subst, arith, ⊎_elim}
 use Rattle.std.specs.List.{AllByRecursion}
 use Rattle.std.proofs.lemmas.Bool.{cases_lt}
+use Rattle.std.proofs.lemmas.List.{append-nil}
 use Rattle.std.proofs.lemmas.Bool.Decides.{nat_tests}
 use Rattle.ccsl_ast.specs.declared.spot.Spot.{Spot}
 use Rattle.ccsl_ast.specs.declared.term.Argument.{Argument}
@@ -14,7 +15,7 @@ use Rattle.ccsl_kernel.specs.Cells as cells
 use Rattle.ccsl_kernel.specs.Accepted.{height, group_levels}
 use Rattle.ccsl_rules.specs.Faults.{Fault, where_so, Unknown, TooTall}
 use Rattle.ccsl_rules.specs.Spaces.{Known, Callee, Role, relation, member, look, calls_space, repeated, spots, params_space}
-use Rattle.ccsl_rules.specs.Levels.{groups, relations, counted, called, level_in, level, levels, greatest}
+use Rattle.ccsl_rules.specs.Levels.{groups, counted, called, level_in, level, levels, greatest}
 use Rattle.ccsl_rules.specs.Uses.{Scene, callee_faults, argument_faults, expr_faults, right_of, term_faults, word_faults, test_faults}
 use Rattle.ccsl_rules.specs.Blocks.{Heights, params_faults, part_faults, block_faults, blocks_faults}
 use Rattle.ccsl_rules.specs.Settings.{Setting}
@@ -23,8 +24,8 @@ use Rattle.ccsl_rules.specs.Resolved.{Tables, resolve, resolve_call, resolve_arg
 use Rattle.ccsl_rules.specs.Expansion.{own_params, part_bodies, groups_of}
 use Rattle.ccsl_rules.proofs.Guarded.{left-empty, right-empty, no-fault}
 use Rattle.ccsl_rules.proofs.Ordered.{groups_in, Good, space-good, found-all, all-append}
-use Rattle.ccsl_accepts.proofs.Lists.{one-on, assoc}
-use Rattle.ccsl_accepts.proofs.Joined.{index-past, levels-append, levels-length, levels-front, heights_of}
+use Rattle.ccsl_accepts.proofs.Lists.{one-on}
+use Rattle.ccsl_accepts.proofs.Joined.{index-past, levels-append, levels-length, levels-front}
 use Rattle.ccsl_accepts.proofs.GroupBodies.{groups-next}
 
 -- ## Lists of levels
@@ -262,10 +263,7 @@ module _ (K : Tables) (blocks : List PlainDefinition) (same : K.calls ≡ calls_
 
   pub advance : (heights : Heights) → heights.groups ≡ levels groups K.calls [] blocks → (k : ℕ) (done bs rest : List PlainDefinition) (tall : List ℕ) → blocks ≡ done ++ (bs ++ rest) → State done tall →
       blocks_faults K.calls heights (length done) bs ≡ [] → State (done ++ bs) (group_levels tall (groups_of K k bs))
-  advance heights e k done [] rest tall whole state f = subst (λ ds. State ds tall) (sym (append-none done)) state where
-    append-none : {X : Type 0} (xs : List X) → xs ++ [] ≡ xs
-    append-none [] = refl
-    append-none (x ∷ xs) = ap (λ l. x ∷ l) (append-none xs)
+  advance heights e k done [] rest tall whole state f = subst (λ ds. State ds tall) (sym (append-nil done)) state
   advance heights e k done (DRelation name params lines ∷ bs) rest tall whole state f =
       let b : PlainDefinition = DRelation name params lines in
       let a = length-append done (b ∷ []) in

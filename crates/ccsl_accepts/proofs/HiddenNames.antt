@@ -1,6 +1,6 @@
 -- Paths of calls, and the names of hidden clocks: a name of the grammar, an @, and bytes that are seen.
-use Rattle.std.proofs.Common.{◌≡◌, ℕ, zero, suc, ◌+◌, ◌%◌, ◌/◌, ◌<◌, ◌≤◌, List, [], ◌∷◌, ◌++◌, append_assoc, Bool, true, false, not, cond, ◌&&◌, ◌||◌, length, take, drop, nat_eq, nat_le, nat_lt, refl, sym, ap, ◌∙◌, subst, arith, if◌then◌else◌, le-leb, lt-ltb, ◌==◌}
-use Rattle.std.specs.Prelude.{decimal, IsTrue}
+use Rattle.std.proofs.Common.{◌≡◌, ℕ, zero, suc, ◌+◌, ◌%◌, ◌/◌, ◌<◌, List, [], ◌∷◌, ◌++◌, append_assoc, Bool, true, false, not, cond, ◌&&◌, ◌||◌, length, take, drop, nat_le, refl, ap, ◌∙◌, arith, if◌then◌else◌, le-leb, lt-ltb, ◌==◌}
+use Rattle.std.specs.Prelude.{decimal}
 use Rattle.std.specs.Fmt.{digits, digits_onto, digit_glyph}
 use Rattle.std.specs.List.{list_all, take_while, prefix_len}
 use Rattle.std.proofs.lemmas.Bool.{and_parts, and_from}

@@ -1,22 +1,20 @@
 -- What has no fault in a library has none among more definitions: names stand for what they stood for, at the levels that they had.
-use Rattle.std.proofs.Common.{◌≡◌, ℕ, zero, suc, ◌+◌, ◌<◌, ◌≤◌, List, [], ◌∷◌, ◌++◌, Bool, true, false, not, ◌&&◌, cond, Option, Some, None, nat_lt, nat_eq, length, length-append, map, flat_map, zip, take, slice_index, find, bytes_eq, refl, sym, ap, ap₂, ◌∙◌, subst, arith}
+use Rattle.std.proofs.Common.{◌≡◌, ℕ, zero, suc, ◌+◌, ◌≤◌, List, [], ◌∷◌, ◌++◌, append_assoc, Bool, true, false, not, ◌&&◌, cond, Option, Some, None, nat_lt, nat_eq, length, length-append, map, flat_map, zip, take, slice_index, find, bytes_eq, refl, sym, ap, ap₂, ◌∙◌, subst, arith}
 use Rattle.std.specs.List.{AllByRecursion}
 use Rattle.std.proofs.lemmas.List.{take-append-le}
 use Rattle.ccsl_ast.specs.declared.spot.Spot.{Spot}
 use Rattle.ccsl_ast.specs.declared.definition.Param.{Param}
-use Rattle.ccsl_ast.specs.declared.definition.Kind.TheVariants as kind
 use Rattle.ccsl_ast.specs.declared.term.Argument.{Argument}
-use Rattle.ccsl_ast.specs.Trees.{Expression, EName, ECall, ENever, EBinary, EDelay, EAwait, EFilter, EDelayed, EIf, Line, LDefine, LConstraint, LCall, SLine, SClocks, SLineOf, PlainMember, PlainDefinition, DRelation, DGroup, PlainFile}
+use Rattle.ccsl_ast.specs.Trees.{Expression, EName, ECall, ENever, EBinary, EDelay, EAwait, EFilter, EDelayed, EIf, LDefine, LConstraint, LCall, SLine, SClocks, SLineOf, PlainMember, PlainDefinition, DRelation, DGroup}
 use Rattle.ccsl_kernel.specs.declared.position.Position.{Position}
 use Rattle.ccsl_kernel.specs.declared.position.Position.TheVariants.{Inner, Tail}
 use Rattle.ccsl_rules.specs.Faults.{Fault, where_so, Unknown, Later, WrongKind, Unguarded, TooTall, Arguments}
 use Rattle.ccsl_rules.specs.Spaces.{Known, Callee, relation, look, parts_space, calls_space, repeated, spots, params_space, lines_space}
 use Rattle.ccsl_rules.specs.Levels.{Sort, groups, relations, level_in, level, levels, counted}
-use Rattle.ccsl_rules.specs.Uses.{Scene, is_own, has_role, is_guarded, mismatch, callee_faults, argument_faults, call_faults, expr_faults, right_of, term_faults, word_faults, test_faults, used_as}
-use Rattle.ccsl_rules.specs.Blocks.{Heights, line_faults, entry_faults, entries_faults, params_faults, body_faults, part_faults, block_faults, blocks_faults, relation_faults, faults, first_fault}
+use Rattle.ccsl_rules.specs.Uses.{Scene, is_own, has_role, is_guarded, mismatch, callee_faults, argument_faults, call_faults, expr_faults, right_of, term_faults, word_faults, test_faults}
+use Rattle.ccsl_rules.specs.Blocks.{Heights, entry_faults, entries_faults, params_faults, body_faults, part_faults, block_faults, blocks_faults}
 use Rattle.ccsl_rules.proofs.Guarded.{left-empty, right-empty}
 use Rattle.ccsl_rules.proofs.Ordered.{groups_in, all-append}
-use Rattle.ccsl_rules.proofs.Least.{none-empty}
 
 pub both-empty : {X : Type 0} (xs ys : List X) → xs ≡ [] → ys ≡ [] → xs ++ ys ≡ []
 both-empty [] ys a b = b
@@ -37,11 +35,7 @@ space-append block group (DGroup members ∷ bs) cs =
     (space-append (block + 1) (group + 1) bs cs
     ∙ ap₂ (λ b g. calls_space (block + 1) (group + 1) bs ++ calls_space b g cs) (let e : block + 1 + length bs ≡ block + suc (length bs) = omega arith in e)
     (let e : group + 1 + groups_in (length bs) bs ≡ group + suc (groups_in (length bs) bs) = omega arith in e))
-    ∙ sym (assoc (parts_space block group 0 members) _ _)
-  where
-    assoc : {X : Type 0} (xs ys zs : List X) → (xs ++ ys) ++ zs ≡ xs ++ (ys ++ zs)
-    assoc [] ys zs = refl
-    assoc (x ∷ xs) ys zs = ap (λ l. x ∷ l) (assoc xs ys zs)
+    ∙ sym (append_assoc (parts_space block group 0 members) _ _)
 
 abbrev From : ℕ → Known Callee → Type 0
 From n c = n ≤ c.what.block
@@ -75,9 +69,6 @@ pub index-past : (xs : List ℕ) (i : ℕ) → length xs ≤ i → slice_index x
 index-past [] i h = refl
 index-past (x ∷ xs) zero h = absurd (omega arith)
 index-past (x ∷ xs) (suc i) h = index-past xs i (omega arith)
-
-level_of : List ℕ → Option (Known Callee) → ℕ
-level_of seen o = elim o [ None ↦ 0 | Some k ↦ slice_index seen k.what.block ]
 
 level-more : (calls more : List (Known Callee)) (seen : List ℕ) (name : List ℕ) → AllByRecursion (From (length seen)) more →
     level_in (calls ++ more) seen name ≡ level_in calls seen name
@@ -140,12 +131,12 @@ module _ (calls calls' : List (Known Callee)) (more : (name : List ℕ) (k : Kno
       callee_faults S w p s args k ≡ callee_faults (record S { calls = calls' }) w p s args k
   callee-more S same w p s args k l =
       let F : ℕ → List Fault = λ n.
-          where_so (not (is_own S k.what) && nat_lt S.home k.since) Later s.at
-          ++ where_so (not (has_role k.what.role w)) WrongKind s.at
-          ++ where_so (is_own S k.what && not (is_guarded p)) Unguarded s.at
-          ++ where_so (nat_lt 8 (suc n)) TooTall s.at
-          ++ where_so (not (nat_eq (length args) (length k.what.params))) Arguments s.at
-          ++ flat_map (λ a. mismatch S a.0 a.1) (zip k.what.params args) in
+      where_so (not (is_own S k.what) && nat_lt S.home k.since) Later s.at
+      ++ where_so (not (has_role k.what.role w)) WrongKind s.at
+      ++ where_so (is_own S k.what && not (is_guarded p)) Unguarded s.at
+      ++ where_so (nat_lt 8 (suc n)) TooTall s.at
+      ++ where_so (not (nat_eq (length args) (length k.what.params))) Arguments s.at
+      ++ flat_map (λ a. mismatch S a.0 a.1) (zip k.what.params args) in
       let G : Option (Known Callee) → ℕ = λ o. elim o as (λ _. ℕ) [ None ↦ 0 | Some k ↦ slice_index S.levels k.what.block ] in
       let old : level_in S.calls S.levels s.name ≡ slice_index S.levels k.what.block = ap (λ (cs : List (Known Callee)). level_in cs S.levels s.name) same ∙ ap G l in
       let new : level_in calls' S.levels s.name ≡ slice_index S.levels k.what.block = ap G (more s.name k l) in

@@ -1,6 +1,6 @@
 -- Each line that declares no clock expands to an item at least, so that a body has no more such lines than items.
 use Rattle.std.proofs.Common.{◌≡◌, ℕ, zero, suc, ◌+◌, ◌<◌, ◌≤◌, List, [], ◌∷◌, ◌++◌, Option, Some, None, Bool, true, false, not, ◌&&◌, length, length-append, map, flat_map, take, slice_get, bytes_eq, nat_lt, nat_eq, refl, sym, ap, ◌∙◌, subst, arith, ⊎_elim}
-use Rattle.std.specs.List.{AllByRecursion, list_all}
+use Rattle.std.specs.List.{list_all}
 use Rattle.std.proofs.lemmas.Bool.{and_parts, cases_lt}
 use Rattle.std.proofs.lemmas.Bool.Decides.{nat_tests}
 use Rattle.ccsl_ast.specs.declared.spot.Spot.{Spot}
@@ -17,7 +17,7 @@ use Rattle.ccsl_rules.specs.Blocks.{Heights, entry_faults, entries_faults, param
 use Rattle.ccsl_rules.specs.Settings.{Atom, Setting, argument_atoms}
 use Rattle.ccsl_rules.specs.Texts.{entry_texts, block_texts}
 use Rattle.ccsl_rules.specs.Resolved.{Tables}
-use Rattle.ccsl_rules.specs.Unfolded.{Item, Unfolding, Unfoldings, unfolding_at, unfold_line, unfold_entry, unfold_body, unfold_block, unfoldings, call_path, arguments, own_clocks}
+use Rattle.ccsl_rules.specs.Unfolded.{Unfolding, Unfoldings, unfolding_at, unfold_line, unfold_entry, unfold_body, unfold_block, unfoldings, call_path, arguments, own_clocks}
 use Rattle.ccsl_rules.specs.Expansion.{declared_names}
 use Rattle.ccsl_rules.proofs.Guarded.{left-empty, right-empty, no-fault}
 use Rattle.ccsl_rules.proofs.Ordered.{groups_in, Good, space-good, found-all}
@@ -31,6 +31,9 @@ get-front (x ∷ xs) ys (suc i) h = get-front xs ys i (omega arith)
 get-last : {X : Type 0} (xs : List X) (y : X) → slice_get (xs ++ y ∷ []) (length xs) ≡ Some y
 get-last [] y = refl
 get-last (x ∷ xs) y = get-last xs y
+
+no-relation : (g m : ℕ) → not (has_role (member g m) true) ≡ false → ⊥
+no-relation g m e = cc
 
 module _ (K : Tables) (blocks : List PlainDefinition) (same : K.calls ≡ calls_space 0 0 blocks) where
   abbrev pub Full : Unfolding → Type 0
@@ -62,7 +65,7 @@ module _ (K : Tables) (blocks : List PlainDefinition) (same : K.calls ≡ calls_
       role (member g m) e' =
           let wrong : not (has_role c.what.role true) ≡ false = no-fault _ WrongKind s.at (right-empty _ _ (left-empty _ _ (left-empty _ _ (left-empty _ _ (left-empty _ _ e))))) in
           let z : not (has_role (member g m) true) ≡ false = subst (λ x. not (has_role x true) ≡ false) e' wrong in
-          absurd (cc)
+          absurd (no-relation g m z)
 
       earlier : c.what.block < length R
       earlier =

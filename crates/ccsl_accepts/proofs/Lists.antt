@@ -1,5 +1,5 @@
 -- Facts of each element, one by one, and of lists put together.
-use Rattle.std.proofs.Common.{◌≡◌, ℕ, zero, suc, ◌+◌, ◌<◌, ◌≤◌, List, [], ◌∷◌, ◌++◌, length, drop, flat_map, map, max, slice_index_or, refl, sym, ap, ◌∙◌, subst, arith}
+use Rattle.std.proofs.Common.{◌≡◌, ℕ, zero, suc, ◌+◌, ◌<◌, ◌≤◌, List, [], ◌∷◌, ◌++◌, length, drop, slice_index_or, refl, ap, subst, arith}
 use Rattle.std.specs.Prelude.{All}
 use Rattle.std.specs.List.{AllByRecursion}
 use Rattle.ccsl_kernel.specs.Accepted.{Each}
@@ -21,10 +21,6 @@ each-append P i [] ys a b = let e : i + 0 ≡ i = omega arith in subst (λ n. Ea
 each-append P i (x ∷ xs) ys a b =
     let e : i + suc (length xs) ≡ suc i + length xs = omega arith in
     (a.0, each-append P (suc i) xs ys a.1 (subst (λ n. Each P n ys) e b))
-
-pub assoc : {X : Type 0} (xs ys zs : List X) → (xs ++ ys) ++ zs ≡ xs ++ (ys ++ zs)
-assoc [] ys zs = refl
-assoc (x ∷ xs) ys zs = ap (λ l. x ∷ l) (assoc xs ys zs)
 
 pub no-more : {X : Type 0} (n : ℕ) (xs : List X) → drop n xs ≡ [] → length xs ≤ n
 no-more n [] e = omega arith

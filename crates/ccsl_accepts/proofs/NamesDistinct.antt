@@ -1,16 +1,15 @@
 -- NO NAME OF AN EXPANSION IS THERE TWICE.
-use Rattle.std.proofs.Common.{◌≡◌, ℕ, zero, suc, ◌+◌, ◌<◌, ◌≤◌, ◌^◌, List, [], ◌∷◌, ◌++◌, append_assoc, Option, Some, None, Bool, true, false, cond, ◌&&◌, length, length-append, map, flat_map, take, drop, filter_map, refl, sym, ap, ap₂, ◌∙◌, subst, arith, inl, inr, ⊎_elim}
+use Rattle.std.proofs.Common.{◌≡◌, ℕ, suc, ◌+◌, ◌<◌, ◌≤◌, ◌^◌, List, [], ◌∷◌, ◌++◌, Bool, true, false, cond, length, length-append, flat_map, take, drop, filter_map, refl, sym, ap, ap₂, ◌∙◌, subst, arith, inl, inr, ⊎_elim}
 use Rattle.std.specs.List.{AllByRecursion, list_all, prefix_len}
 use Rattle.std.proofs.lemmas.Bool.{and_parts}
 use Rattle.ccsl_base.specs.Name.{is_name, is_inner}
-use Rattle.ccsl_ast.specs.Trees.{SLine, PlainDefinition, PlainFile}
+use Rattle.ccsl_ast.specs.Trees.{PlainDefinition, PlainFile}
 use Rattle.ccsl_ast.specs.Kept.{is_two}
 use Rattle.ccsl_kernel.specs.Accepted.{is_hidden, is_path_rest}
 use Rattle.ccsl_kernel.specs.declared.constraint.Constraint.{Constraint}
 use Rattle.ccsl_rules.specs.Resolved.{Tables}
 use Rattle.ccsl_rules.specs.Unfolded.{Item, Defines, Binds, Unfoldings, unfoldings}
-use Rattle.ccsl_rules.specs.Blocks.{first_fault}
-use Rattle.ccsl_rules.specs.Expansion.{declared_names, written_item, hidden_item, item_name, constraint_of, expand}
+use Rattle.ccsl_rules.specs.Expansion.{declared_names, constraint_of, expand}
 use Rattle.ccsl_rules.proofs.There.{space-there}
 use Rattle.ccsl_rules.proofs.Ready.{AreThere}
 use Rattle.ccsl_rules.proofs.Rising.{names_in}
@@ -21,7 +20,7 @@ use Rattle.ccsl_accepts.proofs.Placing.{written_names, hidden_names}
 use Rattle.ccsl_accepts.proofs.OwnLines.{defined_names}
 use Rattle.ccsl_accepts.proofs.Distinct.{In, Distinct, in-parts, distinct-join, distinct-left, distinct-right, distinct-across, by-parts, tested, new-behind}
 use Rattle.ccsl_accepts.proofs.Lines.{AreFull, none-full, blocks-full, body-full}
-use Rattle.ccsl_accepts.proofs.Apart.{Parts, IsApart, body-apart, blocks-parts, lines-distinct}
+use Rattle.ccsl_accepts.proofs.Apart.{Parts, body-apart, blocks-parts, lines-distinct}
 use Rattle.ccsl_accepts.proofs.Accepts.{declared-named, hidden-named}
 use Rattle.ccsl_accepts.proofs.Whole.{there-left, there-right, unfoldings-length}
 use Rattle.ccsl_accepts.proofs.Whole as whole

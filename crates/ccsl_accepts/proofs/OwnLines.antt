@@ -1,5 +1,5 @@
 -- The system's own lines: what they define names lower clocks, and so do the clocks that their calls hide.
-use Rattle.std.proofs.Common.{◌≡◌, ℕ, zero, suc, ◌+◌, ◌<◌, ◌≤◌, List, [], ◌∷◌, ◌++◌, append_assoc, Option, Some, None, Bool, true, ◌&&◌, length, length-append, map, flat_map, take, slice_get, filter_map, refl, sym, ap, ◌∙◌, subst, arith}
+use Rattle.std.proofs.Common.{◌≡◌, ℕ, suc, ◌+◌, ◌<◌, ◌≤◌, List, [], ◌∷◌, ◌++◌, Option, Some, None, Bool, true, length, length-append, map, flat_map, slice_get, filter_map, refl, sym, ap, subst, arith}
 use Rattle.std.specs.List.{AllByRecursion, list_all}
 use Rattle.std.proofs.lemmas.Bool.{and_parts}
 use Rattle.ccsl_base.specs.Name.{is_name}
@@ -7,7 +7,7 @@ use Rattle.ccsl_ast.specs.declared.spot.Spot.{Spot}
 use Rattle.ccsl_ast.specs.declared.definition.Kind.{Kind}
 use Rattle.ccsl_ast.specs.declared.definition.Kind.TheVariants as kind
 use Rattle.ccsl_ast.specs.declared.definition.Param.{Param}
-use Rattle.ccsl_ast.specs.Trees.{Expression, Line, LDefine, LConstraint, LCall, SLine, SClocks, SLineOf, PlainDefinition}
+use Rattle.ccsl_ast.specs.Trees.{LDefine, LConstraint, LCall, SLine, SClocks, SLineOf, PlainDefinition}
 use Rattle.ccsl_ast.specs.Kept.{arg_kept, sline_kept}
 use Rattle.ccsl_kernel.specs.Syntax.{Body}
 use Rattle.ccsl_kernel.specs.declared.position.Position.TheVariants.{Inner}
@@ -15,7 +15,7 @@ use Rattle.ccsl_rules.specs.Spaces.{Known, Callee, look, clock_known, lines_spac
 use Rattle.ccsl_rules.specs.Uses.{Scene, used_as}
 use Rattle.ccsl_rules.specs.Blocks.{relation_faults, entry_faults, entries_faults}
 use Rattle.ccsl_rules.specs.Texts.{entry_texts}
-use Rattle.ccsl_rules.specs.Settings.{Atom, AClock, ANumber, AWord, AParam, Setting, atom_of, argument_atoms}
+use Rattle.ccsl_rules.specs.Settings.{Atom, AClock, Setting, atom_of, argument_atoms}
 use Rattle.ccsl_rules.specs.Resolved.{Tables, clock_number}
 use Rattle.ccsl_rules.specs.Unfolded.{Item, Defines, Binds, Unfolding, Unfoldings, unfolding_at, unfold_line, unfold_entry, unfold_body, call_path, inside, declares, own_clocks}
 use Rattle.ccsl_rules.specs.Expansion.{written_item, hidden_item, declared_names}
@@ -76,7 +76,8 @@ module _ (groups : List (List Body)) (K : Tables) (Xat : ℕ → ℕ) where
       let here = declared-aligned i Y names (stand-left K Y first (flat_map declared_names es) d) (omega arith) in
       let rest = lines-aligned (i + 1) (Y + length first) es c.1 (stand-right K Y first (flat_map declared_names es) d) (omega arith)
       (subst (λ n. Stand K n (flat_map defined_names es)) (let z : Xat i ≡ Xat (i + 1) = omega arith in z) w) in
-      subst (λ σ. Aligned Beside (map (clock_known (i + 1)) names ++ lines_space (i + 1) es) σ) (sym (map-append (λ s. (s.name, AClock (inside [] s.name))) names (flat_map declares es)))
+      subst (λ σ. Aligned Beside (map (clock_known (i + 1)) names ++ lines_space (i + 1) es) σ)
+      {x = map (λ s. (s.name, AClock (inside [] s.name))) names ++ own_clocks [] es} (sym (map-append (λ s. (s.name, AClock (inside [] s.name))) names (flat_map declares es)))
       (aligned-append Beside (map (clock_known (i + 1)) names) (lines_space (i + 1) es) (map (λ s. (s.name, AClock (inside [] s.name))) names) (own_clocks [] es) here rest)
   lines-aligned i Y (SLineOf (LDefine s e) ∷ es) c d l w =
       let next : Xat (i + 1) ≡ Xat i + 1 = c.0 in
@@ -129,8 +130,10 @@ module _ (groups : List (List Body)) (K : Tables) (Xat : ℕ → ℕ) where
           written = tt;
           hidden = tt;
           bound = (
-            (fits-more groups K (Xat i) (length K.names) kind.Clock (atom_of σ a.name) n (used_as-fits groups (Xat i) [] K (scene i) σ (standing i) a kind.Clock (left-empty (used_as (scene i) kind.Clock a) (relation_faults r) front)),
-                fits-more groups K (Xat i) (length K.names) kind.Clock (atom_of σ b.name) n (used_as-fits groups (Xat i) [] K (scene i) σ (standing i) b kind.Clock back)),
+            (
+              fits-more groups K (Xat i) (length K.names) kind.Clock (atom_of σ a.name) n (used_as-fits groups (Xat i) [] K (scene i) σ (standing i) a kind.Clock (left-empty (used_as (scene i) kind.Clock a) (relation_faults r) front)),
+              fits-more groups K (Xat i) (length K.names) kind.Clock (atom_of σ b.name) n (used_as-fits groups (Xat i) [] K (scene i) σ (standing i) b kind.Clock back),
+            ),
             tt,
           );
         }

@@ -1,24 +1,20 @@
 -- Where names stand in the list of all names, and what the items that are written and those that are hidden say of it.
-use Rattle.std.proofs.Common.{◌≡◌, ℕ, zero, suc, ◌+◌, ◌<◌, ◌≤◌, List, [], ◌∷◌, ◌++◌, append_assoc, Option, Some, None, length, length-append, map, slice_get, filter_map, refl, sym, ap, ◌∙◌, subst, arith}
-use Rattle.std.specs.Prelude.{All}
+use Rattle.std.proofs.Common.{◌≡◌, ℕ, suc, ◌+◌, ◌<◌, ◌≤◌, List, [], ◌∷◌, ◌++◌, append_assoc, Option, Some, None, length, length-append, map, filter_map, refl, sym, ap, ◌∙◌, subst, arith}
 use Rattle.std.specs.List.{AllByRecursion, cons_option}
 use Rattle.ccsl_ast.specs.declared.definition.Kind.TheVariants as kind
-use Rattle.ccsl_ast.specs.declared.definition.Param.{Param}
 use Rattle.ccsl_ast.specs.Trees.{PlainDefinition}
 use Rattle.ccsl_kernel.specs.Syntax.{Body, System}
 use Rattle.ccsl_kernel.specs.Syntax as kernel
 use Rattle.ccsl_kernel.specs.declared.position.Position.TheVariants.{Inner}
 use Rattle.ccsl_kernel.specs.Guarded.{Allowed}
 use Rattle.ccsl_kernel.specs.Accepted.{Each, IsKnown, IsDefinition, IsConstraint}
-use Rattle.ccsl_kernel.specs.declared.constraint.Constraint.{Constraint}
 use Rattle.ccsl_rules.specs.Spaces.{calls_space}
-use Rattle.ccsl_rules.specs.Settings.{Atom, AClock, ANumber, AWord, AParam, Setting, atom_of}
+use Rattle.ccsl_rules.specs.Settings.{Atom, AClock, ANumber, AWord, AParam, atom_of}
 use Rattle.ccsl_rules.specs.Resolved.{Tables, clock_number, resolve}
 use Rattle.ccsl_rules.specs.Unfolded.{Item, Defines, Binds}
-use Rattle.ccsl_rules.specs.Expansion.{written_item, hidden_item, item_name, item_definition, clock_in, constraint_of, relation_in}
-use Rattle.ccsl_rules.specs.Counts.{weight, clock_weights}
+use Rattle.ccsl_rules.specs.Expansion.{written_item, hidden_item, item_name, item_definition, clock_in, constraint_of}
 use Rattle.ccsl_rules.proofs.Ordered.{groups_in}
-use Rattle.ccsl_rules.proofs.Known.{Fits, AtomsFit}
+use Rattle.ccsl_rules.proofs.Known.{Fits}
 use Rattle.ccsl_rules.proofs.Rising.{nowhere, names_in, place-front, Placed, Orderly, fits-more}
 use Rattle.ccsl_accepts.proofs.Sound.{Fine, Sound, Veiled}
 

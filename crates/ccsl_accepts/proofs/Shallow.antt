@@ -1,5 +1,5 @@
 -- An expression with numbers in place of names is no deeper than its tree.
-use Rattle.std.proofs.Common.{◌≡◌, ℕ, suc, ◌+◌, ◌≤◌, max, length, List, Option, Some, None, refl, arith}
+use Rattle.std.proofs.Common.{◌≡◌, ℕ, ◌+◌, ◌≤◌, length, List, Option, Some, None, refl, arith}
 use Rattle.ccsl_ast.specs.Trees.{Expression, EName, ECall, ENever, EBinary, EDelay, EAwait, EFilter, EDelayed, EIf}
 use Rattle.ccsl_ast.specs.Depth.{depth, operand_depth}
 use Rattle.ccsl_kernel.specs.declared.expr.Value.{Value}

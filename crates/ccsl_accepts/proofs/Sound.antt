@@ -1,18 +1,16 @@
 -- What a file without a fault expands to is sound, item by item: its calls are allowed, it is not too deep, its bounds are at least 1, and
 -- its names are names of the grammar, or paths where a relation hides them.
-use Rattle.std.proofs.Common.{◌≡◌, ℕ, zero, suc, ◌+◌, ◌<◌, ◌≤◌, List, [], ◌∷◌, ◌++◌, Option, Some, None, Bool, true, false, ◌&&◌, length, length-append, map, max, flat_map, take, slice_get, nat_eq, refl, sym, ap, ◌∙◌, subst, arith, ◌⊎◌, inl, inr}
-use Rattle.std.specs.Prelude.{decimal, IsTrue}
+use Rattle.std.proofs.Common.{◌≡◌, ℕ, zero, suc, ◌+◌, ◌≤◌, List, [], ◌∷◌, ◌++◌, Option, Some, None, Bool, true, false, length, map, take, slice_get, nat_eq, refl, sym, ◌∙◌, subst, arith, inl, inr}
 use Rattle.std.specs.List.{AllByRecursion, list_all}
 use Rattle.std.proofs.lemmas.Bool.{and_parts}
 use Rattle.std.proofs.lemmas.Bool.Decides.{nat_tests}
 use Rattle.ccsl_base.specs.Name.{is_name}
-use Rattle.ccsl_ast.specs.declared.definition.Param.{Param}
 use Rattle.ccsl_ast.specs.declared.definition.Kind.TheVariants as kind
 use Rattle.ccsl_ast.specs.declared.line.Relation.{Relation}
 use Rattle.ccsl_ast.specs.declared.line.Relation.TheVariants as rel
 use Rattle.ccsl_ast.specs.Trees.{Expression, Line, LDefine, LConstraint, LCall, SLine, SClocks, SLineOf, PlainDefinition, DRelation, DGroup}
 use Rattle.ccsl_ast.specs.Depth.{depth, greatest, rline_depth, sline_depth, definition_depth}
-use Rattle.ccsl_ast.specs.Kept.{spot_kept, arg_kept, relop_in, relop_kept, expression_kept, rline_kept, sline_kept, param_kept, member_kept, definition_kept, has_member}
+use Rattle.ccsl_ast.specs.Kept.{spot_kept, arg_kept, expression_kept, rline_kept, sline_kept, param_kept, definition_kept, has_member}
 use Rattle.ccsl_kernel.specs.declared.position.Position.TheVariants.{Inner}
 use Rattle.ccsl_kernel.specs.declared.expr.ExprOp.{ExprOp}
 use Rattle.ccsl_kernel.specs.declared.expr.ExprOp.TheVariants as does
@@ -20,14 +18,14 @@ use Rattle.ccsl_kernel.specs.Syntax as kernel
 use Rattle.ccsl_kernel.specs.Guarded.{Allowed, right_of}
 use Rattle.ccsl_kernel.specs.Accepted as accepted
 use Rattle.ccsl_kernel.specs.Accepted.{is_hidden, IsRelation}
-use Rattle.ccsl_rules.specs.Faults.{Fault, where_so, Arguments}
+use Rattle.ccsl_rules.specs.Faults.{Arguments}
 use Rattle.ccsl_rules.specs.Spaces.{Known, Callee, look, calls_space, repeated, spots, params_space, lines_space}
 use Rattle.ccsl_rules.specs.Uses.{Scene, used_as, expr_faults}
 use Rattle.ccsl_rules.specs.Blocks.{Heights, relation_faults, line_faults, entry_faults, entries_faults, params_faults, block_faults, blocks_faults}
 use Rattle.ccsl_rules.specs.Settings.{Atom, Setting, argument_atoms}
 use Rattle.ccsl_rules.specs.Texts.{entry_texts, block_texts}
 use Rattle.ccsl_rules.specs.Resolved.{Tables, resolve}
-use Rattle.ccsl_rules.specs.Unfolded.{Item, Defines, Binds, Unfolding, Unfoldings, unfolding_at, unfolding_of, unfold_line, unfold_entry, unfold_body, unfold_block, unfoldings, inside, call_path, arguments, own_clocks}
+use Rattle.ccsl_rules.specs.Unfolded.{Item, Defines, Binds, Unfolding, Unfoldings, unfolding_at, unfold_line, unfold_entry, unfold_body, unfold_block, unfoldings, inside, call_path, arguments, own_clocks}
 use Rattle.ccsl_rules.specs.Expansion.{relation_in}
 use Rattle.ccsl_rules.proofs.Guarded.{left-empty, right-empty, no-fault, allowed}
 use Rattle.ccsl_rules.proofs.Ordered.{groups_in, space-ordered, all-append}

@@ -1,32 +1,32 @@
 -- A file behind a library, where neither has a fault: its definitions in one space, its words, its unfoldings, and the places of its names.
-use Rattle.std.proofs.Common.{◌≡◌, ℕ, zero, suc, ◌+◌, ◌<◌, ◌≤◌, List, [], ◌∷◌, ◌++◌, append_assoc, Option, Some, None, Bool, true, false, ◌&&◌, length, length-append, map, flat_map, max, take, slice_get, filter_map, refl, sym, ap, ap₂, ◌∙◌, subst, arith}
+use Rattle.std.proofs.Common.{◌≡◌, ℕ, zero, suc, ◌+◌, ◌≤◌, List, [], ◌∷◌, ◌++◌, append_assoc, Option, Some, None, true, length, length-append, map, flat_map, take, slice_get, filter_map, refl, sym, ap, ap₂, ◌∙◌, subst, arith}
 use Rattle.std.specs.List.{AllByRecursion, list_all}
 use Rattle.std.proofs.lemmas.Bool.{and_parts}
+use Rattle.std.proofs.lemmas.List.{append-nil}
 use Rattle.ccsl_base.specs.Name.{is_name}
-use Rattle.ccsl_ast.specs.declared.definition.Kind.{Kind}
-use Rattle.ccsl_ast.specs.Trees.{Line, LDefine, LConstraint, LCall, SLine, SClocks, SLineOf, PlainDefinition, DRelation, DGroup, PlainFile}
+use Rattle.ccsl_ast.specs.Trees.{LDefine, LConstraint, LCall, SLine, SClocks, SLineOf, PlainDefinition, PlainFile}
 use Rattle.ccsl_ast.specs.Kept.{arg_kept, is_two, sline_kept, definition_kept}
 use Rattle.ccsl_ast.specs.Depth.{greatest, sline_depth, definition_depth}
 use Rattle.ccsl_kernel.specs.Syntax.{Body, System, body_of}
 use Rattle.ccsl_kernel.specs.Actuals.{word_or_empty}
 use Rattle.ccsl_words.specs.Spelling.{read_word}
 use Rattle.ccsl_words.specs.Word.{BinaryWord}
-use Rattle.ccsl_rules.specs.Faults.{Fault, least}
-use Rattle.ccsl_rules.specs.Spaces.{Known, Callee, relation, member, look, calls_space, repeated, spots, lines_space}
+use Rattle.ccsl_rules.specs.Faults.{Fault}
+use Rattle.ccsl_rules.specs.Spaces.{Known, Callee, member, look, calls_space, repeated, spots, lines_space}
 use Rattle.ccsl_rules.specs.Uses.{Scene}
-use Rattle.ccsl_rules.specs.Blocks.{Heights, heads, entries_faults, params_faults, body_faults, blocks_faults, faults, first_fault}
+use Rattle.ccsl_rules.specs.Blocks.{heads, entries_faults, params_faults, body_faults, blocks_faults, faults, first_fault}
 use Rattle.ccsl_rules.specs.Texts.{entry_texts, block_texts, sheet_texts}
 use Rattle.ccsl_rules.specs.Settings.{Setting, argument_atoms}
 use Rattle.ccsl_rules.specs.Resolved.{Tables}
-use Rattle.ccsl_rules.specs.Unfolded.{Item, Defines, Binds, Unfolding, Unfoldings, unfold_line, unfold_entry, unfold_body, unfold_block, unfoldings, call_path, own_clocks}
-use Rattle.ccsl_rules.specs.Expansion.{kind_in, groups_of, declared_names, item_name, written_item, hidden_item, words_of, items_of, names_of, expand}
+use Rattle.ccsl_rules.specs.Unfolded.{Item, Unfoldings, unfold_line, unfold_entry, unfold_body, unfold_block, unfoldings, call_path, own_clocks}
+use Rattle.ccsl_rules.specs.Expansion.{kind_in, groups_of, declared_names, item_name, written_item, words_of, items_of, names_of, expand}
 use Rattle.ccsl_rules.proofs.Least.{none-empty}
 use Rattle.ccsl_rules.proofs.Guarded.{left-empty, right-empty}
 use Rattle.ccsl_rules.proofs.Known.{AreAt, at-left, at-right}
 use Rattle.ccsl_rules.proofs.Rising.{nowhere, Ready}
-use Rattle.ccsl_rules.proofs.Ready.{IsRelation, AreThere, none-ready, blocks-ready}
+use Rattle.ccsl_rules.proofs.Ready.{AreThere, none-ready, blocks-ready}
 use Rattle.ccsl_rules.proofs.There.{space-there}
-use Rattle.ccsl_rules.proofs.Bodies.{MatchGroups, groups-match, match-append, bodies-there}
+use Rattle.ccsl_rules.proofs.Bodies.{groups-match, match-append, bodies-there}
 use Rattle.ccsl_accepts.specs.Acceptance.{IsFile, IsLibrary, empty}
 use Rattle.ccsl_accepts.proofs.Joined.{heights_of, blocks-joined}
 use Rattle.ccsl_accepts.proofs.HiddenNames.{first-path}
@@ -99,12 +99,14 @@ counts-of groups K Xat i (e ∷ es) f =
     let one = f 1 in
     let p = defs-suc e es 0 in
     let z = defs-zero es in
-    let here : Xat (i + 1) ≡ Xat i + length (defined_names e) = omega arith in
-    (here, counts-of groups K Xat (i + 1) es (λ n.
-    let q = f (suc n) in
-    let r = defs-suc e es n in
-    let s : Xat (i + 1 + n) ≡ Xat (i + suc n) = ap Xat (let t : i + 1 + n ≡ i + suc n = omega arith in t) in
-    omega arith))
+    let here : Xat (i + 1) ≡ Xat i + length (defined_names e) = omega arith in (
+      here,
+      counts-of groups K Xat (i + 1) es (λ n.
+          let q = f (suc n) in
+          let r = defs-suc e es n in
+          let s : Xat (i + 1 + n) ≡ Xat (i + suc n) = ap Xat (let t : i + 1 + n ≡ i + suc n = omega arith in t) in
+          omega arith),
+    )
 
 module _ (library file : PlainFile) (lib : IsLibrary library) (is : IsFile file) (none : first_fault library file ≡ None) where
   abbrev pub blocks : List PlainDefinition
@@ -280,13 +282,9 @@ module _ (library file : PlainFile) (lib : IsLibrary library) (is : IsFile file)
   hidden-stand = record {
     front = declared ++ written_names items;
     back = [];
-    whole = ap (λ l. (declared ++ written_names items) ++ l) (sym (append-none (hidden_names items)));
+    whole = ap (λ l. (declared ++ written_names items) ++ l) (sym (append-nil (hidden_names items)));
     long = length-append declared (written_names items) ∙ ap (λ ns. length declared + length ns) all-written;
   }
-    where
-      append-none : {X : Type 0} (xs : List X) → xs ++ [] ≡ xs
-      append-none [] = refl
-      append-none (x ∷ xs) = ap (λ l. x ∷ l) (append-none xs)
 
   -- the number of the clock that the next definition defines, from a line on
   abbrev Xat : ℕ → ℕ
