@@ -3,7 +3,7 @@ use Rattle.std.proofs.Common.{◌≡◌, ℕ, zero, suc, ◌+◌, ◌-◌, ◌<�
 use Rattle.std.proofs.lemmas.Bool.{or_cases, or_right, and_left, cases_lt}
 use Rattle.ccsl_base.specs.Clocks.{ticks_in}
 use Rattle.ccsl_formula.specs.Formula.{FFalse, FVar, FNot, FAnd, eval}
-use Rattle.ccsl_words.specs.Word.{BinaryWord, letter, rest, is_finite, has_ended}
+use Rattle.ccsl_words.specs.Word.{letter, rest, is_finite, has_ended}
 use Rattle.ccsl_kernel.specs.declared.actual.Actual.TheVariants as actual
 use Rattle.ccsl_kernel.specs.declared.expr.Value.TheVariants as value
 use Rattle.ccsl_kernel.specs.declared.expr.WordPlace.TheVariants as word

@@ -4,3 +4,5 @@ pub mod Filters
 pub mod Periodic
 pub mod Skip
 pub mod MembersTick
+pub mod Cut
+pub mod Text

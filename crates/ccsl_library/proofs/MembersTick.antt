@@ -1,34 +1,26 @@
 -- The laws of the library's members, of calls with any arguments in any system that is elaborated with the library.
-use Rattle.std.proofs.Common.{◌≡◌, ℕ, suc, ◌+◌, ◌-◌, ◌<◌, ◌≤◌, List, [], ◌∷◌, map, length, Bool, true, false, ◌&&◌, None, nat_le, refl, sym, ap, ap₂, ◌∙◌, subst, arith, if◌then◌else◌}
+use Rattle.std.proofs.Common.{◌≡◌, ℕ, suc, ◌+◌, ◌-◌, ◌<◌, List, [], ◌∷◌, map, length, ◌&&◌, nat_le, refl, sym, ap, ap₂, ◌∙◌, arith}
 use Rattle.ccsl_formula.specs.Formula.{FFalse, FVar, eval}
-use Rattle.ccsl_words.specs.Word.{letter, is_finite}
+use Rattle.ccsl_words.specs.Word.{letter}
 use Rattle.ccsl_ast.specs.Trees.{PlainFile}
-use Rattle.ccsl_kernel.specs.declared.actual.Actual.{Actual}
 use Rattle.ccsl_kernel.specs.declared.actual.Actual.TheVariants as actual
-use Rattle.ccsl_kernel.specs.declared.expr.Place.{Place}
-use Rattle.ccsl_kernel.specs.declared.expr.NumTerm.{NumTerm}
-use Rattle.ccsl_kernel.specs.declared.expr.WordPlace.{WordPlace}
 use Rattle.ccsl_kernel.specs.declared.expr.Value.TheVariants as value
-use Rattle.ccsl_kernel.specs.Syntax.{Expression, EName, EDelay, EFilter, System, root_of}
-use Rattle.ccsl_kernel.specs.Actuals.{place_of, number_of, suffix_of, word_of}
-use Rattle.ccsl_kernel.specs.Accepted.{IsAccepted}
+use Rattle.ccsl_kernel.specs.Syntax.{System, root_of}
+use Rattle.ccsl_kernel.specs.Actuals.{number_of, suffix_of, word_of}
 use Rattle.ccsl_kernel.specs.Ticks.{count}
 use Rattle.ccsl_kernel.specs.Table.{Now, filter_row, delay_row}
-use Rattle.ccsl_kernel.specs.Lives.{Step, Life, steps, step_at, ticks_at, over_one}
+use Rattle.ccsl_kernel.specs.Lives.{Step, steps, step_at, ticks_at, over_one}
 use Rattle.ccsl_kernel.specs.Meaning.{named, life_given, dead_below}
-use Rattle.ccsl_kernel.specs.Runs.{ObeysDefinitions}
 use Rattle.ccsl_kernel.proofs.GuardedCalls.{AreGuarded}
 use Rattle.ccsl_kernel.proofs.AcceptedParts.{accepted_guarded}
 use Rattle.ccsl_kernel.proofs.Quiet.{eval_cond}
 use Rattle.ccsl_kernel.proofs.TableHolds.{meaning_calls}
 use Rattle.ccsl_kernel.proofs.Silent.{AreGoneQuiet, clocks_quiet}
-use Rattle.ccsl_rules.specs.Elaborated.{refusal}
 use Rattle.ccsl_rules.specs.Expansion.{expand}
-use Rattle.ccsl_accepts.specs.Acceptance.{IsFile}
 use Rattle.ccsl_accepts.proofs.Accepts.{files-expand}
 use Rattle.ccsl_library.specs.Library.{the_library}
-use Rattle.ccsl_library.specs.Members.{periodic, skip, filter_by, periodic_root, skip_root, filter_by_root}
-use Rattle.ccsl_library.specs.Laws.{is_multiple, ticks, tick_count, FiltersTick, SkipsTick, PeriodsTick, MembersTick, LibraryTicks}
+use Rattle.ccsl_library.specs.Members.{periodic_root, skip_root, filter_by_root}
+use Rattle.ccsl_library.specs.Laws.{is_multiple, FiltersTick, SkipsTick, PeriodsTick, LibraryTicks}
 use Rattle.ccsl_library.proofs.Accepted.{is-library}
 use Rattle.ccsl_library.proofs.Filters.{filter_by-filter}
 use Rattle.ccsl_library.proofs.Periodic.{periodic-turns}

@@ -1,5 +1,6 @@
 -- What the library's members mean, in every system that is elaborated with the library.
-use Rattle.std.specs.Prelude.{◌≡◌, ℕ, suc, ◌<◌, ◌≤◌, ◌%◌, List, [], map, Bool, false, ◌&&◌, None, length, take, nat_eq, nat_lt}
+use Rattle.std.specs.Prelude.{◌≡◌, ℕ, suc, ◌<◌, ◌≤◌, ◌%◌, List, map, Bool, false, ◌&&◌, None, length, take, nat_eq, nat_lt}
+use Rattle.ccsl_base.specs.declared.limits.TheConstants.{MAX_LEVELS}
 use Rattle.ccsl_words.specs.Word.{is_finite}
 use Rattle.ccsl_ast.specs.Trees.{PlainFile}
 use Rattle.ccsl_kernel.specs.declared.actual.Actual.TheVariants as actual
@@ -13,11 +14,20 @@ use Rattle.ccsl_kernel.specs.Ticks.{count}
 use Rattle.ccsl_kernel.specs.Lives.{Step, steps, ticks_at}
 use Rattle.ccsl_kernel.specs.Meaning.{meaning}
 use Rattle.ccsl_kernel.specs.Runs.{ObeysDefinitions}
+use Rattle.ccsl_lex.specs.Tokens.{PlainToken, AreTokens}
+use Rattle.ccsl_grammar.specs.Terminals.{seen_as}
+use Rattle.ccsl_grammar.specs.File.{Parses}
 use Rattle.ccsl_rules.specs.Elaborated.{refusal}
 use Rattle.ccsl_rules.specs.Expansion.{expand}
 use Rattle.ccsl_accepts.specs.Acceptance.{IsFile}
 use Rattle.ccsl_library.specs.Library.{the_library}
 use Rattle.ccsl_library.specs.Members.{periodic, skip, filter_by, library_groups}
+
+-- the text has tokens, and these have the tree, in which no expression stands too deep
+pub record HasTree (text : List ℕ) (f : PlainFile) : Type 0 where
+  pub tokens : List PlainToken
+  pub are : AreTokens text tokens
+  pub parses : Parses MAX_LEVELS (map (λ t. seen_as t.at t.kind) tokens) f
 
 -- whether k is a multiple of n, and no number is one of 0
 abbrev pub is_multiple : ℕ → ℕ → Bool

@@ -1,5 +1,5 @@
 -- The library's members in a system that is elaborated with it: each is a group of its own, the first three of the system.
-use Rattle.std.specs.Prelude.{ℕ, List, [], ◌∷◌}
+use Rattle.std.specs.Prelude.{List, [], ◌∷◌}
 use Rattle.ccsl_kernel.specs.declared.expr.Place.{Place}
 use Rattle.ccsl_kernel.specs.declared.expr.Place.TheVariants as place
 use Rattle.ccsl_kernel.specs.declared.expr.NumPrim.{NumPrim}

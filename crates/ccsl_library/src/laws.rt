@@ -2,7 +2,14 @@
 
 ghost use Rattle.ccsl_accepts.specs.Acceptance.{IsLibrary};
 ghost use Rattle.ccsl_library.specs.Library.{the_library};
-ghost use Rattle.ccsl_library.specs.Laws.{GroupsComeFirst, LibraryTicks};
+ghost use Rattle.ccsl_library.specs.Laws.{HasTree, GroupsComeFirst, LibraryTicks};
+
+use crate::source::TEXT;
+
+/// The library's tree is that of its text.
+pub fn text_has_tree()
+    ensures { HasTree TEXT.now the_library }
+{}
 
 /// The library is accepted by itself.
 pub fn library_is_accepted()
