@@ -1,5 +1,5 @@
 -- What the library's members mean, in every system that is elaborated with the library.
-use Rattle.std.specs.Prelude.{◌≡◌, ℕ, suc, ◌<◌, ◌≤◌, ◌%◌, List, map, Bool, false, ◌&&◌, None, length, take, nat_eq, nat_lt}
+use Rattle.std.specs.Prelude.{◌≡◌, ℕ, suc, ◌<◌, ◌≤◌, ◌%◌, List, map, Bool, false, ◌&&◌, ◌++◌, Option, Some, None, codes, length, take, nat_eq, nat_lt}
 use Rattle.ccsl_base.specs.declared.limits.TheConstants.{MAX_LEVELS}
 use Rattle.ccsl_words.specs.Word.{is_finite}
 use Rattle.ccsl_ast.specs.Trees.{PlainFile}
@@ -19,6 +19,7 @@ use Rattle.ccsl_grammar.specs.Terminals.{seen_as}
 use Rattle.ccsl_grammar.specs.File.{Parses}
 use Rattle.ccsl_rules.specs.Elaborated.{refusal}
 use Rattle.ccsl_rules.specs.Expansion.{expand}
+use Rattle.ccsl_rules.specs.Spaces.{Role, relation, member, look, calls_space}
 use Rattle.ccsl_accepts.specs.Acceptance.{IsFile}
 use Rattle.ccsl_library.specs.Library.{the_library}
 use Rattle.ccsl_library.specs.Members.{periodic, skip, filter_by, library_groups}
@@ -63,9 +64,17 @@ module _ (K : System) (T : List Step) where
     pub skips : SkipsTick
     pub periods : PeriodsTick
 
--- THE LIBRARY'S GROUPS ARE THE FIRST ones of every expansion behind it
-abbrev pub GroupsComeFirst : Type 0
-GroupsComeFirst = (file : PlainFile) → take 3 (expand the_library file).groups ≡ library_groups
+-- what a name that is called stands for, in a file behind the library
+abbrev pub role_of : PlainFile → List ℕ → Option Role
+role_of file name = elim (look name (calls_space 0 0 (the_library.definitions ++ file.definitions))) [ None ↦ None | Some k ↦ Some k.what.role ]
+
+-- THE LIBRARY COMES FIRST, whatever the file: its groups are the first ones of the expansion, and its names stand for it
+pub record ComesFirst (file : PlainFile) : Type 0 where
+  pub groups : take 3 (expand the_library file).groups ≡ library_groups
+  pub alternates : role_of file (codes "alternates") ≡ Some relation
+  pub periodic : role_of file (codes "periodic") ≡ Some (member 0 0)
+  pub skip : role_of file (codes "skip") ≡ Some (member 1 0)
+  pub filter_by : role_of file (codes "filter_by") ≡ Some (member 2 0)
 
 -- THE MEMBERS' LAWS: in a list of steps that obeys the definitions
 abbrev pub LibraryTicks : Type 0

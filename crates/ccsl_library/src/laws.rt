@@ -1,8 +1,9 @@
 //! What is true of the library. These functions do nothing: each has a law as its contract.
 
+ghost use Rattle.ccsl_ast.specs.Trees.{PlainFile};
 ghost use Rattle.ccsl_accepts.specs.Acceptance.{IsLibrary};
 ghost use Rattle.ccsl_library.specs.Library.{the_library};
-ghost use Rattle.ccsl_library.specs.Laws.{HasTree, GroupsComeFirst, LibraryTicks};
+ghost use Rattle.ccsl_library.specs.Laws.{HasTree, ComesFirst, LibraryTicks};
 
 use crate::source::TEXT;
 
@@ -16,9 +17,10 @@ pub fn library_is_accepted()
     ensures { IsLibrary the_library }
 {}
 
-/// Whatever the file, its expansion behind the library begins with the library's groups.
-pub fn groups_come_first()
-    ensures { GroupsComeFirst }
+/// Whatever the file, its expansion behind the library begins with the library's groups, and the library's names stand for
+/// them, and for its relation.
+pub fn library_comes_first()
+    ensures { (file : PlainFile) → ComesFirst file }
 {}
 
 /// In every accepted file, `filter_by(c, w)` ticks as `c filter w` does for every word with a period, `skip(c, n)` as
