@@ -56,6 +56,18 @@ map-append : (f : Spot → ℕ) (xs ys : List Spot) → map f (xs ++ ys) ≡ map
 map-append f [] ys = refl
 map-append f (x ∷ xs) ys = ap (λ l. f x ∷ l) (map-append f xs ys)
 
+-- the greatest level among what names call
+abbrev top : List (Known Callee) → List ℕ → List Spot → ℕ
+top calls seen names = greatest (map (λ s. level_in calls seen s.name) names)
+
+top-append : (calls : List (Known Callee)) (seen : List ℕ) (xs ys : List Spot) → top calls seen (xs ++ ys) ≡ max (top calls seen xs) (top calls seen ys)
+top-append calls seen xs ys =
+    ap greatest (map-append (λ s. level_in calls seen s.name) xs ys) ∙ greatest-append (map (λ s. level_in calls seen s.name) xs) (map (λ s. level_in calls seen s.name) ys)
+
+-- the names that members call
+abbrev all_called : List PlainMember → List Spot
+all_called ms = flat_map (λ m. called m.body) ms
+
 groups-mono : (bs : List PlainDefinition) (n m : ℕ) → n ≤ m → groups_in n bs ≤ groups_in m bs
 groups-mono bs zero m h = omega arith
 groups-mono bs (suc n) zero h = absurd (omega arith)
@@ -72,10 +84,6 @@ module _ (K : Tables) (blocks : List PlainDefinition) (same : K.calls ≡ calls_
   abbrev InStep : List ℕ → List ℕ → Type 0
   InStep seen tall = (name : List ℕ) (c : Known Callee) (g m : ℕ) → look name K.calls ≡ Some c → c.what.role ≡ member g m → slice_index tall g ≤ slice_index seen c.what.block
 
-  -- the greatest level among what an expression calls
-  abbrev reach : List ℕ → Expression → ℕ
-  reach seen e = greatest (map (λ s. level_in K.calls seen s.name) (called e))
-
   module _ (seen tall : List ℕ) (step : InStep seen tall) where
     role-height : (s : Spot) (args : List Value) (c : Known Callee) (r : Role) → look s.name K.calls ≡ Some c → c.what.role ≡ r → height tall (role_call r args) ≤ slice_index seen c.what.block
     role-height s args c relation l r = omega arith
@@ -89,30 +97,24 @@ module _ (K : Tables) (blocks : List PlainDefinition) (same : K.calls ≡ calls_
         let h = role-height s args c c.what.role l refl in
         omega arith
 
-    reach-two : (a d : Expression) → greatest (map (λ s. level_in K.calls seen s.name) (called a ++ called d)) ≡ max (reach seen a) (reach seen d)
-    reach-two a d =
-        ap greatest (map-append (λ s. level_in K.calls seen s.name) (called a) (called d)) ∙ greatest-append (map (λ s. level_in K.calls seen s.name) (called a)) (map (λ s. level_in K.calls seen s.name) (called d))
-
-    expr-height : (σ : Setting) (k : ℕ) (e : Expression) → height tall (resolve K σ k e) ≤ reach seen e
+    expr-height : (σ : Setting) (k : ℕ) (e : Expression) → height tall (resolve K σ k e) ≤ top K.calls seen (called e)
     expr-height σ k (EName s) = omega arith
     expr-height σ k (ECall s args) = let h = call-height s (resolve_arguments K σ k args) (look s.name K.calls) refl in omega arith
     expr-height σ k ENever = omega arith
-    expr-height σ k (EBinary b a d) = let p = expr-height σ k a in let q = expr-height σ (k + length (texts a)) d in let r = reach-two a d in omega arith
+    expr-height σ k (EBinary b a d) = let p = expr-height σ k a in let q = expr-height σ (k + length (texts a)) d in let r = top-append K.calls seen (called a) (called d) in omega arith
     expr-height σ k (EDelay a m) = expr-height σ k a
     expr-height σ k (EAwait a m) = expr-height σ k a
     expr-height σ k (EFilter a w) = expr-height σ k a
-    expr-height σ k (EDelayed a at m d) = let p = expr-height σ k a in let q = expr-height σ (k + length (texts a)) d in let r = reach-two a d in omega arith
-    expr-height σ k (EIf t a d) = let p = expr-height σ k a in let q = expr-height σ (k + length (texts a)) d in let r = reach-two a d in omega arith
+    expr-height σ k (EDelayed a at m d) = let p = expr-height σ k a in let q = expr-height σ (k + length (texts a)) d in let r = top-append K.calls seen (called a) (called d) in omega arith
+    expr-height σ k (EIf t a d) = let p = expr-height σ k a in let q = expr-height σ (k + length (texts a)) d in let r = top-append K.calls seen (called a) (called d) in omega arith
 
     -- the members of a group
-    members-height : (k : ℕ) (ms : List PlainMember) → cells.greatest (map (λ b. height tall b.root) (part_bodies K k ms)) ≤ greatest (map (λ s. level_in K.calls seen s.name) (flat_map (λ m. called m.body) ms))
+    members-height : (k : ℕ) (ms : List PlainMember) → cells.greatest (map (λ b. height tall b.root) (part_bodies K k ms)) ≤ top K.calls seen (all_called ms)
     members-height k [] = omega arith
     members-height k (m ∷ ms) =
         let p = expr-height (own_params 0 m.params) k m.body in
         let q = members-height (k + length (texts m.body)) ms in
-        let r = map-append (λ s. level_in K.calls seen s.name) (called m.body) (flat_map (λ m. called m.body) ms) in
-        let s = greatest-append (map (λ s. level_in K.calls seen s.name) (called m.body)) (map (λ s. level_in K.calls seen s.name) (flat_map (λ m. called m.body) ms)) in
-        let t : greatest (map (λ s. level_in K.calls seen s.name) (called m.body ++ flat_map (λ m. called m.body) ms)) ≡ _ = ap greatest r ∙ s in
+        let r = top-append K.calls seen (called m.body) (all_called ms) in
         omega arith
 
   -- ## No call is too tall
@@ -127,14 +129,10 @@ module _ (K : Tables) (blocks : List PlainDefinition) (same : K.calls ≡ calls_
     call-low p s args (Some c) l e = not-tall (level_in S.calls S.levels s.name) (no-fault _ TooTall s.at (right-empty _ _ (left-empty _ _ (left-empty _ _ e))))
 
     abbrev low : Expression → Type 0
-    low e = greatest (map (λ s. level_in S.calls S.levels s.name) (called e)) ≤ 7
+    low e = top S.calls S.levels (called e) ≤ 7
 
-    low-two : (a d : Expression) → low a → low d → greatest (map (λ s. level_in S.calls S.levels s.name) (called a ++ called d)) ≤ 7
-    low-two a d p q =
-        let r = map-append (λ s. level_in S.calls S.levels s.name) (called a) (called d) in
-        let s = greatest-append (map (λ s. level_in S.calls S.levels s.name) (called a)) (map (λ s. level_in S.calls S.levels s.name) (called d)) in
-        let t : greatest (map (λ s. level_in S.calls S.levels s.name) (called a ++ called d)) ≡ _ = ap greatest r ∙ s in
-        omega arith
+    low-two : (a d : Expression) → low a → low d → top S.calls S.levels (called a ++ called d) ≤ 7
+    low-two a d p q = let r = top-append S.calls S.levels (called a) (called d) in omega arith
 
     expr-low : (p : Position) (e : Expression) → expr_faults S p e ≡ [] → low e
     expr-low p (EName s) f = omega arith
@@ -150,7 +148,7 @@ module _ (K : Tables) (blocks : List PlainDefinition) (same : K.calls ≡ calls_
         low-two a d (expr-low p a (right-empty (test_faults S q) _ (left-empty (test_faults S q ++ expr_faults S p a) (expr_faults S p d) f)))
         (expr-low p d (right-empty (test_faults S q ++ expr_faults S p a) _ f))
 
-  members-low : (home : ℕ) (seen : List ℕ) (ms : List PlainMember) → flat_map (part_faults K.calls home seen) ms ≡ [] → greatest (map (λ s. level_in K.calls seen s.name) (flat_map (λ m. called m.body) ms)) ≤ 7
+  members-low : (home : ℕ) (seen : List ℕ) (ms : List PlainMember) → flat_map (part_faults K.calls home seen) ms ≡ [] → top K.calls seen (all_called ms) ≤ 7
   members-low home seen [] f = omega arith
   members-low home seen (m ∷ ms) f =
       let locals : List (Known _) = params_space m.params in
@@ -158,9 +156,7 @@ module _ (K : Tables) (blocks : List PlainDefinition) (same : K.calls ≡ calls_
       let here = left-empty (part_faults K.calls home seen m) (flat_map (part_faults K.calls home seen) ms) f in
       let p = expr-low S refl Tail m.body (right-empty (params_faults m.params ++ repeated [] (spots locals)) _ here) in
       let q = members-low home seen ms (right-empty (part_faults K.calls home seen m) (flat_map (part_faults K.calls home seen) ms) f) in
-      let r = map-append (λ s. level_in K.calls seen s.name) (called m.body) (flat_map (λ m. called m.body) ms) in
-      let s = greatest-append (map (λ s. level_in K.calls seen s.name) (called m.body)) (map (λ s. level_in K.calls seen s.name) (flat_map (λ m. called m.body) ms)) in
-      let t : greatest (map (λ s. level_in K.calls seen s.name) (called m.body ++ flat_map (λ m. called m.body) ms)) ≡ _ = ap greatest r ∙ s in
+      let r = top-append K.calls seen (called m.body) (all_called ms) in
       omega arith
 
   -- ## All groups
@@ -200,25 +196,25 @@ module _ (K : Tables) (blocks : List PlainDefinition) (same : K.calls ≡ calls_
       let at : slice_index (levels groups K.calls [] (done ++ b ∷ [])) c.what.block ≡ _ = ap (λ xs. slice_index xs c.what.block) new in
       omega arith
 
-  group-step : (done : List PlainDefinition) (members : List PlainMember) (tall : List ℕ) (top : ℕ) → groups_in (length done + 1) blocks ≡ groups_in (length done) blocks + 1 → State done tall →
-      top ≤ suc (greatest (map (λ s. level_in K.calls (levels groups K.calls [] done) s.name) (flat_map (λ m. called m.body) members))) →
-      InStep (levels groups K.calls [] (done ++ DGroup members ∷ [])) (tall ++ top ∷ [])
-  group-step done members tall top up state below name c g m l r =
+  group-step : (done : List PlainDefinition) (members : List PlainMember) (tall : List ℕ) (next : ℕ) → groups_in (length done + 1) blocks ≡ groups_in (length done) blocks + 1 → State done tall →
+      next ≤ suc (top K.calls (levels groups K.calls [] done) (all_called members)) →
+      InStep (levels groups K.calls [] (done ++ DGroup members ∷ [])) (tall ++ next ∷ [])
+  group-step done members tall next up state below name c g m l r =
       let seen = levels groups K.calls [] done in
       let long = levels-length groups K.calls [] done in
-      let most : ℕ = suc (greatest (map (λ s. level_in K.calls seen s.name) (flat_map (λ m. called m.body) members))) in
+      let most : ℕ = suc (top K.calls seen (all_called members)) in
       let new : levels groups K.calls [] (done ++ DGroup members ∷ []) ≡ seen ++ most ∷ [] = levels-append groups K.calls [] done (DGroup members ∷ []) in
       let at : slice_index (levels groups K.calls [] (done ++ DGroup members ∷ [])) c.what.block ≡ slice_index (seen ++ most ∷ []) c.what.block = ap (λ xs. slice_index xs c.what.block) new in
       let grows = index-grows seen (most ∷ []) c.what.block in
       let old = state.step name c g m l r in
       let many = state.many in
-      ⊎_elim (λ (s : g < length tall). let front = index-front tall (top ∷ []) g s in omega arith)
+      ⊎_elim (λ (s : g < length tall). let front = index-front tall (next ∷ []) g s in omega arith)
       (λ (s : length tall ≤ g). ⊎_elim
-      (λ (t : length tall < g). let a = length-append tall (top ∷ []) in let past = index-past (tall ++ top ∷ []) g (omega arith) in omega arith)
+      (λ (t : length tall < g). let a = length-append tall (next ∷ []) in let past = index-past (tall ++ next ∷ []) g (omega arith) in omega arith)
       (λ (t : g ≤ length tall).
       let e : g ≡ length tall = omega arith in
       let home : c.what.block ≡ length seen = home-of (length done) up name c g m l r (omega arith) ∙ (let z : length done ≡ length seen = omega arith in z) in
-      let one : slice_index (tall ++ top ∷ []) g ≡ top = ap (slice_index (tall ++ top ∷ [])) e ∙ index-last tall top in
+      let one : slice_index (tall ++ next ∷ []) g ≡ next = ap (slice_index (tall ++ next ∷ [])) e ∙ index-last tall next in
       let two : slice_index (seen ++ most ∷ []) c.what.block ≡ most = ap (slice_index (seen ++ most ∷ [])) home ∙ index-last seen most in
       omega arith)
       (cases_lt (length tall) g))
@@ -238,19 +234,18 @@ module _ (K : Tables) (blocks : List PlainDefinition) (same : K.calls ≡ calls_
       flat_map (part_faults K.calls (length done) seen) members ≡ [] → State (done ++ DGroup members ∷ []) (tall ++ suc (cells.greatest (map (λ b. height tall b.root) (part_bodies K k members))) ∷ [])
   group-state k done rest members tall seen whole e state f =
       let up : groups_in (length done + 1) blocks ≡ groups_in (length done) blocks + 1 = groups-next blocks done (DGroup members) rest (length done) refl whole in
-      let top : ℕ = suc (cells.greatest (map (λ b. height tall b.root) (part_bodies K k members))) in
-      let names = flat_map (λ m. called m.body) members in
+      let level : ℕ = suc (cells.greatest (map (λ b. height tall b.root) (part_bodies K k members))) in
       let below = members-height (levels groups K.calls [] done) tall state.step k members in
-      let few : greatest (map (λ s. level_in K.calls (levels groups K.calls [] done) s.name) names) ≤ 7 =
-      subst (λ l. greatest (map (λ s. level_in K.calls l s.name) names) ≤ 7) e (members-low (length done) seen members f) in
+      let few : top K.calls (levels groups K.calls [] done) (all_called members) ≤ 7 =
+      subst (λ l. top K.calls l (all_called members) ≤ 7) e (members-low (length done) seen members f) in
       let a = length-append done (DGroup members ∷ []) in
-      let b = length-append tall (top ∷ []) in
+      let b = length-append tall (level ∷ []) in
       let many = state.many in
       let next : groups_in (length (done ++ DGroup members ∷ [])) blocks ≡ groups_in (length done + 1) blocks = ap (λ n. groups_in n blocks) (let z : length (done ++ DGroup members ∷ []) ≡ length done + 1 = omega arith in z) in
       record {
         many = omega arith;
-        low = all-append (λ n. n ≤ 8) tall (top ∷ []) state.low (omega arith, tt);
-        step = group-step done members tall top up state (omega arith);
+        low = all-append (λ n. n ≤ 8) tall (level ∷ []) state.low (omega arith, tt);
+        step = group-step done members tall level up state (omega arith);
       }
 
   relation-state : (done rest : List PlainDefinition) (b : PlainDefinition) (tall : List ℕ) → blocks ≡ done ++ (b ∷ rest) → groups_in 1 (b ∷ []) ≡ 0 → State done tall → State (done ++ b ∷ []) tall
@@ -275,9 +270,9 @@ module _ (K : Tables) (blocks : List PlainDefinition) (same : K.calls ≡ calls_
       let b : PlainDefinition = DGroup members in
       let a = length-append done (b ∷ []) in
       let n : length done + 1 ≡ length (done ++ b ∷ []) = omega arith in
-      let top : ℕ = suc (cells.greatest (map (λ b. height tall b.root) (part_bodies K k members))) in
+      let level : ℕ = suc (cells.greatest (map (λ b. height tall b.root) (part_bodies K k members))) in
       let here = group-state k done (bs ++ rest) members tall (take (length done) heights.groups) whole (seen-so-far heights.groups e done (b ∷ (bs ++ rest)) whole) state
       (left-empty _ (blocks_faults K.calls heights (length done + 1) bs) f) in
-      subst (λ ds. State ds (group_levels (tall ++ top ∷ []) (groups_of K (k + length (block_texts b)) bs))) (sym (one-on done b bs))
-      (advance heights e (k + length (block_texts b)) (done ++ b ∷ []) bs rest (tall ++ top ∷ []) (whole ∙ one-on done b (bs ++ rest)) here
+      subst (λ ds. State ds (group_levels (tall ++ level ∷ []) (groups_of K (k + length (block_texts b)) bs))) (sym (one-on done b bs))
+      (advance heights e (k + length (block_texts b)) (done ++ b ∷ []) bs rest (tall ++ level ∷ []) (whole ∙ one-on done b (bs ++ rest)) here
       (subst (λ m. blocks_faults K.calls heights m bs ≡ []) n (right-empty (block_faults K.calls heights (length done) b) _ f)))

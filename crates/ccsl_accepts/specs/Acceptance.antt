@@ -26,7 +26,8 @@ pub record IsLibrary (library : PlainFile) : Type 0 where
 
 -- WHAT IS NOT REFUSED EXPANDS TO AN ACCEPTED SYSTEM
 abbrev pub FilesExpand : Type 0
-FilesExpand = (library file : PlainFile) → IsLibrary library → IsFile file → refusal library file ≡ None → IsAccepted (expand library file)
+FilesExpand = (library file : PlainFile) → IsLibrary library → IsFile file → refusal library file ≡ None →
+    IsAccepted (expand library file)
 
 -- no fault, and no more clocks and constraints than a system may have
 pub record IsFaultless (library file : PlainFile) : Type 0 where
@@ -42,4 +43,5 @@ NamesAreDistinct = (library file : PlainFile) → IsLibrary library → IsFile f
 -- each one is new behind those before it
 abbrev pub NamesAreNew : Type 0
 NamesAreNew = (library file : PlainFile) → IsLibrary library → IsFile file → IsFaultless library file →
-    (front back : List (List ℕ)) (name : List ℕ) → (expand library file).names ≡ front ++ (name ∷ back) → is_among name front ≡ false
+    (front back : List (List ℕ)) (name : List ℕ) → (expand library file).names ≡ front ++ (name ∷ back) →
+    is_among name front ≡ false

@@ -1,8 +1,9 @@
--- Counts of ticks over a stretch of steps.
-use Rattle.std.proofs.Common.{◌≡◌, ℕ, suc, ◌+◌, ◌≤◌, List, [], ◌∷◌, ◌++◌, map, Bool, true, false, refl, ap, ◌∙◌, arith, if◌then◌else◌}
+-- Counts of ticks over a stretch of steps, and clocks that are gone.
+use Rattle.std.proofs.Common.{◌≡◌, ℕ, suc, ◌+◌, ◌<◌, ◌≤◌, length, List, [], ◌∷◌, ◌++◌, map, Bool, true, false, refl, ap, ◌∙◌, arith, if◌then◌else◌}
 use Rattle.ccsl_kernel.specs.Ticks.{count, ever}
-use Rattle.ccsl_kernel.specs.Lives.{steps}
-use Rattle.ccsl_kernel.proofs.Steps.{map-steps-suc, steps-empty, steps-split}
+use Rattle.ccsl_kernel.specs.Lives.{Step, steps}
+use Rattle.ccsl_kernel.proofs.Silent.{AreGoneQuiet}
+use Rattle.ccsl_kernel.proofs.Steps.{map-steps-suc, steps-empty, steps-split, from_birth}
 use Rattle.ccsl_kernel.proofs.Quiet.{count-snoc}
 
 -- how often t holds from b to n - 1
@@ -42,3 +43,7 @@ pub count-ever : (ts : List Bool) → 1 ≤ count ts → ever ts ≡ true
 count-ever [] h = let z : ⊥ = omega arith in absurd z
 count-ever (true ∷ ts) h = refl
 count-ever (false ∷ ts) h = count-ever ts h
+
+-- a gone clock stays gone
+pub stays-gone : (T : List Step) (gone : ℕ → ℕ → Bool) → AreGoneQuiet T gone → (c k n : ℕ) → k ≤ n → n < length T → gone k c ≡ true → gone n c ≡ true
+stays-gone T gone quiet c k n l u h = from_birth (λ n. n < length T → gone n c ≡ true) k (λ u. h) (λ n l ih u. quiet.stays n c (omega arith) (ih (omega arith))) n l u

@@ -14,13 +14,13 @@ use Rattle.ccsl_kernel.specs.Table.{Now, never_row, upto_row, await_row}
 use Rattle.ccsl_kernel.specs.Lives.{Step, Life, steps, step_at, over_one, over_two, end_of, at_end, followed_by}
 use Rattle.ccsl_kernel.specs.Meaning.{named, life_given}
 use Rattle.ccsl_kernel.proofs.GuardedCalls.{AreGuarded}
-use Rattle.ccsl_kernel.proofs.Steps.{from_birth, find-none, find-some, find-within}
+use Rattle.ccsl_kernel.proofs.Steps.{find-none, find-some, find-within}
 use Rattle.ccsl_kernel.proofs.TableHolds.{meaning_calls}
 use Rattle.ccsl_kernel.proofs.Words.{letter-rest}
 use Rattle.ccsl_kernel.proofs.Silent.{AreGoneQuiet}
 use Rattle.ccsl_library.specs.Members.{filter_by, filter_by_root}
 use Rattle.ccsl_library.specs.Members as members
-use Rattle.ccsl_library.proofs.Counts.{count_from, count-first, count-next, count-ever, count-split, ever-count}
+use Rattle.ccsl_library.proofs.Counts.{count_from, count-first, count-next, count-ever, count-split, ever-count, stays-gone}
 
 module _ (K : System) (T : List Step) (gone : ℕ → ℕ → Bool) (ok : AreGuarded K) (gone_quiet : AreGoneQuiet T gone)
     (in_K : 2 < length K.groups) (is : root_of K 2 0 ≡ filter_by_root) (c w : ℕ) (infinite : is_finite (word_of K.words w) ≡ false) where
@@ -35,10 +35,6 @@ module _ (K : System) (T : List Step) (gone : ℕ → ℕ → Bool) (ok : AreGua
   -- filter_by under the word from o on
   abbrev L : ℕ → Life
   L o = life_given K T gone filter_by_root (actual.Clock c ∷ actual.Word w o ∷ [])
-
-  -- a gone clock stays gone
-  stays_gone : (k n : ℕ) → k ≤ n → n < length T → gone k c ≡ true → gone n c ≡ true
-  stays_gone k n l u h = from_birth (λ n. n < length T → gone n c ≡ true) k (λ u. h) (λ n l ih u. gone_quiet.stays n c (omega arith) (ih (omega arith))) n l u
 
   -- the first letter: a tick of c with it ends the first life, and only that or the death of c
   record IsFirst (X : Life) (b : ℕ) (h : Bool) : Type 0 where
@@ -100,7 +96,7 @@ module _ (K : System) (T : List Step) (gone : ℕ → ℕ → Bool) (ok : AreGua
           later (suc k) r.0 (omega (arith, r.1))
           ∙ ⊎_elim
           (λ (x : gone (suc k) c ≡ true).
-          let q = gone_quiet.quiet n c u (stays_gone (suc k) n (omega (arith, r.1)) u x) in
+          let q = gone_quiet.quiet n c u (stays-gone T gone gone_quiet c (suc k) n (omega (arith, r.1)) u x) in
           if_false _ (tc n) q ∙ sym (if_false _ (tc n) q))
           (λ (x : 1 ≤ count_from tc b (suc k)).
           let before = none_dead_yet X b k h first (omega (arith, r.0)) d.1 in

@@ -11,14 +11,14 @@ use Rattle.ccsl_kernel.specs.Table.{Now, await_row}
 use Rattle.ccsl_kernel.specs.Lives.{Step, Life, step_at, over_one, end_of, at_end}
 use Rattle.ccsl_kernel.specs.Meaning.{named, life_given}
 use Rattle.ccsl_kernel.proofs.GuardedCalls.{AreGuarded}
-use Rattle.ccsl_kernel.proofs.Steps.{from_birth, find-none, find-some, find-within}
+use Rattle.ccsl_kernel.proofs.Steps.{find-none, find-some, find-within}
 use Rattle.ccsl_kernel.proofs.Quiet.{eval_cond}
 use Rattle.ccsl_kernel.proofs.TableHolds.{meaning_calls}
 use Rattle.ccsl_kernel.proofs.Silent.{AreGoneQuiet}
 use Rattle.ccsl_library.specs.Laws.{is_multiple}
 use Rattle.ccsl_library.specs.Members.{periodic, periodic_root}
 use Rattle.ccsl_library.specs.Members as members
-use Rattle.ccsl_library.proofs.Counts.{count_from, count-first, count-next, count-split}
+use Rattle.ccsl_library.proofs.Counts.{count_from, count-first, count-next, count-split, stays-gone}
 
 module _ (K : System) (T : List Step) (gone : ℕ → ℕ → Bool) (ok : AreGuarded K) (gone_quiet : AreGoneQuiet T gone)
     (in_K : 0 < length K.groups) (is : root_of K 0 0 ≡ periodic_root) (c m : ℕ) where
@@ -27,9 +27,6 @@ module _ (K : System) (T : List Step) (gone : ℕ → ℕ → Bool) (ok : AreGua
 
   abbrev A : Life
   A = over_one T (await_row m) (named K T gone (actual.Clock c))
-
-  stays_gone : (k n : ℕ) → k ≤ n → n < length T → gone k c ≡ true → gone n c ≡ true
-  stays_gone k n l u h = from_birth (λ n. n < length T → gone n c ≡ true) k (λ u. h) (λ n l ih u. gone_quiet.stays n c (omega arith) (ih (omega arith))) n l u
 
   -- while the first life is not dead, fewer than m ticks have come
   few : (b n : ℕ) → 0 < m → b ≤ n → ((j : ℕ) → suc b ≤ j → j < suc n → (A b j).dead ≡ false) → count_from tc b n < m
@@ -99,7 +96,7 @@ module _ (K : System) (T : List Step) (gone : ℕ → ℕ → Bool) (ok : AreGua
           later (suc k) r.0 (omega (arith, r.1))
           ∙ ⊎_elim
           (λ (x : gone (suc k) c ≡ true).
-          let q = gone_quiet.quiet n c u (stays_gone (suc k) n (omega (arith, r.1)) u x) in
+          let q = gone_quiet.quiet n c u (stays-gone T gone gone_quiet c (suc k) n (omega (arith, r.1)) u x) in
           none (tc n) _ q ∙ sym (none (tc n) _ q))
           (λ x.
           let full = leb-true m (count_from tc b (suc k)) x in

@@ -51,13 +51,14 @@ module _ (K : System) (T : List Step) where
 
   -- SKIP TICKS AS DELAY DOES
   abbrev pub SkipsTick : Type 0
-  SkipsTick = (y x : ℕ) (c : Place) (m : NumTerm) (ρ : List Actual) (b n : ℕ) → place_of c ρ ≡ actual.Clock x → b ≤ n → n < length T →
-      ticks y (skip c m) ρ b n ≡ ticks y (EDelay (EName c) m) ρ b n
+  SkipsTick = (y x : ℕ) (c : Place) (m : NumTerm) (ρ : List Actual) (b n : ℕ) → place_of c ρ ≡ actual.Clock x →
+      b ≤ n → n < length T → ticks y (skip c m) ρ b n ≡ ticks y (EDelay (EName c) m) ρ b n
 
   -- PERIODIC TICKS WITH EACH TICK whose number since the birth, from 1, is a multiple
   abbrev pub PeriodsTick : Type 0
-  PeriodsTick = (y x : ℕ) (c : Place) (m : NumTerm) (ρ : List Actual) (b n : ℕ) → place_of c ρ ≡ actual.Clock x → b ≤ n → n < length T →
-      ticks y (periodic c m) ρ b n ≡ (ticks y (EName c) ρ b n && is_multiple (number_of m ρ) (suc (tick_count y (EName c) ρ b n)))
+  PeriodsTick = (y x : ℕ) (c : Place) (m : NumTerm) (ρ : List Actual) (b n : ℕ) → place_of c ρ ≡ actual.Clock x →
+      b ≤ n → n < length T → ticks y (periodic c m) ρ b n ≡
+      (ticks y (EName c) ρ b n && is_multiple (number_of m ρ) (suc (tick_count y (EName c) ρ b n)))
 
   pub record MembersTick : Type 0 where
     pub filters : FiltersTick
@@ -66,7 +67,8 @@ module _ (K : System) (T : List Step) where
 
 -- what a name that is called stands for, in a file behind the library
 abbrev pub role_of : PlainFile → List ℕ → Option Role
-role_of file name = elim (look name (calls_space 0 0 (the_library.definitions ++ file.definitions))) [ None ↦ None | Some k ↦ Some k.what.role ]
+role_of file name =
+    elim (look name (calls_space 0 0 (the_library.definitions ++ file.definitions))) [ None ↦ None | Some k ↦ Some k.what.role ]
 
 -- THE LIBRARY COMES FIRST, whatever the file: its groups are the first ones of the expansion, and its names stand for it
 pub record ComesFirst (file : PlainFile) : Type 0 where
@@ -78,5 +80,5 @@ pub record ComesFirst (file : PlainFile) : Type 0 where
 
 -- THE MEMBERS' LAWS: in a list of steps that obeys the definitions
 abbrev pub LibraryTicks : Type 0
-LibraryTicks = (file : PlainFile) → IsFile file → refusal the_library file ≡ None → (T : List Step) → ObeysDefinitions (expand the_library file) T →
-    MembersTick (expand the_library file) T
+LibraryTicks = (file : PlainFile) → IsFile file → refusal the_library file ≡ None →
+    (T : List Step) → ObeysDefinitions (expand the_library file) T → MembersTick (expand the_library file) T
