@@ -6,7 +6,6 @@ use Rattle.ccsl_formula.specs.Formula.{FFalse, FVar, FNot, FAnd, eval}
 use Rattle.ccsl_words.specs.Word.{letter, rest, is_finite, has_ended}
 use Rattle.ccsl_kernel.specs.declared.actual.Actual.TheVariants as actual
 use Rattle.ccsl_kernel.specs.declared.expr.Value.TheVariants as value
-use Rattle.ccsl_kernel.specs.declared.expr.WordPlace.TheVariants as word
 use Rattle.ccsl_kernel.specs.Syntax.{Expression, System, root_of}
 use Rattle.ccsl_kernel.specs.Actuals.{word_of}
 use Rattle.ccsl_kernel.specs.Ticks.{ever}
@@ -18,15 +17,14 @@ use Rattle.ccsl_kernel.proofs.Steps.{find-none, find-some, find-within}
 use Rattle.ccsl_kernel.proofs.TableHolds.{meaning_calls}
 use Rattle.ccsl_kernel.proofs.Words.{letter-rest}
 use Rattle.ccsl_kernel.proofs.Silent.{AreGoneQuiet}
-use Rattle.ccsl_library.specs.Members.{filter_by, filter_by_root}
-use Rattle.ccsl_library.specs.Members as members
+use Rattle.ccsl_library.specs.Members.{filter_by, filter_by_root, own_clock, own_tail}
 use Rattle.ccsl_library.proofs.Counts.{count_from, count-first, count-next, count-ever, count-split, ever-count, stays-gone}
 
 module _ (K : System) (T : List Step) (gone : ℕ → ℕ → Bool) (ok : AreGuarded K) (gone_quiet : AreGoneQuiet T gone)
     (in_K : 2 < length K.groups) (is : root_of K 2 0 ≡ filter_by_root) (c w : ℕ) (infinite : is_finite (word_of K.words w) ≡ false) where
   -- filter_by(c, w) again, under the rest of the word
   abbrev again : Expression
-  again = filter_by members.c (word.Tail 1)
+  again = filter_by own_clock own_tail
 
   -- whether c ticks
   abbrev tc : ℕ → Bool
@@ -121,7 +119,7 @@ module _ (K : System) (T : List Step) (gone : ℕ → ℕ → Bool) (ok : AreGua
   filter_by-filter (suc f) o b n h l u =
       pick (has_ended (word_of K.words w) o) (and_left (is_finite (word_of K.words w)) _ infinite) (letter (word_of K.words w) o) refl
       (λ k l' u'.
-      ap (λ (now : Now). eval now.formula (step_at T n)) (meaning_calls K T gone ok 2 0 (value.Clock members.c ∷ value.Word (word.Tail 1) ∷ []) (actual.Clock c ∷ actual.Word w o ∷ []) in_K k n u' (omega arith))
+      ap (λ (now : Now). eval now.formula (step_at T n)) (meaning_calls K T gone ok 2 0 (value.Clock own_clock ∷ value.Word own_tail ∷ []) (actual.Clock c ∷ actual.Word w o ∷ []) in_K k n u' (omega arith))
       ∙ ap (λ e. eval (life_given K T gone e (actual.Clock c ∷ actual.Word w (rest (word_of K.words w) o) ∷ []) k n).formula (step_at T n)) is
       ∙ filter_by-filter f (rest (word_of K.words w) o) k n (omega arith) u' u)
     where

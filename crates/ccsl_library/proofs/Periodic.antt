@@ -16,8 +16,7 @@ use Rattle.ccsl_kernel.proofs.Quiet.{eval_cond}
 use Rattle.ccsl_kernel.proofs.TableHolds.{meaning_calls}
 use Rattle.ccsl_kernel.proofs.Silent.{AreGoneQuiet}
 use Rattle.ccsl_library.specs.Laws.{is_multiple}
-use Rattle.ccsl_library.specs.Members.{periodic, periodic_root}
-use Rattle.ccsl_library.specs.Members as members
+use Rattle.ccsl_library.specs.Members.{periodic, periodic_root, own_clock, own_number}
 use Rattle.ccsl_library.proofs.Counts.{count_from, count-first, count-next, count-split, stays-gone}
 
 module _ (K : System) (T : List Step) (gone : ℕ → ℕ → Bool) (ok : AreGuarded K) (gone_quiet : AreGoneQuiet T gone)
@@ -76,16 +75,16 @@ module _ (K : System) (T : List Step) (gone : ℕ → ℕ → Bool) (ok : AreGua
       eval (life_given K T gone periodic_root (actual.Clock c ∷ actual.Number m ∷ []) b n).formula (step_at T n) ≡ (tc n && is_multiple m (suc (count_from tc b n)))
   periodic-turns zero b n h l u = let z : ⊥ = omega arith in absurd z
   periodic-turns (suc f) b n h l u = on (end_of A b n) refl (λ k l' u'.
-      ap (λ (now : Now). eval now.formula (step_at T n)) (meaning_calls K T gone ok 0 0 (value.Clock members.c ∷ value.Number members.n ∷ []) (actual.Clock c ∷ actual.Number m ∷ []) in_K k n u' (omega arith))
+      ap (λ (now : Now). eval now.formula (step_at T n)) (meaning_calls K T gone ok 0 0 (value.Clock own_clock ∷ value.Number own_number ∷ []) (actual.Clock c ∷ actual.Number m ∷ []) in_K k n u' (omega arith))
       ∙ ap (λ e. eval (life_given K T gone e (actual.Clock c ∷ actual.Number m ∷ []) k n).formula (step_at T n)) is
       ∙ periodic-turns f k n (omega arith) u' u)
     where
       M : Life
-      M = life_given K T gone (periodic members.c members.n) (actual.Clock c ∷ actual.Number m ∷ [])
+      M = life_given K T gone (periodic own_clock own_number) (actual.Clock c ∷ actual.Number m ∷ [])
 
       on : (e : Option ℕ) → end_of A b n ≡ e →
-          ((k : ℕ) → b < k → k ≤ n → eval (life_given K T gone (periodic members.c members.n) (actual.Clock c ∷ actual.Number m ∷ []) k n).formula (step_at T n) ≡ (tc n && is_multiple m (suc (count_from tc k n)))) →
-          eval (at_end e (record { formula = (A b n).formula; dead = false }) (λ k. life_given K T gone (periodic members.c members.n) (actual.Clock c ∷ actual.Number m ∷ []) k n)).formula (step_at T n) ≡ (tc n && is_multiple m (suc (count_from tc b n)))
+          ((k : ℕ) → b < k → k ≤ n → eval (life_given K T gone (periodic own_clock own_number) (actual.Clock c ∷ actual.Number m ∷ []) k n).formula (step_at T n) ≡ (tc n && is_multiple m (suc (count_from tc k n)))) →
+          eval (at_end e (record { formula = (A b n).formula; dead = false }) (λ k. life_given K T gone (periodic own_clock own_number) (actual.Clock c ∷ actual.Number m ∷ []) k n)).formula (step_at T n) ≡ (tc n && is_multiple m (suc (count_from tc b n)))
       on None e later =
           eval_cond (nat_eq (suc (count_from tc b n)) m) (FVar c) FFalse (step_at T n)
           ∙ first_turn (count_from tc b n) n (λ pos. few b n pos l (find-none (λ k. (A b k).dead) (suc b) (suc n) e))

@@ -26,27 +26,34 @@ filter_by c w = ECall 2 0 (value.Clock c ∷ value.Word w ∷ [])
 abbrev pub term_of : NumPrim → NumTerm
 term_of p = record { first = p; rest = [] }
 
--- the members
-abbrev pub c : Place
-c = place.Param 0
+-- a member's own parameters: its clock, and its number or its word
+abbrev pub own_clock : Place
+own_clock = place.Param 0
 
-abbrev pub n : NumTerm
-n = term_of (num.Param 1)
+abbrev pub own_number : NumTerm
+own_number = term_of (num.Param 1)
 
+abbrev pub own_word : WordPlace
+own_word = word.Param 1
+
+abbrev pub own_tail : WordPlace
+own_tail = word.Tail 1
+
+-- the members themselves
 abbrev pub periodic_root : Expression
-periodic_root = EBinary Then (EAwait (EName c) n) (periodic c n)
+periodic_root = EBinary Then (EAwait (EName own_clock) own_number) (periodic own_clock own_number)
 
 abbrev pub skip_root : Expression
 skip_root =
-    EIf (test.Equal n (term_of (num.Num 0))) (EName c)
-    (EBinary Then (EBinary Upto ENever (EAwait (EName c) n)) (EName c))
+    EIf (test.Equal own_number (term_of (num.Num 0))) (EName own_clock)
+    (EBinary Then (EBinary Upto ENever (EAwait (EName own_clock) own_number)) (EName own_clock))
 
 abbrev pub filter_by_root : Expression
 filter_by_root =
-    EIf (test.Ended (word.Param 1)) ENever
-    (EIf (test.Head (word.Param 1))
-    (EBinary Then (EAwait (EName c) (term_of (num.Num 1))) (filter_by c (word.Tail 1)))
-    (EBinary Then (EBinary Upto ENever (EName c)) (filter_by c (word.Tail 1))))
+    EIf (test.Ended own_word) ENever
+    (EIf (test.Head own_word)
+    (EBinary Then (EAwait (EName own_clock) (term_of (num.Num 1))) (filter_by own_clock own_tail))
+    (EBinary Then (EBinary Upto ENever (EName own_clock)) (filter_by own_clock own_tail)))
 
 -- the groups with which every such system begins
 abbrev pub library_groups : List (List Body)
