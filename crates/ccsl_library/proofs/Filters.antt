@@ -1,9 +1,9 @@
 -- What the library's filters mean: they tick as `filter` does.
-use Rattle.std.proofs.Common.{◌≡◌, ℕ, zero, suc, ◌+◌, ◌-◌, ◌<◌, ◌≤◌, ◌⊎◌, inl, inr, ⊎_elim, List, [], ◌∷◌, map, length, Bool, true, false, Option, Some, None, refl, sym, ap, ◌∙◌, arith, nat_le, nat_eq, leb-true, le-leb, if◌then◌else◌}
-use Rattle.std.proofs.lemmas.Bool.{or_cases, or_right, and_left, cases_lt}
+use Rattle.std.proofs.Common.{◌≡◌, ℕ, zero, suc, ◌+◌, ◌-◌, ◌<◌, ◌≤◌, ◌⊎◌, inl, inr, ⊎_elim, List, [], ◌∷◌, map, length, Bool, true, false, Option, Some, None, refl, sym, ap, ◌∙◌, arith, nat_le, nat_eq, eqb-true, leb-true, le-leb, if◌then◌else◌}
+use Rattle.std.proofs.lemmas.Bool.{or_cases, or_right, and_parts, cases_lt}
 use Rattle.ccsl_base.specs.Clocks.{ticks_in}
 use Rattle.ccsl_formula.specs.Formula.{FFalse, FVar, FNot, FAnd, eval}
-use Rattle.ccsl_words.specs.Word.{letter, rest, is_finite, has_ended}
+use Rattle.ccsl_words.specs.Word.{BinaryWord, letter, rest, is_finite, has_ended}
 use Rattle.ccsl_kernel.specs.declared.actual.Actual.TheVariants as actual
 use Rattle.ccsl_kernel.specs.declared.expr.Value.TheVariants as value
 use Rattle.ccsl_kernel.specs.Syntax.{Expression, System, root_of}
@@ -15,13 +15,13 @@ use Rattle.ccsl_kernel.specs.Meaning.{named, life_given}
 use Rattle.ccsl_kernel.proofs.GuardedCalls.{AreGuarded}
 use Rattle.ccsl_kernel.proofs.Steps.{find-none, find-some, find-within}
 use Rattle.ccsl_kernel.proofs.TableHolds.{meaning_calls}
-use Rattle.ccsl_kernel.proofs.Words.{letter-rest}
+use Rattle.ccsl_kernel.proofs.Words.{letter-rest, past_finite}
 use Rattle.ccsl_kernel.proofs.Silent.{AreGoneQuiet}
 use Rattle.ccsl_library.specs.Members.{filter_by, filter_by_root, own_clock, own_tail}
 use Rattle.ccsl_library.proofs.Counts.{count_from, count-first, count-next, count-ever, count-split, ever-count, stays-gone}
 
 module _ (K : System) (T : List Step) (gone : ℕ → ℕ → Bool) (ok : AreGuarded K) (gone_quiet : AreGoneQuiet T gone)
-    (in_K : 2 < length K.groups) (is : root_of K 2 0 ≡ filter_by_root) (c w : ℕ) (infinite : is_finite (word_of K.words w) ≡ false) where
+    (in_K : 2 < length K.groups) (is : root_of K 2 0 ≡ filter_by_root) (c w : ℕ) where
   -- filter_by(c, w) again, under the rest of the word
   abbrev again : Expression
   again = filter_by own_clock own_tail
@@ -117,15 +117,18 @@ module _ (K : System) (T : List Step) (gone : ℕ → ℕ → Bool) (ok : AreGua
       eval (life_given K T gone filter_by_root (actual.Clock c ∷ actual.Word w o ∷ []) b n).formula (step_at T n) ≡ passes_at o b n
   filter_by-filter zero o b n h l u = let z : ⊥ = omega arith in absurd z
   filter_by-filter (suc f) o b n h l u =
-      pick (has_ended (word_of K.words w) o) (and_left (is_finite (word_of K.words w)) _ infinite) (letter (word_of K.words w) o) refl
+      pick (has_ended (word_of K.words w) o) refl (letter (word_of K.words w) o) refl
       (λ k l' u'.
       ap (λ (now : Now). eval now.formula (step_at T n)) (meaning_calls K T gone ok 2 0 (value.Clock own_clock ∷ value.Word own_tail ∷ []) (actual.Clock c ∷ actual.Word w o ∷ []) in_K k n u' (omega arith))
       ∙ ap (λ e. eval (life_given K T gone e (actual.Clock c ∷ actual.Word w (rest (word_of K.words w) o) ∷ []) k n).formula (step_at T n)) is
       ∙ filter_by-filter f (rest (word_of K.words w) o) k n (omega arith) u' u)
     where
-      pick : (ended : Bool) → ended ≡ false → (head : Bool) → letter (word_of K.words w) o ≡ head →
+      pick : (ended : Bool) → has_ended (word_of K.words w) o ≡ ended → (head : Bool) → letter (word_of K.words w) o ≡ head →
           ((k : ℕ) → b < k → k ≤ n → eval (life_given K T gone again (actual.Clock c ∷ actual.Word w o ∷ []) k n).formula (step_at T n) ≡ passes_at (rest (word_of K.words w) o) k n) →
           eval ((if ended then (λ b n. never_row) else if head then followed_by A (life_given K T gone again (actual.Clock c ∷ actual.Word w o ∷ [])) else followed_by U (life_given K T gone again (actual.Clock c ∷ actual.Word w o ∷ []))) b n).formula (step_at T n) ≡ passes_at o b n
-      pick true e head e' later = let z : ⊥ = cc in absurd z
+      pick true e head e' later = sym (ap (λ t. if t then tc n else false) (over (word_of K.words w) (and_parts (is_finite (word_of K.words w)) _ e)))
+        where
+          over : (v : BinaryWord) → (is_finite v ≡ true) × (nat_eq o (length v.prefix) ≡ true) → letter v (o + count_from tc b n) ≡ false
+          over v h = let at = eqb-true o (length v.prefix) h.1 in past_finite v (o + count_from tc b n) h.0 (omega arith)
       pick false e true e' later = step A (life_given K T gone again (actual.Clock c ∷ actual.Word w o ∷ [])) true o b n (first_A b) e' l u later
       pick false e false e' later = step U (life_given K T gone again (actual.Clock c ∷ actual.Word w o ∷ [])) false o b n (first_U b) e' l u later

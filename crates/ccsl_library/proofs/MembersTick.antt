@@ -28,14 +28,14 @@ use Rattle.ccsl_library.proofs.Skip.{skip-delay}
 
 module _ (K : System) (T : List Step) (ok : AreGuarded K) (quiet : (y : ℕ) → AreGoneQuiet T (dead_below K T y)) (many : 2 < length K.groups) where
   filters : root_of K 2 0 ≡ filter_by_root → FiltersTick K T
-  filters is y x c w ρ b n clock infinite l u =
+  filters is y x c w ρ b n clock l u =
       let gone = dead_below K T y in
       let W = (suffix_of K.words w ρ).word in
       let o = (suffix_of K.words w ρ).offset in
       let call = meaning_calls K T gone ok 2 0 (value.Clock c ∷ value.Word w ∷ []) ρ many b n l (omega arith) in
       ap (λ (now : Now). eval now.formula (step_at T n)) call
       ∙ ap₂ (λ e a. eval (life_given K T gone e (a ∷ actual.Word W o ∷ []) b n).formula (step_at T n)) is clock
-      ∙ filter_by-filter K T gone ok (quiet y) many is x W infinite (suc (length T - b)) o b n (omega arith) l u
+      ∙ filter_by-filter K T gone ok (quiet y) many is x W (suc (length T - b)) o b n (omega arith) l u
       ∙ sym (eval_cond (letter (word_of K.words W) (o + count (map (λ i. eval (FVar x) (step_at T i)) (steps b n)))) (FVar x) FFalse (step_at T n))
       ∙ sym (ap (λ a. eval (over_one T (filter_row (word_of K.words W) o) (named K T gone a) b n).formula (step_at T n)) clock)
 

@@ -1,7 +1,6 @@
 -- What the library's members mean, in every system that is elaborated with the library.
-use Rattle.std.specs.Prelude.{◌≡◌, ℕ, suc, ◌<◌, ◌≤◌, ◌%◌, List, map, Bool, false, ◌&&◌, ◌++◌, Option, Some, None, codes, length, take, nat_eq, nat_lt}
+use Rattle.std.specs.Prelude.{◌≡◌, ℕ, suc, ◌<◌, ◌≤◌, ◌%◌, List, map, Bool, ◌&&◌, ◌++◌, Option, Some, None, codes, length, take, nat_eq, nat_lt}
 use Rattle.ccsl_base.specs.declared.limits.TheConstants.{MAX_LEVELS}
-use Rattle.ccsl_words.specs.Word.{is_finite}
 use Rattle.ccsl_ast.specs.Trees.{PlainFile}
 use Rattle.ccsl_kernel.specs.declared.actual.Actual.TheVariants as actual
 use Rattle.ccsl_kernel.specs.declared.actual.Actual.{Actual}
@@ -9,7 +8,7 @@ use Rattle.ccsl_kernel.specs.declared.expr.Place.{Place}
 use Rattle.ccsl_kernel.specs.declared.expr.NumTerm.{NumTerm}
 use Rattle.ccsl_kernel.specs.declared.expr.WordPlace.{WordPlace}
 use Rattle.ccsl_kernel.specs.Syntax.{Expression, EName, EDelay, EFilter, System}
-use Rattle.ccsl_kernel.specs.Actuals.{place_of, number_of, suffix_of, word_of}
+use Rattle.ccsl_kernel.specs.Actuals.{place_of, number_of}
 use Rattle.ccsl_kernel.specs.Ticks.{count}
 use Rattle.ccsl_kernel.specs.Lives.{Step, steps, ticks_at}
 use Rattle.ccsl_kernel.specs.Meaning.{meaning}
@@ -43,11 +42,10 @@ module _ (K : System) (T : List Step) where
   abbrev pub tick_count : ℕ → Expression → List Actual → ℕ → ℕ → ℕ
   tick_count y e ρ b n = count (map (ticks y e ρ b) (steps b n))
 
-  -- FILTER_BY TICKS AS FILTER DOES, under every word with a period
+  -- FILTER_BY TICKS AS FILTER DOES, under every word
   abbrev pub FiltersTick : Type 0
   FiltersTick = (y x : ℕ) (c : Place) (w : WordPlace) (ρ : List Actual) (b n : ℕ) → place_of c ρ ≡ actual.Clock x →
-      is_finite (word_of K.words (suffix_of K.words w ρ).word) ≡ false → b ≤ n → n < length T →
-      ticks y (filter_by c w) ρ b n ≡ ticks y (EFilter (EName c) w) ρ b n
+      b ≤ n → n < length T → ticks y (filter_by c w) ρ b n ≡ ticks y (EFilter (EName c) w) ρ b n
 
   -- SKIP TICKS AS DELAY DOES
   abbrev pub SkipsTick : Type 0

@@ -23,8 +23,8 @@ pub fn library_comes_first()
     ensures { (file : PlainFile) → ComesFirst file }
 {}
 
-/// In every accepted file, `filter_by(c, w)` ticks as `c filter w` does for every word with a period, `skip(c, n)` as
-/// `c delay n`, and `periodic(c, n)` with each tick of `c` since its birth whose number is a multiple of `n`, never for 0.
+/// In every accepted file, `filter_by(c, w)` ticks as `c filter w` does, `skip(c, n)` as `c delay n`, and `periodic(c, n)`
+/// with each tick of `c` since its birth whose number is a multiple of `n`, never for 0.
 pub fn members_tick()
     ensures { LibraryTicks }
 {}
