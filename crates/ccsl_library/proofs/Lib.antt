@@ -1,0 +1,8 @@
+pub mod Accepted
+pub mod Counts
+pub mod Filters
+pub mod Periodic
+pub mod Skip
+pub mod MembersTick
+pub mod Cut
+pub mod Text
