@@ -1,0 +1,4 @@
+pub mod Numbered
+pub mod Seen
+pub mod Items
+pub mod Expanded
