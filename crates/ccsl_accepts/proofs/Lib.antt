@@ -1,0 +1,15 @@
+pub mod Joined
+pub mod Shallow
+pub mod Lists
+pub mod GroupBodies
+pub mod GroupHeights
+pub mod HiddenNames
+pub mod Sound
+pub mod Placing
+pub mod OwnLines
+pub mod Whole
+pub mod Accepts
+pub mod Distinct
+pub mod Lines
+pub mod Apart
+pub mod NamesDistinct

@@ -1,0 +1,44 @@
+-- Counts of ticks over a stretch of steps.
+use Rattle.std.proofs.Common.{◌≡◌, ℕ, suc, ◌+◌, ◌≤◌, List, [], ◌∷◌, ◌++◌, map, Bool, true, false, refl, ap, ◌∙◌, arith, if◌then◌else◌}
+use Rattle.ccsl_kernel.specs.Ticks.{count, ever}
+use Rattle.ccsl_kernel.specs.Lives.{steps}
+use Rattle.ccsl_kernel.proofs.Steps.{map-steps-suc, steps-empty, steps-split}
+use Rattle.ccsl_kernel.proofs.Quiet.{count-snoc}
+
+-- how often t holds from b to n - 1
+abbrev pub count_from : (ℕ → Bool) → ℕ → ℕ → ℕ
+count_from t b n = count (map t (steps b n))
+
+pub count-first : (t : ℕ → Bool) (b : ℕ) → count_from t b b ≡ 0
+count-first t b = ap (λ xs. count (map t xs)) (steps-empty b b (omega arith))
+
+pub count-next : (t : ℕ → Bool) (b n : ℕ) → b ≤ n → count_from t b (suc n) ≡ (if t n then suc (count_from t b n) else count_from t b n)
+count-next t b n l = ap count (map-steps-suc t b n l) ∙ count-snoc (map t (steps b n)) (t n)
+
+count-append : (xs ys : List Bool) → count (xs ++ ys) ≡ count xs + count ys
+count-append [] ys = omega arith
+count-append (true ∷ xs) ys = let ih = count-append xs ys in omega arith
+count-append (false ∷ xs) ys = count-append xs ys
+
+map-append : (t : ℕ → Bool) (xs ys : List ℕ) → map t (xs ++ ys) ≡ map t xs ++ map t ys
+map-append t [] ys = refl
+map-append t (x ∷ xs) ys = ap (λ zs. t x ∷ zs) (map-append t xs ys)
+
+pub count-split : (t : ℕ → Bool) (b k n : ℕ) → b ≤ k → k ≤ n → count_from t b n ≡ count_from t b k + count_from t k n
+count-split t b k n l l' = ap (λ xs. count (map t xs)) (steps-split b k n l l') ∙ ap count (map-append t (steps b k) (steps k n)) ∙ count-append (map t (steps b k)) (map t (steps k n))
+
+-- there is a tick where there is at least one
+pub ever-count : (ts : List Bool) → ever ts ≡ true → 1 ≤ count ts
+ever-count [] h = let z : ⊥ = cc in absurd z
+ever-count (true ∷ ts) h = omega arith
+ever-count (false ∷ ts) h = ever-count ts h
+
+pub never-count : (ts : List Bool) → ever ts ≡ false → count ts ≡ 0
+never-count [] h = refl
+never-count (true ∷ ts) h = let z : ⊥ = cc in absurd z
+never-count (false ∷ ts) h = never-count ts h
+
+pub count-ever : (ts : List Bool) → 1 ≤ count ts → ever ts ≡ true
+count-ever [] h = let z : ⊥ = omega arith in absurd z
+count-ever (true ∷ ts) h = refl
+count-ever (false ∷ ts) h = count-ever ts h

@@ -1,0 +1,21 @@
+//! What is true of the library. These functions do nothing: each has a law as its contract.
+
+ghost use Rattle.ccsl_accepts.specs.Acceptance.{IsLibrary};
+ghost use Rattle.ccsl_library.specs.Library.{the_library};
+ghost use Rattle.ccsl_library.specs.Laws.{GroupsComeFirst, LibraryTicks};
+
+/// The library is accepted by itself.
+pub fn library_is_accepted()
+    ensures { IsLibrary the_library }
+{}
+
+/// Whatever the file, its expansion behind the library begins with the library's groups.
+pub fn groups_come_first()
+    ensures { GroupsComeFirst }
+{}
+
+/// In every accepted file, `filter_by(c, w)` ticks as `c filter w` does for every word with a period, `skip(c, n)` as
+/// `c delay n`, and `periodic(c, n)` with each tick of `c` since its birth whose number is a multiple of `n`, never for 0.
+pub fn members_tick()
+    ensures { LibraryTicks }
+{}
