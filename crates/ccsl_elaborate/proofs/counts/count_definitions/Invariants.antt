@@ -1,0 +1,10 @@
+-- The counts so far and those of the rest are the whole.
+use Rattle.std.proofs.Common.{◌≡◌, drop, map}
+use Rattle.ccsl_ast.specs.Trees.{plain_definition}
+use Rattle.ccsl_rules.specs.Counts.{counts}
+use Rattle.ccsl_spaces.specs.Callees.{seen_call}
+use Rattle.ccsl_elaborate.specs.Weighed.{seen_weights}
+use Rattle.ccsl_elaborate.proofs.counts.count_definitions.Given as goal
+
+abbrev pub invariant-loop-definition : goal.invariant-loop-definition
+invariant-loop-definition l = let f = counts (seen_weights l.weights) (map seen_call l.calls) in f l.counted.items (map plain_definition (drop l.definition-index l.definitions)) ≡ f l.fn.counted.items (map plain_definition l.definitions)

@@ -1,0 +1,5 @@
+pub mod Lookups
+pub mod Callees
+pub mod Walks
+pub mod Nested
+pub mod Whole

@@ -1,0 +1,14 @@
+//! What names stand for.
+
+use ccsl_ast::Kind;
+use ccsl_base::Text;
+
+/// What a name of a body stands for: a clock of the system by its whole name, a number, a word of the table with an offset,
+/// or, in the body of an expression, its own parameter with its kind.
+#[derive(Drop)]
+pub enum Atom {
+    Clock(Text),
+    Number(u32),
+    Word(u32, u64),
+    Param(u32, Kind),
+}
