@@ -12,7 +12,7 @@ ghost use Rattle.ccsl_elaborate.specs.Weighed.{seen_weights};
 
 use ccsl_ast::{Definition, File, RelationLine, Spot, SystemLine};
 use ccsl_base::Memory;
-use ccsl_expand::callee;
+use ccsl_expand::callee::callee;
 use ccsl_spaces::{Callee, Space, calls_space};
 use std::alloc::Global;
 

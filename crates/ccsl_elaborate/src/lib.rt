@@ -2,6 +2,3 @@
 #![tactic(auto)]
 
 pub mod counts;
-pub mod elaborator;
-
-pub use elaborator::elaborate;

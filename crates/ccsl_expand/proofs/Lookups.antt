@@ -1,12 +1,12 @@
 -- What is found by a number of a table of names is what is found by the name.
-use Rattle.std.proofs.Common.{◌≡◌, ℕ, zero, suc, ◌+◌, ◌<◌, ◌≤◌, List, [], ◌∷◌, ◌++◌, Bool, true, false, not, cond, nat_lt, Option, Some, None, map, length, drop, slice_get, find, bytes_eq, refl, sym, ap, ◌∙◌, arith}
-use Rattle.std.specs.List.{zip, position, position_or_len}
+use Rattle.std.proofs.Common.{◌≡◌, ℕ, zero, suc, ◌+◌, ◌<◌, ◌≤◌, List, [], ◌∷◌, ◌++◌, Bool, true, false, not, cond, nat_lt, Option, Some, None, map, length, slice_get, bytes_eq, refl, sym, ap, ◌∙◌, arith}
+use Rattle.std.specs.List.{zip, position_or_len}
 use Rattle.std.specs.Option.{option_map}
 use Rattle.std.proofs.lemmas.Grind.{common_steps}
 use Rattle.std.proofs.lemmas.Bool.Decides.{nat_tests}
 use Rattle.std.proofs.lemmas.Slice.Eq.{bytes_eq-Decides}
 use Rattle.ccsl_base.specs.Names.{find_name}
-use Rattle.ccsl_rules.specs.Settings.{Atom, AClock, ANumber, AWord, AParam, Setting, snd_of, atom_of}
+use Rattle.ccsl_rules.specs.Settings.{Atom, ANumber, snd_of, atom_of}
 use Rattle.ccsl_ast.specs.declared.spot.Spot.{Spot}
 use Rattle.ccsl_rules.specs.Spaces.{Known, look}
 use Rattle.ccsl_expand.specs.Seen.{atom_or_zero}

@@ -1,5 +1,5 @@
 -- The expansion by numbered definitions is the expansion.
-use Rattle.std.proofs.Common.{◌≡◌, ℕ, zero, suc, ◌+◌, List, [], ◌∷◌, ◌++◌, append_assoc, take, map, flat_map, filter_map, length, refl, sym, ap, ◌∙◌}
+use Rattle.std.proofs.Common.{◌≡◌, ℕ, ◌+◌, List, [], ◌∷◌, ◌++◌, append_assoc, take, map, flat_map, filter_map, length, refl, sym, ap, ◌∙◌}
 use Rattle.ccsl_ast.specs.Trees.{PlainDefinition, DRelation, DGroup, PlainFile}
 use Rattle.ccsl_words.specs.Word.{BinaryWord}
 use Rattle.ccsl_kernel.specs.Syntax.{System, Body, Expression}

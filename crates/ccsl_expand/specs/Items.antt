@@ -1,5 +1,5 @@
 -- What the items of the program stand for, and where they come from.
-use Rattle.std.specs.Prelude.{ℕ, List, [], take, map, Option, Some, None}
+use Rattle.std.specs.Prelude.{ℕ, [], take, map, Option, Some, None}
 use Rattle.ccsl_ast.specs.Trees.{plain, plain_line, SLineOf}
 use Rattle.ccsl_expand.specs.declared.item.Item.{Item as ProgramItem}
 use Rattle.ccsl_expand.specs.declared.item.Item.TheVariants as item

@@ -1,5 +1,5 @@
 -- Definitions with the numbers of their first texts, and what the relations of such a list become.
-use Rattle.std.specs.Prelude.{ℕ, ◌+◌, List, [], ◌∷◌, ◌++◌, length, map, Option, Some, None}
+use Rattle.std.specs.Prelude.{ℕ, ◌+◌, List, [], ◌∷◌, ◌++◌, length, Option, Some, None}
 use Rattle.ccsl_ast.specs.declared.definition.Param.{Param}
 use Rattle.ccsl_ast.specs.Trees.{PlainDefinition, DRelation, DGroup}
 use Rattle.ccsl_words.specs.Word.{BinaryWord}

@@ -1,4 +1,4 @@
-use Rattle.std.proofs.Common.{◌≡◌, Some, None, sym, ap, ◌∙◌}
+use Rattle.std.proofs.Common.{Some, None, ap, ◌∙◌}
 use Rattle.ccsl_rules.specs.Spaces.{look}
 use Rattle.ccsl_spaces.specs.Knowns.{known}
 use Rattle.ccsl_expand.proofs.Callees.{callee-found}

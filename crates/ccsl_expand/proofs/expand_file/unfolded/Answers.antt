@@ -1,4 +1,4 @@
-use Rattle.std.proofs.Common.{◌≡◌, [], map, take, length, IfOk, subst, ap, ◌∙◌}
+use Rattle.std.proofs.Common.{◌≡◌, [], map, IfOk, subst, ap, ◌∙◌}
 use Rattle.ccsl_ast.specs.Trees.{plain_sline}
 use Rattle.ccsl_rules.specs.Unfolded.{unfold_body}
 use Rattle.ccsl_spaces.specs.Callees.{seen_call}

@@ -1,5 +1,4 @@
-use Rattle.std.proofs.Common.{◌≡◌, ◌+◌, ◌++◌, ◌∷◌, [], drop, length, refl, sym, ap, ◌∙◌, arith}
-use Rattle.std.proofs.lemmas.Grind.{common_steps}
+use Rattle.std.proofs.Common.{◌+◌, ◌++◌, ◌∷◌, drop, length, sym, ap, ◌∙◌, arith}
 use Rattle.ccsl_rules.specs.Texts.{argument_texts}
 use Rattle.ccsl_rules.specs.Settings.{argument_atoms}
 use Rattle.ccsl_rules.specs.Unfolded.{arguments}

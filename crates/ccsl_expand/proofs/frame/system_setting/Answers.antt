@@ -1,4 +1,4 @@
-use Rattle.std.proofs.Common.{◌≡◌, ◌+◌, ◌++◌, [], drop, map, sym, ap, ◌∙◌}
+use Rattle.std.proofs.Common.{◌+◌, ◌++◌, [], drop, map, sym, ap, ◌∙◌}
 use Rattle.ccsl_ast.specs.Trees.{plain_sline}
 use Rattle.ccsl_rules.specs.Unfolded.{own_clocks}
 use Rattle.ccsl_expand.proofs.Walks.{drop-at, own_clocks-step}

@@ -1,5 +1,5 @@
 -- What stands in the list, and what the rest adds, is the whole.
-use Rattle.std.proofs.Common.{◌≡◌, ◌++◌, drop, map, flat_map, filter_map}
+use Rattle.std.proofs.Common.{◌≡◌, ◌++◌, drop, map}
 use Rattle.ccsl_ast.specs.Trees.{plain_member}
 use Rattle.ccsl_kernel.specs.Plain.{plain_body}
 use Rattle.ccsl_rules.specs.Expansion.{part_bodies}

@@ -1,5 +1,5 @@
 -- What stands in the list, and what the rest adds, is the whole.
-use Rattle.std.proofs.Common.{◌≡◌, ◌++◌, drop, map, flat_map, filter_map}
+use Rattle.std.proofs.Common.{◌≡◌, ◌++◌, drop, map}
 use Rattle.ccsl_kernel.specs.Plain.{plain_group}
 use Rattle.ccsl_expand.specs.Numbered.{numbered_groups}
 use Rattle.ccsl_expand.specs.Seen.{seen_tables, seen_block}

@@ -1,5 +1,5 @@
 -- What stands in the list, and what the rest adds, is the whole.
-use Rattle.std.proofs.Common.{◌≡◌, ◌++◌, drop, map, flat_map, filter_map}
+use Rattle.std.proofs.Common.{◌≡◌, ◌++◌, drop, map}
 use Rattle.ccsl_rules.specs.Expansion.{kind_in}
 use Rattle.ccsl_expand.proofs.groups.kinds.Given as goal
 

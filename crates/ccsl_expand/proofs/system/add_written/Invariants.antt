@@ -1,5 +1,5 @@
 -- What stands in the list, and what the rest adds, is the whole.
-use Rattle.std.proofs.Common.{◌≡◌, ◌++◌, drop, map, flat_map, filter_map}
+use Rattle.std.proofs.Common.{◌≡◌, ◌++◌, drop, map, filter_map}
 use Rattle.ccsl_rules.specs.Expansion.{written_item, item_name}
 use Rattle.ccsl_expand.specs.Items.{seen_item}
 use Rattle.ccsl_expand.proofs.system.add_written.Given as goal

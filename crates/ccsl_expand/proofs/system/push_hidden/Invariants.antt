@@ -1,5 +1,5 @@
 -- What stands in the list, and what the rest adds, is the whole.
-use Rattle.std.proofs.Common.{◌≡◌, ◌++◌, drop, map, flat_map, filter_map}
+use Rattle.std.proofs.Common.{◌≡◌, ◌++◌, drop, map, filter_map}
 use Rattle.ccsl_kernel.specs.Plain.{plain_expr}
 use Rattle.ccsl_rules.specs.Expansion.{hidden_item, item_definition}
 use Rattle.ccsl_expand.specs.Seen.{seen_tables}

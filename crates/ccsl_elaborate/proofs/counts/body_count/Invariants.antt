@@ -1,0 +1,11 @@
+-- The sum so far and that of the rest are the whole.
+use Rattle.std.proofs.Common.{◌≡◌, ◌≤◌, ◌+◌, drop, map, length, flat_map}
+use Rattle.ccsl_ast.specs.Trees.{SLineOf, plain_line, plain_sline, plain_definition}
+use Rattle.ccsl_rules.specs.Counts.{cut, body_count, counts}
+use Rattle.ccsl_rules.specs.Expansion.{declared_names}
+use Rattle.ccsl_spaces.specs.Callees.{seen_call}
+use Rattle.ccsl_elaborate.specs.Weighed.{seen_weights}
+use Rattle.ccsl_elaborate.proofs.counts.body_count.Given as goal
+
+abbrev pub invariant-loop-line : goal.invariant-loop-line
+invariant-loop-line l = let f = body_count (seen_weights l.weights) (map seen_call l.calls) l.counted in record { small : l.total ≤ 4294967295; whole : cut (l.total + f (map SLineOf (map plain_line (drop l.line-index l.lines)))) ≡ f (map SLineOf (map plain_line l.lines)) }
