@@ -19,7 +19,6 @@ pub mod texts;
 pub mod unfold;
 
 pub use atom::Atom;
-pub use callee::called_part;
 pub use expand_file::expand;
 pub use expression::resolve;
 pub use setting::Setting;
