@@ -1,3 +1,3 @@
-mod Places
-mod Looking
-mod Joined
+pub mod Places
+pub mod Looking
+pub mod Joined

@@ -1,17 +1,23 @@
 -- The first declaration of a name stands at the first place of its name.
-use Rattle.std.proofs.Common.{◌≡◌, ℕ, suc, zero, arith, List, [], ◌∷◌, map, bytes_eq, Bool, true, false, cond, Option, Some, None, is_none, slice_get, get_or, length, ◌<◌, ◌++◌, if◌then◌else◌, refl, sym, ap, ◌∙◌}
+use Rattle.std.proofs.Common.{◌≡◌, ℕ, suc, zero, arith, List, [], ◌∷◌, map, bytes_eq, Bool, true, false, cond, Option, Some, None, is_none, Bor, slice_get, get_or, length, take, nat_lt, ◌||◌, ◌<◌, ◌++◌, if◌then◌else◌, refl, sym, ap, ◌∙◌}
 use Rattle.std.specs.Option.{option_map}
+use Rattle.std.proofs.lemmas.Bool.Decides.{nat_tests}
 use Rattle.std.proofs.lemmas.Slice.Eq.{bytes_eq-Decides}
+use Rattle.std.proofs.lemmas.List as seq
 use Rattle.std.proofs.lemmas.List.{length-map, map-append}
 use Rattle.std.proofs.Math.ListN.{get_or-map}
 use Rattle.std.proofs.lemmas.List.Quantifiers.{position-Some}
 use Rattle.std.proofs.lemmas.Option.{slice_get-get_or}
 use Rattle.ccsl_base.specs.Names.{find_name}
-use Rattle.ccsl_rules.specs.Spaces.{look}
+use Rattle.ccsl_rules.specs.Spaces.{Known, look, is_among}
 use Rattle.ccsl_spaces.specs.declared.declaration.Declaration.{Declaration}
-use Rattle.ccsl_spaces.specs.Knowns.{known}
+use Rattle.ccsl_spaces.specs.Knowns.{known, names, name_at}
 use Rattle.ccsl_spaces.specs.Places.{place_of, HasFirsts}
 use Rattle.ccsl_spaces.proofs.Places.{position-cons, first-added, first-kept}
+
+-- a declaration, where what it stands for is seen otherwise
+abbrev pub seen_by : {A B : Type 0} → (A → B) → Known A → Known B
+seen_by f k = record { name = k.name; since = k.since; what = f k.what }
 
 -- the text of a declaration's name
 abbrev pub text : {T : Type 0} → Declaration T → List ℕ
@@ -92,3 +98,68 @@ has-added ds es d first new fresh name place n p f e is has =
 pub pushed : {A : Type 0} (old before : List A) {new : List A} (x : A) {ok : Bool} → new ≡ (if ok then before ++ x ∷ [] else before) → ok ≡ true → before ≡ old →
     new ≡ old ++ x ∷ []
 pushed old before x e o is = e ∙ ap (λ b. if b then before ++ x ∷ [] else before) o ∙ ap (λ l. l ++ x ∷ []) is
+
+-- what a name stands for, where what declarations stand for is seen otherwise
+pub look-map : {A B : Type 0} (f : A → B) (name : List ℕ) (space : List (Known A)) →
+    look name (map (seen_by f) space) ≡ option_map (seen_by f) (look name space)
+look-map f name [] = refl
+look-map f name (k ∷ ks) = by (bytes_eq k.name.name name) (look-map f name ks) where
+  by : (b : Bool) → look name (map (seen_by f) ks) ≡ option_map (seen_by f) (look name ks) →
+      cond b (Some (seen_by f k)) (look name (map (seen_by f) ks)) ≡ option_map (seen_by f) (cond b (Some k) (look name ks))
+  by true e = refl
+  by false e = e
+
+-- whether a place, if there is one, is below another
+abbrev pub is_below : ℕ → Option ℕ → Bool
+is_below k None = false
+is_below k (Some i) = nat_lt i k
+
+below-zero : (o : Option ℕ) → false ≡ is_below 0 o
+below-zero None = refl
+below-zero (Some i) = grind (arith, nat_tests)
+
+below-suc : (k : ℕ) (o : Option ℕ) → is_below k o ≡ is_below (suc k) (option_map suc o)
+below-suc k None = refl
+below-suc k (Some i) = grind (arith, nat_tests)
+
+zero-below : (k : ℕ) → true ≡ nat_lt 0 (suc k)
+zero-below k = grind (arith, nat_tests)
+
+-- a name is among the first where its first place is below their number
+pub among-take : (name : List ℕ) (all : List (List ℕ)) (k : ℕ) → is_among name (take k all) ≡ is_below k (find_name name all)
+among-take name [] zero = refl
+among-take name [] (suc k) = refl
+among-take name (x ∷ xs) zero = below-zero (find_name name (x ∷ xs))
+among-take name (x ∷ xs) (suc k) =
+    ap (λ b. b || is_among name (take k xs)) (bytes_eq-comm x name) ∙ by (bytes_eq name x) (among-take name xs k)
+    ∙ ap (is_below (suc k)) (sym (position-cons (bytes_eq name) x xs))
+  where
+    by : (b : Bool) → is_among name (take k xs) ≡ is_below k (find_name name xs) →
+        (b || is_among name (take k xs)) ≡ is_below (suc k) (cond b (Some 0) (option_map suc (find_name name xs)))
+    by true e = zero-below k
+    by false e = e ∙ below-suc k (find_name name xs)
+
+names-known : {T : Type 0} (ds : List (Declaration T)) → names (map known ds) ≡ map text ds
+names-known [] = refl
+names-known (d ∷ ds) = ap (λ l. text d ∷ l) (names-known ds)
+
+-- so for the declaration at a place
+pub repeated-at : {T : Type 0} (ds : List (Declaration T)) (space : List (Known T)) (d : Declaration T) (place : ℕ) (first : List (List ℕ × ℕ)) {name : List ℕ} {found : Option ℕ} →
+    map known ds ≡ space → place < length space → d ≡ get_or ds place d → name ≡ text d → found ≡ place_of name first → HasFirsts first (map text ds) →
+    is_below place found ≡ is_among (name_at space place) (take place (names space))
+repeated-at ds space d place first {name} view within is n f has =
+    let inside : place < length ds = omega (arith, within, ap length view, length-map ds known) in
+    let here : name ≡ name_at (map known ds) place =
+    n ∙ ap text is ∙ sym (seq.get_or-map text ds place d [] inside) ∙ ap (λ l. get_or l place []) (sym (names-known ds)) in
+    ap (is_below place) (f ∙ has name) ∙ sym (among-take name (map text ds) place)
+    ∙ ap (λ x. is_among x (take place (map text ds))) here
+    ∙ ap (λ l. is_among (name_at (map known ds) place) (take place l)) (sym (names-known ds))
+    ∙ ap (λ s. is_among (name_at s place) (take place (names s))) view
+
+-- what is found, where what declarations stand for is seen otherwise
+pub found-seen : {T B : Type 0} (f : T → B) (name : List ℕ) (space : List (Known T)) (found : Option (Bor (Declaration T))) →
+    option_map (λ d. known d.now) found ≡ look name space → option_map (λ d. seen_by f (known d.now)) found ≡ look name (map (seen_by f) space)
+found-seen {T} f name space found e = by found ∙ ap (option_map (seen_by f)) e ∙ sym (look-map f name space) where
+  by : (o : Option (Bor (Declaration T))) → option_map (λ d. seen_by f (known d.now)) o ≡ option_map (seen_by f) (option_map (λ d. known d.now) o)
+  by None = refl
+  by (Some d) = refl

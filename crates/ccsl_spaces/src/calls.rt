@@ -2,10 +2,13 @@
 
 ghost use Rattle.std.specs.Prelude.{◌≡◌, ◌+◌, ◌^◌, ◌<◌, ◌≤◌, [], ◌∷◌, ◌++◌, IfOk, OnOk, length, map};
 ghost use Rattle.ccsl_ast.specs.Trees.{plain_member, plain_definition};
-ghost use Rattle.ccsl_rules.specs.Spaces.{parts_space, calls_space};
+ghost use Rattle.std.specs.Option.{option_map};
+ghost use Rattle.ccsl_rules.specs.Spaces.{look, parts_space, calls_space};
+ghost use Rattle.ccsl_spaces.specs.Knowns.{known};
 ghost use Rattle.ccsl_spaces.specs.Callees.{seen_call, group_after, groups_after};
 
 use crate::callee::{Callee, Role};
+use crate::declaration::Declaration;
 use crate::space::Space;
 use ccsl_ast::{Definition, Member};
 use ccsl_base::Memory;
@@ -66,7 +69,9 @@ fn add_definition<'a>(
     }
 }
 
-fn add_definitions<'a>(
+/// Adds what definitions declare, from definition number `block` and group number `group` on, and answers the number of the
+/// next group.
+pub fn add_definitions<'a>(
     space: &mut Space<'a, Callee<'a>>,
     block: usize,
     group: usize,
@@ -99,4 +104,14 @@ pub fn calls_space<'a>(
     let groups = add_definitions(&mut space, 0, 0, library)?;
     add_definitions(&mut space, library.len(), groups, file)?;
     Ok(space)
+}
+
+/// The relation or expression that a name stands for.
+pub fn find_call<'s, 'a>(
+    calls: &'s Space<'a, Callee<'a>>,
+    name: &[u8],
+) -> Option<&'s Declaration<'a, Callee<'a>>>
+    ensures { option_map (λ d. seen_call (known d.now)) result ≡ look name.now (map seen_call calls.now) }
+{
+    calls.find(name)
 }

@@ -9,7 +9,7 @@ pub mod locals;
 pub mod space;
 
 pub use callee::{Callee, Role};
-pub use calls::calls_space;
+pub use calls::{add_definitions, calls_space, find_call};
 pub use declaration::Declaration;
 pub use index::Index;
 pub use locals::{params_space, relation_space, system_space};

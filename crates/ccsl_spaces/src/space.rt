@@ -1,9 +1,9 @@
 //! Name spaces.
 
-ghost use Rattle.std.specs.Prelude.{◌≡◌, [], ◌∷◌, ◌++◌, is_none, IfOk, OnOk, OnErr, map};
+ghost use Rattle.std.specs.Prelude.{◌≡◌, [], ◌∷◌, ◌++◌, ◌<◌, is_none, IfOk, OnOk, OnErr, length, map, take};
 ghost use Rattle.std.specs.Option.{option_map};
-ghost use Rattle.ccsl_rules.specs.Spaces.{look};
-ghost use Rattle.ccsl_spaces.specs.Knowns.{known, declared_as};
+ghost use Rattle.ccsl_rules.specs.Spaces.{look, is_among};
+ghost use Rattle.ccsl_spaces.specs.Knowns.{known, declared_as, names, name_at};
 
 use crate::declaration::Declaration;
 use crate::index::Index;
@@ -72,5 +72,16 @@ impl<'a, T: Copy> Space<'a, T> {
         ensures { map known result.now ≡ self.now }
     {
         self.declared.as_slice()
+    }
+
+    /// Whether the name of the declaration at a place was declared before it.
+    pub fn is_repeated(&self, place: usize) -> bool
+        requires { place < length self.now }
+        ensures { result ≡ is_among (name_at self.now place) (take place (names self.now)) }
+    {
+        match self.first.find(self.declared[place].name.name.bytes()) {
+            None => false,
+            Some(first) => first < place,
+        }
     }
 }

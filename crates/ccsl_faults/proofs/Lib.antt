@@ -1,0 +1,6 @@
+mod Least
+mod Walks
+mod Heights
+mod Repeats
+mod Heads
+mod Whole
