@@ -5,7 +5,7 @@ ghost use Rattle.std.specs.Prelude.{◌≡◌, ◌+◌, ◌++◌, ◌∷◌, [],
 ghost use Rattle.ccsl_ast.specs.Trees.{SLineOf, plain_line, plain_sline, plain_definition};
 ghost use Rattle.ccsl_ast.specs.Files.{plain_file};
 ghost use Rattle.ccsl_rules.specs.Expansion.{declared_names, expand};
-ghost use Rattle.ccsl_rules.specs.Counts.{cut, count_of, line_count, entry_count, body_count, block_count, counts, file_count};
+ghost use Rattle.ccsl_rules.specs.Counts.{Weights as Weighing, cut, count_of, line_count, entry_count, body_count, block_count, counts, file_count};
 ghost use Rattle.ccsl_rules.specs.Counts.{clock_weights, constraint_weights};
 ghost use Rattle.ccsl_spaces.specs.Callees.{seen_call};
 ghost use Rattle.ccsl_elaborate.specs.Weighed.{seen_weights};
@@ -13,6 +13,7 @@ ghost use Rattle.ccsl_elaborate.specs.Weighed.{seen_weights};
 use ccsl_ast::{Definition, File, RelationLine, Spot, SystemLine};
 use ccsl_base::Memory;
 use ccsl_expand::callee::callee;
+use ccsl_rules::laws::counts_are_lengths;
 use ccsl_spaces::{Callee, Space, calls_space};
 use std::alloc::Global;
 
@@ -37,7 +38,7 @@ pub const CONSTRAINTS: Weights = Weights {
 
 // The count of what a call's name stands for, among those of the definitions before.
 fn call_count(calls: &Space<'_, Callee<'_>>, counted: &[u32], name: &Spot) -> u32
-    ensures { result ≡ count_of (map seen_call calls.now) counted.now name.now.name }
+    ensures { (w : Weighing) → result ≡ count_of w (map seen_call calls.now) counted.now name.now.name }
 {
     match callee(calls, name) {
         None => 0,
@@ -140,16 +141,15 @@ fn system_count(
 }
 
 // The count of a file behind a library.
-fn file_count(
-    alloc: Global,
-    weights: Weights,
-    library: &File,
-    file: &File,
-) -> Result<u32, Memory>
+fn file_count(alloc: Global, weights: Weights, library: &File, file: &File) -> Result<u32, Memory>
     ensures { IfOk result (λ n. n ≡
         file_count (seen_weights weights) (plain_file library.now) (plain_file file.now)) }
 {
-    let calls = calls_space(alloc, library.definitions.members(), file.definitions.members())?;
+    let calls = calls_space(
+        alloc,
+        library.definitions.members(),
+        file.definitions.members(),
+    )?;
     let mut counted = Vec::new(alloc);
     count_definitions(weights, &calls, &mut counted, library.definitions.members())?;
     count_definitions(weights, &calls, &mut counted, file.definitions.members())?;
@@ -174,8 +174,9 @@ pub fn clock_count(alloc: Global, library: &File, file: &File) -> Result<u32, Me
     ensures { IfOk result (λ n. n ≡
         cut (length (expand (plain_file library.now) (plain_file file.now)).names)) }
 {
-    let hidden = file_count(alloc, CLOCKS, library, file)?;
-    Ok(declared_count(file.lines.members()).saturating_add(hidden))
+    counts_are_lengths();
+    let defined = file_count(alloc, CLOCKS, library, file)?;
+    Ok(declared_count(file.lines.members()).saturating_add(defined))
 }
 
 /// How many constraints a file behind a library has, at most 4,294,967,295.
@@ -183,5 +184,6 @@ pub fn constraint_count(alloc: Global, library: &File, file: &File) -> Result<u3
     ensures { IfOk result (λ n. n ≡
         cut (length (expand (plain_file library.now) (plain_file file.now)).constraints)) }
 {
+    counts_are_lengths();
     file_count(alloc, CONSTRAINTS, library, file)
 }

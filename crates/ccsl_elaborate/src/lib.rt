@@ -2,3 +2,6 @@
 #![tactic(auto)]
 
 pub mod counts;
+pub mod elaborator;
+
+pub use elaborator::elaborate;

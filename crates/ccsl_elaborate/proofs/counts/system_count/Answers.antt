@@ -1,0 +1,12 @@
+use Rattle.std.proofs.Common.{map, arith}
+use Rattle.ccsl_ast.specs.Trees.{SLineOf, plain_line, plain_sline}
+use Rattle.ccsl_spaces.specs.Callees.{seen_call}
+use Rattle.ccsl_elaborate.specs.Weighed.{seen_weights}
+use Rattle.ccsl_elaborate.proofs.Cuts.{body_count-cut}
+use Rattle.ccsl_elaborate.proofs.counts.system_count.Goals as goal
+
+pub loop-line-init : goal.loop-line-init
+loop-line-init c = record {
+  small = omega arith;
+  whole = body_count-cut (seen_weights c.args.weights) (map seen_call c.args.calls.now) c.args.counted.now (map plain_sline c.args.lines.now);
+}

@@ -1,0 +1,19 @@
+use Rattle.std.proofs.Common.{◌≤◌, subst, sym, arith}
+use Rattle.ccsl_base.specs.declared.limits.TheConstants.{MAX_CELLS}
+use Rattle.ccsl_ast.specs.Files.{plain_file}
+use Rattle.ccsl_kernel.specs.Accepted.{IsAccepted}
+use Rattle.ccsl_kernel.specs.Cells.{cells}
+use Rattle.ccsl_rules.specs.Expansion.{expand}
+use Rattle.ccsl_accepts.specs.Acceptance.{IsFile, IsLibrary}
+use Rattle.ccsl_elaborate.proofs.Judged.{not-refused}
+use Rattle.ccsl_elaborate.proofs.elaborator.assembled.Goals as goal
+
+pub assemble-requires-clause-accepted : goal.assemble-requires-clause-accepted
+assemble-requires-clause-accepted c =
+    let library = plain_file c.args.library.now in
+    let file = plain_file c.args.file.now in
+    let kept : IsFile library = record { kept = c.every_file_is_kept.ensures.kept; depth = c.every_file_is_kept.ensures.depth } in
+    let kept-2 : IsFile file = record { kept = c.every_file_is_kept-2.ensures.kept; depth = c.every_file_is_kept-2.ensures.depth } in
+    let known : IsLibrary library = record { file = kept; accepted = c.requires.library } in
+    let few : cells (expand library file) ≤ MAX_CELLS = omega (arith, c.requires.cells) in
+    subst IsAccepted (sym c.requires.parts) (c.files_expand.ensures library file known kept-2 (not-refused library file c.requires.faultless few))
