@@ -1,5 +1,5 @@
 -- What is found by a number of a table of names is what is found by the name.
-use Rattle.std.proofs.Common.{◌≡◌, ℕ, zero, suc, ◌+◌, ◌<◌, ◌≤◌, List, [], ◌∷◌, ◌++◌, Bool, true, false, not, cond, nat_lt, Option, Some, None, map, length, slice_get, bytes_eq, refl, sym, ap, ◌∙◌, arith}
+use Rattle.std.proofs.Common.{◌≡◌, ℕ, zero, suc, ◌+◌, ◌<◌, ◌≤◌, List, [], ◌∷◌, ◌++◌, Bool, true, false, not, cond, nat_lt, Option, Some, None, is_none, if◌then◌else◌, map, length, slice_get, bytes_eq, refl, sym, ap, ◌∙◌, arith}
 use Rattle.std.specs.List.{zip, position_or_len}
 use Rattle.std.specs.Option.{option_map}
 use Rattle.std.proofs.lemmas.Grind.{common_steps}
@@ -9,6 +9,8 @@ use Rattle.ccsl_base.specs.Names.{find_name}
 use Rattle.ccsl_rules.specs.Settings.{Atom, ANumber, snd_of, atom_of}
 use Rattle.ccsl_ast.specs.declared.spot.Spot.{Spot}
 use Rattle.ccsl_rules.specs.Spaces.{Known, look}
+use Rattle.ccsl_spaces.specs.Places.{place_of, HasFirsts}
+use Rattle.ccsl_spaces.proofs.Places.{first-added, first-kept}
 use Rattle.ccsl_expand.specs.Seen.{atom_or_zero}
 
 the-some : {X : Type 0} (x y : X) → Some x ≡ Some y → x ≡ y
@@ -95,6 +97,16 @@ zip-append [] (b ∷ ys) x y h = absurd (omega arith)
 zip-append (a ∷ xs) [] x y h = absurd (omega arith)
 zip-append (a ∷ xs) (b ∷ ys) x y h = ap (λ l. (a, b) ∷ l) (zip-append xs ys x y (omega arith))
 
+place-less : (m n : ℕ) (i : ℕ) → cond (nat_lt m n) (Some m) None ≡ Some i → i < n
+place-less m n i e = by (nat_lt m n) refl e where
+  by : (b : Bool) → nat_lt m n ≡ b → cond b (Some m) None ≡ Some i → i < n
+  by true p q = let same : m ≡ i = cc in grind (arith, nat_tests)
+  by false p q = absurd (cc)
+
+-- a found place is one of the list
+pub place-below : (ns : List (List ℕ)) (name : List ℕ) (i : ℕ) → find_name name ns ≡ Some i → i < length ns
+place-below ns name i e = place-less (position_or_len (bytes_eq name) ns) (length ns) i e
+
 pub get-below : {X : Type 0} (xs : List X) (i : ℕ) (x : X) → slice_get xs i ≡ Some x → i < length xs
 get-below [] i x e = absurd (cc)
 get-below (y ∷ xs) zero x e = omega arith
@@ -123,3 +135,13 @@ look-map f same name [] = refl
 look-map f same name (k ∷ ks) =
     ap (λ (x : Spot). cond (bytes_eq x.name name) (Some (f k)) (look name (map f ks))) (same k)
     ∙ look-step f (bytes_eq k.name.name name) k (look name ks) (look name (map f ks)) (look-map f same name ks)
+
+-- the first places, with one more name
+pub firsts-more : (first new : List (List ℕ × ℕ)) (names : List (List ℕ)) (name : List ℕ) (fresh : Bool) → fresh ≡ is_none (place_of name first) →
+    new ≡ (if fresh then first ++ (name, length names) ∷ [] else first) → HasFirsts first names → HasFirsts new (names ++ name ∷ [])
+firsts-more first new names name fresh f e has = by fresh (place_of name first) refl f e where
+  by : (b : Bool) (o : Option ℕ) → place_of name first ≡ o → b ≡ is_none o → new ≡ (if b then first ++ (name, length names) ∷ [] else first) → HasFirsts new (names ++ name ∷ [])
+  by true None p g h = rw h (first-added first names name has p)
+  by false (Some i) p g h = rw h (first-kept first names name i has p)
+  by true (Some i) p g h = absurd (cc)
+  by false None p g h = absurd (cc)

@@ -6,28 +6,32 @@ ghost use Rattle.ccsl_rules.specs.Settings.{atom_of};
 ghost use Rattle.ccsl_expand.specs.Seen.{seen_atom, atom_or_zero};
 
 use crate::atom::Atom;
-use crate::naming::add_new;
-use ccsl_base::{Memory, Names};
+use ccsl_base::{Memory, Text};
+use ccsl_spaces::Index;
 use std::alloc::Global;
 use std::marker::Model;
 
-/// What the names of a body stand for, in the order of their declarations. A look-up takes constant time.
+/// What the names of a body stand for, in the order of their declarations; of two entries for a name the first counts. A
+/// look-up takes constant time.
 #[derive(Drop)]
 pub struct Setting {
-    names: Names,
+    alloc: Global,
+    names: Vec<Text>,
     atoms: Vec<Atom>,
+    first: Index,
 }
 
 impl Model for Setting {
-    ghost use Rattle.std.specs.Prelude.{◌≡◌, map, zip, length};
+    ghost use Rattle.std.specs.Prelude.{map, zip};
     ghost use Rattle.ccsl_rules.specs.Settings.{Setting as Pairs};
     ghost use Rattle.ccsl_expand.specs.Seen.{seen_atom};
+    ghost use Rattle.ccsl_expand.specs.Bounds.{HasEntries};
 
     ghost Value = { Pairs };
 
-    ghost view = { λ s. zip s.names (map seen_atom s.atoms.items) };
+    ghost view = { λ s. zip s.names.items (map seen_atom s.atoms.items) };
 
-    ghost invariant = { λ s. length s.names ≡ length s.atoms.items };
+    ghost invariant = { λ s. HasEntries s.first s.names.items s.atoms.items };
 }
 
 impl Setting {
@@ -36,16 +40,20 @@ impl Setting {
         ensures { result ≡ [] }
     {
         Setting {
-            names: Names::new(alloc),
+            alloc,
+            names: Vec::new(alloc),
             atoms: Vec::new(alloc),
+            first: Index::new(alloc),
         }
     }
 
-    /// The setting with one more name. A body without faults declares no name twice.
+    /// The setting with one more entry.
     pub fn with(mut self, name: &[u8], atom: Atom) -> Result<Setting, Memory>
         ensures { IfOk result (λ s. s ≡ self ++ (name.now, seen_atom atom) ∷ []) }
     {
-        add_new(&mut self.names, name)?;
+        let text = Text::new(Vec::from_slice(self.alloc, name)?);
+        self.first.add(name, self.names.len())?;
+        self.names.push(text)?;
         self.atoms.push(atom)?;
         Ok(self)
     }
@@ -54,9 +62,9 @@ impl Setting {
     pub fn find(&self, name: &[u8]) -> Option<&Atom>
         ensures { atom_or_zero (option_map (λ a. seen_atom a.now) result) ≡ atom_of self.now name.now }
     {
-        match self.names.find(name) {
+        match self.first.find(name) {
             None => None,
-            Some(place) => Some(&self.atoms[place as usize]),
+            Some(place) => Some(&self.atoms[place]),
         }
     }
 }
