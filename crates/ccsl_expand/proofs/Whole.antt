@@ -1,6 +1,6 @@
 -- The expansion by numbered definitions is the expansion.
 use Rattle.std.proofs.Common.{◌≡◌, ℕ, ◌+◌, List, [], ◌∷◌, ◌++◌, append_assoc, take, map, flat_map, filter_map, length, refl, sym, ap, ◌∙◌}
-use Rattle.ccsl_ast.specs.Trees.{PlainDefinition, DRelation, DGroup, PlainFile}
+use Rattle.ccsl_ast.specs.Trees.{SLine, PlainDefinition, DRelation, DGroup, PlainFile}
 use Rattle.ccsl_words.specs.Word.{BinaryWord}
 use Rattle.ccsl_kernel.specs.Syntax.{System, Body, Expression}
 use Rattle.ccsl_kernel.specs.declared.constraint.Constraint.{Constraint}
@@ -78,11 +78,11 @@ parts-whole words calls blocks declared items W names d w groups definitions con
     ∙ ap (λ n. system_of words n (length declared) (length declared + length (filter_map written_item items)) (numbered_groups (K n) blocks) (map (item_definition (K n)) all) (filter_map (constraint_of n) items)) en)))))
 
 -- the expansion, from what is read
-pub expand-whole : (library file : PlainFile) (words : List BinaryWord) (calls : List (Known Callee)) (blocks : List NumberedDefinition) (start : ℕ) →
+pub expand-whole : (library file : PlainFile) (words : List BinaryWord) (calls : List (Known Callee)) (blocks : List NumberedDefinition) (start : ℕ) (lines : List SLine) →
     words ≡ words_of library file → calls ≡ calls_space 0 0 (library.definitions ++ file.definitions) → blocks ≡ numbered_files library file →
-    start ≡ length (sheet_texts library) + length (flat_map block_texts file.definitions) →
-    expanded_texts calls words blocks start file.lines ≡ expand library file
-expand-whole library file words calls blocks start ew ec eb es =
+    start ≡ length (sheet_texts library) + length (flat_map block_texts file.definitions) → lines ≡ file.lines →
+    expanded_texts calls words blocks start lines ≡ expand library file
+expand-whole library file words calls blocks start lines ew ec eb es el =
     let W = words_of library file in
     let C = calls_space 0 0 (library.definitions ++ file.definitions) in
     let B = numbered_files library file in
@@ -90,9 +90,10 @@ expand-whole library file words calls blocks start ew ec eb es =
     let declared = flat_map declared_names file.lines in
     let body : Unfoldings → List Item = λ R. unfold_body W C R [] (own_clocks [] file.lines) S 0 file.lines in
     let K : Tables = record { names = names_of declared (items_of library file); words = W; calls = C } in
-    ap (λ x. expanded_texts calls x blocks start file.lines) ew
+    ap (λ x. expanded_texts calls words blocks start x) el
+    ∙ (ap (λ x. expanded_texts calls x blocks start file.lines) ew
     ∙ (ap (λ x. expanded_texts x W blocks start file.lines) ec
     ∙ (ap (λ x. expanded_texts C W x start file.lines) eb
     ∙ (ap (λ x. expanded_texts C W B x file.lines) es
     ∙ (ap (λ R. expanded W C B declared (body R)) (unfoldings-whole W C library file)
-    ∙ ap (λ g. record (expand library file) { groups = g }) (groups-whole K library file)))))
+    ∙ ap (λ g. record (expand library file) { groups = g }) (groups-whole K library file))))))

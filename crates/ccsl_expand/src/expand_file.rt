@@ -1,6 +1,7 @@
 //! The expansion of a file behind a library.
 
-ghost use Rattle.std.specs.Prelude.{◌≡◌, ◌+◌, ◌++◌, [], length, map, flat_map, filter_map, IfOk, OnOk};
+ghost use Rattle.std.specs.Prelude.{◌≡◌, ◌≤◌, ◌+◌, ◌++◌, [], length, map, flat_map, filter_map, IfOk, OnOk};
+ghost use Rattle.ccsl_base.specs.declared.limits.TheConstants.{MAX_CLOCKS};
 ghost use Rattle.ccsl_ast.specs.Trees.{plain_sline, plain_definition};
 ghost use Rattle.ccsl_ast.specs.Files.{plain_file};
 ghost use Rattle.ccsl_kernel.specs.Plain.{plain_expr, plain_group, plain_system};
@@ -11,17 +12,19 @@ ghost use Rattle.ccsl_spaces.specs.Callees.{seen_call};
 ghost use Rattle.ccsl_expand.specs.Numbered.{word_in, numbered, numbered_groups};
 ghost use Rattle.ccsl_expand.specs.Seen.{seen_tables, seen_block};
 ghost use Rattle.ccsl_expand.specs.Items.{seen_item, all_unfolded};
+ghost use Rattle.ccsl_expand.specs.Bounds.{AreNew};
 ghost use Rattle.ccsl_expand.specs.Expanded.{expanded, expanded_texts, numbered_files};
 
 use crate::frame::{Frame, system_setting};
 use crate::groups::groups;
 use crate::item::Item;
+use crate::naming::table;
 use crate::system::{add_hidden, add_written, constraints, declared, push_hidden, push_written};
 use crate::tables::Tables;
 use crate::texts::{Block, read_definitions, read_system};
 use crate::unfold::{Sources, unfold_system};
 use ccsl_ast::{File, SystemLine};
-use ccsl_base::{Memory, Names, Seq, Text};
+use ccsl_base::{Memory, Seq, Text};
 use ccsl_kernel::{Expr, Parts};
 use ccsl_spaces::{Callee, Space, calls_space};
 use ccsl_words::Word;
@@ -102,13 +105,13 @@ fn unfolded<'a>(
 /// The names of clocks, and how many are declared and written.
 #[derive(Drop)]
 struct Naming {
-    names: Names,
+    names: Vec<Text>,
     declared: u32,
     written: u32,
 }
 
 fn named(alloc: Global, lines: &[SystemLine], items: &[Item<'_>]) -> Result<Naming, Memory>
-    ensures names { IfOk result (λ n. n.names ≡
+    ensures names { IfOk result (λ n. n.names.items ≡
         names_of (flat_map declared_names (map plain_sline lines.now)) (map seen_item items.now)) }
     ensures declared { IfOk result (λ n. n.declared ≡
         length (flat_map declared_names (map plain_sline lines.now))) }
@@ -116,10 +119,10 @@ fn named(alloc: Global, lines: &[SystemLine], items: &[Item<'_>]) -> Result<Nami
         length (filter_map written_item (map seen_item items.now))) }
 {
     let mut names = declared(alloc, lines)?;
-    let declared = names.len();
-    add_written(&mut names, items)?;
-    let written = names.len();
-    add_hidden(&mut names, items)?;
+    let declared = u32::try_from(names.len()).map_err(|_| Memory)?;
+    add_written(alloc, &mut names, items)?;
+    let written = u32::try_from(names.len()).map_err(|_| Memory)?;
+    add_hidden(alloc, &mut names, items)?;
     Ok(Naming {
         names,
         declared,
@@ -149,21 +152,24 @@ fn parts<'a>(
     lines: &[SystemLine],
     items: &[Item<'_>],
 ) -> Result<Parts, Memory>
+    requires new { AreNew (names_of (flat_map declared_names (map plain_sline lines.now)) (map seen_item items.now)) }
+    requires few { length (names_of (flat_map declared_names (map plain_sline lines.now)) (map seen_item items.now)) ≤ MAX_CLOCKS }
     ensures { IfOk result (λ parts. plain_system parts ≡
         expanded words.items (map seen_call calls.now) (map seen_block blocks.now)
         (flat_map declared_names (map plain_sline lines.now)) (map seen_item items.now)) }
 {
     let named = named(alloc, lines, items)?;
-    let constraints = constraints(alloc, &named.names, items)?;
+    let names = table(alloc, &named.names)?;
+    let constraints = constraints(alloc, &names, items)?;
     let tables = Tables {
-        names: &named.names,
+        names: &names,
         words: &words,
         calls,
     };
     let groups = groups(alloc, &tables, blocks)?;
     let definitions = definitions(alloc, &tables, items)?;
     Ok(Parts {
-        names: named.names,
+        names,
         declared: named.declared,
         written: named.written,
         groups: Seq::new(groups),
@@ -181,6 +187,10 @@ fn expand_texts<'a>(
     start: u32,
     lines: &'a [SystemLine],
 ) -> Result<Parts, Memory>
+    requires new { AreNew (expanded_texts (map seen_call calls.now) words.items (map seen_block blocks.now) start
+        (map plain_sline lines.now)).names }
+    requires few { length (expanded_texts (map seen_call calls.now) words.items (map seen_block blocks.now) start
+        (map plain_sline lines.now)).names ≤ MAX_CLOCKS }
     ensures { IfOk result (λ parts. plain_system parts ≡
         expanded_texts (map seen_call calls.now) words.items (map seen_block blocks.now) start
         (map plain_sline lines.now)) }
@@ -194,9 +204,11 @@ fn expand_texts<'a>(
     parts(alloc, calls, words, blocks, lines, &items)
 }
 
-/// The parts of the system that a file behind a library stands for. Both are to be without faults: the system of a file with
-/// a fault may be one that no parts hold, and then `Memory` is answered.
+/// The parts of the system that a file behind a library stands for. Its texts are to be words: where one is not, `Memory` is
+/// answered.
 pub fn expand(alloc: Global, library: &File, file: &File) -> Result<Parts, Memory>
+    requires new { AreNew (expand (plain_file library.now) (plain_file file.now)).names }
+    requires few { length (expand (plain_file library.now) (plain_file file.now)).names ≤ MAX_CLOCKS }
     ensures { IfOk result (λ parts.
         plain_system parts ≡ expand (plain_file library.now) (plain_file file.now)) }
 {

@@ -1,18 +1,30 @@
-//! The names of clocks, one after another.
+//! The names of clocks, one after another, and the table of them.
 
-ghost use Rattle.std.specs.Prelude.{◌≡◌, [], ◌∷◌, ◌++◌, OnOk};
+ghost use Rattle.std.specs.Prelude.{◌≡◌, ◌≤◌, [], ◌∷◌, ◌++◌, length, IfOk, OnOk};
+ghost use Rattle.ccsl_base.specs.declared.limits.TheConstants.{MAX_CLOCKS};
+ghost use Rattle.ccsl_expand.specs.Bounds.{AreNew};
 
-use ccsl_base::{Memory, Names};
+use ccsl_base::{Memory, Names, Text};
+use std::alloc::Global;
 
-/// Adds a name that is not there. Files without faults give no name twice, neither to a body nor to a system.
-pub fn add_new(names: &mut Names, name: &[u8]) -> Result<(), Memory>
-    ensures { OnOk result (names.new ≡ names.old ++ name.now ∷ []) }
+/// Adds a name to a list.
+pub fn push_name(alloc: Global, names: &mut Vec<Text>, name: &[u8]) -> Result<(), Memory>
+    ensures { OnOk result (names.new.items ≡ names.old.items ++ name.now ∷ []) }
 {
-    if names.len() == u32::MAX {
-        return Err(Memory);
+    let text = Text::new(Vec::from_slice(alloc, name)?);
+    names.push(text)?;
+    Ok(())
+}
+
+/// The table of names, of which each is new behind those before it.
+pub fn table(alloc: Global, names: &[Text]) -> Result<Names, Memory>
+    requires new { AreNew names.now }
+    requires few { length names.now ≤ MAX_CLOCKS }
+    ensures { IfOk result (λ table. table ≡ names.now) }
+{
+    let mut table = Names::new(alloc);
+    for name in names {
+        table.add(name.bytes())?;
     }
-    match names.add(name)? {
-        Some(_) => Ok(()),
-        None => Err(Memory),
-    }
+    Ok(table)
 }

@@ -13,7 +13,7 @@ ghost use Rattle.ccsl_expand.specs.Items.{seen_item};
 use crate::atom::Atom;
 use crate::expression::resolve;
 use crate::item::Item;
-use crate::naming::add_new;
+use crate::naming::push_name;
 use crate::setting::Setting;
 use crate::tables::{Tables, clock_number};
 use ccsl_ast::{Relation, Spot, SystemLine};
@@ -21,77 +21,77 @@ use ccsl_base::{Memory, Names, Text};
 use ccsl_kernel::{Constraint, Expr, RelationKind};
 use std::alloc::Global;
 
-fn add_spots(names: &mut Names, spots: &[Spot]) -> Result<(), Memory>
-    ensures { OnOk result (names.new ≡ names.old ++ map (λ s. s.name) spots.now) }
+fn add_spots(alloc: Global, names: &mut Vec<Text>, spots: &[Spot]) -> Result<(), Memory>
+    ensures { OnOk result (names.new.items ≡ names.old.items ++ map (λ s. s.name) spots.now) }
 {
     for spot in spots {
-        add_new(names, spot.name.bytes())?;
+        push_name(alloc, names, spot.name.bytes())?;
     }
     Ok(())
 }
 
-fn add_declared_by(names: &mut Names, line: &SystemLine) -> Result<(), Memory>
-    ensures { OnOk result (names.new ≡ names.old ++ declared_names (plain_sline line.now)) }
+fn add_declared_by(alloc: Global, names: &mut Vec<Text>, line: &SystemLine) -> Result<(), Memory>
+    ensures { OnOk result (names.new.items ≡ names.old.items ++ declared_names (plain_sline line.now)) }
 {
     match line {
-        SystemLine::Clocks(spots) => add_spots(names, spots.members()),
+        SystemLine::Clocks(spots) => add_spots(alloc, names, spots.members()),
         SystemLine::Line(_) => Ok(()),
     }
 }
 
 /// The names of the clocks that the system's lines declare.
-pub fn declared(alloc: Global, lines: &[SystemLine]) -> Result<Names, Memory>
-    ensures { IfOk result (λ names. names ≡ flat_map declared_names (map plain_sline lines.now)) }
+pub fn declared(alloc: Global, lines: &[SystemLine]) -> Result<Vec<Text>, Memory>
+    ensures { IfOk result (λ names. names.items ≡ flat_map declared_names (map plain_sline lines.now)) }
 {
-    let mut names = Names::new(alloc);
+    let mut names = Vec::new(alloc);
     for line in lines {
-        add_declared_by(&mut names, line)?;
+        add_declared_by(alloc, &mut names, line)?;
     }
     Ok(names)
 }
 
-fn add_if_written(names: &mut Names, item: &Item<'_>) -> Result<(), Memory>
-    ensures { OnOk result (names.new ≡
-        names.old ++ map item_name (option_to_list (written_item (seen_item item.now)))) }
+fn add_if_written(alloc: Global, names: &mut Vec<Text>, item: &Item<'_>) -> Result<(), Memory>
+    ensures { OnOk result (names.new.items ≡
+        names.old.items ++ map item_name (option_to_list (written_item (seen_item item.now)))) }
 {
     match item {
         Item::Defines { path, name, .. } if path.bytes().is_empty() => {
-            add_new(names, name.bytes())
+            push_name(alloc, names, name.bytes())
         }
         _ => Ok(()),
     }
 }
 
 /// Adds the clocks that the system defines.
-pub fn add_written(names: &mut Names, items: &[Item<'_>]) -> Result<(), Memory>
-    ensures { OnOk result (names.new ≡
-        names.old ++ map item_name (filter_map written_item (map seen_item items.now))) }
+pub fn add_written(alloc: Global, names: &mut Vec<Text>, items: &[Item<'_>]) -> Result<(), Memory>
+    ensures { OnOk result (names.new.items ≡
+        names.old.items ++ map item_name (filter_map written_item (map seen_item items.now))) }
 {
     for item in items {
-        add_if_written(names, item)?;
+        add_if_written(alloc, names, item)?;
     }
     Ok(())
 }
 
-fn add_if_hidden(names: &mut Names, item: &Item<'_>) -> Result<(), Memory>
-    ensures { OnOk result (names.new ≡
-        names.old ++ map item_name (option_to_list (hidden_item (seen_item item.now)))) }
+fn add_if_hidden(alloc: Global, names: &mut Vec<Text>, item: &Item<'_>) -> Result<(), Memory>
+    ensures { OnOk result (names.new.items ≡
+        names.old.items ++ map item_name (option_to_list (hidden_item (seen_item item.now)))) }
 {
     match item {
         Item::Defines { path, name, .. } if !path.bytes().is_empty() => {
-            add_new(names, name.bytes())
+            push_name(alloc, names, name.bytes())
         }
         _ => Ok(()),
     }
 }
 
 /// Adds the clocks that relations hide.
-pub fn add_hidden(names: &mut Names, items: &[Item<'_>]) -> Result<(), Memory>
-    ensures { OnOk result (names.new ≡
-        names.old ++ map item_name (filter_map hidden_item (map seen_item items.now))) }
+pub fn add_hidden(alloc: Global, names: &mut Vec<Text>, items: &[Item<'_>]) -> Result<(), Memory>
+    ensures { OnOk result (names.new.items ≡
+        names.old.items ++ map item_name (filter_map hidden_item (map seen_item items.now))) }
 {
     for item in items {
-        add_if_hidden(names, item)?;
+        add_if_hidden(alloc, names, item)?;
     }
     Ok(())
 }

@@ -1,13 +1,43 @@
-use Rattle.std.proofs.Common.{◌≡◌, ◌++◌, map, IfOk, subst, ap, ◌∙◌}
+use Rattle.std.proofs.Common.{◌≡◌, ◌≤◌, ◌++◌, map, length, IfOk, subst, sym, ap, ◌∙◌}
+use Rattle.ccsl_base.specs.declared.limits.TheConstants.{MAX_CLOCKS}
 use Rattle.ccsl_ast.specs.Trees.{plain_definition, plain_sline}
 use Rattle.ccsl_ast.specs.Files.{plain_file}
 use Rattle.ccsl_kernel.specs.Plain.{plain_system}
 use Rattle.ccsl_rules.specs.Spaces.{calls_space}
 use Rattle.ccsl_spaces.specs.Callees.{seen_call}
 use Rattle.ccsl_expand.specs.Seen.{seen_block}
-use Rattle.ccsl_expand.specs.Expanded.{expanded_texts}
 use Rattle.ccsl_expand.proofs.Whole.{expand-whole}
 use Rattle.ccsl_expand.proofs.expand_file.expand.Goals as goal
+
+pub expand_texts-requires-clause-new : goal.expand_texts-requires-clause-new
+expand_texts-requires-clause-new c = λ front back name e.
+    let library = plain_file c.args.library.now in
+    let file = plain_file c.args.file.now in
+    let calls = map seen_call c.in_ok-calls.calls in
+    let texts = c.in_ok-texts.texts in
+    let space =
+    c.in_ok-calls.ensures
+    ∙ (ap (λ l. calls_space 0 0 (map plain_definition l ++ map plain_definition c.members-2.result.now)) c.members.ensures
+    ∙ ap (λ f. calls_space 0 0 (library.definitions ++ map plain_definition f)) c.members-2.ensures) in
+    let whole =
+    expand-whole library file texts.words.items calls (map seen_block c.deref.result.now) texts.start (map plain_sline c.members-3.result.now)
+    c.in_ok-texts.ensures.words space (ap (map seen_block) c.deref.ensures.value ∙ c.in_ok-texts.ensures.blocks) c.in_ok-texts.ensures.start (ap (map plain_sline) c.members-3.ensures) in
+    c.requires.new front back name (sym (ap (λ K. K.names) whole) ∙ e)
+
+pub expand_texts-requires-clause-few : goal.expand_texts-requires-clause-few
+expand_texts-requires-clause-few c =
+    let library = plain_file c.args.library.now in
+    let file = plain_file c.args.file.now in
+    let calls = map seen_call c.in_ok-calls.calls in
+    let texts = c.in_ok-texts.texts in
+    let space =
+    c.in_ok-calls.ensures
+    ∙ (ap (λ l. calls_space 0 0 (map plain_definition l ++ map plain_definition c.members-2.result.now)) c.members.ensures
+    ∙ ap (λ f. calls_space 0 0 (library.definitions ++ map plain_definition f)) c.members-2.ensures) in
+    let whole =
+    expand-whole library file texts.words.items calls (map seen_block c.deref.result.now) texts.start (map plain_sline c.members-3.result.now)
+    c.in_ok-texts.ensures.words space (ap (map seen_block) c.deref.ensures.value ∙ c.in_ok-texts.ensures.blocks) c.in_ok-texts.ensures.start (ap (map plain_sline) c.members-3.ensures) in
+    subst (λ K. length K.names ≤ MAX_CLOCKS) (sym whole) c.requires.few
 
 pub returns : goal.returns
 returns c =
@@ -20,7 +50,6 @@ returns c =
     ∙ (ap (λ l. calls_space 0 0 (map plain_definition l ++ map plain_definition c.members-2.result.now)) c.members.ensures
     ∙ ap (λ f. calls_space 0 0 (library.definitions ++ map plain_definition f)) c.members-2.ensures) in
     let whole =
-    ap (λ ls. expanded_texts calls texts.words.items (map seen_block c.deref.result.now) texts.start (map plain_sline ls)) c.members-3.ensures
-    ∙ (ap (λ bs. expanded_texts calls texts.words.items (map seen_block bs) texts.start file.lines) c.deref.ensures.value
-    ∙ expand-whole library file texts.words.items calls (map seen_block texts.blocks.items) texts.start c.in_ok-texts.ensures.words space c.in_ok-texts.ensures.blocks c.in_ok-texts.ensures.start) in
+    expand-whole library file texts.words.items calls (map seen_block c.deref.result.now) texts.start (map plain_sline c.members-3.result.now)
+    c.in_ok-texts.ensures.words space (ap (map seen_block) c.deref.ensures.value ∙ c.in_ok-texts.ensures.blocks) c.in_ok-texts.ensures.start (ap (map plain_sline) c.members-3.ensures) in
     subst (λ s. IfOk c.expand_texts.result (λ parts. plain_system parts ≡ s)) whole c.expand_texts.ensures

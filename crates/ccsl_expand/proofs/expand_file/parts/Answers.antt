@@ -1,4 +1,5 @@
-use Rattle.std.proofs.Common.{map, flat_map, sym, ap, ◌∙◌}
+use Rattle.std.proofs.Common.{◌≡◌, ◌≤◌, map, flat_map, length, subst, sym, ap, ◌∙◌}
+use Rattle.ccsl_base.specs.declared.limits.TheConstants.{MAX_CLOCKS}
 use Rattle.ccsl_ast.specs.Trees.{plain_sline}
 use Rattle.ccsl_kernel.specs.Plain.{plain_expr, plain_group}
 use Rattle.ccsl_rules.specs.Expansion.{declared_names}
@@ -9,16 +10,22 @@ use Rattle.ccsl_expand.specs.Expanded.{expanded}
 use Rattle.ccsl_expand.proofs.Whole.{parts-whole}
 use Rattle.ccsl_expand.proofs.expand_file.parts.Goals as goal
 
+pub table-requires-clause-new : goal.table-requires-clause-new
+table-requires-clause-new c = λ front back name e. c.requires.new front back name (sym (c.deref.ensures.value ∙ c.in_ok-named.ensures.names) ∙ e)
+
+pub table-requires-clause-few : goal.table-requires-clause-few
+table-requires-clause-few c = subst (λ n. length n ≤ MAX_CLOCKS) (sym (c.deref.ensures.value ∙ c.in_ok-named.ensures.names)) c.requires.few
+
 pub returns : goal.returns
 returns c =
     let calls = map seen_call c.args.calls.now in
     let blocks = map seen_block c.args.blocks.now in
     let declared = flat_map declared_names (map plain_sline c.args.lines.now) in
     let items = map seen_item c.args.items.now in
-    parts-whole c.deref.result.now calls blocks declared items c.new-2.result c.in_ok-named.named.names c.in_ok-named.named.declared c.in_ok-named.named.written
+    parts-whole c.deref-2.result.now calls blocks declared items c.new-2.result c.in_ok-names.names c.in_ok-named.named.declared c.in_ok-named.named.written
     (map plain_group c.new.result) (map plain_expr c.new-3.result) c.new-4.result
-    (c.new-2.ensures ∙ sym c.deref.ensures.value) c.in_ok-named.ensures.names c.in_ok-named.ensures.declared c.in_ok-named.ensures.written
+    (c.new-2.ensures ∙ sym c.deref-2.ensures.value) (c.in_ok-names.ensures ∙ (c.deref.ensures.value ∙ c.in_ok-named.ensures.names)) c.in_ok-named.ensures.declared c.in_ok-named.ensures.written
     (ap (map plain_group) c.new.ensures ∙ c.in_ok-groups.ensures)
     (ap (map plain_expr) c.new-3.ensures ∙ c.in_ok-definitions.ensures)
     (c.new-4.ensures ∙ c.in_ok-constraints.ensures)
-    ∙ ap (λ w. expanded w calls blocks declared items) c.deref.ensures.value
+    ∙ ap (λ w. expanded w calls blocks declared items) c.deref-2.ensures.value

@@ -21,7 +21,7 @@ returns-in-Some c =
     let named = place-below s.names.items c.args.name.now c.in-Some.place found in
     let below : c.in-Some.place < length s.atoms.items = omega (arith, c.self.invariant.as_many) in
     let at : slice_get atoms c.in-Some.place ≡ Some (seen_atom c.index.result.now) =
-        get-map seen_atom s.atoms.items c.in-Some.place c.index.result.now
-        (slice_get_read s.atoms.items (length s.atoms.items) c.in-Some.place c.index.result.now refl below c.index.ensures) in
+    get-map seen_atom s.atoms.items c.in-Some.place c.index.result.now
+    (slice_get_read s.atoms.items (length s.atoms.items) c.in-Some.place c.index.result.now refl below c.index.ensures) in
     atom_of-there s.names.items atoms c.args.name.now c.in-Some.place (seen_atom c.index.result.now) whole found at
     ∙ ap (λ σ. atom_of σ c.args.name.now) c.self.view_is

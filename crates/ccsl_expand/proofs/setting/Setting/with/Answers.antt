@@ -31,5 +31,5 @@ invariant_of-self c =
     record {
       as_many = omega (arith, c.self.invariant.as_many);
       first_places = subst (λ n. HasFirsts c.add.new.self n) (sym names)
-      (firsts-more s.first c.add.new.self s.names.items c.args.name.now c.in_ok-add.field-0 c.in_ok-add.ensures.fresh added c.self.invariant.first_places);
+          (firsts-more s.first c.add.new.self s.names.items c.args.name.now c.in_ok-add.field-0 c.in_ok-add.ensures.fresh added c.self.invariant.first_places);
     }
