@@ -1,5 +1,5 @@
--- The refusal, cause by cause.
-use Rattle.std.proofs.Common.{◌≡◌, ℕ, ◌<◌, ◌≤◌, Bool, true, false, nat_lt, Option, Some, None, length, refl, ap, ◌∙◌, arith, if◌then◌else◌}
+-- A file without faults and with no total above its limit is not refused.
+use Rattle.std.proofs.Common.{◌≡◌, ℕ, ◌≤◌, Bool, true, false, nat_lt, Option, Some, None, length, refl, ap, ◌∙◌, arith, if◌then◌else◌}
 use Rattle.std.proofs.lemmas.Bool.Decides.{nat_tests}
 use Rattle.ccsl_base.specs.declared.limits.TheConstants.{MAX_CLOCKS, MAX_CONSTRAINTS, MAX_CELLS}
 use Rattle.ccsl_ast.specs.Trees.{PlainFile}
@@ -7,14 +7,10 @@ use Rattle.ccsl_kernel.specs.Syntax.{System}
 use Rattle.ccsl_kernel.specs.Cells.{saturated, cells}
 use Rattle.ccsl_rules.specs.declared.refusal.Refusal.{Refusal}
 use Rattle.ccsl_rules.specs.declared.refusal.Refusal.TheVariants as refused
-use Rattle.ccsl_rules.specs.Faults.{Fault}
 use Rattle.ccsl_rules.specs.Blocks.{first_fault}
 use Rattle.ccsl_rules.specs.Expansion.{expand}
-use Rattle.ccsl_rules.specs.Elaborated.{refusal_for, totals_refusal, refusal_with, refusal}
+use Rattle.ccsl_rules.specs.Elaborated.{totals_refusal, refusal_with, refusal}
 use Rattle.ccsl_accepts.specs.Acceptance.{IsFaultless}
-
-above : (m n : ℕ) → m < n → nat_lt m n ≡ true
-above m n h = grind (arith, nat_tests)
 
 within : (m n : ℕ) → n ≤ m → nat_lt m n ≡ false
 within m n h = grind (arith, nat_tests)
@@ -45,21 +41,6 @@ module _ (library file : PlainFile) where
   totals : (a b d : Bool) → clocks_test ≡ a → constraints_test ≡ b → cells_test ≡ d →
       totals_refusal K ≡ first_of_three a b d (refused.TooManyClocks (saturated (length K.names))) (refused.TooManyConstraints (saturated (length K.constraints))) (refused.StateTooLarge (saturated (cells K)))
   totals a b d p q r = tests clocks_test constraints_test cells_test a b d _ _ _ p q r
-
-  pub refused-fault : (f : Fault) → first_fault library file ≡ Some f → refusal library file ≡ Some (refusal_for f.cause f.at)
-  refused-fault f e = ap (λ x. refusal_with x K) e
-
-  pub refused-clocks : first_fault library file ≡ None → MAX_CLOCKS < length K.names → refusal library file ≡ Some (refused.TooManyClocks (saturated (length K.names)))
-  refused-clocks e h = no-fault e ∙ totals true constraints_test cells_test (above MAX_CLOCKS (length K.names) h) refl refl
-
-  pub refused-constraints : first_fault library file ≡ None → length K.names ≤ MAX_CLOCKS → MAX_CONSTRAINTS < length K.constraints →
-      refusal library file ≡ Some (refused.TooManyConstraints (saturated (length K.constraints)))
-  refused-constraints e g h =
-      no-fault e ∙ totals false true cells_test (within MAX_CLOCKS (length K.names) g) (above MAX_CONSTRAINTS (length K.constraints) h) refl
-
-  pub refused-cells : IsFaultless library file → MAX_CELLS < cells K → refusal library file ≡ Some (refused.StateTooLarge (saturated (cells K)))
-  refused-cells s h =
-      no-fault s.no_fault ∙ totals false false true (within MAX_CLOCKS (length K.names) s.few_clocks) (within MAX_CONSTRAINTS (length K.constraints) s.few_constraints) (above MAX_CELLS (cells K) h)
 
   pub not-refused : IsFaultless library file → cells K ≤ MAX_CELLS → refusal library file ≡ None
   not-refused s h =

@@ -11,7 +11,7 @@ ghost use Rattle.ccsl_accepts.specs.Acceptance.{empty, IsFaultless};
 ghost use Rattle.ccsl_elaborate.specs.Answered.{IsAnswer};
 
 use crate::counts::{clock_count, constraint_count};
-use ccsl_accepts::laws::files_expand;
+use ccsl_accepts::laws::{files_expand, names_are_distinct};
 use ccsl_ast::File;
 use ccsl_ast::laws::every_file_is_kept;
 use ccsl_base::{MAX_CELLS, MAX_CLOCKS, MAX_CONSTRAINTS, Memory};
@@ -44,11 +44,16 @@ fn refused_at_once(alloc: Global, library: &File, file: &File) -> Result<Option<
 
 // The expansion, and its cells.
 fn built(alloc: Global, library: &File, file: &File) -> Result<(Parts, u32), Memory>
+    requires library { refusal empty (plain_file library.now) ≡ None }
+    requires faultless { IsFaultless (plain_file library.now) (plain_file file.now) }
     ensures parts { IfOk result (λ made.
         plain_system made.0 ≡ expand (plain_file library.now) (plain_file file.now)) }
     ensures cells { IfOk result (λ made.
         made.1 ≡ saturated (cells (expand (plain_file library.now) (plain_file file.now)))) }
 {
+    every_file_is_kept(library);
+    every_file_is_kept(file);
+    names_are_distinct();
     let parts = expand(alloc, library, file)?;
     let count = parts.cells(alloc)?;
     Ok((parts, count))

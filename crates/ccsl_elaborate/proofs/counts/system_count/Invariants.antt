@@ -1,8 +1,7 @@
 -- The sum so far and that of the rest are the whole.
-use Rattle.std.proofs.Common.{◌≡◌, ◌≤◌, ◌+◌, drop, map, length, flat_map}
-use Rattle.ccsl_ast.specs.Trees.{SLineOf, plain_line, plain_sline, plain_definition}
-use Rattle.ccsl_rules.specs.Counts.{cut, body_count, counts}
-use Rattle.ccsl_rules.specs.Expansion.{declared_names}
+use Rattle.std.proofs.Common.{◌≡◌, ◌≤◌, ◌+◌, drop, map}
+use Rattle.ccsl_ast.specs.Trees.{plain_sline}
+use Rattle.ccsl_rules.specs.Counts.{cut, body_count}
 use Rattle.ccsl_spaces.specs.Callees.{seen_call}
 use Rattle.ccsl_elaborate.specs.Weighed.{seen_weights}
 use Rattle.ccsl_elaborate.proofs.counts.system_count.Given as goal
