@@ -92,7 +92,8 @@ fn judged(alloc: Global, library: &File, file: &File) -> Result<Result<System, R
 pub fn elaborate(alloc: Global, file: &File, library: &File) -> Result<System, Refusal>
     requires library { refusal empty (plain_file library.now) ≡ None }
     ensures accepted { OnOk result (refusal (plain_file library.now) (plain_file file.now) ≡ None) }
-    ensures expansion { IfOk result (λ system. system ≡ expand (plain_file library.now) (plain_file file.now)) }
+    ensures expansion { IfOk result (λ system.
+        system ≡ expand (plain_file library.now) (plain_file file.now)) }
     ensures refused { IfErr result (λ r.
         r ≢ Refusal.Memory → refusal (plain_file library.now) (plain_file file.now) ≡ Some r) }
 {

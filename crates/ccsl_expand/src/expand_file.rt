@@ -115,8 +115,8 @@ fn named(alloc: Global, lines: &[SystemLine], items: &[Item<'_>]) -> Result<Nami
         names_of (flat_map declared_names (map plain_sline lines.now)) (map seen_item items.now)) }
     ensures declared { IfOk result (λ n. n.declared ≡
         length (flat_map declared_names (map plain_sline lines.now))) }
-    ensures written { IfOk result (λ n. n.written ≡ length (flat_map declared_names (map plain_sline lines.now)) +
-        length (filter_map written_item (map seen_item items.now))) }
+    ensures written { IfOk result (λ n. n.written ≡
+        length (flat_map declared_names (map plain_sline lines.now)) + length (filter_map written_item (map seen_item items.now))) }
 {
     let mut names = declared(alloc, lines)?;
     let declared = u32::try_from(names.len()).map_err(|_| Memory)?;
@@ -153,7 +153,8 @@ fn parts<'a>(
     items: &[Item<'_>],
 ) -> Result<Parts, Memory>
     requires new { AreNew (names_of (flat_map declared_names (map plain_sline lines.now)) (map seen_item items.now)) }
-    requires few { length (names_of (flat_map declared_names (map plain_sline lines.now)) (map seen_item items.now)) ≤ MAX_CLOCKS }
+    requires few { length (names_of (flat_map declared_names (map plain_sline lines.now)) (map seen_item items.now))
+        ≤ MAX_CLOCKS }
     ensures { IfOk result (λ parts. plain_system parts ≡
         expanded words.items (map seen_call calls.now) (map seen_block blocks.now)
         (flat_map declared_names (map plain_sline lines.now)) (map seen_item items.now)) }

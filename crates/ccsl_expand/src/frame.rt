@@ -41,7 +41,8 @@ fn bind_line(
     line: &RelationLine,
 ) -> Result<Setting, Memory>
     ensures { IfOk result (λ s.
-        s ≡ setting ++ map (λ x. (x.name, AClock (inside path.now x.name))) (declares (SLineOf (plain_line line.now)))) }
+        s ≡ setting ++
+        map (λ x. (x.name, AClock (inside path.now x.name))) (declares (SLineOf (plain_line line.now)))) }
 {
     match line {
         RelationLine::Define(name, _) => bind_clock(alloc, setting, path, name),
