@@ -1,4 +1,4 @@
-use Rattle.std.proofs.Common.{◌≡◌, ◌≤◌, map, flat_map, length, subst, sym, ap, ◌∙◌}
+use Rattle.std.proofs.Common.{◌≤◌, map, flat_map, length, subst, sym, ap, ◌∙◌}
 use Rattle.ccsl_base.specs.declared.limits.TheConstants.{MAX_CLOCKS}
 use Rattle.ccsl_ast.specs.Trees.{plain_sline}
 use Rattle.ccsl_kernel.specs.Plain.{plain_expr, plain_group}
