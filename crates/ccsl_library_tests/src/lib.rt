@@ -1,0 +1,5 @@
+//! Specifications behind the library.
+#![tactic(auto)]
+
+#[cfg(test)]
+mod members;
