@@ -121,7 +121,7 @@ module _ (K : System) where
     constraint-holds rows row i c l is =
         let n : length (X rows) ≡ length rows = X-length rows in
         let counted : (x : ℕ) → clock_count (X (rows ++ row ∷ [])) x (length rows) ≡ clock_count (X rows) x (length (X rows)) = λ x.
-            ap₂ (λ T k. clock_count T x k) (X-more rows row) (sym n) ∙ count-before (X rows) (next_step rows row) x (length (X rows)) (omega arith) in
+        ap₂ (λ T k. clock_count T x k) (X-more rows row) (sym n) ∙ count-before (X rows) (next_step rows row) x (length (X rows)) (omega arith) in
         ap (λ f. eval f (step_at (X (rows ++ row ∷ [])) (length rows))) (item-constraint K (X (rows ++ row ∷ [])) (length rows) i c l is)
         ∙ ap₂ (λ a b. eval (relation_formula c.kind c.left c.right a b) (step_at (X (rows ++ row ∷ [])) (length rows))) (counted c.left) (counted c.right)
         ∙ ap (eval (relation_formula c.kind c.left c.right (clock_count (X rows) c.left (length (X rows))) (clock_count (X rows) c.right (length (X rows))))) (last-step rows row)
