@@ -8,6 +8,15 @@ use Rattle.ccsl_accepts.specs.Acceptance.{IsFile, IsLibrary}
 use Rattle.ccsl_elaborate.proofs.Judged.{not-refused}
 use Rattle.ccsl_elaborate.proofs.elaborator.assembled.Goals as goal
 
+pub expand-requires-clause-new : goal.expand-requires-clause-new
+expand-requires-clause-new c =
+    let library = plain_file c.args.library.now in
+    let file = plain_file c.args.file.now in
+    let kept : IsFile library = record { kept = c.every_file_is_kept.ensures.kept; depth = c.every_file_is_kept.ensures.depth } in
+    let kept-2 : IsFile file = record { kept = c.every_file_is_kept-2.ensures.kept; depth = c.every_file_is_kept-2.ensures.depth } in
+    let known : IsLibrary library = record { file = kept; accepted = c.requires.library } in
+    c.names_are_distinct.ensures.new library file known kept-2 c.requires.faultless
+
 pub assemble-requires-clause-accepted : goal.assemble-requires-clause-accepted
 assemble-requires-clause-accepted c =
     let library = plain_file c.args.library.now in
@@ -15,5 +24,5 @@ assemble-requires-clause-accepted c =
     let kept : IsFile library = record { kept = c.every_file_is_kept.ensures.kept; depth = c.every_file_is_kept.ensures.depth } in
     let kept-2 : IsFile file = record { kept = c.every_file_is_kept-2.ensures.kept; depth = c.every_file_is_kept-2.ensures.depth } in
     let known : IsLibrary library = record { file = kept; accepted = c.requires.library } in
-    let few : cells (expand library file) ≤ MAX_CELLS = omega (arith, c.requires.cells) in
-    subst IsAccepted (sym c.requires.parts) (c.files_expand.ensures library file known kept-2 (not-refused library file c.requires.faultless few))
+    let few : cells (expand library file) ≤ MAX_CELLS = omega (arith, c.requires.cells, c.requires.few) in
+    subst IsAccepted (sym c.in_ok-parts.ensures) (c.files_expand.ensures library file known kept-2 (not-refused library file c.requires.faultless few))

@@ -1,0 +1,11 @@
+-- The greatest so far and that of the rest are the whole.
+use Rattle.std.proofs.Common.{◌≡◌, ◌≤◌, List, drop, map, max}
+use Rattle.ccsl_ast.specs.Trees.{plain_member, PlainMember}
+use Rattle.ccsl_ast.specs.declared.definition.Member.{Member}
+use Rattle.ccsl_kernel.specs.Cells.{saturated, greatest}
+use Rattle.ccsl_spaces.specs.Callees.{seen_call}
+use Rattle.ccsl_elaborate.specs.TreeCells.{tree_cells}
+use Rattle.ccsl_elaborate.proofs.cells.most_cells.Given as goal
+
+abbrev pub invariant-loop-member : goal.invariant-loop-member
+invariant-loop-member l = let f = λ (ms : List Member). greatest (map (λ (m : PlainMember). tree_cells (map seen_call l.calls) l.groups m.body) (map plain_member ms)) in record { small : l.most ≤ 4294967295; whole : saturated (max l.most (f (drop l.member-index l.members))) ≡ saturated (f l.members) }
