@@ -8,11 +8,12 @@ use Rattle.ccsl_relate.specs.Watching.{Watching, StandsFor}
 pub record Taken (start now : Watching) (block : List Row) (i : ℕ) : Type 0 where
   pub within : i ≤ length block
   pub system : now.system ≡ start.system
-  pub item : now.item ≡ start.item
+  pub start_is : now.start ≡ start.start
+  pub count : length now.kept ≡ length start.kept
   pub stands : (recorded : List ℕ) (rows : List Row) → StandsFor recorded start rows → length rows + length block < 2 ^ 64 → StandsFor recorded now (rows ++ take i block)
 
 pub taken-none : (v : Watching) (block : List Row) → Taken v v block 0
-taken-none v block = record { within = omega arith; system = refl; item = refl; stands = λ recorded rows s l. subst (λ rs. StandsFor recorded v rs) (sym (append-nil rows)) s }
+taken-none v block = record { within = omega arith; system = refl; start_is = refl; count = refl; stands = λ recorded rows s l. subst (λ rs. StandsFor recorded v rs) (sym (append-nil rows)) s }
 
 take-more : (block : List Row) (i : ℕ) (row : Row) → slice_get block i ≡ Some row → take (i + 1) block ≡ take i block ++ row ∷ []
 take-more [] i row e = absurd (cc)
@@ -24,12 +25,13 @@ take-more (x ∷ block) (Rattle.std.proofs.Common.suc i) row e =
 pub few-rows : (block : List Row) (i : ℕ) (rows : List Row) → i < length block → length rows + length block < 2 ^ 64 → length (rows ++ take i block) + 1 < 2 ^ 64
 few-rows block i rows l h = omega (arith, length-append rows (take i block), length-take-le i block (omega (arith, l)), l, h)
 
-pub taken-more : (start now next : Watching) (block : List Row) (i : ℕ) (row : Row) → Taken start now block i → slice_get block i ≡ Some row → i < length block → next.system ≡ now.system → next.item ≡ now.item
+pub taken-more : (start now next : Watching) (block : List Row) (i : ℕ) (row : Row) → Taken start now block i → slice_get block i ≡ Some row → i < length block → next.system ≡ now.system → next.start ≡ now.start → length next.kept ≡ length now.kept
     → ((recorded : List ℕ) (rows : List Row) → StandsFor recorded now rows → length rows + 1 < 2 ^ 64 → StandsFor recorded next (rows ++ row ∷ [])) → Taken start next block (i + 1)
-taken-more start now next block i row t e l a b f = record {
+taken-more start now next block i row t e l a b c f = record {
   within = omega (arith, l);
   system = a ∙ t.system;
-  item = b ∙ t.item;
+  start_is = b ∙ t.start_is;
+  count = c ∙ t.count;
   stands = λ recorded rows s h.
       subst (λ rs. StandsFor recorded next rs) (append_assoc rows (take i block) (row ∷ []) ∙ ap (λ rs. rows ++ rs) (sym (take-more block i row e)))
       (f recorded (rows ++ take i block) (t.stands recorded rows s h) (few-rows block i rows l h));

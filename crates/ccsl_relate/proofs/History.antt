@@ -1,26 +1,25 @@
 -- The completion of the rows of a trace, one row more.
-use Rattle.std.proofs.Common.{◌≡◌, ℕ, suc, ◌+◌, ◌-◌, ◌<◌, ◌≤◌, ◌^◌, List, [], ◌∷◌, ◌++◌, length, map, take, slice_get, Bool, true, false, not, ◌&&◌, ◌||◌, cond, nat_lt, if◌then◌else◌, Option, Some, None, refl, sym, ap, ap₂, ◌∙◌, subst, arith, length-append, lt-ltb, le-ltb}
+use Rattle.std.proofs.Common.{◌≡◌, ℕ, suc, ◌+◌, ◌-◌, ◌<◌, ◌≤◌, List, [], ◌∷◌, ◌++◌, length, map, slice_get, Bool, true, false, not, ◌&&◌, ◌||◌, cond, nat_lt, if◌then◌else◌, Option, Some, None, refl, sym, ap, ap₂, ◌∙◌, arith, length-append}
 use Rattle.std.specs.List.{list_all}
 use Rattle.std.proofs.Math.Seq.{take-length}
 use Rattle.std.proofs.lemmas.List.{map-append, length-map, take-append-le}
 use Rattle.std.proofs.lemmas.List.Folds.{list_all-append}
 use Rattle.std.proofs.lemmas.Bool.{and_parts, and_from, ltb-true, ltb-false}
-use Rattle.std.proofs.lemmas.Option.{slice_get_past, slice_get_within}
+use Rattle.std.proofs.lemmas.Option.{slice_get_past}
 use Rattle.ccsl_base.specs.Clocks.{ticks_in, is_ascending, are_below}
 use Rattle.ccsl_base.specs.declared.rows.Row.{Row}
-use Rattle.ccsl_formula.specs.Formula.{FIff, FVar, eval, same}
+use Rattle.ccsl_formula.specs.Formula.{eval, same}
 use Rattle.ccsl_kernel.specs.declared.constraint.Constraint.{Constraint}
-use Rattle.ccsl_kernel.specs.Syntax.{Expression, System, item_count, definition_of}
+use Rattle.ccsl_kernel.specs.Syntax.{Expression, System}
 use Rattle.ccsl_kernel.specs.Accepted.{IsAccepted}
 use Rattle.ccsl_kernel.specs.Ticks.{count}
-use Rattle.ccsl_kernel.specs.Lives.{Step, steps, step_at}
+use Rattle.ccsl_kernel.specs.Lives.{Step, step_at}
 use Rattle.ccsl_kernel.specs.Meaning.{formula_at}
 use Rattle.ccsl_kernel.specs.Items.{clock_count, relation_formula, constraint_formula, item_formula}
 use Rattle.ccsl_kernel.specs.Runs.{ObeysDefinitions, holds_at, full_step, completed, declared_part, is_declared}
-use Rattle.ccsl_kernel.specs.Verdict.{completed_rows, is_as_recorded, is_recorded, is_violated}
+use Rattle.ccsl_kernel.specs.Verdict.{completed_rows, is_recorded, is_violated}
 use Rattle.ccsl_relate.specs.Watching.{are_sets}
 use Rattle.ccsl_kernel.proofs.AcceptedParts.{accepted_guarded, accepted_scoped}
-use Rattle.ccsl_kernel.proofs.Bounded.{clocks_bounded}
 use Rattle.ccsl_kernel.proofs.Completion.{completion_obeys, completed-append, length-completed, declared-full}
 use Rattle.ccsl_kernel.proofs.Definitions.{step_at-front, step_at-last, definitions-are}
 use Rattle.ccsl_kernel.proofs.ItemCases.{item-definition, item-constraint}

@@ -2,6 +2,9 @@ pub mod Ascending
 pub mod Within
 pub mod History
 pub mod Judging
+pub mod Known
+pub mod Partly
 pub mod Finding
+pub mod Passing
 pub mod Undeclared
 pub mod Blocks

@@ -1,8 +1,9 @@
-//! Monitors: the first row of a trace at which an item of a system is violated.
+//! Monitors: the first row of a trace at which one of some items of a system is violated.
 #![tactic(auto)]
 
 pub mod monitor;
 mod relation;
+mod steps;
 pub mod violation;
 pub mod watched;
 

@@ -1,29 +1,31 @@
-//! Monitors of single items.
+//! Monitors of neighbouring items.
 
-ghost use Rattle.std.specs.Prelude.{◌≡◌, ℕ, ◌+◌, ◌-◌, ◌<◌, ◌≤◌, ◌^◌, List, [], ◌∷◌, ◌++◌, None, length, IfOk};
-ghost use Rattle.ccsl_base.specs.Clocks.{ticks_in};
+ghost use Rattle.std.specs.Prelude.{◌≡◌, ℕ, ◌+◌, ◌<◌, ◌≤◌, ◌^◌, List, [], ◌∷◌, ◌++◌, length, IfOk};
 ghost use Rattle.ccsl_base.specs.declared.rows.Row.{Row};
 ghost use Rattle.ccsl_kernel.specs.Syntax.{item_count};
-ghost use Rattle.ccsl_relate.specs.Violations.{first_violation};
-ghost use Rattle.ccsl_relate.specs.Watching.{IsUndeclared, Keeps, StandsFor, IsNext};
+ghost use Rattle.ccsl_relate.specs.Violations.{Finds};
+ghost use Rattle.ccsl_relate.specs.Watching.{Suffice, AreAfter, StandsFor, IsNext};
 
+use crate::steps::{declared_ticks, is_set, next_step, undeclared};
 use crate::violation::Violation;
-use crate::watched::{Defined, Related, Watched, is_set};
-use ccsl_base::{Block, ClockSet, MAX_CLOCKS, Memory, Row};
+use crate::watched::{Watched, first_failing, open_all, read_declared};
+use ccsl_base::{Block, ClockSet, Memory, Row};
 use ccsl_kernel::System;
 use ccsl_state::States;
 use std::alloc::Global;
 use std::marker::Model;
 
-/// Follows one item of a system over the rows of a trace, up to the first row that violates it. A definition whose clock was not
-/// recorded and a constraint between declared clocks touch no cell.
+/// Follows some neighbouring items of a system over the rows of a trace, up to the first row that violates one of them. The states
+/// of the system go on once a row, and only where an item needs them: a definition whose clock was not recorded and a constraint
+/// between declared clocks touch no cell.
 #[derive(Drop)]
 pub struct Monitor<'s> {
     system: &'s System,
-    item: u32,
+    start: u32,
     // all clocks that the system does not declare
     undeclared: ClockSet,
-    watched: Watched<'s>,
+    kept: Vec<Watched>,
+    states: Option<States<'s>>,
     steps: u64,
     first: Option<Violation>,
 }
@@ -41,8 +43,9 @@ impl<'s> Model for Monitor<'s> {
 
     ghost view = { λ m. record {
       system = m.system.now;
-      item = m.item;
-      watched = m.watched;
+      start = m.start;
+      kept = m.kept.items;
+      states = m.states;
       steps = m.steps;
       first = m.first;
     } };
@@ -50,86 +53,46 @@ impl<'s> Model for Monitor<'s> {
     ghost invariant = { λ m. IsUndeclared m.system.now m.undeclared };
 }
 
-fn undeclared(system: &System) -> ClockSet
-    ensures { IsUndeclared system.now result }
-{
-    let mut clocks = ClockSet::empty();
-    for clock in system.scope().declared..MAX_CLOCKS {
-        clocks.insert(clock);
-    }
-    clocks
-}
-
-// What is kept of a definition.
-fn watch_definition<'s>(
+// The states of the system, where an item needs them.
+fn states_for<'s>(
     alloc: Global,
     system: &'s System,
-    item: u32,
-    recorded: &ClockSet,
-) -> Result<Watched<'s>, Memory>
-    requires { item < length system.now.definitions }
-    ensures { IfOk result (λ w. Keeps system.now recorded.now item w []) }
+    kept: &[Watched],
+) -> Result<Option<States<'s>>, Memory>
+    ensures suffice { IfOk result (λ held. Suffice system.now held kept.now) }
+    ensures after { IfOk result (λ held. AreAfter system.now held []) }
 {
-    let clock = system.scope().declared + item;
-    if !recorded.has(clock) {
-        return Ok(Watched::Nothing);
+    if read_declared(kept, system.scope().declared) {
+        return Ok(None);
     }
-    let states = States::open(alloc, system)?;
-    Ok(Watched::Definition(Defined { clock, states }))
-}
-
-// What is kept of a constraint.
-fn watch_constraint<'s>(
-    alloc: Global,
-    system: &'s System,
-    item: u32,
-    recorded: &ClockSet,
-) -> Result<Watched<'s>, Memory>
-    requires behind { length system.now.definitions ≤ item }
-    requires within { item < item_count system.now }
-    ensures { IfOk result (λ w. Keeps system.now recorded.now item w []) }
-{
-    let constraint = system.constraint(item - system.definitions());
-    let declared = system.scope().declared;
-    let states = if constraint.left < declared && constraint.right < declared {
-        None
-    } else {
-        Some(States::open(alloc, system)?)
-    };
-    Ok(Watched::Relation(Related {
-        kind: constraint.kind,
-        left: constraint.left,
-        right: constraint.right,
-        left_count: 0,
-        right_count: 0,
-        states,
-    }))
+    Ok(Some(States::open(alloc, system)?))
 }
 
 impl<'s> Monitor<'s> {
-    /// Follows one item, where these clocks are bound. It takes the states of the system where the item needs any.
+    /// Follows `count` items from number `start` on, where these clocks are bound. It takes the states of the system where one of
+    /// the items needs them.
     pub fn open(
         alloc: Global,
         system: &'s System,
-        item: u32,
+        start: u32,
+        count: u32,
         recorded: &ClockSet,
     ) -> Result<Monitor<'s>, Memory>
-        requires { item < item_count system.now }
+        requires { start + count ≤ item_count system.now }
         ensures system { IfOk result (λ m. m.system ≡ system.now) }
-        ensures item { IfOk result (λ m. m.item ≡ item) }
+        ensures start { IfOk result (λ m. m.start ≡ start) }
+        ensures count { IfOk result (λ m. length m.kept ≡ count) }
         ensures stands { IfOk result (λ m. StandsFor recorded.now m []) }
     {
-        let watched = if item < system.definitions() {
-            watch_definition(alloc, system, item, recorded)?
-        } else {
-            watch_constraint(alloc, system, item, recorded)?
-        };
+        let kept = open_all(alloc, system, start, count, recorded)?;
+        let states = states_for(alloc, system, kept.as_slice())?;
         system.names();
         Ok(Monitor {
             system,
-            item,
+            start,
             undeclared: undeclared(system),
-            watched,
+            kept,
+            states,
             steps: 0,
             first: None,
         })
@@ -145,20 +108,22 @@ impl<'s> Monitor<'s> {
         if self.first.is_some() {
             return self.first;
         }
-        if self.watched.fails(self.system, row, &self.undeclared) {
-            return Some(Violation {
-                step: self.steps,
-                time: row.time,
-            });
-        }
-        None
+        let declared = declared_ticks(&row.ticks, &self.undeclared);
+        let step = next_step(self.system, &mut self.states, declared);
+        let place = first_failing(self.kept.as_mut_slice(), &row.ticks, &step)?;
+        Some(Violation {
+            step: self.steps,
+            time: row.time,
+            item: self.start + place,
+        })
     }
 
     // The next row.
     fn check_row(&mut self, row: &Row)
         requires { (recorded : List ℕ) × (rows : List Row) × StandsFor recorded self.old rows × (length rows + 1 < 2 ^ 64) }
         ensures system { self.new.system ≡ self.old.system }
-        ensures item { self.new.item ≡ self.old.item }
+        ensures start { self.new.start ≡ self.old.start }
+        ensures count { length self.new.kept ≡ length self.old.kept }
         ensures stands { (recorded : List ℕ) (rows : List Row) → StandsFor recorded self.old rows → length rows + 1 < 2 ^ 64 →
             StandsFor recorded self.new (rows ++ row.now ∷ []) }
     {
@@ -171,7 +136,8 @@ impl<'s> Monitor<'s> {
         requires { (recorded : List ℕ) × (rows : List Row) × StandsFor recorded self.old rows
             × (length rows + length block.now.rows < 2 ^ 64) }
         ensures system { self.new.system ≡ self.old.system }
-        ensures item { self.new.item ≡ self.old.item }
+        ensures start { self.new.start ≡ self.old.start }
+        ensures count { length self.new.kept ≡ length self.old.kept }
         ensures stands { (recorded : List ℕ) (rows : List Row) → StandsFor recorded self.old rows →
             length rows + length block.now.rows < 2 ^ 64 → StandsFor recorded self.new (rows ++ block.now.rows) }
     {
@@ -180,11 +146,11 @@ impl<'s> Monitor<'s> {
         }
     }
 
-    /// The first row so far at which the item is violated.
+    /// The first row so far at which one of the items is violated, and the first item that is violated there.
     pub fn first(&self) -> Option<Violation>
         ensures kept { result ≡ self.now.first }
         ensures first { (recorded : List ℕ) (rows : List Row) → StandsFor recorded self.now rows →
-            result ≡ first_violation self.now.system recorded rows self.now.item }
+            Finds self.now.system recorded rows self.now.start (length self.now.kept) result }
     {
         self.first
     }

@@ -1,8 +1,9 @@
 //! Where an item is violated.
 
-/// A row at which an item is violated: its number, from 0, and its time.
+/// A row at which an item is violated: the row's number, from 0, its time, and the number of the item.
 #[derive(Clone, Copy, Debug, PartialEq, Eq)]
 pub struct Violation {
     pub step: u64,
     pub time: u64,
+    pub item: u32,
 }

@@ -1,7 +1,7 @@
 use Rattle.std.proofs.Common.{◌≡◌, ◌&&◌, not, subst}
 use Rattle.ccsl_base.specs.Clocks.{ticks_in}
 use Rattle.ccsl_relate.proofs.Ascending.{declared-are}
-use Rattle.ccsl_relate.proofs.watched.declared_ticks.Goals as goal
+use Rattle.ccsl_relate.proofs.steps.declared_ticks.Goals as goal
 
 pub returns : goal.returns
 returns c = λ K u.

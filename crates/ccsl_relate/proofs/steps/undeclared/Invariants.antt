@@ -1,5 +1,5 @@
 use Rattle.ccsl_relate.proofs.Undeclared.{IsRange}
-use Rattle.ccsl_relate.proofs.monitor.undeclared.Given as goal
+use Rattle.ccsl_relate.proofs.steps.undeclared.Given as goal
 
 abbrev pub invariant-loop-clock : goal.invariant-loop-clock
 invariant-loop-clock l = IsRange l.system.declared l.clock l.clocks

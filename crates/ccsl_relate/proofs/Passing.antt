@@ -1,0 +1,119 @@
+-- A monitor that takes a row more.
+use Rattle.std.proofs.Common.{◌≡◌, ℕ, ◌+◌, ◌<◌, ◌^◌, List, [], ◌∷◌, ◌++◌, length, map, get_or, Option, Some, None, true, false, refl, sym, ap, ◌∙◌, subst, arith, length-append}
+use Rattle.std.specs.Prelude.{All}
+use Rattle.ccsl_base.specs.Clocks.{is_ascending}
+use Rattle.ccsl_base.specs.declared.rows.Row.{Row}
+use Rattle.ccsl_kernel.specs.Syntax.{System}
+use Rattle.ccsl_kernel.specs.Accepted.{Each}
+use Rattle.ccsl_kernel.specs.Lives.{Step}
+use Rattle.ccsl_kernel.specs.Runs.{full_step, declared_part}
+use Rattle.ccsl_kernel.specs.Verdict.{is_violated, completed_rows}
+use Rattle.ccsl_kernel.proofs.EachOne.{each_at, each_made_from}
+use Rattle.ccsl_relate.specs.declared.violation.Violation.{Violation}
+use Rattle.ccsl_relate.specs.declared.watched.Watched.{Watched}
+use Rattle.ccsl_relate.specs.declared.watched.Watched.TheVariants.{Nothing}
+use Rattle.ccsl_relate.specs.Few.{EachHasRoom}
+use Rattle.ccsl_relate.specs.Violations.{AreObeyed, Finds}
+use Rattle.ccsl_relate.specs.Watching.{Watching, Keeps, fails_in, next_in, FailsFirst, Suffice, AreAfter, step_known, Follows, StandsFor, IsNext}
+use Rattle.ccsl_relate.proofs.Finding.{first-stays, first-here, obeyed-on}
+use Rattle.ccsl_relate.proofs.History.{X-more, X-length, sets-snoc}
+use Rattle.ccsl_relate.proofs.Judging.{fails-where-violated, keeps-on, keeps-room}
+use Rattle.ccsl_relate.proofs.Known.{fails-known, next-known, suffice-on}
+
+module _ (recorded : List ℕ) (v : Watching) (rows : List Row) (row : Row) (s : StandsFor recorded v rows) (sorted : is_ascending row.ticks ≡ true) where
+  abbrev K : System
+  K = v.system
+
+  abbrev T : List Step
+  T = completed_rows K rows
+
+  abbrev more : List Row
+  more = rows ++ row ∷ []
+
+  abbrev declared : Step
+  declared = declared_part K row.ticks
+
+  abbrev whole : Step
+  whole = full_step K T declared
+
+  -- where an item was violated, the monitor rests
+  pub next-resting : (x : Violation) → v.first ≡ Some x → IsNext recorded v v rows row v.first
+  next-resting x e = record {
+    same = refl;
+    count = refl;
+    sets = sets-snoc rows row s.sets sorted;
+    first_is = subst (Finds K recorded more v.start (length v.kept)) (sym e) (first-stays K s.accepted recorded rows row s.sets sorted v.start (length v.kept) x (subst (Finds K recorded rows v.start (length v.kept)) e s.first));
+    follows = λ n. absurd (let z : None ≡ Some x = sym n ∙ e in cc);
+  }
+
+  module _ (none : v.first ≡ None) where
+    follows : Follows K recorded v.start v.kept v.states T
+    follows = s.follows none
+
+    obeyed : AreObeyed K recorded rows v.start (length v.kept)
+    obeyed = subst (Finds K recorded rows v.start (length v.kept)) none s.first
+
+    keeps-at : (k : ℕ) (d : Watched) → k < length v.kept → Keeps K recorded T (v.start + k) (get_or v.kept k d)
+    keeps-at k d l = each_at (Keeps K recorded T) v.start v.kept k d l follows.keeps
+
+    pub states-after : AreAfter K v.states T
+    states-after = follows.states
+
+    pub each-has-room : length rows + 1 < 2 ^ 64 → EachHasRoom v.kept
+    each-has-room few k d l = keeps-room K s.accepted recorded (v.start + k) rows row s.sets sorted few (get_or v.kept k d) (keeps-at k d l)
+
+    pub few-steps : length rows + 1 < 2 ^ 64 → length T + 1 < 2 ^ 64
+    few-steps few = omega (arith, X-length K rows, few)
+
+    -- what is asked of an item is whether the row violates it
+    asked : (k : ℕ) (d : Watched) → k < length v.kept → fails_in row.ticks (step_known K v.states T declared) (get_or v.kept k d) ≡ is_violated K recorded more (length rows) (v.start + k)
+    asked k d l =
+        fails-known K T row.ticks v.states row.ticks v.kept k d follows.suffice l
+        ∙ fails-where-violated K s.accepted recorded (v.start + k) rows row s.sets sorted (get_or v.kept k d) (keeps-at k d l)
+
+    module _ (w : Watching) (step : Step) (known : step ≡ step_known K v.states T declared) (same : w ≡ record v { kept = w.kept; states = w.states }) (count : length w.kept ≡ length v.kept) where
+      fails-at : (k : ℕ) (d : Watched) → k < length v.kept → fails_in row.ticks step (get_or v.kept k d) ≡ is_violated K recorded more (length rows) (v.start + k)
+      fails-at k d l = ap (λ f. fails_in row.ticks f (get_or v.kept k d)) known ∙ asked k d l
+
+      -- AN ITEM FAILS at the row
+      pub next-violated : (place : ℕ) → FailsFirst row.ticks step v.kept place → IsNext recorded v w rows row (Some (record { step = v.steps; time = row.time; item = v.start + place }))
+      next-violated place f = record {
+        same = same;
+        count = count;
+        sets = sets-snoc rows row s.sets sorted;
+        first_is = subst (λ n. Finds K recorded more v.start (length v.kept) (Some (record { step = n; time = row.time; item = v.start + place }))) (sym s.steps)
+            (first-here K s.accepted recorded rows row s.sets sorted v.start (length v.kept) place obeyed f.inside (sym (fails-at place Nothing f.inside) ∙ f.fails Nothing)
+            (λ k l. sym (fails-at k Nothing (omega (arith, l, f.inside))) ∙ f.before k Nothing l));
+        follows = λ n. absurd (cc n);
+      }
+
+      -- NO ITEM FAILS at the row, and all go on
+      pub next-obeyed : All (λ x. fails_in row.ticks step x ≡ false) v.kept → w.kept ≡ map (next_in step) v.kept → (w.states ≡ None → v.states ≡ None) → AreAfter K w.states (T ++ whole ∷ []) → IsNext recorded v w rows row None
+      next-obeyed obeys next still after = record {
+        same = same;
+        count = count;
+        sets = sets-snoc rows row s.sets sorted;
+        first_is = obeyed-on K s.accepted recorded rows row s.sets sorted v.start (length v.kept) obeyed
+            (λ k l. sym (fails-at k Nothing l) ∙ obeys k Nothing l);
+        follows = λ _. record {
+          keeps = subst (Each (Keeps K recorded (completed_rows K more)) v.start) (sym kept-is)
+              (each_made_from (Keeps K recorded (completed_rows K more)) (next_in whole) v.start v.kept (λ k d l. keeps-on K s.accepted recorded (v.start + k) rows row s.sets sorted (get_or v.kept k d) (keeps-at k d l)));
+          suffice = subst (Suffice K w.states) (sym kept-is) (suffice-on K T row.ticks v.states w.states whole v.kept still follows.suffice);
+          states = subst (AreAfter K w.states) (sym (X-more K rows row)) after;
+        };
+      }
+        where
+          kept-is : w.kept ≡ map (next_in whole) v.kept
+          kept-is = next ∙ ap (λ f. map (next_in f) v.kept) known ∙ next-known K T row.ticks v.states v.kept follows.suffice
+
+-- the next row was taken
+pub row-taken : (recorded : List ℕ) (v w : Watching) (rows : List Row) (row : Row) (first : Option Violation) (w' : Watching) → StandsFor recorded v rows → IsNext recorded v w rows row first
+    → w' ≡ record v { kept = w.kept; states = w.states; first = first; steps = v.steps + 1 } → StandsFor recorded w' (rows ++ row ∷ [])
+row-taken recorded v w rows row first w' s n e = subst (λ (x : Watching). StandsFor recorded x (rows ++ row ∷ [])) (sym e) (record {
+  accepted = s.accepted;
+  items = omega (arith, s.items, n.count);
+  sets = n.sets;
+  steps = ap (λ k. k + 1) s.steps ∙ sym (length-append rows (row ∷ []));
+  first = subst (λ c. Finds v.system recorded (rows ++ row ∷ []) v.start c first) (sym n.count) n.first_is;
+  follows = n.follows;
+})

@@ -1,0 +1,13 @@
+-- Counts that can be counted on.
+use Rattle.std.specs.Prelude.{◌+◌, ◌<◌, ◌^◌, List, All}
+use Rattle.ccsl_relate.specs.declared.watched.Watched.{Watched}
+use Rattle.ccsl_relate.specs.declared.watched.Watched.TheVariants.{Nothing, Definition, Relation}
+
+-- the counts of a relation have room for a tick more
+abbrev pub HasRoom : Watched → Type 0
+HasRoom Nothing = Unit {0}
+HasRoom (Definition clock) = Unit {0}
+HasRoom (Relation r) = (r.left_count + 1 < 2 ^ 64) × (r.right_count + 1 < 2 ^ 64)
+
+abbrev pub EachHasRoom : List Watched → Type 0
+EachHasRoom kept = All HasRoom kept
