@@ -1,5 +1,7 @@
 pub mod Numbers
 pub mod InPlace
+pub mod Ascending
+pub mod Kept
 pub mod Ticking
 pub mod MarkLaws
 pub mod BodyPictures

@@ -1,5 +1,7 @@
 pub mod Meant
 pub mod Marks
+pub mod Users
+pub mod Kept
 pub mod Step
 pub mod Picture
 pub mod Heading

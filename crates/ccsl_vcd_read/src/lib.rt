@@ -11,6 +11,7 @@ mod number;
 mod opening;
 mod reader;
 mod stage;
+mod users;
 mod word;
 
 pub use ccsl_vcd::{Limits, VcdFault};

@@ -1,9 +1,11 @@
 //! What is kept of the changes of each bound clock's code.
 
-ghost use Rattle.std.specs.Prelude.{◌≡◌, ◌<◌, ◌++◌, [], ◌∷◌, map, IfOk, IsTrue};
+ghost use Rattle.std.specs.Prelude.{◌≡◌, ◌<◌, ◌++◌, [], ◌∷◌, map, not, IfOk, IsTrue};
 ghost use Rattle.ccsl_base.specs.Clocks.{is_ascending, are_below};
 ghost use Rattle.ccsl_vcd_read.specs.Marks.{put, ticking, aged};
+ghost use Rattle.ccsl_vcd_read.specs.Kept.{put_clock, put_in, put_all};
 
+use crate::users::{Slot, User, Users};
 use ccsl_base::{ClockSet, MAX_CLOCKS, Memory};
 use std::alloc::Global;
 use std::marker::Model;
@@ -19,78 +21,63 @@ pub struct Mark {
     pub before: bool,
 }
 
-impl Mark {
-    ghost use Rattle.ccsl_vcd_read.specs.Marks.{put, aged};
-
-    // A change of a code to a value that is 1 or not, in a dump block or not.
-    fn put(self, code: u32, one: bool, dumped: bool) -> Mark
-        ensures { result ≡ put code one dumped self }
-    {
-        let mut mark = self;
-        if mark.code == code {
-            mark.now = if mark.event { mark.now || !dumped } else { one };
-        }
-        mark
-    }
-
-    // The mark as a later time finds it.
-    fn aged(self) -> Mark
-        ensures { result ≡ aged self }
-    {
-        let mut mark = self;
-        mark.before = !mark.event && mark.now;
-        mark.now = !mark.event && mark.now;
-        mark
+// Makes a clock a member of a set, or takes it out.
+fn put_clock(set: &mut ClockSet, clock: u32, one: bool)
+    requires { clock < MAX_CLOCKS }
+    ensures { set.new ≡ put_clock clock one set.old }
+{
+    if one {
+        set.insert(clock);
+    } else {
+        set.remove(clock);
     }
 }
 
-fn put_each(marks: &mut [Mark], code: u32, one: bool, dumped: bool)
-    ensures { marks.new ≡ map (put code one dumped) marks.old }
+// A change of a clock's code to a value that is 1 or not, in a dump block or not.
+fn put_in(now: &mut ClockSet, slot: Slot, one: bool, dumped: bool)
+    requires { slot.clock < MAX_CLOCKS }
+    ensures { now.new ≡ put_in slot one dumped now.old }
 {
-    for i in 0..marks.len() {
-        marks[i] = marks[i].put(code, one, dumped);
+    if !slot.event {
+        put_clock(now, slot.clock, one);
+    } else if !dumped {
+        now.insert(slot.clock);
     }
 }
 
-fn age_each(marks: &mut [Mark])
-    ensures { marks.new ≡ map aged marks.old }
+// The same for each clock that has a code.
+fn put_all(now: &mut ClockSet, slots: &[Slot], code: u32, one: bool, dumped: bool)
+    requires { IsTrue (are_below MAX_CLOCKS (map (λ s. s.clock) slots.now)) }
+    ensures { now.new ≡ put_all code one dumped slots.now now.old }
 {
-    for i in 0..marks.len() {
-        marks[i] = marks[i].aged();
-    }
-}
-
-fn ticking(marks: &[Mark]) -> ClockSet
-    requires ascending { IsTrue (is_ascending (map (λ m. m.clock) marks.now)) }
-    requires below { IsTrue (are_below MAX_CLOCKS (map (λ m. m.clock) marks.now)) }
-    ensures { result ≡ ticking marks.now }
-{
-    let mut ticks = ClockSet::empty();
-    for mark in marks {
-        if mark.now && !mark.before {
-            ticks.insert(mark.clock);
+    for slot in slots {
+        if slot.code == code {
+            put_in(now, *slot, one, dumped);
         }
     }
-    ticks
 }
 
 /// The marks of all bound clocks, in order.
 #[derive(Drop)]
 pub(crate) struct Marks {
-    marks: Vec<Mark>,
+    slots: Vec<Slot>,
+    users: Users,
+    events: ClockSet,
+    // the clocks that are 1 now, and at the last earlier time with a change
+    ones: ClockSet,
+    earlier: ClockSet,
 }
 
 impl Model for Marks {
-    ghost use Rattle.std.specs.Prelude.{List, IsTrue, map};
-    ghost use Rattle.ccsl_base.specs.declared.limits.TheConstants.{MAX_CLOCKS};
-    ghost use Rattle.ccsl_base.specs.Clocks.{is_ascending, are_below};
+    ghost use Rattle.std.specs.Prelude.{List, map};
     ghost use Rattle.ccsl_vcd_read.specs.declared.marks.Mark.{Mark};
+    ghost use Rattle.ccsl_vcd_read.specs.Kept.{mark_in, AreKept};
 
     ghost Value = { List Mark };
 
-    ghost view = { λ m. m.marks.items };
+    ghost view = { λ m. map (mark_in m.ones m.earlier) m.slots.items };
 
-    ghost invariant = { λ m. IsTrue (is_ascending (map (λ x. x.clock) m.marks.items)) × IsTrue (are_below MAX_CLOCKS (map (λ x. x.clock) m.marks.items)) };
+    ghost invariant = { λ m. AreKept m.slots.items m.users m.events m.ones };
 }
 
 impl Marks {
@@ -98,17 +85,33 @@ impl Marks {
         ensures { result ≡ [] }
     {
         Marks {
-            marks: Vec::new(alloc),
+            slots: Vec::new(alloc),
+            users: Users::new(alloc),
+            events: ClockSet::empty(),
+            ones: ClockSet::empty(),
+            earlier: ClockSet::empty(),
         }
     }
 
-    /// One more mark, of a later clock.
-    pub(crate) fn push(&mut self, mark: Mark) -> Result<(), Memory>
-        requires later { IsTrue (is_ascending (map (λ m. m.clock) (self.old ++ mark ∷ []))) }
-        requires below { mark.clock < MAX_CLOCKS }
-        ensures { IfOk result (λ _. self.new ≡ self.old ++ mark ∷ []) }
+    /// One more mark, of a later clock, before the first change.
+    pub(crate) fn push(&mut self, clock: u32, code: u32, event: bool) -> Result<(), Memory>
+        requires later { IsTrue (is_ascending (map (λ m. m.clock) self.old ++ clock ∷ [])) }
+        requires below { clock < MAX_CLOCKS }
+        ensures { IfOk result (λ _. self.new ≡ self.old ++ record {
+          clock = clock;
+          code = code;
+          event = event;
+          now = not event;
+          before = not event;
+        } ∷ []) }
     {
-        self.marks.push(mark)?;
+        let slot = Slot { clock, code, event };
+        self.slots.reserve(1)?;
+        self.users.add(slot)?;
+        self.slots.push_reserved(slot);
+        put_clock(&mut self.events, clock, event);
+        put_clock(&mut self.ones, clock, !event);
+        put_clock(&mut self.earlier, clock, !event);
         Ok(())
     }
 
@@ -116,20 +119,28 @@ impl Marks {
     pub(crate) fn change(&mut self, code: u32, one: bool, dumped: bool)
         ensures { self.new ≡ map (put code one dumped) self.old }
     {
-        put_each(self.marks.as_mut_slice(), code, one, dumped);
+        match self.users.of(code) {
+            User::Nobody => {}
+            User::One(slot) => put_in(&mut self.ones, slot, one, dumped),
+            User::Many => put_all(&mut self.ones, self.slots.as_slice(), code, one, dumped),
+        }
     }
 
     /// The clocks that tick at the present time.
     pub(crate) fn ticking(&self) -> ClockSet
         ensures { result ≡ ticking self.now }
     {
-        ticking(self.marks.as_slice())
+        let mut ticks = self.ones.copy();
+        ticks.remove_all(&self.earlier);
+        let _any = ticks.has(0);
+        ticks
     }
 
     /// A later time.
     pub(crate) fn age(&mut self)
         ensures { self.new ≡ map aged self.old }
     {
-        age_each(self.marks.as_mut_slice());
+        self.ones.remove_all(&self.events);
+        self.earlier = self.ones.copy();
     }
 }

@@ -10,7 +10,7 @@ ghost use Rattle.ccsl_vcd_read.specs.Opening.{IsBeginning, IsOpened};
 
 use crate::amid::Amid;
 use crate::body::Body;
-use crate::marks::{Mark, Marks};
+use crate::marks::Marks;
 use ccsl_base::{MAX_CLOCKS, Memory};
 use ccsl_bind::{BindFault, Binder, Binding};
 use ccsl_vcd::VcdFault;
@@ -26,13 +26,7 @@ fn first_marks(alloc: Global, binding: &Binding) -> Result<Marks, Memory>
     for clock in 0..MAX_CLOCKS {
         if let Some(code) = binding.code_of(clock) {
             let event = binding.is_event(clock);
-            marks.push(Mark {
-                clock,
-                code,
-                event,
-                now: !event,
-                before: !event,
-            })?;
+            marks.push(clock, code, event)?;
         }
     }
     Ok(marks)

@@ -1,6 +1,8 @@
-use Rattle.std.proofs.Common.{◌≡◌, ◌+◌, [], true, not, map, sym, ap, ◌∙◌, arith}
+use Rattle.std.proofs.Common.{◌≡◌, ◌+◌, [], ◌∷◌, ◌++◌, true, not, map, sym, ap, ◌∙◌, arith}
 use Rattle.ccsl_base.specs.Clocks.{is_ascending, are_below}
 use Rattle.ccsl_base.specs.declared.limits.TheConstants.{MAX_CLOCKS}
+use Rattle.std.proofs.lemmas.List.{map-append}
+use Rattle.ccsl_vcd_read.specs.declared.marks.Mark.{Mark}
 use Rattle.ccsl_vcd_read.specs.Marks.{mark_of}
 use Rattle.ccsl_vcd_read.proofs.Openings.{below-none, below-all, found, marks-more, marks-none, marks-ascend}
 use Rattle.ccsl_vcd_read.proofs.opening.first_marks.Goals as goal
@@ -13,8 +15,11 @@ pub push-requires-clause-later : goal.push-requires-clause-later
 push-requires-clause-later c =
     let asc : is_ascending (map (λ b. b.clock) c.args.binding.now.bound) ≡ true = ap is_ascending (sym c.bound-bound.ensures.clocks) ∙ c.bound-bound.ensures.ascending in
     let f = found c.args.binding.now c.loop-clock.clock c.in-Some.code (sym c.in-Some.ensures) in
-    marks-ascend c.args.binding.now (c.loop-clock.clock + 1) _ asc
-    (marks-more c.args.binding.now c.loop-clock.clock c.in-Some.code _ c.loop-clock.marks asc f (ap (λ w. record { clock = c.loop-clock.clock; code = c.in-Some.code; event = w; now = not w; before = not w }) c.is_event-event.ensures) c.loop-clock.invariant)
+    let event = c.is_event-event.result in
+    let m : Mark = record { clock = c.loop-clock.clock; code = c.in-Some.code; event = event; now = not event; before = not event } in
+    ap is_ascending (sym (map-append (λ (x : Mark). x.clock) c.loop-clock.marks (m ∷ [])))
+    ∙ marks-ascend c.args.binding.now (c.loop-clock.clock + 1) (c.loop-clock.marks ++ m ∷ []) asc
+    (marks-more c.args.binding.now c.loop-clock.clock c.in-Some.code m c.loop-clock.marks asc f (ap (λ w. record { clock = c.loop-clock.clock; code = c.in-Some.code; event = w; now = not w; before = not w }) c.is_event-event.ensures) c.loop-clock.invariant)
 
 pub loop-clock-preserved : goal.loop-clock-preserved
 loop-clock-preserved c =
