@@ -1,5 +1,6 @@
 #!/bin/sh
-# Shows that written traces convert by vcd2fst without a warning and open in gtkwave, and times the writing beside cat.
+# Shows that written traces convert by vcd2fst without a warning and open in gtkwave, and times the writing beside cat,
+# and beside dd with reads and writes of 64 KiB.
 #
 #     (cd crates/ccsl_write_bench && rt run -- 2 3)     builds the program
 #     sh bench/written.sh
@@ -35,5 +36,6 @@ seconds() {
 "$program" 2 10000000 > "$folder/long.vcd"
 echo "10,000,000 steps of 2 clocks, $(wc -c < "$folder/long.vcd") bytes; seconds of the user and the system, three times each:"
 for time in 1 2 3; do
-    echo "written: $(seconds "$program" 2 10000000)   copied by cat: $(seconds cat "$folder/long.vcd")"
+    echo "written: $(seconds "$program" 2 10000000)   copied by cat: $(seconds cat "$folder/long.vcd")" \
+        "  by dd: $(seconds dd if="$folder/long.vcd" bs=64k status=none)"
 done

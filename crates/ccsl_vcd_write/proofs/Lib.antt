@@ -10,3 +10,4 @@ pub mod Traces
 pub mod Growing
 pub mod Worked
 pub mod Sizes
+pub mod InPlace

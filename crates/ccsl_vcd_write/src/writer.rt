@@ -1,13 +1,13 @@
 //! The header of a trace, and its steps.
 
-ghost use Rattle.std.specs.Prelude.{◌≡◌, ◌+◌, ◌<◌, ◌≤◌, [], ◌∷◌, ◌++◌, IfOk, OnOk, OnErr, length, map, take, vec_len, vec_capacity};
+ghost use Rattle.std.specs.Prelude.{◌≡◌, ◌+◌, ◌<◌, ◌≤◌, [], ◌*◌, ◌∷◌, ◌++◌, IfOk, OnOk, OnErr, length, map, take, vec_len, vec_capacity, decimal};
 ghost use Rattle.ccsl_vcd_write.specs.Room.{step_room};
 ghost use Rattle.ccsl_vcd_write.specs.Text.{text_of, var_line, var_lines, header_text, time_line, tick_line, written_part, step_text};
 
-use crate::code::put_code;
+use crate::code::{Code, code_of, put_code};
 use ccsl_base::{ClockSet, MAX_CLOCKS, Memory, Names};
 use ccsl_kernel::System;
-use itoa::Buffer;
+use itoa::write_digits;
 use std::alloc::Global;
 
 fn put_line(line: &[u8], out: &mut Vec<u8>) -> Result<(), Memory>
@@ -65,18 +65,37 @@ pub fn header(alloc: Global, system: &System) -> Result<Vec<u8>, Memory>
     Ok(out)
 }
 
-/// The line of a time.
+/// The most bytes of the line of a time: a hash sign, the digits of 64 bits and a line feed.
+const MOST_TIME_BYTES: usize = 22;
+
+/// The most bytes of the line of a tick: its value, a code and a line feed.
+const MOST_TICK_BYTES: usize = 4;
+
+/// How many digits a number has.
+fn digit_count(n: u64) -> usize
+    ensures digits { result ≡ length (decimal n) }
+    ensures few { result ≤ 20 }
+{
+    match n.checked_ilog10() {
+        None => 1,
+        Some(power) => power as usize + 1,
+    }
+}
+
+/// The line of a time. Its digits are written in their places, behind a line of hash signs that is cut off where they end.
+#[inline(always)]
 fn put_time(k: u64, out: &mut Vec<u8>) -> Result<(), Memory>
     ensures text { OnOk result (out.new.items ≡ out.old.items ++ text_of (time_line k ∷ [])) }
-    ensures full { OnErr result (vec_capacity out.old <
-        vec_len out.old + length (text_of (time_line k ∷ []))) }
-    ensures len { OnOk result (vec_len out.new ≡
-        vec_len out.old + length (text_of (time_line k ∷ []))) }
+    ensures same { OnErr result (out.new.items ≡ out.old.items) }
+    ensures full { OnErr result (vec_capacity out.old < vec_len out.old + MOST_TIME_BYTES) }
+    ensures len { OnOk result (vec_len out.new ≤ vec_len out.old + MOST_TIME_BYTES) }
     ensures capacity { vec_capacity out.old ≤ vec_capacity out.new }
 {
-    out.push(b'#')?;
-    out.extend_from_slice(Buffer::new().format(k).as_bytes())?;
-    out.push(b'\n')?;
+    let end = out.len() + (digit_count(k) + 1);
+    out.extend_from_slice(&[b'#'; MOST_TIME_BYTES])?;
+    write_digits(k, out.as_mut_slice(), end);
+    out[end] = b'\n';
+    out.truncate(end + 1);
     Ok(())
 }
 
@@ -84,15 +103,15 @@ fn put_time(k: u64, out: &mut Vec<u8>) -> Result<(), Memory>
 fn put_tick(clock: u32, out: &mut Vec<u8>) -> Result<(), Memory>
     requires { clock < MAX_CLOCKS }
     ensures text { OnOk result (out.new.items ≡ out.old.items ++ text_of (tick_line clock ∷ [])) }
-    ensures full { OnErr result (vec_capacity out.old <
-        vec_len out.old + length (text_of (tick_line clock ∷ []))) }
-    ensures len { OnOk result (vec_len out.new ≡
-        vec_len out.old + length (text_of (tick_line clock ∷ []))) }
+    ensures same { OnErr result (out.new.items ≡ out.old.items) }
+    ensures full { OnErr result (vec_capacity out.old < vec_len out.old + MOST_TICK_BYTES) }
+    ensures len { OnOk result (vec_len out.new ≤ vec_len out.old + MOST_TICK_BYTES) }
     ensures capacity { vec_capacity out.old ≤ vec_capacity out.new }
 {
-    out.push(b'1')?;
-    put_code(clock, out)?;
-    out.push(b'\n')?;
+    match code_of(clock) {
+        Code::One(byte) => out.extend_from_slice(&[b'1', byte, b'\n'])?,
+        Code::Two(high, low) => out.extend_from_slice(&[b'1', high, low, b'\n'])?,
+    }
     Ok(())
 }
 
@@ -100,8 +119,9 @@ fn put_tick(clock: u32, out: &mut Vec<u8>) -> Result<(), Memory>
 fn put_ticks(ticks: &ClockSet, system: &System, out: &mut Vec<u8>) -> Result<(), Memory>
     ensures text { OnOk result (out.new.items ≡
         out.old.items ++ text_of (map tick_line (written_part system.now ticks.now))) }
+    ensures front { take (vec_len out.old) out.new.items ≡ out.old.items }
     ensures full { OnErr result (vec_capacity out.old <
-        vec_len out.old + length (text_of (map tick_line (written_part system.now ticks.now)))) }
+        vec_len out.old + MOST_TICK_BYTES * length ticks.now) }
 {
     let written = system.written();
     for clock in ticks.members() {
@@ -115,24 +135,11 @@ fn put_ticks(ticks: &ClockSet, system: &System, out: &mut Vec<u8>) -> Result<(),
 /// The lines of a step.
 fn put_step(k: u64, ticks: &ClockSet, system: &System, out: &mut Vec<u8>) -> Result<(), Memory>
     ensures text { OnOk result (out.new.items ≡ out.old.items ++ step_text k system.now ticks.now) }
-    ensures full { OnErr result (vec_capacity out.old <
-        vec_len out.old + length (step_text k system.now ticks.now)) }
+    ensures front { take (vec_len out.old) out.new.items ≡ out.old.items }
+    ensures full { OnErr result (vec_capacity out.old < vec_len out.old + step_room ticks.now) }
 {
     put_time(k, out)?;
     put_ticks(ticks, system, out)
-}
-
-/// The most bytes of the line of a time: a hash sign, the digits of 64 bits and a line feed.
-const MOST_TIME_BYTES: usize = 22;
-
-/// The most bytes of the line of a tick: its value, a code and a line feed.
-const MOST_TICK_BYTES: usize = 4;
-
-/// The most bytes of a step.
-fn step_room(ticks: &ClockSet) -> usize
-    ensures { result ≡ step_room ticks.now }
-{
-    MOST_TIME_BYTES + MOST_TICK_BYTES * ticks.len() as usize
 }
 
 /// Appends the text of step `k`: its time, and a line for each clock below `written` that ticks. Where `out` has room no memory
@@ -142,6 +149,10 @@ pub fn step(k: u64, ticks: &ClockSet, system: &System, out: &mut Vec<u8>) -> Res
     ensures same { OnErr result (out.new.items ≡ out.old.items) }
     ensures room { OnErr result (vec_capacity out.old < vec_len out.old + step_room ticks.now) }
 {
-    out.reserve(step_room(ticks))?;
-    put_step(k, ticks, system, out)
+    let start = out.len();
+    if put_step(k, ticks, system, out).is_err() {
+        out.truncate(start);
+        return Err(Memory);
+    }
+    Ok(())
 }

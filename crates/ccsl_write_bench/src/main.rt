@@ -67,14 +67,18 @@ fn write_trace<W: Write>(
     to: &mut W,
 ) -> io::Result<()> {
     let mut out = header(alloc, system).map_err(no_memory)?;
+    let mut next = 0;
     for k in 0..steps {
         if out.len() >= BUFFER {
             to.write_all(out.as_slice())?;
             out.clear();
         }
-        if !sets.is_empty() {
-            let ticks = &sets[k as usize % sets.len()];
-            step(k, ticks, system, &mut out).map_err(no_memory)?;
+        if next >= sets.len() {
+            next = 0;
+        }
+        if next < sets.len() {
+            step(k, &sets[next], system, &mut out).map_err(no_memory)?;
+            next += 1;
         }
     }
     to.write_all(out.as_slice())
