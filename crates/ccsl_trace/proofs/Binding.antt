@@ -2,24 +2,26 @@
 use Rattle.std.proofs.Common.{◌≡◌, ℕ, ◌≤◌, ◌<◌, ◌^◌, List, [], ◌∷◌, ◌++◌, length, Bool, true, false, cond, nat_lt, Option, Some, None, map, filter, refl, sym, ap, ◌∙◌, subst, arith}
 use Rattle.std.specs.Prelude.{fold, is_some, bytes_eq, codes}
 use Rattle.std.proofs.lemmas.List.{append-nil}
-use Rattle.ccsl_base.specs.declared.rows.Row.{Row}
 use Rattle.ccsl_vcd_lex.specs.Tokens.{Token, Heard, word, too_long, tokens_from, settled, heard}
 use Rattle.ccsl_vcd_lex.proofs.Further.{settled-further, heard-further}
 use Rattle.ccsl_vcd.specs.declared.fault.VcdFault.{VcdFault}
 use Rattle.ccsl_vcd.specs.declared.fault.VcdFault.TheVariants as faults
 use Rattle.ccsl_vcd.specs.declared.limits.Limits.{Limits}
-use Rattle.ccsl_vcd.specs.Binding.{Wanted, Bound}
+use Rattle.ccsl_vcd.specs.Binding.{Wanted}
 use Rattle.ccsl_vcd.specs.Words as w
 use Rattle.ccsl_vcd.specs.Places as p
 use Rattle.ccsl_vcd.specs.Body.{is_declared, changed, change_says, body_says}
-use Rattle.ccsl_vcd.specs.Reading.{may_end, or_else, Story, says, told, next, next_from, story, so_far, reading, ends_at}
-use Rattle.ccsl_vcd.specs.Rows.{row_at, times, has_ticks, rows, rows_of, complete, bound_at, now_at, is_before, done}
+use Rattle.ccsl_vcd.specs.Reading.{may_end, or_else, Story, says, told, next, next_from, story, so_far, reading}
+use Rattle.ccsl_vcd.specs.Rows.{row_at, times, has_ticks, rows, rows_of, bound_at, now_at, is_before, done}
 use Rattle.ccsl_vcd.proofs.Decided.{story-more}
 use Rattle.ccsl_vcd_read.specs.Staging.{shown_at}
 use Rattle.ccsl_vcd_read.specs.Reading.{Reading, FewRows, Running, is_past, past_header}
 use Rattle.ccsl_vcd_read.proofs.Taking.{so_far-within, done-within}
 use Rattle.ccsl_vcd_read.proofs.Ending.{reading-within}
-use Rattle.ccsl_trace.specs.Following.{bound_by}
+
+-- the clocks that some bytes bind, once they have ended the header
+abbrev pub bound_by : Wanted → Limits → List ℕ → Option (List ℕ)
+bound_by wanted limits bytes = shown_at (so_far wanted limits bytes).place
 
 -- a token of a body leaves the bound clocks as they are
 abbrev Keeps : Option (List ℕ) → p.Said → Type 0

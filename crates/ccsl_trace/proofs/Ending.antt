@@ -1,76 +1,104 @@
--- The end of a trace: the watch stands for all its rows.
-use Rattle.std.proofs.Common.{◌≡◌, ℕ, ◌+◌, ◌≤◌, ◌<◌, ◌^◌, List, [], ◌∷◌, ◌++◌, length, Bool, true, false, Option, Some, None, map, refl, sym, ap, ◌∙◌, subst, append_assoc, arith, length-append}
+-- The end of a trace: what was handed out and the last block are all its rows.
+use Rattle.std.proofs.Common.{◌≡◌, ℕ, ◌+◌, ◌≤◌, ◌<◌, ◌^◌, List, [], ◌++◌, length, true, false, Option, Some, None, refl, sym, ap, ◌∙◌, subst, append_assoc, arith, length-append}
 use Rattle.std.specs.Prelude.{is_some}
 use Rattle.std.specs.Option.{option_map}
 use Rattle.std.proofs.lemmas.List.{append-nil}
 use Rattle.ccsl_base.specs.declared.rows.Row.{Row}
 use Rattle.ccsl_vcd.specs.declared.limits.Limits.{Limits}
 use Rattle.ccsl_vcd.specs.Binding.{Wanted}
-use Rattle.ccsl_vcd.specs.Reading.{so_far, reading}
-use Rattle.ccsl_vcd.specs.Rows.{bound_at, done, recorded}
+use Rattle.ccsl_vcd.specs.Reading.{reading}
+use Rattle.ccsl_vcd.specs.Rows.{done, recorded}
+use Rattle.ccsl_vcd_read.specs.declared.reader.Counts.{Counts}
 use Rattle.ccsl_vcd_read.specs.Staging.{shown_at}
-use Rattle.ccsl_vcd_read.specs.Reading.{Reading, Running, StandsFor, Pushes, shows, AreCounts}
-use Rattle.ccsl_vcd_read.proofs.Taking.{running-of}
-use Rattle.ccsl_trace.specs.Following.{Watched, bound_by, Follows}
-use Rattle.ccsl_trace.specs.Traces.{clocks_of, Ends}
-use Rattle.ccsl_trace.proofs.Binding.{bound-read, done-none, past-shown, clocks-shown, read-bound}
+use Rattle.ccsl_vcd_read.specs.Reading.{Pushes, AreCounts, shows}
+use Rattle.ccsl_trace.specs.declared.next.Next.{Next}
+use Rattle.ccsl_trace.specs.declared.next.Next.TheVariants.{Bound, Rows, Ended}
+use Rattle.ccsl_trace.specs.Traces.{Ends}
+use Rattle.ccsl_trace.specs.Feeding.{Feeding, bound_of, waiting_in, Runs, Nears}
+use Rattle.ccsl_trace.specs.Stepping.{IsNear, EndsLate, EndsNow, Finishes}
+use Rattle.ccsl_trace.proofs.Binding.{bound_by, bound-read, clocks-shown, read-bound}
+use Rattle.ccsl_trace.proofs.Refusing.{near-of}
+use Rattle.ccsl_trace.proofs.Running.{within, bound-taken, past-taken, none-before, nearer-end}
 
--- the rows of the watch and of the block at the end
-pub record Last (stands : List ℕ → List Row → Type 0) (bound : List ℕ) (all block : List Row) : Type 0 where
-  pub rows : List Row
-  pub is : stands bound rows
-  pub whole : all ≡ rows ++ block
+-- what the reader says at the end of these bytes
+pub record Finished (wanted : Wanted) (limits : Limits) (bytes : List ℕ) (before after : Feeding) (n : Counts) : Type 0 where
+  pub fine : (reading wanted limits bytes).fault ≡ None
+  pub pushes : Pushes (done wanted limits bytes) (recorded wanted limits bytes) before.block.rows after.block.rows
+  pub counts : AreCounts wanted limits bytes n.rows n.bytes
+  pub shows_are : shows after.reading ≡ shown_at (reading wanted limits bytes).place
 
-last-by : (waits : Type 0) (stands stands' : List ℕ → List Row → Type 0) (before all old new : List Row) (shown : Option (List ℕ)) (bound : List ℕ) (ended : Bool) → Pushes before all old new → ended ≡ is_some shown
-    → ((c : List ℕ) → shown ≡ Some c → c ≡ bound) → (shown ≡ None → before ≡ []) → (ended ≡ true → stands' ≡ stands) → (ended ≡ false → stands' bound [])
-    → Watched waits stands shown before old → Last stands' bound all new
-last-by waits stands stands' before all old new None bound ended q e same none kept begun s = record {
-  rows = [];
-  is = begun e;
-  whole = q.rows ∙ ap (λ rs. rs ++ q.pushed) (none refl) ∙ sym (ap (λ rs. rs ++ q.pushed) s.1) ∙ sym q.block;
-}
-last-by waits stands stands' before all old new (Some c) bound ended q e same none kept begun s = record {
-  rows = s.0;
-  is = subst (λ f. f bound s.0) (sym (kept e)) (subst (λ x. stands x s.0) (same c refl) s.1);
-  whole = q.rows ∙ ap (λ rs. rs ++ q.pushed) s.2 ∙ append_assoc s.0 old q.pushed ∙ ap (λ rs. s.0 ++ rs) (sym q.block);
-}
+-- the reader's word on the bytes that it took, where none are pending
+pub finished : (wanted : Wanted) (limits : Limits) (bytes : List ℕ) (feed feed' : Feeding) (rows : List Row) (n : Counts) (r : Runs wanted limits bytes feed rows) → feed.pending ≡ [] → (reading wanted feed.reading.limits r.taken).fault ≡ None
+    → Pushes (done wanted feed.reading.limits r.taken) (recorded wanted feed.reading.limits r.taken) feed.block.rows feed'.block.rows → AreCounts wanted feed.reading.limits r.taken n.rows n.bytes
+    → shows feed'.reading ≡ shown_at (reading wanted feed.reading.limits r.taken).place → Finished wanted limits bytes feed feed' n
+finished wanted limits bytes feed feed' rows n r none fine pushes counts shown =
+    subst (λ xs. Finished wanted limits xs feed feed' n) (sym (r.all ∙ ap (λ xs. r.taken ++ xs) none ∙ append-nil r.taken))
+    (subst (λ (x : Limits). Finished wanted x r.taken feed feed' n) r.limits_are (record { fine = fine; pushes = pushes; counts = counts; shows_are = shown }))
 
-pub last-of : (wanted : Wanted) (v : Reading) (bytes : List ℕ) (waits : Type 0) (stands stands' : List ℕ → List Row → Type 0) (old new : List Row) (bound : List ℕ) (ended : Bool) → Follows wanted v bytes waits stands old
-    → Pushes (done wanted v.limits bytes) (recorded wanted v.limits bytes) old new → ended ≡ is_some (bound_by wanted v.limits bytes) → shown_at (reading wanted v.limits bytes).place ≡ Some bound
-    → (ended ≡ true → stands' ≡ stands) → (ended ≡ false → stands' bound []) → Last stands' bound (recorded wanted v.limits bytes) new
-last-of wanted v bytes waits stands stands' old new bound ended f q e b kept begun =
-    let s : Running wanted v bytes = running-of wanted v bytes f.runs f.reads in
-    last-by waits stands stands' _ _ old new (bound_by wanted v.limits bytes) bound ended q e
-    (λ c h. some-same c bound (sym (bound-read wanted v.limits bytes c s.within h) ∙ b)) (done-none wanted v.limits bytes s.within) kept begun f.watched
-  where
-    some-same : (c d : List ℕ) → Some c ≡ Some d → c ≡ d
-    some-same c d e = ap (λ (o : Option (List ℕ)). elim o [ None ↦ [] | Some x ↦ x ]) e
-
-pub follows-within : (wanted : Wanted) (v : Reading) (bytes : List ℕ) (waits : Type 0) (stands : List ℕ → List Row → Type 0) (block : List Row) → Follows wanted v bytes waits stands block → length bytes ≤ v.limits.bytes
-follows-within wanted v bytes waits stands block f = let s : Running wanted v bytes = running-of wanted v bytes f.runs f.reads in s.within
-
--- the last block is taken
-pub ends-of : (wanted : Wanted) (l : Limits) (bytes : List ℕ) (stands stands' : List ℕ → List Row → Type 0) (block : List Row) (bound : List ℕ) (n m : ℕ) → (reading wanted l bytes).fault ≡ None → shown_at (reading wanted l bytes).place ≡ Some bound → AreCounts wanted l bytes n m
-    → Last stands bound (recorded wanted l bytes) block → ((bound : List ℕ) (rows : List Row) → stands bound rows → stands' bound (rows ++ block)) → Ends wanted l bytes stands' n m
-ends-of wanted l bytes stands stands' block bound n m fine b counts last takes = record {
-  fine = fine;
-  watched = subst (λ x. stands' x (recorded wanted l bytes)) (sym (clocks-shown (reading wanted l bytes).place bound b)) (subst (stands' bound) (sym last.whole) (takes bound last.rows last.is));
-  counts = counts;
-}
-
-pub last-few : (wanted : Wanted) (l : Limits) (bytes : List ℕ) (stands : List ℕ → List Row → Type 0) (block : List Row) (bound : List ℕ) (n m : ℕ) → AreCounts wanted l bytes n m → n < 2 ^ 64 → (last : Last stands bound (recorded wanted l bytes) block) → length last.rows + length block < 2 ^ 64
-last-few wanted l bytes stands block bound n m counts h last =
-    let e : n ≡ length last.rows + length block = counts.rows_are ∙ ap length last.whole ∙ length-append last.rows block in omega (arith, e, h)
-
--- whether the header had ended, as the reader tells it
-pub is_some-map : {A B : Type 0} (f : A → B) (o : Option A) → is_some (option_map f o) ≡ is_some o
+-- whether the bound clocks were shown, as the reader tells it
+is_some-map : {A B : Type 0} (f : A → B) (o : Option A) → is_some (option_map f o) ≡ is_some o
 is_some-map f None = refl
 is_some-map f (Some x) = refl
 
-pub last-end : (wanted : Wanted) (v w : Reading) (bytes : List ℕ) (waits : Type 0) (stands stands' : List ℕ → List Row → Type 0) (old new : List Row) (ended : Bool) → Follows wanted v bytes waits stands old
-    → Pushes (done wanted v.limits bytes) (recorded wanted v.limits bytes) old new → ended ≡ is_some (bound_by wanted v.limits bytes) → (reading wanted v.limits bytes).fault ≡ None → shows w ≡ shown_at (reading wanted v.limits bytes).place
-    → (ended ≡ true → stands' ≡ stands) → (ended ≡ false → (bound : List ℕ) → shows w ≡ Some bound → stands' bound [])
-    → (bound : List ℕ) × (shown_at (reading wanted v.limits bytes).place ≡ Some bound) × Last stands' bound (recorded wanted v.limits bytes) new
-last-end wanted v w bytes waits stands stands' old new ended f q e fine h kept begun =
-    let b = read-bound wanted v.limits bytes (follows-within wanted v bytes waits stands old f) fine in
-    (b.0, b.1, last-of wanted v bytes waits stands stands' old new b.0 ended f q e b.1 kept (λ n. begun n b.0 (h ∙ b.1)))
+none-of : (o : Option (List ℕ)) → is_some o ≡ false → o ≡ None
+none-of None e = refl
+none-of (Some x) e = absurd (cc)
+
+some-of : (o : Option (List ℕ)) → is_some o ≡ true → (bound : List ℕ) × (o ≡ Some bound)
+some-of None e = absurd (cc)
+some-of (Some x) e = (x, refl)
+
+pub unshown : {A : Type 0} (f : A → List ℕ) (o : Option A) (shown : Option (List ℕ)) → option_map f o ≡ shown → is_some o ≡ false → shown ≡ None
+unshown f o shown e h = none-of shown (sym (ap is_some e) ∙ is_some-map f o ∙ h)
+
+pub is-shown : {A : Type 0} (f : A → List ℕ) (o : Option A) (shown : Option (List ℕ)) → option_map f o ≡ shown → is_some o ≡ true → (bound : List ℕ) × (shown ≡ Some bound)
+is-shown f o shown e h = some-of shown (sym (ap is_some e) ∙ is_some-map f o ∙ h)
+
+module _ (wanted : Wanted) (limits : Limits) (bytes : List ℕ) (feed feed' : Feeding) (rows : List Row) (n : Counts) (small : n.rows < 2 ^ 64) (r : Runs wanted limits bytes feed rows) (fresh : feed.handed ≡ false) (none : feed.pending ≡ []) (q : Finished wanted limits bytes feed feed' n) where
+  pub all-taken : bytes ≡ r.taken
+  all-taken = r.all ∙ ap (λ xs. r.taken ++ xs) none ∙ append-nil r.taken
+
+  all-within : length bytes ≤ limits.bytes
+  all-within = subst (λ xs. length xs ≤ limits.bytes) (sym all-taken) (within wanted limits bytes feed rows r)
+
+  all-rows : rows ++ feed'.block.rows ≡ recorded wanted limits bytes
+  all-rows =
+      ap (λ rs. rows ++ rs) q.pushes.block ∙ sym (append_assoc rows feed.block.rows q.pushes.pushed)
+      ∙ ap (λ rs. rs ++ q.pushes.pushed) (ap (λ b. rows ++ waiting_in b feed.block.rows) (sym fresh) ∙ sym r.rows_are ∙ ap (done wanted limits) (sym all-taken)) ∙ sym q.pushes.rows
+
+  few : length rows + length feed'.block.rows < 2 ^ 64
+  few = omega (arith, small, q.counts.rows_are, ap length all-rows, length-append rows feed'.block.rows)
+
+  ends : (bound : List ℕ) → shown_at (reading wanted limits bytes).place ≡ Some bound → Ends wanted limits bytes bound (rows ++ feed'.block.rows) n.rows n.bytes
+  ends bound e = record { fine = q.fine; bound_are = sym (clocks-shown (reading wanted limits bytes).place bound e); rows_are = all-rows; counts = q.counts }
+
+  -- the clocks were bound already
+  pub ends-now : (bound : List ℕ) → bound_of feed ≡ Some bound → EndsNow wanted limits bytes (bound_of feed) feed' rows n
+  ends-now bound e =
+      let b : bound_by wanted limits bytes ≡ Some bound = ap (bound_by wanted limits) all-taken ∙ sym (bound-taken wanted limits bytes feed rows r) ∙ e in
+      let shown = bound-read wanted limits bytes bound all-within b in
+      record { bound = bound; known = e; shows = q.shows_are ∙ shown; ends = ends bound shown; few = few }
+
+  -- the end has bound them
+  pub ends-late : bound_of feed ≡ None → feed'.ended ≡ Some n → EndsLate wanted limits bytes (bound_of feed) feed' rows
+  ends-late e ended =
+      let b = read-bound wanted limits bytes all-within q.fine in
+      let nil : rows ≡ [] = none-before wanted limits bytes feed rows r e in
+      record {
+        waited = e;
+        none = nil;
+        near = subst (IsNear wanted limits) (sym r.all) (near-of wanted limits r.taken feed.pending (within wanted limits bytes feed rows r) r.few
+            (λ p. let c : false ≡ true = sym (past-taken wanted limits bytes feed rows r ∙ ap is_some e) ∙ p in absurd (cc)));
+        bound = b.0;
+        shows = q.shows_are ∙ b.1;
+        counts = n;
+        ended = ended;
+        ends = subst (λ rs. Ends wanted limits bytes b.0 (rs ++ feed'.block.rows) n.rows n.bytes) nil (ends b.0 b.1);
+        few = omega (arith, few);
+      }
+
+-- either end brings a feed nearer to its last call
+pub nears-finish : (wanted : Wanted) (limits : Limits) (bytes : List ℕ) (before : Option (List ℕ)) (feed feed' : Feeding) (rows : List Row) (next : Next) → feed.ended ≡ None → Finishes next wanted limits bytes before feed' rows → Nears next feed feed'
+nears-finish wanted limits bytes before feed feed' rows Bound e h = nearer-end feed feed' h.counts e h.ended
+nears-finish wanted limits bytes before feed feed' rows Rows e h = absurd h
+nears-finish wanted limits bytes before feed feed' rows (Ended n) e h = tt

@@ -1,5 +1,5 @@
 pub mod Binding
-pub mod Handing
-pub mod Passing
+pub mod Refusing
+pub mod Running
 pub mod Ending
-pub mod Follow
+pub mod Stepping

@@ -1,2 +1,3 @@
-pub mod Following
 pub mod Traces
+pub mod Feeding
+pub mod Stepping

@@ -1,5 +1,5 @@
 -- WHAT READING A TRACE FROM A WORLD SAYS of the bytes that were taken. Where the world tells the bytes left, they are the trace's.
-use Rattle.std.specs.Prelude.{◌≡◌, ℕ, ◌+◌, ◌≤◌, List, length, take, true, Option, Some, None, map, IsTrue}
+use Rattle.std.specs.Prelude.{◌≡◌, ℕ, ◌+◌, ◌≤◌, List, length, take, true, Some, None, map, IsTrue}
 use Rattle.ccsl_base.specs.declared.rows.Row.{Row}
 use Rattle.ccsl_edge.specs.declared.slot.Slot.TheVariants.{Trace}
 use Rattle.ccsl_edge.specs.World.{State, Told}
@@ -14,25 +14,26 @@ use Rattle.ccsl_vcd_read.specs.Heading.{NotMemory}
 use Rattle.ccsl_vcd_read.specs.Reading.{past_header, AreCounts}
 use Rattle.ccsl_trace.specs.declared.fault.TraceFault.{TraceFault}
 use Rattle.ccsl_trace.specs.declared.fault.TraceFault.TheVariants.{Fault, Refused, Memory}
-use Rattle.ccsl_trace.specs.declared.reader.TheConstants.{PIECE}
+use Rattle.ccsl_trace.specs.declared.pending.TheConstants.{PIECE}
 
 -- the bound clocks of a whole trace
 abbrev pub clocks_of : Wanted → Limits → List ℕ → List ℕ
 clocks_of wanted limits bytes = map (λ b. b.clock) (bound_at (reading wanted limits bytes).place)
 
--- a whole trace is read without a fault, and what watches it stands for its bound clocks and all its rows
-pub record Ends (wanted : Wanted) (limits : Limits) (bytes : List ℕ) (stands : List ℕ → List Row → Type 0) (rows count : ℕ) : Type 0 where
+-- a whole trace is read without a fault, and these are its bound clocks, all its rows, and its counts
+pub record Ends (wanted : Wanted) (limits : Limits) (bytes bound : List ℕ) (rows : List Row) (row_count byte_count : ℕ) : Type 0 where
   pub fine : (reading wanted limits bytes).fault ≡ None
-  pub watched : stands (clocks_of wanted limits bytes) (recorded wanted limits bytes)
-  pub counts : AreCounts wanted limits bytes rows count
+  pub bound_are : bound ≡ clocks_of wanted limits bytes
+  pub rows_are : rows ≡ recorded wanted limits bytes
+  pub counts : AreCounts wanted limits bytes row_count byte_count
 
 module _ (told : Told) (wanted : Wanted) (limits : Limits) (old new : State) where
-  -- it was read to its end, and what watches it stands for it
-  pub record IsReadBy (stands : List ℕ → List Row → Type 0) (rows count : ℕ) : Type 0 where
+  -- it was read to its end
+  pub record IsReadBy (bound : List ℕ) (rows : List Row) (row_count byte_count : ℕ) : Type 0 where
     pub bytes : List ℕ
     pub reads : Reads told Trace bytes old new
     pub whole : IsTrue told.left → (old.slot_of Trace).left ≡ bytes
-    pub ends : Ends wanted limits bytes stands rows count
+    pub ends : Ends wanted limits bytes bound rows row_count byte_count
 
   -- a read failed, behind some bytes
   pub record Fails : Type 0 where

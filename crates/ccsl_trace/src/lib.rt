@@ -1,14 +1,15 @@
-//! Reading a trace from a world to its end, whose rows go to a watch, block by block.
+//! The rows of a trace, which are pulled from a world block by block.
 #![tactic(auto)]
 
 pub mod fault;
-mod following;
-pub mod reader;
-mod watch;
+pub mod feed;
+pub mod next;
+pub mod pending;
 
 pub use fault::TraceFault;
-pub use reader::{PIECE, read_trace};
-pub use watch::Watch;
+pub use feed::Feed;
+pub use next::Next;
+pub use pending::PIECE;
 
 #[cfg(test)]
 mod tests;

@@ -1,44 +1,39 @@
-//! Traces of a system whose clocks a and b are declared, watched by a tally.
+//! Traces of a system whose clocks a and b are declared, whose rows are counted.
 
-ghost use Rattle.std.specs.Prelude.{◌≡◌, ◌≤◌, [], length};
+ghost use Rattle.std.specs.Prelude.{◌≡◌, ◌≤◌, ℕ, List, [], length, IfOk, IfErr};
+ghost use Rattle.ccsl_base.specs.declared.rows.Row.{Row};
+ghost use Rattle.ccsl_edge.specs.World.{State};
+ghost use Rattle.ccsl_vcd.specs.Binding.{Wanted};
+ghost use Rattle.ccsl_trace.specs.Feeding.{Feeds};
+ghost use Rattle.ccsl_trace.specs.Traces.{IsReadBy, IsUnread};
 
 use super::*;
-use ccsl_base::{Block, ClockSet, Memory, Names, Seq};
+use ccsl_base::{Names, Seq};
 use ccsl_edge::{CallKind, HeldFile, MemoryWorld, Slot, World};
 use ccsl_kernel::{Parts, System};
 use ccsl_vcd::{Limits, VcdFault};
 use std::alloc::Global;
 use std::test::*;
 
-/// Counts the bound clocks and the rows.
-#[derive(Drop)]
-struct Tally {
-    bound: u32,
-    rows: u64,
-}
-
-impl Watch for Tally {
-    ghost system = { λ t. record {
-      names = [];
-      declared = 0;
-      written = 0;
-      groups = [];
-      words = [];
-      definitions = [];
-      constraints = [];
-    } };
-
-    ghost waits = { λ t. t.rows ≡ 0 };
-
-    ghost stands = { λ t bound rows. t.rows ≡ length rows };
-
-    fn begin(&mut self, bound: &ClockSet) -> Result<(), Memory> {
-        self.bound = bound.len();
-        Ok(())
-    }
-
-    fn take(&mut self, block: &Block) {
-        self.rows += block.len() as u64;
+// The number of all rows.
+fn count<W: World>(feed: &mut Feed, world: &mut W) -> Result<u64, TraceFault>
+    requires feeds { (wanted : Wanted) × (limits : Limits) × (start : State) × Feeds W.told wanted limits start (W.state world.old) feed.old [] }
+    ensures read { IfOk result (λ count. (wanted : Wanted) (limits : Limits) (start : State) →
+        Feeds W.told wanted limits start (W.state world.old) feed.old [] →
+        (bound : List ℕ) × (rows : List Row) × (bytes : ℕ)
+        × IsReadBy W.told wanted limits start (W.state world.new) bound rows count bytes × (count ≡ length rows)) }
+    ensures unread { IfErr result (λ fault. (wanted : Wanted) (limits : Limits) (start : State) →
+        Feeds W.told wanted limits start (W.state world.old) feed.old [] →
+        IsUnread W.told wanted limits start (W.state world.new) fault) }
+{
+    let mut rows = 0;
+    loop {
+        match feed.next(world) {
+            Ok(Next::Bound) => {}
+            Ok(Next::Rows) => rows += feed.block().len() as u64,
+            Ok(Next::Ended(_)) => return Ok(rows + feed.block().len() as u64),
+            Err(fault) => return Err(fault),
+        }
     }
 }
 
@@ -95,30 +90,30 @@ const LIMITS: Limits = Limits {
     scopes: 10,
 };
 
-/// The counts, or the fault, and what the tally saw.
-fn watched(
+/// The number of rows behind the header, or the fault, and how many clocks were bound then.
+fn counted(
     alloc: Global,
     body: &str,
     failing: Vec<(CallKind, u64)>,
     piece: usize,
-) -> Result<(Result<u64, TraceFault>, u32, u64), Fail>
+) -> Result<(Result<u64, TraceFault>, Option<u32>), Fail>
     requires { 1 ≤ piece }
 {
     let system = system(alloc)?;
     let trace = format!(in alloc; "{HEAD}{body}")?;
     let mut world = world(alloc, trace.as_str(), failing, piece)?;
-    let mut tally = Tally { bound: 0, rows: 0 };
-    let read = read_trace(alloc, &mut world, &system, &LIMITS, &mut tally);
-    Ok((read.map(|counts| counts.rows), tally.bound, tally.rows))
+    let mut feed = Feed::open(alloc, &system, &LIMITS)?;
+    let rows = count(&mut feed, &mut world);
+    Ok((rows, feed.bound().map(|bound| bound.len())))
 }
 
 #[test]
-fn a_trace_is_watched_to_its_end(rt: HostRuntime) -> Result<(), Fail> {
+fn a_trace_is_counted_to_its_end(rt: HostRuntime) -> Result<(), Fail> {
     for piece in [1, 4096] {
         let none = Vec::new(rt.alloc());
         assert_eq!(rt;
-            watched(rt.alloc(), "#0 1! #5 1\"", none, piece)?,
-            (Ok(2), 2, 2)
+            counted(rt.alloc(), "#0 1! #5 1\"", none, piece)?,
+            (Ok(2), Some(2))
         );
     }
     Ok(())
@@ -129,7 +124,7 @@ fn a_fault_is_told(rt: HostRuntime) -> Result<(), Fail> {
     for piece in [1, 4096] {
         let none = Vec::new(rt.alloc());
         assert_eq!(rt;
-            watched(rt.alloc(), "#0 1! #7 b1", none, piece)?.0,
+            counted(rt.alloc(), "#0 1! #7 b1", none, piece)?.0,
             Err(TraceFault::Refused(VcdFault::Truncated { at: 76 }))
         );
     }
@@ -140,7 +135,7 @@ fn a_fault_is_told(rt: HostRuntime) -> Result<(), Fail> {
 fn a_read_that_fails_is_told(rt: HostRuntime) -> Result<(), Fail> {
     let failing = vec![in rt.alloc(); (CallKind::Read, 70)]?;
     assert_eq!(rt;
-        watched(rt.alloc(), "#0 1! #5 1\"", failing, 1)?.0,
+        counted(rt.alloc(), "#0 1! #5 1\"", failing, 1)?.0,
         Err(TraceFault::Fault)
     );
     Ok(())
