@@ -1,0 +1,4 @@
+pub mod Sets
+pub mod Satisfied
+pub mod Going
+pub mod Solutions

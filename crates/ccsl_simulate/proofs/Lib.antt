@@ -1,0 +1,14 @@
+pub mod Among
+pub mod Numbers
+pub mod SetsBelow
+pub mod Better
+pub mod Best
+pub mod Admissible
+pub mod Choosing
+pub mod Runs
+pub mod OneSimulation
+pub mod Turns
+pub mod Standing
+pub mod Asking
+pub mod Writing
+pub mod Worked

@@ -1,0 +1,5 @@
+pub mod Chosen
+pub mod Simulation
+pub mod Laws
+pub mod Outcome
+pub mod Going
