@@ -7,6 +7,7 @@ use Rattle.std.proofs.Math.Seq.{take-append_seam}
 use Rattle.ccsl_base.specs.declared.rows.Row.{Row}
 use Rattle.ccsl_vcd_lex.specs.Tokens.{token, Heard as Said, word, too_long, tokens, settled, first_long}
 use Rattle.ccsl_vcd_lex.specs.Lexing as lexer
+use Rattle.ccsl_vcd_read.specs.Passing.{Passing, Lexes}
 use Rattle.ccsl_vcd.specs.declared.fault.VcdFault.{VcdFault}
 use Rattle.ccsl_vcd.specs.declared.fault.VcdFault.TheVariants as faults
 use Rattle.ccsl_vcd.specs.declared.limits.Limits.{Limits}
@@ -30,8 +31,8 @@ cut-length left piece cut f = let e : length cut ≡ length (take f.n piece) = a
 pub take-cut : (left : ℕ) (piece cut : List ℕ) (f : IsFront left piece cut) (k : ℕ) → k ≤ length cut → take k cut ≡ take k piece
 take-cut left piece cut f k h = let l : length cut ≡ f.n = cut-length left piece cut f in ap (take k) f.is ∙ take-take k f.n piece (omega arith)
 
-pub fed-of : (wanted : Wanted) (v : Reading) (bytes piece cut : List ℕ) (lx : lexer.Lexing) (k : ℕ) (hs : List Said) (s : Running wanted v bytes) (f : IsFront (v.limits.bytes - v.taken) piece cut) → k ≤ length cut → 0 < k
-    → lexer.StandsFor lx (bytes ++ take k cut) → first_long (tokens (bytes ++ take k cut)) ≡ None → settled (bytes ++ take k cut) ≡ settled bytes ++ hs → Fed v lx bytes (bytes ++ take k piece) k hs
+pub fed-of : (wanted : Wanted) (v : Reading) (bytes piece cut : List ℕ) (lx : Passing) (k : ℕ) (hs : List Said) (s : Running wanted v bytes) (f : IsFront (v.limits.bytes - v.taken) piece cut) → k ≤ length cut → 0 < k
+    → Lexes lx (bytes ++ take k cut) → first_long (tokens (bytes ++ take k cut)) ≡ None → settled (bytes ++ take k cut) ≡ settled bytes ++ hs → Fed v lx bytes (bytes ++ take k piece) k hs
 fed-of wanted v bytes piece cut lx k hs s f h some l n e =
     let same : take k cut ≡ take k piece = take-cut (v.limits.bytes - v.taken) piece cut f k h in
     let len : length cut ≡ f.n = cut-length (v.limits.bytes - v.taken) piece cut f in
@@ -40,7 +41,7 @@ fed-of wanted v bytes piece cut lx k hs s f h some l n e =
     let room : f.n ≤ v.limits.bytes - v.taken = f.few in
     let took : v.taken ≡ length bytes = s.taken in
     record {
-      lexes = subst (λ xs. lexer.StandsFor lx (bytes ++ xs)) same l;
+      lexes = subst (λ xs. Lexes lx (bytes ++ xs)) same l;
       short = ap (λ xs. first_long (tokens (bytes ++ xs))) (sym same) ∙ n;
       settles = ap (λ xs. settled (bytes ++ xs)) (sym same) ∙ e;
       len = total;
@@ -165,7 +166,7 @@ pub cut-some : (left : ℕ) (piece cut : List ℕ) (f : IsFront left piece cut) 
 cut-some left piece cut f = let e : length cut ≡ f.n = cut-length left piece cut f in omega (arith, f.some)
 
 -- A token is refused.
-pub refused-breaks : (wanted : Wanted) (v : Reading) (lx : lexer.Lexing) (bytes piece : List ℕ) (k at : ℕ) (text : List ℕ) (s : Running wanted v bytes) (f : Fed v lx bytes (bytes ++ take k piece) k (word (token at text) ∷ []))
+pub refused-breaks : (wanted : Wanted) (v : Reading) (lx : Passing) (bytes piece : List ℕ) (k at : ℕ) (text : List ℕ) (s : Running wanted v bytes) (f : Fed v lx bytes (bytes ++ take k piece) k (word (token at text) ∷ []))
     (g : VcdFault) (old new : List Row) → new ≡ old → Refuses g (story wanted v.limits (settled bytes)) (next wanted v.limits (story wanted v.limits (settled bytes)) (word (token at text))) → Breaks wanted v bytes (take k piece) g old new
 refused-breaks wanted v lx bytes piece k at text s f g old new e r = record {
   fault = word-fault wanted v lx bytes (bytes ++ take k piece) k at text s f g r;

@@ -22,7 +22,7 @@ use Rattle.ccsl_vcd_read.proofs.Faults.{stopped-further}
 abbrev pub rest_at : ℕ → List ℕ → List ℕ
 rest_at i piece = take (length piece - i) (drop i piece)
 
-rest-is : (i : ℕ) (piece : List ℕ) → rest_at i piece ≡ drop i piece
+pub rest-is : (i : ℕ) (piece : List ℕ) → rest_at i piece ≡ drop i piece
 rest-is i piece = take_all (length piece - i) (drop i piece) (omega (arith, length-drop i piece))
 
 -- the bytes of a piece so far, and more of the rest

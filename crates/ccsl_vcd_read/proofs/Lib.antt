@@ -1,5 +1,7 @@
 pub mod Numbers
 pub mod InPlace
+pub mod Passing
+pub mod Places
 pub mod Ascending
 pub mod Kept
 pub mod Ticking
@@ -8,7 +10,9 @@ pub mod BodyPictures
 pub mod HeadPictures
 pub mod Openings
 pub mod StagePictures
+pub mod Run
 pub mod Taking
+pub mod Racing
 pub mod Calm
 mod Faults
 pub mod Feeding

@@ -4,7 +4,7 @@ use Rattle.std.proofs.lemmas.List.{append-nil}
 use Rattle.std.proofs.lemmas.Bool.{le-ltb}
 use Rattle.ccsl_base.specs.declared.rows.Row.{Row}
 use Rattle.ccsl_vcd_lex.specs.Tokens.{token, Heard as Said, word, tokens, settled, first_long}
-use Rattle.ccsl_vcd_lex.specs.Lexing as lexer
+use Rattle.ccsl_vcd_read.specs.Passing.{Passing, Lexes}
 use Rattle.ccsl_vcd.specs.declared.fault.VcdFault.{VcdFault}
 use Rattle.ccsl_vcd.specs.declared.limits.Limits.{Limits}
 use Rattle.ccsl_vcd.specs.Binding.{Wanted}
@@ -66,8 +66,8 @@ pub runs-past : (wanted : Wanted) (v : Reading) (bytes : List ℕ) → Running w
 runs-past wanted v bytes s = ap (λ (x : Story). is_past x.place) (so_far-within wanted v.limits bytes s.within) ∙ same-past wanted v.limits v.stage (story wanted v.limits (settled bytes)) s.pictures
 
 -- what the tokenizer made of more bytes
-pub record Fed (v : Reading) (lx : lexer.Lexing) (bytes more : List ℕ) (n : ℕ) (hs : List Said) : Type 0 where
-  pub lexes : lexer.StandsFor lx more
+pub record Fed (v : Reading) (lx : Passing) (bytes more : List ℕ) (n : ℕ) (hs : List Said) : Type 0 where
+  pub lexes : Lexes lx more
   pub short : first_long (tokens more) ≡ None
   pub settles : settled more ≡ settled bytes ++ hs
   pub len : length more ≡ length bytes + n
@@ -79,7 +79,7 @@ more-few false r t n h = h
 more-few true r t n h = omega arith
 
 -- Bytes that end no token.
-module _ (wanted : Wanted) (v : Reading) (lx : lexer.Lexing) (bytes more : List ℕ) (n : ℕ) (s : Running wanted v bytes) (f : Fed v lx bytes more n []) where
+module _ (wanted : Wanted) (v : Reading) (lx : Passing) (bytes more : List ℕ) (n : ℕ) (s : Running wanted v bytes) (f : Fed v lx bytes more n []) where
   same-settled : settled more ≡ settled bytes
   same-settled = f.settles ∙ append-nil (settled bytes)
 
@@ -115,7 +115,7 @@ few-heard false true r t n k h s l none stays = let z : k ≡ 0 = none refl in o
 few-heard false false r t n k h s l none stays = let z : k ≡ 0 = none refl in omega arith
 
 -- Bytes that end a token.
-module _ (wanted : Wanted) (v : Reading) (lx : lexer.Lexing) (bytes more : List ℕ) (n at : ℕ) (text : List ℕ) (s : Running wanted v bytes) (f : Fed v lx bytes more n (word (token at text) ∷ [])) where
+module _ (wanted : Wanted) (v : Reading) (lx : Passing) (bytes more : List ℕ) (n at : ℕ) (text : List ℕ) (s : Running wanted v bytes) (f : Fed v lx bytes more n (word (token at text) ∷ [])) where
   pub story-word : story wanted v.limits (settled more) ≡ next wanted v.limits (story wanted v.limits (settled bytes)) (word (token at text))
   story-word = ap (story wanted v.limits) f.settles ∙ story-more wanted v.limits (settled bytes) (word (token at text) ∷ [])
 

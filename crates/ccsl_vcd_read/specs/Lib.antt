@@ -2,7 +2,10 @@ pub mod Meant
 pub mod Marks
 pub mod Users
 pub mod Kept
+pub mod Places
+pub mod Passing
 pub mod Step
+pub mod Run
 pub mod Picture
 pub mod Heading
 pub mod Opening

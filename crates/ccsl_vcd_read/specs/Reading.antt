@@ -2,7 +2,6 @@
 use Rattle.std.specs.Prelude.{◌≡◌, ℕ, ◌≤◌, ◌<◌, List, ◌++◌, length, take, Bool, true, false, Option, Some, None, ◌-◌}
 use Rattle.ccsl_base.specs.declared.rows.Row.{Row}
 use Rattle.ccsl_vcd_lex.specs.Tokens.{tokens, settled, heard, first_long}
-use Rattle.ccsl_vcd_lex.specs.Lexing as lexer
 use Rattle.ccsl_vcd.specs.declared.fault.VcdFault.{VcdFault}
 use Rattle.ccsl_vcd.specs.declared.limits.Limits.{Limits}
 use Rattle.ccsl_vcd.specs.Binding.{Wanted}
@@ -11,11 +10,12 @@ use Rattle.ccsl_vcd.specs.Reading.{story, so_far, reading}
 use Rattle.ccsl_vcd.specs.Rows.{complete, done, recorded}
 use Rattle.ccsl_vcd_read.specs.declared.stage.Stage.{Stage}
 use Rattle.ccsl_vcd_read.specs.Heading.{Caused, NotMemory}
+use Rattle.ccsl_vcd_read.specs.Passing.{Passing, Lexes}
 use Rattle.ccsl_vcd_read.specs.Staging.{Pictures, shown, shown_at, is_body}
 
 -- a reader as contracts see it
 pub record Reading : Type 0 where
-  pub lexing : lexer.Lexing
+  pub lexing : Passing
   pub limits : Limits
   -- how many bytes were taken, and how many rows given out
   pub taken : ℕ
@@ -33,7 +33,7 @@ abbrev pub shows : Reading → Option (List ℕ)
 shows v = shown v.stage
 
 pub record Running (wanted : Wanted) (v : Reading) (bytes : List ℕ) : Type 0 where
-  pub lexes : lexer.StandsFor v.lexing bytes
+  pub lexes : Lexes v.lexing bytes
   pub short : first_long (tokens bytes) ≡ None
   pub taken : v.taken ≡ length bytes
   pub within : length bytes ≤ v.limits.bytes
@@ -98,6 +98,13 @@ pub record IsFront (left : ℕ) (piece cut : List ℕ) : Type 0 where
   pub is : cut ≡ take n piece
   pub few : n ≤ left
   pub some : 0 < n
+  pub within : n ≤ length piece
+
+-- some bytes from the front of a piece, and at most so many
+pub record IsCut (left : ℕ) (piece cut : List ℕ) : Type 0 where
+  pub n : ℕ
+  pub is : cut ≡ take n piece
+  pub few : n ≤ left
   pub within : n ≤ length piece
 
 -- the last token of a trace was heard

@@ -12,6 +12,7 @@ use Rattle.ccsl_vcd_read.specs.declared.stage.Stage.TheVariants.{Header, Body, U
 use Rattle.ccsl_vcd_read.specs.Heading.{HeadShows, Closes}
 use Rattle.ccsl_vcd_read.specs.Picture.{Shows}
 use Rattle.ccsl_vcd_read.specs.Step.{row_of}
+use Rattle.ccsl_vcd_read.specs.Run.{Runs}
 
 abbrev pub Pictures : Wanted → Limits → Stage → Story → Type 0
 Pictures wanted limits (Header h) st = HeadShows wanted limits h st
@@ -66,3 +67,8 @@ abbrev pub ends_well : Stage → Bool
 ends_well (Header h) = false
 ends_well (Body b) = is_changes (amid_of b.amid) && not b.dumping
 ends_well Unbound = false
+
+-- the tokens of some bytes of a body were heard
+abbrev pub RunsIn : Stage → Stage → ℕ → List ℕ → List Row → List Row → Type 0
+RunsIn (Body b) (Body c) at part before after = Runs b c at part before after
+RunsIn old new at part before after = ⊥

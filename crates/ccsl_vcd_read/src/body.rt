@@ -1,21 +1,23 @@
 //! The tokens of a body.
 
-ghost use Rattle.std.specs.Prelude.{◌≡◌, ◌<◌, ◌≤◌, ◌+◌, ◌++◌, length, [], Ok};
+ghost use Rattle.std.specs.Prelude.{◌≡◌, ◌<◌, ◌≤◌, ◌+◌, ◌++◌, ◌^◌, length, take, [], Ok};
 ghost use Rattle.ccsl_vcd_read.specs.Step.{Says, row_of, time_says, changed_says, skipped_says, remark_says, word_says, hear_of};
+ghost use Rattle.ccsl_vcd_read.specs.Run.{Runs};
 ghost use Rattle.ccsl_vcd.specs.Words.{dump, close};
 ghost use Rattle.ccsl_vcd_read.specs.Meant.{meant, rest_of};
 
 use crate::amid::Amid;
+use crate::codes::Codes;
 use crate::marks::Marks;
+use crate::scan::run_end;
 use crate::word::{Word, is_text, word_of};
-use ccsl_base::{Block, Row};
-use ccsl_bind::Binding;
+use ccsl_base::{Block, MAX_TOKEN_BYTES, Row};
 use ccsl_vcd::VcdFault;
 
 /// What is kept of a body that is being read.
 #[derive(Drop)]
 pub(crate) struct Body {
-    pub binding: Binding,
+    pub binding: Codes,
     pub marks: Marks,
     pub present: u64,
     pub amid: Amid,
@@ -153,5 +155,46 @@ impl Body {
             Amid::Code(one) => self.change(at, text, one),
             Amid::CodeSkipped => self.pass(at, text),
         }
+    }
+
+    // Hears what stands at the front of some bytes: a byte of white space, or a token and the white space behind it. It answers
+    // how many bytes that are: none where no token ends there, or the token is refused.
+    fn step(&mut self, at: u64, bytes: &[u8], out: &mut Block) -> usize
+        requires room { length out.old.rows < out.old.room }
+        ensures within { result ≤ length bytes.now }
+        ensures runs { Runs self.old self.new at (take result bytes.now) out.old.rows out.new.rows }
+        ensures room { out.new.room ≡ out.old.room }
+    {
+        let end = run_end(bytes, 0);
+        if end == bytes.len() || end > MAX_TOKEN_BYTES {
+            return 0;
+        }
+        if end == 0 {
+            return 1;
+        }
+        match self.hear(at, &bytes[..end], out) {
+            Ok(()) => end + 1,
+            Err(_) => 0,
+        }
+    }
+
+    /// Hears the tokens that lie whole in a piece, from its front up to one that is refused, or where the block became full. It
+    /// answers how many bytes that are.
+    pub(crate) fn run(&mut self, at: u64, piece: &[u8], out: &mut Block) -> usize
+        requires room { length out.old.rows < out.old.room }
+        requires fits { at + length piece.now < 2 ^ 64 }
+        ensures within { result ≤ length piece.now }
+        ensures runs { Runs self.old self.new at (take result piece.now) out.old.rows out.new.rows }
+        ensures room { out.new.room ≡ out.old.room }
+    {
+        let mut from = 0;
+        while from < piece.len() && !out.is_full() {
+            let taken = self.step(at + from as u64, &piece[from..], out);
+            if taken == 0 {
+                return from;
+            }
+            from += taken;
+        }
+        from
     }
 }

@@ -4,12 +4,15 @@
 mod amid;
 mod body;
 mod buffer;
+mod codes;
 mod command;
 mod heading;
+mod lexer;
 mod marks;
 mod number;
 mod opening;
 mod reader;
+mod scan;
 mod stage;
 mod users;
 mod word;

@@ -10,6 +10,7 @@ ghost use Rattle.ccsl_vcd_read.specs.Opening.{IsBeginning, IsOpened};
 
 use crate::amid::Amid;
 use crate::body::Body;
+use crate::codes::Codes;
 use crate::marks::Marks;
 use ccsl_base::{MAX_CLOCKS, Memory};
 use ccsl_bind::{BindFault, Binder, Binding};
@@ -38,6 +39,7 @@ fn begin(alloc: Global, binding: Binding) -> Result<Body, VcdFault>
     ensures memory { IfErr result (λ f. IsMemory f) }
 {
     let marks = first_marks(alloc, &binding)?;
+    let binding = Codes::new(alloc, binding)?;
     Ok(Body {
         binding,
         marks,

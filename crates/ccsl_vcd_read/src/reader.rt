@@ -9,17 +9,18 @@ ghost use Rattle.ccsl_vcd.specs.Rows.{complete, done, recorded};
 ghost use Rattle.ccsl_bind.specs.Collected.{wanted_of};
 ghost use Rattle.ccsl_vcd_read.specs.Heading.{Caused, NotMemory, Refuses};
 ghost use Rattle.ccsl_vcd_read.specs.Staging.{Pictures, Heard, is_body, row_left, shown, shown_at};
-ghost use Rattle.ccsl_vcd_read.specs.Reading.{StandsFor, Pushes, Decides, HeaderSo, IsCalm, IsFront, shows, AtEnd, Refused, AreCounts};
+ghost use Rattle.ccsl_vcd_read.specs.Reading.{StandsFor, Pushes, Decides, HeaderSo, past_header, IsCalm, IsFront, IsCut, shows, AtEnd, Refused, AreCounts};
 
 use crate::buffer::Buffer;
 use crate::command::Command;
 use crate::heading::Heading;
-use crate::stage::{Stage, bound, give_left, hear, may_end};
+use crate::lexer::Lexer;
+use crate::scan::is_space;
+use crate::stage::{Stage, bound, give_left, hear, is_body, may_end, run};
 use ccsl_base::{Block, ClockSet, Memory};
 use ccsl_bind::Binder;
 use ccsl_kernel::System;
 use ccsl_vcd::{Limits, VcdFault};
-use ccsl_vcd_lex::Tokenizer;
 use std::alloc::Global;
 use std::marker::Model;
 
@@ -41,7 +42,7 @@ pub struct Counts {
 #[derive(Drop)]
 pub struct Reader {
     alloc: Global,
-    tokenizer: Tokenizer,
+    lexer: Lexer,
     limits: Limits,
     taken: u64,
     rows: u64,
@@ -55,7 +56,7 @@ impl Model for Reader {
     ghost Value = { Reading };
 
     ghost view = { λ r. record {
-      lexing = r.tokenizer;
+      lexing = r.lexer;
       limits = r.limits;
       taken = r.taken;
       rows = r.rows;
@@ -71,11 +72,11 @@ impl Reader {
         ensures runs { IfOk result (λ r. r.fault ≡ None) }
         ensures stands { IfOk result (λ r. StandsFor (wanted_of system.now) r []) }
     {
-        let tokenizer = Tokenizer::open(alloc)?;
+        let lexer = Lexer::open(alloc)?;
         let binder = Binder::open(alloc, system)?;
         Ok(Reader {
             alloc,
-            tokenizer,
+            lexer,
             limits: *limits,
             taken: 0,
             rows: 0,
@@ -109,21 +110,21 @@ impl Reader {
         requires pictures { (wanted : Wanted) × (st : Story) × Pictures wanted self.old.limits self.old.stage st }
         requires rows { self.old.rows + 1 < 2 ^ 64 }
         ensures heard { IfOk result (λ ended. (wanted : Wanted) (st : Story) → Pictures wanted self.old.limits self.old.stage st →
-            Heard wanted self.old.limits self.old.stage self.new.stage ended st (next wanted self.old.limits st (word (token at self.old.lexing.last))) out.old.rows out.new.rows) }
+            Heard wanted self.old.limits self.old.stage self.new.stage ended st (next wanted self.old.limits st (word (token at self.old.lexing.inner.last))) out.old.rows out.new.rows) }
         ensures counts { OnOk result (self.new ≡ record self.old {
           stage = self.new.stage;
           rows = self.old.rows + (length out.new.rows - length out.old.rows);
         }) }
         ensures left { OnOk result (length out.new.rows + length (row_left self.new.stage) ≤ length out.old.rows + 1) }
         ensures refuses { IfErr result (λ f. Caused f ((wanted : Wanted) (st : Story) → Pictures wanted self.old.limits self.old.stage st →
-            Refuses f st (next wanted self.old.limits st (word (token at self.old.lexing.last))))) }
+            Refuses f st (next wanted self.old.limits st (word (token at self.old.lexing.inner.last))))) }
         ensures stops { IfErr result (λ f. self.new ≡ record self.old { stage = self.new.stage; fault = Some f }) }
         ensures calm { IfErr result (λ f. is_body self.old.stage ≡ true → NotMemory f) }
         ensures kept { OnErr result ((out.new ≡ out.old) × (shown self.new.stage ≡ shown self.old.stage)) }
         ensures room { out.new.room ≡ out.old.room }
     {
         let before = out.len();
-        let text = self.tokenizer.token();
+        let text = self.lexer.token();
         match hear(&mut self.stage, self.alloc, self.limits, at, text, out) {
             Ok(ended) => {
                 self.rows += (out.len() - before) as u64;
@@ -166,7 +167,7 @@ impl Reader {
             return Err(self.fail(VcdFault::TooLong { at }));
         }
         let piece = front(piece, left);
-        match self.tokenizer.feed_run(piece) {
+        match self.lexer.feed_run(piece) {
             Ok(fed) => {
                 self.taken += fed.bytes as u64;
                 match fed.ended {
@@ -185,6 +186,72 @@ impl Reader {
             }
             Err(long) => Err(self.fail(VcdFault::TokenTooLong { at: long.at })),
         }
+    }
+
+    // Hears the tokens of a body that lie whole in a piece, where no token is open, and answers how many bytes that are.
+    fn race(&mut self, piece: &[u8], out: &mut Block) -> usize
+        requires room { length out.old.rows < out.old.room }
+        requires runs { self.old.fault ≡ None }
+        requires stands { (wanted : Wanted) × (bytes : List ℕ) × StandsFor wanted self.old bytes }
+        requires nothing_open { self.old.lexing.inner.open_text ≡ [] }
+        ensures limits { self.new.limits ≡ self.old.limits }
+        ensures room { out.new.room ≡ out.old.room }
+        ensures within { result ≤ length piece.now }
+        ensures runs { self.new.fault ≡ None }
+        ensures stands { (wanted : Wanted) (bytes : List ℕ) → StandsFor wanted self.old bytes → StandsFor wanted self.new (bytes ++ take result piece.now) }
+        ensures pushes { (wanted : Wanted) (bytes : List ℕ) → StandsFor wanted self.old bytes →
+            Pushes (done wanted self.old.limits bytes) (done wanted self.old.limits (bytes ++ take result piece.now)) out.old.rows out.new.rows }
+        ensures header { (wanted : Wanted) (bytes : List ℕ) → StandsFor wanted self.old bytes →
+            past_header wanted self.old.limits (bytes ++ take result piece.now) ≡ past_header wanted self.old.limits bytes }
+    {
+        if !is_body(&self.stage) {
+            return 0;
+        }
+        let piece = cut(piece, self.limits.bytes - self.taken);
+        let before = out.len();
+        let count = run(&mut self.stage, self.taken, piece, out);
+        self.lexer.pass(count as u64);
+        self.taken += count as u64;
+        self.rows += (out.len() - before) as u64;
+        count
+    }
+
+    // Takes bytes of a piece up to the first by which a token ends, and behind it tokens that lie whole in the piece.
+    fn stride(&mut self, piece: &[u8], out: &mut Block) -> Result<Taken, VcdFault>
+        requires some { 0 < length piece.now }
+        requires room { length out.old.rows < out.old.room }
+        requires runs { self.old.fault ≡ None }
+        requires stands { (wanted : Wanted) × (bytes : List ℕ) × StandsFor wanted self.old bytes }
+        ensures limits { self.new.limits ≡ self.old.limits }
+        ensures room { out.new.room ≡ out.old.room }
+        ensures within { IfOk result (λ t. t.bytes ≤ length piece.now) }
+        ensures moves { IfOk result (λ t. 0 < t.bytes) }
+        ensures runs { OnOk result (self.new.fault ≡ None) }
+        ensures stands { IfOk result (λ t. (wanted : Wanted) (bytes : List ℕ) → StandsFor wanted self.old bytes →
+            StandsFor wanted self.new (bytes ++ take t.bytes piece.now)) }
+        ensures pushes { IfOk result (λ t. (wanted : Wanted) (bytes : List ℕ) → StandsFor wanted self.old bytes →
+            Pushes (done wanted self.old.limits bytes) (done wanted self.old.limits (bytes ++ take t.bytes piece.now)) out.old.rows out.new.rows) }
+        ensures header { IfOk result (λ t. (wanted : Wanted) (bytes : List ℕ) → StandsFor wanted self.old bytes →
+            HeaderSo t.header_ended wanted self.old.limits bytes piece.now t.bytes) }
+        ensures decides { IfErr result (λ f. Caused f ((wanted : Wanted) (bytes : List ℕ) → StandsFor wanted self.old bytes →
+            Decides wanted self.old.limits bytes piece.now f out.old.rows out.new.rows)) }
+        ensures stops { IfErr result (λ f. self.new.fault ≡ Some f) }
+        ensures calm { IfErr result (λ f. is_body self.old.stage ≡ true → NotMemory f) }
+        ensures still { OnErr result ((wanted : Wanted) (bytes : List ℕ) → StandsFor wanted self.old bytes →
+            StandsFor wanted self.new (bytes ++ piece.now)) }
+    {
+        let step = match self.advance(piece, out) {
+            Ok(step) => step,
+            Err(fault) => return Err(fault),
+        };
+        if step.header_ended || out.is_full() || !is_space(piece[step.bytes - 1]) {
+            return Ok(step);
+        }
+        let more = self.race(&piece[step.bytes..], out);
+        Ok(Taken {
+            bytes: step.bytes + more,
+            header_ended: false,
+        })
     }
 
     /// Takes bytes of a piece of the trace: up to the one that ends the header, or by which the block became full, or all of
@@ -229,7 +296,7 @@ impl Reader {
         }
         let mut from = 0;
         while from < piece.len() {
-            match self.advance(&piece[from..], out) {
+            match self.stride(&piece[from..], out) {
                 Ok(step) => {
                     from += step.bytes;
                     if step.header_ended || out.is_full() {
@@ -254,6 +321,7 @@ impl Reader {
         requires runs { self.old.fault ≡ None }
         requires stands { (wanted : Wanted) × (bytes : List ℕ) × StandsFor wanted self.old bytes }
         requires rows { self.old.rows + 1 < 2 ^ 64 }
+        requires fits { self.old.taken < 2 ^ 64 }
         ensures ends { OnOk result ((wanted : Wanted) (bytes : List ℕ) → StandsFor wanted self.old bytes →
             AtEnd wanted self.old self.new bytes out.old.rows out.new.rows) }
         ensures left { OnOk result (length out.new.rows + length (row_left self.new.stage) ≤ length out.old.rows + 1) }
@@ -265,7 +333,7 @@ impl Reader {
         ensures kept { OnErr result (out.new ≡ out.old) }
         ensures room { out.new.room ≡ out.old.room }
     {
-        match self.tokenizer.finish() {
+        match self.lexer.finish() {
             Some(span) => match self.hear_token(span.at, out) {
                 Ok(_) => Ok(()),
                 Err(fault) => Err(fault),
@@ -337,6 +405,17 @@ fn front(piece: &[u8], left: u64) -> &[u8]
     requires some { 0 < length piece.now }
     requires left { 0 < left }
     ensures { IsFront left piece.now result.now }
+{
+    if left < piece.len() as u64 {
+        &piece[..left as usize]
+    } else {
+        piece
+    }
+}
+
+// At most so many bytes from the front of a piece.
+fn cut(piece: &[u8], left: u64) -> &[u8]
+    ensures { IsCut left piece.now result.now }
 {
     if left < piece.len() as u64 {
         &piece[..left as usize]

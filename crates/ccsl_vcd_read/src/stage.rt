@@ -1,12 +1,12 @@
 //! The header, the body, and the step from one to the other.
 
-ghost use Rattle.std.specs.Prelude.{◌≡◌, ◌<◌, ◌≤◌, ◌+◌, ◌++◌, length, IfOk, IfErr, OnErr, None, true};
+ghost use Rattle.std.specs.Prelude.{◌≡◌, ◌<◌, ◌≤◌, ◌+◌, ◌++◌, ◌^◌, length, take, IfOk, IfErr, OnErr, None, true};
 ghost use Rattle.std.specs.Option.{option_copied};
 ghost use Rattle.ccsl_vcd_lex.specs.Tokens.{token, word};
 ghost use Rattle.ccsl_vcd.specs.Binding.{Wanted};
 ghost use Rattle.ccsl_vcd.specs.Reading.{Story, next};
 ghost use Rattle.ccsl_vcd_read.specs.Heading.{Refuses, Caused, NotMemory};
-ghost use Rattle.ccsl_vcd_read.specs.Staging.{Pictures, Heard, IsClosing, Begins, row_left, shown, ends_well, is_body};
+ghost use Rattle.ccsl_vcd_read.specs.Staging.{Pictures, Heard, IsClosing, Begins, row_left, shown, ends_well, is_body, RunsIn};
 
 use crate::body::{Body, give};
 use crate::heading::Heading;
@@ -80,6 +80,31 @@ pub(crate) fn hear(
             Err(fault) => Err(fault),
         },
         Stage::Unbound => Ok(false),
+    }
+}
+
+/// Whether the header has ended.
+pub(crate) fn is_body(stage: &Stage) -> bool
+    ensures { result ≡ is_body stage.now }
+{
+    match stage {
+        Stage::Body(_) => true,
+        _ => false,
+    }
+}
+
+/// Hears the tokens of a body that lie whole in a piece, as far as it hears them, and answers how many bytes that are.
+pub(crate) fn run(stage: &mut Stage, at: u64, piece: &[u8], out: &mut Block) -> usize
+    requires past { is_body stage.old ≡ true }
+    requires room { length out.old.rows < out.old.room }
+    requires fits { at + length piece.now < 2 ^ 64 }
+    ensures within { result ≤ length piece.now }
+    ensures runs { RunsIn stage.old stage.new at (take result piece.now) out.old.rows out.new.rows }
+    ensures room { out.new.room ≡ out.old.room }
+{
+    match stage {
+        Stage::Body(body) => body.run(at, piece, out),
+        _ => 0,
     }
 }
 

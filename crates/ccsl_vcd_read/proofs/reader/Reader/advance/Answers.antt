@@ -8,6 +8,7 @@ use Rattle.ccsl_vcd.specs.Binding.{Wanted}
 use Rattle.ccsl_vcd.specs.Reading.{story, next}
 use Rattle.ccsl_vcd.specs.Rows.{done}
 use Rattle.ccsl_vcd_read.specs.Heading.{Refuses}
+use Rattle.ccsl_vcd_read.specs.Passing.{Lexes}
 use Rattle.ccsl_vcd_read.specs.Staging.{shown}
 use Rattle.ccsl_vcd_read.specs.Reading.{Reading, StandsFor, Running, Pushes, Decides, HeaderSo, past_header}
 use Rattle.ccsl_vcd_read.proofs.HeadPictures.{weaken}
@@ -41,7 +42,7 @@ returns-then-left-eq0-clause-still c = λ wanted bytes t.
 pub feed_run-requires : goal.feed_run-requires
 feed_run-requires c =
     let s = enter _ _ _ _ c.self.view_is c.requires.runs c.requires.stands.2 in
-    (c.requires.stands.1, s.lexes, room-for _ _ c.requires.stands.1 c.args.piece.now c.front-piece.result.now s c.front-piece.ensures (omega arith))
+    (c.requires.stands.1, s.lexes, s.short, room-for _ _ c.requires.stands.1 c.args.piece.now c.front-piece.result.now s c.front-piece.ensures (omega arith))
 
 pub hear_token-requires-clause-pictures : goal.hear_token-requires-clause-pictures
 hear_token-requires-clause-pictures c =
@@ -58,7 +59,7 @@ returns-in-None-clause-stands c = λ wanted bytes t.
     let s = enter wanted _ _ bytes c.self.view_is c.requires.runs t in
     let f = fed-of wanted _ bytes c.args.piece.now c.front-piece.result.now c.feed_run.new.self c.in-Ok.fed.bytes [] s c.front-piece.ensures c.in-Ok.ensures.within
     (c.in-Ok.ensures.moves (cut-some _ _ _ c.front-piece.ensures)) (c.in-Ok.ensures.stands bytes s.lexes) (c.in-Ok.ensures.short bytes s.lexes)
-    (c.in-Ok.ensures.settled bytes s.lexes ∙ ap (λ o. settled bytes ++ named o c.feed_run.new.self.last) c.in-None.is) in
+    (c.in-Ok.ensures.settled bytes s.lexes ∙ ap (λ o. settled bytes ++ named o c.feed_run.new.self.inner.last) c.in-None.is) in
     stands-of wanted _ (bytes ++ take c.in-Ok.fed.bytes c.args.piece.now) (ap (λ (x : Reading). x.fault) c.self.view_is ∙ c.requires.runs) (quiet wanted _ c.feed_run.new.self bytes (bytes ++ take c.in-Ok.fed.bytes c.args.piece.now) c.in-Ok.fed.bytes s f)
 
 pub returns-in-None-clause-pushes : goal.returns-in-None-clause-pushes
@@ -66,7 +67,7 @@ returns-in-None-clause-pushes c = λ wanted bytes t.
     let s = enter wanted _ _ bytes c.self.view_is c.requires.runs t in
     let f = fed-of wanted _ bytes c.args.piece.now c.front-piece.result.now c.feed_run.new.self c.in-Ok.fed.bytes [] s c.front-piece.ensures c.in-Ok.ensures.within
     (c.in-Ok.ensures.moves (cut-some _ _ _ c.front-piece.ensures)) (c.in-Ok.ensures.stands bytes s.lexes) (c.in-Ok.ensures.short bytes s.lexes)
-    (c.in-Ok.ensures.settled bytes s.lexes ∙ ap (λ o. settled bytes ++ named o c.feed_run.new.self.last) c.in-None.is) in
+    (c.in-Ok.ensures.settled bytes s.lexes ∙ ap (λ o. settled bytes ++ named o c.feed_run.new.self.inner.last) c.in-None.is) in
     subst (λ (x : Reading). Pushes (done wanted x.limits bytes) (done wanted x.limits (bytes ++ take c.in-Ok.fed.bytes c.args.piece.now)) c.args.out.now.rows c.args.out.now.rows) c.self.view_is
     (quiet-pushes wanted _ c.feed_run.new.self bytes (bytes ++ take c.in-Ok.fed.bytes c.args.piece.now) c.in-Ok.fed.bytes s f c.args.out.now.rows)
 
@@ -75,7 +76,7 @@ returns-in-None-clause-header c = λ wanted bytes t.
     let s = enter wanted _ _ bytes c.self.view_is c.requires.runs t in
     let f = fed-of wanted _ bytes c.args.piece.now c.front-piece.result.now c.feed_run.new.self c.in-Ok.fed.bytes [] s c.front-piece.ensures c.in-Ok.ensures.within
     (c.in-Ok.ensures.moves (cut-some _ _ _ c.front-piece.ensures)) (c.in-Ok.ensures.stands bytes s.lexes) (c.in-Ok.ensures.short bytes s.lexes)
-    (c.in-Ok.ensures.settled bytes s.lexes ∙ ap (λ o. settled bytes ++ named o c.feed_run.new.self.last) c.in-None.is) in
+    (c.in-Ok.ensures.settled bytes s.lexes ∙ ap (λ o. settled bytes ++ named o c.feed_run.new.self.inner.last) c.in-None.is) in
     subst (λ (x : Reading). past_header wanted x.limits (bytes ++ take c.in-Ok.fed.bytes c.args.piece.now) ≡ past_header wanted x.limits bytes) c.self.view_is
     (quiet-past wanted _ c.feed_run.new.self bytes (bytes ++ take c.in-Ok.fed.bytes c.args.piece.now) c.in-Ok.fed.bytes s f)
 
@@ -83,11 +84,11 @@ pub returns-in-Ok-hear_token-clause-stands : goal.returns-in-Ok-hear_token-claus
 returns-in-Ok-hear_token-clause-stands c = λ wanted bytes t.
     let s = enter wanted _ _ bytes c.self.view_is c.requires.runs t in
     let at = c.in-Some.span.at in
-    let text = c.feed_run.new.self.last in
+    let text = c.feed_run.new.self.inner.last in
     let k = c.in-Ok.fed.bytes in
     let f = fed-of wanted _ bytes c.args.piece.now c.front-piece.result.now c.feed_run.new.self k (word (token at text) ∷ []) s c.front-piece.ensures c.in-Ok.ensures.within
     (c.in-Ok.ensures.moves (cut-some _ _ _ c.front-piece.ensures)) (c.in-Ok.ensures.stands bytes s.lexes) (c.in-Ok.ensures.short bytes s.lexes)
-    (c.in-Ok.ensures.settled bytes s.lexes ∙ ap (λ o. settled bytes ++ named o c.feed_run.new.self.last) c.in-Some.is) in
+    (c.in-Ok.ensures.settled bytes s.lexes ∙ ap (λ o. settled bytes ++ named o c.feed_run.new.self.inner.last) c.in-Some.is) in
     let h = c.in-Ok-hear_token.ensures.heard wanted (story wanted c.self.inside.limits (settled bytes)) s.pictures in
     let e = c.in-Ok-hear_token.ensures.counts in
     stands-of wanted c.hear_token.new.self (bytes ++ take c.in-Ok.fed.bytes c.args.piece.now) (ap (λ (x : Reading). x.fault) e ∙ ap (λ (x : Reading). x.fault) c.self.view_is ∙ c.requires.runs)
@@ -98,11 +99,11 @@ pub returns-in-Ok-hear_token-clause-pushes : goal.returns-in-Ok-hear_token-claus
 returns-in-Ok-hear_token-clause-pushes c = λ wanted bytes t.
     let s = enter wanted _ _ bytes c.self.view_is c.requires.runs t in
     let at = c.in-Some.span.at in
-    let text = c.feed_run.new.self.last in
+    let text = c.feed_run.new.self.inner.last in
     let k = c.in-Ok.fed.bytes in
     let f = fed-of wanted _ bytes c.args.piece.now c.front-piece.result.now c.feed_run.new.self k (word (token at text) ∷ []) s c.front-piece.ensures c.in-Ok.ensures.within
     (c.in-Ok.ensures.moves (cut-some _ _ _ c.front-piece.ensures)) (c.in-Ok.ensures.stands bytes s.lexes) (c.in-Ok.ensures.short bytes s.lexes)
-    (c.in-Ok.ensures.settled bytes s.lexes ∙ ap (λ o. settled bytes ++ named o c.feed_run.new.self.last) c.in-Some.is) in
+    (c.in-Ok.ensures.settled bytes s.lexes ∙ ap (λ o. settled bytes ++ named o c.feed_run.new.self.inner.last) c.in-Some.is) in
     let h = c.in-Ok-hear_token.ensures.heard wanted (story wanted c.self.inside.limits (settled bytes)) s.pictures in
     subst (λ (x : Reading). Pushes (done wanted x.limits bytes) (done wanted x.limits (bytes ++ take c.in-Ok.fed.bytes c.args.piece.now)) c.args.out.now.rows c.hear_token.new.out.rows) c.self.view_is
     (word-pushes wanted _ c.feed_run.new.self bytes (bytes ++ take c.in-Ok.fed.bytes c.args.piece.now) k at text s f c.hear_token.new.self.stage c.in-Ok-hear_token.header_ended c.args.out.now.rows c.hear_token.new.out.rows h)
@@ -111,13 +112,13 @@ pub returns-in-Ok-hear_token-clause-header : goal.returns-in-Ok-hear_token-claus
 returns-in-Ok-hear_token-clause-header c = λ wanted bytes t.
     let s = enter wanted _ _ bytes c.self.view_is c.requires.runs t in
     let at = c.in-Some.span.at in
-    let text = c.feed_run.new.self.last in
+    let text = c.feed_run.new.self.inner.last in
     let k = c.in-Ok.fed.bytes in
     let f = fed-of wanted _ bytes c.args.piece.now c.front-piece.result.now c.feed_run.new.self k (word (token at text) ∷ []) s c.front-piece.ensures c.in-Ok.ensures.within
     (c.in-Ok.ensures.moves (cut-some _ _ _ c.front-piece.ensures)) (c.in-Ok.ensures.stands bytes s.lexes) (c.in-Ok.ensures.short bytes s.lexes)
-    (c.in-Ok.ensures.settled bytes s.lexes ∙ ap (λ o. settled bytes ++ named o c.feed_run.new.self.last) c.in-Some.is) in
+    (c.in-Ok.ensures.settled bytes s.lexes ∙ ap (λ o. settled bytes ++ named o c.feed_run.new.self.inner.last) c.in-Some.is) in
     let h = c.in-Ok-hear_token.ensures.heard wanted (story wanted c.self.inside.limits (settled bytes)) s.pictures in
-    let by_last = subst (λ o. Rattle.std.specs.Prelude.OnSome o ((bs : List ℕ) → Rattle.ccsl_vcd_lex.specs.Lexing.StandsFor c.self.inside.tokenizer bs → settled (bs ++ take (k - 1) c.front-piece.result.now) ≡ settled bs)) c.in-Some.is c.in-Ok.ensures.by_last in
+    let by_last = subst (λ o. Rattle.std.specs.Prelude.OnSome o ((bs : List ℕ) → Lexes c.self.inside.lexer bs → settled (bs ++ take (k - 1) c.front-piece.result.now) ≡ settled bs)) c.in-Some.is c.in-Ok.ensures.by_last in
     subst (λ (x : Reading). HeaderSo c.in-Ok-hear_token.header_ended wanted x.limits bytes c.args.piece.now k) c.self.view_is
     (word-header wanted _ c.feed_run.new.self bytes (bytes ++ take c.in-Ok.fed.bytes c.args.piece.now) k at text s f c.hear_token.new.self.stage c.in-Ok-hear_token.header_ended c.args.out.now.rows c.hear_token.new.out.rows c.args.piece.now h refl
     (before-last wanted _ bytes c.args.piece.now c.front-piece.result.now k s c.front-piece.ensures c.in-Ok.ensures.within)
@@ -128,11 +129,11 @@ returns-in-Err-hear_token-clause-decides c =
     caused-map c.in-Err-hear_token.fault (λ r. λ (wanted : Wanted) (bytes : List ℕ) (t : StandsFor wanted c.args.self.now bytes).
     let s = enter wanted _ _ bytes c.self.view_is c.requires.runs t in
     let at = c.in-Some.span.at in
-    let text = c.feed_run.new.self.last in
+    let text = c.feed_run.new.self.inner.last in
     let k = c.in-Ok.fed.bytes in
     let f = fed-of wanted _ bytes c.args.piece.now c.front-piece.result.now c.feed_run.new.self k (word (token at text) ∷ []) s c.front-piece.ensures c.in-Ok.ensures.within
     (c.in-Ok.ensures.moves (cut-some _ _ _ c.front-piece.ensures)) (c.in-Ok.ensures.stands bytes s.lexes) (c.in-Ok.ensures.short bytes s.lexes)
-    (c.in-Ok.ensures.settled bytes s.lexes ∙ ap (λ o. settled bytes ++ named o c.feed_run.new.self.last) c.in-Some.is) in
+    (c.in-Ok.ensures.settled bytes s.lexes ∙ ap (λ o. settled bytes ++ named o c.feed_run.new.self.inner.last) c.in-Some.is) in
     let q : Refuses c.in-Err-hear_token.fault (story wanted c.self.inside.limits (settled bytes)) (next wanted c.self.inside.limits (story wanted c.self.inside.limits (settled bytes)) (word (token at text))) =
     r wanted (story wanted c.self.inside.limits (settled bytes)) s.pictures in
     let b = refused-breaks wanted _ c.feed_run.new.self bytes c.args.piece.now k at text s f c.in-Err-hear_token.fault c.args.out.now.rows c.hear_token.new.out.rows (ap (λ x. x.rows) c.in-Err-hear_token.ensures.kept.0) q in
@@ -144,11 +145,11 @@ pub returns-in-Err-hear_token-clause-still : goal.returns-in-Err-hear_token-clau
 returns-in-Err-hear_token-clause-still c = λ wanted bytes t.
     let s = enter wanted _ _ bytes c.self.view_is c.requires.runs t in
     let at = c.in-Some.span.at in
-    let text = c.feed_run.new.self.last in
+    let text = c.feed_run.new.self.inner.last in
     let k = c.in-Ok.fed.bytes in
     let f = fed-of wanted _ bytes c.args.piece.now c.front-piece.result.now c.feed_run.new.self k (word (token at text) ∷ []) s c.front-piece.ensures c.in-Ok.ensures.within
     (c.in-Ok.ensures.moves (cut-some _ _ _ c.front-piece.ensures)) (c.in-Ok.ensures.stands bytes s.lexes) (c.in-Ok.ensures.short bytes s.lexes)
-    (c.in-Ok.ensures.settled bytes s.lexes ∙ ap (λ o. settled bytes ++ named o c.feed_run.new.self.last) c.in-Some.is) in
+    (c.in-Ok.ensures.settled bytes s.lexes ∙ ap (λ o. settled bytes ++ named o c.feed_run.new.self.inner.last) c.in-Some.is) in
     let e = c.in-Err-hear_token.ensures.stops in
     stands-stopped wanted c.hear_token.new.self c.in-Err-hear_token.fault (bytes ++ c.args.piece.now) (ap (λ (x : Reading). x.fault) e)
     (caused-map c.in-Err-hear_token.fault (λ r.

@@ -19,14 +19,14 @@ returns-in-Some-clause-still c = λ wanted bytes s.
 pub loop-from-init : goal.loop-from-init
 loop-from-init c = starts c.args.self.now c.args.out.now c.args.piece.now (ap (λ (x : Reading). x.fault) (sym c.self.view_is) ∙ c.in_default.is) c.requires.room
 
-pub advance-requires-clause-room : goal.advance-requires-clause-room
-advance-requires-clause-room c = c.loop-from.invariant.room
+pub stride-requires-clause-room : goal.stride-requires-clause-room
+stride-requires-clause-room c = c.loop-from.invariant.room
 
-pub advance-requires-clause-runs : goal.advance-requires-clause-runs
-advance-requires-clause-runs c = c.loop-from.invariant.runs
+pub stride-requires-clause-runs : goal.stride-requires-clause-runs
+stride-requires-clause-runs c = c.loop-from.invariant.runs
 
-pub advance-requires-clause-stands : goal.advance-requires-clause-stands
-advance-requires-clause-stands c =
+pub stride-requires-clause-stands : goal.stride-requires-clause-stands
+stride-requires-clause-stands c =
     let w = subst (λ o. Rattle.std.specs.Prelude.IfNone o ((x : Wanted) × (y : List ℕ) × StandsFor x c.args.self.now y)) (ap (λ (x : Reading). x.fault) (sym c.self.view_is) ∙ c.in_default.is) c.requires.stands in
     (w.0, w.1 ++ _, c.loop-from.invariant.stands w.0 w.1 w.2)
 
@@ -38,22 +38,22 @@ returns-then-step-clause-room c = c.in-Ok.ensures.room ∙ c.loop-from.invariant
 
 pub returns-then-step-clause-stands : goal.returns-then-step-clause-stands
 returns-then-step-clause-stands c =
-    more-stands c.args.self.now c.loop-from.self c.advance.new.self c.args.out.now c.loop-from.out c.advance.new.out c.args.piece.now c.loop-from.from c.in-Ok.step.bytes c.loop-from.invariant c.in-Ok.ensures.limits
+    more-stands c.args.self.now c.loop-from.self c.stride.new.self c.args.out.now c.loop-from.out c.stride.new.out c.args.piece.now c.loop-from.from c.in-Ok.step.bytes c.loop-from.invariant c.in-Ok.ensures.limits
     c.in-Ok.ensures.stands c.in-Ok.ensures.pushes
 
 pub returns-then-step-clause-pushes : goal.returns-then-step-clause-pushes
 returns-then-step-clause-pushes c =
-    more-pushes c.args.self.now c.loop-from.self c.advance.new.self c.args.out.now c.loop-from.out c.advance.new.out c.args.piece.now c.loop-from.from c.in-Ok.step.bytes c.loop-from.invariant c.in-Ok.ensures.limits
+    more-pushes c.args.self.now c.loop-from.self c.stride.new.self c.args.out.now c.loop-from.out c.stride.new.out c.args.piece.now c.loop-from.from c.in-Ok.step.bytes c.loop-from.invariant c.in-Ok.ensures.limits
     c.in-Ok.ensures.stands c.in-Ok.ensures.pushes
 
 pub returns-then-step-clause-header : goal.returns-then-step-clause-header
 returns-then-step-clause-header c =
-    more-header c.args.self.now c.loop-from.self c.advance.new.self c.args.out.now c.loop-from.out c.advance.new.out c.args.piece.now c.loop-from.from c.in-Ok.step.bytes c.loop-from.invariant c.in-Ok.ensures.limits
+    more-header c.args.self.now c.loop-from.self c.stride.new.self c.args.out.now c.loop-from.out c.stride.new.out c.args.piece.now c.loop-from.from c.in-Ok.step.bytes c.loop-from.invariant c.in-Ok.ensures.limits
     c.in-Ok.ensures.stands c.in-Ok.ensures.pushes c.in-Ok.step.header_ended c.in-Ok.ensures.header
 
 pub loop-from-preserved : goal.loop-from-preserved
 loop-from-preserved c =
-    passes c.args.self.now c.loop-from.self c.advance.new.self c.args.out.now c.loop-from.out c.advance.new.out c.args.piece.now c.loop-from.from c.in-Ok.step.bytes c.loop-from.invariant c.in-Ok.ensures.limits
+    passes c.args.self.now c.loop-from.self c.stride.new.self c.args.out.now c.loop-from.out c.stride.new.out c.args.piece.now c.loop-from.from c.in-Ok.step.bytes c.loop-from.invariant c.in-Ok.ensures.limits
     c.in-Ok.ensures.stands c.in-Ok.ensures.pushes c.in-Ok.ensures.runs c.in-Ok.ensures.room (grind (arith, common_steps, c.is_full.ensures, c.if-is_full.false)) c.in-Ok.ensures.within
     (λ wanted bytes s. subst (λ b. HeaderSo b wanted c.loop-from.self.limits bytes (rest_at c.loop-from.from c.args.piece.now) c.in-Ok.step.bytes) c.if-step.false (c.in-Ok.ensures.header wanted bytes s))
 
@@ -66,15 +66,15 @@ returns-in-Err-clause-room c = c.in-Err.ensures.room ∙ c.loop-from.invariant.s
 pub returns-in-Err-clause-decides : goal.returns-in-Err-clause-decides
 returns-in-Err-clause-decides c =
     if-none c.args.self.now.fault c.loop-from.invariant.old_runs
-    (piece-decides c.args.self.now c.loop-from.self c.advance.new.self c.args.out.now c.loop-from.out c.advance.new.out c.args.piece.now c.loop-from.from c.in-Err.fault c.loop-from.invariant c.in-Err.ensures.decides)
+    (piece-decides c.args.self.now c.loop-from.self c.stride.new.self c.args.out.now c.loop-from.out c.stride.new.out c.args.piece.now c.loop-from.from c.in-Err.fault c.loop-from.invariant c.in-Err.ensures.decides)
 
 pub returns-in-Err-clause-refuses : goal.returns-in-Err-clause-refuses
 returns-in-Err-clause-refuses c =
-    piece-refuses c.args.self.now c.loop-from.self c.advance.new.self c.args.out.now c.loop-from.out c.advance.new.out c.args.piece.now c.loop-from.from c.in-Err.fault c.loop-from.invariant c.in-Err.ensures.decides
+    piece-refuses c.args.self.now c.loop-from.self c.stride.new.self c.args.out.now c.loop-from.out c.stride.new.out c.args.piece.now c.loop-from.from c.in-Err.fault c.loop-from.invariant c.in-Err.ensures.decides
 
 pub returns-in-Err-clause-still : goal.returns-in-Err-clause-still
 returns-in-Err-clause-still c =
-    piece-still c.args.self.now c.loop-from.self c.advance.new.self c.args.out.now c.loop-from.out c.advance.new.out c.args.piece.now c.loop-from.from c.in-Err.fault c.loop-from.invariant c.in-Err.ensures.still
+    piece-still c.args.self.now c.loop-from.self c.stride.new.self c.args.out.now c.loop-from.out c.stride.new.out c.args.piece.now c.loop-from.from c.in-Err.fault c.loop-from.invariant c.in-Err.ensures.still
 
 pub returns-clause-limits : goal.returns-clause-limits
 returns-clause-limits c = c.loop-from.invariant.limits

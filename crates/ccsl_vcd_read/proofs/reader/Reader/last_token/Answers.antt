@@ -12,7 +12,8 @@ use Rattle.ccsl_vcd_read.proofs.reader.Reader.last_token.Goals as goal
 pub finish-requires : goal.finish-requires
 finish-requires c =
     let s = enter _ _ _ _ c.self.view_is c.requires.runs c.requires.stands.2 in
-    (c.requires.stands.1, s.lexes, s.short)
+    let fits : c.self.inside.taken < 2 ^ 64 = subst (λ (x : Reading). x.taken < 2 ^ 64) (sym c.self.view_is) c.requires.fits in
+    (c.requires.stands.1, s.lexes, s.short, omega (arith, s.taken, fits))
 
 pub hear_token-requires-clause-pictures : goal.hear_token-requires-clause-pictures
 hear_token-requires-clause-pictures c =
@@ -28,7 +29,7 @@ returns-in-Ok-clause-ends c = λ wanted bytes t.
     let e = c.in-Some.ensures.all bytes s.lexes in
     let h = c.in-Ok.ensures.heard wanted (story wanted c.self.inside.limits (settled bytes)) s.pictures in
     subst (λ (x : Reading). AtEnd wanted x c.hear_token.new.self bytes c.args.out.now.rows c.hear_token.new.out.rows) c.self.view_is
-    (word-end wanted _ bytes c.in-Some.span.at c.finish.new.self.last s e c.hear_token.new.self.stage _ c.args.out.now.rows c.hear_token.new.out.rows c.hear_token.new.self h refl
+    (word-end wanted _ bytes c.in-Some.span.at c.finish.new.self.inner.last s e c.hear_token.new.self.stage _ c.args.out.now.rows c.hear_token.new.out.rows c.hear_token.new.self h refl
     (ap (λ (x : Reading). x.rows) c.in-Ok.ensures.counts))
 
 pub returns-in-Ok-clause-few : goal.returns-in-Ok-clause-few
@@ -44,9 +45,9 @@ returns-in-Err-clause-refuses c =
     caused-map c.in-Err.fault (λ r. λ (wanted : Wanted) (bytes : List ℕ) (t : StandsFor wanted c.args.self.now bytes).
     let s = enter wanted _ _ bytes c.self.view_is c.requires.runs t in
     let e = c.in-Some.ensures.all bytes s.lexes in
-    let q : Refuses c.in-Err.fault (story wanted c.self.inside.limits (settled bytes)) (next wanted c.self.inside.limits (story wanted c.self.inside.limits (settled bytes)) (word (token c.in-Some.span.at c.finish.new.self.last))) =
+    let q : Refuses c.in-Err.fault (story wanted c.self.inside.limits (settled bytes)) (next wanted c.self.inside.limits (story wanted c.self.inside.limits (settled bytes)) (word (token c.in-Some.span.at c.finish.new.self.inner.last))) =
     r wanted (story wanted c.self.inside.limits (settled bytes)) s.pictures in
-    subst (λ (x : Reading). Refused wanted x bytes c.in-Err.fault) c.self.view_is (word-refused wanted _ bytes c.in-Some.span.at c.finish.new.self.last s e c.in-Err.fault q))
+    subst (λ (x : Reading). Refused wanted x bytes c.in-Err.fault) c.self.view_is (word-refused wanted _ bytes c.in-Some.span.at c.finish.new.self.inner.last s e c.in-Err.fault q))
     c.in-Err.ensures.refuses
 
 pub returns-in-None-clause-ends : goal.returns-in-None-clause-ends

@@ -10,7 +10,7 @@ pub returns-clause-stands : goal.returns-clause-stands
 unfolding tokens_from first_long rows
 returns-clause-stands c =
     stands-of (wanted_of c.args.system.now) _ [] refl (record {
-      lexes = c.in_ok-tokenizer.ensures.stands;
+      lexes = c.in_ok-lexer.ensures;
       short = refl;
       taken = refl;
       within = omega arith;

@@ -1,0 +1,150 @@
+-- Tokens that are heard one after another.
+use Rattle.std.proofs.Common.{◌≡◌, ℕ, ◌+◌, ◌-◌, ◌≤◌, ◌<◌, List, [], ◌∷◌, ◌++◌, length, take, drop, get_or, Bool, true, false, not, Option, Some, None, Result, Ok, Err, cond, suc, fold, refl, sym, ap, ◌∙◌, subst, append_assoc, arith, length-append, zero-add}
+use Rattle.std.specs.List.{prefix_len, AllByRecursion}
+use Rattle.std.proofs.lemmas.List.{append-nil, take_more}
+use Rattle.std.proofs.Math.Seq.{take-add}
+use Rattle.ccsl_base.specs.declared.rows.Row.{Row}
+use Rattle.ccsl_vcd_lex.specs.Tokens.{is_white, Token, token, tokens_from, first_long}
+use Rattle.ccsl_vcd_lex.specs.Runs.{fresh_after}
+use Rattle.ccsl_vcd_lex.specs.Lexing.{Dark, is_dark}
+use Rattle.ccsl_vcd_lex.proofs.Cuts.{tokens-cut, long-append, one-token, from-behind, fresh-behind}
+use Rattle.ccsl_vcd.specs.declared.fault.VcdFault.{VcdFault}
+use Rattle.ccsl_vcd_read.specs.declared.body.Body.{Body}
+use Rattle.ccsl_vcd_read.specs.Step.{hear_of, row_of, Says}
+use Rattle.ccsl_vcd_read.specs.Run.{behind, hear_next, hear_all, Runs}
+use Rattle.ccsl_vcd_read.proofs.Passing.{fresh-append}
+use Rattle.ccsl_vcd_read.proofs.StagePictures.{room-left}
+
+behind-both : (xs ys : List Row) (r : Result (Body × List Row) VcdFault) → behind (xs ++ ys) r ≡ behind xs (behind ys r)
+behind-both xs ys (Ok p) = ap (λ rs. Ok (p.0, rs)) (append_assoc xs ys p.1)
+behind-both xs ys (Err f) = refl
+
+next-behind : (rows : List Row) (r : Result (Body × List Row) VcdFault) (t : Token) → hear_next (behind rows r) t ≡ behind rows (hear_next r t)
+next-behind rows (Ok p) t = behind-both rows p.1 (hear_of p.0 t.at t.text)
+next-behind rows (Err f) t = refl
+
+pub all-behind : (rows : List Row) (r : Result (Body × List Row) VcdFault) (ts : List Token) → fold hear_next (behind rows r) ts ≡ behind rows (fold hear_next r ts)
+all-behind rows r [] = refl
+all-behind rows r (t ∷ ts) = ap (λ q. fold hear_next q ts) (next-behind rows r t) ∙ all-behind rows (hear_next r t) ts
+
+fold-both : (r : Result (Body × List Row) VcdFault) (xs ys : List Token) → fold hear_next r (xs ++ ys) ≡ fold hear_next (fold hear_next r xs) ys
+fold-both r [] ys = refl
+fold-both r (x ∷ xs) ys = fold-both (hear_next r x) xs ys
+
+-- with rows that were given out before
+pub hears-from : (b : Body) (rows : List Row) (ts : List Token) → fold hear_next (Ok (b, rows)) ts ≡ behind rows (hear_all b ts)
+hears-from b rows ts = ap (λ rs. fold hear_next (Ok (b, rs)) ts) (sym (append-nil rows)) ∙ all-behind rows (Ok (b, [])) ts
+
+pub runs-none : (b : Body) (at : ℕ) (rows : List Row) → Runs b b at [] rows rows
+unfolding tokens_from fresh_after first_long
+runs-none b at rows = record { pushed = []; hears = refl; rows = sym (append-nil rows); fresh = refl; short = refl; few = omega arith }
+
+pub runs-both : (a b c : Body) (at : ℕ) (p q : List ℕ) (x y z : List Row) → Runs a b at p x y → Runs b c (at + length p) q y z → Runs a c at (p ++ q) x z
+runs-both a b c at p q x y z r s =
+    let cut : tokens_from true at (p ++ q) ≡ tokens_from true at p ++ tokens_from true (at + length p) q = tokens-cut true at p q r.fresh in
+    record {
+      pushed = r.pushed ++ s.pushed;
+      hears =
+          ap (hear_all a) cut ∙ fold-both (Ok (a, [])) (tokens_from true at p) (tokens_from true (at + length p) q)
+          ∙ ap (λ u. fold hear_next u (tokens_from true (at + length p) q)) r.hears ∙ hears-from b r.pushed (tokens_from true (at + length p) q) ∙ ap (behind r.pushed) s.hears;
+      rows = s.rows ∙ ap (λ rs. rs ++ s.pushed) r.rows ∙ append_assoc x r.pushed s.pushed;
+      fresh = fresh-append true p q ∙ ap (λ w. fresh_after w q) r.fresh ∙ s.fresh;
+      short = ap first_long cut ∙ long-append (tokens_from true at p) (tokens_from true (at + length p) q) r.short ∙ s.short;
+      few = omega (arith, r.few, s.few, length-append r.pushed s.pushed, length-append p q);
+    }
+
+-- white space
+pub runs-white : (b : Body) (at w : ℕ) (rows : List Row) → is_white w ≡ true → Runs b b at (w ∷ []) rows rows
+unfolding tokens_from first_long
+runs-white b at w rows h =
+    let none : tokens_from true at (w ∷ []) ≡ [] = from-behind true at [] (w ∷ []) (h, tt) in
+    record {
+      pushed = [];
+      hears = ap (hear_all b) none;
+      rows = sym (append-nil rows);
+      fresh = fresh-behind true [] (w ∷ []) (h, tt) (omega arith);
+      short = ap first_long none;
+      few = omega arith;
+    }
+
+short-one : (at : ℕ) (text : List ℕ) → length text ≤ 65536 → first_long (token at text ∷ []) ≡ None
+unfolding first_long
+short-one at text h = rw (Rattle.std.proofs.lemmas.Bool.le-ltb 65536 (length text) h) refl
+
+-- a token, and the white space behind it
+pub runs-word : (b c : Body) (at w : ℕ) (text : List ℕ) (x y : List Row) → Dark text → 0 < length text → length text ≤ 65536 → is_white w ≡ true → Says (hear_of b at text) (Ok tt) b c x y
+    → Runs b c at (text ++ w ∷ []) x y
+runs-word b c at w [] x y d n l h e = absurd (omega arith)
+runs-word b c at w (t ∷ ts) x y d n l h e = go (hear_of b at (t ∷ ts)) refl e
+  where
+    one : tokens_from true at ((t ∷ ts) ++ w ∷ []) ≡ token at (t ∷ ts) ∷ []
+    one = from-behind true at (t ∷ ts) (w ∷ []) (h, tt) ∙ one-token at t ts d
+
+    few : length y ≤ length x + 1
+    few = let m = room-left b c at (t ∷ ts) x y e in omega (arith, m)
+
+    go : (r : Result (Body × List Row) VcdFault) → hear_of b at (t ∷ ts) ≡ r → Says r (Ok tt) b c x y → Runs b c at ((t ∷ ts) ++ w ∷ []) x y
+    go (Ok p) q s = record {
+      pushed = p.1;
+      hears = ap (hear_all b) one ∙ ap (behind []) q ∙ ap (λ v. Ok (v, p.1)) (sym s.0);
+      rows = s.1;
+      fresh = fresh-behind true (t ∷ ts) (w ∷ []) (h, tt) (omega arith);
+      short = ap first_long one ∙ short-one at (t ∷ ts) l;
+      few = let k : length y ≡ length x + length p.1 = ap length s.1 ∙ length-append x p.1 in omega (arith, few, k, length-append (t ∷ ts) (w ∷ []));
+    }
+    go (Err f) q s = absurd s
+
+-- The front of some bytes.
+
+not-true : (b : Bool) → not b ≡ true → b ≡ false
+not-true true h = absurd (cc)
+not-true false h = refl
+
+not-false : (b : Bool) → not b ≡ false → b ≡ true
+not-false true h = refl
+not-false false h = absurd (cc)
+
+dark-front : (xs : List ℕ) → Dark (take (prefix_len is_dark xs) xs)
+dark-front [] = tt
+dark-front (x ∷ xs) =
+    (elim (is_dark x) as (λ w. is_dark x ≡ w → Dark (take (cond w (1 + prefix_len is_dark xs) 0) (x ∷ xs))) [
+      | true ↦ λ e. subst (λ k. Dark (take k (x ∷ xs))) (sym (one-more (prefix_len is_dark xs))) (not-true (is_white x) e, dark-front xs)
+      | false ↦ λ e. tt
+    ]) refl
+  where
+    one-more : (n : ℕ) → 1 + n ≡ suc n
+    one-more n = omega arith
+
+white-stop : (xs : List ℕ) → prefix_len is_dark xs < length xs → is_white (get_or xs (prefix_len is_dark xs) 0) ≡ true
+white-stop xs l = not-false _ (Rattle.std.proofs.lemmas.List.Sums.prefix_len_stops is_dark xs 0 l)
+
+pub front-white : (b : Body) (at end : ℕ) (bytes : List ℕ) (rows : List Row) → end ≡ prefix_len is_dark bytes → end ≡ 0 → end < length bytes → Runs b b at (take 1 bytes) rows rows
+front-white b at end [] rows e z l = absurd (omega arith)
+front-white b at end (x ∷ xs) rows e z l =
+    let k : prefix_len is_dark (x ∷ xs) ≡ 0 = sym e ∙ z in
+    runs-white b at x rows (subst (λ i. is_white (get_or (x ∷ xs) i 0) ≡ true) k (white-stop (x ∷ xs) (omega (arith, e, l))))
+
+pub front-word : (b c : Body) (at end : ℕ) (bytes : List ℕ) (x y : List Row) → end ≡ prefix_len is_dark bytes → 0 < end → end < length bytes → end ≤ 65536
+    → Says (hear_of b at (take end bytes)) (Ok tt) b c x y → Runs b c at (take (end + 1) bytes) x y
+front-word b c at end bytes x y e n l m s =
+    let k : length (take end bytes) ≡ end = Rattle.std.proofs.Common.length-take-le end bytes (omega (arith, l)) in
+    subst (λ part. Runs b c at part x y) (sym (take_more bytes end 0 l))
+    (runs-word b c at (get_or bytes end 0) (take end bytes) x y (subst (λ i. Dark (take i bytes)) (sym e) (dark-front bytes)) (omega (arith, k, n)) (omega (arith, k, m))
+    (subst (λ i. is_white (get_or bytes i 0) ≡ true) (sym e) (white-stop bytes (omega (arith, e, l)))) s)
+
+-- a loop over a piece
+pub record RunsTo (old now : Body) (at : ℕ) (piece : List ℕ) (i room : ℕ) (before after : List Row) : Type 0 where
+  pub runs : Runs old now at (take i piece) before after
+  pub within : i ≤ length piece
+
+-- the rest of a piece, as a slice gives it
+pub runs-on : (a b c : Body) (at i n : ℕ) (piece rest : List ℕ) (x y z : List Row) → i ≤ length piece → rest ≡ drop i piece → Runs a b at (take i piece) x y → Runs b c (at + i) (take n rest) y z → Runs a c at (take (i + n) piece) x z
+runs-on a b c at i n piece rest x y z l e r s =
+    let k : length (take i piece) ≡ i = Rattle.std.proofs.Common.length-take-le i piece l in
+    subst (λ part. Runs a c at part x z) (ap (λ xs. take i piece ++ take n xs) e ∙ sym (take-add i n piece))
+    (runs-both a b c at (take i piece) (take n rest) x y z r (subst (λ j. Runs b c (at + j) (take n rest) y z) (sym k) s))
+
+-- a token that is refused
+pub runs-same : (r : Result (Body × List Row) VcdFault) (f : VcdFault) (b c : Body) (at : ℕ) (x y : List Row) → Says r (Err f) b c x y → Runs b c at [] x y
+runs-same (Ok p) f b c at x y s = absurd s
+runs-same (Err g) f b c at x y s = subst (λ v. Runs b v at [] x y) (sym s.1) (subst (λ rs. Runs b b at [] x rs) (sym s.2) (runs-none b at x))

@@ -1,0 +1,30 @@
+-- The tokens of some bytes of a body, heard one after another.
+use Rattle.std.specs.Prelude.{◌≡◌, ℕ, ◌≤◌, List, [], ◌++◌, length, true, None, Result, Ok, Err, fold}
+use Rattle.ccsl_base.specs.declared.rows.Row.{Row}
+use Rattle.ccsl_vcd_lex.specs.Tokens.{Token, tokens_from, first_long}
+use Rattle.ccsl_vcd_lex.specs.Runs.{fresh_after}
+use Rattle.ccsl_vcd.specs.declared.fault.VcdFault.{VcdFault}
+use Rattle.ccsl_vcd_read.specs.declared.body.Body.{Body}
+use Rattle.ccsl_vcd_read.specs.Step.{hear_of}
+
+-- rows that were given out before
+abbrev pub behind : List Row → Result (Body × List Row) VcdFault → Result (Body × List Row) VcdFault
+behind rows (Ok p) = Ok (p.0, rows ++ p.1)
+behind rows (Err f) = Err f
+
+abbrev pub hear_next : Result (Body × List Row) VcdFault → Token → Result (Body × List Row) VcdFault
+hear_next (Ok p) t = behind p.1 (hear_of p.0 t.at t.text)
+hear_next (Err f) t = Err f
+
+abbrev pub hear_all : Body → List Token → Result (Body × List Row) VcdFault
+hear_all b ts = fold hear_next (Ok (b, [])) ts
+
+-- The bytes from a place on are white space and whole tokens, none too long. The tokens make the new body of the old one, and
+-- give out the rows.
+pub record Runs (old new : Body) (at : ℕ) (part : List ℕ) (before after : List Row) : Type 0 where
+  pub pushed : List Row
+  pub hears : hear_all old (tokens_from true at part) ≡ Ok (new, pushed)
+  pub rows : after ≡ before ++ pushed
+  pub fresh : fresh_after true part ≡ true
+  pub short : first_long (tokens_from true at part) ≡ None
+  pub few : length pushed ≤ length part

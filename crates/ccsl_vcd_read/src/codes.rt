@@ -1,0 +1,117 @@
+//! The declared codes, and a table of the short ones.
+
+ghost use Rattle.std.specs.Prelude.{◌≡◌, ◌≤◌, ℕ, List, IfOk, IfSome, Some, vec_len, map, get_or};
+ghost use Rattle.ccsl_bind.specs.Codes.{number_of};
+ghost use Rattle.ccsl_vcd_read.specs.Places.{is_visible, place_of};
+
+use ccsl_base::{ClockSet, Memory};
+use ccsl_bind::Binding;
+use std::alloc::Global;
+use std::marker::Model;
+
+/// The places of codes of one to three bytes: 94 + 94^2 + 94^3.
+const SHORT: usize = 839_514;
+
+/// A binding whose short codes are found without hashing, once they were found.
+#[derive(Drop)]
+pub(crate) struct Codes {
+    binding: Binding,
+    // at the place of a code one more than its number, and 0 before it is found
+    table: Vec<u32>,
+}
+
+impl Model for Codes {
+    ghost use Rattle.std.specs.Prelude.{◌≡◌, vec_len};
+    ghost use Rattle.ccsl_bind.specs.Bindings.{Bindings};
+    ghost use Rattle.ccsl_vcd_read.specs.Places.{AreFound};
+
+    ghost Value = { Bindings };
+
+    ghost view = { λ c. c.binding };
+
+    ghost invariant = { λ c. (vec_len c.table ≡ 839514) × AreFound c.table.items c.binding.codes };
+}
+
+#[inline(always)]
+fn is_visible(b: u8) -> bool
+    ensures { result ≡ is_visible b }
+{
+    b >= 33 && b <= 126
+}
+
+// The place of a code in the table, or its length for one that has none.
+#[inline(always)]
+fn place(code: &[u8]) -> usize
+    ensures value { result ≡ place_of code.now }
+    ensures within { result ≤ 839514 }
+{
+    match code {
+        [a] if is_visible(*a) => *a as usize - 33,
+        [a, b] if is_visible(*a) && is_visible(*b) => *a as usize - 33 + 94 * (*b as usize - 32),
+        [a, b, c] if is_visible(*a) && is_visible(*b) && is_visible(*c) => {
+            *a as usize - 33 + 94 * (*b as usize - 32) + 8836 * (*c as usize - 32)
+        }
+        _ => SHORT,
+    }
+}
+
+// A table without a code.
+fn empty_table(alloc: Global, places: usize) -> Result<Vec<u32>, Memory>
+    ensures len { IfOk result (λ t. vec_len t ≡ places) }
+    ensures empty { IfOk result (λ t. (i : ℕ) → get_or t.items i 0 ≡ 0) }
+{
+    Ok(vec![in alloc; 0u32; places]?)
+}
+
+impl Codes {
+    /// The codes of a binding.
+    pub(crate) fn new(alloc: Global, binding: Binding) -> Result<Codes, Memory>
+        ensures { IfOk result (λ c. c ≡ binding) }
+    {
+        let table = empty_table(alloc, SHORT)?;
+        Ok(Codes { binding, table })
+    }
+
+    /// The number of a code that was found before.
+    #[inline(always)]
+    pub(crate) fn known(&self, code: &[u8]) -> Option<u32>
+        ensures { IfSome result (λ n. number_of code.now self.now.codes ≡ Some n) }
+    {
+        let place = place(code);
+        if place >= SHORT {
+            return None;
+        }
+        let next = self.table[place];
+        if next == 0 { None } else { Some(next - 1) }
+    }
+
+    // A code of that place was found.
+    fn put(&mut self, place: usize, number: u32)
+        requires { (code : List ℕ) × (place ≡ place_of code) × (number_of code self.old.codes ≡ Some number) }
+        ensures { self.new ≡ self.old }
+    {
+        if place < SHORT && number < u32::MAX {
+            self.table[place] = number + 1;
+        }
+    }
+
+    /// The number of a declared code, and `None` exactly where no declaration has it.
+    pub(crate) fn find(&mut self, code: &[u8]) -> Option<u32>
+        ensures number { result ≡ number_of code.now self.old.codes }
+        ensures same { self.new ≡ self.old }
+    {
+        if let Some(number) = self.known(code) {
+            return Some(number);
+        }
+        let number = self.binding.find(code)?;
+        self.put(place(code), number);
+        Some(number)
+    }
+
+    /// The set of bound clocks.
+    pub(crate) fn bound(&self) -> &ClockSet
+        ensures { result.now ≡ map (λ b. b.clock) self.now.bound }
+    {
+        self.binding.bound()
+    }
+}
