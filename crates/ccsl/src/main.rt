@@ -3,6 +3,7 @@
 
 use ccsl_base::CommandWord;
 use ccsl_edge::FileWorld;
+use ccsl_pool::NoGate;
 use ccsl_top::run;
 use std::alloc::AllocError;
 use std::process::ExitCode;
@@ -32,7 +33,7 @@ fn main(rt: HostRuntime) -> ExitCode {
         }
     };
     let mut world = FileWorld::new(&rt);
-    let status = run(rt.alloc(), words.as_slice(), &mut world);
+    let status = run(&rt, rt.alloc(), words.as_slice(), &mut world, &NoGate);
     if status == 5 {
         let _ = eprintln!(rt; "ccsl: a file failed");
     }

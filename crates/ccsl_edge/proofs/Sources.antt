@@ -1,5 +1,5 @@
 -- A world in memory that never fails, in which one slot's source has changed.
-use Rattle.std.proofs.Common.{◌≡◌, ℕ, ◌+◌, ◌<◌, ◌≤◌, min, List, [], ◌∷◌, Bool, true, false, cond, map, length, take, drop, set, get_or, Option, Some, None, IsTrue, refl, sym, ap, ◌∙◌, ⊎_elim, subst, arith, nat_lt, slice_get, unwrap_or}
+use Rattle.std.proofs.Common.{◌≡◌, ℕ, ◌+◌, ◌<◌, ◌≤◌, min, List, [], ◌∷◌, Bool, true, false, cond, map, length, take, drop, set, get_or, Option, Some, None, IsTrue, refl, sym, ap, ◌∙◌, ⊎_elim, subst, arith, nat_lt, slice_get, slice_index_or, unwrap_or, zero, suc}
 use Rattle.std.specs.List.{find, position, position_or_len}
 use Rattle.std.specs.Option.{option_map}
 use Rattle.std.specs.Str.{bytes_eq}
@@ -12,7 +12,7 @@ use Rattle.ccsl_edge.specs.declared.steady.Source.{Source}
 use Rattle.ccsl_edge.specs.Slots.{index_of}
 use Rattle.ccsl_edge.specs.World.{SlotState, held}
 use Rattle.ccsl_edge.specs.Calls.{ChangesOnly, OpensIn, Takes, OpensOut, Closes}
-use Rattle.ccsl_edge.specs.SlotTable.{slot_in}
+use Rattle.ccsl_edge.specs.SlotTable.{slot_in, unused}
 use Rattle.ccsl_edge.specs.FileSystem.{file_state}
 use Rattle.ccsl_edge.specs.Steady.{tells_left, content_at, slot_of_source}
 use Rattle.ccsl_edge.proofs.Files.{position-None}
@@ -103,3 +103,11 @@ Takes-source files sources slot i j now count most room buf at at' long after mo
     (subst (λ (x : SlotState). take count buf ≡ take count x.left) (sym was) moved)
     some more has
     (subst (λ (x : SlotState). count ≡ min most (min room (length x.left))) (sym was) counted))
+
+-- no slot has counted a fault
+pub faultless : (files : List (List ℕ × List ℕ)) (sources : List Source) (i : ℕ) →
+    (slice_index_or (map (slot_of_source files) sources) i (unused false)).faults ≡ 0
+faultless files [] zero = refl
+faultless files [] (suc i) = refl
+faultless files (s ∷ sources) zero = refl
+faultless files (s ∷ sources) (suc i) = faultless files sources i

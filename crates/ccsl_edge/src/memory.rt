@@ -195,7 +195,7 @@ impl World for MemoryWorld {
 
     fn write(&mut self, slot: Slot, bytes: &[u8]) -> Result<usize, Failed>
         requires output { IsOutput slot }
-        requires opened { IsTrue (slot_in self.old.slots slot).is_open }
+        requires opened { IsOutputFile slot → IsTrue (slot_in self.old.slots slot).is_open }
         requires some { 0 < length bytes.now }
         ensures within { IfOk result (λ count. (0 < count) × (count ≤ length bytes.now)) }
         ensures ok { IfOk result (λ count.

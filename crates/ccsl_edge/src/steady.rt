@@ -113,6 +113,14 @@ impl SteadyWorld {
             piece,
         }
     }
+
+    /// The most bytes that one read or write moves. No call on any slot has failed.
+    pub fn piece(&self) -> usize
+        ensures piece { result ≡ self.now.piece }
+        ensures faultless { (slot : Slot) → (slot_in self.now.slots slot).faults ≡ 0 }
+    {
+        self.piece
+    }
 }
 
 impl World for SteadyWorld {
@@ -174,7 +182,7 @@ impl World for SteadyWorld {
 
     fn write(&mut self, slot: Slot, bytes: &[u8]) -> Result<usize, Failed>
         requires output { IsOutput slot }
-        requires opened { IsTrue (slot_in self.old.slots slot).is_open }
+        requires opened { IsOutputFile slot → IsTrue (slot_in self.old.slots slot).is_open }
         requires some { 0 < length bytes.now }
         ensures within { IfOk result (λ count. (0 < count) × (count ≤ length bytes.now)) }
         ensures ok { IfOk result (λ count.

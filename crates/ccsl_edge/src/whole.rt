@@ -1,7 +1,7 @@
 //! Reading all that a slot has left, and writing a whole text.
 
 ghost use Rattle.std.specs.Prelude.{IsTrue, OnOk, OnErr, IfOk, IfErr};
-ghost use Rattle.ccsl_edge.specs.Slots.{IsInput, IsOutput};
+ghost use Rattle.ccsl_edge.specs.Slots.{IsInput, IsOutput, IsOutputFile};
 ghost use Rattle.ccsl_edge.specs.Calls.{Adds, AddsFront, ReadsAll, ReadsUntil};
 
 use crate::slot::Slot;
@@ -75,10 +75,10 @@ pub fn read_all<W: World>(
     }
 }
 
-/// Adds all the bytes to an output slot. Where a call fails, a front of them was added.
+/// Adds all the bytes to an output slot, which is open where it has a file's name. Where a call fails, a front of them was added.
 pub fn write_all<W: World>(world: &mut W, slot: Slot, bytes: &[u8]) -> Result<(), Failed>
     requires output { IsOutput slot }
-    requires opened { IsTrue ((W.state world.old).slot_of slot).is_open }
+    requires opened { IsOutputFile slot → IsTrue ((W.state world.old).slot_of slot).is_open }
     ensures ok { OnOk result (Adds W.told slot bytes.now (W.state world.old) (W.state world.new)) }
     ensures err { OnErr result
         (AddsFront W.told slot bytes.now (W.state world.old) (W.state world.new)) }

@@ -51,10 +51,10 @@ pub trait World {
             Takes told slot count (state self.old) (state self.new) buf.new) }
         ensures err { OnErr result (Fails slot (state self.old) (state self.new)) };
 
-    /// Adds at least one of the first of these bytes and answers how many.
+    /// Adds at least one of the first of these bytes and answers how many. A slot under a file's name has to be open.
     fn write(&mut self, slot: Slot, bytes: &[u8]) -> Result<usize, Failed>
         requires output { IsOutput slot }
-        requires opened { IsTrue ((state self.old).slot_of slot).is_open }
+        requires opened { IsOutputFile slot → IsTrue ((state self.old).slot_of slot).is_open }
         requires some { 0 < length bytes.now }
         ensures within { IfOk result (λ count. (0 < count) × (count ≤ length bytes.now)) }
         ensures ok { IfOk result (λ count.

@@ -22,6 +22,7 @@ use Rattle.ccsl_report.specs.Line.{line}
 
 -- NAMES of clocks and of items
 
+-- a clock that the system does not have has none
 abbrev pub clock_name : System → ℕ → List ℕ
 clock_name K x = slice_index_or K.names x []
 
@@ -169,9 +170,3 @@ cert_text cert.Memory = []
 
 abbrev pub cert_too_long_text : List ℕ
 cert_too_long_text = line (codes "certificate: more than " ∷ decimal MAX_FILE_BYTES ∷ codes " bytes" ∷ [])
-
--- a fault that names a clock names one of the system's
-abbrev pub NamesClock : System → VcdFault → Type 0
-NamesClock K (trace.Unbound clock) = clock < length K.names
-NamesClock K (trace.Ambiguous clock) = clock < length K.names
-NamesClock K fault = Unit {0}

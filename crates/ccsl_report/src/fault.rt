@@ -1,10 +1,10 @@
 //! The lines on refused traces.
 
-ghost use Rattle.std.specs.Prelude.{◌≡◌, ◌≢◌, ◌<◌, ◌≤◌, length, codes};
+ghost use Rattle.std.specs.Prelude.{◌≡◌, ◌≢◌, ◌≤◌, length, codes};
 ghost use Rattle.ccsl_report.specs.Line.{line};
 ghost use Rattle.ccsl_report.specs.Parts.{part_texts};
 ghost use Rattle.ccsl_report.specs.Room.{full_room};
-ghost use Rattle.ccsl_report.specs.Texts.{fault_at, time_back_text, clock_fault, trace_text, NamesClock};
+ghost use Rattle.ccsl_report.specs.Texts.{clock_name, fault_at, time_back_text, clock_fault, trace_text};
 
 use crate::line::Part;
 use crate::line::Part::{Name, Number, Text};
@@ -42,17 +42,27 @@ fn time_back<'a>(present: u64, time: u64, at: u64) -> [Part<'a>; 7]
     ]
 }
 
+// A clock that the system does not have has no name.
+fn clock_name<'a>(system: &'a System, clock: u32) -> &'a [u8]
+    ensures { result.now ≡ clock_name system.now clock }
+{
+    let names = system.names();
+    if clock < names.len() {
+        names.get(clock)
+    } else {
+        b"".as_slice()
+    }
+}
+
 fn with_clock<'a>(kind: &'a str, system: &'a System, clock: u32) -> [Part<'a>; 7]
-    requires clock { clock < length system.now.names }
     requires kind { length kind.now ≤ 40 }
     ensures text { line (part_texts result) ≡ clock_fault kind.now system.now clock }
     ensures short { length (clock_fault kind.now system.now clock) ≤ full_room system.now }
 {
-    let name = system.names().get(clock);
     [
         Text("trace: "),
         Text(kind),
-        Name(name),
+        Name(clock_name(system, clock)),
         Text(""),
         Text(""),
         Text(""),
@@ -62,7 +72,6 @@ fn with_clock<'a>(kind: &'a str, system: &'a System, clock: u32) -> [Part<'a>; 7
 
 /// The pieces of the line on a refused trace; of a want of memory there is no line.
 pub(crate) fn trace_parts<'a>(fault: &VcdFault, system: &'a System) -> [Part<'a>; 7]
-    requires names { NamesClock system.now fault.now }
     ensures text { fault.now ≢ VcdFault.Memory → line (part_texts result) ≡ trace_text fault.now system.now }
     ensures short { length (line (part_texts result)) ≤ full_room system.now }
 {

@@ -3,7 +3,7 @@
 ghost use Rattle.std.specs.Prelude.{◌≡◌, ◌+◌, ◌<◌, ◌≤◌, ◌++◌, map, max, vec_len, vec_capacity};
 ghost use Rattle.ccsl_kernel.specs.Syntax.{item_count};
 ghost use Rattle.ccsl_report.specs.Room.{longest, room};
-ghost use Rattle.ccsl_report.specs.Texts.{run_yes_text, run_no_text, trace_text, NamesClock};
+ghost use Rattle.ccsl_report.specs.Texts.{run_yes_text, run_no_text, trace_text};
 
 use crate::fault::trace_parts;
 use crate::item::broken_parts;
@@ -68,7 +68,6 @@ pub fn put_no_run(step: u64, time: u64, item: u32, system: &System, out: &mut Ve
 
 /// Appends the line on a refused trace. It takes no memory.
 pub fn put_trace_fault(fault: &VcdFault, system: &System, out: &mut Vec<u8>)
-    requires clock { NamesClock system.now fault.now }
     requires room { vec_len out.old + room system.now ≤ vec_capacity out.old }
     ensures { out.new.items ≡ out.old.items ++ trace_text fault.now system.now }
 {

@@ -1,7 +1,7 @@
 //! What is refused: words, specifications, traces and certificates. A want of memory has no text of its own.
 
 ghost use Rattle.std.specs.Prelude.{◌≡◌, IfOk};
-ghost use Rattle.ccsl_report.specs.Texts.{usage_text, fault_at, above_limit, spec_too_long_text, lex_text, parse_text, refusal_text, trace_text, cert_text, cert_too_long_text, NamesClock};
+ghost use Rattle.ccsl_report.specs.Texts.{usage_text, fault_at, above_limit, spec_too_long_text, lex_text, parse_text, refusal_text, trace_text, cert_text, cert_too_long_text};
 
 use crate::fault::trace_parts;
 use crate::line::Part::{Number, Text};
@@ -154,7 +154,6 @@ pub fn refused(alloc: Global, refusal: &Refusal) -> Result<Vec<u8>, Memory>
 
 /// The trace is refused.
 pub fn trace_refused(alloc: Global, fault: &VcdFault, system: &System) -> Result<Vec<u8>, Memory>
-    requires { NamesClock system.now fault.now }
     ensures { IfOk result (λ text. text.items ≡ trace_text fault.now system.now) }
 {
     if matches!(fault, VcdFault::Memory) {

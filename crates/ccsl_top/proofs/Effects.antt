@@ -1,43 +1,95 @@
--- What reading files leaves of a world.
-use Rattle.std.proofs.Common.{◌≡◌, ◌≢◌, ℕ, ◌≤◌, List, length, Bool, true, false, refl, sym, ap, ◌∙◌, subst, nat_lt}
-use Rattle.std.proofs.lemmas.Bool.{le-ltb}
-use Rattle.ccsl_edge.specs.declared.slot.Slot.TheVariants.{Spec, Trace}
-use Rattle.ccsl_edge.specs.World.{State, SlotState, held}
-use Rattle.ccsl_top.specs.Effects.{Touches, Keeps}
-use Rattle.ccsl_top.specs.Words.{is_judge, spec_name, trace_name}
-use Rattle.ccsl_top.specs.Replies.{Answer, IsAnswer, IsAnswerTo, IsSpecAnswer}
+-- Uses of slots, one after the other.
+use Rattle.std.proofs.Common.{◌≡◌, ◌≢◌, ℕ, ◌≤◌, Bool, true, false, ◌||◌, refl, sym, ap, ◌∙◌, subst, arith}
+use Rattle.ccsl_edge.specs.declared.slot.Slot.{Slot}
+use Rattle.ccsl_edge.specs.World.{State, SlotState, Rose}
+use Rattle.ccsl_edge.specs.Calls.{ChangesOnly}
+use Rattle.ccsl_top.specs.Opening.{is_slot}
+use Rattle.ccsl_top.specs.Effects.{RoseAt, Uses, Reads}
+use Rattle.ccsl_top.specs.Reading.{only, Breaks}
+use Rattle.ccsl_top.proofs.Slots.{both-ways, is_slot-same, is_slot-differs}
 
-pub trace-spec : Trace ≢ Spec
-trace-spec e = cc
+-- of a slot only the bytes left and the faults have changed
+abbrev pub Changed : SlotState → SlotState → Type 0
+Changed a b = b ≡ record a { left = b.left; faults = b.faults }
 
-pub spec-trace : Spec ≢ Trace
-spec-trace e = cc
+pub changed-same : (a b : SlotState) → b ≡ a → Changed a b
+changed-same a b e = rw e refl
 
-pub keeps-same : (s : State) → Keeps s s
-keeps-same s = record { files = refl; spec = refl; trace = refl; others = λ slot a b. refl }
+changed-then : (a b c : SlotState) → Changed a b → Changed b c → Changed a c
+changed-then a b c p q = q ∙ ap (λ (x : SlotState). let S : SlotState = record x { left = c.left; faults = c.faults } in S) p
 
-pub keeps-spec : (old new : State) → Touches Spec old new → Keeps old new
-keeps-spec old new t = record {
-  files = t.only.files;
-  spec = t.here;
-  trace = rw (t.only.others Trace trace-spec) refl;
-  others = λ slot a b. t.only.others slot a;
+pub by-test : {P : Type 0} (b : Bool) → (b ≡ true → P) → (b ≡ false → P) → P
+by-test {P} b yes_ no_ = (elim b as (λ t. b ≡ t → P) [ true ↦ yes_ | false ↦ no_ ]) refl
+
+module _ (used : Slot → Bool) (old new : State) (uses : Uses used old new) where
+  pub uses-changed : (slot : Slot) → Changed (old.slot_of slot) (new.slot_of slot)
+  uses-changed slot = by-test (used slot) (λ yes. uses.here slot yes) (λ no. changed-same (old.slot_of slot) (new.slot_of slot) (uses.others slot no))
+
+  pub uses-rises : (slot : Slot) → (old.slot_of slot).faults ≤ (new.slot_of slot).faults
+  uses-rises slot = by-test (used slot) (λ yes. uses.rises slot yes) (λ no. let e = ap (λ s. s.faults) (uses.others slot no) in omega (arith, e))
+
+either-false : (a b : Bool) → (a || b) ≡ false → a ≡ false
+either-false true b e = e
+either-false false b e = refl
+
+other-false : (a b : Bool) → (a || b) ≡ false → b ≡ false
+other-false true b e = both-ways true refl e
+other-false false b e = e
+
+pub uses-then : (first second : Slot → Bool) (old mid new : State) → Uses first old mid → Uses second mid new → Uses (λ slot. first slot || second slot) old new
+uses-then first second old mid new p q = record {
+  files = q.files ∙ p.files;
+  here = λ slot _. changed-then (old.slot_of slot) (mid.slot_of slot) (new.slot_of slot) (uses-changed first old mid p slot) (uses-changed second mid new q slot);
+  rises = λ slot _. let a = uses-rises first old mid p slot in let b = uses-rises second mid new q slot in omega (arith, a, b);
+  others = λ slot no. q.others slot (other-false (first slot) (second slot) no) ∙ p.others slot (either-false (first slot) (second slot) no);
 }
 
-pub keeps-trace : (old mid new : State) → Keeps old mid → Touches Trace mid new → Keeps old new
-keeps-trace old mid new k t = record {
-  files = t.only.files ∙ k.files;
-  spec = t.only.others Spec spec-trace ∙ k.spec ∙ ap (λ s. let S : SlotState = record (old.slot_of Spec) { left = s } in S) (ap (λ s. s.left) (sym (t.only.others Spec spec-trace)));
-  trace = t.here ∙ ap (λ s. let S : SlotState = record s { left = (new.slot_of Trace).left } in S) k.trace;
-  others = λ slot a b. t.only.others slot b ∙ k.others slot a b;
+pub reads-then : (first second : Slot → Bool) (old mid new : State) → Reads first old mid → Reads second mid new → Reads (λ slot. first slot || second slot) old new
+reads-then first second old mid new p q = record {
+  uses = uses-then first second old mid new p.uses q.uses;
+  counts = λ slot. q.counts slot ∙ p.counts slot;
 }
 
--- an answer to words that name two files, from the two texts
-pub answer-to : (words : List (List ℕ)) (files : List (List ℕ × List ℕ)) (a : Answer) → is_judge words ≡ true →
-    IsSpecAnswer (nat_lt 1048576 (length (held files (spec_name words)))) (held files (spec_name words)) (held files (trace_name words)) a → IsAnswer words files a
-answer-to words files a judge is = let P : Bool → Type 0 = λ b. IsAnswerTo b words files a in subst P (sym judge) is
+-- nothing was read
+pub reads-none : (s : State) → Reads (λ slot. false) s s
+reads-none s = record {
+  uses = record { files = refl; here = λ slot e. both-ways false e refl; rises = λ slot e. both-ways false e refl; others = λ slot e. refl };
+  counts = λ slot. refl;
+}
 
--- a specification that is short
-pub short-answer : (spec trace : List ℕ) (a : Answer) → length spec ≤ 1048576 →
-    IsSpecAnswer false spec trace a → IsSpecAnswer (nat_lt 1048576 (length spec)) spec trace a
-short-answer spec trace a l is = let P : Bool → Type 0 = λ b. IsSpecAnswer b spec trace a in subst P (sym (le-ltb 1048576 (length spec) l)) is
+module _ (slot : Slot) (old new : State) (alone : ChangesOnly slot old new) where
+  here-only : (P : Slot → Type 0) → P slot → (other : Slot) → only slot other ≡ true → P other
+  here-only P p other e = subst P (is_slot-same slot other e) p
+
+  others-only : (other : Slot) → only slot other ≡ false → new.slot_of other ≡ old.slot_of other
+  others-only other e = alone.others other (is_slot-differs slot other e)
+
+  -- only the bytes left in one slot have changed
+  pub reads-only : new.slot_of slot ≡ record (old.slot_of slot) { left = (new.slot_of slot).left } → Reads (only slot) old new
+  reads-only here = record {
+    uses = record {
+      files = alone.files;
+      here = here-only (λ s. Changed (old.slot_of s) (new.slot_of s)) (left-changed here);
+      rises = here-only (λ s. (old.slot_of s).faults ≤ (new.slot_of s).faults) (let e = ap (λ s. s.faults) here in omega (arith, e));
+      others = others-only;
+    };
+    counts = λ other. by-test (only slot other)
+        (here-only (λ s. (new.slot_of s).faults ≡ (old.slot_of s).faults) (ap (λ s. s.faults) here) other)
+        (λ e. ap (λ s. s.faults) (others-only other e));
+  }
+    where
+      left-changed : new.slot_of slot ≡ record (old.slot_of slot) { left = (new.slot_of slot).left } → Changed (old.slot_of slot) (new.slot_of slot)
+      left-changed e = e ∙ sym (ap (λ n. let S : SlotState = record (old.slot_of slot) { left = (new.slot_of slot).left; faults = n } in S) (ap (λ s. s.faults) e))
+
+  -- and a call on it failed
+  pub breaks-only : new.slot_of slot ≡ record (old.slot_of slot) { left = (new.slot_of slot).left; faults = (new.slot_of slot).faults } →
+      RoseAt slot old new → Breaks slot old new
+  breaks-only here rose = record {
+    uses = record {
+      files = alone.files;
+      here = here-only (λ s. Changed (old.slot_of s) (new.slot_of s)) here;
+      rises = here-only (λ s. (old.slot_of s).faults ≤ (new.slot_of s).faults) rose.0;
+      others = others-only;
+    };
+    rose = rose;
+  }

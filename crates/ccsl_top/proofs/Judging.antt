@@ -1,43 +1,49 @@
--- Judging a trace: a constraint at a step.
-use Rattle.std.proofs.Common.{◌≡◌, ℕ, ◌+◌, List, Bool, true, false, not, cond, ◌&&◌, ◌||◌, refl, ap₂, ◌∙◌, nat_eq, nat_le}
-use Rattle.ccsl_base.specs.Clocks.{ticks_in}
-use Rattle.ccsl_formula.specs.Formula.{eval, FTrue, FVar, FNot, FOr}
-use Rattle.ccsl_kernel.specs.declared.constraint.RelationKind.{RelationKind}
-use Rattle.ccsl_kernel.specs.declared.constraint.RelationKind.TheVariants.{Subclock, Coincides, Excludes, Precedes, PrecedesWeakly, PrecedesWithin}
-use Rattle.ccsl_kernel.specs.Items.{relation_formula}
-use Rattle.ccsl_top.specs.Judged.{fails}
+-- A trace that was opened and judged.
+use Rattle.std.proofs.Common.{◌≡◌, ◌≢◌, ℕ, ◌<◌, ◌≤◌, List, ◌++◌, length, Bool, true, false, ◌||◌, Some, None, IsTrue, inl, inr, refl, sym, ap, ◌∙◌, subst}
+use Rattle.ccsl_edge.specs.declared.slot.Slot.{Slot}
+use Rattle.ccsl_edge.specs.declared.slot.Slot.TheVariants.{Spec, Trace}
+use Rattle.ccsl_edge.specs.World.{State, Told, held}
+use Rattle.ccsl_edge.specs.Calls.{OpensIn}
+use Rattle.ccsl_edge.specs.Calls as edge
+use Rattle.ccsl_kernel.specs.Syntax.{System}
+use Rattle.ccsl_vcd.specs.declared.fault.VcdFault.{VcdFault}
+use Rattle.ccsl_vcd.specs.Reading.{reading}
+use Rattle.ccsl_bind.specs.Collected.{wanted_of}
+use Rattle.ccsl_trace.specs.Traces.{IsRefused, IsNearHeader, Fails}
+use Rattle.ccsl_judge.specs.declared.verdict.Verdict.{Verdict}
+use Rattle.ccsl_judge.specs.Judged.{IsJudged, plain}
+use Rattle.ccsl_report.specs.Texts.{trace_text}
+use Rattle.ccsl_top.specs.Outcome.{Outcome, outcome}
+use Rattle.ccsl_top.specs.Judge.{LIMITS, judge_outcome, verdict_outcome, read_outcome}
+use Rattle.ccsl_top.specs.Effects.{Reads}
+use Rattle.ccsl_top.specs.Reading.{only, Breaks}
+use Rattle.ccsl_top.specs.Headline.{IsNear}
+use Rattle.ccsl_top.specs.Judging.{StarvesAt}
+use Rattle.ccsl_top.proofs.Opened.{opened-reads, opened-breaks, opened-taken}
 
-not_or : (x y : Bool) → not (not x || y) ≡ (x && not y)
-not_or true y = refl
-not_or false y = refl
+module _ (told : Told) (K : System) (trace : List ℕ) (s t u : State) (opens : OpensIn told Trace trace s t) where
+  module _ (v : Verdict) (is : IsJudged told K LIMITS t u v) where
+    pub judged-reads : Reads (only Trace) s u
+    judged-reads = opened-reads told Trace trace s t u opens is.bytes is.reads
 
-not_not : (x : Bool) → not (not x) ≡ x
-not_not true = refl
-not_not false = refl
+    pub judged-outcome : (o : Outcome) → o ≡ verdict_outcome K (plain v) → IsTrue told.files → IsTrue told.left → o ≡ judge_outcome K (held s.files trace)
+    judged-outcome o e f l =
+        e ∙ ap (verdict_outcome K) is.judged ∙ sym (ap (read_outcome K is.bytes) is.fine)
+        ∙ ap (judge_outcome K) (sym (is.whole l) ∙ opens.bytes f l)
 
-precedes_fails : (level : Bool) (b : ℕ) (s : List ℕ) → not (eval (cond level (FNot (FVar b)) FTrue) s) ≡ (level && ticks_in b s)
-precedes_fails true b s = not_not (ticks_in b s)
-precedes_fails false b s = refl
+  module _ (f : VcdFault) (is : IsRefused told (wanted_of K) LIMITS t u f) where
+    pub refused-reads : Reads (only Trace) s u
+    refused-reads = opened-reads told Trace trace s t u opens is.bytes is.reads
 
-weakly_fails : (level : Bool) (a b : ℕ) (s : List ℕ) → not (eval (cond level (FOr (FNot (FVar b)) (FVar a)) FTrue) s) ≡ (level && ticks_in b s && not (ticks_in a s))
-weakly_fails true a b s = not_or (ticks_in b s) (ticks_in a s)
-weakly_fails false a b s = refl
+    pub refused-outcome : (o : Outcome) → o ≡ outcome 4 (trace_text f K) → IsTrue told.files → IsTrue told.left → o ≡ judge_outcome K (held s.files trace)
+    refused-outcome o e tells_files tells_left =
+        e ∙ sym (ap (read_outcome K (t.slot_of Trace).left) (is.whole tells_left)) ∙ ap (judge_outcome K) (opens.bytes tells_files tells_left)
 
-follows_fails : (far : Bool) (a b : ℕ) (s : List ℕ) → not (eval (cond far (FOr (FNot (FVar a)) (FVar b)) FTrue) s) ≡ (far && (ticks_in a s && not (ticks_in b s)))
-follows_fails true a b s = not_or (ticks_in a s) (ticks_in b s)
-follows_fails false a b s = refl
+  pub failed-breaks : Fails told (wanted_of K) LIMITS t u → Breaks Trace s u
+  failed-breaks is = opened-breaks told Trace trace s t u opens is.bytes is.reads
 
-not_and : (x y : Bool) → not (x && y) ≡ (not x || not y)
-not_and true y = refl
-not_and false y = refl
-
--- where the formula of a relation is false
-pub relation-fails : (kind : RelationKind) (a b m n : ℕ) (s : List ℕ) → not (eval (relation_formula kind a b m n) s) ≡ fails kind (ticks_in a s) (ticks_in b s) m n
-relation-fails Subclock a b m n s = not_or (ticks_in a s) (ticks_in b s)
-relation-fails Coincides a b m n s = refl
-relation-fails Excludes a b m n s = not_not (ticks_in a s && ticks_in b s)
-relation-fails Precedes a b m n s = precedes_fails (nat_eq m n) b s
-relation-fails PrecedesWeakly a b m n s = weakly_fails (nat_eq m n) a b s
-relation-fails (PrecedesWithin k) a b m n s =
-    not_and (eval (cond (nat_eq m n) (FNot (FVar b)) FTrue) s) (eval (cond (nat_le (n + k) m) (FOr (FNot (FVar a)) (FVar b)) FTrue) s)
-    ∙ ap₂ (λ x y. x || y) (precedes_fails (nat_eq m n) b s) (follows_fails (nat_le (n + k) m) a b s)
+  pub near-starves : IsNearHeader told (wanted_of K) LIMITS t u → StarvesAt told K trace s u
+  near-starves is = record {
+    reads = opened-reads told Trace trace s t u opens is.bytes is.reads;
+    barely = λ f l. inr (record { bytes = is.bytes; taken = opened-taken told Trace trace s t u opens is.bytes is.reads f l; near = is.near });
+  }

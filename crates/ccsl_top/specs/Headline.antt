@@ -1,60 +1,95 @@
 -- THE PROMISE OF THE PROGRAM'S ONE CALL, each sentence a field: what stands after it, from the words, the world before and the
 -- world after, and the status.
-use Rattle.std.specs.Prelude.{◌≡◌, ◌≢◌, ◌⊎◌, ℕ, ◌<◌, ◌≤◌, List, ◌++◌, length, take, true, IsTrue}
+use Rattle.std.specs.Prelude.{◌≡◌, ◌≢◌, ◌⊎◌, ℕ, ◌+◌, ◌<◌, ◌≤◌, List, ◌++◌, length, take, true, false, Ok, Err, IsTrue}
 use Rattle.ccsl_edge.specs.declared.slot.Slot.{Slot}
 use Rattle.ccsl_edge.specs.declared.slot.Slot.TheVariants.{Spec, Trace, Report}
-use Rattle.ccsl_edge.specs.World.{State, Told, Rose, held}
-use Rattle.ccsl_kernel.specs.declared.constraint.Constraint.{Constraint}
-use Rattle.ccsl_top.specs.Words.{is_judge, spec_name}
-use Rattle.ccsl_top.specs.Specification.{IsSpecification}
-use Rattle.ccsl_top.specs.Replies.{Answer, IsAnswer}
+use Rattle.ccsl_edge.specs.World.{State, Told, file_at, held}
+use Rattle.ccsl_command.specs.declared.command.Command.{Command}
+use Rattle.ccsl_command.specs.declared.command.Command.TheVariants as command
+use Rattle.ccsl_command.specs.declared.usage.Usage.{Usage}
+use Rattle.ccsl_command.specs.Meaning.{meaning}
+use Rattle.ccsl_command.specs.Opened.{files_opened}
+use Rattle.ccsl_kernel.specs.Syntax.{System}
+use Rattle.ccsl_spec.specs.Specifications.{IsSystemOf}
+use Rattle.ccsl_trace.specs.declared.pending.TheConstants.{PIECE}
+use Rattle.ccsl_top.specs.Outcome.{Outcome}
+use Rattle.ccsl_top.specs.Judge.{has_header}
+use Rattle.ccsl_top.specs.Program.{IsOutcome, usage_outcome}
+use Rattle.ccsl_top.specs.Opening.{opens, writes}
+use Rattle.ccsl_top.specs.Effects.{RoseAt}
 
--- the specification that the words name is one of this version's form and not too long
-pub record IsAcceptedSpec (text : List ℕ) : Type 0 where
-  pub short : length text ≤ 1048576
-  pub names : List (List ℕ)
-  pub constraints : List Constraint
-  pub is : IsSpecification text names constraints
+-- the report has grown by this text, where the world tells what was written
+abbrev pub ReportGrows : Told → State → State → List ℕ → Type 0
+ReportGrows told old new text = IsTrue told.written → (new.slot_of Report).written ≡ (old.slot_of Report).written ++ text
 
--- the count of a slot's faults rose in this call, or stands at its last value
-abbrev pub RoseAt : Slot → State → State → Type 0
-RoseAt slot old new = Rose (old.slot_of slot).faults (new.slot_of slot).faults
+-- the defined outcome was answered and reported
+pub record Answers (told : Told) (words : List (List ℕ)) (status : ℕ) (old new : State) : Type 0 where
+  pub outcome : Outcome
+  pub is : IsOutcome words (held old.files) outcome
+  pub status_is : status ≡ outcome.status
+  pub grows : ReportGrows told old new outcome.report
 
--- status 5 comes only where a call on the report failed; or, with accepted words, on the specification; or, with accepted words
--- and an accepted specification, on the trace
+-- a front of the defined outcome's text was reported
+pub record ReportsFront (told : Told) (words : List (List ℕ)) (old new : State) : Type 0 where
+  pub outcome : Outcome
+  pub is : IsOutcome words (held old.files) outcome
+  pub count : ℕ
+  pub grows : ReportGrows told old new (take count outcome.report)
+
+-- the words name an accepted specification
+pub record IsAcceptedSpec (files : List (List ℕ × List ℕ)) (spec : List ℕ) : Type 0 where
+  pub system : System
+  pub is : IsSystemOf (held files spec) system
+
+-- status 5 comes only where a call on the report failed; or, with words that open one, on the specification; or, with words that
+-- open one and an accepted specification, on the trace
 pub data FaultCause (told : Told) (words : List (List ℕ)) (old new : State) : Type 0 where
   by_report : (rose : RoseAt Report old new) → FaultCause told words old new
-  by_spec : (words_are : is_judge words ≡ true) → (rose : RoseAt Spec old new) → FaultCause told words old new
-  by_trace : (words_are : is_judge words ≡ true) → (spec_is : IsTrue told.files → IsTrue told.left → IsAcceptedSpec (held old.files (spec_name words)))
-      → (rose : RoseAt Trace old new) → FaultCause told words old new
+  by_spec : (opened : opens (files_opened words) Spec ≡ true) (rose : RoseAt Spec old new) → FaultCause told words old new
+  by_trace : (spec trace : List ℕ) (workers : ℕ) (words_are : meaning words ≡ Ok (command.Judge spec trace workers))
+      (accepted : IsTrue told.files → IsTrue told.left → IsAcceptedSpec old.files spec) (rose : RoseAt Trace old new) →
+      FaultCause told words old new
 
--- the report has grown by exactly the text of the defined answer
-pub record Reports (words : List (List ℕ)) (status : ℕ) (old new : State) : Type 0 where
-  pub answer : Answer
-  pub is : IsAnswer words old.files answer
-  pub status_is : status ≡ answer.status
-  pub written : (new.slot_of Report).written ≡ (old.slot_of Report).written ++ answer.text
+-- of this trace at most one piece past its header's end was read
+pub record IsNear (K : System) (trace left : List ℕ) : Type 0 where
+  pub bytes : List ℕ
+  pub taken : trace ≡ bytes ++ left
+  pub near : (n : ℕ) → has_header K (take n bytes) ≡ true → length bytes ≤ n + PIECE
 
--- the report has grown by a front of the text of the defined answer
-pub record ReportsFront (words : List (List ℕ)) (old new : State) : Type 0 where
-  pub answer : Answer
-  pub is : IsAnswer words old.files answer
-  pub count : ℕ
-  pub written : (new.slot_of Report).written ≡ (old.slot_of Report).written ++ take count answer.text
+-- the trace was not opened, or hardly read
+pub data IsBarelyRead (spec trace : List ℕ) (old new : State) : Type 0 where
+  unread : (same : new.slot_of Trace ≡ old.slot_of Trace) → IsBarelyRead spec trace old new
+  hardly : (K : System) (accepted : IsSystemOf (held old.files spec) K) (near : IsNear K (held old.files trace) (new.slot_of Trace).left) →
+      IsBarelyRead spec trace old new
 
 pub record Headline (told : Told) (words : List (List ℕ)) (status : ℕ) (old new : State) : Type 0 where
+  -- THE STATUS is one that exists
   pub known : status ≤ 6
-  -- where the world tells its content, a status that is neither 5 nor 6 is that of the defined answer, and so is the text
-  pub defined : IsTrue told.files → IsTrue told.left → IsTrue told.written → status < 5 → Reports words status old new
+  -- THE OUTCOME: where the world tells its files, and the bytes that are left of them, a status that is neither 5 nor 6 is the
+  -- defined one, and the report has grown by exactly the defined text
+  pub defined : IsTrue told.files → IsTrue told.left → status ≢ 5 → status ≢ 6 → Answers told words status old new
+  -- refused words are refused in every world
+  pub refused_words : (fault : Usage) → meaning words ≡ Err fault → status ≢ 5 → status ≢ 6 →
+      (status ≡ 2) × ReportGrows told old new (usage_outcome fault).report
+  -- FAULTS of files: no count falls, and every count is as it was unless the status is 5
+  pub counts_rise : (slot : Slot) → (old.slot_of slot).faults ≤ (new.slot_of slot).faults
+  pub counts_stay : status ≢ 5 → (slot : Slot) → (new.slot_of slot).faults ≡ (old.slot_of slot).faults
   pub fault_cause : status ≡ 5 → FaultCause told words old new
-  -- where a count rose and stands below its last value, the status is 5
-  pub fault_shown : (slot : Slot) → (old.slot_of slot).faults < (new.slot_of slot).faults → status ≡ 5
-  -- at 5 and 6 nothing was reported, or a front of the defined text
-  pub front : IsTrue told.files → IsTrue told.left → IsTrue told.written → 5 ≤ status →
-      ((new.slot_of Report).written ≡ (old.slot_of Report).written) ⊎ ReportsFront words old new
-  -- no file and no other slot has changed, and of these three only bytes left or written, and faults
-  pub files : new.files ≡ old.files
-  pub others : (slot : Slot) → slot ≢ Spec → slot ≢ Trace → slot ≢ Report → new.slot_of slot ≡ old.slot_of slot
-  pub spec : new.slot_of Spec ≡ record (old.slot_of Spec) { left = (new.slot_of Spec).left; faults = (new.slot_of Spec).faults }
-  pub trace : new.slot_of Trace ≡ record (old.slot_of Trace) { left = (new.slot_of Trace).left; faults = (new.slot_of Trace).faults }
+  -- at 5 the report has grown by nothing, or by a front of the defined text
+  pub front : IsTrue told.files → IsTrue told.left → status ≡ 5 →
+      ((new.slot_of Report).written ≡ (old.slot_of Report).written) ⊎ ReportsFront told words old new
+  -- WANT OF MEMORY: at 6 nothing was reported
+  pub silent : status ≡ 6 → new.slot_of Report ≡ old.slot_of Report
+  -- and a trace was read at most one piece past its header's end
+  pub barely : IsTrue told.files → IsTrue told.left → status ≡ 6 → (spec trace : List ℕ) (workers : ℕ) →
+      meaning words ≡ Ok (command.Judge spec trace workers) → IsBarelyRead spec trace old new
+  -- WHAT STAYS: every file that the words do not open for writing
+  pub files : (name : List ℕ) → writes (files_opened words) name ≡ false → file_at new.files name ≡ file_at old.files name
+  -- every slot but the report's that the words do not open; at 2 all of these, at 3 all but the specification's
+  pub unused : (slot : Slot) → slot ≢ Report → opens (files_opened words) slot ≡ false → new.slot_of slot ≡ old.slot_of slot
+  pub unopened : status ≡ 2 → (slot : Slot) → slot ≢ Report → new.slot_of slot ≡ old.slot_of slot
+  pub unread : status ≡ 3 → (slot : Slot) → slot ≢ Report → slot ≢ Spec → new.slot_of slot ≡ old.slot_of slot
+  -- of the slots that are read only the bytes left and the faults, and of the report what was written and the faults
+  pub read : (slot : Slot) → slot ≢ Report →
+      new.slot_of slot ≡ record (old.slot_of slot) { left = (new.slot_of slot).left; faults = (new.slot_of slot).faults }
   pub report : new.slot_of Report ≡ record (old.slot_of Report) { written = (new.slot_of Report).written; faults = (new.slot_of Report).faults }

@@ -2,8 +2,8 @@
 
 ghost use Rattle.std.specs.Prelude.{IfOk, IfErr, option_map};
 ghost use Rattle.ccsl_edge.specs.Slots.{IsInputFile};
-ghost use Rattle.ccsl_top.specs.Effects.{Touches, IsFile};
-ghost use Rattle.ccsl_top.specs.Stops.{IsStop};
+ghost use Rattle.ccsl_top.specs.Effects.{Reads};
+ghost use Rattle.ccsl_top.specs.Reading.{only, IsFile, IsStop};
 
 use ccsl_base::Memory;
 use ccsl_edge::{ReadFault, Slot, World, read_all};
@@ -39,8 +39,9 @@ pub(crate) fn read_file<W: World>(
 ) -> Result<Option<Vec<u8>>, Stop>
     requires input { IsInputFile slot }
     requires allowed { W.allows slot name.now }
-    ensures touches { IfOk result (λ _. Touches slot (W.state world.old) (W.state world.new)) }
-    ensures file { IfOk result (λ read. IsFile W.told (W.state world.old).files name.now limit (option_map (λ bytes. bytes.items) read)) }
+    ensures reads { IfOk result (λ _. Reads (only slot) (W.state world.old) (W.state world.new)) }
+    ensures file { IfOk result (λ read.
+        IsFile W.told (W.state world.old).files name.now limit (option_map (λ bytes. bytes.items) read)) }
     ensures stop { IfErr result (λ stop. IsStop stop slot (W.state world.old) (W.state world.new)) }
 {
     match world.open_in(slot, name) {

@@ -1,127 +1,124 @@
-//! Judging the rows of a trace.
+//! The command `judge`.
 
-ghost use Rattle.std.specs.Prelude.{◌≡◌, ℕ, ◌<◌, ◌≤◌, ◌+◌, ◌^◌, ◌&&◌, IfOk, if◌then◌else◌, nat_lt, nat_eq, length};
-ghost use Rattle.ccsl_base.specs.Clocks.{ticks_in};
-ghost use Rattle.ccsl_top.specs.Judged.{verdict_of, plain_verdict, count_at, ticks_below, fails, is_broken, first_broken};
+ghost use Rattle.std.specs.Prelude.{◌≡◌, ◌≢◌, ◌+◌, ◌≤◌, IfOk, IfErr, IsTrue, vec_len, vec_capacity, []};
+ghost use Rattle.ccsl_edge.specs.declared.slot.Slot.TheVariants.{Spec, Trace};
+ghost use Rattle.ccsl_edge.specs.World.{held};
+ghost use Rattle.ccsl_judge.specs.Judged.{HasItem};
+ghost use Rattle.ccsl_report.specs.Room.{room};
+ghost use Rattle.ccsl_top.specs.Judge.{judge_outcome};
+ghost use Rattle.ccsl_top.specs.Effects.{Reads};
+ghost use Rattle.ccsl_top.specs.Reading.{only};
+ghost use Rattle.ccsl_top.specs.Judging.{IsReplyOn, IsTraceStop, JudgeAnswers, IsJudgeStop};
+ghost use Rattle.ccsl_top.specs.Answered.{plain_reply};
 
-use ccsl_base::{ClockSet, MAX_CLOCKS, Memory, Names, Row};
-use ccsl_kernel::{Constraint, RelationKind};
+use crate::files::Stop;
+use crate::reply::{Reply, Status};
+use crate::specification::read_specification;
+use ccsl_base::{MAX_FILE_BYTES, MAX_SCOPES, MAX_VARS, Memory};
+use ccsl_edge::{Slot, World};
+use ccsl_judge::{JudgeFault, Verdict};
+use ccsl_kernel::System;
+use ccsl_pool::Gate;
+use ccsl_report::{judge_room, put_no_run, put_run, put_trace_fault};
+use ccsl_spec::Specification;
+use ccsl_vcd::Limits;
 use std::alloc::Global;
+use std::thread::Threads;
 
-/// Whether a trace is a run, with its number of steps, or where it first violates a constraint.
-#[derive(Clone, Copy)]
-pub enum Verdict {
-    Run(u64),
-    Violated { step: u64, time: u64, item: u32 },
+/// The limits on a trace.
+const LIMITS: Limits = Limits {
+    bytes: MAX_FILE_BYTES,
+    vars: MAX_VARS,
+    scopes: MAX_SCOPES,
+};
+
+// Room for the line on a trace. It is taken before the trace is read.
+fn empty_line(alloc: Global, system: &System) -> Result<Vec<u8>, Memory>
+    ensures empty { IfOk result (λ line. line.items ≡ []) }
+    ensures room { IfOk result (λ line. vec_len line + room system.now ≤ vec_capacity line) }
+{
+    Ok(Vec::with_capacity(alloc, judge_room(system))?)
 }
 
-// Whether a declared clock ticks.
-fn ticks(declared: u32, step: &ClockSet, clock: u32) -> bool
-    ensures { result ≡ ticks_in clock (ticks_below declared step.now) }
+// The reply on what judging a trace has come to.
+fn reply_on(
+    judged: Result<Verdict, JudgeFault>,
+    system: &System,
+    line: Vec<u8>,
+) -> Result<Reply, Stop>
+    requires item { IfOk judged (HasItem system.now) }
+    requires empty { line.items ≡ [] }
+    requires room { vec_len line + room system.now ≤ vec_capacity line }
+    ensures { IsReplyOn system.now judged result }
 {
-    clock < declared && step.has(clock)
-}
-
-// How often a clock has ticked.
-fn count_of(counts: &[u64], clock: u32) -> u64
-    ensures { result ≡ count_at counts.now clock }
-{
-    counts.get(clock as usize).copied().unwrap_or(0)
-}
-
-// Whether a relation fails in a step, by whether its clocks tick and by how often they ticked before.
-fn fails(kind: RelationKind, left: bool, right: bool, m: u64, n: u64) -> bool
-    ensures { result ≡ fails kind left right m n }
-{
-    match kind {
-        RelationKind::Subclock => left && !right,
-        RelationKind::Coincides => left != right,
-        RelationKind::Excludes => left && right,
-        RelationKind::Precedes => m == n && right,
-        RelationKind::PrecedesWeakly => m == n && right && !left,
-        RelationKind::PrecedesWithin(most) => {
-            (m == n && right) || (n <= m && u64::from(most) <= m - n && left && !right)
+    let mut line = line;
+    let status = match judged {
+        Ok(Verdict::Run(steps)) => {
+            put_run(steps, &mut line);
+            Status::Done
         }
-    }
-}
-
-fn is_broken(constraint: &Constraint, counts: &[u64], declared: u32, step: &ClockSet) -> bool
-    ensures { result ≡ is_broken counts.now declared step.now constraint.now }
-{
-    let left = ticks(declared, step, constraint.left);
-    let right = ticks(declared, step, constraint.right);
-    let left_count = count_of(counts, constraint.left);
-    let right_count = count_of(counts, constraint.right);
-    fails(constraint.kind, left, right, left_count, right_count)
-}
-
-fn first_broken(
-    constraints: &[Constraint],
-    counts: &[u64],
-    declared: u32,
-    step: &ClockSet,
-) -> Option<u32>
-    requires few { length constraints.now < 2 ^ 32 }
-    ensures { result ≡ first_broken constraints.now counts.now declared step.now }
-{
-    let mut item = 0;
-    let mut rest = constraints;
-    'items: while let [constraint, more @ ..] = rest {
-        if is_broken(constraint, counts, declared, step) {
-            return Some(item);
+        Ok(Verdict::Violated { step, time, item }) => {
+            put_no_run(step, time, item, system, &mut line);
+            Status::NoRun
         }
-        item += 1;
-        rest = more;
-    }
-    None
+        Err(JudgeFault::Refused(fault)) => {
+            put_trace_fault(&fault, system, &mut line);
+            Status::TraceRefused
+        }
+        Err(JudgeFault::Fault) => return Err(Stop::Fault),
+        Err(JudgeFault::Memory) => return Err(Stop::Memory),
+    };
+    Ok(Reply { status, line })
 }
 
-// One where the clock ticks, and else none.
-fn tick_of(step: &ClockSet, clock: u32) -> u64
-    ensures { result ≡ (if ticks_in clock step.now then 1 else 0) }
-{
-    if step.has(clock) { 1 } else { 0 }
-}
-
-// Adds the ticks of a step to the counts.
-fn count_ticks(counts: &mut [u64], step: &ClockSet)
-    requires few { length counts.old ≤ MAX_CLOCKS }
-    requires room { (x : ℕ) → count_at counts.old x + 1 < 2 ^ 64 }
-    ensures { (x : ℕ) → count_at counts.new x ≡ count_at counts.old x + (if nat_lt x (length counts.old) && ticks_in x step.now then 1 else 0) }
-{
-    for clock in 0..counts.len() {
-        counts[clock] += tick_of(step, clock as u32);
-    }
-}
-
-/// Judges the rows of a trace against the constraints of a system.
-pub(crate) fn judge(
+// Judges the trace of a name against a system.
+fn judge_trace<R: Threads + Sync, W: World, G: Gate>(
+    rt: &R,
     alloc: Global,
-    names: &Names,
-    constraints: &[Constraint],
-    rows: &[Row],
-) -> Result<Verdict, Memory>
-    requires clocks { length names.now ≤ MAX_CLOCKS }
-    requires few { length constraints.now < 2 ^ 32 }
-    ensures { IfOk result (λ verdict. plain_verdict verdict ≡ verdict_of names.now constraints.now rows.now) }
+    world: &mut W,
+    system: &System,
+    trace: &str,
+    workers: u32,
+    gate: &G,
+) -> Result<Reply, Stop>
+    requires { W.allows Trace trace.now }
+    ensures reads { IfOk result (λ _. Reads (only Trace) (W.state world.old) (W.state world.new)) }
+    ensures status { IfOk result (λ reply. ((plain_reply reply).status ≤ 4) × ((plain_reply reply).status ≢ 2) × ((plain_reply reply).status ≢ 3)) }
+    ensures outcome { IfOk result (λ reply. IsTrue W.told.files → IsTrue W.told.left →
+        plain_reply reply ≡ judge_outcome system.now (held (W.state world.old).files trace.now)) }
+    ensures stop { IfErr result (λ stop. IsTraceStop stop W.told system.now trace.now (W.state world.old) (W.state world.new)) }
 {
-    let steps = rows.len() as u64;
-    let declared = names.len();
-    let mut counts = vec![in alloc; 0u64; declared as usize]?;
-    let counts = counts.as_mut_slice();
-    let mut step = 0;
-    let mut rest = rows;
-    'steps: while let [row, more @ ..] = rest {
-        if let Some(item) = first_broken(constraints, counts, declared, &row.ticks) {
-            return Ok(Verdict::Violated {
-                step,
-                time: row.time,
-                item,
-            });
-        }
-        count_ticks(counts, &row.ticks);
-        step += 1;
-        rest = more;
+    let line = empty_line(alloc, system)?;
+    if world.open_in(Slot::Trace, trace).is_err() {
+        return Err(Stop::Fault);
     }
-    Ok(Verdict::Run(steps))
+    let judged = ccsl_judge::judge(rt, alloc, world, system, workers.max(1), gate, &LIMITS);
+    reply_on(judged, system, line)
+}
+
+/// Judges the trace of a name against the specification of a name. The line of report has its room before the trace is read.
+pub(crate) fn judge<R: Threads + Sync, W: World, G: Gate>(
+    rt: &R,
+    alloc: Global,
+    world: &mut W,
+    spec: &str,
+    trace: &str,
+    workers: u32,
+    gate: &G,
+) -> Result<Reply, Stop>
+    requires spec { W.allows Spec spec.now }
+    requires trace { W.allows Trace trace.now }
+    ensures answers { IfOk result (λ reply.
+        JudgeAnswers W.told spec.now trace.now (plain_reply reply) (W.state world.old) (W.state world.new)) }
+    ensures stop { IfErr result (λ stop. IsJudgeStop stop W.told spec.now trace.now (W.state world.old) (W.state world.new)) }
+{
+    match read_specification(alloc, world, spec)? {
+        Specification::Accepted(system) => {
+            judge_trace(rt, alloc, world, &system, trace, workers, gate)
+        }
+        Specification::Refused(line) => Ok(Reply {
+            status: Status::SpecRefused,
+            line,
+        }),
+    }
 }

@@ -1,13 +1,13 @@
 //! The program as one call: from the words of its command line and a world of files to a report and a status.
 #![tactic(auto)]
 
+mod check;
 mod files;
 mod judge;
+pub mod laws;
 pub mod program;
-mod reply;
+pub mod reply;
 mod specification;
-mod trace;
-mod words;
 
 pub use program::run;
 

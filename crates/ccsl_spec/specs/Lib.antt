@@ -1,0 +1,3 @@
+pub mod Specifications
+pub mod Found
+pub mod Laws

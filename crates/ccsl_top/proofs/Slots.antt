@@ -1,0 +1,40 @@
+-- Slots by their places.
+use Rattle.std.proofs.Common.{◌≡◌, ◌≢◌, ℕ, List, [], ◌∷◌, Bool, true, false, refl, sym, ap, ◌∙◌, ⊎_elim, nat_eq, slice_index_or}
+use Rattle.std.proofs.lemmas.Bool.{cases_eq, eq-eqb, ne_eqb}
+use Rattle.ccsl_edge.specs.declared.slot.Slot.{Slot}
+use Rattle.ccsl_edge.specs.declared.slot.Slot.TheVariants.{Spec, Trace, Cert, Input, Report, TraceOut, CertOut}
+use Rattle.ccsl_edge.specs.Slots.{index_of}
+use Rattle.ccsl_top.specs.Opening.{is_slot}
+
+abbrev slot_at : ℕ → Slot
+slot_at n = slice_index_or (Spec ∷ Trace ∷ Cert ∷ Input ∷ Report ∷ TraceOut ∷ CertOut ∷ []) n Spec
+
+slot-again : (slot : Slot) → slot_at (index_of slot) ≡ slot
+slot-again Spec = refl
+slot-again Trace = refl
+slot-again Cert = refl
+slot-again Input = refl
+slot-again Report = refl
+slot-again TraceOut = refl
+slot-again CertOut = refl
+
+index-same : (a b : Slot) → index_of a ≡ index_of b → a ≡ b
+index-same a b e = sym (slot-again a) ∙ ap slot_at e ∙ slot-again b
+
+-- both truth values at once
+pub both-ways : {P : Type 0} (b : Bool) → b ≡ true → b ≡ false → P
+both-ways {P} b yes_ no_ = let e : true ≡ false = sym yes_ ∙ no_ in absurd (cc)
+
+pub is_slot-same : (a b : Slot) → is_slot a b ≡ true → a ≡ b
+is_slot-same a b e =
+    ⊎_elim (λ same. index-same a b same) (λ other. both-ways (is_slot a b) e (ne_eqb (index_of a) (index_of b) other)) (cases_eq (index_of a) (index_of b))
+
+pub is_slot-self : (a : Slot) → is_slot a a ≡ true
+is_slot-self a = eq-eqb (index_of a) (index_of a) refl
+
+pub is_slot-other : (a b : Slot) → b ≢ a → is_slot a b ≡ false
+is_slot-other a b other =
+    ⊎_elim (λ same. absurd (other (sym (index-same a b same)))) (λ n. ne_eqb (index_of a) (index_of b) n) (cases_eq (index_of a) (index_of b))
+
+pub is_slot-differs : (a b : Slot) → is_slot a b ≡ false → b ≢ a
+is_slot-differs a b e same = both-ways (is_slot a b) (ap (is_slot a) same ∙ is_slot-self a) e

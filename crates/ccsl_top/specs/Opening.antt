@@ -1,0 +1,29 @@
+-- The files that words name, and the slots under which they are opened.
+use Rattle.std.specs.Prelude.{ℕ, List, [], ◌∷◌, Bool, true, false, ◌&&◌, ◌||◌, nat_eq}
+use Rattle.std.specs.Str.{bytes_eq}
+use Rattle.ccsl_edge.specs.declared.slot.Slot.{Slot}
+use Rattle.ccsl_edge.specs.declared.slot.Slot.TheVariants.{TraceOut, CertOut}
+use Rattle.ccsl_edge.specs.Slots.{index_of}
+use Rattle.ccsl_command.specs.Opened.{Opened}
+
+-- a world allows each file under its slot
+abbrev pub AreAllowed : (Slot → List ℕ → Type 0) → List Opened → Type 0
+AreAllowed allows [] = Unit {0}
+AreAllowed allows (f ∷ fs) = allows f.slot f.name × AreAllowed allows fs
+
+-- one slot is the other
+abbrev pub is_slot : Slot → Slot → Bool
+is_slot a b = nat_eq (index_of a) (index_of b)
+
+-- whether a file is opened under a slot
+abbrev pub opens : List Opened → Slot → Bool
+opens [] slot = false
+opens (f ∷ fs) slot = is_slot f.slot slot || opens fs slot
+
+abbrev pub is_output : Slot → Bool
+is_output slot = is_slot slot TraceOut || is_slot slot CertOut
+
+-- whether a file of this name is opened for writing
+abbrev pub writes : List Opened → List ℕ → Bool
+writes [] name = false
+writes (f ∷ fs) name = (is_output f.slot && bytes_eq f.name name) || writes fs name

@@ -1,0 +1,147 @@
+//! The program, run over a world that holds a specification `s` and a trace `t`.
+
+ghost use Rattle.std.specs.Prelude.{◌≤◌};
+
+use ccsl_base::CommandWord;
+use ccsl_edge::{CallKind, HeldFile, MemoryWorld, Slot};
+use ccsl_pool::{Gate, NoGate};
+use ccsl_top::run;
+use std::alloc::Global;
+use std::test::*;
+
+/// What the program answered and reported.
+#[derive(Drop)]
+pub(crate) struct Answer {
+    pub status: u8,
+    pub report: String,
+}
+
+fn held(alloc: Global, name: &str, content: &str) -> Result<HeldFile, Fail> {
+    let name = String::from_str(alloc, name)?;
+    let content = Vec::from_slice(alloc, content.as_bytes())?;
+    Ok(HeldFile::new(name, content))
+}
+
+/// A world that moves at most so many bytes at once, and in which some calls fail.
+pub(crate) fn world(
+    alloc: Global,
+    spec: &str,
+    trace: &str,
+    failing: Vec<(CallKind, u64)>,
+    piece: usize,
+) -> Result<MemoryWorld, Fail>
+    requires { 1 ≤ piece }
+{
+    let mut files = Vec::new(alloc);
+    files.push(held(alloc, "s", spec)?)?;
+    files.push(held(alloc, "t", trace)?)?;
+    Ok(MemoryWorld::new(alloc, files, failing, piece))
+}
+
+/// The words of a command line that are written with blanks between them.
+pub(crate) fn words_of(alloc: Global, line: &str) -> Result<Vec<CommandWord>, Fail> {
+    let mut words = Vec::new(alloc);
+    for word in line.split(' ') {
+        if !word.is_empty() {
+            words.push(CommandWord::new(String::from_str(alloc, word)?))?;
+        }
+    }
+    Ok(words)
+}
+
+/// The program's answer in a world, through a gate.
+pub(crate) fn answer_in<G: Gate>(
+    rt: &HostRuntime,
+    line: &str,
+    world: &mut MemoryWorld,
+    gate: &G,
+) -> Result<Answer, Fail> {
+    let alloc = rt.alloc();
+    let words = words_of(alloc, line)?;
+    let status = run(rt, alloc, words.as_slice(), world, gate);
+    let report = Vec::from_slice(alloc, world.written(Slot::Report))?;
+    Ok(Answer {
+        status,
+        report: String::from_utf8(report)?,
+    })
+}
+
+/// The program's answer over two files.
+pub(crate) fn answer(
+    rt: &HostRuntime,
+    line: &str,
+    spec: &str,
+    trace: &str,
+    piece: usize,
+) -> Result<Answer, Fail>
+    requires { 1 ≤ piece }
+{
+    let alloc = rt.alloc();
+    let mut world = world(alloc, spec, trace, Vec::new(alloc), piece)?;
+    answer_in(rt, line, &mut world, &NoGate)
+}
+
+/// A specification of version 1 with these lines in its system.
+pub(crate) fn spec_of(alloc: Global, lines: &str) -> Result<String, Fail> {
+    Ok(format!(in alloc; "ccsl 1; system {{ {lines} }}")?)
+}
+
+/// A trace that declares event variables of these names, which have the codes `!`, `"`, `#` and so on.
+pub(crate) fn trace_of(alloc: Global, names: &str, body: &str) -> Result<String, Fail> {
+    let mut text = String::new(alloc);
+    let mut code = b'!';
+    for name in names.split(' ') {
+        let code_text = code as char;
+        let line = format!(in alloc; "$var event 1 {code_text} {name} $end\n")?;
+        text.push_str(line.as_str())?;
+        code = code.saturating_add(1);
+    }
+    text.push_str("$enddefinitions $end\n")?;
+    text.push_str(body)?;
+    text.push_str("\n")?;
+    Ok(text)
+}
+
+/// Asserts what `judge` reports of a trace, with one worker, two and sixteen, and with reads of one byte and of many.
+pub(crate) fn judges(
+    rt: &HostRuntime,
+    spec: &str,
+    trace: &str,
+    status: u8,
+    report: &str,
+) -> Result<(), Fail> {
+    for line in [
+        "judge spec=s trace=t",
+        "judge workers=2 spec=s trace=t",
+        "judge spec=s trace=t workers=16",
+    ] {
+        for piece in [1, 4096] {
+            let found = answer(rt, line, spec, trace, piece)?;
+            assert_eq!(rt; found.report.as_str(), report);
+            assert_eq!(rt; found.status, status);
+        }
+    }
+    Ok(())
+}
+
+/// The same of a system with these lines, and a trace of event variables.
+pub(crate) fn judges_events(
+    rt: &HostRuntime,
+    lines: &str,
+    names: &str,
+    body: &str,
+    status: u8,
+    report: &str,
+) -> Result<(), Fail> {
+    let spec = spec_of(rt.alloc(), lines)?;
+    let trace = trace_of(rt.alloc(), names, body)?;
+    judges(rt, spec.as_str(), trace.as_str(), status, report)
+}
+
+/// Asserts what `check` reports of a text.
+pub(crate) fn checks(rt: &HostRuntime, text: &str, status: u8, report: &str) -> Result<(), Fail> {
+    let found = answer(rt, "check spec=s", text, "", 4096)?;
+    assert_eq!(rt; found.report.as_str(), report);
+    assert_eq!(rt; found.status, status);
+    Ok(())
+}

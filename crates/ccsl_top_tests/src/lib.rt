@@ -1,0 +1,19 @@
+//! The program over worlds in memory: what it answers to words and files.
+#![tactic(auto)]
+
+#[cfg(test)]
+mod answered;
+#[cfg(test)]
+mod checks;
+#[cfg(test)]
+mod failing;
+#[cfg(test)]
+mod gates;
+#[cfg(test)]
+mod hostile;
+#[cfg(test)]
+mod refused_traces;
+#[cfg(test)]
+mod runs;
+#[cfg(test)]
+mod words;
