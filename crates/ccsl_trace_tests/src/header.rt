@@ -15,6 +15,7 @@ fn bindings(rt: HostRuntime) -> Result<(), Fail> {
     let nested = format!(in rt.alloc(); "{NESTED}$enddefinitions $end #0 0! 0& #5 1! #7 1&")?;
     for (text, rows) in [
         (nested.as_str(), "#5 0 "),
+        ("$var event 1 ! a $end $enddefinitions $end", ""),
         (
             "$upscope $end $var wire 1 ! a [0:0] $end $enddefinitions $end #0 0! #1 1!",
             "#1 0 ",

@@ -1,72 +1,39 @@
-//! What keeps the rows of a trace.
+//! Rows that are kept, and their text.
 
-ghost use Rattle.std.specs.Prelude.{◌≡◌, [], false};
-
-use ccsl_base::{Block, ClockSet, Memory, Row};
-use ccsl_trace::Watch;
+use ccsl_base::{Block, Memory, Row};
 use std::alloc::Global;
 
-/// The rows that were handed over, and whether memory was too short for one.
-#[derive(Drop)]
-pub struct Listing {
-    pub rows: Vec<Row>,
-    pub short: bool,
-}
-
-impl Watch for Listing {
-    ghost system = { λ l. record {
-      names = [];
-      declared = 0;
-      written = 0;
-      groups = [];
-      words = [];
-      definitions = [];
-      constraints = [];
-    } };
-
-    ghost waits = { λ l. l.short ≡ false };
-
-    // its rows are the tests' to see
-    ghost stands = { λ l bound rows. rows ≡ rows };
-
-    fn begin(&mut self, _bound: &ClockSet) -> Result<(), Memory> {
-        Ok(())
-    }
-
-    fn take(&mut self, block: &Block) {
-        for i in 0..block.len() {
-            self.keep(block.row(i));
-        }
-    }
-}
-
-impl Listing {
-    fn keep(&mut self, row: &Row) {
+/// The rows of a block behind others.
+pub fn keep(rows: &mut Vec<Row>, block: &Block) -> Result<(), Memory> {
+    for i in 0..block.len() {
+        let row = block.row(i);
         let copy = Row {
             time: row.time,
             ticks: row.ticks.copy(),
         };
-        if self.rows.push(copy).is_err() {
-            self.short = true;
+        if rows.push(copy).is_err() {
+            return Err(Memory);
         }
     }
+    Ok(())
 }
 
 // A row behind others, as `#5 0 1 `.
-fn with_row(alloc: Global, lines: &str, row: &Row) -> Result<String, Memory> {
-    let mut out = format!(in alloc; "{lines}#{} ", row.time)?;
+fn add_row(alloc: Global, out: &mut String, row: &Row) -> Result<(), Memory> {
+    let time = format!(in alloc; "#{} ", row.time)?;
+    out.push_str(time.as_str())?;
     for clock in row.ticks.members() {
         let clock = format!(in alloc; "{clock} ")?;
         out.push_str(clock.as_str())?;
     }
-    Ok(out)
+    Ok(())
 }
 
 /// The rows as a text.
 pub fn lines(alloc: Global, rows: &[Row]) -> Result<String, Memory> {
     let mut out = String::new(alloc);
     for row in rows {
-        out = with_row(alloc, out.as_str(), row)?;
+        add_row(alloc, &mut out, row)?;
     }
     Ok(out)
 }

@@ -1,12 +1,16 @@
 //! A text that is read in pieces.
 
-ghost use Rattle.std.specs.Prelude.{◌≤◌};
+ghost use Rattle.std.specs.Prelude.{◌≤◌, List};
+ghost use Rattle.ccsl_base.specs.declared.rows.Row.{Row};
+ghost use Rattle.ccsl_edge.specs.World.{State};
+ghost use Rattle.ccsl_vcd.specs.Binding.{Wanted};
+ghost use Rattle.ccsl_trace.specs.Feeding.{Feeds};
 
-use crate::listing::{Listing, lines};
-use ccsl_base::{Names, Seq};
+use crate::listing::{keep, lines};
+use ccsl_base::{Memory, Names, Row, Seq};
 use ccsl_edge::{HeldFile, MemoryWorld, Slot, World};
 use ccsl_kernel::{Parts, System};
-use ccsl_trace::{TraceFault, read_trace};
+use ccsl_trace::{Feed, Next, TraceFault};
 use ccsl_vcd::{Limits, VcdFault};
 use std::alloc::Global;
 use std::process::Abort;
@@ -65,6 +69,29 @@ fn world(alloc: Global, text: &str, piece: usize) -> Result<MemoryWorld, Fail>
     Ok(world)
 }
 
+// The rows that a feed has left, or why the trace was not read.
+fn all_rows<W: World>(
+    alloc: Global,
+    feed: &mut Feed,
+    world: &mut W,
+) -> Result<Result<Vec<Row>, TraceFault>, Memory>
+    requires feeds { (wanted : Wanted) × (limits : Limits) × (start : State) × (rows : List Row)
+        × Feeds W.told wanted limits start (W.state world.old) feed.old rows }
+{
+    let mut rows = Vec::new(alloc);
+    loop {
+        match feed.next(world) {
+            Ok(Next::Bound) => {}
+            Ok(Next::Rows) => keep(&mut rows, feed.block())?,
+            Ok(Next::Ended(_)) => {
+                keep(&mut rows, feed.block())?;
+                return Ok(Ok(rows));
+            }
+            Err(fault) => return Ok(Err(fault)),
+        }
+    }
+}
+
 // The rows of a text, or why it was not read.
 fn read(
     alloc: Global,
@@ -77,17 +104,11 @@ fn read(
 {
     let system = system(alloc, clocks)?;
     let mut world = world(alloc, text, piece)?;
-    let mut listing = Listing {
-        rows: Vec::new(alloc),
-        short: false,
-    };
-    if let Err(fault) = read_trace(alloc, &mut world, &system, limits, &mut listing) {
-        return Ok(Err(fault));
+    let mut feed = Feed::open(alloc, &system, limits)?;
+    match all_rows(alloc, &mut feed, &mut world)? {
+        Ok(rows) => Ok(Ok(lines(alloc, rows.as_slice())?)),
+        Err(fault) => Ok(Err(fault)),
     }
-    if listing.short {
-        return Err(Fail::from("there was no memory"));
-    }
-    Ok(Ok(lines(alloc, listing.rows.as_slice())?))
 }
 
 /// The text has these rows, whatever the pieces that it is read in.

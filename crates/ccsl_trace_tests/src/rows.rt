@@ -42,3 +42,17 @@ fn nets(rt: HostRuntime) -> Result<(), Fail> {
     }
     Ok(())
 }
+
+// More rows than two blocks have.
+#[test]
+fn blocks(rt: HostRuntime) -> Result<(), Fail> {
+    let mut text = String::from_str(rt.alloc(), EVENTS)?;
+    let mut rows = String::new(rt.alloc());
+    for time in 1..9000u64 {
+        let change = format!(in rt.alloc(); "#{time} 1! ")?;
+        text.push_str(change.as_str())?;
+        let row = format!(in rt.alloc(); "#{time} 0 ")?;
+        rows.push_str(row.as_str())?;
+    }
+    has_rows(&rt, rt.alloc(), &["a", "b"], text.as_str(), rows.as_str())
+}
