@@ -6,7 +6,6 @@
 All times are processor times of the other process. A ratio is that of elaborating once to lexing and parsing once.
 """
 import os
-import resource
 import subprocess
 import tempfile
 
@@ -15,12 +14,14 @@ PROGRAM = os.path.join(HERE, "..", "crates", "ccsl_elaborate_bench", "out", "ccs
 MEBIBYTE = 1 << 20
 
 
-def seconds(part, path, times):
-    """The last answer, and the processor time of a run."""
-    before = resource.getrusage(resource.RUSAGE_CHILDREN)
-    out = subprocess.run([PROGRAM, part, path, str(times)], stdout=subprocess.PIPE, text=True).stdout
-    after = resource.getrusage(resource.RUSAGE_CHILDREN)
-    return out.strip(), after.ru_utime + after.ru_stime - before.ru_utime - before.ru_stime
+def measured(part, path, times):
+    """The last answer, the processor time of a run in seconds, and the most memory that it held in mebibytes."""
+    run = subprocess.Popen([PROGRAM, part, path, str(times)], stdout=subprocess.PIPE, text=True)
+    out = run.stdout.read()
+    run.stdout.close()
+    _, status, used = os.wait4(run.pid, 0)
+    run.returncode = os.waitstatus_to_exitcode(status)
+    return out.strip(), used.ru_utime + used.ru_stime, used.ru_maxrss / 1024
 
 
 def filled(head, member, tail):
@@ -56,11 +57,27 @@ def expanded():
     return f"ccsl 1;\nrelation hide(clock a) {{ define b = a delay 1; a precedes b; }}\nsystem {{ clock a, b;\n{calls}}}\n"
 
 
+def balanced(leaves):
+    """An expression of so many leaves."""
+    if leaves == 1:
+        return "a"
+    left, right = balanced(leaves // 2), balanced(leaves - leaves // 2)
+    return "a union a" if leaves == 2 else f"({left}) union ({right})"
+
+
+def large(leaves, calls):
+    """Calls of a relation that hides a clock with a large definition."""
+    lines = "  hide(a);\n" * calls
+    return f"ccsl 1;\nrelation hide(clock a) {{ define b = {balanced(leaves)}; }}\nsystem {{ clock a;\n{lines}}}\n"
+
+
 TEXTS = [
     ("a mebibyte of expressions", expressions()),
     ("a nest of relations that is refused", relations(8000)),
     ("a nest of relations that is expanded", relations(2)),
     ("a thousand hidden clocks", expanded()),
+    ("a thousand hidden clocks of 8,000 leaves each", large(8000, 1000)),
+    ("a thousand hidden clocks of 60,000 leaves each", large(60000, 1000)),
 ]
 
 
@@ -69,13 +86,14 @@ def main():
         with tempfile.NamedTemporaryFile("w", suffix=".ccsl") as file:
             file.write(text)
             file.flush()
-            once = seconds("elaborate", file.name, 1)[1]
+            once = measured("elaborate", file.name, 1)[1]
             times = max(1, int(1 / max(once, 0.01)))
-            read = seconds("parse", file.name, times)[1] / times
-            answer, both = seconds("elaborate", file.name, times)
-            alone = (both - read) / times
-            print(f"{name}: {len(text)} bytes, answer {answer}, parse {read:.4f} s, "
-                  f"elaborate {alone:.4f} s, ratio {alone / read:.2f}")
+            _, read, _ = measured("parse", file.name, times)
+            answer, both, memory = measured("elaborate", file.name, times)
+            parse = read / times
+            alone = (both - parse) / times
+            print(f"{name}: {len(text)} bytes, answer {answer}, parse {parse:.4f} s, "
+                  f"elaborate {alone:.4f} s, ratio {alone / parse:.2f}, at most {memory:.0f} MiB")
 
 
 if __name__ == "__main__":
