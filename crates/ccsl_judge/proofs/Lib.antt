@@ -1,0 +1,4 @@
+pub mod Sharing
+pub mod Combining
+pub mod Sending
+pub mod Taking

@@ -1,0 +1,4 @@
+pub mod Judged
+pub mod Shares
+pub mod Divided
+pub mod Going

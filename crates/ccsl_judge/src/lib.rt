@@ -1,0 +1,10 @@
+//! The verdict on a trace, by one thread or many.
+#![tactic(auto)]
+
+pub mod judging;
+mod share;
+mod shares;
+pub mod verdict;
+
+pub use judging::{JudgeFault, judge};
+pub use verdict::Verdict;

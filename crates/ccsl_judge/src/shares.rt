@@ -1,0 +1,79 @@
+//! All items of a system, in shares.
+
+ghost use Rattle.std.specs.Prelude.{◌≡◌, ℕ, ◌+◌, ◌<◌, ◌≤◌, ◌^◌, List, [], ◌++◌, length, IfOk};
+ghost use Rattle.ccsl_base.specs.declared.rows.Row.{Row};
+ghost use Rattle.ccsl_kernel.specs.Syntax.{System, item_count};
+ghost use Rattle.ccsl_relate.specs.Violations.{Finds};
+ghost use Rattle.ccsl_judge.specs.Shares.{earlier};
+ghost use Rattle.ccsl_judge.specs.Divided.{FollowAll};
+
+use crate::share::Share;
+use ccsl_base::{Block, ClockSet, Memory};
+use ccsl_kernel::System;
+use ccsl_pool::{Gate, check_all};
+use ccsl_relate::Violation;
+use std::alloc::Global;
+use std::thread::Threads;
+
+/// Opens as many shares as the lesser of `workers` and the number of items. Each has neighbouring items, and their numbers of items
+/// differ by at most one.
+pub(crate) fn open_shares<'s>(
+    alloc: Global,
+    system: &'s System,
+    workers: u32,
+    bound: &ClockSet,
+) -> Result<Vec<Share<'s>>, Memory>
+    requires { 1 ≤ workers }
+    ensures { IfOk result (λ v. FollowAll system.now bound.now [] v.items) }
+{
+    let items = system.items();
+    let count = workers.min(items);
+    let mut shares = Vec::with_capacity(alloc, count as usize)?;
+    let mut start = 0;
+    for done in 0..count {
+        let size = (items - start) / (count - done);
+        shares.push(Share::open(alloc, system, start, size, bound)?)?;
+        start += size;
+    }
+    Ok(shares)
+}
+
+// The one at the lower step, and of two at one step the first.
+fn earlier(first: Option<Violation>, second: Option<Violation>) -> Option<Violation>
+    ensures { result ≡ earlier first second }
+{
+    match (first, second) {
+        (Some(one), Some(other)) if other.step < one.step => second,
+        (None, _) => second,
+        _ => first,
+    }
+}
+
+/// Lets all shares take the rows of a block.
+pub(crate) fn check_rows<R: Threads + Sync, G: Gate>(
+    rt: &R,
+    shares: &mut [Share<'_>],
+    block: &Block,
+    workers: u32,
+    gate: &G,
+)
+    requires workers { 1 ≤ workers }
+    requires follow { (K : System) × (bound : List ℕ) × (rows : List Row) × FollowAll K bound rows shares.old
+        × (length rows + length block.now.rows < 2 ^ 64) }
+    ensures { (K : System) (bound : List ℕ) (rows : List Row) → FollowAll K bound rows shares.old →
+        length rows + length block.now.rows < 2 ^ 64 → FollowAll K bound (rows ++ block.now.rows) shares.new }
+{
+    check_all(rt, shares, block, workers, gate);
+}
+
+/// The first violation of all items.
+pub(crate) fn first_of(shares: &[Share<'_>]) -> Option<Violation>
+    ensures { (K : System) (bound : List ℕ) (rows : List Row) → FollowAll K bound rows shares.now →
+        Finds K bound rows 0 (item_count K) result }
+{
+    let mut first = None;
+    for share in shares {
+        first = earlier(first, share.monitor.first());
+    }
+    first
+}

@@ -1,0 +1,36 @@
+//! What judging a trace answers.
+
+ghost use Rattle.std.specs.Prelude.{◌≡◌, ℕ, List, length};
+ghost use Rattle.ccsl_base.specs.declared.rows.Row.{Row};
+ghost use Rattle.ccsl_kernel.specs.Syntax.{System, item_count};
+ghost use Rattle.ccsl_kernel.specs.Verdict.{verdict};
+ghost use Rattle.ccsl_relate.specs.Violations.{Finds};
+ghost use Rattle.ccsl_judge.specs.Judged.{plain};
+
+use ccsl_kernel::laws::verdict_is_first;
+use ccsl_relate::Violation;
+
+/// The verdict on the rows of a trace.
+#[derive(Clone, Copy, Debug, PartialEq, Eq)]
+pub enum Verdict {
+    /// So many rows, none of which violates an item.
+    Run(u64),
+    /// The first row that violates an item, from 0, its time, and the first item that it violates.
+    Violated { step: u64, time: u64, item: u32 },
+}
+
+/// The verdict on so many rows whose first violation among all items is given.
+pub(crate) fn verdict_on(first: Option<Violation>, rows: u64) -> Verdict
+    ensures { (K : System) (bound : List ℕ) (taken : List Row) → rows ≡ length taken →
+        Finds K bound taken 0 (item_count K) first → plain result ≡ verdict K bound taken }
+{
+    verdict_is_first();
+    match first {
+        None => Verdict::Run(rows),
+        Some(violation) => Verdict::Violated {
+            step: violation.step,
+            time: violation.time,
+            item: violation.item,
+        },
+    }
+}
