@@ -1,7 +1,8 @@
 -- Tokens that are heard one after another.
-use Rattle.std.proofs.Common.{◌≡◌, ℕ, ◌+◌, ◌-◌, ◌≤◌, ◌<◌, List, [], ◌∷◌, ◌++◌, length, take, drop, get_or, Bool, true, false, not, Option, Some, None, Result, Ok, Err, cond, suc, fold, refl, sym, ap, ◌∙◌, subst, append_assoc, arith, length-append, zero-add}
+use Rattle.std.proofs.Common.{◌≡◌, ℕ, ◌+◌, ◌-◌, ◌≤◌, ◌<◌, List, [], ◌∷◌, ◌++◌, length, take, drop, get_or, Bool, true, false, not, Option, Some, None, Result, Ok, Err, cond, zero, suc, nat_eq, ◌||◌, length-take-le, length-drop, map, ◌⊎◌, inl, inr, fold, refl, sym, ap, ◌∙◌, subst, append_assoc, arith, length-append, zero-add}
 use Rattle.std.specs.List.{prefix_len, AllByRecursion}
 use Rattle.std.proofs.lemmas.List.{append-nil, take_more}
+use Rattle.std.proofs.lemmas.Bool.{eqb-true}
 use Rattle.std.proofs.Math.Seq.{take-add}
 use Rattle.ccsl_base.specs.declared.rows.Row.{Row}
 use Rattle.ccsl_vcd_lex.specs.Tokens.{is_white, Token, token, tokens_from, first_long}
@@ -10,8 +11,15 @@ use Rattle.ccsl_vcd_lex.specs.Lexing.{Dark, is_dark}
 use Rattle.ccsl_vcd_lex.proofs.Cuts.{tokens-cut, long-append, one-token, from-behind, fresh-behind}
 use Rattle.ccsl_vcd.specs.declared.fault.VcdFault.{VcdFault}
 use Rattle.ccsl_vcd_read.specs.declared.body.Body.{Body}
-use Rattle.ccsl_vcd_read.specs.Step.{hear_of, row_of, Says}
-use Rattle.ccsl_vcd_read.specs.Run.{behind, hear_next, hear_all, Runs}
+use Rattle.ccsl_vcd_read.specs.Step.{hear_at, hear_of, word_says, put_number, row_of, Says}
+use Rattle.ccsl_vcd.specs.Words.{word_of, scalar}
+use Rattle.ccsl_vcd.specs.Reading.{is_changes}
+use Rattle.ccsl_bind.specs.Codes.{number_of}
+use Rattle.ccsl_vcd_read.specs.declared.amid.Amid.{Amid}
+use Rattle.ccsl_vcd_read.specs.declared.amid.Amid.TheVariants.{Changes, Remark, Code, CodeSkipped}
+use Rattle.ccsl_vcd_read.specs.Meant.{amid_of}
+use Rattle.ccsl_vcd_read.specs.Marks.{put}
+use Rattle.ccsl_vcd_read.specs.Run.{behind, hear_next, hear_all, Runs, IsShort, Short}
 use Rattle.ccsl_vcd_read.proofs.Passing.{fresh-append}
 use Rattle.ccsl_vcd_read.proofs.StagePictures.{room-left}
 
@@ -127,7 +135,7 @@ front-white b at end (x ∷ xs) rows e z l =
 pub front-word : (b c : Body) (at end : ℕ) (bytes : List ℕ) (x y : List Row) → end ≡ prefix_len is_dark bytes → 0 < end → end < length bytes → end ≤ 65536
     → Says (hear_of b at (take end bytes)) (Ok tt) b c x y → Runs b c at (take (end + 1) bytes) x y
 front-word b c at end bytes x y e n l m s =
-    let k : length (take end bytes) ≡ end = Rattle.std.proofs.Common.length-take-le end bytes (omega (arith, l)) in
+    let k : length (take end bytes) ≡ end = length-take-le end bytes (omega (arith, l)) in
     subst (λ part. Runs b c at part x y) (sym (take_more bytes end 0 l))
     (runs-word b c at (get_or bytes end 0) (take end bytes) x y (subst (λ i. Dark (take i bytes)) (sym e) (dark-front bytes)) (omega (arith, k, n)) (omega (arith, k, m))
     (subst (λ i. is_white (get_or bytes i 0) ≡ true) (sym e) (white-stop bytes (omega (arith, e, l)))) s)
@@ -140,7 +148,7 @@ pub record RunsTo (old now : Body) (at : ℕ) (piece : List ℕ) (i room : ℕ) 
 -- the rest of a piece, as a slice gives it
 pub runs-on : (a b c : Body) (at i n : ℕ) (piece rest : List ℕ) (x y z : List Row) → i ≤ length piece → rest ≡ drop i piece → Runs a b at (take i piece) x y → Runs b c (at + i) (take n rest) y z → Runs a c at (take (i + n) piece) x z
 runs-on a b c at i n piece rest x y z l e r s =
-    let k : length (take i piece) ≡ i = Rattle.std.proofs.Common.length-take-le i piece l in
+    let k : length (take i piece) ≡ i = length-take-le i piece l in
     subst (λ part. Runs a c at part x z) (ap (λ xs. take i piece ++ take n xs) e ∙ sym (take-add i n piece))
     (runs-both a b c at (take i piece) (take n rest) x y z r (subst (λ j. Runs b c (at + j) (take n rest) y z) (sym k) s))
 
@@ -148,3 +156,57 @@ runs-on a b c at i n piece rest x y z l e r s =
 pub runs-same : (r : Result (Body × List Row) VcdFault) (f : VcdFault) (b c : Body) (at : ℕ) (x y : List Row) → Says r (Err f) b c x y → Runs b c at [] x y
 runs-same (Ok p) f b c at x y s = absurd s
 runs-same (Err g) f b c at x y s = subst (λ v. Runs b v at [] x y) (sym s.1) (subst (λ rs. Runs b b at [] x rs) (sym s.2) (runs-none b at x))
+
+-- A short token.
+
+is-changes : (a : Amid) → is_changes (amid_of a) ≡ true → a ≡ Changes
+is-changes Changes h = refl
+is-changes Remark h = absurd (cc)
+is-changes (Code one) h = absurd (cc)
+is-changes CodeSkipped h = absurd (cc)
+
+short-word : (first : ℕ) (code : List ℕ) → (first ≡ 48) ⊎ (first ≡ 49) → 0 < length code → word_of (first ∷ code) ≡ scalar (nat_eq first 49) code
+unfolding word_of
+short-word first [] w n = absurd (omega arith)
+short-word first (c ∷ cs) (inl e) n = rw e refl
+short-word first (c ∷ cs) (inr e) n = rw e refl
+
+pub short-says : (b c : Body) (first number : ℕ) (code : List ℕ) → is_changes (amid_of b.amid) ≡ true → (first ≡ 48) ⊎ (first ≡ 49) → 0 < length code → number_of code b.binding.codes ≡ Some number
+    → c ≡ record b { marks = map (put number (nat_eq first 49) b.dumping) b.marks } → (at : ℕ) (rows : List Row) → Says (hear_of b at (first ∷ code)) (Ok tt) b c rows rows
+short-says b c first number code a w n f e at rows =
+    let amid : b.amid ≡ Changes = is-changes b.amid a in
+    let said : hear_of b at (first ∷ code) ≡ Ok (record b { amid = Changes; marks = map (put number (nat_eq first 49) b.dumping) b.marks }, []) =
+    ap (hear_at b at (first ∷ code)) amid ∙ ap (word_says b at) (short-word first code w n) ∙ ap (put_number b at (nat_eq first 49)) f in
+    rw said (e ∙ ap (λ (x : Amid). record b { amid = x; marks = map (put number (nat_eq first 49) b.dumping) b.marks }) amid, sym (append-nil rows))
+
+pub front-short : (b c : Body) (at n : ℕ) (bytes : List ℕ) (rows : List Row) → Short b c bytes n → 0 < n → Runs b c at (take (n + 1) bytes) rows rows
+front-short b c at n bytes rows h some =
+    let s = h.0 some in
+    front-word b c at n bytes rows rows s.0.run some s.0.inside (omega (arith, s.0.most)) (s.1 at rows)
+
+bit-of : (x : ℕ) → (nat_eq x 48 || nat_eq x 49) ≡ true → (x ≡ 48) ⊎ (x ≡ 49)
+bit-of x h = (elim (nat_eq x 48) as (λ w. nat_eq x 48 ≡ w → (w || nat_eq x 49) ≡ true → (x ≡ 48) ⊎ (x ≡ 49)) [
+  | true ↦ λ e _. inl (eqb-true x 48 e)
+  | false ↦ λ _ g. inr (eqb-true x 49 g)
+]) refl h
+
+take-first : (n : ℕ) (bytes : List ℕ) → 0 < n → 0 < length bytes → take n bytes ≡ get_or bytes 0 0 ∷ take (n - 1) (drop 1 bytes)
+take-first n [] some l = absurd (omega arith)
+take-first zero (x ∷ xs) some l = absurd (omega arith)
+take-first (suc n) (x ∷ xs) some l = ap (λ k. x ∷ take k xs) (let k : n ≡ suc n - 1 = omega arith in k)
+
+-- the change was made
+pub short-made : (b c : Body) (n number : ℕ) (bytes : List ℕ) → IsShort n bytes → is_changes (amid_of b.amid) ≡ true → (nat_eq (get_or bytes 0 0) 48 || nat_eq (get_or bytes 0 0) 49) ≡ true
+    → number_of (take (n - 1) (drop 1 bytes)) b.binding.codes ≡ Some number → c ≡ record b { marks = map (put number (nat_eq (get_or bytes 0 0) 49) b.dumping) b.marks } → Short b c bytes n
+short-made b c n number bytes s a w f e =
+    let code = take (n - 1) (drop 1 bytes) in
+    let inside : n < length bytes = s.inside in
+    let least : 2 ≤ n = s.least in
+    let len : length code ≡ n - 1 = length-take-le (n - 1) (drop 1 bytes) (omega (arith, length-drop 1 bytes, inside)) in (
+      (λ _. (
+        s,
+        λ at rows. subst (λ text. Says (hear_of b at text) (Ok tt) b c rows rows) (sym (take-first n bytes (omega (arith, least)) (omega (arith, inside))))
+            (short-says b c (get_or bytes 0 0) number code a (bit-of (get_or bytes 0 0) w) (omega (arith, len, least)) f e at rows),
+      )),
+      λ z. absurd (omega (arith, z, least)),
+    )

@@ -1,11 +1,13 @@
 -- The tokens of some bytes of a body, heard one after another.
-use Rattle.std.specs.Prelude.{◌≡◌, ℕ, ◌≤◌, List, [], ◌++◌, length, true, None, Result, Ok, Err, fold}
+use Rattle.std.specs.Prelude.{◌≡◌, ℕ, ◌≤◌, ◌<◌, List, [], ◌++◌, length, take, true, None, Result, Ok, Err, fold}
+use Rattle.std.specs.List.{prefix_len}
 use Rattle.ccsl_base.specs.declared.rows.Row.{Row}
 use Rattle.ccsl_vcd_lex.specs.Tokens.{Token, tokens_from, first_long}
 use Rattle.ccsl_vcd_lex.specs.Runs.{fresh_after}
+use Rattle.ccsl_vcd_lex.specs.Lexing.{is_dark}
 use Rattle.ccsl_vcd.specs.declared.fault.VcdFault.{VcdFault}
 use Rattle.ccsl_vcd_read.specs.declared.body.Body.{Body}
-use Rattle.ccsl_vcd_read.specs.Step.{hear_of}
+use Rattle.ccsl_vcd_read.specs.Step.{hear_of, Says}
 
 -- rows that were given out before
 abbrev pub behind : List Row → Result (Body × List Row) VcdFault → Result (Body × List Row) VcdFault
@@ -28,3 +30,14 @@ pub record Runs (old new : Body) (at : ℕ) (part : List ℕ) (before after : Li
   pub fresh : fresh_after true part ≡ true
   pub short : first_long (tokens_from true at part) ≡ None
   pub few : length pushed ≤ length part
+
+-- a token of so many bytes, at least two and at most four, at the front, and white space behind it
+pub record IsShort (n : ℕ) (bytes : List ℕ) : Type 0 where
+  pub least : 2 ≤ n
+  pub most : n ≤ 4
+  pub run : n ≡ prefix_len is_dark bytes
+  pub inside : n < length bytes
+
+-- The change of a short token was made, or nothing.
+abbrev pub Short : Body → Body → List ℕ → ℕ → Type 0
+Short old new bytes n = (0 < n → (IsShort n bytes × ((at : ℕ) (rows : List Row) → Says (hear_of old at (take n bytes)) (Ok tt) old new rows rows))) × (n ≡ 0 → new ≡ old)

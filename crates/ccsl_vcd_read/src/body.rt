@@ -2,14 +2,14 @@
 
 ghost use Rattle.std.specs.Prelude.{◌≡◌, ◌<◌, ◌≤◌, ◌+◌, ◌++◌, ◌^◌, length, take, [], Ok};
 ghost use Rattle.ccsl_vcd_read.specs.Step.{Says, row_of, time_says, changed_says, skipped_says, remark_says, word_says, hear_of};
-ghost use Rattle.ccsl_vcd_read.specs.Run.{Runs};
+ghost use Rattle.ccsl_vcd_read.specs.Run.{Runs, Short};
 ghost use Rattle.ccsl_vcd.specs.Words.{dump, close};
 ghost use Rattle.ccsl_vcd_read.specs.Meant.{meant, rest_of};
 
 use crate::amid::Amid;
 use crate::codes::Codes;
 use crate::marks::Marks;
-use crate::scan::run_end;
+use crate::scan::{is_bit, run_end, short_end};
 use crate::word::{Word, is_text, word_of};
 use ccsl_base::{Block, MAX_TOKEN_BYTES, Row};
 use ccsl_vcd::VcdFault;
@@ -157,6 +157,23 @@ impl Body {
         }
     }
 
+    // Makes the change of a short token at the front of some bytes, if that is a change to 0 or 1 of a code that was found
+    // before. It answers how many bytes the token has, and 0 where it does nothing.
+    #[inline(always)]
+    fn short_change(&mut self, bytes: &[u8]) -> usize
+        ensures { Short self.old self.new bytes.now result }
+    {
+        let end = short_end(bytes);
+        if end == 0 || !self.amid.is_changes() || !is_bit(bytes[0]) {
+            return 0;
+        }
+        let Some(number) = self.binding.known(&bytes[1..end]) else {
+            return 0;
+        };
+        self.marks.change(number, bytes[0] == b'1', self.dumping);
+        end
+    }
+
     // Hears what stands at the front of some bytes: a byte of white space, or a token and the white space behind it. It answers
     // how many bytes that are: none where no token ends there, or the token is refused.
     fn step(&mut self, at: u64, bytes: &[u8], out: &mut Block) -> usize
@@ -165,6 +182,10 @@ impl Body {
         ensures runs { Runs self.old self.new at (take result bytes.now) out.old.rows out.new.rows }
         ensures room { out.new.room ≡ out.old.room }
     {
+        let short = self.short_change(bytes);
+        if short > 0 {
+            return short + 1;
+        }
         let end = run_end(bytes, 0);
         if end == bytes.len() || end > MAX_TOKEN_BYTES {
             return 0;

@@ -1,10 +1,11 @@
 //! Where a run of bytes ends, found many bytes at a time.
 
-ghost use Rattle.std.specs.Prelude.{◌≡◌, ◌+◌, ◌≤◌, length, drop, map};
+ghost use Rattle.std.specs.Prelude.{◌≡◌, ◌+◌, ◌≤◌, ◌<◌, length, drop, map, nat_eq, ◌||◌};
 ghost use Rattle.std.specs.List.{prefix_len};
 ghost use Rattle.std.specs.Simd.Lanes.{mask_l};
 ghost use Rattle.ccsl_vcd_lex.specs.Tokens.{is_white};
 ghost use Rattle.ccsl_vcd_lex.specs.Lexing.{is_dark};
+ghost use Rattle.ccsl_vcd_read.specs.Run.{IsShort};
 
 use std::simd::prelude::*;
 
@@ -56,4 +57,26 @@ pub(crate) fn run_end(bytes: &[u8], from: usize) -> usize
         i += LANES;
     }
     run_end_slowly(bytes, i)
+}
+
+/// The length of a token of two to four bytes at the front, with white space behind it; 0 where there is none.
+#[inline(always)]
+pub(crate) fn short_end(bytes: &[u8]) -> usize
+    ensures { 0 < result → IsShort result bytes.now }
+{
+    match bytes {
+        [a, b, ..] if is_space(*a) || is_space(*b) => 0,
+        [_, _, c, ..] if is_space(*c) => 2,
+        [_, _, _, d, ..] if is_space(*d) => 3,
+        [_, _, _, _, e, ..] if is_space(*e) => 4,
+        _ => 0,
+    }
+}
+
+/// Whether a byte is the letter of the value 0 or 1.
+#[inline(always)]
+pub(crate) fn is_bit(b: u8) -> bool
+    ensures { result ≡ (nat_eq b 48 || nat_eq b 49) }
+{
+    b == b'0' || b == b'1'
 }

@@ -26,7 +26,7 @@ pub enum Word {
 fn is_scalar(b: u8) -> bool
     ensures { result ≡ is_scalar b }
 {
-    b"01xXzZuUwWlLhH-".contains(&b)
+    b == b'0' || b == b'1' || b"01xXzZuUwWlLhH-".contains(&b)
 }
 
 fn all_scalar(text: &[u8]) -> bool
