@@ -1,9 +1,9 @@
 -- WHAT JUDGING A TRACE ANSWERS: the verdict on the rows of the whole trace, whose header says which clocks are recorded.
-use Rattle.std.specs.Prelude.{◌≡◌, List, None, ℕ, IsTrue}
+use Rattle.std.specs.Prelude.{◌≡◌, ◌<◌, List, None, ℕ, IsTrue}
 use Rattle.ccsl_edge.specs.declared.slot.Slot.TheVariants.{Trace}
 use Rattle.ccsl_edge.specs.World.{State, Told}
 use Rattle.ccsl_edge.specs.Calls.{Reads}
-use Rattle.ccsl_kernel.specs.Syntax.{System}
+use Rattle.ccsl_kernel.specs.Syntax.{System, item_count}
 use Rattle.ccsl_kernel.specs.Verdict as kernel
 use Rattle.ccsl_bind.specs.Collected.{wanted_of}
 use Rattle.ccsl_vcd.specs.declared.limits.Limits.{Limits}
@@ -29,3 +29,8 @@ pub record IsJudged (told : Told) (K : System) (limits : Limits) (old new : Stat
   pub whole : IsTrue told.left → (old.slot_of Trace).left ≡ bytes
   pub fine : (reading (wanted_of K) limits bytes).fault ≡ None
   pub judged : plain v ≡ verdict_on K limits bytes
+
+-- the item of a verdict is one of the system's
+abbrev pub HasItem : System → Verdict → Type 0
+HasItem K (Run rows) = Unit {0}
+HasItem K (Violated step time item) = item < item_count K

@@ -9,7 +9,7 @@ ghost use Rattle.ccsl_trace.specs.Feeding.{bound_of, calls_left};
 ghost use Rattle.ccsl_trace.specs.Traces.{IsUnread};
 ghost use Rattle.ccsl_judge.specs.Divided.{FollowAll};
 ghost use Rattle.ccsl_judge.specs.Going.{Goes, HasEnded, Stands};
-ghost use Rattle.ccsl_judge.specs.Judged.{IsJudged};
+ghost use Rattle.ccsl_judge.specs.Judged.{IsJudged, HasItem};
 
 use crate::share::Share;
 use crate::shares::{check_rows, first_of, open_shares};
@@ -153,6 +153,7 @@ pub fn judge<R: Threads + Sync, W: World, G: Gate>(
     requires { 1 ≤ workers }
     ensures judged { IfOk result (λ verdict.
         IsJudged W.told system.now limits.now (W.state world.old) (W.state world.new) verdict) }
+    ensures item { IfOk result (HasItem system.now) }
     ensures unread { IfErr result (λ fault.
         IsUnread W.told (wanted_of system.now) limits.now (W.state world.old) (W.state world.new) fault) }
 {

@@ -5,7 +5,7 @@ ghost use Rattle.ccsl_base.specs.declared.rows.Row.{Row};
 ghost use Rattle.ccsl_kernel.specs.Syntax.{System, item_count};
 ghost use Rattle.ccsl_kernel.specs.Verdict.{verdict};
 ghost use Rattle.ccsl_relate.specs.Violations.{Finds};
-ghost use Rattle.ccsl_judge.specs.Judged.{plain};
+ghost use Rattle.ccsl_judge.specs.Judged.{plain, HasItem};
 
 use ccsl_kernel::laws::verdict_is_first;
 use ccsl_relate::Violation;
@@ -21,8 +21,9 @@ pub enum Verdict {
 
 /// The verdict on so many rows whose first violation among all items is given.
 pub(crate) fn verdict_on(first: Option<Violation>, rows: u64) -> Verdict
-    ensures { (K : System) (bound : List ℕ) (taken : List Row) → rows ≡ length taken →
+    ensures verdict { (K : System) (bound : List ℕ) (taken : List Row) → rows ≡ length taken →
         Finds K bound taken 0 (item_count K) first → plain result ≡ verdict K bound taken }
+    ensures item { (K : System) (bound : List ℕ) (taken : List Row) → Finds K bound taken 0 (item_count K) first → HasItem K result }
 {
     verdict_is_first();
     match first {
