@@ -7,7 +7,9 @@ use ccsl_edge::{CallKind, HeldFile, MemoryWorld, Slot};
 use ccsl_pool::{Gate, NoGate};
 use ccsl_top::run;
 use std::alloc::Global;
+use std::process::Abort;
 use std::test::*;
+use std::thread::Threads;
 
 /// What the program answered and reported.
 #[derive(Drop)]
@@ -50,13 +52,13 @@ pub(crate) fn words_of(alloc: Global, line: &str) -> Result<Vec<CommandWord>, Fa
 }
 
 /// The program's answer in a world, through a gate.
-pub(crate) fn answer_in<G: Gate>(
-    rt: &HostRuntime,
+pub(crate) fn answer_in<R: Threads + Sync, G: Gate>(
+    rt: &R,
+    alloc: Global,
     line: &str,
     world: &mut MemoryWorld,
     gate: &G,
 ) -> Result<Answer, Fail> {
-    let alloc = rt.alloc();
     let words = words_of(alloc, line)?;
     let status = run(rt, alloc, words.as_slice(), world, gate);
     let report = Vec::from_slice(alloc, world.written(Slot::Report))?;
@@ -67,8 +69,9 @@ pub(crate) fn answer_in<G: Gate>(
 }
 
 /// The program's answer over two files.
-pub(crate) fn answer(
-    rt: &HostRuntime,
+pub(crate) fn answer_over<R: Threads + Sync>(
+    rt: &R,
+    alloc: Global,
     line: &str,
     spec: &str,
     trace: &str,
@@ -76,9 +79,8 @@ pub(crate) fn answer(
 ) -> Result<Answer, Fail>
     requires { 1 ≤ piece }
 {
-    let alloc = rt.alloc();
     let mut world = world(alloc, spec, trace, Vec::new(alloc), piece)?;
-    answer_in(rt, line, &mut world, &NoGate)
+    answer_in(rt, alloc, line, &mut world, &NoGate)
 }
 
 /// A specification of version 1 with these lines in its system.
@@ -103,8 +105,9 @@ pub(crate) fn trace_of(alloc: Global, names: &str, body: &str) -> Result<String,
 }
 
 /// Asserts what `judge` reports of a trace, with one worker, two and sixteen, and with reads of one byte and of many.
-pub(crate) fn judges(
-    rt: &HostRuntime,
+pub(crate) fn judges<R: Threads + Sync + Abort>(
+    rt: &R,
+    alloc: Global,
     spec: &str,
     trace: &str,
     status: u8,
@@ -116,7 +119,7 @@ pub(crate) fn judges(
         "judge spec=s trace=t workers=16",
     ] {
         for piece in [1, 4096] {
-            let found = answer(rt, line, spec, trace, piece)?;
+            let found = answer_over(rt, alloc, line, spec, trace, piece)?;
             assert_eq!(rt; found.report.as_str(), report);
             assert_eq!(rt; found.status, status);
         }
@@ -125,22 +128,29 @@ pub(crate) fn judges(
 }
 
 /// The same of a system with these lines, and a trace of event variables.
-pub(crate) fn judges_events(
-    rt: &HostRuntime,
+pub(crate) fn judges_events<R: Threads + Sync + Abort>(
+    rt: &R,
+    alloc: Global,
     lines: &str,
     names: &str,
     body: &str,
     status: u8,
     report: &str,
 ) -> Result<(), Fail> {
-    let spec = spec_of(rt.alloc(), lines)?;
-    let trace = trace_of(rt.alloc(), names, body)?;
-    judges(rt, spec.as_str(), trace.as_str(), status, report)
+    let spec = spec_of(alloc, lines)?;
+    let trace = trace_of(alloc, names, body)?;
+    judges(rt, alloc, spec.as_str(), trace.as_str(), status, report)
 }
 
 /// Asserts what `check` reports of a text.
-pub(crate) fn checks(rt: &HostRuntime, text: &str, status: u8, report: &str) -> Result<(), Fail> {
-    let found = answer(rt, "check spec=s", text, "", 4096)?;
+pub(crate) fn checks<R: Threads + Sync + Abort>(
+    rt: &R,
+    alloc: Global,
+    text: &str,
+    status: u8,
+    report: &str,
+) -> Result<(), Fail> {
+    let found = answer_over(rt, alloc, "check spec=s", text, "", 4096)?;
     assert_eq!(rt; found.report.as_str(), report);
     assert_eq!(rt; found.status, status);
     Ok(())

@@ -7,12 +7,14 @@ use std::test::*;
 fn accepted_ones(rt: HostRuntime) -> Result<(), Fail> {
     checks(
         &rt,
+        rt.alloc(),
         "ccsl 1; system { clock a, b; a precedes b; }",
         0,
         "check: accepted, declared 2, defined 0, constraints 1, cells 2\n",
     )?;
     checks(
         &rt,
+        rt.alloc(),
         "ccsl 1; system { clock a, b; alternates(a, b); }",
         0,
         "check: accepted, declared 2, defined 1, constraints 2, cells 6\n",
@@ -52,7 +54,7 @@ fn names_and_arguments(rt: HostRuntime) -> Result<(), Fail> {
         ),
     ];
     for (text, report) in cases {
-        checks(&rt, text, 3, report)?;
+        checks(&rt, rt.alloc(), text, 3, report)?;
     }
     Ok(())
 }
@@ -61,12 +63,14 @@ fn names_and_arguments(rt: HostRuntime) -> Result<(), Fail> {
 fn a_parser_comes_before_the_elaborator(rt: HostRuntime) -> Result<(), Fail> {
     checks(
         &rt,
+        rt.alloc(),
         "ccsl 1; system { clock a; clock a; a precedes }",
         3,
         "spec: syntax at byte 46\n",
     )?;
     checks(
         &rt,
+        rt.alloc(),
         "ccsl 1; system { clock a; a precedes ; $ }",
         3,
         "spec: bad byte at byte 39\n",
@@ -89,7 +93,28 @@ fn more_clocks_than_there_may_be(rt: HostRuntime) -> Result<(), Fail> {
             text.push_str(format!(in alloc; ", c{i}")?.as_str())?;
         }
         text.push_str("; }")?;
-        checks(&rt, text.as_str(), status, report)?;
+        checks(&rt, rt.alloc(), text.as_str(), status, report)?;
     }
     Ok(())
+}
+
+#[test]
+fn more_cells_than_there_may_be(rt: HostRuntime) -> Result<(), Fail> {
+    let alloc = rt.alloc();
+    let mut nested = String::from_str(alloc, "a delayed 4096 on a")?;
+    for _ in 1..127 {
+        let inner = nested.as_str();
+        nested = format!(in alloc; "({inner}) delayed 4096 on a")?;
+    }
+    let e = nested.as_str();
+    let text = format!(in alloc;
+        "ccsl 1; system {{ clock a; define w = {e}; define x = {e}; define y = {e}; define z = {e}; }}"
+    )?;
+    checks(
+        &rt,
+        rt.alloc(),
+        text.as_str(),
+        3,
+        "spec: 34040 cells, at most 32768\n",
+    )
 }

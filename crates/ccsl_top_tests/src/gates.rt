@@ -35,7 +35,13 @@ fn two_workers_run_side_by_side(rt: HostRuntime) -> Result<(), Fail> {
         entered: [AtomicU64::new(0), AtomicU64::new(0)],
         gave_up: AtomicU64::new(0),
     };
-    let found = answer_in(&rt, "judge spec=s trace=t workers=2", &mut world, &gate)?;
+    let found = answer_in(
+        &rt,
+        rt.alloc(),
+        "judge spec=s trace=t workers=2",
+        &mut world,
+        &gate,
+    )?;
     assert_eq!(rt;
         (found.status, found.report.as_str()),
         (0, "run: yes, 2 steps\n")

@@ -5,13 +5,13 @@ use std::test::*;
 
 #[test]
 fn nothing_but_blanks(rt: HostRuntime) -> Result<(), Fail> {
-    checks(&rt, "", 3, "spec: syntax at byte 0\n")?;
+    checks(&rt, rt.alloc(), "", 3, "spec: syntax at byte 0\n")?;
     for (count, report) in [
         (1_048_576, "spec: syntax at byte 0\n"),
         (1_048_577, "spec: more than 1048576 bytes\n"),
     ] {
         let blanks = String::from_utf8(vec![in rt.alloc(); b' '; count]?)?;
-        checks(&rt, blanks.as_str(), 3, report)?;
+        checks(&rt, rt.alloc(), blanks.as_str(), 3, report)?;
     }
     Ok(())
 }
@@ -22,7 +22,13 @@ fn a_million_parentheses(rt: HostRuntime) -> Result<(), Fail> {
     let open = String::from_utf8(vec![in alloc; b'('; 1_000_000]?)?;
     let open = open.as_str();
     let text = format!(in alloc; "ccsl 1; system {{ define x = {open}")?;
-    checks(&rt, text.as_str(), 3, "spec: too deep at byte 156\n")
+    checks(
+        &rt,
+        rt.alloc(),
+        text.as_str(),
+        3,
+        "spec: too deep at byte 156\n",
+    )
 }
 
 #[test]
@@ -48,7 +54,7 @@ fn broken_texts(rt: HostRuntime) -> Result<(), Fail> {
         ),
     ];
     for (text, report) in cases {
-        checks(&rt, text, 3, report)?;
+        checks(&rt, rt.alloc(), text, 3, report)?;
     }
     Ok(())
 }

@@ -6,9 +6,18 @@ use std::test::*;
 #[test]
 fn a_relation_holds_or_fails(rt: HostRuntime) -> Result<(), Fail> {
     let lines = "clock a, b; a precedes b;";
-    judges_events(&rt, lines, "a b", "#0 1! #5 1\"", 0, "run: yes, 2 steps\n")?;
     judges_events(
         &rt,
+        rt.alloc(),
+        lines,
+        "a b",
+        "#0 1! #5 1\"",
+        0,
+        "run: yes, 2 steps\n",
+    )?;
+    judges_events(
+        &rt,
+        rt.alloc(),
         lines,
         "a b",
         "#0 1! #5 1\" #6 1\"",
@@ -17,19 +26,21 @@ fn a_relation_holds_or_fails(rt: HostRuntime) -> Result<(), Fail> {
     )?;
     judges_events(
         &rt,
+        rt.alloc(),
         lines,
         "a b",
         "#0 1! 1\"",
         1,
         "run: no, step 0, time 0, constraint 0\n",
     )?;
-    judges_events(&rt, lines, "a b", "", 0, "run: yes, 0 steps\n")
+    judges_events(&rt, rt.alloc(), lines, "a b", "", 0, "run: yes, 0 steps\n")
 }
 
 #[test]
 fn the_first_step_and_the_first_item_are_told(rt: HostRuntime) -> Result<(), Fail> {
     judges_events(
         &rt,
+        rt.alloc(),
         "clock a, b; a precedes b; a precedes b;",
         "a b",
         "#0 1! #5 1\" #6 1\" #7 1! #8 1\"",
@@ -38,6 +49,7 @@ fn the_first_step_and_the_first_item_are_told(rt: HostRuntime) -> Result<(), Fai
     )?;
     judges_events(
         &rt,
+        rt.alloc(),
         "clock a, b; a excludes b; b precedes a; b subclock a;",
         "a b",
         "#3 1\" #4 1! 1\"",
@@ -50,6 +62,7 @@ fn the_first_step_and_the_first_item_are_told(rt: HostRuntime) -> Result<(), Fai
 fn together_is_weakly_before(rt: HostRuntime) -> Result<(), Fail> {
     judges_events(
         &rt,
+        rt.alloc(),
         "clock a, b; a precedes weakly b;",
         "a b",
         "#0 1! 1\"",
@@ -63,6 +76,7 @@ fn a_recorded_definition_is_judged(rt: HostRuntime) -> Result<(), Fail> {
     let lines = "clock a, b; define y = (a await 2) then (b await 1);";
     judges_events(
         &rt,
+        rt.alloc(),
         lines,
         "a b y",
         "#0 1! #1 1! 1\" 1# #2 1\" 1#",
@@ -71,6 +85,7 @@ fn a_recorded_definition_is_judged(rt: HostRuntime) -> Result<(), Fail> {
     )?;
     judges_events(
         &rt,
+        rt.alloc(),
         lines,
         "a b y",
         "#0 1! #1 1! 1\" 1# #2 1\"",
@@ -84,6 +99,7 @@ fn what_is_dead_at_birth_lives_a_step(rt: HostRuntime) -> Result<(), Fail> {
     let lines = "clock a, b; define y = (a await 0) then b;";
     judges_events(
         &rt,
+        rt.alloc(),
         lines,
         "a b y",
         "#0 1\" #1 1\" 1#",
@@ -92,6 +108,7 @@ fn what_is_dead_at_birth_lives_a_step(rt: HostRuntime) -> Result<(), Fail> {
     )?;
     judges_events(
         &rt,
+        rt.alloc(),
         lines,
         "a b y",
         "#0 1\" 1# #1 1\" 1#",
@@ -104,6 +121,7 @@ fn what_is_dead_at_birth_lives_a_step(rt: HostRuntime) -> Result<(), Fail> {
 fn a_supremum_dies_with_an_operand(rt: HostRuntime) -> Result<(), Fail> {
     judges_events(
         &rt,
+        rt.alloc(),
         "clock a, b, c; define x = (a await 1) sup b; define y = x then c;",
         "a b c x y",
         "#0 1! #1 1\" 1$ 1% #2 1# 1%",
@@ -116,6 +134,7 @@ fn a_supremum_dies_with_an_operand(rt: HostRuntime) -> Result<(), Fail> {
 fn a_constraint_of_a_relation_is_told_by_its_path(rt: HostRuntime) -> Result<(), Fail> {
     judges_events(
         &rt,
+        rt.alloc(),
         "clock a, b; alternates(a, b);",
         "a b",
         "#0 1! #1 1!",
@@ -128,6 +147,7 @@ fn a_constraint_of_a_relation_is_told_by_its_path(rt: HostRuntime) -> Result<(),
 fn forms_of_version_two(rt: HostRuntime) -> Result<(), Fail> {
     judges(
         &rt,
+        rt.alloc(),
         "ccsl 2; system { clock a, b; a precedes within 1 b; }",
         "$var event 1 ! a $end $var event 1 \" b $end $enddefinitions $end #0 1! #1 1! 1\" #2 1!",
         1,
@@ -137,6 +157,7 @@ fn forms_of_version_two(rt: HostRuntime) -> Result<(), Fail> {
         "$var event 1 ! a $end $var event 1 \" k $end $var event 1 # x $end $enddefinitions $end\n#0 1! 1# #1 1! 1\" 1# #2 1!";
     judges(
         &rt,
+        rt.alloc(),
         "ccsl 2; system { clock a, k; define x = a upto weakly k; }",
         trace,
         0,
@@ -144,6 +165,7 @@ fn forms_of_version_two(rt: HostRuntime) -> Result<(), Fail> {
     )?;
     judges(
         &rt,
+        rt.alloc(),
         "ccsl 2; system { clock a, k; define x = a upto k; }",
         trace,
         1,
@@ -155,6 +177,7 @@ fn forms_of_version_two(rt: HostRuntime) -> Result<(), Fail> {
 fn a_net_ticks_where_it_has_risen(rt: HostRuntime) -> Result<(), Fail> {
     judges(
         &rt,
+        rt.alloc(),
         "ccsl 1; system { clock a; }",
         "$var wire 1 ! a $end $enddefinitions $end #0 1! #1 0! #2 1! #3 0! 1! 0!",
         0,
@@ -167,6 +190,7 @@ fn the_outer_of_two_scopes_is_bound(rt: HostRuntime) -> Result<(), Fail> {
     let spec = "ccsl 1; system { clock clk; }";
     judges(
         &rt,
+        rt.alloc(),
         spec,
         "$scope module m $end $var wire 1 ! clk $end $scope module n $end $var wire 1 ! clk $end $upscope $end $upscope $end $enddefinitions $end #0 0! #5 1!",
         0,
@@ -174,6 +198,7 @@ fn the_outer_of_two_scopes_is_bound(rt: HostRuntime) -> Result<(), Fail> {
     )?;
     judges(
         &rt,
+        rt.alloc(),
         spec,
         "$scope module m $end $var wire 1 ! clk $end $scope module n $end $var wire 1 \" clk $end $upscope $end $upscope $end $enddefinitions $end #0 0! #5 1! #7 1\"",
         0,
@@ -181,6 +206,7 @@ fn the_outer_of_two_scopes_is_bound(rt: HostRuntime) -> Result<(), Fail> {
     )?;
     judges(
         &rt,
+        rt.alloc(),
         spec,
         "$scope module m $end $var wire 1 ! clk $end $upscope $end $scope module n $end $var wire 1 \" clk $end $upscope $end $enddefinitions $end #0 0! #5 1!",
         4,
@@ -192,6 +218,7 @@ fn the_outer_of_two_scopes_is_bound(rt: HostRuntime) -> Result<(), Fail> {
 fn a_trace_of_a_simulator(rt: HostRuntime) -> Result<(), Fail> {
     judges(
         &rt,
+        rt.alloc(),
         "ccsl 1; system { clock req, ack; alternates(req, ack); }",
         "$timescale 1 ns $end
 $scope module top $end

@@ -1,6 +1,6 @@
 //! Words that are refused, in a world whose files are not even looked at.
 
-use crate::answered::answer;
+use crate::answered::answer_over;
 use std::test::*;
 
 #[test]
@@ -22,7 +22,7 @@ fn refused_words(rt: HostRuntime) -> Result<(), Fail> {
         ("check spec", "words: word 1 is no pair\n"),
     ];
     for (line, report) in cases {
-        let found = answer(&rt, line, "", "", 1)?;
+        let found = answer_over(&rt, rt.alloc(), line, "", "", 1)?;
         assert_eq!(rt; found.report.as_str(), report);
         assert_eq!(rt; found.status, 2);
     }
