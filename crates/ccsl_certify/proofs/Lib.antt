@@ -1,0 +1,5 @@
+pub mod Declared
+pub mod Following
+pub mod Taking
+pub mod Verdicts
+pub mod Deadlocks

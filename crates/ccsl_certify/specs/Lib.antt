@@ -1,0 +1,4 @@
+pub mod Causes
+pub mod Replaying
+pub mod Certified
+pub mod Laws

@@ -1,0 +1,10 @@
+//! What a certificate is worth. The function does nothing; its contract is the law.
+
+ghost use Rattle.ccsl_kernel.specs.Syntax.{System};
+ghost use Rattle.ccsl_kernel.specs.Accepted.{IsAccepted};
+ghost use Rattle.ccsl_certify.specs.Laws.{YesIsDeadlock};
+
+/// Where the answer is yes, the trace is a run of so many steps, and no set is admissible after it.
+pub fn yes_is_deadlock()
+    ensures { (K : System) → IsAccepted K → YesIsDeadlock K }
+{}
