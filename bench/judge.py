@@ -61,9 +61,11 @@ def compare(name, trace, spec, folder, workers):
     for _ in range(3):
         own.append(ran([PROGRAM, "judge", f"spec={spec}", f"trace={trace}", f"workers={workers}"]))
         other.append(ran(["vcd2fst", trace, f"{folder}/out.fst"]))
-    mine, theirs = min(own), min(other)
-    print(f"{name}, {os.path.getsize(trace) / 1e6:.0f} MB, workers {workers}: {mine[0]:.2f} s, {mine[2]:.1f} MB at most; "
-          f"vcd2fst {theirs[0]:.2f} s: {theirs[0] / mine[0]:.1f} times as fast ({mine[3]})")
+    clock, theirs = min(run[0] for run in own), min(run[0] for run in other)
+    busy, others = min(run[1] for run in own), min(run[1] for run in other)
+    print(f"{name}, {os.path.getsize(trace) / 1e6:.0f} MB, workers {workers}: {clock:.2f} s by the clock, {busy:.2f} s of the processor, "
+          f"{own[0][2]:.1f} MB at most; vcd2fst {theirs:.2f} and {others:.2f} s: "
+          f"{theirs / clock:.1f} and {others / busy:.1f} times as fast ({own[0][3]})")
 
 
 def main():
