@@ -92,6 +92,40 @@ fn all_rows<W: World>(
     }
 }
 
+// The rows of the trace in a world, or why it was not read.
+fn rows_in(
+    alloc: Global,
+    system: &System,
+    world: &mut MemoryWorld,
+    limits: &Limits,
+) -> Result<Result<Vec<Row>, TraceFault>, Memory> {
+    let mut feed = Feed::open(alloc, system, limits)?;
+    all_rows(alloc, &mut feed, world)
+}
+
+fn rows_of(
+    alloc: Global,
+    system: &System,
+    text: &str,
+    limits: &Limits,
+    piece: usize,
+) -> Result<Result<Vec<Row>, TraceFault>, Fail>
+    requires { 1 ≤ piece }
+{
+    let mut world = world(alloc, text, piece)?;
+    Ok(rows_in(alloc, system, &mut world, limits)?)
+}
+
+fn listed(
+    alloc: Global,
+    rows: Result<Vec<Row>, TraceFault>,
+) -> Result<Result<String, TraceFault>, Fail> {
+    match rows {
+        Ok(rows) => Ok(Ok(lines(alloc, rows.as_slice())?)),
+        Err(fault) => Ok(Err(fault)),
+    }
+}
+
 // The rows of a text, or why it was not read.
 fn read(
     alloc: Global,
@@ -103,12 +137,8 @@ fn read(
     requires { 1 ≤ piece }
 {
     let system = system(alloc, clocks)?;
-    let mut world = world(alloc, text, piece)?;
-    let mut feed = Feed::open(alloc, &system, limits)?;
-    match all_rows(alloc, &mut feed, &mut world)? {
-        Ok(rows) => Ok(Ok(lines(alloc, rows.as_slice())?)),
-        Err(fault) => Ok(Err(fault)),
-    }
+    let rows = rows_of(alloc, &system, text, limits, piece)?;
+    listed(alloc, rows)
 }
 
 /// The text has these rows, whatever the pieces that it is read in.
