@@ -87,6 +87,18 @@ fn an_unbound_clock(rt: HostRuntime) -> Result<(), Fail> {
 }
 
 #[test]
+fn the_last_token_is_cut(rt: HostRuntime) -> Result<(), Fail> {
+    judges(
+        &rt,
+        rt.alloc(),
+        "ccsl 1; system { clock a, b; a precedes b; }",
+        "$var event 1 ! a $end\n$var event 1 \" b $end\n$enddefinitions $end\n#0\n1!\n#7\nb1",
+        4,
+        "trace: truncated at byte 76\n",
+    )
+}
+
+#[test]
 fn no_header(rt: HostRuntime) -> Result<(), Fail> {
     let spec = "ccsl 1; system { clock a, b; a precedes b; }";
     judges(&rt, rt.alloc(), spec, "", 4, "trace: truncated at byte 0\n")?;
