@@ -10,6 +10,3 @@ pub mod reply;
 mod specification;
 
 pub use program::run;
-
-#[cfg(test)]
-mod tests;
