@@ -1,0 +1,5 @@
+mod NewNames
+mod Pieces
+mod Accepted
+mod Alternating
+mod GoingOn

@@ -1,0 +1,40 @@
+-- What stands at which place of a chain.
+use Rattle.std.proofs.Common.{◌≡◌, ℕ, zero, suc, ◌+◌, ◌*◌, ◌<◌, List, [], ◌∷◌, map, length, sum, flat_map, Some, slice_get, refl, ap, ◌∙◌, arith}
+use Rattle.std.specs.List.{range_with_len}
+use Rattle.std.proofs.lemmas.List.Sums.{sum_by-cons}
+use Rattle.ccsl_kernel.specs.Cells.{cells_in}
+use Rattle.ccsl_chain.specs.Chain.{all_but_first}
+
+-- a list of two for each number
+module _ {X : Type 0} (f g : ℕ → X) where
+  abbrev pub two_each : ℕ → ℕ → List X
+  two_each a m = flat_map (λ i. f i ∷ g i ∷ []) (range_with_len a m)
+
+  pub length-two_each : (a m : ℕ) → length (two_each a m) ≡ 2 * m
+  length-two_each a zero = refl
+  length-two_each a (suc m) = omega (arith, length-two_each (a + 1) m)
+
+  pub first-two_each : (a m k i : ℕ) → k < m → a + k ≡ i → slice_get (two_each a m) (2 * k) ≡ Some (f i)
+  first-two_each a zero k i l e = absurd (omega arith)
+  first-two_each a (suc m) zero i l e = ap (λ j. Some (f j)) (let s : a ≡ i = omega arith in s)
+  first-two_each a (suc m) (suc k) i l e =
+      ap (slice_get (two_each a (suc m))) (let s : 2 * suc k ≡ suc (suc (2 * k)) = omega arith in s) ∙ first-two_each (a + 1) m k i (omega arith) (omega arith)
+
+  pub second-two_each : (a m k i : ℕ) → k < m → a + k ≡ i → slice_get (two_each a m) (2 * k + 1) ≡ Some (g i)
+  second-two_each a zero k i l e = absurd (omega arith)
+  second-two_each a (suc m) zero i l e = ap (λ j. Some (g j)) (let s : a ≡ i = omega arith in s)
+  second-two_each a (suc m) (suc k) i l e =
+      ap (slice_get (two_each a (suc m))) (let s : 2 * suc k + 1 ≡ suc (suc (2 * k + 1)) = omega arith in s) ∙ second-two_each (a + 1) m k i (omega arith) (omega arith)
+
+-- one for each number
+pub slice_get-range : {X : Type 0} (f : ℕ → X) (a m k i : ℕ) → k < m → a + k ≡ i → slice_get (map f (range_with_len a m)) k ≡ Some (f i)
+slice_get-range f a zero k i l e = absurd (omega arith)
+slice_get-range f a (suc m) zero i l e = ap (λ j. Some (f j)) (let s : a ≡ i = omega arith in s)
+slice_get-range f a (suc m) (suc k) i l e = slice_get-range f (a + 1) m k i (omega arith) (omega arith)
+
+-- two cells for each definition
+pub cells-definitions : (earlier : List ℕ) (a m : ℕ) → sum (map (cells_in earlier) (map all_but_first (range_with_len a m))) ≡ 2 * m
+cells-definitions earlier a zero = refl
+cells-definitions earlier a (suc m) =
+    let rest = map (cells_in earlier) (map all_but_first (range_with_len (a + 1) m)) in
+    omega (arith, cells-definitions earlier (a + 1) m, sum_by-cons (λ (x : ℕ). x) 2 rest)
