@@ -1,5 +1,5 @@
 -- A chain is an accepted system.
-use Rattle.std.proofs.Common.{◌≡◌, ℕ, zero, suc, ◌+◌, ◌-◌, ◌*◌, ◌<◌, ◌≤◌, List, [], ◌∷◌, ◌++◌, map, flat_map, length, length-append, get_or, Bool, true, false, ◌&&◌, nat_lt, lt-ltb, le-ltb, refl, sym, ap, ◌∙◌, subst, ⊎_elim, arith, inl, inr, if◌then◌else◌}
+use Rattle.std.proofs.Common.{◌≡◌, ℕ, zero, suc, ◌+◌, ◌-◌, ◌*◌, ◌<◌, ◌≤◌, List, [], ◌∷◌, ◌++◌, map, flat_map, length, length-append, get_or, Bool, true, false, ◌&&◌, nat_lt, lt-ltb, le-ltb, refl, sym, ap, ◌∙◌, subst, ⊎_elim, arith, inr, Option, Some, None, if◌then◌else◌}
 use Rattle.std.specs.Prelude.{All, IsTrue, codes, decimal}
 use Rattle.std.specs.Fmt.{digits}
 use Rattle.std.specs.List.{range_with_len, list_all}
@@ -12,13 +12,13 @@ use Rattle.ccsl_base.specs.Name.{is_name}
 use Rattle.ccsl_base.specs.declared.limits.TheConstants.{MAX_CONSTRAINTS, MAX_CELLS, MAX_CALL_LEVELS}
 use Rattle.ccsl_command.specs.declared.TheConstants.{MAX_TRIAL_CLOCKS}
 use Rattle.ccsl_kernel.specs.declared.constraint.Constraint.{Constraint}
-use Rattle.ccsl_kernel.specs.Syntax.{System, Body, Expression}
+use Rattle.ccsl_kernel.specs.Syntax.{System, Body, ENever, body_of}
 use Rattle.ccsl_kernel.specs.Cells.{cells, groups_cells}
 use Rattle.ccsl_kernel.specs.Accepted.{IsBody, IsDefinition, IsConstraint, Each, IsAccepted, is_hidden, group_levels}
 use Rattle.ccsl_kernel.proofs.EachOne.{each_zero_from, each_made_from}
 use Rattle.ccsl_accepts.proofs.HiddenNames.{decimal-seen, seen-append, hidden-is}
 use Rattle.ccsl_library.specs.Members.{library_groups}
-use Rattle.ccsl_chain.specs.Chain.{clock_name, hidden_name, all_but_first, alternation, chain}
+use Rattle.ccsl_chain.specs.Chain.{clock_name, hidden_name, all_but_first, precedes, alternation, chain}
 use Rattle.ccsl_chain.proofs.Pieces.{length-two_each, cells-definitions}
 
 -- ## Names
@@ -74,50 +74,75 @@ name-at n few k d l = ⊎_elim declared hidden (cases_lt k n)
 
 -- ## Groups
 
-bodies : (n : ℕ) → Each (λ g members. All (IsBody (chain n) g) members) 0 library_groups
-unfolding chain
-bodies n = (
-  All-cons _ _ _ (record {
-    few = omega arith;
-    calls = (tt, inr (refl, refl));
-    known = ((refl, (refl, tt)), (_, refl, (refl, (refl, tt), tt)));
-    shallow = omega arith;
-  }) (All-nil _),
-  All-cons _ _ _ (record {
-    few = omega arith;
-    calls = (tt, ((tt, tt), tt));
-    known = (((refl, tt), (tt, tt)), refl, ((tt, (refl, (refl, tt))), refl));
-    shallow = omega arith;
-  }) (All-nil _),
-  All-cons _ _ _ (record {
-    few = omega arith;
-    calls = (tt, ((tt, inr (refl, refl)), ((tt, tt), inr (refl, refl))));
-    known = (refl, tt, (refl, ((refl, (tt, tt)), (_, refl, (refl, refl, tt))), ((tt, refl), (_, refl, (refl, refl, tt)))));
-    shallow = omega arith;
-  }) (All-nil _),
-  tt,
-)
+-- the member of each group
+abbrev slice_body : ℕ → Body
+slice_body g = body_or (body_of library_groups g 0)
+  where
+    body_or : Option Body → Body
+    body_or None = record { params = []; root = ENever }
+    body_or (Some b) = b
 
-levels : All (λ n. n ≤ MAX_CALL_LEVELS) (group_levels [] library_groups)
-levels = All-cons _ 1 (1 ∷ 1 ∷ []) (omega arith) (All-cons _ 1 (1 ∷ []) (omega arith) (All-cons _ 1 [] (omega arith) (All-nil _)))
+only : (K : System) (g : ℕ) (b : Body) → IsBody K g b → All (IsBody K g) (b ∷ [])
+only K g b h = All-cons (IsBody K g) b [] h (All-nil (IsBody K g))
+
+periodic_body : (n : ℕ) → IsBody (chain n) 0 (slice_body 0)
+unfolding chain
+periodic_body n = record {
+  few = omega arith;
+  calls = (tt, inr (refl, refl));
+  known = ((refl, (refl, tt)), (_, refl, (refl, ((refl, tt), tt))));
+  shallow = omega arith;
+}
+
+skip_body : (n : ℕ) → IsBody (chain n) 1 (slice_body 1)
+unfolding chain
+skip_body n = record {
+  few = omega arith;
+  calls = (tt, ((tt, tt), tt));
+  known = (((refl, tt), (tt, tt)), refl, ((tt, (refl, (refl, tt))), refl));
+  shallow = omega arith;
+}
+
+filter_by_body : (n : ℕ) → IsBody (chain n) 2 (slice_body 2)
+unfolding chain
+filter_by_body n = record {
+  few = omega arith;
+  calls = (tt, ((tt, inr (refl, refl)), ((tt, tt), inr (refl, refl))));
+  known = (refl, tt, (refl, ((refl, (tt, tt)), (_, refl, (refl, (refl, tt)))), ((tt, refl), (_, refl, (refl, (refl, tt))))));
+  shallow = omega arith;
+}
+
+bodies : (n : ℕ) → Each (λ g members. All (IsBody (chain n) g) members) 0 library_groups
+bodies n = (only (chain n) 0 (slice_body 0) (periodic_body n), (only (chain n) 1 (slice_body 1) (skip_body n), (only (chain n) 2 (slice_body 2) (filter_by_body n), tt)))
+
+abbrev IsLow : ℕ → Type 0
+IsLow n = n ≤ MAX_CALL_LEVELS
+
+levels : All IsLow (group_levels [] library_groups)
+levels = All-cons IsLow 1 (1 ∷ 1 ∷ []) (omega arith) (All-cons IsLow 1 (1 ∷ []) (omega arith) (All-cons IsLow 1 [] (omega arith) (All-nil IsLow)))
 
 -- ## Definitions and constraints
 
 definitions : (n : ℕ) → Each (IsDefinition (chain n)) n (map all_but_first (range_with_len 0 (n - 1)))
 unfolding chain
-definitions n = each 0 (n - 1) n (omega arith)
+definitions n = each 0 (n - 1) n (omega arith) (omega arith)
   where
-    each : (a m x : ℕ) → a < x → Each (IsDefinition (chain n)) x (map all_but_first (range_with_len a m))
-    unfolding chain
-    each a zero x l = tt
-    each a (suc m) x l = (record { calls = tt; known = (l, (tt, tt)); shallow = omega arith }, each (a + 1) m (suc x) (omega arith))
+    each : (a m x : ℕ) → a + m ≤ n - 1 → n + a ≤ x → Each (IsDefinition (chain n)) x (map all_but_first (range_with_len a m))
+    each a zero x l u = tt
+    each a (suc m) x l u = (record { calls = tt; known = (omega arith, (tt, tt)); shallow = omega arith }, each (a + 1) m (suc x) (omega arith) (omega arith))
 
 constraints : (n : ℕ) → All (IsConstraint (n + (n - 1))) (flat_map (alternation n) (range_with_len 0 (n - 1)))
 constraints n = each 0 (n - 1) (omega arith)
   where
-    each : (a m : ℕ) → a + m ≤ n - 1 → All (IsConstraint (n + (n - 1))) (flat_map (alternation n) (range_with_len a m))
-    each a zero l = All-nil _
-    each a (suc m) l = All-cons _ _ _ (omega arith, omega arith, tt) (All-cons _ _ _ (omega arith, omega arith, tt) (each (a + 1) m (omega arith)))
+    Named : Constraint → Type 0
+    Named = IsConstraint (n + (n - 1))
+
+    each : (a m : ℕ) → a + m ≤ n - 1 → All Named (flat_map (alternation n) (range_with_len a m))
+    each a zero l = All-nil Named
+    each a (suc m) l =
+        let rest = flat_map (alternation n) (range_with_len (a + 1) m) in
+        let behind : All Named (precedes a (a + 1) (n + a) ∷ rest) = All-cons Named (precedes a (a + 1) (n + a)) rest (omega arith, omega arith, tt) (each (a + 1) m (omega arith)) in
+        All-cons Named (precedes a a (a + 1)) (precedes a (a + 1) (n + a) ∷ rest) (omega arith, omega arith, tt) behind
 
 length-constraints : (n : ℕ) → length (flat_map (alternation n) (range_with_len 0 (n - 1))) ≡ 2 * (n - 1)
 length-constraints n = length-two_each _ _ 0 (n - 1)
