@@ -3,3 +3,4 @@ mod Pieces
 mod Accepted
 mod Alternating
 mod GoingOn
+mod Whole

@@ -4,7 +4,7 @@ ghost use Rattle.std.specs.Prelude.{◌≡◌, ◌+◌, ◌-◌, ◌<◌, ◌≤
 ghost use Rattle.std.specs.List.{range_with_len};
 ghost use Rattle.ccsl_command.specs.declared.TheConstants.{MAX_TRIAL_CLOCKS};
 ghost use Rattle.ccsl_kernel.specs.Plain.{plain_expr};
-ghost use Rattle.ccsl_chain.specs.Chain.{all_but_first, alternation};
+ghost use Rattle.ccsl_chain.specs.Chain.{all_but_first, precedes, alternation};
 
 use crate::naming::call_path;
 use ccsl_base::{Memory, Seq, Text};
@@ -34,6 +34,18 @@ pub fn definitions(alloc: Global, calls: u32) -> Result<Vec<Expr>, Memory>
     Ok(out)
 }
 
+fn precedes(alloc: Global, call: u32, left: u32, right: u32) -> Result<Constraint, Memory>
+    requires { call < MAX_TRIAL_CLOCKS }
+    ensures { IfOk result (λ constraint. constraint ≡ precedes call left right) }
+{
+    Ok(Constraint {
+        kind: RelationKind::Precedes,
+        left,
+        right,
+        label: Text::new(call_path(alloc, call)?),
+    })
+}
+
 // Adds what call number `i` says of its clocks.
 fn add_alternation(
     alloc: Global,
@@ -45,18 +57,8 @@ fn add_alternation(
     requires call { i < clocks }
     ensures { OnOk result (out.new.items ≡ out.old.items ++ alternation clocks i) }
 {
-    out.push(Constraint {
-        kind: RelationKind::Precedes,
-        left: i,
-        right: i + 1,
-        label: Text::new(call_path(alloc, i)?),
-    })?;
-    out.push(Constraint {
-        kind: RelationKind::Precedes,
-        left: i + 1,
-        right: clocks + i,
-        label: Text::new(call_path(alloc, i)?),
-    })?;
+    out.push(precedes(alloc, i, i, i + 1)?)?;
+    out.push(precedes(alloc, i, i + 1, clocks + i)?)?;
     Ok(())
 }
 
