@@ -4,3 +4,4 @@ mod Accepted
 mod Alternating
 mod GoingOn
 mod Whole
+mod LibraryAlone
