@@ -4,4 +4,5 @@ mod Accepted
 mod Alternating
 mod GoingOn
 mod Whole
+mod Expanded
 mod LibraryAlone

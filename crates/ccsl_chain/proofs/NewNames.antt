@@ -11,7 +11,7 @@ use Rattle.std.proofs.lemmas.Fmt.{decimal_injective}
 use Rattle.ccsl_base.specs.Names.{is_among, IsAdded}
 use Rattle.ccsl_chain.specs.Chain.{clock_name, call_path, hidden_name}
 
-other : (a b : List ℕ) → (a ≡ b → ⊥) → bytes_eq a b ≡ false
+pub other : (a b : List ℕ) → (a ≡ b → ⊥) → bytes_eq a b ≡ false
 other a b f = false_from_ne_true (bytes_eq a b) (λ e. f ((bytes_eq-Decides a b).0 e))
 
 -- a text that f makes of none of the numbers is not among those that it makes
@@ -19,10 +19,10 @@ not_among : (f : ℕ → List ℕ) (x : List ℕ) (a k : ℕ) → ((j : ℕ) →
 not_among f x a zero h = refl
 not_among f x a (suc k) h = ap₂ ◌||◌ (other x (f a) (h a (omega arith) (omega arith))) (not_among f x (a + 1) k (λ j l u. h j (omega arith) (omega arith)))
 
-same_clock : (i j : ℕ) → i < 2 ^ 64 → j < 2 ^ 64 → clock_name i ≡ clock_name j → i ≡ j
+pub same_clock : (i j : ℕ) → i < 2 ^ 64 → j < 2 ^ 64 → clock_name i ≡ clock_name j → i ≡ j
 same_clock i j l m e = decimal_injective i j l m (append_cancel_left (codes "c") (decimal i) (decimal j) e)
 
-same_hidden : (i j : ℕ) → i + 1 < 2 ^ 64 → j + 1 < 2 ^ 64 → hidden_name i ≡ hidden_name j → i ≡ j
+pub same_hidden : (i j : ℕ) → i + 1 < 2 ^ 64 → j + 1 < 2 ^ 64 → hidden_name i ≡ hidden_name j → i ≡ j
 same_hidden i j l m e =
     let path = append_cancel_right (call_path i) (call_path j) (codes ".next") e in
     let place = decimal_injective (i + 1) (j + 1) l m (append_cancel_left (codes "alternates@") (decimal (i + 1)) (decimal (j + 1)) path) in

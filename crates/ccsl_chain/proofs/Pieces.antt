@@ -1,5 +1,5 @@
 -- What stands at which place of a chain.
-use Rattle.std.proofs.Common.{◌≡◌, ℕ, zero, suc, ◌+◌, ◌*◌, ◌<◌, List, [], ◌∷◌, ◌++◌, append-nil, zero-add, map, length, sum, flat_map, Some, slice_get, refl, sym, ap, ap₂, ◌∙◌, arith}
+use Rattle.std.proofs.Common.{◌≡◌, ℕ, zero, suc, ◌+◌, ◌*◌, ◌<◌, List, [], ◌∷◌, ◌++◌, append-nil, append_assoc, zero-add, map, length, sum, flat_map, Some, slice_get, refl, sym, ap, ap₂, ◌∙◌, arith}
 use Rattle.std.specs.List.{range_with_len}
 use Rattle.std.proofs.lemmas.List.{map_push}
 use Rattle.std.proofs.lemmas.List.Concat.{flat_map-append}
@@ -54,6 +54,10 @@ some_more {X} f old new i e is =
     is ∙ ap₂ (λ (xs ys : List X). xs ++ ys) e (sym (append-nil (f i)))
     ∙ sym (flat_map-append f (range_with_len 0 i) (i ∷ []))
     ∙ ap (flat_map f) (sym (range-more 0 i i (zero-add i)))
+
+pub two_more : {X : Type 0} (old between new : List X) (x y a b : X) → between ≡ old ++ x ∷ [] → x ≡ a → new ≡ between ++ y ∷ [] → y ≡ b → new ≡ old ++ (a ∷ b ∷ [])
+two_more {X} old between new x y a b is e is' e' =
+    is' ∙ ap₂ (λ (xs : List X) (z : X). xs ++ z ∷ []) (is ∙ ap (λ z. old ++ z ∷ []) e) e' ∙ append_assoc old (a ∷ []) (b ∷ [])
 
 -- two cells for each definition
 pub cells-definitions : (earlier : List ℕ) (a m : ℕ) → sum (map (cells_in earlier) (map all_but_first (range_with_len a m))) ≡ 2 * m

@@ -7,7 +7,10 @@ use Rattle.ccsl_kernel.specs.Runs.{IsAdmissible}
 use Rattle.ccsl_items.specs.Laws.{IsNamedRun}
 use Rattle.ccsl_policy.specs.declared.policies.Policy.{Policy}
 use Rattle.ccsl_simulate.specs.Simulation.{simulation}
+use Rattle.ccsl_rules.specs.Expansion.{expand}
+use Rattle.ccsl_library.specs.Library.{the_library}
 use Rattle.ccsl_chain.specs.Chain.{chain}
+use Rattle.ccsl_chain.specs.Text.{chain_file}
 
 -- CHAINS ARE ACCEPTED
 abbrev pub ChainsAreAccepted : Type 0
@@ -21,3 +24,7 @@ ChainsGoOn = (n : ℕ) → 0 < n → n ≤ MAX_TRIAL_CLOCKS → (T : List Step) 
 abbrev pub SimulatedChainsAreFull : Type 0
 SimulatedChainsAreFull = (n : ℕ) → 0 < n → n ≤ MAX_TRIAL_CLOCKS → (policy : Policy) (seed steps : ℕ) →
     length (simulation (chain n) policy seed steps) ≡ steps
+
+-- A CHAIN IS WHAT ITS TEXT EXPANDS TO behind the library
+abbrev pub ChainsAreExpanded : Type 0
+ChainsAreExpanded = (n : ℕ) → n ≤ MAX_TRIAL_CLOCKS → (place : ℕ → ℕ → ℕ) → expand the_library (chain_file place n) ≡ chain n

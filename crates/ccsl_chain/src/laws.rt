@@ -1,9 +1,14 @@
 //! What chains are worth. Each function does nothing; its contract is the law.
 
-ghost use Rattle.ccsl_chain.specs.Laws.{ChainsAreAccepted, ChainsGoOn, SimulatedChainsAreFull};
+ghost use Rattle.ccsl_chain.specs.Laws.{ChainsAreExpanded, ChainsAreAccepted, ChainsGoOn, SimulatedChainsAreFull};
 
 use ccsl_kernel::laws::admissible_sets_extend;
 use ccsl_simulate::laws::{early_ends_are_deadlocks, simulation_is_one, simulations_run};
+
+/// A chain is what its text expands to behind the library.
+pub fn chains_are_expanded()
+    ensures { ChainsAreExpanded }
+{}
 
 /// A chain of at most 512 clocks is an accepted system.
 pub fn chains_are_accepted()
