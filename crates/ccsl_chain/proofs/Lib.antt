@@ -5,4 +5,5 @@ mod Alternating
 mod GoingOn
 mod Whole
 mod Expanded
+mod Faultless
 mod LibraryAlone
