@@ -1,21 +1,21 @@
 -- A chain is an accepted system.
-use Rattle.std.proofs.Common.{◌≡◌, ℕ, zero, suc, ◌+◌, ◌-◌, ◌*◌, ◌<◌, ◌≤◌, List, [], ◌∷◌, ◌++◌, map, flat_map, length, length-append, get_or, Bool, true, false, ◌&&◌, nat_lt, lt-ltb, le-ltb, refl, sym, ap, ◌∙◌, subst, ⊎_elim, arith, inr, Option, Some, None, if◌then◌else◌}
+use Rattle.std.proofs.Common.{◌≡◌, ℕ, zero, suc, ◌+◌, ◌-◌, ◌*◌, ◌<◌, ◌≤◌, List, [], ◌∷◌, ◌++◌, map, flat_map, length, length-append, get_or, Bool, true, nat_lt, lt-ltb, le-ltb, refl, sym, ap, ◌∙◌, subst, ⊎_elim, arith, inr, Option, Some, None, if◌then◌else◌}
 use Rattle.std.specs.Prelude.{All, IsTrue, codes, decimal}
 use Rattle.std.specs.Fmt.{digits}
 use Rattle.std.specs.List.{range_with_len, list_all}
 use Rattle.std.proofs.Math.ListN.{get_or-append}
 use Rattle.std.proofs.lemmas.Bool.{and_parts, cases_lt, cases_eq, cond-true, cond-false}
-use Rattle.std.proofs.lemmas.List.{get_or-append_right, get_or-map}
+use Rattle.std.proofs.lemmas.List.{get_or-append_right}
 use Rattle.std.proofs.lemmas.List.Elements.{All-nil, All-cons}
 use Rattle.std.proofs.lemmas.List.FromFn.{length-map-range_with_len, get_or-map-range_with_len}
 use Rattle.ccsl_base.specs.Name.{is_name}
-use Rattle.ccsl_base.specs.declared.limits.TheConstants.{MAX_CONSTRAINTS, MAX_CELLS, MAX_CALL_LEVELS}
+use Rattle.ccsl_base.specs.declared.limits.TheConstants.{MAX_CALL_LEVELS}
 use Rattle.ccsl_command.specs.declared.TheConstants.{MAX_TRIAL_CLOCKS}
 use Rattle.ccsl_kernel.specs.declared.constraint.Constraint.{Constraint}
 use Rattle.ccsl_kernel.specs.Syntax.{System, Body, ENever, body_of}
 use Rattle.ccsl_kernel.specs.Cells.{cells, groups_cells}
 use Rattle.ccsl_kernel.specs.Accepted.{IsBody, IsDefinition, IsConstraint, Each, IsAccepted, is_hidden, group_levels}
-use Rattle.ccsl_kernel.proofs.EachOne.{each_zero_from, each_made_from}
+use Rattle.ccsl_kernel.proofs.EachOne.{each_zero_from}
 use Rattle.ccsl_accepts.proofs.HiddenNames.{decimal-seen, seen-append, hidden-is}
 use Rattle.ccsl_library.specs.Members.{library_groups}
 use Rattle.ccsl_chain.specs.Chain.{clock_name, hidden_name, all_but_first, precedes, alternation, chain}

@@ -1,5 +1,5 @@
 -- In every run of a chain each clock is ahead of the next one by 0 or 1.
-use Rattle.std.proofs.Common.{◌≡◌, ℕ, zero, suc, ◌+◌, ◌-◌, ◌*◌, ◌<◌, ◌≤◌, List, [], ◌∷◌, map, take, length, Bool, true, false, not, nat_eq, nat_le, Some, slice_get, refl, sym, ap, ap₂, ◌∙◌, subst, arith, zero-add, eq-eqb, if◌then◌else◌}
+use Rattle.std.proofs.Common.{◌≡◌, ℕ, zero, suc, ◌+◌, ◌-◌, ◌*◌, ◌<◌, ◌≤◌, List, [], map, take, length, Bool, true, false, not, nat_eq, nat_le, slice_get, refl, sym, ap, ap₂, ◌∙◌, arith, zero-add, eq-eqb, if◌then◌else◌}
 use Rattle.std.proofs.Math.Seq.{take-suc}
 use Rattle.std.proofs.lemmas.Bool.{cond-true, not-true}
 use Rattle.std.proofs.lemmas.Bool.Decides.{nat_tests}
@@ -7,7 +7,7 @@ use Rattle.std.proofs.lemmas.List.FromFn.{length-map-range_with_len}
 use Rattle.ccsl_base.specs.Clocks.{ticks_in}
 use Rattle.ccsl_formula.specs.Formula.{FFalse, FTrue, FVar, FNot, FIff, eval, same}
 use Rattle.ccsl_kernel.specs.declared.constraint.RelationKind.TheVariants.{Precedes}
-use Rattle.ccsl_kernel.specs.Syntax.{System, item_count}
+use Rattle.ccsl_kernel.specs.Syntax.{item_count}
 use Rattle.ccsl_kernel.specs.Ticks.{count}
 use Rattle.ccsl_kernel.specs.Lives.{Step, steps, step_at}
 use Rattle.ccsl_kernel.specs.Items.{clock_count, relation_formula, item_formula}
@@ -15,7 +15,7 @@ use Rattle.ccsl_kernel.specs.Runs.{IsRun}
 use Rattle.ccsl_kernel.proofs.Steps.{map-snoc, map-steps-suc}
 use Rattle.ccsl_kernel.proofs.Quiet.{eval_cond, count-snoc}
 use Rattle.ccsl_kernel.proofs.ItemCases.{item-definition, item-constraint}
-use Rattle.ccsl_chain.specs.Chain.{all_but_first, precedes, alternation, chain}
+use Rattle.ccsl_chain.specs.Chain.{all_but_first, precedes, chain}
 use Rattle.ccsl_chain.proofs.Pieces.{length-two_each, first-two_each, second-two_each, slice_get-range}
 
 -- ## Counts

@@ -1,29 +1,27 @@
 -- What the lines of a chain's text expand to.
-use Rattle.std.proofs.Common.{◌≡◌, ℕ, zero, suc, ◌+◌, ◌-◌, ◌<◌, ◌≤◌, ◌^◌, List, [], ◌∷◌, ◌++◌, append-nil, map, flat_map, filter_map, length, get_or, Bool, true, false, not, cond, Option, Some, None, find, bytes_eq, refl, sym, ap, ap₂, ◌∙◌, arith, ⊎_elim}
-use Rattle.std.specs.Prelude.{codes, decimal}
-use Rattle.std.specs.List.{range_with_len, prefix_len}
-use Rattle.std.proofs.lemmas.Bool.{cases_eq, cond-true, cond-false}
+use Rattle.std.proofs.Common.{◌≡◌, ℕ, zero, suc, ◌+◌, ◌-◌, ◌<◌, ◌≤◌, ◌^◌, List, [], ◌∷◌, ◌++◌, append-nil, map, flat_map, filter_map, length, get_or, not, cond, Some, find, bytes_eq, refl, sym, ap, ap₂, ◌∙◌, arith}
+use Rattle.std.specs.Prelude.{codes}
+use Rattle.std.specs.List.{range_with_len}
 use Rattle.std.proofs.lemmas.List.FromFn.{length-map-range_with_len}
 use Rattle.std.proofs.lemmas.Slice.Eq.{bytes_eq-Decides}
 use Rattle.ccsl_ast.specs.declared.spot.Spot.{Spot}
 use Rattle.ccsl_ast.specs.declared.line.Relation.TheVariants as rel
-use Rattle.ccsl_ast.specs.Trees.{SLine, SClocks, SLineOf, LCall, EDelay, EName, PlainFile}
+use Rattle.ccsl_ast.specs.Trees.{EDelay, PlainFile}
 use Rattle.ccsl_words.specs.Word.{BinaryWord}
 use Rattle.ccsl_words.specs.Spelling.{read_word}
 use Rattle.ccsl_kernel.specs.declared.expr.Place.TheVariants as place
 use Rattle.ccsl_kernel.specs.declared.expr.NumPrim.TheVariants as num
 use Rattle.ccsl_kernel.specs.Actuals.{word_or_empty}
 use Rattle.ccsl_kernel.specs.Syntax as kernel
-use Rattle.ccsl_kernel.specs.declared.constraint.Constraint.{Constraint}
 use Rattle.ccsl_rules.specs.Spaces.{Known, Callee, calls_space}
 use Rattle.ccsl_rules.specs.Settings.{Atom, AClock, Setting, atom_of, snd_of}
-use Rattle.ccsl_rules.specs.Texts.{entry_texts, sheet_texts, block_texts}
+use Rattle.ccsl_rules.specs.Texts.{entry_texts}
 use Rattle.ccsl_rules.specs.Resolved.{Tables, clock_number}
-use Rattle.ccsl_rules.specs.Unfolded.{Item, Defines, Binds, Unfoldings, unfoldings, unfold_body, own_clocks, declares, inside}
+use Rattle.ccsl_rules.specs.Unfolded.{Item, Defines, Binds, unfoldings, unfold_body, own_clocks, declares, inside}
 use Rattle.ccsl_rules.specs.Expansion.{declared_names, written_item, hidden_item, item_name, item_definition, constraint_of, names_of, expand, words_of, items_of}
 use Rattle.ccsl_library.specs.Library.{the_library, name_at, clock_at, number_at}
 use Rattle.ccsl_chain.specs.Chain.{clock_name, call_path, hidden_name, all_but_first, precedes, alternation, chain}
-use Rattle.ccsl_chain.specs.Text.{clocks_line, call_line, chain_file}
+use Rattle.ccsl_chain.specs.Text.{call_line, chain_file}
 use Rattle.ccsl_chain.proofs.Whole.{whole}
 use Rattle.ccsl_chain.proofs.NewNames.{same_clock, same_hidden, other}
 

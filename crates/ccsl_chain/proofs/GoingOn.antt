@@ -1,17 +1,17 @@
 -- After every run of a chain some clock may tick alone: the first one that is level with the next one, or the last.
-use Rattle.std.proofs.Common.{◌≡◌, ◌≢◌, ℕ, zero, suc, ◌+◌, ◌-◌, ◌*◌, ◌<◌, ◌≤◌, List, [], ◌∷◌, length, Bool, true, false, not, ◌&&◌, ◌||◌, cond, nat_eq, nat_lt, nat_le, filter, refl, sym, ap, ap₂, ◌∙◌, subst, ◌⊎◌, inl, inr, ⊎_elim, arith, lt-ltb, le-ltb, le-leb, eq-eqb, if◌then◌else◌}
-use Rattle.std.proofs.lemmas.Bool.{cases_lt, cases_eq, cond-true, cond-false, ne_eqb, leb-true, ltb-true, and_from, and_parts}
+use Rattle.std.proofs.Common.{◌≡◌, ◌≢◌, ℕ, zero, suc, ◌+◌, ◌-◌, ◌*◌, ◌<◌, ◌≤◌, List, [], ◌∷◌, length, Bool, true, false, not, ◌&&◌, ◌||◌, cond, nat_eq, nat_lt, nat_le, filter, refl, sym, ap, ap₂, ◌∙◌, subst, ◌⊎◌, inl, inr, ⊎_elim, arith, lt-ltb, le-ltb, eq-eqb, if◌then◌else◌}
+use Rattle.std.proofs.lemmas.Bool.{cases_lt, cases_eq, cond-false, ne_eqb, leb-true, ltb-true, and_from, and_parts}
 use Rattle.ccsl_base.specs.Clocks.{ticks_in, is_ascending, are_below}
-use Rattle.ccsl_formula.specs.Formula.{FFalse, FTrue, FVar, FNot, FIff, eval, same}
+use Rattle.ccsl_formula.specs.Formula.{FFalse, FTrue, FVar, FNot, eval, same}
 use Rattle.ccsl_kernel.specs.declared.constraint.RelationKind.TheVariants.{Precedes}
-use Rattle.ccsl_kernel.specs.Syntax.{System, item_count}
+use Rattle.ccsl_kernel.specs.Syntax.{item_count}
 use Rattle.ccsl_kernel.specs.Lives.{Step}
 use Rattle.ccsl_kernel.specs.Items.{clock_count, relation_formula, item_formula}
 use Rattle.ccsl_kernel.specs.Laws.{ExtendsToStep}
 use Rattle.ccsl_kernel.specs.Runs.{IsRun, declared_part, is_named}
 use Rattle.ccsl_kernel.proofs.Quiet.{eval_cond}
 use Rattle.ccsl_chain.specs.Chain.{chain}
-use Rattle.ccsl_chain.proofs.Alternating.{Alternate, alternates, first_item, second_item, hidden-formula, first-formula, second-formula, item_count-chain, length-definitions}
+use Rattle.ccsl_chain.proofs.Alternating.{alternates, first_item, second_item, hidden-formula, first-formula, second-formula, item_count-chain, length-definitions}
 
 -- ## The clock that ticks
 

@@ -1,5 +1,5 @@
 -- Behind the library a file without lines expands to the library's groups, and to no clock.
-use Rattle.std.proofs.Common.{◌≡◌, ◌≤◌, List, [], ◌∷◌, length, length-append, ap, ap₂, sym, ◌∙◌, arith}
+use Rattle.std.proofs.Common.{◌≡◌, ◌≤◌, [], ◌∷◌, length, length-append, ap, ap₂, sym, ◌∙◌, arith}
 use Rattle.ccsl_base.specs.declared.limits.TheConstants.{MAX_CLOCKS}
 use Rattle.ccsl_ast.specs.Trees.{PlainFile}
 use Rattle.ccsl_rules.specs.Expansion.{expand}

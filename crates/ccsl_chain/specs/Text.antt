@@ -1,5 +1,5 @@
 -- The tree of a chain's text: a line of clocks, and a line for each call. Where its names stand is left open.
-use Rattle.std.specs.Prelude.{ℕ, ◌+◌, ◌-◌, List, [], ◌∷◌, map, codes}
+use Rattle.std.specs.Prelude.{ℕ, ◌+◌, ◌-◌, [], ◌∷◌, map, codes}
 use Rattle.std.specs.List.{range_with_len}
 use Rattle.ccsl_ast.specs.Trees.{SLine, SClocks, SLineOf, LCall, PlainFile}
 use Rattle.ccsl_library.specs.Library.{name_at, passed_at}

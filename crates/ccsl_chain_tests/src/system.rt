@@ -27,10 +27,7 @@ pub fn same_counts(a: &System, b: &System) -> bool {
 }
 
 fn same_constraint(a: &Constraint, b: &Constraint) -> bool {
-    a.kind == b.kind
-        && a.left == b.left
-        && a.right == b.right
-        && a.label.bytes() == b.label.bytes()
+    a.kind == b.kind && a.left == b.left && a.right == b.right && a.label.bytes() == b.label.bytes()
 }
 
 pub fn same_constraints(a: &System, b: &System) -> bool {
@@ -69,5 +66,8 @@ fn same_bodies(a: &[Body], b: &[Body]) -> bool {
 
 pub fn same_groups(a: &[Group], b: &[Group]) -> bool {
     a.len() == b.len()
-        && a.iter().zip(b.iter()).all(|(x, y)| same_bodies(x.members.members(), y.members.members()))
+        && a.iter().zip(b.iter()).all(|(x, y)| same_bodies(
+            x.members.members(),
+            y.members.members(),
+        ))
 }

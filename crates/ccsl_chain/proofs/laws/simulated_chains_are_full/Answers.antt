@@ -1,4 +1,4 @@
-use Rattle.std.proofs.Common.{◌≡◌, ◌<◌, ◌≤◌, length, refl, ⊎_elim, arith}
+use Rattle.std.proofs.Common.{◌<◌, ◌≤◌, length, refl, ⊎_elim, arith}
 use Rattle.std.proofs.lemmas.Bool.{cases_lt}
 use Rattle.ccsl_simulate.specs.Simulation.{simulation}
 use Rattle.ccsl_chain.specs.Chain.{chain}

@@ -1,5 +1,5 @@
 -- Each name is new behind those before it.
-use Rattle.std.proofs.Common.{sym, ap, ◌∙◌, arith}
+use Rattle.std.proofs.Common.{◌∙◌, arith}
 use Rattle.ccsl_chain.proofs.NewNames.{clock_added, length-declared}
 use Rattle.ccsl_chain.proofs.naming.declared.Goals as goal
 

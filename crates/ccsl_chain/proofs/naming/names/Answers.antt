@@ -1,5 +1,5 @@
 -- Each name is new behind those before it.
-use Rattle.std.proofs.Common.{sym, ap, ◌∙◌, arith}
+use Rattle.std.proofs.Common.{◌∙◌, arith}
 use Rattle.ccsl_chain.proofs.NewNames.{hidden_added, length-so_far}
 use Rattle.ccsl_chain.proofs.naming.names.Goals as goal
 
