@@ -1,0 +1,9 @@
+mod NewNames
+mod Pieces
+mod Accepted
+mod Alternating
+mod GoingOn
+mod Whole
+mod Expanded
+mod Faultless
+mod LibraryAlone

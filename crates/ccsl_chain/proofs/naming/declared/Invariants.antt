@@ -1,0 +1,8 @@
+-- The names so far.
+use Rattle.std.proofs.Common.{◌≡◌, map}
+use Rattle.std.specs.List.{range_with_len}
+use Rattle.ccsl_chain.specs.Chain.{clock_name}
+use Rattle.ccsl_chain.proofs.naming.declared.Given as goal
+
+abbrev pub invariant-loop-i : goal.invariant-loop-i
+invariant-loop-i l = l.names ≡ map clock_name (range_with_len 0 l.i)

@@ -1,0 +1,9 @@
+//! Chains against the systems that their texts are elaborated to.
+#![tactic(auto)]
+
+#[cfg(test)]
+mod chains;
+#[cfg(test)]
+mod expression;
+#[cfg(test)]
+mod system;
