@@ -12,8 +12,8 @@ use Rattle.ccsl_top.specs.declared.files.Stop.{Stop}
 use Rattle.ccsl_top.specs.declared.files.Stop.TheVariants.{Memory}
 use Rattle.ccsl_top.specs.declared.reply.Reply.{Reply}
 use Rattle.ccsl_top.specs.Outcome.{Outcome}
+use Rattle.ccsl_top.specs.Trial.{trial_outcome}
 use Rattle.ccsl_top.specs.Program.{IsOutcome, IsOutcomeOf, usage_outcome}
-use Rattle.ccsl_top.specs.Effects.{Reads}
 use Rattle.ccsl_top.specs.Headline.{kept, untouched, unread}
 use Rattle.ccsl_top.specs.Answered.{plain_reply, Leaves, Stands, Answered, Starved, IsUnanswered, AnswersTo, StopsAt}
 use Rattle.ccsl_top.proofs.Slots.{both-ways}
@@ -94,9 +94,9 @@ module _ (told : Told) (s : State) where
     command-errs (Ok reply) e = e
     command-errs (Err stop) e = λ words means. rw e (starved-at-once told words s)
 
--- a command that is not built
-pub unknown-outcome : (c : Command) (clocks steps seed workers : ℕ) → c ≡ command.Trial clocks steps seed workers → (result : Result Reply Stop) →
-    IfOk result (λ reply. plain_reply reply ≡ usage_outcome usage.UnknownCommand) →
+-- a trial
+pub trial-outcome : (c : Command) (clocks steps seed workers : ℕ) → c ≡ command.Trial clocks steps seed workers → (result : Result Reply Stop) →
+    IfOk result (λ reply. plain_reply reply ≡ trial_outcome clocks steps seed) →
     IfOk result (λ reply. (content : List ℕ → List ℕ) → IsOutcomeOf content (Ok c) (plain_reply reply))
-unknown-outcome c clocks steps seed workers is (Ok reply) e = λ content. subst (λ x. IsOutcomeOf content (Ok x) (plain_reply reply)) (sym is) e
-unknown-outcome c clocks steps seed workers is (Err stop) e = e
+trial-outcome c clocks steps seed workers is (Ok reply) e = λ content. subst (λ x. IsOutcomeOf content (Ok x) (plain_reply reply)) (sym is) e
+trial-outcome c clocks steps seed workers is (Err stop) e = e

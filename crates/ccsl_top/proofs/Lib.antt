@@ -14,3 +14,5 @@ pub mod Names
 pub mod Writing
 pub mod Simulating
 pub mod Simulated
+pub mod Ranges
+pub mod Trying

@@ -3,6 +3,7 @@ pub mod Check
 pub mod Judge
 pub mod Simulate
 pub mod Certify
+pub mod Trial
 pub mod Program
 pub mod Opening
 pub mod Effects
@@ -13,3 +14,4 @@ pub mod Headline
 pub mod Judging
 pub mod Certifying
 pub mod Simulating
+pub mod Trying

@@ -10,5 +10,6 @@ pub mod program;
 pub mod reply;
 mod simulate;
 mod specification;
+mod trial;
 
 pub use program::run;

@@ -1,6 +1,7 @@
 //! The program: words, files, an answer and a report.
 
-ghost use Rattle.std.specs.Prelude.{◌≡◌, ◌≢◌, IfOk, IfErr, OnOk};
+ghost use Rattle.std.specs.Prelude.{◌≡◌, ◌≢◌, ℕ, List, Ok, IfOk, IfErr, OnOk};
+ghost use Rattle.ccsl_command.specs.Meaning.{meaning};
 ghost use Rattle.ccsl_command.specs.Opened.{files_of, files_opened};
 ghost use Rattle.ccsl_top.specs.Program.{usage_outcome};
 ghost use Rattle.ccsl_top.specs.Opening.{AreAllowed};
@@ -13,6 +14,7 @@ use crate::files::Stop;
 use crate::judge::judge;
 use crate::reply::{Reply, Status};
 use crate::simulate::simulate;
+use crate::trial::trial;
 use ccsl_base::CommandWord;
 use ccsl_command::{Command, Usage, words};
 use ccsl_edge::{Slot, World, write_all};
@@ -44,7 +46,8 @@ fn answer_command<R: Threads + Sync, W: World, G: Gate>(
     world: &mut W,
     gate: &G,
 ) -> Result<Reply, Stop>
-    requires { AreAllowed W.allows (files_of command.now) }
+    requires allowed { AreAllowed W.allows (files_of command.now) }
+    requires meant { (words : List (List ℕ)) × (meaning words ≡ Ok command.now) }
     ensures ok { IfOk result (λ reply. AnswersTo W.told command.now reply (W.state world.old) (W.state world.new)) }
     ensures err { IfErr result (λ stop. StopsAt W.told command.now stop (W.state world.old) (W.state world.new)) }
 {
@@ -83,7 +86,12 @@ fn answer_command<R: Threads + Sync, W: World, G: Gate>(
         Command::Certify { spec, trace, cert } => {
             certify(alloc, world, spec.as_str(), trace.as_str(), cert.as_str())
         }
-        Command::Trial { .. } => refuse_words(alloc, &Usage::UnknownCommand),
+        Command::Trial {
+            clocks,
+            steps,
+            seed,
+            workers,
+        } => trial(rt, alloc, *clocks, *steps, *seed, *workers, gate),
     }
 }
 

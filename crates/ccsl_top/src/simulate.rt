@@ -31,8 +31,8 @@ fn policy_named(name: PolicyName) -> Policy
     }
 }
 
-// Writes a simulation to the files of two names.
-fn write_run<W: World>(
+/// Writes a simulation to the files of two names.
+pub(crate) fn write_run<W: World>(
     alloc: Global,
     world: &mut W,
     system: &System,

@@ -1,13 +1,17 @@
-use Rattle.std.proofs.Common.{Ok, sym, subst}
-use Rattle.ccsl_top.specs.Program.{IsOutcomeOf}
-use Rattle.ccsl_top.proofs.Commands.{command-oks, command-errs, unknown-outcome}
+use Rattle.std.proofs.Common.{Ok, ap, ◌∙◌}
+use Rattle.ccsl_top.proofs.Ranges.{trial-ranges}
+use Rattle.ccsl_top.proofs.Commands.{command-oks, command-errs, trial-outcome}
 use Rattle.ccsl_top.proofs.program.answer_command.Goals as goal
+
+pub trial-requires : goal.trial-requires
+trial-requires g c =
+    trial-ranges c.in-Trial.clocks c.in-Trial.steps c.in-Trial.seed c.in-Trial.workers c.requires.meant.0 (c.requires.meant.1 ∙ ap Ok c.in-Trial.is)
 
 pub returns-in-Trial-clause-ok : goal.returns-in-Trial-clause-ok
 returns-in-Trial-clause-ok g c =
-    command-oks g.W.World.told (g.W.World.state c.args.world.now) c.args.command.now c.refuse_words.result
-    (unknown-outcome c.args.command.now c.in-Trial.clocks c.in-Trial.steps c.in-Trial.seed c.in-Trial.workers c.in-Trial.is c.refuse_words.result c.refuse_words.ensures.reply)
+    command-oks g.W.World.told (g.W.World.state c.args.world.now) c.args.command.now c.trial.result
+    (trial-outcome c.args.command.now c.in-Trial.clocks c.in-Trial.steps c.in-Trial.seed c.in-Trial.workers c.in-Trial.is c.trial.result c.trial.ensures.reply)
 
 pub returns-in-Trial-clause-err : goal.returns-in-Trial-clause-err
 returns-in-Trial-clause-err g c =
-    command-errs g.W.World.told (g.W.World.state c.args.world.now) c.args.command.now c.refuse_words.result c.refuse_words.ensures.stop
+    command-errs g.W.World.told (g.W.World.state c.args.world.now) c.args.command.now c.trial.result c.trial.ensures.stop
