@@ -16,9 +16,14 @@ use Rattle.ccsl_command.specs.Table.{key_text, keys_of}
 use Rattle.ccsl_command.specs.Values.{Range, range_of, is_number, is_within, number_in, is_value}
 use Rattle.ccsl_command.specs.Pairs.{is_pair, key_part, value_part, key_of, has_key, is_given, value_of}
 use Rattle.ccsl_command.specs.Meaning.{meaning, named_meaning, pairs_meaning, key_fault, word_fault, first_or, first_fault, first_missing, has_same_name, command_of, command_named, number_of}
-use Rattle.ccsl_top.specs.Trial.{IsTrial}
 use Rattle.ccsl_top.proofs.Slots.{both-ways}
 use Rattle.ccsl_top.proofs.Names.{none-first, not-not}
+
+-- the numbers that a trial may have
+pub record IsTrial (clocks steps : ℕ) : Type 0 where
+  pub least : MIN_TRIAL_CLOCKS ≤ clocks
+  pub most : clocks ≤ MAX_TRIAL_CLOCKS
+  pub few : steps ≤ MAX_TRIAL_STEPS
 
 both-hold : (a b : Bool) → (a && b) ≡ true → (a ≡ true) × (b ≡ true)
 both-hold true b e = (refl, e)
@@ -29,14 +34,12 @@ in-range : (range : Range) (text : List ℕ) → is_some (number_in range text) 
     (range.least ≤ unwrap_or (number_in range text) 0) × (unwrap_or (number_in range text) 0 ≤ range.most)
 in-range range text e = by-test (is_within range text) refl e
   where
-    number : Bool → Option ℕ
-    number t = cond t (Some (decimal_value text)) None
     by-test : (t : Bool) → is_within range text ≡ t → is_some (cond t (Some (decimal_value text)) None) ≡ true →
         (range.least ≤ unwrap_or (cond t (Some (decimal_value text)) None) 0) × (unwrap_or (cond t (Some (decimal_value text)) None) 0 ≤ range.most)
     by-test true is e =
-        let a = both-hold (is_number text) (nat_le range.least (decimal_value text) && nat_le (decimal_value text) range.most) is in
-        let b = both-hold (nat_le range.least (decimal_value text)) (nat_le (decimal_value text) range.most) a.1 in
-        (leb-true range.least (decimal_value text) b.0, leb-true (decimal_value text) range.most b.1)
+        let a = both-hold (is_number text && nat_le range.least (decimal_value text)) (nat_le (decimal_value text) range.most) is in
+        let b = both-hold (is_number text) (nat_le range.least (decimal_value text)) a.0 in
+        (leb-true range.least (decimal_value text) b.1, leb-true (decimal_value text) range.most a.1)
     by-test false is e = both-ways false e refl
 
 -- no fault of two
@@ -114,6 +117,7 @@ module _ (clocks steps seed workers : ℕ) where
     where
       ok-same : (d : Command) → (let R : Result Command Usage = Ok d in R) ≡ Ok wanted → d ≡ wanted
       ok-same d e = cc
+
       by-test : (t : Bool) → cond t (Err usage.SameName) (Ok (command_of n pairs)) ≡ Ok wanted → IsTrial clocks steps
       by-test true e = let clash : (let R : Result Command Usage = Err usage.SameName in R) ≡ Ok wanted = e in absurd (cc)
       by-test false e = command-ranges n pairs fine is (ok-same (command_of n pairs) e)

@@ -1,7 +1,6 @@
 -- WHAT `trial` ANSWERS: a chain of clocks, each of which alternates with the next, is simulated with drawn words. What is written as
 -- its trace is judged, and a law says that it is a run of all the steps, whatever the words.
-use Rattle.std.specs.Prelude.{ℕ, ◌≤◌, List, length}
-use Rattle.ccsl_command.specs.declared.TheConstants.{MAX_TRIAL_STEPS, MIN_TRIAL_CLOCKS, MAX_TRIAL_CLOCKS}
+use Rattle.std.specs.Prelude.{ℕ, List, length}
 use Rattle.ccsl_policy.specs.declared.policies.Policy.TheVariants.{Seeded}
 use Rattle.ccsl_kernel.specs.Lives.{Step}
 use Rattle.ccsl_simulate.specs.Simulation.{simulation}
@@ -9,12 +8,6 @@ use Rattle.ccsl_chain.specs.Chain.{chain}
 use Rattle.ccsl_roundtrip.specs.RoundTrip.{ticks_written}
 use Rattle.ccsl_report.specs.Texts.{trial_text}
 use Rattle.ccsl_top.specs.Outcome.{Outcome, outcome}
-
--- the numbers that a trial may have
-pub record IsTrial (clocks steps : ℕ) : Type 0 where
-  pub least : MIN_TRIAL_CLOCKS ≤ clocks
-  pub most : clocks ≤ MAX_TRIAL_CLOCKS
-  pub few : steps ≤ MAX_TRIAL_STEPS
 
 abbrev pub trial_run : ℕ → ℕ → ℕ → List Step
 trial_run clocks steps seed = simulation (chain clocks) Seeded seed steps

@@ -3,10 +3,9 @@
 
 ghost use Rattle.ccsl_top.specs.Program.{OutcomesAreOne};
 
-use ccsl_spec::laws::specifications_are_one;
-
 pub use ccsl_chain::laws::simulated_chains_are_full;
 pub use ccsl_roundtrip::laws::simulated_traces_are_runs;
+use ccsl_spec::laws::specifications_are_one;
 pub use ccsl_vcd_write::laws::read_back;
 
 /// Words and files have at most one outcome, but for the lines of a certificate.

@@ -2,8 +2,9 @@
 
 ghost use Rattle.std.specs.Prelude.{◌≡◌, ◌≤◌, ℕ, IfOk, IfErr, length};
 ghost use Rattle.ccsl_base.specs.declared.limits.TheConstants.{MAX_STEPS};
+ghost use Rattle.ccsl_command.specs.declared.TheConstants.{MAX_TRIAL_STEPS, MIN_TRIAL_CLOCKS, MAX_TRIAL_CLOCKS};
 ghost use Rattle.ccsl_roundtrip.specs.RoundTrip.{ticks_written};
-ghost use Rattle.ccsl_top.specs.Trial.{IsTrial, trial_outcome};
+ghost use Rattle.ccsl_top.specs.Trial.{trial_outcome};
 ghost use Rattle.ccsl_top.specs.Trying.{drawn_run, HoldsTrace, KeepsTrace};
 ghost use Rattle.ccsl_top.specs.declared.files.Stop.TheVariants as stop;
 ghost use Rattle.ccsl_top.specs.Answered.{plain_reply};
@@ -26,6 +27,7 @@ use std::thread::Threads;
 
 /// The names of the files in the world of a trial.
 const TRACE: &str = "trace";
+
 const CERT: &str = "certificate";
 
 /// The most bytes that one read or write of this world moves.
@@ -37,11 +39,13 @@ fn written(alloc: Global, system: &System, seed: u64, steps: u64) -> Result<Memo
 {
     let mut world = MemoryWorld::new(alloc, Vec::new(alloc), Vec::new(alloc), PIECE);
     let policy = Policy::Seeded;
-    if write_run(alloc, &mut world, system, policy, seed, steps, TRACE, CERT).is_err() {
-        return Err(Memory);
+    match write_run(alloc, &mut world, system, policy, seed, steps, TRACE, CERT) {
+        Ok(_done) => {}
+        Err(_stop) => return Err(Memory),
     }
-    if world.open_in(Slot::Trace, TRACE).is_err() {
-        return Err(Memory);
+    match world.open_in(Slot::Trace, TRACE) {
+        Ok(()) => {}
+        Err(_failed) => return Err(Memory),
     }
     Ok(world)
 }
@@ -94,7 +98,9 @@ pub(crate) fn trial<R: Threads + Sync, G: Gate>(
     workers: u32,
     gate: &G,
 ) -> Result<Reply, Stop>
-    requires { IsTrial clocks steps }
+    requires least { MIN_TRIAL_CLOCKS ≤ clocks }
+    requires most { clocks ≤ MAX_TRIAL_CLOCKS }
+    requires few { steps ≤ MAX_TRIAL_STEPS }
     ensures reply { IfOk result (λ reply. plain_reply reply ≡ trial_outcome clocks steps seed) }
     ensures stop { IfErr result (λ reason. reason ≡ stop.Memory) }
 {

@@ -22,4 +22,6 @@ mod runs;
 #[cfg(test)]
 mod simulations;
 #[cfg(test)]
+mod trials;
+#[cfg(test)]
 mod words;

@@ -3,9 +3,17 @@ use Rattle.ccsl_top.proofs.Ranges.{trial-ranges}
 use Rattle.ccsl_top.proofs.Commands.{command-oks, command-errs, trial-outcome}
 use Rattle.ccsl_top.proofs.program.answer_command.Goals as goal
 
-pub trial-requires : goal.trial-requires
-trial-requires g c =
-    trial-ranges c.in-Trial.clocks c.in-Trial.steps c.in-Trial.seed c.in-Trial.workers c.requires.meant.0 (c.requires.meant.1 ∙ ap Ok c.in-Trial.is)
+pub trial-requires-clause-least : goal.trial-requires-clause-least
+trial-requires-clause-least g c =
+    λ κs b. (trial-ranges c.in-Trial.clocks c.in-Trial.steps c.in-Trial.seed c.in-Trial.workers c.requires.meant.0 (c.requires.meant.1 ∙ ap Ok c.in-Trial.is)).least
+
+pub trial-requires-clause-most : goal.trial-requires-clause-most
+trial-requires-clause-most g c =
+    λ κs b. (trial-ranges c.in-Trial.clocks c.in-Trial.steps c.in-Trial.seed c.in-Trial.workers c.requires.meant.0 (c.requires.meant.1 ∙ ap Ok c.in-Trial.is)).most
+
+pub trial-requires-clause-few : goal.trial-requires-clause-few
+trial-requires-clause-few g c =
+    λ κs b. (trial-ranges c.in-Trial.clocks c.in-Trial.steps c.in-Trial.seed c.in-Trial.workers c.requires.meant.0 (c.requires.meant.1 ∙ ap Ok c.in-Trial.is)).few
 
 pub returns-in-Trial-clause-ok : goal.returns-in-Trial-clause-ok
 returns-in-Trial-clause-ok g c =
