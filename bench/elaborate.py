@@ -9,6 +9,8 @@ import os
 import subprocess
 import tempfile
 
+from figures import note
+
 HERE = os.path.dirname(os.path.abspath(__file__))
 PROGRAM = os.path.join(HERE, "..", "crates", "ccsl_elaborate_bench", "out", "ccsl_elaborate_bench")
 MEBIBYTE = 1 << 20
@@ -94,6 +96,7 @@ def main():
             alone = (both - parse) / times
             print(f"{name}: {len(text)} bytes, answer {answer}, parse {parse:.4f} s, "
                   f"elaborate {alone:.4f} s, ratio {alone / parse:.2f}, at most {memory:.0f} MiB")
+            note("ccsl_elaborate", name, "parsing it", processor=parse / alone)
 
 
 if __name__ == "__main__":

@@ -10,6 +10,8 @@ import resource
 import subprocess
 import tempfile
 
+from figures import note
+
 HERE = os.path.dirname(os.path.abspath(__file__))
 PROGRAM = os.path.join(HERE, "..", "crates", "ccsl_faults_bench", "out", "ccsl_faults_bench")
 MEBIBYTE = 1 << 20
@@ -84,3 +86,4 @@ for case in (expressions, relations, clocks, nested, repeated):
         fault = (looking - one - start) / times
         print(f"{case.__name__}: {size} bytes, read {read}, {answer}; parser {one * 1000:.1f} ms, "
               f"fault {fault * 1000:.1f} ms, ratio {fault / one:.2f}", flush=True)
+        note("ccsl_faults", case.__name__, "parsing them", processor=one / fault)

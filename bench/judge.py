@@ -7,6 +7,8 @@ The program has to be built (./ccsl builds it). The traces are made in a folder 
 """
 import os, random, resource, subprocess, sys, tempfile, time
 
+from figures import note
+
 HERE = os.path.dirname(os.path.dirname(os.path.abspath(__file__)))
 PROGRAM = f"{HERE}/crates/ccsl/out/ccsl"
 SIZE = int(sys.argv[1]) * 1_000_000 if len(sys.argv) > 1 else 50_000_000
@@ -66,6 +68,7 @@ def compare(name, trace, spec, folder, workers):
     print(f"{name}, {os.path.getsize(trace) / 1e6:.0f} MB, workers {workers}: {clock:.2f} s by the clock, {busy:.2f} s of the processor, "
           f"{own[0][2]:.1f} MB at most; vcd2fst {theirs:.2f} and {others:.2f} s: "
           f"{theirs / clock:.1f} and {others / busy:.1f} times as fast ({own[0][3]})")
+    note("ccsl_judge", f"{name}, workers {workers}", "vcd2fst", processor=others / busy, clock=theirs / clock)
 
 
 def main():

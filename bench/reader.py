@@ -14,6 +14,8 @@ import resource
 import subprocess
 import sys
 
+from figures import note
+
 HERE = os.path.dirname(os.path.abspath(__file__))
 PROGRAM = os.path.join(HERE, "..", "crates", "ccsl_vcd_bench", "out", "ccsl_vcd_bench")
 SIZE = 50_000_000
@@ -168,6 +170,8 @@ def main():
                 said = out if k == 0 else said
         print(f"{name}: {said}; {best[0]:.3f} s, {os.path.getsize(path) / best[0] / 1e6:.0f} MB/s; "
               f"vcd2fst {best[1] / best[0]:.1f} times (wanted {wanted}), wc {best[2] / best[0]:.1f} times")
+        note("ccsl_vcd_read", name, "vcd2fst", processor=best[1] / best[0], wanted=wanted)
+        note("ccsl_vcd_read", name, "wc -w", processor=best[2] / best[0])
 
 
 if __name__ == "__main__":

@@ -11,6 +11,8 @@ import subprocess
 import sys
 import tempfile
 
+from figures import note
+
 HERE = os.path.dirname(os.path.abspath(__file__))
 PROGRAM = os.path.join(HERE, "..", "crates", "ccsl_bench", "out", "ccsl_bench")
 MASK = (1 << 64) - 1
@@ -141,6 +143,8 @@ def chains(clocks, steps):
         assert int(ticks) == few_ticks == all_ticks
         print(f"{steps} steps of {clocks} clocks under {policy}: {1000 * ours:.1f} ms; z3 {1000 * each:.0f} ms with a question for each clock"
               f" ({each / ours:.0f} times as long), {1000 * few:.0f} ms with as few as can be ({few / ours:.0f} times)")
+        note("ccsl_policy", f"a chain of {clocks} clocks, {policy}", "z3, a question a clock", processor=each / ours)
+        note("ccsl_policy", f"a chain of {clocks} clocks, {policy}", "z3, few questions", processor=few / ours)
 
 
 def long_chains():
@@ -161,6 +165,7 @@ def holes():
         ours = (ours - start) / 20
         checked = (checked - start - ours) / 100
         print(f"{number + 1} pigeons in {number} holes: {1000 * ours:.2f} ms, {lines} lines, checked in {1000 * checked:.2f} ms; picosat {1000 * theirs:.2f} ms")
+        note("ccsl_solve", f"{number + 1} pigeons in {number} holes", "picosat", processor=theirs / ours)
 
 
 def main():

@@ -50,7 +50,7 @@ pub fn chain(alloc: Global, clocks: u32) -> Result<System, Memory>
     requires most { clocks ≤ MAX_TRIAL_CLOCKS }
     ensures { IfOk result (λ system. system ≡ chain clocks) }
 {
-    // two cells for each hidden clock, and two for each constraint
+    // for each call two cells for its hidden clock, and two for each of its two constraints
     let cells = 6 * (clocks - 1);
     Ok(System::assemble(parts(alloc, clocks)?, cells))
 }

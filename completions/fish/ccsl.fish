@@ -1,0 +1,38 @@
+# Completions of ccsl for fish: lay this file into ~/.config/fish/completions.
+
+function __ccsl_has_no_command
+    test (count (commandline -opc)) -eq 1
+end
+
+function __ccsl_command_is
+    set -l words (commandline -opc)
+    test (count $words) -ge 2; and contains -- $words[2] $argv
+end
+
+# the keys that do not stand in the line yet
+function __ccsl_keys
+    set -l line (commandline -opc)
+    for key in $argv
+        string match -q -- "$key=*" $line; or echo "$key="
+    end
+end
+
+# KEY=FILE for the files with an ending, and the folders
+function __ccsl_files
+    set -l value (string replace -r "^$argv[1]=" "" -- (commandline -ct))
+    for name in (__fish_complete_path $value | string replace -r "\t.*" "")
+        if string match -qr "(/|$argv[2])\$" -- $name
+            echo "$argv[1]=$name"
+        end
+    end
+end
+
+complete -c ccsl -f
+complete -c ccsl -n __ccsl_has_no_command -a check -d "Say whether a specification is accepted"
+complete -c ccsl -n __ccsl_has_no_command -a judge -d "Say whether a trace is a run of a specification"
+complete -c ccsl -n "__ccsl_command_is check" -a "(__ccsl_keys spec)"
+complete -c ccsl -n "__ccsl_command_is judge" -a "(__ccsl_keys spec trace workers)"
+complete -c ccsl -n "__ccsl_command_is check judge; and string match -q 'spec=*' -- (commandline -ct)" \
+    -a "(__ccsl_files spec .ccsl)"
+complete -c ccsl -n "__ccsl_command_is judge; and string match -q 'trace=*' -- (commandline -ct)" \
+    -a "(__ccsl_files trace .vcd)"
