@@ -38,6 +38,14 @@ ones-mono w j (suc n) =
 pub ones-monotone : (w : BinaryWord) (j k : ℕ) → j ≤ k → ones w j ≤ ones w k
 ones-monotone w j k l = subst (λ n. ones w j ≤ ones w n) (let s : j + (k - j) ≡ k = omega arith in s) (ones-mono w j (k - j))
 
+pub ones-within : (w : BinaryWord) (j n : ℕ) → ones w (j + n) ≤ ones w j + n
+ones-within w j zero = omega (arith, ap (ones w) (let s : j + 0 ≡ j = omega arith in s))
+ones-within w j (suc n) =
+    omega (arith, ap (ones w) (let s : j + suc n ≡ suc (j + n) = omega arith in s), ones-suc w (j + n), ones-within w j n, as_number-le (letter w (j + n)))
+
+pub period_ones-le : (w : BinaryWord) → period_ones w ≤ length w.period
+period_ones-le w = let most = ones-within w (length w.prefix) (length w.period) in omega (arith, most)
+
 -- ONE TURN OF THE PERIOD
 module _ (w : BinaryWord) (infinite : is_finite w ≡ false) where
   one_turn : (i : ℕ) → ones w (length w.prefix + i + length w.period) ≡ ones w (length w.prefix + i) + period_ones w

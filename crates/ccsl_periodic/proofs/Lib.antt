@@ -1,3 +1,5 @@
 pub mod Counts
 pub mod Turning
 pub mod Failing
+pub mod Divisors
+pub mod Filtering

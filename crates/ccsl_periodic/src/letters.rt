@@ -5,11 +5,13 @@ ghost use Rattle.ccsl_words.specs.Word.{is_finite};
 ghost use Rattle.ccsl_periodic.specs.Ones.{ones, period_ones};
 
 use crate::text::prefix_len;
+use ccsl_base::MAX_LETTERS;
 use ccsl_words::Word;
 
 /// The letters of the period.
 pub fn period_len(word: &Word) -> u64
-    ensures { result ≡ length word.now.period }
+    ensures period { result ≡ length word.now.period }
+    ensures few { result ≤ MAX_LETTERS }
 {
     word.len() - prefix_len(word)
 }
@@ -30,7 +32,8 @@ pub fn ones(word: &Word, end: u64) -> u64
 
 /// The ones of the period.
 pub fn period_ones(word: &Word) -> u64
-    ensures { result ≡ period_ones word.now }
+    ensures ones { result ≡ period_ones word.now }
+    ensures few { result ≤ length word.now.period }
 {
     ones(word, word.len()) - ones(word, prefix_len(word))
 }

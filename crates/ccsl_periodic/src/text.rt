@@ -13,6 +13,7 @@ use std::alloc::Global;
 pub fn prefix_len(word: &Word) -> u64
     ensures prefix { result ≡ length word.now.prefix }
     ensures within { result ≤ word_len word.now }
+    ensures few { result ≤ MAX_LETTERS }
 {
     if word.is_finite() {
         word.len()

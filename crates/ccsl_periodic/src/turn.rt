@@ -25,13 +25,14 @@ impl Turn {
         requires right_infinite { is_finite right.now ≡ false }
         ensures { IsTurn left.now right.now result }
     {
-        let left_turns = period_len(right) / greatest_divisor(period_len(left), period_len(right));
-        let letters = period_len(left) * left_turns;
+        let (left_len, right_len) = (period_len(left), period_len(right));
+        let divisor = greatest_divisor(left_len, right_len);
+        let (left_turns, right_turns) = (right_len / divisor, left_len / divisor);
         Turn {
             start: prefix_len(left).max(prefix_len(right)),
-            letters,
+            letters: left_turns * left_len,
             left: left_turns * period_ones(left),
-            right: letters / period_len(right) * period_ones(right),
+            right: right_turns * period_ones(right),
         }
     }
 }
