@@ -126,6 +126,11 @@ module _ (u v : BinaryWord) (t : Turn) (is : IsTurn u v t) where
           let same : ones u j ≡ ones v j = omega (arith, failed.1, lead, more, ones_u s j l, ones_v s j l) in
           precedes_fails u v j (sym (letter_v s j l) ∙ failed.0) same
 
+  pub never_fails : (r : Between) → (r ≡ Precedes → t.right ≤ t.left) → ((j : ℕ) → j < t.start + t.letters → fails_at r u v j ≡ false) → NeverFails r u v
+  never_fails Precedes keeps below = never_precedes (keeps refl) below
+  never_fails Subclock keeps below = never_subclock below
+  never_fails Excludes keeps below = never_excludes below
+
   -- THE LEAST PLACE OF OVERTAKING is the first failure, where v has more ones in a turn
   pub overtaking_is_first : (first : ℕ) → t.left < t.right → ((k : ℕ) → k < t.start → fails_at Precedes u v k ≡ false) →
       ((j : ℕ) → t.start ≤ j → j < t.start + t.letters → letter v j ≡ true → first ≤ overtaken_at u v t j) →
