@@ -3,3 +3,5 @@ pub mod Turning
 pub mod Failing
 pub mod Divisors
 pub mod Filtering
+pub mod Spelled
+pub mod Repeating

@@ -11,7 +11,7 @@ use ccsl_words::Word;
 /// The letters of the period.
 pub fn period_len(word: &Word) -> u64
     ensures period { result ≡ length word.now.period }
-    ensures few { result ≤ MAX_LETTERS }
+    ensures few { length word.now.prefix + result ≤ MAX_LETTERS }
 {
     word.len() - prefix_len(word)
 }

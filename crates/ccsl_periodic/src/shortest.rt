@@ -6,7 +6,7 @@ ghost use Rattle.ccsl_periodic.specs.Canonical.{IsCanonical, RepeatsFrom};
 
 use crate::letters::period_len;
 use crate::text::{first_letters, prefix_len, word_of};
-use ccsl_base::Memory;
+use ccsl_base::{MAX_LETTERS, Memory};
 use ccsl_words::Word;
 use std::alloc::Global;
 
@@ -25,7 +25,7 @@ pub fn canonical(alloc: Global, word: &Word) -> Result<Word, Memory>
 fn shortest_period(word: &Word) -> u64
     requires { is_finite word.now ≡ false }
     ensures some { 0 < result }
-    ensures within { result ≤ length word.now.period }
+    ensures few { length word.now.prefix + result ≤ MAX_LETTERS }
     ensures repeats { RepeatsFrom word.now (length word.now.prefix) result }
     ensures least { (n : ℕ) → 0 < n → RepeatsFrom word.now (length word.now.prefix) n → result ≤ n }
 {
@@ -41,16 +41,21 @@ fn shortest_period(word: &Word) -> u64
 /// Whether the letters behind the prefix come again after so many.
 fn repeats(word: &Word, period: u64) -> bool
     requires infinite { is_finite word.now ≡ false }
-    requires small { period ≤ length word.now.period }
+    requires few { length word.now.prefix + period ≤ MAX_LETTERS }
     ensures { IsTrue result ↔ RepeatsFrom word.now (length word.now.prefix) period }
 {
-    (prefix_len(word)..word.len()).all(|k| word.letter(k + period) == word.letter(k))
+    for k in prefix_len(word)..word.len() {
+        if word.letter(k + period) != word.letter(k) {
+            return false;
+        }
+    }
+    true
 }
 
 /// The first place from which on the letters come again after so many, where they do so behind the prefix.
 fn shortest_prefix(word: &Word, period: u64) -> u64
     requires repeats { RepeatsFrom word.now (length word.now.prefix) period }
-    requires small { period ≤ length word.now.period }
+    requires few { length word.now.prefix + period ≤ MAX_LETTERS }
     ensures within { result ≤ length word.now.prefix }
     ensures repeats { RepeatsFrom word.now result period }
     ensures least { (n : ℕ) → RepeatsFrom word.now n period → result ≤ n }

@@ -1,6 +1,6 @@
 //! Words as texts.
 
-ghost use Rattle.std.specs.Prelude.{◌≡◌, ◌+◌, ◌-◌, ◌<◌, ◌≤◌, ◌++◌, length, take, drop, map, is_ok, IfOk, if◌then◌else◌};
+ghost use Rattle.std.specs.Prelude.{◌≡◌, ◌+◌, ◌-◌, ◌<◌, ◌≤◌, ◌++◌, length, take, drop, map, IfOk, OnOk};
 ghost use Rattle.std.specs.List.{range_with_len};
 ghost use Rattle.ccsl_words.specs.Word.{letter, word_len};
 ghost use Rattle.ccsl_words.specs.Spelling.{digits, spelling};
@@ -49,8 +49,11 @@ pub(crate) fn word_of(alloc: Global, letters: &[bool], prefix: usize) -> Result<
     ensures { IfOk result (λ w. w ≡ record { prefix = take prefix letters.now; period = drop prefix letters.now }) }
 {
     let text = spell(alloc, letters, prefix)?;
-    // a text that is spelled has no fault
-    Word::read(alloc, text.as_slice()).map_err(|_| Memory)
+    match Word::read(alloc, text.as_slice()) {
+        Ok(word) => Ok(word),
+        // a text that is spelled has no other fault
+        Err(_) => Err(Memory),
+    }
 }
 
 /// The text of that word.
@@ -71,7 +74,7 @@ fn spell(alloc: Global, letters: &[bool], prefix: usize) -> Result<Vec<u8>, Memo
 
 /// Appends the digits of letters.
 fn push_digits(text: &mut Vec<u8>, letters: &[bool]) -> Result<(), Memory>
-    ensures { is_ok result ≡ is_ok result }
+    ensures { OnOk result (text.new.items ≡ text.old.items ++ digits letters.now) }
 {
     for letter in letters {
         text.push(if *letter { b'1' } else { b'0' })?;
