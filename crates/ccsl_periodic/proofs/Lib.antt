@@ -5,3 +5,4 @@ pub mod Divisors
 pub mod Filtering
 pub mod Spelled
 pub mod Repeating
+pub mod Plain
