@@ -2,6 +2,7 @@
 use Rattle.std.proofs.Common.{◌≡◌, ℕ, zero, suc, ◌+◌, ◌-◌, ◌*◌, ◌/◌, ◌<◌, ◌≤◌, length, Bool, true, false, ◌&&◌, refl, sym, ap, ap₂, ◌∙◌, subst, arith, ⊎_elim}
 use Rattle.std.specs.Int.{IsGcd}
 use Rattle.std.proofs.lemmas.Bool.{cases_Bool, cases_lt, both_ways}
+use Rattle.std.proofs.lemmas.List.{length-take, length-drop}
 use Rattle.std.proofs.Math.Nat.{mul-le-mul_left, mul_comm}
 use Rattle.ccsl_words.specs.Word.{BinaryWord, letter, is_finite, word_len}
 use Rattle.ccsl_words.proofs.Letters.{letter_turn, infinite_len}
@@ -9,7 +10,7 @@ use Rattle.ccsl_periodic.specs.Ones.{ones, period_ones}
 use Rattle.ccsl_periodic.specs.Filtered.{on_letter, IsOn, IsBehindBoth, IsCommonTurn, IsShapeBy, IsPlainShape}
 use Rattle.ccsl_periodic.proofs.Counts.{as_number, ones-more, ones-monotone, ones-turn, repeats-period}
 use Rattle.ccsl_periodic.proofs.Divisors.{same_turn}
-use Rattle.ccsl_periodic.proofs.Spelled.{spelled, infinite-spelled, letter-spelled}
+use Rattle.ccsl_periodic.proofs.Spelled.{front, front_len, spelled, infinite-spelled, letter-spelled}
 use Rattle.ccsl_periodic.proofs.Turning.{letter-turns, ones-turns}
 
 -- ONE LETTER, as a program reads it
@@ -105,3 +106,11 @@ module _ (u v : BinaryWord) (left : is_finite u ≡ false) (right : is_finite v 
     infinite = infinite-spelled (on_letter u v) p q some (on_repeats p q shape);
     letters = letter-spelled (on_letter u v) p q some (on_repeats p q shape);
   }
+
+-- the length of what is spelled so
+pub len-spelled : (f : ℕ → Bool) (p q : ℕ) → word_len (spelled f p q) ≡ p + q
+len-spelled f p q =
+    let n = front_len f (p + q) in
+    let a = length-take p (front f (p + q)) in
+    let b = length-drop p (front f (p + q)) in
+    omega arith

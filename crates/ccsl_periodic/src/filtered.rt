@@ -26,12 +26,6 @@ pub enum OnFault {
     Memory,
 }
 
-impl From<Memory> for OnFault {
-    fn from(_memory: Memory) -> OnFault {
-        OnFault::Memory
-    }
-}
-
 /// The word that filters as `left` and then `right` do. Prefix and period are as they come, without a search for shorter ones.
 pub fn on(alloc: Global, left: &Word, right: &Word) -> Result<Word, OnFault>
     requires left_infinite { is_finite left.now ≡ false }
@@ -46,8 +40,24 @@ pub fn on(alloc: Global, left: &Word, right: &Word) -> Result<Word, OnFault>
     if len > MAX_LETTERS as u64 {
         return Err(OnFault::TooLong(len));
     }
-    let letters = on_letters(alloc, left, right, len)?;
-    Ok(word_of(alloc, letters.as_slice(), shape.prefix as usize)?)
+    match plain_word(alloc, left, right, &shape) {
+        Ok(word) => Ok(word),
+        Err(Memory) => Err(OnFault::Memory),
+    }
+}
+
+/// The word with so many letters of `left` on `right` as its prefix and so many as its period.
+fn plain_word(alloc: Global, left: &Word, right: &Word, shape: &Shape) -> Result<Word, Memory>
+    requires left_infinite { is_finite left.now ≡ false }
+    requires right_infinite { is_finite right.now ≡ false }
+    requires shape { IsPlainShape left.now right.now shape.now.prefix shape.now.period }
+    requires some { 0 < shape.now.period }
+    requires few { shape.now.prefix + shape.now.period ≤ MAX_LETTERS }
+    ensures word { IfOk result (IsOn left.now right.now) }
+    ensures len { IfOk result (λ w. word_len w ≡ shape.now.prefix + shape.now.period) }
+{
+    let letters = on_letters(alloc, left, right, shape.prefix + shape.period)?;
+    word_of(alloc, letters.as_slice(), shape.prefix as usize)
 }
 
 /// The letters of a prefix and of a period.
