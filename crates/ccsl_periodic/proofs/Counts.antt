@@ -1,9 +1,8 @@
 -- The ones of a word, one letter after another.
-use Rattle.std.proofs.Common.{◌≡◌, ℕ, zero, suc, ◌+◌, ◌-◌, ◌*◌, ◌<◌, ◌≤◌, length, Bool, true, false, cond, refl, sym, ap, ap₂, ◌∙◌, subst, arith, ⊎_elim}
-use Rattle.std.proofs.lemmas.Bool.{cases_Bool}
+use Rattle.std.proofs.Common.{◌≡◌, ℕ, zero, suc, ◌+◌, ◌-◌, ◌≤◌, length, Bool, true, false, cond, ap, ◌∙◌, subst, arith}
 use mir.Val.{bool_byte}
 use Rattle.ccsl_words.specs.Word.{BinaryWord, letter, word_len, is_finite}
-use Rattle.ccsl_words.proofs.Letters.{letter_turn, infinite_len}
+use Rattle.ccsl_words.proofs.Letters.{letter_turn}
 use Rattle.ccsl_periodic.specs.Ones.{ones, period_ones}
 use Rattle.ccsl_periodic.specs.Turns.{Repeats}
 
@@ -52,7 +51,7 @@ module _ (w : BinaryWord) (infinite : is_finite w ≡ false) where
   one_turn zero =
       ap (ones w) (let s : length w.prefix + 0 + length w.period ≡ word_len w = omega arith in s)
       ∙ (let mono = ones-mono w (length w.prefix) (length w.period) in
-         let same = ap (ones w) (let s : length w.prefix + 0 ≡ length w.prefix = omega arith in s) in omega arith)
+      let same = ap (ones w) (let s : length w.prefix + 0 ≡ length w.prefix = omega arith in s) in omega arith)
   one_turn (suc i) =
       let here = length w.prefix + i in
       let there = here + length w.period in

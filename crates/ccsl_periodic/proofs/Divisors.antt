@@ -1,8 +1,8 @@
 -- The least common multiple of two numbers, by their greatest common divisor.
-use Rattle.std.proofs.Common.{◌≡◌, ℕ, zero, suc, ◌+◌, ◌-◌, ◌*◌, ◌/◌, ◌<◌, ◌≤◌, refl, sym, ap, ap₂, ◌∙◌, subst, arith, ⊎_elim}
+use Rattle.std.proofs.Common.{◌≡◌, ℕ, ◌*◌, ◌/◌, ◌<◌, ◌≤◌, sym, ap, ◌∙◌, subst, arith, ⊎_elim}
 use Rattle.std.specs.Int.{IsGcd}
 use Rattle.std.proofs.lemmas.Bool.{cases_lt}
-use Rattle.std.proofs.Math.Nat.{div-mul_cancel, div-le_self, mul_comm}
+use Rattle.std.proofs.Math.Nat.{div-mul_cancel}
 
 -- the factors of an outer product may change places
 exchanged : (x y g : ℕ) → y * (x * g) ≡ x * (y * g)

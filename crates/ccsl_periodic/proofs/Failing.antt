@@ -1,17 +1,17 @@
 -- Where two words that repeat together fail one another.
 use Rattle.std.proofs.Common.{◌≡◌, ℕ, zero, suc, ◌+◌, ◌-◌, ◌*◌, ◌/◌, ◌%◌, ◌<◌, ◌≤◌, ◌≢◌, min, Bool, true, false, not, ◌&&◌, refl, sym, ap, ap₂, ◌∙◌, subst, arith, ⊎_elim, nat_eq, eqb-true, eq-eqb}
 use Rattle.std.specs.Int.{div_ceil}
-use Rattle.std.proofs.lemmas.Bool.{cases_Bool, cases_lt, and_parts, and_cases, and_from, eqb-false, false_from_ne_true, both_ways}
+use Rattle.std.proofs.lemmas.Bool.{cases_Bool, cases_lt, and_parts, and_from, false_from_ne_true, both_ways}
 use Rattle.std.proofs.lemmas.Grind.{div_ceil_times}
 use Rattle.std.proofs.lemmas.Nat.{mul-le}
-use Rattle.std.proofs.Math.Nat.{mul-le-mul_left, mul-le-mul_right, div-lt_iff_lt-mul}
+use Rattle.std.proofs.Math.Nat.{mul-le-mul_left, mul-le-mul_right}
 use Rattle.ccsl_words.specs.Word.{BinaryWord, letter}
 use Rattle.ccsl_periodic.specs.declared.between.Between.{Between}
 use Rattle.ccsl_periodic.specs.declared.between.Between.TheVariants.{Precedes, Subclock, Excludes}
 use Rattle.ccsl_periodic.specs.declared.turn.Turn.{Turn}
 use Rattle.ccsl_periodic.specs.Ones.{ones}
-use Rattle.ccsl_periodic.specs.Failures.{fails_where, fails_at, IsFirstFailure, NeverFails}
-use Rattle.ccsl_periodic.specs.Turns.{Repeats, IsTurn, overtaken_at}
+use Rattle.ccsl_periodic.specs.Failures.{fails_at, IsFirstFailure, NeverFails}
+use Rattle.ccsl_periodic.specs.Turns.{IsTurn, overtaken_at}
 use Rattle.ccsl_periodic.proofs.Counts.{as_number, ones-suc, ones-more, ones-monotone}
 use Rattle.ccsl_periodic.proofs.Turning.{letter-turns, ones-turns}
 

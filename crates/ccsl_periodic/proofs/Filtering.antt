@@ -1,5 +1,5 @@
 -- How filters tick: by the letters that the ticks of the filtered clock have.
-use Rattle.std.proofs.Common.{◌≡◌, ℕ, zero, suc, ◌+◌, ◌<◌, ◌≤◌, List, [], ◌∷◌, ◌++◌, map, length, take, get_or, Bool, true, false, not, ◌&&◌, ◌||◌, cond, Some, None, slice_get, refl, sym, ap, ap₂, ◌∙◌, subst, arith, ⊎_elim, nat_eq, if◌then◌else◌}
+use Rattle.std.proofs.Common.{◌≡◌, ℕ, zero, suc, ◌+◌, ◌<◌, ◌≤◌, List, [], ◌∷◌, ◌++◌, map, length, take, Bool, true, false, not, ◌&&◌, ◌||◌, cond, Some, None, refl, sym, ap, ap₂, ◌∙◌, arith, ⊎_elim, nat_eq, if◌then◌else◌}
 use Rattle.std.proofs.Math.Seq.{take-suc}
 use Rattle.std.proofs.lemmas.Bool.{cases_Bool, cases_lt, and_left, and_right, and_from, not_from_true, not_from_false}
 use Rattle.ccsl_base.specs.Clocks.{ticks_in}
@@ -10,7 +10,7 @@ use Rattle.ccsl_kernel.specs.declared.expr.Place.TheVariants as place
 use Rattle.ccsl_kernel.specs.Syntax.{Expression, EName, System}
 use Rattle.ccsl_kernel.specs.Actuals.{word_of, word_or_empty}
 use Rattle.ccsl_kernel.specs.Ticks.{count}
-use Rattle.ccsl_kernel.specs.Table.{Now, filter_row}
+use Rattle.ccsl_kernel.specs.Table.{filter_row}
 use Rattle.ccsl_kernel.specs.Lives.{Step, Life, steps, step_at, ticks_at, over_one}
 use Rattle.ccsl_kernel.specs.Meaning.{meaning}
 use Rattle.ccsl_kernel.specs.Items.{clock_count, relation_formula}
@@ -21,8 +21,8 @@ use Rattle.ccsl_periodic.specs.declared.between.Between.{Between}
 use Rattle.ccsl_periodic.specs.declared.between.Between.TheVariants.{Precedes, Subclock, Excludes}
 use Rattle.ccsl_periodic.specs.Ones.{ones}
 use Rattle.ccsl_periodic.specs.Failures.{fails_at, IsFirstFailure, NeverFails}
-use Rattle.ccsl_periodic.specs.Filtered.{on_letter, IsOn}
-use Rattle.ccsl_periodic.specs.Filters.{kind_of, IsWordAt, filter_by_word, IsFilter, relation_holds, HoldsUntil, HoldsAlways, FiltersAreRelated, ExpressionsTick, ClocksTick, FiltersCompose}
+use Rattle.ccsl_periodic.specs.Filtered.{IsOn}
+use Rattle.ccsl_periodic.specs.Filters.{kind_of, IsWordAt, filter_by_word, IsFilter, relation_holds, FiltersAreRelated, ExpressionsTick, ClocksTick, FiltersCompose}
 
 -- how often t holds from b to n - 1
 abbrev pub count_from : (ℕ → Bool) → ℕ → ℕ → ℕ

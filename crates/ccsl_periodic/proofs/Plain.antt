@@ -1,11 +1,10 @@
 -- The plain spelling of one word on another.
-use Rattle.std.proofs.Common.{◌≡◌, ℕ, zero, suc, ◌+◌, ◌-◌, ◌*◌, ◌/◌, ◌<◌, ◌≤◌, length, Bool, true, false, ◌&&◌, refl, sym, ap, ap₂, ◌∙◌, subst, arith, ⊎_elim}
-use Rattle.std.specs.Int.{IsGcd}
-use Rattle.std.proofs.lemmas.Bool.{cases_Bool, cases_lt, both_ways}
+use Rattle.std.proofs.Common.{◌≡◌, ℕ, zero, suc, ◌+◌, ◌*◌, ◌/◌, ◌<◌, ◌≤◌, length, Bool, true, false, ◌&&◌, refl, sym, ap, ap₂, ◌∙◌, subst, arith, ⊎_elim}
+use Rattle.std.proofs.lemmas.Bool.{cases_Bool, cases_lt}
 use Rattle.std.proofs.lemmas.List.{length-take, length-drop}
 use Rattle.std.proofs.Math.Nat.{mul-le-mul_left, mul_comm}
 use Rattle.ccsl_words.specs.Word.{BinaryWord, letter, is_finite, word_len}
-use Rattle.ccsl_words.proofs.Letters.{letter_turn, infinite_len}
+use Rattle.ccsl_words.proofs.Letters.{infinite_len}
 use Rattle.ccsl_periodic.specs.Ones.{ones, period_ones}
 use Rattle.ccsl_periodic.specs.Filtered.{on_letter, IsOn, IsBehindBoth, IsCommonTurn, IsShapeBy, IsPlainShape}
 use Rattle.ccsl_periodic.proofs.Counts.{as_number, ones-more, ones-monotone, ones-turn, repeats-period}
@@ -30,7 +29,7 @@ module _ (u v : BinaryWord) where
     behind_left = left;
     behind_right = right;
     least = λ j l m.
-    ⊎_elim (λ (b : j < k). let few = before j l b in absurd (omega (arith, few, m))) (λ (b : k ≤ j). b) (cases_lt j k);
+        ⊎_elim (λ (b : j < k). let few = before j l b in absurd (omega (arith, few, m))) (λ (b : k ≤ j). b) (cases_lt j k);
   }
 
   pub one_not_behind : (k : ℕ) → IsNotBehind k → ones u k < length v.prefix → IsNotBehind (k + 1)

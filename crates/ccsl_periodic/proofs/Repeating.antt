@@ -1,6 +1,6 @@
 -- After how many letters a word comes again, and its shortest spelling.
 use mathlib.Core.Bool.{beq}
-use Rattle.std.proofs.Common.{◌≡◌, ℕ, zero, suc, ◌+◌, ◌-◌, ◌*◌, ◌/◌, ◌%◌, ◌<◌, ◌≤◌, length, Bool, true, false, not, refl, sym, ap, ap₂, ◌∙◌, subst, arith, ⊎_elim}
+use Rattle.std.proofs.Common.{◌≡◌, ℕ, ◌+◌, ◌-◌, ◌*◌, ◌/◌, ◌%◌, ◌<◌, ◌≤◌, length, Bool, true, false, not, refl, sym, ap, ◌∙◌, subst, arith, ⊎_elim}
 use Rattle.std.proofs.lemmas.Bool.{cases_lt}
 use Rattle.std.proofs.Math.Nat.{mul-le-mul_left}
 use Rattle.ccsl_words.specs.Word.{BinaryWord, letter, is_finite, word_len}
@@ -64,9 +64,9 @@ module _ (w : BinaryWord) (infinite : is_finite w ≡ false) where
     spells = record { infinite = infinite-spelled (letter w) p q some repeats; letters = letter-spelled (letter w) p q some repeats };
     period = λ x is. let n = period-spelled (letter w) p q some repeats in let m = shortest (length x.period) (infinite_len x is.infinite) (spelled_repeats x is) in omega (arith, n, m);
     prefix = λ x is e.
-    let n = prefix-spelled (letter w) p q some repeats in
-    let m = first (length x.prefix) (spelled_from x q is (e ∙ period-spelled (letter w) p q some repeats)) in
-    omega (arith, n, m);
+        let n = prefix-spelled (letter w) p q some repeats in
+        let m = first (length x.prefix) (spelled_from x q is (e ∙ period-spelled (letter w) p q some repeats)) in
+        omega (arith, n, m);
   }
 
 -- ONE NUMBER MORE after which the letters don't come again

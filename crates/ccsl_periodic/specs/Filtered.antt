@@ -5,7 +5,7 @@
 use Rattle.std.specs.Prelude.{◌≡◌, ℕ, zero, suc, ◌+◌, ◌*◌, ◌/◌, ◌<◌, ◌≤◌, length, Bool, false, ◌&&◌}
 use Rattle.std.specs.Int.{IsGcd}
 use Rattle.ccsl_base.specs.declared.limits.TheConstants.{MAX_LETTERS}
-use Rattle.ccsl_words.specs.Word.{BinaryWord, letter, is_finite, word_len}
+use Rattle.ccsl_words.specs.Word.{BinaryWord, letter, is_finite}
 use Rattle.ccsl_periodic.specs.declared.filtered.OnFault.{OnFault}
 use Rattle.ccsl_periodic.specs.declared.filtered.OnFault.TheVariants as fault
 use Rattle.ccsl_periodic.specs.Ones.{ones, period_ones}

@@ -1,5 +1,5 @@
 -- WHAT WORDS SAY OF FILTERS in every list of steps that obeys the definitions of a system.
-use Rattle.std.specs.Prelude.{◌≡◌, ℕ, suc, ◌+◌, ◌<◌, ◌≤◌, List, [], Bool, true, false, Option, Some, None, length, slice_get}
+use Rattle.std.specs.Prelude.{◌≡◌, ℕ, suc, ◌<◌, ◌≤◌, List, Bool, true, false, Option, Some, None, length, slice_get}
 use Rattle.ccsl_base.specs.Clocks.{ticks_in}
 use Rattle.ccsl_formula.specs.Formula.{eval}
 use Rattle.ccsl_words.specs.Word.{BinaryWord}
@@ -15,8 +15,6 @@ use Rattle.ccsl_kernel.specs.Items.{clock_count, relation_formula}
 use Rattle.ccsl_kernel.specs.Runs.{ObeysDefinitions}
 use Rattle.ccsl_periodic.specs.declared.between.Between.{Between}
 use Rattle.ccsl_periodic.specs.declared.between.Between.TheVariants as between
-use Rattle.ccsl_periodic.specs.Failures.{IsFirstFailure, NeverFails}
-use Rattle.ccsl_periodic.specs.Filtered.{IsOn}
 
 -- the relation of the text language
 abbrev pub kind_of : Between → RelationKind

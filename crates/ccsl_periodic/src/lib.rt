@@ -17,6 +17,3 @@ pub use failure::compare;
 pub use filtered::{OnFault, on};
 pub use shortest::canonical;
 pub use text::{prefix_len, write};
-
-#[cfg(test)]
-mod tests;

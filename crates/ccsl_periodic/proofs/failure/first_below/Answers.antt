@@ -1,7 +1,4 @@
-use Rattle.std.proofs.Common.{◌≡◌, ◌+◌, arith, sym, ◌∙◌, ap, ap₂, true, nat_eq, below_more}
-use Rattle.ccsl_words.specs.Word.{letter}
-use Rattle.ccsl_periodic.specs.Ones.{ones}
-use Rattle.ccsl_periodic.specs.Failures.{fails_where, fails_at}
+use Rattle.std.proofs.Common.{arith, below_more}
 use Rattle.ccsl_periodic.proofs.Counts.{ones-next, byte-le}
 use Rattle.ccsl_periodic.proofs.failure.first_below.Goals as goal
 

@@ -1,6 +1,5 @@
 use Rattle.std.proofs.Common.{◌≡◌, ◌<◌, ◌+◌, ◌-◌, ◌*◌, arith, sym, ap, ap₂, ◌∙◌, subst, refl, min}
 use Rattle.std.specs.Int.{div_ceil}
-use Rattle.ccsl_periodic.specs.Ones.{ones}
 use Rattle.ccsl_periodic.specs.Turns.{overtaken_at}
 use Rattle.ccsl_periodic.proofs.Counts.{ones-next, byte-le}
 use Rattle.ccsl_periodic.proofs.Failing.{IsSoFar, at_start, one_rests, one_ticks, so_far_is_first}
@@ -23,12 +22,12 @@ so_far c =
     let t = c.args.turn.now in
     let k = c.loop-k.k in
     elim c.if-right_ticks.branch [
-      then-right_ticks w ↦
-        let place : w.overtaken_at.result ≡ overtaken_at u v t k = w.overtaken_at.ensures.place ∙ ap₂ (λ m n. k + div_ceil (m - n) (t.right - t.left) * t.letters) c.loop-k.invariant.left c.loop-k.invariant.right in
-        let more = one_ticks u v t c.loop-k.first k (omega arith) (sym c.letter-right_ticks.ensures ∙ w.if-right_ticks.true) (subst (λ n. n < 18446744073709551615) place w.overtaken_at.ensures.small) c.loop-k.invariant.so_far in
-        subst (λ n. IsSoFar u v t n (k + 1)) (sym (w.first-is ∙ w.min-first.ensures ∙ ap (min c.loop-k.first) place)) more
+      | then-right_ticks w ↦
+          let place : w.overtaken_at.result ≡ overtaken_at u v t k = w.overtaken_at.ensures.place ∙ ap₂ (λ m n. k + div_ceil (m - n) (t.right - t.left) * t.letters) c.loop-k.invariant.left c.loop-k.invariant.right in
+          let more = one_ticks u v t c.loop-k.first k (omega arith) (sym c.letter-right_ticks.ensures ∙ w.if-right_ticks.true) (subst (λ n. n < 18446744073709551615) place w.overtaken_at.ensures.small) c.loop-k.invariant.so_far in
+          subst (λ n. IsSoFar u v t n (k + 1)) (sym (w.first-is ∙ w.min-first.ensures ∙ ap (min c.loop-k.first) place)) more
       | else-right_ticks w ↦
-        subst (λ n. IsSoFar u v t n (k + 1)) (sym w.first-is) (one_rests u v t c.loop-k.first k (sym c.letter-right_ticks.ensures ∙ w.if-right_ticks.false) c.loop-k.invariant.so_far)
+          subst (λ n. IsSoFar u v t n (k + 1)) (sym w.first-is) (one_rests u v t c.loop-k.first k (sym c.letter-right_ticks.ensures ∙ w.if-right_ticks.false) c.loop-k.invariant.so_far)
     ]
 
 pub loop-k-preserved : goal.loop-k-preserved

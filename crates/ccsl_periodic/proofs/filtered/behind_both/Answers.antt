@@ -1,4 +1,4 @@
-use Rattle.std.proofs.Common.{◌≡◌, arith}
+use Rattle.std.proofs.Common.{arith}
 use Rattle.ccsl_periodic.proofs.Counts.{ones-next, byte-le}
 use Rattle.ccsl_periodic.proofs.Plain.{first_behind, one_not_behind, behind_at_end}
 use Rattle.ccsl_periodic.proofs.filtered.behind_both.Goals as goal

@@ -1,11 +1,10 @@
-use Rattle.std.proofs.Common.{◌≡◌, ◌<◌, length, arith, refl, sym}
+use Rattle.std.proofs.Common.{length, arith, refl}
 use Rattle.std.specs.Int.{IsGcd}
 use Rattle.std.proofs.Math.Nat.{mul-pos}
 use Rattle.ccsl_words.proofs.Letters.{infinite_len}
 use Rattle.ccsl_periodic.specs.Ones.{period_ones}
-use Rattle.ccsl_periodic.specs.Filtered.{IsCommonTurn}
 use Rattle.ccsl_periodic.proofs.Divisors.{divisor_pos, quotient_pos}
-use Rattle.ccsl_periodic.proofs.Plain.{shape_turns, shape_still}
+use Rattle.ccsl_periodic.proofs.Plain.{shape_turns}
 use Rattle.ccsl_periodic.proofs.filtered.plain_shape.Goals as goal
 use Rattle.ccsl_periodic.proofs.filtered.plain_shape.Goals.{After-greatest_divisor}
 

@@ -1,8 +1,8 @@
-use Rattle.std.proofs.Common.{◌≡◌, ℕ, ◌+◌, List, Bool, length, take, drop, arith, subst, ap, ◌∙◌}
+use Rattle.std.proofs.Common.{◌≡◌, ◌+◌, List, Bool, length, take, drop, arith, subst, ap, ◌∙◌}
 use Rattle.std.specs.Prelude.{IfOk}
 use Rattle.ccsl_words.specs.Word.{word_len}
 use Rattle.ccsl_periodic.specs.Filtered.{on_letter, IsOn}
-use Rattle.ccsl_periodic.proofs.Spelled.{front, front_len, spelled, if_ok-is}
+use Rattle.ccsl_periodic.proofs.Spelled.{front_len, spelled, if_ok-is}
 use Rattle.ccsl_periodic.proofs.Plain.{spelled_on, len-spelled}
 use Rattle.ccsl_periodic.proofs.filtered.plain_word.Goals as goal
 use Rattle.ccsl_periodic.proofs.filtered.plain_word.Goals.{After-as_slice, After-drop-letters}

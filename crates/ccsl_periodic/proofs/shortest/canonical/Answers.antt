@@ -1,6 +1,6 @@
-use Rattle.std.proofs.Common.{◌≡◌, ℕ, ◌+◌, List, Bool, length, take, drop, arith, subst, sym, ap, ◌∙◌}
+use Rattle.std.proofs.Common.{◌≡◌, ◌+◌, List, Bool, length, take, drop, arith, subst, ap, ◌∙◌}
 use Rattle.std.specs.Prelude.{IfOk}
-use Rattle.ccsl_words.specs.Word.{BinaryWord, letter}
+use Rattle.ccsl_words.specs.Word.{letter}
 use Rattle.ccsl_periodic.specs.Canonical.{IsCanonical}
 use Rattle.ccsl_periodic.proofs.Spelled.{front, front_len, spelled, if_ok-is}
 use Rattle.ccsl_periodic.proofs.Repeating.{shortest_is_canonical}

@@ -1,4 +1,4 @@
-use Rattle.std.proofs.Common.{◌≡◌, ℕ, ◌+◌, ◌-◌, ◌<◌, ◌≤◌, arith, subst, sym}
+use Rattle.std.proofs.Common.{arith}
 use Rattle.ccsl_periodic.proofs.Repeating.{one_before}
 use Rattle.ccsl_periodic.proofs.shortest.shortest_prefix.Goals as goal
 

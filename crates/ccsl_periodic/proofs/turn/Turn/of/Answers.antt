@@ -1,4 +1,4 @@
-use Rattle.std.proofs.Common.{◌<◌, length, arith, subst, sym}
+use Rattle.std.proofs.Common.{◌<◌, length, arith}
 use Rattle.std.specs.Int.{IsGcd}
 use Rattle.ccsl_words.proofs.Letters.{infinite_len}
 use Rattle.ccsl_periodic.proofs.Divisors.{divisor_pos}
