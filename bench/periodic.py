@@ -1,5 +1,5 @@
 #!/usr/bin/env python3
-"""How long the worst words take: prefix and period of 4,096 letters, periods without a common divisor.
+"""How long the worst words take: prefix and period of 4,096 letters, and periods without a common divisor.
 
     (cd crates/ccsl_periodic_bench && rt run)   builds the program
     python3 bench/periodic.py
@@ -16,7 +16,8 @@ WORST = [
     ("excludes, which never fails", "excludes", "(" + "0" * 4096 + ")", "(" + "1" * 4095 + ")"),
     ("subclock, which never fails", "subclock", "(" + "1" * 4096 + ")", "(" + "1" * 4095 + ")"),
     ("precedes, which never fails", "precedes", "(" + "1" * 4096 + ")", "(0" + "1" * 4094 + ")"),
-    ("precedes, overtaken after turns", "precedes", "(" + "1" * 4094 + "00)", "(0" + "1" * 4094 + ")"),
+    ("precedes, overtaken in the first turn", "precedes", "(" + "1" * 4094 + "00)", "(0" + "1" * 4094 + ")"),
+    ("precedes, which loses one in each turn", "precedes", "1" * 2049 + "(" + "1" * 2046 + "0)", "(0" + "1" * 2047 + ")"),
     ("a prefix that waits for its ones", "on", "(" + "0" * 4095 + "1)", "0" * 4095 + "(1)"),
     ("a period sought to its end", "on", "(1)", "(" + "0" * 4095 + "1)"),
 ]

@@ -6,3 +6,4 @@ pub mod Filtering
 pub mod Spelled
 pub mod Repeating
 pub mod Plain
+pub mod Examples

@@ -32,15 +32,19 @@ fn wrong() -> io::Error {
     io::Error::from(io::ErrorKind::InvalidData)
 }
 
-/// The letters of the canonical word of `left` on `right`, as a text.
+/// The canonical word of `left` on `right` as a text, or why there is none.
 fn on_text(alloc: Global, left: &Word, right: &Word) -> io::Result<String> {
     if left.is_finite() || right.is_finite() {
         return Err(wrong());
     }
-    let word = on(alloc, left, right).map_err(|_| wrong())?;
-    let shortest = canonical(alloc, &word).map_err(|_| no_memory())?;
-    let text = write(alloc, &shortest).map_err(|_| no_memory())?;
-    String::from_utf8(text).map_err(|_| wrong())
+    match on(alloc, left, right) {
+        Ok(word) => {
+            let shortest = canonical(alloc, &word).map_err(|_| no_memory())?;
+            let text = write(alloc, &shortest).map_err(|_| no_memory())?;
+            String::from_utf8(text).map_err(|_| wrong())
+        }
+        Err(fault) => Ok(format!(in alloc; "{fault}")?),
+    }
 }
 
 fn first_failure(left: &Word, right: &Word, relation: Between) -> io::Result<Option<u64>> {
