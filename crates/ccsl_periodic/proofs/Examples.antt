@@ -1,13 +1,12 @@
 -- The definitions on worked words, computed: (10), (1000), 0(10), 1111(0), 0000(1) and (110).
-use Rattle.std.proofs.Common.{◌≡◌, ℕ, zero, suc, ◌+◌, ◌%◌, ◌<◌, ◌≤◌, List, [], ◌∷◌, Bool, true, false, refl, arith}
+use Rattle.std.proofs.Common.{◌≡◌, ◌%◌, [], ◌∷◌, true, false, refl, arith}
 use Rattle.std.specs.Int.{IsGcd}
 use Rattle.std.proofs.lemmas.Nat.Gcd.{IsGcd-from_zero, IsGcd-from_mod}
 use Rattle.ccsl_words.specs.Word.{BinaryWord}
 use Rattle.ccsl_periodic.specs.declared.between.Between.TheVariants.{Precedes, Subclock, Excludes}
-use Rattle.ccsl_periodic.specs.Ones.{ones, period_ones}
+use Rattle.ccsl_periodic.specs.Ones.{period_ones}
 use Rattle.ccsl_periodic.specs.Failures.{fails_at}
 use Rattle.ccsl_periodic.specs.Filtered.{on_letter, IsPlainShape}
-use Rattle.ccsl_periodic.specs.Canonical.{IsCanonical}
 
 abbrev one_two : BinaryWord
 one_two = record { prefix = []; period = true ∷ false ∷ [] }

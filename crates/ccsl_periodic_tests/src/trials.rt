@@ -33,7 +33,10 @@ fn random_pairs_are_compared(rt: HostRuntime) -> Result<(), Fail> {
         let left = word(rt.alloc(), &mut generator)?;
         let right = word(rt.alloc(), &mut generator)?;
         for relation in [Between::Precedes, Between::Subclock, Between::Excludes] {
-            assert!(rt; is_compared(&left, &right, relation), "pair {number}, {relation:?}");
+            assert!(rt;
+                is_compared(&left, &right, relation),
+                "pair {number}, {relation:?}"
+            );
         }
     }
     Ok(())
@@ -63,7 +66,10 @@ fn is_shortest(alloc: Global, word: &Word) -> Result<bool, Fail> {
         return Ok(false);
     }
     let short = canonical(alloc, word)?;
-    let shape = (prefix_len(&short), short.len().saturating_sub(prefix_len(&short)));
+    let shape = (
+        prefix_len(&short),
+        short.len().saturating_sub(prefix_len(&short)),
+    );
     Ok(is_same(&short, word, LETTERS) && shortest(word, 12, LETTERS) == Some(shape))
 }
 
