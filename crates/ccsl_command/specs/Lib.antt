@@ -3,3 +3,4 @@ pub mod Values
 pub mod Pairs
 pub mod Meaning
 pub mod Opened
+pub mod Infinite

@@ -1,5 +1,5 @@
 -- What a command line means: a command, or the first thing at fault.
-use Rattle.std.specs.Prelude.{ℕ, ◌+◌, List, [], ◌∷◌, ◌++◌, Bool, not, ◌&&◌, ◌||◌, Option, Some, None, unwrap_or, Result, Ok, Err, if◌then◌else◌}
+use Rattle.std.specs.Prelude.{ℕ, ◌+◌, List, [], ◌∷◌, ◌++◌, Bool, false, not, ◌&&◌, ◌||◌, Option, Some, None, unwrap_or, Result, Ok, Err, if◌then◌else◌}
 use Rattle.std.specs.List.{find}
 use Rattle.std.specs.Str.{bytes_eq}
 use Rattle.ccsl_command.specs.declared.table.CommandName.{CommandName}
@@ -8,12 +8,15 @@ use Rattle.ccsl_command.specs.declared.table.Key.{Key}
 use Rattle.ccsl_command.specs.declared.table.Key.TheVariants as key
 use Rattle.ccsl_command.specs.declared.table.PolicyName.{PolicyName}
 use Rattle.ccsl_command.specs.declared.table.PolicyName.TheVariants as policy
+use Rattle.ccsl_command.specs.declared.table.RelationName.{RelationName}
+use Rattle.ccsl_command.specs.declared.table.RelationName.TheVariants as relation
 use Rattle.ccsl_command.specs.declared.command.Command.{Command}
 use Rattle.ccsl_command.specs.declared.command.Command.TheVariants as meant
 use Rattle.ccsl_command.specs.declared.usage.Usage.{Usage}
 use Rattle.ccsl_command.specs.declared.usage.Usage.TheVariants as usage
+use Rattle.ccsl_words.specs.Word.{BinaryWord}
 use Rattle.ccsl_command.specs.Table.{commands, command_text, required_keys}
-use Rattle.ccsl_command.specs.Values.{is_value, policy_of, number_in, range_of}
+use Rattle.ccsl_command.specs.Values.{is_value, policy_of, relation_of, infinite_word, number_in, range_of}
 use Rattle.ccsl_command.specs.Pairs.{is_pair, value_part, key_of, is_given, value_of}
 
 -- what is wrong with the word of number i, behind the earlier pairs
@@ -63,6 +66,15 @@ workers_of name pairs = if is_given key.Workers pairs then number_of name key.Wo
 abbrev pub policy_in : List (List ℕ) → PolicyName
 policy_in pairs = unwrap_or (policy_of (value_of key.Policy pairs)) policy.Min
 
+abbrev pub relation_in : List (List ℕ) → RelationName
+relation_in pairs = unwrap_or (relation_of (value_of key.Relation pairs)) relation.Precedes
+
+abbrev pub endless_zeros : BinaryWord
+endless_zeros = record { prefix = []; period = false ∷ [] }
+
+abbrev pub word_in : Key → List (List ℕ) → BinaryWord
+word_in key pairs = unwrap_or (infinite_word (value_of key pairs)) endless_zeros
+
 -- the command of pairs that are not at fault
 abbrev pub command_of : CommandName → List (List ℕ) → Command
 command_of command.Check pairs = meant.Check (value_of key.Spec pairs)
@@ -76,6 +88,7 @@ command_of command.Certify pairs =
 command_of command.Trial pairs =
     meant.Trial (number_of command.Trial key.Clocks pairs) (number_of command.Trial key.Steps pairs)
     (number_of command.Trial key.Seed pairs) (workers_of command.Trial pairs)
+command_of command.Periodic pairs = meant.Periodic (word_in key.Left pairs) (word_in key.Right pairs) (relation_in pairs)
 
 -- The first word at fault comes first, then a missing key, then equal file names.
 abbrev pub pairs_meaning : CommandName → List (List ℕ) → Option Usage → Option Key → Result Command Usage

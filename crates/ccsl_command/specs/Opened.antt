@@ -25,6 +25,7 @@ files_of (meant.Certify spec trace cert) =
     ∷ record { slot = slot.Trace; name = trace }
     ∷ record { slot = slot.Cert; name = cert } ∷ []
 files_of (meant.Trial clocks steps seed workers) = []
+files_of (meant.Periodic left right relation) = []
 
 abbrev pub files_meant : Result Command Usage → List Opened
 files_meant (Ok command) = files_of command

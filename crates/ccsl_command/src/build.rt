@@ -1,14 +1,17 @@
 //! Commands made of pairs that are not at fault.
 
-ghost use Rattle.std.specs.Prelude.{◌≡◌, ◌≤◌, IfOk};
+ghost use Rattle.std.specs.Prelude.{◌≡◌, ◌≤◌, IfOk, false};
 ghost use Rattle.ccsl_command.specs.Pairs.{value_of};
 ghost use Rattle.ccsl_command.specs.Values.{range_of};
-ghost use Rattle.ccsl_command.specs.Meaning.{number_of, workers_of, policy_in, command_of};
+ghost use Rattle.ccsl_words.specs.Word.{is_finite};
+ghost use Rattle.ccsl_command.specs.Meaning.{number_of, workers_of, policy_in, relation_in, endless_zeros, word_in, command_of};
+ghost use Rattle.ccsl_command.specs.Infinite.{HasInfiniteWords};
 
 use crate::pair::{is_given, value_of};
-use crate::value::{number, policy_of};
-use crate::{Command, CommandName, FileName, Key, PolicyName};
+use crate::value::{infinite_word, number, policy_of, relation_of};
+use crate::{Command, CommandName, FileName, Key, PolicyName, RelationName};
 use ccsl_base::{CommandWord, Memory};
+use ccsl_words::Word;
 use std::alloc::Global;
 
 fn file_name(alloc: Global, key: Key, pairs: &[CommandWord]) -> Result<FileName, Memory>
@@ -40,13 +43,39 @@ fn policy_in(pairs: &[CommandWord]) -> PolicyName
     policy_of(value_of(Key::Policy, pairs)).unwrap_or(PolicyName::Min)
 }
 
+fn relation_in(pairs: &[CommandWord]) -> RelationName
+    ensures { result ≡ relation_in pairs.now }
+{
+    relation_of(value_of(Key::Relation, pairs)).unwrap_or(RelationName::Precedes)
+}
+
+fn endless_zeros(alloc: Global) -> Result<Word, Memory>
+    ensures { IfOk result (λ word. word ≡ endless_zeros) }
+{
+    match Word::read(alloc, b"(0)") {
+        Ok(word) => Ok(word),
+        Err(_) => Err(Memory),
+    }
+}
+
+fn word_in(alloc: Global, key: Key, pairs: &[CommandWord]) -> Result<Word, Memory>
+    ensures word { IfOk result (λ word. word ≡ word_in key pairs.now) }
+    ensures infinite { IfOk result (λ word. is_finite word ≡ false) }
+{
+    match infinite_word(alloc, value_of(key, pairs))? {
+        Some(word) => Ok(word),
+        None => endless_zeros(alloc),
+    }
+}
+
 /// The command of pairs. A value that is not there, or not in its range, counts as the least one.
 pub(crate) fn command_of(
     alloc: Global,
     name: CommandName,
     pairs: &[CommandWord],
 ) -> Result<Command, Memory>
-    ensures { IfOk result (λ command. command ≡ command_of name pairs.now) }
+    ensures command { IfOk result (λ command. command ≡ command_of name pairs.now) }
+    ensures infinite { IfOk result (λ command. HasInfiniteWords command) }
 {
     match name {
         CommandName::Check => Ok(Command::Check {
@@ -69,11 +98,17 @@ pub(crate) fn command_of(
             seed: number_of(name, Key::Seed, pairs),
             workers: workers_of(name, pairs),
         }),
+        CommandName::Periodic => Ok(Command::Periodic {
+            left: word_in(alloc, Key::Left, pairs)?,
+            right: word_in(alloc, Key::Right, pairs)?,
+            relation: relation_in(pairs),
+        }),
     }
 }
 
 fn simulate_of(alloc: Global, pairs: &[CommandWord]) -> Result<Command, Memory>
-    ensures { IfOk result (λ command. command ≡ command_of CommandName.Simulate pairs.now) }
+    ensures command { IfOk result (λ command. command ≡ command_of CommandName.Simulate pairs.now) }
+    ensures infinite { IfOk result (λ command. HasInfiniteWords command) }
 {
     Ok(Command::Simulate {
         spec: file_name(alloc, Key::Spec, pairs)?,

@@ -1,6 +1,7 @@
 //! What a command line asks for.
 
-use crate::{FileName, PolicyName};
+use crate::{FileName, PolicyName, RelationName};
+use ccsl_words::Word;
 
 /// A command with its values, each within its range.
 #[derive(Drop)]
@@ -36,5 +37,11 @@ pub enum Command {
         steps: u64,
         seed: u64,
         workers: u32,
+    },
+    /// Compares two periodic filters of one clock for all lengths, or says which filter the one on the other is.
+    Periodic {
+        left: Word,
+        right: Word,
+        relation: RelationName,
     },
 }

@@ -2,6 +2,7 @@
 
 ghost use Rattle.std.specs.Prelude.{◌^◌, ◌≡◌, ◌≢◌, ◌+◌, ◌<◌, [], IfOk, IfErr, Ok, Err, None, length, find, not};
 ghost use Rattle.ccsl_command.specs.Meaning.{meaning, command_named, key_fault, word_fault, first_fault, first_missing, has_same_name, have_same_value};
+ghost use Rattle.ccsl_command.specs.Infinite.{HasInfiniteWords};
 ghost use Rattle.ccsl_command.specs.Pairs.{key_part, value_part, key_of, is_given};
 
 use crate::build::command_of;
@@ -11,17 +12,19 @@ use crate::{Command, CommandName, Key, Usage};
 use ccsl_base::{CommandWord, Memory};
 use std::alloc::Global;
 
-const COMMANDS: [CommandName; 5] = [
+const COMMANDS: [CommandName; 6] = [
     CommandName::Check,
     CommandName::Simulate,
     CommandName::Judge,
     CommandName::Certify,
     CommandName::Trial,
+    CommandName::Periodic,
 ];
 
 /// The command of a list of words, or what is wrong with them: the first word at fault, then a missing key, then equal file names.
 pub fn words(alloc: Global, list: &[CommandWord]) -> Result<Command, Usage>
     ensures meant { IfOk result (λ command. meaning list.now ≡ Ok command) }
+    ensures infinite { IfOk result (λ command. HasInfiniteWords command) }
     ensures refused { IfErr result (λ fault. fault ≢ Usage.Memory → meaning list.now ≡ Err fault) }
 {
     let [first, pairs @ ..] = list else {
@@ -30,8 +33,10 @@ pub fn words(alloc: Global, list: &[CommandWord]) -> Result<Command, Usage>
     let Some(name) = command_named(first.as_str()) else {
         return Err(Usage::UnknownCommand);
     };
-    if let Some(fault) = first_fault(name, pairs) {
-        return Err(fault);
+    match first_fault(alloc, name, pairs) {
+        Ok(None) => {}
+        Ok(Some(fault)) => return Err(fault),
+        Err(Memory) => return Err(Usage::Memory),
     }
     if let Some(key) = first_missing(name, pairs) {
         return Err(Usage::Missing(key));
@@ -53,54 +58,60 @@ fn command_named(word: &str) -> Option<CommandName>
 
 // What is wrong with a pair of word number `i`, behind the earlier pairs.
 fn key_fault(
+    alloc: Global,
     name: CommandName,
     earlier: &[CommandWord],
     i: usize,
     word: &CommandWord,
     pair: Pair<'_>,
-) -> Option<Usage>
+) -> Result<Option<Usage>, Memory>
     requires key { pair.key.now ≡ key_part word.now }
     requires value { pair.value.now ≡ value_part word.now }
-    ensures { result ≡ key_fault name earlier.now i word.now (key_of name word.now) }
+    ensures { IfOk result (λ fault. fault ≡ key_fault name earlier.now i word.now (key_of name word.now)) }
 {
     let Some(key) = key_named(name, pair.key) else {
-        return Some(Usage::UnknownKey(i));
+        return Ok(Some(Usage::UnknownKey(i)));
     };
     if is_given(key, earlier) {
-        return Some(Usage::Repeated(i));
+        return Ok(Some(Usage::Repeated(i)));
     }
-    if !is_value(name, key, pair.value) {
-        return Some(Usage::BadValue(i));
+    if !is_value(alloc, name, key, pair.value)? {
+        return Ok(Some(Usage::BadValue(i)));
     }
-    None
+    Ok(None)
 }
 
 fn word_fault(
+    alloc: Global,
     name: CommandName,
     earlier: &[CommandWord],
     i: usize,
     word: &CommandWord,
-) -> Option<Usage>
-    ensures { result ≡ word_fault name earlier.now i word.now }
+) -> Result<Option<Usage>, Memory>
+    ensures { IfOk result (λ fault. fault ≡ word_fault name earlier.now i word.now) }
 {
     match split(word) {
-        Some(pair) => key_fault(name, earlier, i, word, pair),
-        None => Some(Usage::NotPair(i)),
+        Some(pair) => key_fault(alloc, name, earlier, i, word, pair),
+        None => Ok(Some(Usage::NotPair(i))),
     }
 }
 
 // At most as many keys stand apart as the command has, so each word looks back over a few others only.
-fn first_fault(name: CommandName, pairs: &[CommandWord]) -> Option<Usage>
+fn first_fault(
+    alloc: Global,
+    name: CommandName,
+    pairs: &[CommandWord],
+) -> Result<Option<Usage>, Memory>
     requires { length pairs.now + 1 < 2 ^ 64 }
-    ensures { result ≡ first_fault name [] 1 pairs.now }
+    ensures { IfOk result (λ fault. fault ≡ first_fault name [] 1 pairs.now) }
 {
     for (i, word) in pairs.iter().enumerate() {
-        let fault = word_fault(name, &pairs[..i], i + 1, word);
+        let fault = word_fault(alloc, name, &pairs[..i], i + 1, word)?;
         if fault.is_some() {
-            return fault;
+            return Ok(fault);
         }
     }
-    None
+    Ok(None)
 }
 
 fn first_missing(name: CommandName, pairs: &[CommandWord]) -> Option<Key>

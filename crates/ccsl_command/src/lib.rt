@@ -15,7 +15,7 @@ mod value;
 pub use command::Command;
 pub use command_line::words;
 pub use file_name::FileName;
-pub use table::{CommandName, Key, PolicyName};
+pub use table::{CommandName, Key, PolicyName, RelationName};
 pub use usage::Usage;
 
 /// The most bytes of a file's name.

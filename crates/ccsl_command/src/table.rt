@@ -1,7 +1,7 @@
 //! The table of commands and their keys.
 
 ghost use Rattle.std.specs.Prelude.{◌≡◌};
-ghost use Rattle.ccsl_command.specs.Table.{command_text, key_text, required_keys, keys_of};
+ghost use Rattle.ccsl_command.specs.Table.{command_text, key_text, required_keys, keys_of, relation_text};
 
 /// A command.
 #[derive(Clone, Copy, Debug, PartialEq, Eq)]
@@ -11,6 +11,7 @@ pub enum CommandName {
     Judge,
     Certify,
     Trial,
+    Periodic,
 }
 
 /// The key of a word `key=value`.
@@ -24,6 +25,9 @@ pub enum Key {
     Cert,
     Workers,
     Clocks,
+    Left,
+    Right,
+    Relation,
 }
 
 /// The name of a policy: how a step is chosen among those that are admissible.
@@ -32,6 +36,15 @@ pub enum PolicyName {
     Min,
     Max,
     Seeded,
+}
+
+/// What is asked of two words: whether a relation holds between the filters, or which word the one on the other is.
+#[derive(Clone, Copy, Debug, PartialEq, Eq)]
+pub enum RelationName {
+    Precedes,
+    Subclock,
+    Excludes,
+    On,
 }
 
 impl CommandName {
@@ -45,6 +58,7 @@ impl CommandName {
             CommandName::Judge => "judge",
             CommandName::Certify => "certify",
             CommandName::Trial => "trial",
+            CommandName::Periodic => "periodic",
         }
     }
 
@@ -65,6 +79,7 @@ impl CommandName {
             CommandName::Judge => &[Key::Spec, Key::Trace],
             CommandName::Certify => &[Key::Spec, Key::Trace, Key::Cert],
             CommandName::Trial => &[Key::Clocks, Key::Steps, Key::Seed, Key::Workers],
+            CommandName::Periodic => &[Key::Left, Key::Right, Key::Relation],
         }
     }
 
@@ -93,6 +108,23 @@ impl Key {
             Key::Cert => "cert",
             Key::Workers => "workers",
             Key::Clocks => "clocks",
+            Key::Left => "left",
+            Key::Right => "right",
+            Key::Relation => "relation",
+        }
+    }
+}
+
+impl RelationName {
+    /// Its text behind `relation=`.
+    pub fn text(self) -> &'static str
+        ensures { result.now ≡ relation_text self }
+    {
+        match self {
+            RelationName::Precedes => "precedes",
+            RelationName::Subclock => "subclock",
+            RelationName::Excludes => "excludes",
+            RelationName::On => "on",
         }
     }
 }

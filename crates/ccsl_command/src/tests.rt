@@ -232,3 +232,85 @@ fn one_worker_where_no_word_says_more(rt: HostRuntime) -> Result<(), Fail> {
     assert_eq!(rt; (clocks, steps, seed, workers), (24, 1000, 7, 16));
     Ok(())
 }
+
+#[test]
+fn words_of_periodic(rt: HostRuntime) -> Result<(), Fail> {
+    let alloc = rt.alloc();
+    let with = |left: &str, right: &str, relation: &str| {
+        fault(alloc, &["periodic", left, right, relation])
+    };
+    assert_eq!(rt;
+        with("left=(10)", "right=0(10)", "relation=precedes")?,
+        None
+    );
+    assert_eq!(rt; with("left=(10)", "right=(1)", "relation=excludes")?, None);
+    assert_eq!(rt;
+        with("left=01", "right=(1)", "relation=subclock")?,
+        Some(Usage::BadValue(1))
+    );
+    assert_eq!(rt;
+        with("left=(1)", "right=1(", "relation=subclock")?,
+        Some(Usage::BadValue(2))
+    );
+    assert_eq!(rt;
+        with("right=", "left=(1)", "relation=subclock")?,
+        Some(Usage::BadValue(1))
+    );
+    assert_eq!(rt;
+        with("left=(1)", "right=(1)", "relation=before")?,
+        Some(Usage::BadValue(3))
+    );
+    assert_eq!(rt;
+        with("left=(1)", "right=(1)", "left=(0)")?,
+        Some(Usage::Repeated(3))
+    );
+    assert_eq!(rt;
+        with("left=(1)", "right=(1)", "spec=s")?,
+        Some(Usage::UnknownKey(3))
+    );
+    Ok(())
+}
+
+#[test]
+fn keys_of_periodic(rt: HostRuntime) -> Result<(), Fail> {
+    let alloc = rt.alloc();
+    assert_eq!(rt;
+        fault(alloc, &["periodic", "left=(1)", "right=(1)"])?,
+        Some(Usage::Missing(Key::Relation))
+    );
+    assert_eq!(rt;
+        fault(alloc, &["periodic", "relation=on", "left=(1)"])?,
+        Some(Usage::Missing(Key::Right))
+    );
+    assert_eq!(rt;
+        fault(alloc, &["periodic"])?,
+        Some(Usage::Missing(Key::Left))
+    );
+    assert_eq!(rt;
+        fault(alloc, &["check", "left=(1)"])?,
+        Some(Usage::UnknownKey(1))
+    );
+    Ok(())
+}
+
+#[test]
+fn values_of_periodic(rt: HostRuntime) -> Result<(), Fail> {
+    let alloc = rt.alloc();
+    let line = ["periodic", "relation=on", "right=0(110)", "left=(10)"];
+    let Ok(
+        Command::Periodic {
+            left,
+            right,
+            relation,
+        },
+    ) = words(alloc, &listed(alloc, &line)?)
+    else {
+        assert!(rt; false, "no comparison of words");
+        return Ok(());
+    };
+    assert_eq!(rt; relation, RelationName::On);
+    assert_eq!(rt; (left.len(), right.len()), (2, 4));
+    assert_eq!(rt; (left.letter(0), left.letter(1)), (true, false));
+    assert_eq!(rt; (right.letter(0), right.letter(3)), (false, false));
+    Ok(())
+}

@@ -1,13 +1,22 @@
 //! The values of keys.
 
-ghost use Rattle.std.specs.Prelude.{◌≡◌, ◌≤◌, IfSome};
-ghost use Rattle.ccsl_command.specs.Values.{is_file_name, policy_of, range_of, number_in, is_value};
+ghost use Rattle.std.specs.Prelude.{◌≡◌, ◌≤◌, IfOk, IfSome, Some};
+ghost use Rattle.ccsl_command.specs.Values.{is_file_name, policy_of, relation_of, only_infinite, infinite_word, range_of, number_in, is_value};
 
 use crate::{
     CommandName, Key, MAX_DIGITS, MAX_FILE_NAME, MAX_TRIAL_CLOCKS, MAX_TRIAL_STEPS,
-    MIN_TRIAL_CLOCKS, PolicyName,
+    MIN_TRIAL_CLOCKS, PolicyName, RelationName,
 };
-use ccsl_base::{MAX_STEPS, MAX_WORKERS, decimal};
+use ccsl_base::{MAX_STEPS, MAX_WORKERS, Memory, decimal};
+use ccsl_words::{Word, WordFault};
+use std::alloc::Global;
+
+const RELATIONS: [RelationName; 4] = [
+    RelationName::Precedes,
+    RelationName::Subclock,
+    RelationName::Excludes,
+    RelationName::On,
+];
 
 /// The numbers that a key may have, both ends among them.
 #[derive(Clone, Copy)]
@@ -32,6 +41,35 @@ pub(crate) fn policy_of(text: &str) -> Option<PolicyName>
         "seeded" => Some(PolicyName::Seeded),
         _ => None,
     }
+}
+
+/// The relation of a name.
+pub(crate) fn relation_of(text: &str) -> Option<RelationName>
+    ensures { result ≡ relation_of text.now }
+{
+    RELATIONS.iter().copied().find(|name| name.text() == text)
+}
+
+/// The word of a text, where it has a period.
+pub(crate) fn infinite_word(alloc: Global, text: &str) -> Result<Option<Word>, Memory>
+    ensures { IfOk result (λ word. word ≡ infinite_word text.now) }
+{
+    match Word::read(alloc, text.as_bytes()) {
+        Ok(word) => Ok(only_infinite(word)),
+        Err(fault) => {
+            if matches!(fault, WordFault::Memory) {
+                Err(Memory)
+            } else {
+                Ok(None)
+            }
+        }
+    }
+}
+
+fn only_infinite(word: Word) -> Option<Word>
+    ensures { result ≡ only_infinite (Some word) }
+{
+    if word.is_finite() { None } else { Some(word) }
 }
 
 fn range_of(name: CommandName, key: Key) -> Range
@@ -67,12 +105,19 @@ pub(crate) fn number(name: CommandName, key: Key, text: &str) -> Option<u64>
 }
 
 /// Whether a text may be the value of a key.
-pub(crate) fn is_value(name: CommandName, key: Key, text: &str) -> bool
-    ensures { result ≡ is_value name key text.now }
+pub(crate) fn is_value(
+    alloc: Global,
+    name: CommandName,
+    key: Key,
+    text: &str,
+) -> Result<bool, Memory>
+    ensures { IfOk result (λ fits. fits ≡ is_value name key text.now) }
 {
     match key {
-        Key::Spec | Key::Trace | Key::Cert => is_file_name(text),
-        Key::Policy => policy_of(text).is_some(),
-        _ => number(name, key, text).is_some(),
+        Key::Spec | Key::Trace | Key::Cert => Ok(is_file_name(text)),
+        Key::Policy => Ok(policy_of(text).is_some()),
+        Key::Left | Key::Right => Ok(infinite_word(alloc, text)?.is_some()),
+        Key::Relation => Ok(relation_of(text).is_some()),
+        _ => Ok(number(name, key, text).is_some()),
     }
 }

@@ -1,7 +1,7 @@
 -- THE TABLE OF TEXTS: every line that the program reports. All of it is this project's own. Numbers are decimal, names are as
 -- they are, and the word `steps` stands for every number.
 use Rattle.std.specs.Prelude.{ℕ, zero, suc, ◌+◌, ◌-◌, ◌<◌, List, [], ◌∷◌, ◌++◌, length, codes, decimal, nat_lt, slice_index_or, if◌then◌else◌}
-use Rattle.ccsl_base.specs.declared.limits.TheConstants.{MAX_CLOCKS, MAX_CONSTRAINTS, MAX_CELLS, MAX_SPEC_BYTES, MAX_FILE_BYTES}
+use Rattle.ccsl_base.specs.declared.limits.TheConstants.{MAX_CLOCKS, MAX_CONSTRAINTS, MAX_CELLS, MAX_LETTERS, MAX_SPEC_BYTES, MAX_FILE_BYTES}
 use Rattle.ccsl_lex.specs.declared.fault.LexFault.{LexFault}
 use Rattle.ccsl_lex.specs.declared.fault.LexFault.TheVariants as lex
 use Rattle.ccsl_parse.specs.declared.fault.ParseFault.{ParseFault}
@@ -14,7 +14,8 @@ use Rattle.ccsl_refute.specs.declared.fault.CertFault.{CertFault}
 use Rattle.ccsl_refute.specs.declared.fault.CertFault.TheVariants as cert
 use Rattle.ccsl_command.specs.declared.usage.Usage.{Usage}
 use Rattle.ccsl_command.specs.declared.usage.Usage.TheVariants as usage
-use Rattle.ccsl_command.specs.Table.{key_text}
+use Rattle.ccsl_command.specs.declared.table.RelationName.{RelationName}
+use Rattle.ccsl_command.specs.Table.{key_text, relation_text}
 use Rattle.ccsl_kernel.specs.declared.constraint.Constraint.{Constraint}
 use Rattle.ccsl_kernel.specs.Syntax.{System}
 use Rattle.ccsl_kernel.specs.Cells.{cells}
@@ -81,6 +82,26 @@ abbrev pub trial_text : ℕ → ℕ → ℕ → List ℕ
 trial_text clocks steps ticks = line (
     codes "trial: clocks " ∷ decimal clocks ∷ codes ", steps " ∷ decimal steps ∷ codes ", ticks " ∷ decimal ticks
     ∷ codes ", run: yes" ∷ [])
+
+-- the texts of two words with the relation between them
+abbrev pub related_pieces : List ℕ → List ℕ → RelationName → List (List ℕ)
+related_pieces left right relation =
+    codes "periodic: " ∷ left ∷ codes " " ∷ relation_text relation ∷ codes " " ∷ right ∷ []
+
+abbrev pub periodic_holds_text : List ℕ → List ℕ → RelationName → List ℕ
+periodic_holds_text left right relation = line (related_pieces left right relation ++ codes " holds" ∷ [])
+
+-- the first tick at which it fails, from 1
+abbrev pub periodic_fails_text : List ℕ → List ℕ → RelationName → ℕ → List ℕ
+periodic_fails_text left right relation tick =
+    line (related_pieces left right relation ++ codes " fails at tick " ∷ decimal tick ∷ [])
+
+abbrev pub periodic_word_text : List ℕ → List ℕ
+periodic_word_text word = line (codes "periodic: " ∷ word ∷ [])
+
+abbrev pub periodic_long_text : ℕ → List ℕ
+periodic_long_text letters =
+    line (codes "periodic: " ∷ decimal letters ∷ codes " letters, at most " ∷ decimal MAX_LETTERS ∷ [])
 
 -- REFUSED WORDS
 

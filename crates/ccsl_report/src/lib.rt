@@ -6,6 +6,7 @@ mod fault;
 mod item;
 pub mod judged;
 mod line;
+pub mod periodic;
 pub mod refusal;
 
 pub use answer::{
@@ -13,6 +14,7 @@ pub use answer::{
     trial_done,
 };
 pub use judged::{judge_room, put_no_run, put_run, put_trace_fault};
+pub use periodic::{periodic_fails, periodic_holds, periodic_long, periodic_word};
 pub use refusal::{
     cert_refused, cert_too_long, lex_refused, parse_refused, refused, spec_too_long, trace_refused,
     usage,

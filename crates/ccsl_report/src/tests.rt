@@ -2,7 +2,7 @@
 
 use super::*;
 use ccsl_base::{Memory, Names, Seq, Text};
-use ccsl_command::{Key, Usage};
+use ccsl_command::{Key, RelationName, Usage};
 use ccsl_kernel::{Constraint, Expr, NumPrim, NumTerm, Parts, Place, RelationKind, System};
 use ccsl_lex::LexFault;
 use ccsl_parse::ParseFault;
@@ -86,6 +86,37 @@ fn answers_without_a_system(rt: HostRuntime) -> Result<(), Fail> {
         is(
             trial_done(alloc, 2, 4, 4),
             "trial: clocks 2, steps 4, ticks 4, run: yes\n"
+        )
+    );
+    Ok(())
+}
+
+#[test]
+fn answers_on_two_words(rt: HostRuntime) -> Result<(), Fail> {
+    let alloc = rt.alloc();
+    assert!(rt;
+        is(
+            periodic_holds(alloc, b"(10)", b"(01)", RelationName::Precedes),
+            "periodic: (10) precedes (01) holds\n"
+        )
+    );
+    assert!(rt;
+        is(
+            periodic_fails(alloc, b"(1000)", b"(01)", RelationName::Subclock, 2),
+            "periodic: (1000) subclock (01) fails at tick 2\n"
+        )
+    );
+    assert!(rt;
+        is(
+            periodic_fails(alloc, b"1111(0)", b"(1)", RelationName::Excludes, 1),
+            "periodic: 1111(0) excludes (1) fails at tick 1\n"
+        )
+    );
+    assert!(rt; is(periodic_word(alloc, b"(100)"), "periodic: (100)\n"));
+    assert!(rt;
+        is(
+            periodic_long(alloc, 4098),
+            "periodic: 4098 letters, at most 4096\n"
         )
     );
     Ok(())
