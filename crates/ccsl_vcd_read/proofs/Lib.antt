@@ -1,4 +1,5 @@
 pub mod Numbers
+pub mod Letters
 pub mod InPlace
 pub mod Passing
 pub mod Places

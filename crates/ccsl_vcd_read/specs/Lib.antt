@@ -11,3 +11,4 @@ pub mod Heading
 pub mod Opening
 pub mod Staging
 pub mod Reading
+pub mod Letters

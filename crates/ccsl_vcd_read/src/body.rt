@@ -25,6 +25,7 @@ pub(crate) struct Body {
 }
 
 /// Gives out the row of the present time, if a clock ticks.
+#[inline(always)]
 pub(crate) fn give(body: &Body, out: &mut Block)
     requires { length out.old.rows + length (row_of body.now) ≤ out.old.room }
     ensures { out.new ≡ record out.old { rows = out.old.rows ++ row_of body.now } }
@@ -39,6 +40,7 @@ pub(crate) fn give(body: &Body, out: &mut Block)
 }
 
 impl Body {
+    #[inline(always)]
     fn time(&mut self, at: u64, time: u64, out: &mut Block) -> Result<(), VcdFault>
         requires { length out.old.rows < out.old.room }
         ensures said { Says (time_says self.old at time) result self.old self.new out.old.rows out.new.rows }
@@ -60,6 +62,7 @@ impl Body {
     }
 
     // A change of a code to a value that is 1 or not.
+    #[inline(always)]
     fn change(&mut self, at: u64, code: &[u8], one: bool) -> Result<(), VcdFault>
         ensures { Says (changed_says self.old at code.now one) result self.old self.new [] [] }
     {
@@ -112,6 +115,7 @@ impl Body {
     }
 
     // What stands there until the next token.
+    #[inline(always)]
     fn go(&mut self, amid: Amid) -> Result<(), VcdFault>
         ensures { Says (Ok (record self.old { amid = amid }, [])) result self.old self.new [] [] }
     {
@@ -120,6 +124,7 @@ impl Body {
     }
 
     // A word in a change's place; `code` is the rest of its token.
+    #[inline(always)]
     fn say(&mut self, at: u64, word: Word, code: &[u8], out: &mut Block) -> Result<(), VcdFault>
         requires { length out.old.rows < out.old.room }
         ensures said { Says (word_says self.old at (meant word code.now)) result self.old self.new out.old.rows out.new.rows }
@@ -141,6 +146,7 @@ impl Body {
     }
 
     /// A token that ended, at a place.
+    #[inline(always)]
     pub(crate) fn hear(&mut self, at: u64, text: &[u8], out: &mut Block) -> Result<(), VcdFault>
         requires { length out.old.rows < out.old.room }
         ensures said { Says (hear_of self.old at text.now) result self.old self.new out.old.rows out.new.rows }
@@ -163,8 +169,11 @@ impl Body {
     fn short_change(&mut self, bytes: &[u8]) -> usize
         ensures { Short self.old self.new bytes.now result }
     {
+        if bytes.is_empty() || !is_bit(bytes[0]) {
+            return 0;
+        }
         let end = short_end(bytes);
-        if end == 0 || !self.amid.is_changes() || !is_bit(bytes[0]) {
+        if end == 0 || !self.amid.is_changes() {
             return 0;
         }
         let Some(number) = self.binding.known(&bytes[1..end]) else {
@@ -176,6 +185,7 @@ impl Body {
 
     // Hears what stands at the front of some bytes: a byte of white space, or a token and the white space behind it. It answers
     // how many bytes that are: none where no token ends there, or the token is refused.
+    #[inline(always)]
     fn step(&mut self, at: u64, bytes: &[u8], out: &mut Block) -> usize
         requires room { length out.old.rows < out.old.room }
         ensures within { result ≤ length bytes.now }

@@ -22,6 +22,7 @@ pub struct Mark {
 }
 
 // Makes a clock a member of a set, or takes it out.
+#[inline(always)]
 fn put_clock(set: &mut ClockSet, clock: u32, one: bool)
     requires { clock < MAX_CLOCKS }
     ensures { set.new ≡ put_clock clock one set.old }
@@ -34,6 +35,7 @@ fn put_clock(set: &mut ClockSet, clock: u32, one: bool)
 }
 
 // A change of a clock's code to a value that is 1 or not, in a dump block or not.
+#[inline(always)]
 fn put_in(now: &mut ClockSet, slot: Slot, one: bool, dumped: bool)
     requires { slot.clock < MAX_CLOCKS }
     ensures { now.new ≡ put_in slot one dumped now.old }
@@ -116,6 +118,7 @@ impl Marks {
     }
 
     /// A change of a code to a value that is 1 or not, in a dump block or not.
+    #[inline(always)]
     pub(crate) fn change(&mut self, code: u32, one: bool, dumped: bool)
         ensures { self.new ≡ map (put code one dumped) self.old }
     {
