@@ -4,6 +4,7 @@ pub mod InPlace
 pub mod Passing
 pub mod Places
 pub mod Ascending
+pub mod BitLaws
 pub mod Kept
 pub mod Ticking
 pub mod MarkLaws

@@ -2,6 +2,7 @@ pub mod Meant
 pub mod Marks
 pub mod Users
 pub mod Kept
+pub mod Bits
 pub mod Places
 pub mod Passing
 pub mod Step

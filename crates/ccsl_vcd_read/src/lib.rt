@@ -2,6 +2,7 @@
 #![tactic(auto)]
 
 mod amid;
+mod bits;
 mod body;
 mod buffer;
 mod codes;
