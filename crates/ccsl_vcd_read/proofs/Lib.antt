@@ -5,6 +5,7 @@ pub mod Passing
 pub mod Places
 pub mod Ascending
 pub mod BitLaws
+pub mod RowOrder
 pub mod Kept
 pub mod Ticking
 pub mod MarkLaws

@@ -3,6 +3,7 @@ pub mod Marks
 pub mod Users
 pub mod Kept
 pub mod Bits
+pub mod Order
 pub mod Places
 pub mod Passing
 pub mod Step

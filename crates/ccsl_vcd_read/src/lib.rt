@@ -8,6 +8,7 @@ mod buffer;
 mod codes;
 mod command;
 mod heading;
+pub mod laws;
 mod lexer;
 mod marks;
 mod number;
