@@ -1,11 +1,14 @@
 -- Sets that are kept in words, and the clocks of the one that are not the other's.
-use Rattle.std.proofs.Common.{◌≡◌, ◌≢◌, ℕ, ◌+◌, ◌*◌, ◌/◌, ◌%◌, ◌<◌, ◌≤◌, ◌⊎◌, inl, inr, ⊎_elim, List, [], length, get_or, slice_set, Bool, true, false, not, ◌||◌, ◌&&◌, nat_eq, nat_lt, refl, sym, ap, ◌∙◌, subst, arith}
+use Rattle.std.proofs.Common.{◌≡◌, ◌≢◌, ℕ, ◌+◌, ◌*◌, ◌/◌, ◌%◌, ◌^◌, ◌<◌, ◌≤◌, ◌⊎◌, inl, inr, ⊎_elim, List, [], length, get_or, slice_set, Bool, true, false, not, ◌||◌, ◌&&◌, nat_eq, nat_lt, refl, sym, ap, ap₂, ◌∙◌, subst, arith}
 use Rattle.std.proofs.lemmas.Bool.{cases_eq, cases_lt, lt-ltb, le-ltb}
 use Rattle.std.proofs.lemmas.List.{get_or-set_other, length-set}
+use Rattle.std.proofs.lemmas.Nat.Bits.{bit_at-trailing_zeros}
+use Rattle.std.specs.Int.{w64}
+use lib.Count.{count_trailing_zeros}
 use Rattle.ccsl_base.specs.Bits.{is_set, bit_of, members_of, EmptyFrom}
 use Rattle.ccsl_base.specs.Clocks.{ticks_in, with_clock}
 use Rattle.ccsl_base.proofs.Sets.{ticks_in-with_same, ticks_in-with_other}
-use Rattle.ccsl_base.proofs.Words.{words-with, words-without, has-none}
+use Rattle.ccsl_base.proofs.Words.{words-with, words-without, has-none, ticks_in-words}
 use Rattle.ccsl_vcd_read.specs.Bits.{Adds}
 use Rattle.ccsl_vcd_read.specs.Kept.{put_clock}
 
@@ -116,3 +119,61 @@ bit-less word less place l h n = ⊎_elim
     (λ (e : less ≡ word). let no : true ≡ false = sym h ∙ ap (λ w. is_set w place) (sym e) ∙ n in absurd (cc))
     (λ (e : less ≢ word). omega (arith, l, e))
     (cases_eq less word)
+
+-- The first words of a set have no bit that is not another's.
+pub record Within (i : ℕ) (words others : List ℕ) : Type 0 where
+  pub are : (x : ℕ) → x < 64 * i → (bit_of words x && not (bit_of others x)) ≡ false
+
+pub within-none : (words others : List ℕ) → Within 0 words others
+within-none words others = record { are = λ x l. absurd (omega (arith, l)) }
+
+no-bit : (word k : ℕ) → word ≡ 0 → is_set word k ≡ false
+no-bit word k z = sym (has-none false word k z) ∙ and-false (is_set word k)
+  where
+    and-false : (b : Bool) → (b && false) ≡ false
+    and-false true = refl
+    and-false false = refl
+
+pub within-more : (i word : ℕ) (words others : List ℕ) → Within i words others → word ≡ 0
+    → ((k : ℕ) → k < 64 → is_set word k ≡ (is_set (get_or words i 0) k && not (is_set (get_or others i 0) k))) → Within (i + 1) words others
+within-more i word words others w z h = record {
+  are = λ x l.
+      ⊎_elim
+      (λ (m : x < 64 * i). w.are x m)
+      (λ (m : 64 * i ≤ x).
+      let place : x / 64 ≡ i = omega (arith, l, m) in
+      ap (λ j. is_set (get_or words j 0) (x % 64) && not (is_set (get_or others j 0) (x % 64))) place
+      ∙ sym (h (x % 64) (omega arith)) ∙ no-bit word (x % 64) z)
+      (cases_lt x (64 * i));
+}
+
+pub within-all : (i used : ℕ) (words others : List ℕ) → Within i words others → used ≤ i → EmptyFrom used words → (x : ℕ) → (bit_of words x && not (bit_of others x)) ≡ false
+within-all i used words others w l empty x =
+    ⊎_elim
+    (λ (m : x < 64 * i). w.are x m)
+    (λ (m : 64 * i ≤ x). ap (λ v. v && not (bit_of others x)) (no-bit (get_or words (x / 64) 0) (x % 64) (empty (x / 64) (omega (arith, m, l)))))
+    (cases_lt x (64 * i))
+
+-- a word that is not 0 has a bit
+pub some-bit : (word : ℕ) → word ≢ 0 → word < 2 ^ 64 → (k : ℕ) × (k < 64) × (is_set word k ≡ true)
+some-bit word n fits =
+    let h = bit_at-trailing_zeros w64 word (omega (arith, n)) fits in
+    (count_trailing_zeros 64 word, h.0, ap (λ b. nat_eq b 1) h.1)
+
+pub not-within : (i word : ℕ) (words others : List ℕ) → word ≢ 0 → word < 2 ^ 64
+    → ((k : ℕ) → k < 64 → is_set word k ≡ (is_set (get_or words i 0) k && not (is_set (get_or others i 0) k))) → ((x : ℕ) → (bit_of words x && not (bit_of others x)) ≡ false) → ⊥
+not-within i word words others n fits h none =
+    let s = some-bit word n fits in
+    let x : ℕ = 64 * i + s.0 in
+    let place : x / 64 ≡ i = omega (arith, s.1) in
+    let at : x % 64 ≡ s.0 = omega (arith, s.1) in
+    let e : true ≡ false =
+    sym s.2 ∙ h s.0 s.1 ∙ ap (λ j. is_set (get_or words j 0) s.0 && not (is_set (get_or others j 0) s.0)) (sym place)
+    ∙ ap (λ k. is_set (get_or words (x / 64) 0) k && not (is_set (get_or others (x / 64) 0) k)) (sym at) ∙ none x in
+    absurd (cc)
+
+-- the bits of words are the members of the sets that they stand for
+pub as-ticks : (words others ones earlier : List ℕ) → members_of words ≡ ones → members_of others ≡ earlier → (x : ℕ) → (bit_of words x && not (bit_of others x)) ≡ (ticks_in x ones && not (ticks_in x earlier))
+as-ticks words others ones earlier e f x =
+    ap₂ (λ s t. s && not t) (sym (ticks_in-words words x)) (sym (ticks_in-words others x))
+    ∙ ap₂ (λ s t. ticks_in x s && not (ticks_in x t)) e f

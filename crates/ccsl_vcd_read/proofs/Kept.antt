@@ -230,6 +230,24 @@ pub ticking-members : (now before ticks : List ℕ) (slots : List Slot) → ((x 
 ticking-members now before ticks slots inside h x =
     h x ∙ implied (ticks_in x (clocks_of slots)) (ticks_in x now) (inside x) (not (ticks_in x before)) ∙ sym (ticks-of now before slots x)
 
+-- No clock ticks where each of those that are 1 was.
+
+ticking-has : (now before : List ℕ) (slots : List Slot) → ((x : ℕ) → ticks_in x now ≡ true → ticks_in x (clocks_of slots) ≡ true) → (x : ℕ)
+    → ticks_in x (ticking (map (mark_in now before) slots)) ≡ (ticks_in x now && not (ticks_in x before))
+ticking-has now before slots inside x = ticks-of now before slots x ∙ sym (implied (ticks_in x (clocks_of slots)) (ticks_in x now) (inside x) (not (ticks_in x before)))
+
+no-members : (xs : List ℕ) → ((x : ℕ) → ticks_in x xs ≡ false) → xs ≡ []
+no-members [] h = refl
+no-members (x ∷ xs) h = absurd (let no : true ≡ false = sym (ap (λ t. t || ticks_in x xs) (eq-eqb x x refl)) ∙ h x in cc)
+
+pub quiet-none : (now before : List ℕ) (slots : List Slot) → ((x : ℕ) → ticks_in x now ≡ true → ticks_in x (clocks_of slots) ≡ true) → ((x : ℕ) → (ticks_in x now && not (ticks_in x before)) ≡ false)
+    → ticking (map (mark_in now before) slots) ≡ []
+quiet-none now before slots inside h = no-members (ticking (map (mark_in now before) slots)) (λ x. ticking-has now before slots inside x ∙ h x)
+
+pub none-quiet : (now before : List ℕ) (slots : List Slot) → ((x : ℕ) → ticks_in x now ≡ true → ticks_in x (clocks_of slots) ≡ true) → ticking (map (mark_in now before) slots) ≡ []
+    → (x : ℕ) → (ticks_in x now && not (ticks_in x before)) ≡ false
+none-quiet now before slots inside e x = sym (ticking-has now before slots inside x) ∙ ap (ticks_in x) e
+
 -- A later time.
 
 pub marks-age : (now before later former events : List ℕ) (slots : List Slot) → AllByRecursion (λ s. ticks_in s.clock events ≡ s.event) slots

@@ -1,6 +1,6 @@
 //! Sets of clocks whose members change one by one.
 
-ghost use Rattle.std.specs.Prelude.{◌≡◌, ◌≢◌, ◌<◌, ◌≤◌, ◌+◌, ℕ, [], ◌&&◌, not, true, false};
+ghost use Rattle.std.specs.Prelude.{◌≡◌, ◌≢◌, ◌<◌, ◌≤◌, ◌↔◌, ◌+◌, ℕ, [], ◌&&◌, not, true, false, IsTrue};
 ghost use Rattle.ccsl_base.specs.Bits.{is_set};
 ghost use Rattle.ccsl_base.specs.Clocks.{ticks_in};
 ghost use Rattle.ccsl_vcd_read.specs.Kept.{put_clock};
@@ -97,7 +97,9 @@ impl Bits {
     {
         let place = (clock / u64::BITS) as usize;
         self.words[place] = with_bit(self.words[place], clock % u64::BITS, one);
-        self.used = self.used.max(place + 1);
+        if self.used <= place {
+            self.used = place + 1;
+        }
     }
 
     /// Takes the members of another set out.
@@ -120,6 +122,19 @@ impl Bits {
             self.words[i] = other.words[i];
         }
         self.used = used;
+    }
+
+    /// Whether each member is another's too.
+    #[inline(always)]
+    pub(crate) fn is_within(&self, other: &Bits) -> bool
+        ensures { IsTrue result ↔ ((x : ℕ) → (ticks_in x self.now && not (ticks_in x other.now)) ≡ false) }
+    {
+        for i in 0..self.used {
+            if without(self.words[i], other.words[i]) != 0 {
+                return false;
+            }
+        }
+        true
     }
 
     /// The members that are not another's.

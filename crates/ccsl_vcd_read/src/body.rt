@@ -30,11 +30,10 @@ pub(crate) fn give(body: &Body, out: &mut Block)
     requires { length out.old.rows + length (row_of body.now) ≤ out.old.room }
     ensures { out.new ≡ record out.old { rows = out.old.rows ++ row_of body.now } }
 {
-    let ticks = body.marks.ticking();
-    if !ticks.is_empty() {
+    if !body.marks.are_quiet() {
         out.push(Row {
             time: body.present,
-            ticks,
+            ticks: body.marks.ticking(),
         });
     }
 }

@@ -1,6 +1,6 @@
 //! What is kept of the changes of each bound clock's code.
 
-ghost use Rattle.std.specs.Prelude.{◌≡◌, ◌<◌, ◌++◌, [], ◌∷◌, map, not, IfOk, IsTrue};
+ghost use Rattle.std.specs.Prelude.{◌≡◌, ◌<◌, ◌↔◌, ◌++◌, [], ◌∷◌, map, not, IfOk, IsTrue};
 ghost use Rattle.ccsl_base.specs.Clocks.{is_ascending, are_below};
 ghost use Rattle.ccsl_vcd_read.specs.Marks.{put, ticking, aged};
 ghost use Rattle.ccsl_vcd_read.specs.Kept.{put_clock, put_in, put_all};
@@ -115,6 +115,14 @@ impl Marks {
             User::One(slot) => put_in(&mut self.ones, slot, one, dumped),
             User::Many => put_all(&mut self.ones, self.slots.as_slice(), code, one, dumped),
         }
+    }
+
+    /// Whether no clock ticks at the present time.
+    #[inline(always)]
+    pub(crate) fn are_quiet(&self) -> bool
+        ensures { IsTrue result ↔ (ticking self.now ≡ []) }
+    {
+        self.ones.is_within(&self.earlier)
     }
 
     /// The clocks that tick at the present time.
