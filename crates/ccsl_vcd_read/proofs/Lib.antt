@@ -14,6 +14,7 @@ pub mod HeadPictures
 pub mod Openings
 pub mod StagePictures
 pub mod Run
+pub mod ShortTimes
 pub mod Taking
 pub mod Racing
 pub mod Calm

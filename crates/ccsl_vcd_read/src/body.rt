@@ -2,14 +2,14 @@
 
 ghost use Rattle.std.specs.Prelude.{◌≡◌, ◌<◌, ◌≤◌, ◌+◌, ◌++◌, ◌^◌, length, take, [], Ok};
 ghost use Rattle.ccsl_vcd_read.specs.Step.{Says, row_of, time_says, changed_says, skipped_says, remark_says, word_says, hear_of};
-ghost use Rattle.ccsl_vcd_read.specs.Run.{Runs, Short};
+ghost use Rattle.ccsl_vcd_read.specs.Run.{Runs, Short, Front};
 ghost use Rattle.ccsl_vcd.specs.Words.{dump, close};
 ghost use Rattle.ccsl_vcd_read.specs.Meant.{meant, rest_of};
 
 use crate::amid::Amid;
 use crate::codes::Codes;
 use crate::marks::Marks;
-use crate::scan::{is_bit, run_end, short_end};
+use crate::scan::{digits_at_front, is_bit, is_space, run_end, short_end};
 use crate::word::{Word, is_text, word_of};
 use ccsl_base::{Block, MAX_TOKEN_BYTES, Row};
 use ccsl_vcd::VcdFault;
@@ -182,6 +182,32 @@ impl Body {
         end
     }
 
+    // Hears a time at the front of some bytes, with white space behind it. It answers how many bytes the
+    // token has, and 0 where it does nothing.
+    #[inline(always)]
+    fn short_time(&mut self, at: u64, bytes: &[u8], out: &mut Block) -> usize
+        requires room { length out.old.rows < out.old.room }
+        ensures heard { Front self.old self.new at bytes.now result out.old.rows out.new.rows }
+        ensures room { out.new.room ≡ out.old.room }
+    {
+        if bytes.is_empty() || bytes[0] != b'#' || !self.amid.is_changes() {
+            return 0;
+        }
+        let digits = digits_at_front(&bytes[1..]);
+        let end = digits.count + 1;
+        if digits.count == 0
+            || end == bytes.len()
+            || end > MAX_TOKEN_BYTES
+            || !is_space(bytes[end])
+        {
+            return 0;
+        }
+        match self.time(at, digits.value, out) {
+            Ok(()) => end,
+            Err(_) => 0,
+        }
+    }
+
     // Hears what stands at the front of some bytes: a byte of white space, or a token and the white space behind it. It answers
     // how many bytes that are: none where no token ends there, or the token is refused.
     #[inline(always)]
@@ -194,6 +220,10 @@ impl Body {
         let short = self.short_change(bytes);
         if short > 0 {
             return short + 1;
+        }
+        let time = self.short_time(at, bytes, out);
+        if time > 0 {
+            return time + 1;
         }
         let end = run_end(bytes, 0);
         if end == bytes.len() || end > MAX_TOKEN_BYTES {

@@ -1,12 +1,12 @@
 //! Where a run of bytes ends, found many bytes at a time.
 
-ghost use Rattle.std.specs.Prelude.{◌≡◌, ◌+◌, ◌≤◌, ◌<◌, length, drop, map};
+ghost use Rattle.std.specs.Prelude.{◌≡◌, ◌+◌, ◌^◌, ◌≤◌, ◌<◌, length, take, drop, map};
 ghost use Rattle.std.specs.List.{prefix_len, list_all};
 ghost use Rattle.std.specs.Simd.Lanes.{mask_l};
 ghost use Rattle.ccsl_vcd_lex.specs.Tokens.{is_white};
 ghost use Rattle.ccsl_vcd_lex.specs.Lexing.{is_dark};
 ghost use Rattle.ccsl_vcd_read.specs.Run.{IsShort};
-ghost use Rattle.ccsl_vcd_read.specs.Letters.{is_bit, is_other};
+ghost use Rattle.ccsl_vcd_read.specs.Letters.{is_bit, is_other, AreDigits};
 
 use std::simd::prelude::*;
 
@@ -100,6 +100,32 @@ pub(crate) fn short_end(bytes: &[u8]) -> usize
         [_, _, _, _, e, ..] if is_space(*e) => 4,
         _ => 0,
     }
+}
+
+/// A number up to which any digit more fits 64 bits.
+const MANY: u64 = 1_000_000_000_000_000_000;
+
+/// How many digits stand at the front of some bytes, and their value.
+#[derive(Clone, Copy, Debug)]
+pub(crate) struct Digits {
+    pub count: usize,
+    pub value: u64,
+}
+
+/// The digits at the front, as long as one more fits 64 bits.
+#[inline(always)]
+pub(crate) fn digits_at_front(bytes: &[u8]) -> Digits
+    ensures within { result.count ≤ length bytes.now }
+    ensures fits { result.value < 2 ^ 64 }
+    ensures are { AreDigits (take result.count bytes.now) result.value }
+{
+    let mut count = 0;
+    let mut value = 0u64;
+    while count < bytes.len() && value < MANY && bytes[count] >= b'0' && bytes[count] <= b'9' {
+        value = 10 * value + (bytes[count] - b'0') as u64;
+        count += 1;
+    }
+    Digits { count, value }
 }
 
 /// Whether a byte is the letter of the value 0 or 1.
