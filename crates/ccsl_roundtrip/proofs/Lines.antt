@@ -8,7 +8,7 @@ use Rattle.ccsl_kernel.specs.Lives.{Step}
 use Rattle.ccsl_vcd_write.specs.declared.code.TheConstants.{CODE_BYTES}
 use Rattle.ccsl_vcd_write.specs.Code.{code_byte, code_of}
 use Rattle.ccsl_vcd_write.specs.Text.{text_of, written_part, time_line, tick_line, step_text, steps_text, header_text, vcd_text}
-use Rattle.ccsl_roundtrip.specs.RoundTrip.{ticks_written}
+use Rattle.ccsl_roundtrip.specs.Ticks.{ticks_written}
 
 abbrev is_feed : ℕ → Bool
 is_feed b = b == 10

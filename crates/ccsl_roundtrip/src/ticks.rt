@@ -4,7 +4,7 @@ ghost use Rattle.std.specs.Prelude.{◌≡◌, ◌==◌, ◌<◌, ◌^◌, ℕ, 
 ghost use Rattle.std.specs.List.{count_by};
 ghost use Rattle.ccsl_kernel.specs.Lives.{Step};
 ghost use Rattle.ccsl_vcd_write.specs.Text.{vcd_text};
-ghost use Rattle.ccsl_roundtrip.specs.RoundTrip.{ticks_written};
+ghost use Rattle.ccsl_roundtrip.specs.Ticks.{ticks_written};
 
 use ccsl_base::Memory;
 use ccsl_kernel::System;

@@ -100,3 +100,10 @@ pub trial-outcome : (c : Command) (clocks steps seed workers : ℕ) → c ≡ co
     IfOk result (λ reply. (content : List ℕ → List ℕ) → IsOutcomeOf content (Ok c) (plain_reply reply))
 trial-outcome c clocks steps seed workers is (Ok reply) e = λ content. subst (λ x. IsOutcomeOf content (Ok x) (plain_reply reply)) (sym is) e
 trial-outcome c clocks steps seed workers is (Err stop) e = e
+
+-- a command that is not built
+pub unknown-outcome : (c : Command) → ((content : List ℕ → List ℕ) (o : Outcome) → o ≡ usage_outcome usage.UnknownCommand → IsOutcomeOf content (Ok c) o) →
+    (result : Result Reply Stop) → IfOk result (λ reply. plain_reply reply ≡ usage_outcome usage.UnknownCommand) →
+    IfOk result (λ reply. (content : List ℕ → List ℕ) → IsOutcomeOf content (Ok c) (plain_reply reply))
+unknown-outcome c unbuilt (Ok reply) e = λ content. unbuilt content (plain_reply reply) e
+unknown-outcome c unbuilt (Err stop) e = e

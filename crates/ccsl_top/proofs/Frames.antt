@@ -5,7 +5,7 @@ use Rattle.ccsl_edge.specs.declared.slot.Slot.TheVariants.{Report, TraceOut, Cer
 use Rattle.ccsl_edge.specs.World.{State, SlotState, Told, file_at}
 use Rattle.ccsl_edge.specs.Calls.{ChangesOnly}
 use Rattle.ccsl_command.specs.declared.command.Command.{Command}
-use Rattle.ccsl_command.specs.declared.command.Command.TheVariants.{Check, Simulate, Judge, Certify, Trial}
+use Rattle.ccsl_command.specs.declared.command.Command.TheVariants.{Check, Simulate, Judge, Certify, Trial, Periodic}
 use Rattle.ccsl_command.specs.declared.usage.Usage.{Usage}
 use Rattle.ccsl_command.specs.Meaning.{meaning}
 use Rattle.ccsl_command.specs.Opened.{files_meant, files_opened}
@@ -24,6 +24,7 @@ meant-report (Ok (Simulate spec policy seed steps trace cert)) = refl
 meant-report (Ok (Judge spec trace workers)) = refl
 meant-report (Ok (Certify spec trace cert)) = refl
 meant-report (Ok (Trial clocks steps seed workers)) = refl
+meant-report (Ok (Periodic left right relation)) = refl
 
 -- the report is none of the files that words open
 pub opens-report : (words : List (List ℕ)) → opens (files_opened words) Report ≡ false

@@ -1,7 +1,7 @@
 -- Words and files have one outcome.
 use Rattle.std.proofs.Common.{◌≡◌, ℕ, List, Result, Ok, Err, sym, ap, ◌∙◌}
 use Rattle.ccsl_command.specs.declared.command.Command.{Command}
-use Rattle.ccsl_command.specs.declared.command.Command.TheVariants.{Check, Simulate, Judge, Certify, Trial}
+use Rattle.ccsl_command.specs.declared.command.Command.TheVariants.{Check, Simulate, Judge, Certify, Trial, Periodic}
 use Rattle.ccsl_command.specs.declared.usage.Usage.{Usage}
 use Rattle.ccsl_command.specs.Meaning.{meaning}
 use Rattle.ccsl_kernel.specs.Syntax.{System}
@@ -39,6 +39,7 @@ module _ (one_system : OneSystem) (one_refusal : OneRefusal) (not_both : NotBoth
       spec-outcome (content spec) (λ K o. o ≡ certify_outcome K (content trace) (content cert))
       (answer-outcome (λ K. certify_outcome K (content trace) (content cert))) o p a b
   command-outcome content (Trial clocks steps seed workers) o p a b = ap but_certificate (a ∙ sym b)
+  command-outcome content (Periodic left right relation) o p a b = ap but_certificate (a ∙ sym b)
 
   meant-outcome : (content : List ℕ → List ℕ) (meant : Result Command Usage) (o p : Outcome) → IsOutcomeOf content meant o → IsOutcomeOf content meant p →
       but_certificate o ≡ but_certificate p

@@ -5,7 +5,7 @@ use Rattle.ccsl_policy.specs.declared.policies.Policy.TheVariants.{Seeded}
 use Rattle.ccsl_kernel.specs.Lives.{Step}
 use Rattle.ccsl_simulate.specs.Simulation.{simulation}
 use Rattle.ccsl_chain.specs.Chain.{chain}
-use Rattle.ccsl_roundtrip.specs.RoundTrip.{ticks_written}
+use Rattle.ccsl_roundtrip.specs.Ticks.{ticks_written}
 use Rattle.ccsl_report.specs.Texts.{trial_text}
 use Rattle.ccsl_top.specs.Outcome.{Outcome, outcome}
 

@@ -92,6 +92,7 @@ fn answer_command<R: Threads + Sync, W: World, G: Gate>(
             seed,
             workers,
         } => trial(rt, alloc, *clocks, *steps, *seed, *workers, gate),
+        Command::Periodic { .. } => refuse_words(alloc, &Usage::UnknownCommand),
     }
 }
 

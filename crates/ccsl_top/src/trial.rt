@@ -3,7 +3,7 @@
 ghost use Rattle.std.specs.Prelude.{◌≡◌, ◌≤◌, ℕ, IfOk, IfErr, length};
 ghost use Rattle.ccsl_base.specs.declared.limits.TheConstants.{MAX_STEPS};
 ghost use Rattle.ccsl_command.specs.declared.TheConstants.{MAX_TRIAL_STEPS, MIN_TRIAL_CLOCKS, MAX_TRIAL_CLOCKS};
-ghost use Rattle.ccsl_roundtrip.specs.RoundTrip.{ticks_written};
+ghost use Rattle.ccsl_roundtrip.specs.Ticks.{ticks_written};
 ghost use Rattle.ccsl_top.specs.Trial.{trial_outcome};
 ghost use Rattle.ccsl_top.specs.Trying.{drawn_run, HoldsTrace, KeepsTrace};
 ghost use Rattle.ccsl_top.specs.declared.files.Stop.TheVariants as stop;

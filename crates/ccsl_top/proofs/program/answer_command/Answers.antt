@@ -1,6 +1,7 @@
-use Rattle.std.proofs.Common.{Ok, ap, ◌∙◌}
+use Rattle.std.proofs.Common.{Ok, sym, ap, ◌∙◌, subst}
+use Rattle.ccsl_top.specs.Program.{IsOutcomeOf}
 use Rattle.ccsl_top.proofs.Ranges.{trial-ranges}
-use Rattle.ccsl_top.proofs.Commands.{command-oks, command-errs, trial-outcome}
+use Rattle.ccsl_top.proofs.Commands.{command-oks, command-errs, trial-outcome, unknown-outcome}
 use Rattle.ccsl_top.proofs.program.answer_command.Goals as goal
 
 pub trial-requires-clause-least : goal.trial-requires-clause-least
@@ -23,3 +24,12 @@ returns-in-Trial-clause-ok g c =
 pub returns-in-Trial-clause-err : goal.returns-in-Trial-clause-err
 returns-in-Trial-clause-err g c =
     command-errs g.W.World.told (g.W.World.state c.args.world.now) c.args.command.now c.trial.result c.trial.ensures.stop
+
+pub returns-in-Periodic-clause-ok : goal.returns-in-Periodic-clause-ok
+returns-in-Periodic-clause-ok g c =
+    command-oks g.W.World.told (g.W.World.state c.args.world.now) c.args.command.now c.refuse_words.result
+    (unknown-outcome c.args.command.now (λ content o e. subst (λ x. IsOutcomeOf content (Ok x) o) (sym c.in-Periodic.is) e) c.refuse_words.result c.refuse_words.ensures.reply)
+
+pub returns-in-Periodic-clause-err : goal.returns-in-Periodic-clause-err
+returns-in-Periodic-clause-err g c =
+    command-errs g.W.World.told (g.W.World.state c.args.world.now) c.args.command.now c.refuse_words.result c.refuse_words.ensures.stop
