@@ -7,3 +7,4 @@ pub mod Spelled
 pub mod Repeating
 pub mod Plain
 pub mod Examples
+pub mod Alone

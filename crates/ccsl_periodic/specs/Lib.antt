@@ -4,3 +4,4 @@ pub mod Filtered
 pub mod Canonical
 pub mod Turns
 pub mod Filters
+pub mod Laws

@@ -6,6 +6,7 @@ ghost use Rattle.ccsl_periodic.specs.declared.between.Between.{Between};
 ghost use Rattle.ccsl_periodic.specs.Failures.{IsFirstFailure, NeverFails};
 ghost use Rattle.ccsl_periodic.specs.Filtered.{IsOn};
 ghost use Rattle.ccsl_periodic.specs.Filters.{FiltersAreRelated, FiltersCompose};
+ghost use Rattle.ccsl_periodic.specs.Laws.{CanonicalWordsAreOne, PlainLengthsAreOne};
 
 /// Between two filters of a clock the formula of a relation holds at each step before the tick of that clock at which their
 /// words first fail, and fails at that tick; where they never fail it holds at each step.
@@ -19,4 +20,14 @@ pub fn filters_are_related()
 /// A filter of a filter ticks exactly as the filter by the one word on the other.
 pub fn filters_compose()
     ensures { (u v w : BinaryWord) → IsOn u v w → FiltersCompose u v w }
+{}
+
+/// Words that have the same letters have one canonical spelling.
+pub fn canonical_words_are_one()
+    ensures { CanonicalWordsAreOne }
+{}
+
+/// The spelling that is read off two words has one length.
+pub fn plain_lengths_are_one()
+    ensures { PlainLengthsAreOne }
 {}
