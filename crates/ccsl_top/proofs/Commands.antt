@@ -1,9 +1,11 @@
 -- Answers that open no file.
 use Rattle.std.proofs.Common.{◌≡◌, ◌≢◌, List, Bool, true, false, Result, Ok, Err, IfOk, IfErr, OnOk, refl, sym, ap, ◌∙◌, subst, arith, ℕ}
 use Rattle.ccsl_edge.specs.declared.slot.Slot.{Slot}
+use Rattle.ccsl_words.specs.Word.{BinaryWord}
 use Rattle.ccsl_edge.specs.World.{State, Told, held}
 use Rattle.ccsl_command.specs.declared.command.Command.{Command}
 use Rattle.ccsl_command.specs.declared.command.Command.TheVariants as command
+use Rattle.ccsl_command.specs.declared.table.RelationName.{RelationName}
 use Rattle.ccsl_command.specs.declared.usage.Usage.{Usage}
 use Rattle.ccsl_command.specs.declared.usage.Usage.TheVariants as usage
 use Rattle.ccsl_command.specs.Meaning.{meaning}
@@ -13,6 +15,7 @@ use Rattle.ccsl_top.specs.declared.files.Stop.TheVariants.{Memory}
 use Rattle.ccsl_top.specs.declared.reply.Reply.{Reply}
 use Rattle.ccsl_top.specs.Outcome.{Outcome}
 use Rattle.ccsl_top.specs.Trial.{trial_outcome}
+use Rattle.ccsl_top.specs.Periodic.{IsPeriodicOutcome}
 use Rattle.ccsl_top.specs.Program.{IsOutcome, IsOutcomeOf, usage_outcome}
 use Rattle.ccsl_top.specs.Headline.{kept, untouched, unread}
 use Rattle.ccsl_top.specs.Answered.{plain_reply, Leaves, Stands, Answered, Starved, IsUnanswered, AnswersTo, StopsAt}
@@ -101,9 +104,9 @@ pub trial-outcome : (c : Command) (clocks steps seed workers : ℕ) → c ≡ co
 trial-outcome c clocks steps seed workers is (Ok reply) e = λ content. subst (λ x. IsOutcomeOf content (Ok x) (plain_reply reply)) (sym is) e
 trial-outcome c clocks steps seed workers is (Err stop) e = e
 
--- a command that is not built
-pub unknown-outcome : (c : Command) → ((content : List ℕ → List ℕ) (o : Outcome) → o ≡ usage_outcome usage.UnknownCommand → IsOutcomeOf content (Ok c) o) →
-    (result : Result Reply Stop) → IfOk result (λ reply. plain_reply reply ≡ usage_outcome usage.UnknownCommand) →
+-- words and a relation between their filters
+pub periodic-outcome : (c : Command) (left right : BinaryWord) (relation : RelationName) → c ≡ command.Periodic left right relation → (result : Result Reply Stop) →
+    IfOk result (λ reply. IsPeriodicOutcome left right relation (plain_reply reply)) →
     IfOk result (λ reply. (content : List ℕ → List ℕ) → IsOutcomeOf content (Ok c) (plain_reply reply))
-unknown-outcome c unbuilt (Ok reply) e = λ content. unbuilt content (plain_reply reply) e
-unknown-outcome c unbuilt (Err stop) e = e
+periodic-outcome c left right relation is (Ok reply) e = λ content. subst (λ x. IsOutcomeOf content (Ok x) (plain_reply reply)) (sym is) e
+periodic-outcome c left right relation is (Err stop) e = e

@@ -6,6 +6,8 @@ use Rattle.ccsl_command.specs.declared.usage.Usage.{Usage}
 use Rattle.ccsl_command.specs.Meaning.{meaning}
 use Rattle.ccsl_kernel.specs.Syntax.{System}
 use Rattle.ccsl_spec.specs.Laws.{OneSystem, OneRefusal, NotBoth}
+use Rattle.ccsl_periodic.specs.Laws.{CanonicalWordsAreOne, PlainLengthsAreOne}
+use Rattle.ccsl_top.proofs.Periodic.{periodic-one}
 use Rattle.ccsl_top.specs.Outcome.{Outcome, outcome}
 use Rattle.ccsl_top.specs.Check.{check_outcome}
 use Rattle.ccsl_top.specs.Simulate.{named_policy, IsSimulated}
@@ -13,7 +15,7 @@ use Rattle.ccsl_top.specs.Judge.{judge_outcome}
 use Rattle.ccsl_top.specs.Certify.{certify_outcome}
 use Rattle.ccsl_top.specs.Program.{IsSpecOutcome, refused, accepted, IsCommandOutcome, IsOutcomeOf, but_certificate, OutcomesAreOne}
 
-module _ (one_system : OneSystem) (one_refusal : OneRefusal) (not_both : NotBoth) where
+module _ (one_system : OneSystem) (one_refusal : OneRefusal) (not_both : NotBoth) (canonical : CanonicalWordsAreOne) (plain : PlainLengthsAreOne) where
   -- where the answers on one system are one but for a certificate
   spec-outcome : (text : List ℕ) (IsAnswer : System → Outcome → Type 0) → ((K : System) (o p : Outcome) → IsAnswer K o → IsAnswer K p → but_certificate o ≡ but_certificate p) →
       (o p : Outcome) → IsSpecOutcome text IsAnswer o → IsSpecOutcome text IsAnswer p → but_certificate o ≡ but_certificate p
@@ -39,7 +41,7 @@ module _ (one_system : OneSystem) (one_refusal : OneRefusal) (not_both : NotBoth
       spec-outcome (content spec) (λ K o. o ≡ certify_outcome K (content trace) (content cert))
       (answer-outcome (λ K. certify_outcome K (content trace) (content cert))) o p a b
   command-outcome content (Trial clocks steps seed workers) o p a b = ap but_certificate (a ∙ sym b)
-  command-outcome content (Periodic left right relation) o p a b = ap but_certificate (a ∙ sym b)
+  command-outcome content (Periodic left right relation) o p a b = ap but_certificate (periodic-one canonical plain left right relation o p a b)
 
   meant-outcome : (content : List ℕ → List ℕ) (meant : Result Command Usage) (o p : Outcome) → IsOutcomeOf content meant o → IsOutcomeOf content meant p →
       but_certificate o ≡ but_certificate p

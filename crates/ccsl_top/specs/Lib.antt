@@ -4,6 +4,7 @@ pub mod Judge
 pub mod Simulate
 pub mod Certify
 pub mod Trial
+pub mod Periodic
 pub mod Program
 pub mod Opening
 pub mod Effects

@@ -5,7 +5,6 @@ use Rattle.ccsl_edge.specs.declared.slot.Slot.TheVariants.{CertOut}
 use Rattle.ccsl_command.specs.declared.command.Command.{Command}
 use Rattle.ccsl_command.specs.declared.command.Command.TheVariants as command
 use Rattle.ccsl_command.specs.declared.usage.Usage.{Usage}
-use Rattle.ccsl_command.specs.declared.usage.Usage.TheVariants as usage
 use Rattle.ccsl_command.specs.Meaning.{meaning}
 use Rattle.ccsl_kernel.specs.Syntax.{System}
 use Rattle.ccsl_spec.specs.Specifications.{IsSystemOf, IsRefusedWith}
@@ -17,6 +16,7 @@ use Rattle.ccsl_top.specs.Simulate.{named_policy, IsSimulated}
 use Rattle.ccsl_top.specs.Judge.{judge_outcome}
 use Rattle.ccsl_top.specs.Certify.{certify_outcome}
 use Rattle.ccsl_top.specs.Trial.{trial_outcome}
+use Rattle.ccsl_top.specs.Periodic.{IsPeriodicOutcome}
 
 -- on the text of a specification: its refusal, or what the command answers on its system
 pub data IsSpecOutcome (text : List ℕ) (IsAnswer : System → Outcome → Type 0) (o : Outcome) : Type 0 where
@@ -27,7 +27,6 @@ pub data IsSpecOutcome (text : List ℕ) (IsAnswer : System → Outcome → Type
 abbrev pub usage_outcome : Usage → Outcome
 usage_outcome fault = outcome 2 (usage_text fault)
 
--- `periodic` is not built yet: it is an unknown command
 abbrev pub IsCommandOutcome : (List ℕ → List ℕ) → Command → Outcome → Type 0
 IsCommandOutcome content (command.Check spec) o = IsSpecOutcome (content spec) (λ K o. o ≡ check_outcome K) o
 IsCommandOutcome content (command.Simulate spec policy seed steps trace cert) o =
@@ -36,7 +35,7 @@ IsCommandOutcome content (command.Judge spec trace workers) o = IsSpecOutcome (c
 IsCommandOutcome content (command.Certify spec trace cert) o =
     IsSpecOutcome (content spec) (λ K o. o ≡ certify_outcome K (content trace) (content cert)) o
 IsCommandOutcome content (command.Trial clocks steps seed workers) o = o ≡ trial_outcome clocks steps seed
-IsCommandOutcome content (command.Periodic left right relation) o = o ≡ usage_outcome usage.UnknownCommand
+IsCommandOutcome content (command.Periodic left right relation) o = IsPeriodicOutcome left right relation o
 
 abbrev pub IsOutcomeOf : (List ℕ → List ℕ) → Result Command Usage → Outcome → Type 0
 IsOutcomeOf content (Err fault) o = o ≡ usage_outcome fault

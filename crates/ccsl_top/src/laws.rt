@@ -5,6 +5,7 @@ ghost use Rattle.ccsl_top.specs.Program.{OutcomesAreOne};
 
 pub use ccsl_chain::laws::simulated_chains_are_full;
 pub use ccsl_roundtrip::laws::simulated_traces_are_runs;
+use ccsl_periodic::laws::{canonical_words_are_one, plain_lengths_are_one};
 use ccsl_spec::laws::specifications_are_one;
 pub use ccsl_vcd_write::laws::read_back;
 
@@ -13,4 +14,6 @@ pub fn outcomes_are_one()
     ensures { OutcomesAreOne }
 {
     specifications_are_one();
+    canonical_words_are_one();
+    plain_lengths_are_one();
 }

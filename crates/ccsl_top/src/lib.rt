@@ -6,6 +6,7 @@ mod check;
 mod files;
 mod judge;
 pub mod laws;
+mod periodic;
 pub mod program;
 pub mod reply;
 mod simulate;

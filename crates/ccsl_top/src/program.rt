@@ -1,6 +1,7 @@
 //! The program: words, files, an answer and a report.
 
 ghost use Rattle.std.specs.Prelude.{◌≡◌, ◌≢◌, ℕ, List, Ok, IfOk, IfErr, OnOk};
+ghost use Rattle.ccsl_command.specs.Infinite.{HasInfiniteWords};
 ghost use Rattle.ccsl_command.specs.Meaning.{meaning};
 ghost use Rattle.ccsl_command.specs.Opened.{files_of, files_opened};
 ghost use Rattle.ccsl_top.specs.Program.{usage_outcome};
@@ -12,6 +13,7 @@ use crate::certify::certify;
 use crate::check::check;
 use crate::files::Stop;
 use crate::judge::judge;
+use crate::periodic::periodic;
 use crate::reply::{Reply, Status};
 use crate::simulate::simulate;
 use crate::trial::trial;
@@ -48,6 +50,7 @@ fn answer_command<R: Threads + Sync, W: World, G: Gate>(
 ) -> Result<Reply, Stop>
     requires allowed { AreAllowed W.allows (files_of command.now) }
     requires meant { (words : List (List ℕ)) × (meaning words ≡ Ok command.now) }
+    requires infinite { HasInfiniteWords command.now }
     ensures ok { IfOk result (λ reply. AnswersTo W.told command.now reply (W.state world.old) (W.state world.new)) }
     ensures err { IfErr result (λ stop. StopsAt W.told command.now stop (W.state world.old) (W.state world.new)) }
 {
@@ -92,7 +95,11 @@ fn answer_command<R: Threads + Sync, W: World, G: Gate>(
             seed,
             workers,
         } => trial(rt, alloc, *clocks, *steps, *seed, *workers, gate),
-        Command::Periodic { .. } => refuse_words(alloc, &Usage::UnknownCommand),
+        Command::Periodic {
+            left,
+            right,
+            relation,
+        } => periodic(alloc, left, right, *relation),
     }
 }
 

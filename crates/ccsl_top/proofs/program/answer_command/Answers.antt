@@ -1,7 +1,7 @@
-use Rattle.std.proofs.Common.{Ok, sym, ap, ◌∙◌, subst}
-use Rattle.ccsl_top.specs.Program.{IsOutcomeOf}
+use Rattle.std.proofs.Common.{Ok, ap, ◌∙◌, subst}
+use Rattle.ccsl_command.specs.Infinite.{HasInfiniteWords}
 use Rattle.ccsl_top.proofs.Ranges.{trial-ranges}
-use Rattle.ccsl_top.proofs.Commands.{command-oks, command-errs, trial-outcome, unknown-outcome}
+use Rattle.ccsl_top.proofs.Commands.{command-oks, command-errs, trial-outcome, periodic-outcome}
 use Rattle.ccsl_top.proofs.program.answer_command.Goals as goal
 
 pub trial-requires-clause-least : goal.trial-requires-clause-least
@@ -25,11 +25,17 @@ pub returns-in-Trial-clause-err : goal.returns-in-Trial-clause-err
 returns-in-Trial-clause-err g c =
     command-errs g.W.World.told (g.W.World.state c.args.world.now) c.args.command.now c.trial.result c.trial.ensures.stop
 
+pub periodic-requires-clause-left : goal.periodic-requires-clause-left
+periodic-requires-clause-left g c = (subst HasInfiniteWords c.in-Periodic.is c.requires.infinite).0
+
+pub periodic-requires-clause-right : goal.periodic-requires-clause-right
+periodic-requires-clause-right g c = (subst HasInfiniteWords c.in-Periodic.is c.requires.infinite).1
+
 pub returns-in-Periodic-clause-ok : goal.returns-in-Periodic-clause-ok
 returns-in-Periodic-clause-ok g c =
-    command-oks g.W.World.told (g.W.World.state c.args.world.now) c.args.command.now c.refuse_words.result
-    (unknown-outcome c.args.command.now (λ content o e. subst (λ x. IsOutcomeOf content (Ok x) o) (sym c.in-Periodic.is) e) c.refuse_words.result c.refuse_words.ensures.reply)
+    command-oks g.W.World.told (g.W.World.state c.args.world.now) c.args.command.now c.periodic.result
+    (periodic-outcome c.args.command.now c.in-Periodic.left c.in-Periodic.right c.in-Periodic.relation c.in-Periodic.is c.periodic.result c.periodic.ensures.reply)
 
 pub returns-in-Periodic-clause-err : goal.returns-in-Periodic-clause-err
 returns-in-Periodic-clause-err g c =
-    command-errs g.W.World.told (g.W.World.state c.args.world.now) c.args.command.now c.refuse_words.result c.refuse_words.ensures.stop
+    command-errs g.W.World.told (g.W.World.state c.args.world.now) c.args.command.now c.periodic.result c.periodic.ensures.stop
