@@ -1,145 +1,102 @@
--- The answers to a command, as answers to words that mean it.
-use Rattle.std.proofs.Common.{◌≡◌, ◌≢◌, ℕ, ◌≤◌, List, Bool, true, false, ◌||◌, Result, Ok, Err, IsTrue, ⊎_elim, inl, inr, refl, sym, ap, ◌∙◌, subst, arith}
+-- Answers that open no file.
+use Rattle.std.proofs.Common.{◌≡◌, ◌≢◌, List, Bool, true, false, Result, Ok, Err, IfOk, IfErr, OnOk, refl, sym, ap, ◌∙◌, subst, arith, ℕ}
 use Rattle.ccsl_edge.specs.declared.slot.Slot.{Slot}
-use Rattle.ccsl_edge.specs.declared.slot.Slot.TheVariants.{Spec, Trace}
 use Rattle.ccsl_edge.specs.World.{State, Told, held}
 use Rattle.ccsl_command.specs.declared.command.Command.{Command}
 use Rattle.ccsl_command.specs.declared.command.Command.TheVariants as command
 use Rattle.ccsl_command.specs.declared.usage.Usage.{Usage}
 use Rattle.ccsl_command.specs.declared.usage.Usage.TheVariants as usage
 use Rattle.ccsl_command.specs.Meaning.{meaning}
-use Rattle.ccsl_command.specs.Opened.{files_meant, files_opened}
+use Rattle.ccsl_command.specs.Opened.{files_opened}
+use Rattle.ccsl_top.specs.declared.files.Stop.{Stop}
+use Rattle.ccsl_top.specs.declared.files.Stop.TheVariants.{Memory}
+use Rattle.ccsl_top.specs.declared.reply.Reply.{Reply}
 use Rattle.ccsl_top.specs.Outcome.{Outcome}
-use Rattle.ccsl_top.specs.Check.{check_outcome}
-use Rattle.ccsl_top.specs.Program.{IsSpecOutcome, IsOutcome, IsOutcomeOf, usage_outcome}
-use Rattle.ccsl_top.specs.Opening.{opens, is_slot}
-use Rattle.ccsl_top.specs.Effects.{Reads}
-use Rattle.ccsl_top.specs.Reading.{only, Breaks}
-use Rattle.ccsl_top.specs.Headline.{by_spec, by_trace, unread}
-use Rattle.ccsl_top.specs.Judging.{both, JudgeAnswers, JudgeFaults, JudgeStarves}
-use Rattle.ccsl_top.specs.Answered.{Answered, Faulted, Starved}
-use Rattle.ccsl_top.proofs.Slots.{is_slot-self, is_slot-other, both-ways}
-use Rattle.ccsl_top.proofs.Effects.{reads-none}
+use Rattle.ccsl_top.specs.Trial.{trial_outcome}
+use Rattle.ccsl_top.specs.Program.{IsOutcome, IsOutcomeOf, usage_outcome}
+use Rattle.ccsl_top.specs.Headline.{kept, untouched, unread}
+use Rattle.ccsl_top.specs.Answered.{plain_reply, Leaves, Stands, Answered, Starved, IsUnanswered, AnswersTo, StopsAt}
+use Rattle.ccsl_top.proofs.Slots.{both-ways}
+use Rattle.ccsl_top.proofs.Effects.{reads-none, uses-stay}
 
-either-true : (a b : Bool) → a ≡ true → (a || b) ≡ true
-either-true true b e = refl
-either-true false b e = absurd (cc)
+module _ (told : Told) (words : List (List ℕ)) (s : State) where
+  leaves-none : Leaves told words (λ slot. false) s s
+  leaves-none = record {
+    opened = λ slot e. both-ways false e refl;
+    stays = uses-stay told (files_opened words) (λ slot. false) s s (reads-none s).uses;
+    whole = λ _ _ _ name. kept refl;
+    fronts = λ _ _ _ slot out. untouched refl;
+  }
 
-ok-same : (c d : Command) → let P : Result Command Usage = Ok c in let Q : Result Command Usage = Ok d in P ≡ Q → c ≡ d
-ok-same c d e = cc
-
-module _ (told : Told) (words : List (List ℕ)) where
-  module _ (meant : Result Command Usage) (means : meaning words ≡ meant) where
-    opened-as : (slot : Slot) → opens (files_meant meant) slot ≡ true → opens (files_opened words) slot ≡ true
-    opened-as slot e = ap (λ m. opens (files_meant m) slot) means ∙ e
-
-    outcome-as : (content : List ℕ → List ℕ) (o : Outcome) → IsOutcomeOf content meant o → IsOutcome words content o
-    outcome-as content o is = subst (λ m. IsOutcomeOf content m o) (sym means) is
-
-  module _ (command : Command) (means : meaning words ≡ Ok command) where
-    -- words that mean a command are not refused
-    not-refused : {P : Type 0} (fault : Usage) → meaning words ≡ Err fault → P
-    not-refused {P} fault e = let clash : Ok command ≡ Err fault = sym means ∙ e in absurd (cc)
-
-  -- the words are refused
-  module _ (fault : Usage) (o : Outcome) (is : o ≡ usage_outcome fault) (s : State) where
-    pub words-refused : meaning words ≡ Err fault → Answered told words o s s
-    words-refused means = record {
-      used = λ slot. false;
-      opened = λ slot e. absurd (cc);
-      reads = reads-none s;
-      known = rw is (omega arith);
-      unopened = λ _ slot. refl;
-      unread = λ _ slot _. refl;
-      is = λ _ _. outcome-as (Err fault) means (held s.files) o is;
-      refused = λ other e. is ∙ ap usage_outcome (same-fault other e);
-    }
-      where
-        same-fault : (other : Usage) → meaning words ≡ Err other → fault ≡ other
-        same-fault other e = let both-are : Err fault ≡ Err other = sym means ∙ e in cc
-
-    -- a command that is not built is an unknown one
-    pub command-unknown : (command : Command) → meaning words ≡ Ok command → ((content : List ℕ → List ℕ) → IsOutcomeOf content (Ok command) o) → Answered told words o s s
-    command-unknown command means unbuilt = record {
-      used = λ slot. false;
-      opened = λ slot e. absurd (cc);
-      reads = reads-none s;
-      known = rw is (omega arith);
-      unopened = λ _ slot. refl;
-      unread = λ _ slot _. refl;
-      is = λ _ _. outcome-as (Ok command) means (held s.files) o (unbuilt (held s.files));
-      refused = λ other e. not-refused command means other e;
-    }
+  -- a reply that stands for an outcome of the words
+  answered-none : (reply : Reply) → ((content : List ℕ → List ℕ) → IsOutcome words content (plain_reply reply)) →
+      ((fault : Usage) → meaning words ≡ Err fault → plain_reply reply ≡ usage_outcome fault) → Answered told words reply s s
+  answered-none reply is refused = record {
+    used = λ slot. false;
+    leaves = leaves-none;
+    counts = λ slot. refl;
+    unopened = λ _ slot. refl;
+    unread = λ _ slot _. refl;
+    stands = λ _ _. record { outcome = plain_reply reply; status_is = refl; report_is = refl; defined = record { is = is (held s.files); files = λ _. record {} } };
+    refused = refused;
+  }
 
   -- no memory was to be had before a file was opened
-  pub starved-at-once : (s : State) → Starved told words s s
-  starved-at-once s = record {
+  pub starved-at-once : Starved told words s s
+  starved-at-once = record {
     used = λ slot. false;
-    opened = λ slot e. absurd (cc);
-    reads = reads-none s;
+    leaves = leaves-none;
+    counts = λ slot. refl;
     barely = λ _ _ spec trace workers means. unread refl;
   }
 
-  module _ (spec : List ℕ) (means : meaning words ≡ Ok (command.Check spec)) (old new : State) where
-    check-opens : (slot : Slot) → only Spec slot ≡ true → opens (files_opened words) slot ≡ true
-    check-opens slot e = opened-as (Ok (command.Check spec)) means slot (either-true (is_slot Spec slot) false e)
+  -- the words are refused
+  pub words-refused : (fault : Usage) (reply : Reply) → plain_reply reply ≡ usage_outcome fault → meaning words ≡ Err fault → Answered told words reply s s
+  words-refused fault reply is means = answered-none reply
+      (λ content. subst (λ m. IsOutcomeOf content m (plain_reply reply)) (sym means) is)
+      (λ other e. is ∙ ap usage_outcome (same-fault other e))
+    where
+      same-fault : (other : Usage) → meaning words ≡ Err other → fault ≡ other
+      same-fault other e = let clash : (let R : Result Command Usage = Err fault in R) ≡ Err other = sym means ∙ e in cc
 
-    pub check-answered : (o : Outcome) → Reads (only Spec) old new → o.status ≤ 4 → o.status ≢ 2 →
-        (IsTrue told.files → IsTrue told.left → IsSpecOutcome (held old.files spec) check_outcome o) → Answered told words o old new
-    check-answered o reads known opened is = record {
-      used = only Spec;
-      opened = check-opens;
-      reads = reads;
-      known = known;
-      unopened = λ e. absurd (opened e);
-      unread = λ _ slot n. is_slot-other Spec slot n;
-      is = λ f l. outcome-as (Ok (command.Check spec)) means (held old.files) o (is f l);
-      refused = λ fault e. not-refused (command.Check spec) means fault e;
-    }
+  -- a command that opens no file
+  pub command-answered : (c : Command) (reply : Reply) → ((content : List ℕ → List ℕ) → IsOutcomeOf content (Ok c) (plain_reply reply)) →
+      meaning words ≡ Ok c → Answered told words reply s s
+  command-answered c reply is means = answered-none reply
+      (λ content. subst (λ m. IsOutcomeOf content m (plain_reply reply)) (sym means) (is content))
+      (λ other e. let clash : (let R : Result Command Usage = Ok c in R) ≡ Err other = sym means ∙ e in absurd (cc))
 
-    pub check-faulted : Breaks Spec old new → Faulted told words old new
-    check-faulted b = record { used = only Spec; opened = check-opens; uses = b.uses; cause = by_spec (check-opens Spec (is_slot-self Spec)) b.rose }
+module _ (told : Told) (s : State) where
+  module _ (result : Result Reply Stop) where
+    pub refusal-oks : (words : List (List ℕ)) (fault : Usage) → (fault ≢ usage.Memory → meaning words ≡ Err fault) → OnOk result (fault ≢ usage.Memory) →
+        IfOk result (λ reply. plain_reply reply ≡ usage_outcome fault) → IfOk result (λ reply. Answered told words reply s s)
+    refusal-oks words fault means cause is = refused-in result cause is
+      where
+        refused-in : (r : Result Reply Stop) → OnOk r (fault ≢ usage.Memory) → IfOk r (λ reply. plain_reply reply ≡ usage_outcome fault) →
+            IfOk r (λ reply. Answered told words reply s s)
+        refused-in (Ok reply) n e = words-refused told words s fault reply e (means n)
+        refused-in (Err stop) n e = e
 
-    pub check-starved : Reads (only Spec) old new → Starved told words old new
-    check-starved reads = record {
-      used = only Spec;
-      opened = check-opens;
-      reads = reads;
-      barely = λ _ _ s trace workers e. let clash : Ok (command.Check spec) ≡ Ok (command.Judge s trace workers) = sym means ∙ e in absurd (cc);
-    }
+    pub starved-errs : IfErr result (λ stop. stop ≡ Memory) → (words : List (List ℕ)) → IfErr result (λ stop. IsUnanswered stop told words s s)
+    starved-errs e words = starved-in result e
+      where
+        starved-in : (r : Result Reply Stop) → IfErr r (λ stop. stop ≡ Memory) → IfErr r (λ stop. IsUnanswered stop told words s s)
+        starved-in (Ok reply) e = e
+        starved-in (Err stop) e = rw e (starved-at-once told words s)
 
-  module _ (spec trace : List ℕ) (workers : ℕ) (means : meaning words ≡ Ok (command.Judge spec trace workers)) (old new : State) where
-    judge-opens : (slot : Slot) → both slot ≡ true → opens (files_opened words) slot ≡ true
-    judge-opens slot e = opened-as (Ok (command.Judge spec trace workers)) means slot e
+  module _ (c : Command) where
+    pub command-oks : (result : Result Reply Stop) → IfOk result (λ reply. (content : List ℕ → List ℕ) → IsOutcomeOf content (Ok c) (plain_reply reply)) →
+        IfOk result (λ reply. AnswersTo told c reply s s)
+    command-oks (Ok reply) is = λ words means. command-answered told words s c reply is means
+    command-oks (Err stop) is = is
 
-    pub judge-answered : (o : Outcome) → JudgeAnswers told spec trace o old new → Answered told words o old new
-    judge-answered o a = record {
-      used = a.used;
-      opened = λ slot e. judge-opens slot (a.within slot e);
-      reads = a.reads;
-      known = a.known;
-      unopened = λ e. absurd (a.opened e);
-      unread = a.unread;
-      is = λ f l. outcome-as (Ok (command.Judge spec trace workers)) means (held old.files) o (a.is f l);
-      refused = λ fault e. not-refused (command.Judge spec trace workers) means fault e;
-    }
+    pub command-errs : (result : Result Reply Stop) → IfErr result (λ stop. stop ≡ Memory) → IfErr result (λ stop. StopsAt told c stop s s)
+    command-errs (Ok reply) e = e
+    command-errs (Err stop) e = λ words means. rw e (starved-at-once told words s)
 
-    pub judge-faulted : JudgeFaults told spec old new → Faulted told words old new
-    judge-faulted f = record {
-      used = f.used;
-      opened = λ slot e. judge-opens slot (f.within slot e);
-      uses = f.uses;
-      cause = ⊎_elim (λ rose. by_spec (judge-opens Spec refl) rose) (λ c. by_trace spec trace workers means c.0 c.1) f.cause;
-    }
-
-    pub judge-starved : JudgeStarves told spec trace old new → Starved told words old new
-    judge-starved s = record {
-      used = s.used;
-      opened = λ slot e. judge-opens slot (s.within slot e);
-      reads = s.reads;
-      barely = λ f l spec' trace' workers' e.
-          let same : command.Judge spec trace workers ≡ command.Judge spec' trace' workers' = ok-same _ _ (sym means ∙ e) in
-          let spec-same : spec ≡ spec' = cc in
-          let trace-same : trace ≡ trace' = cc in
-          rw (sym spec-same, sym trace-same) (s.barely f l);
-    }
+-- a trial
+pub trial-outcome : (c : Command) (clocks steps seed workers : ℕ) → c ≡ command.Trial clocks steps seed workers → (result : Result Reply Stop) →
+    IfOk result (λ reply. plain_reply reply ≡ trial_outcome clocks steps seed) →
+    IfOk result (λ reply. (content : List ℕ → List ℕ) → IsOutcomeOf content (Ok c) (plain_reply reply))
+trial-outcome c clocks steps seed workers is (Ok reply) e = λ content. subst (λ x. IsOutcomeOf content (Ok x) (plain_reply reply)) (sym is) e
+trial-outcome c clocks steps seed workers is (Err stop) e = e

@@ -1,12 +1,13 @@
 -- Uses of slots, one after the other.
-use Rattle.std.proofs.Common.{◌≡◌, ◌≢◌, ℕ, ◌≤◌, Bool, true, false, ◌||◌, refl, sym, ap, ◌∙◌, subst, arith}
+use Rattle.std.proofs.Common.{◌≡◌, ◌≢◌, ℕ, ◌≤◌, List, Bool, true, false, ◌||◌, refl, sym, ap, ◌∙◌, subst, arith}
 use Rattle.ccsl_edge.specs.declared.slot.Slot.{Slot}
-use Rattle.ccsl_edge.specs.World.{State, SlotState, Rose}
+use Rattle.ccsl_edge.specs.World.{State, SlotState, Told, Rose, file_at}
 use Rattle.ccsl_edge.specs.Calls.{ChangesOnly}
-use Rattle.ccsl_top.specs.Opening.{is_slot}
-use Rattle.ccsl_top.specs.Effects.{RoseAt, Uses, Reads}
+use Rattle.ccsl_command.specs.Opened.{Opened}
+use Rattle.ccsl_top.specs.Opening.{is_slot, is_output}
+use Rattle.ccsl_top.specs.Effects.{RoseAt, Uses, Reads, Stays, WritesAlone}
 use Rattle.ccsl_top.specs.Reading.{only, Breaks}
-use Rattle.ccsl_top.proofs.Slots.{both-ways, is_slot-same, is_slot-differs}
+use Rattle.ccsl_top.proofs.Slots.{both-ways, is_slot-same, is_slot-differs, output-differs}
 
 -- of a slot only the bytes left and the faults have changed
 abbrev pub Changed : SlotState → SlotState → Type 0
@@ -28,11 +29,11 @@ module _ (used : Slot → Bool) (old new : State) (uses : Uses used old new) whe
   pub uses-rises : (slot : Slot) → (old.slot_of slot).faults ≤ (new.slot_of slot).faults
   uses-rises slot = by-test (used slot) (λ yes. uses.rises slot yes) (λ no. let e = ap (λ s. s.faults) (uses.others slot no) in omega (arith, e))
 
-either-false : (a b : Bool) → (a || b) ≡ false → a ≡ false
+pub either-false : (a b : Bool) → (a || b) ≡ false → a ≡ false
 either-false true b e = e
 either-false false b e = refl
 
-other-false : (a b : Bool) → (a || b) ≡ false → b ≡ false
+pub other-false : (a b : Bool) → (a || b) ≡ false → b ≡ false
 other-false true b e = both-ways true refl e
 other-false false b e = e
 
@@ -93,3 +94,41 @@ module _ (slot : Slot) (old new : State) (alone : ChangesOnly slot old new) wher
     };
     rose = rose;
   }
+
+-- what is only read stays
+pub uses-stay : (told : Told) (opened : List Opened) (used : Slot → Bool) (old new : State) → Uses used old new → Stays told opened used old new
+uses-stay told opened used old new uses = record {
+  unwritten = λ _ _. uses.files;
+  files = λ _ _ name _. ap (λ fs. file_at fs name) uses.files;
+  inputs = λ slot _. uses-changed used old new uses slot;
+  others = uses.others;
+  rises = uses-rises used old new uses;
+}
+
+-- WRITES to the output slots of the files
+
+-- nothing was written
+pub alone-none : (s : State) → WritesAlone s s
+alone-none s = record { others = λ slot _. refl; rises = λ slot. omega arith }
+
+pub alone-then : (old mid new : State) → WritesAlone old mid → WritesAlone mid new → WritesAlone old new
+alone-then old mid new p q = record {
+  others = λ slot no. q.others slot no ∙ p.others slot no;
+  rises = λ slot. let a = p.rises slot in let b = q.rises slot in omega (arith, a, b);
+}
+
+module _ (slot : Slot) (is : is_output slot ≡ true) (old new : State) (others : (other : Slot) → other ≢ slot → new.slot_of other ≡ old.slot_of other) where
+  -- a call on one of them
+  pub alone-at : (old.slot_of slot).faults ≤ (new.slot_of slot).faults → WritesAlone old new
+  alone-at rise = record {
+    others = λ other no. others other (λ same. output-differs other slot no is (sym same));
+    rises = λ other. by-test (is_slot slot other)
+        (λ yes. subst (λ s. (old.slot_of s).faults ≤ (new.slot_of s).faults) (is_slot-same slot other yes) rise)
+        (λ no. let e = ap (λ s. s.faults) (others other (is_slot-differs slot other no)) in omega (arith, e));
+  }
+
+  -- one that did not fail
+  pub alone-counts : (new.slot_of slot).faults ≡ (old.slot_of slot).faults → (other : Slot) → (new.slot_of other).faults ≡ (old.slot_of other).faults
+  alone-counts e other = by-test (is_slot slot other)
+      (λ yes. subst (λ s. (new.slot_of s).faults ≡ (old.slot_of s).faults) (is_slot-same slot other yes) e)
+      (λ no. ap (λ s. s.faults) (others other (is_slot-differs slot other no)))

@@ -1,19 +1,21 @@
 -- What stays of a world while the program runs.
-use Rattle.std.proofs.Common.{◌≡◌, ◌≢◌, ℕ, ◌≤◌, List, Bool, true, false, Result, Ok, Err, refl, sym, ap, ◌∙◌, subst, arith}
+use Rattle.std.proofs.Common.{◌≡◌, ◌≢◌, ℕ, ◌≤◌, List, Bool, true, false, Result, Ok, Err, IsTrue, refl, sym, ap, ◌∙◌, subst, arith}
 use Rattle.ccsl_edge.specs.declared.slot.Slot.{Slot}
-use Rattle.ccsl_edge.specs.declared.slot.Slot.TheVariants.{Report}
-use Rattle.ccsl_edge.specs.World.{State, SlotState}
+use Rattle.ccsl_edge.specs.declared.slot.Slot.TheVariants.{Report, TraceOut, CertOut}
+use Rattle.ccsl_edge.specs.World.{State, SlotState, Told, file_at}
 use Rattle.ccsl_edge.specs.Calls.{ChangesOnly}
 use Rattle.ccsl_command.specs.declared.command.Command.{Command}
 use Rattle.ccsl_command.specs.declared.command.Command.TheVariants.{Check, Simulate, Judge, Certify, Trial}
 use Rattle.ccsl_command.specs.declared.usage.Usage.{Usage}
 use Rattle.ccsl_command.specs.Meaning.{meaning}
 use Rattle.ccsl_command.specs.Opened.{files_meant, files_opened}
-use Rattle.ccsl_top.specs.Opening.{opens, is_slot}
-use Rattle.ccsl_top.specs.Effects.{Uses}
-use Rattle.ccsl_top.specs.Answered.{AreOpened}
-use Rattle.ccsl_top.proofs.Slots.{both-ways, is_slot-same, is_slot-differs}
-use Rattle.ccsl_top.proofs.Effects.{Changed, changed-same, by-test, uses-changed, uses-rises}
+use Rattle.ccsl_top.specs.Outcome.{Output}
+use Rattle.ccsl_top.specs.Opening.{opens, writes, is_slot, is_output}
+use Rattle.ccsl_top.specs.Headline.{IsDefinedOutput, IsKeptOrWhole, IsFrontOn}
+use Rattle.ccsl_top.specs.Answered.{AreOpened, Leaves}
+use Rattle.ccsl_top.proofs.Slots.{both-ways, is_slot-same, is_slot-differs, output-differs}
+use Rattle.ccsl_top.proofs.Effects.{Changed, by-test}
+use Rattle.ccsl_top.proofs.Outputs.{whole-moves, front-moves}
 
 meant-report : (meant : Result Command Usage) → opens (files_meant meant) Report ≡ false
 meant-report (Err fault) = refl
@@ -32,25 +34,35 @@ pub unused-of : (words : List (List ℕ)) (used : Slot → Bool) → AreOpened w
 unused-of words used opened slot closed =
     by-test (used slot) (λ yes. both-ways (opens (files_opened words) slot) (opened slot yes) closed) (λ no. no)
 
--- of the slots that are used only bytes left and faults have changed, of the report what was written and faults, and nothing else
-pub record Frame (used : Slot → Bool) (old new : State) : Type 0 where
-  pub files : new.files ≡ old.files
-  pub slots : (slot : Slot) → slot ≢ Report → Changed (old.slot_of slot) (new.slot_of slot)
+-- what stays, the report's slot aside
+pub record Frame (told : Told) (words : List (List ℕ)) (used : Slot → Bool) (old new : State) : Type 0 where
+  pub unwritten : opens (files_opened words) TraceOut ≡ false → opens (files_opened words) CertOut ≡ false →
+      (name : List ℕ) → file_at new.files name ≡ file_at old.files name
+  pub files : IsTrue told.files → IsTrue told.written → (name : List ℕ) → writes (files_opened words) name ≡ false →
+      file_at new.files name ≡ file_at old.files name
+  pub slots : (slot : Slot) → slot ≢ Report → is_output slot ≡ false → Changed (old.slot_of slot) (new.slot_of slot)
   pub kept : (slot : Slot) → slot ≢ Report → used slot ≡ false → new.slot_of slot ≡ old.slot_of slot
   pub rises : (slot : Slot) → (old.slot_of slot).faults ≤ (new.slot_of slot).faults
   pub report : new.slot_of Report ≡ record (old.slot_of Report) { written = (new.slot_of Report).written; faults = (new.slot_of Report).faults }
+  pub whole : IsTrue told.files → IsTrue told.left → IsTrue told.written → (name : List ℕ) →
+      IsKeptOrWhole (IsDefinedOutput words old.files) old new name
+  pub fronts : IsTrue told.files → IsTrue told.left → IsTrue told.written → (slot : Slot) → is_output slot ≡ true →
+      IsFrontOn (IsDefinedOutput words old.files) old new slot
 
-module _ (words : List (List ℕ)) (used : Slot → Bool) (opened : AreOpened words used) (old mid : State) (uses : Uses used old mid) where
+module _ (told : Told) (words : List (List ℕ)) (used : Slot → Bool) (old mid : State) (leaves : Leaves told words used old mid) where
   pub report-same : mid.slot_of Report ≡ old.slot_of Report
-  report-same = uses.others Report (unused-of words used opened Report (opens-report words))
+  report-same = leaves.stays.others Report (unused-of words used leaves.opened Report (opens-report words))
 
-  pub frame-still : Frame used old mid
+  pub frame-still : Frame told words used old mid
   frame-still = record {
-    files = uses.files;
-    slots = λ slot _. uses-changed used old mid uses slot;
-    kept = λ slot _ no. uses.others slot no;
-    rises = uses-rises used old mid uses;
+    unwritten = λ a b name. ap (λ fs. file_at fs name) (leaves.stays.unwritten a b);
+    files = leaves.stays.files;
+    slots = λ slot _. leaves.stays.inputs slot;
+    kept = λ slot _ no. leaves.stays.others slot no;
+    rises = leaves.stays.rises;
     report = rw report-same refl;
+    whole = leaves.whole;
+    fronts = leaves.fronts;
   }
 
   module _ (new : State) (alone : ChangesOnly Report mid new)
@@ -59,15 +71,23 @@ module _ (words : List (List ℕ)) (used : Slot → Bool) (opened : AreOpened wo
     elsewhere : (slot : Slot) → slot ≢ Report → new.slot_of slot ≡ mid.slot_of slot
     elsewhere slot n = alone.others slot n
 
-    pub frame-reported : Frame used old new
+    same-file : (name : List ℕ) → file_at new.files name ≡ file_at mid.files name
+    same-file name = ap (λ fs. file_at fs name) alone.files
+
+    pub frame-reported : Frame told words used old new
     frame-reported = record {
-      files = alone.files ∙ uses.files;
-      slots = λ slot n. subst (Changed (old.slot_of slot)) (sym (elsewhere slot n)) (uses-changed used old mid uses slot);
-      kept = λ slot n no. elsewhere slot n ∙ uses.others slot no;
+      unwritten = λ a b name. same-file name ∙ ap (λ fs. file_at fs name) (leaves.stays.unwritten a b);
+      files = λ f w name n. same-file name ∙ leaves.stays.files f w name n;
+      slots = λ slot n out. subst (Changed (old.slot_of slot)) (sym (elsewhere slot n)) (leaves.stays.inputs slot out);
+      kept = λ slot n no. elsewhere slot n ∙ leaves.stays.others slot no;
       rises = λ slot. by-test (is_slot Report slot)
           (λ yes. subst (λ s. (old.slot_of s).faults ≤ (new.slot_of s).faults) (is_slot-same Report slot yes)
           (let e = ap (λ s. s.faults) report-same in omega (arith, e, rise)))
           (λ no. let e = ap (λ s. s.faults) (elsewhere slot (is_slot-differs Report slot no)) in
-          let r = uses-rises used old mid uses slot in omega (arith, e, r));
+          let r = leaves.stays.rises slot in omega (arith, e, r));
       report = here ∙ ap (λ (x : SlotState). let S : SlotState = record x { written = (new.slot_of Report).written; faults = (new.slot_of Report).faults } in S) report-same;
+      whole = λ f l w name. let P : Output → Type 0 = IsDefinedOutput words old.files in
+          whole-moves P P (λ o p. p) old old mid new name refl (same-file name) (leaves.whole f l w name);
+      fronts = λ f l w slot out. let P : Output → Type 0 = IsDefinedOutput words old.files in
+          front-moves P P (λ o p. p) old old mid new slot refl (ap (λ s. s.written) (elsewhere slot (output-differs Report slot refl out))) (leaves.fronts f l w slot out);
     }

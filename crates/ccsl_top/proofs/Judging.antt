@@ -1,11 +1,15 @@
 -- A trace that was opened and judged.
-use Rattle.std.proofs.Common.{◌≡◌, ◌≢◌, ℕ, ◌<◌, ◌≤◌, List, ◌++◌, length, Bool, true, false, ◌||◌, Some, None, IsTrue, inl, inr, refl, sym, ap, ◌∙◌, subst}
+use Rattle.std.proofs.Common.{◌≡◌, ◌≢◌, ◌⊎◌, ℕ, ◌<◌, ◌≤◌, List, [], ◌∷◌, ◌++◌, length, Bool, true, false, ◌||◌, Some, None, Result, Ok, Err, IfOk, IfErr, IsTrue, ⊎_elim, inl, inr, refl, sym, ap, ◌∙◌, subst}
 use Rattle.ccsl_edge.specs.declared.slot.Slot.{Slot}
 use Rattle.ccsl_edge.specs.declared.slot.Slot.TheVariants.{Spec, Trace}
 use Rattle.ccsl_edge.specs.World.{State, Told, held}
 use Rattle.ccsl_edge.specs.Calls.{OpensIn}
 use Rattle.ccsl_edge.specs.Calls as edge
+use Rattle.ccsl_command.specs.declared.command.Command.{Command}
+use Rattle.ccsl_command.specs.declared.command.Command.TheVariants as command
+use Rattle.ccsl_command.specs.Opened.{Opened}
 use Rattle.ccsl_kernel.specs.Syntax.{System}
+use Rattle.ccsl_spec.specs.Specifications.{IsSystemOf}
 use Rattle.ccsl_vcd.specs.declared.fault.VcdFault.{VcdFault}
 use Rattle.ccsl_vcd.specs.Reading.{reading}
 use Rattle.ccsl_bind.specs.Collected.{wanted_of}
@@ -17,9 +21,16 @@ use Rattle.ccsl_top.specs.Outcome.{Outcome, outcome}
 use Rattle.ccsl_top.specs.Judge.{LIMITS, judge_outcome, verdict_outcome, read_outcome}
 use Rattle.ccsl_top.specs.Effects.{Reads}
 use Rattle.ccsl_top.specs.Reading.{only, Breaks}
-use Rattle.ccsl_top.specs.Headline.{IsNear}
-use Rattle.ccsl_top.specs.Judging.{StarvesAt}
+use Rattle.ccsl_top.specs.declared.files.Stop.{Stop}
+use Rattle.ccsl_top.specs.declared.files.Stop.TheVariants as stop
+use Rattle.ccsl_top.specs.declared.reply.Reply.{Reply}
+use Rattle.ccsl_top.specs.Opening.{is_slot, opens}
+use Rattle.ccsl_top.specs.Headline.{IsNear, IsBarelyRead, unread, hardly}
+use Rattle.ccsl_top.specs.Judging.{StarvesAt, IsTraceStop}
+use Rattle.ccsl_top.specs.Answered.{plain_reply, AnswersTo, StopsAt, IsUnanswered}
+use Rattle.ccsl_top.proofs.Slots.{is_slot-self}
 use Rattle.ccsl_top.proofs.Opened.{opened-reads, opened-breaks, opened-taken}
+use Rattle.ccsl_top.proofs.Behind.{first-opens, read-answered, read-faulted, read-starved}
 
 module _ (told : Told) (K : System) (trace : List ℕ) (s t u : State) (opens : OpensIn told Trace trace s t) where
   module _ (v : Verdict) (is : IsJudged told K LIMITS t u v) where
@@ -47,3 +58,58 @@ module _ (told : Told) (K : System) (trace : List ℕ) (s t u : State) (opens : 
     reads = opened-reads told Trace trace s t u opens is.bytes is.reads;
     barely = λ f l. inr (record { bytes = is.bytes; taken = opened-taken told Trace trace s t u opens is.bytes is.reads f l; near = is.near });
   }
+
+-- THE WHOLE COMMAND behind an accepted specification
+module _ (told : Told) (spec trace : List ℕ) (workers : ℕ) (s t : State) (reads : Reads (only Spec) s t)
+    (K : System) (system : IsTrue told.files → IsTrue told.left → IsSystemOf (held s.files spec) K) (u : State) where
+  c : Command
+  c = command.Judge spec trace workers
+
+  behind : List Opened
+  behind = record { slot = Trace; name = trace } ∷ []
+
+  IsAnswer : (List ℕ → List ℕ) → System → Outcome → Type 0
+  IsAnswer content K o = o ≡ judge_outcome K (content trace)
+
+  within : (slot : Slot) → only Trace slot ≡ true → opens behind slot ≡ true
+  unfolding behind
+  within slot e = first-opens (is_slot Trace slot) false e
+
+  pub judge-replies : (result : Result Reply Stop) → IfOk result (λ _. Reads (only Trace) t u) →
+      IfOk result (λ reply. ((plain_reply reply).status ≢ 2) × ((plain_reply reply).status ≢ 3)) →
+      IfOk result (λ reply. IsTrue told.files → IsTrue told.left → plain_reply reply ≡ judge_outcome K (held t.files trace)) →
+      IfOk result (λ reply. AnswersTo told (command.Judge spec trace workers) reply s u)
+  unfolding c behind IsAnswer
+  judge-replies (Ok reply) after status is = λ words means.
+      read-answered told words c means spec behind refl IsAnswer (λ content o x. x) s t reads K system (only Trace) within u reply after status.0 status.1
+      (λ f l. is f l ∙ ap (λ fs. judge_outcome K (held fs trace)) reads.uses.files)
+  judge-replies (Err stop) after status is = after
+
+  trace-stopped : (reason : Stop) → IsTraceStop reason told K trace t u → StopsAt told (command.Judge spec trace workers) reason s u
+  unfolding c behind IsAnswer
+  trace-stopped stop.Fault b = λ words means.
+      read-faulted told words c means spec behind refl IsAnswer (λ content o x. x) s t reads K system (only Trace) within u b.uses Trace (is_slot-self Trace) b.rose
+  trace-stopped stop.Memory b = λ words means.
+      read-starved told words c means spec behind refl IsAnswer (λ content o x. x) s t reads K system (only Trace) within u b.reads
+      (λ f l name file n e.
+      let spec-same : spec ≡ name = spec-of name file n e in
+      let trace-same : trace ≡ file = trace-of name file n e in
+      rw (sym spec-same, sym trace-same) (barely-of f l (b.barely f l)))
+    where
+      spec-of : (name file : List ℕ) (n : ℕ) → command.Judge spec trace workers ≡ command.Judge name file n → spec ≡ name
+      spec-of name file n e = cc
+
+      trace-of : (name file : List ℕ) (n : ℕ) → command.Judge spec trace workers ≡ command.Judge name file n → trace ≡ file
+      trace-of name file n e = cc
+
+      barely-of : IsTrue told.files → IsTrue told.left → (u.slot_of Trace ≡ t.slot_of Trace) ⊎ IsNear K (held t.files trace) (u.slot_of Trace).left →
+          IsBarelyRead spec trace s u
+      barely-of f l either = ⊎_elim
+          (λ same. unread (same ∙ reads.uses.others Trace refl))
+          (λ near. hardly K (system f l) (subst (λ fs. IsNear K (held fs trace) (u.slot_of Trace).left) reads.uses.files near))
+          either
+
+  pub judge-stops : (result : Result Reply Stop) → IfErr result (λ reason. IsTraceStop reason told K trace t u) →
+      IfErr result (λ reason. StopsAt told (command.Judge spec trace workers) reason s u)
+  judge-stops (Ok reply) is = is
+  judge-stops (Err reason) is = trace-stopped reason is

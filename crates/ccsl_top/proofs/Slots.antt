@@ -4,7 +4,7 @@ use Rattle.std.proofs.lemmas.Bool.{cases_eq, eq-eqb, ne_eqb}
 use Rattle.ccsl_edge.specs.declared.slot.Slot.{Slot}
 use Rattle.ccsl_edge.specs.declared.slot.Slot.TheVariants.{Spec, Trace, Cert, Input, Report, TraceOut, CertOut}
 use Rattle.ccsl_edge.specs.Slots.{index_of}
-use Rattle.ccsl_top.specs.Opening.{is_slot}
+use Rattle.ccsl_top.specs.Opening.{is_slot, is_output}
 
 abbrev slot_at : ℕ → Slot
 slot_at n = slice_index_or (Spec ∷ Trace ∷ Cert ∷ Input ∷ Report ∷ TraceOut ∷ CertOut ∷ []) n Spec
@@ -38,3 +38,7 @@ is_slot-other a b other =
 
 pub is_slot-differs : (a b : Slot) → is_slot a b ≡ false → b ≢ a
 is_slot-differs a b e same = both-ways (is_slot a b) (ap (is_slot a) same ∙ is_slot-self a) e
+
+-- an output slot of a file is not a slot that is none
+pub output-differs : (a b : Slot) → is_output a ≡ false → is_output b ≡ true → b ≢ a
+output-differs a b no_ yes_ same = both-ways (is_output b) yes_ (ap is_output same ∙ no_)

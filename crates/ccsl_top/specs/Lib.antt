@@ -1,10 +1,17 @@
 pub mod Outcome
 pub mod Check
 pub mod Judge
+pub mod Simulate
+pub mod Certify
+pub mod Trial
 pub mod Program
 pub mod Opening
 pub mod Effects
 pub mod Reading
+pub mod Stopping
 pub mod Answered
 pub mod Headline
 pub mod Judging
+pub mod Certifying
+pub mod Simulating
+pub mod Trying

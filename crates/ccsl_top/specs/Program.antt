@@ -1,32 +1,39 @@
 -- THE OUTCOME OF THE PROGRAM: of its words, and of the content of the files by their names. A file that is not held is an empty
 -- one.
-use Rattle.std.specs.Prelude.{◌≡◌, ℕ, List, Result, Ok, Err}
+use Rattle.std.specs.Prelude.{◌≡◌, ℕ, List, filter, not, Result, Ok, Err}
+use Rattle.ccsl_edge.specs.declared.slot.Slot.TheVariants.{CertOut}
 use Rattle.ccsl_command.specs.declared.command.Command.{Command}
 use Rattle.ccsl_command.specs.declared.command.Command.TheVariants as command
 use Rattle.ccsl_command.specs.declared.usage.Usage.{Usage}
-use Rattle.ccsl_command.specs.declared.usage.Usage.TheVariants as usage
 use Rattle.ccsl_command.specs.Meaning.{meaning}
 use Rattle.ccsl_kernel.specs.Syntax.{System}
 use Rattle.ccsl_spec.specs.Specifications.{IsSystemOf, IsRefusedWith}
 use Rattle.ccsl_report.specs.Texts.{usage_text}
-use Rattle.ccsl_top.specs.Outcome.{Outcome, outcome}
+use Rattle.ccsl_top.specs.Opening.{is_slot}
+use Rattle.ccsl_top.specs.Outcome.{Output, Outcome, outcome}
 use Rattle.ccsl_top.specs.Check.{check_outcome}
+use Rattle.ccsl_top.specs.Simulate.{named_policy, IsSimulated}
 use Rattle.ccsl_top.specs.Judge.{judge_outcome}
+use Rattle.ccsl_top.specs.Certify.{certify_outcome}
+use Rattle.ccsl_top.specs.Trial.{trial_outcome}
 
 -- on the text of a specification: its refusal, or what the command answers on its system
-pub data IsSpecOutcome (text : List ℕ) (answer : System → Outcome) (o : Outcome) : Type 0 where
-  refused : (line : List ℕ) (spec : IsRefusedWith text line) (is : o ≡ outcome 3 line) → IsSpecOutcome text answer o
-  accepted : (K : System) (spec : IsSystemOf text K) (is : o ≡ answer K) → IsSpecOutcome text answer o
+pub data IsSpecOutcome (text : List ℕ) (IsAnswer : System → Outcome → Type 0) (o : Outcome) : Type 0 where
+  refused : (line : List ℕ) (spec : IsRefusedWith text line) (is : o ≡ outcome 3 line) → IsSpecOutcome text IsAnswer o
+  accepted : (K : System) (spec : IsSystemOf text K) (is : IsAnswer K o) → IsSpecOutcome text IsAnswer o
 
 -- the words are refused
 abbrev pub usage_outcome : Usage → Outcome
 usage_outcome fault = outcome 2 (usage_text fault)
 
--- `simulate`, `certify` and `trial` are not built yet: they are unknown commands
 abbrev pub IsCommandOutcome : (List ℕ → List ℕ) → Command → Outcome → Type 0
-IsCommandOutcome content (command.Check spec) o = IsSpecOutcome (content spec) check_outcome o
-IsCommandOutcome content (command.Judge spec trace workers) o = IsSpecOutcome (content spec) (λ K. judge_outcome K (content trace)) o
-IsCommandOutcome content _ o = o ≡ usage_outcome usage.UnknownCommand
+IsCommandOutcome content (command.Check spec) o = IsSpecOutcome (content spec) (λ K o. o ≡ check_outcome K) o
+IsCommandOutcome content (command.Simulate spec policy seed steps trace cert) o =
+    IsSpecOutcome (content spec) (λ K o. IsSimulated K (named_policy policy) seed steps trace cert o) o
+IsCommandOutcome content (command.Judge spec trace workers) o = IsSpecOutcome (content spec) (λ K o. o ≡ judge_outcome K (content trace)) o
+IsCommandOutcome content (command.Certify spec trace cert) o =
+    IsSpecOutcome (content spec) (λ K o. o ≡ certify_outcome K (content trace) (content cert)) o
+IsCommandOutcome content (command.Trial clocks steps seed workers) o = o ≡ trial_outcome clocks steps seed
 
 abbrev pub IsOutcomeOf : (List ℕ → List ℕ) → Result Command Usage → Outcome → Type 0
 IsOutcomeOf content (Err fault) o = o ≡ usage_outcome fault
@@ -35,7 +42,11 @@ IsOutcomeOf content (Ok command) o = IsCommandOutcome content command o
 abbrev pub IsOutcome : List (List ℕ) → (List ℕ → List ℕ) → Outcome → Type 0
 IsOutcome words content o = IsOutcomeOf content (meaning words) o
 
--- THE OUTCOME IS ONE
+-- an outcome but for the certificate that it writes
+abbrev pub but_certificate : Outcome → Outcome
+but_certificate o = record { status = o.status; report = o.report; outputs = filter (λ (f : Output). not (is_slot f.slot CertOut)) o.outputs }
+
+-- THE OUTCOME IS ONE, but for the lines of a certificate
 abbrev pub OutcomesAreOne : Type 0
 OutcomesAreOne = (words : List (List ℕ)) (content : List ℕ → List ℕ) (o p : Outcome) →
-    IsOutcome words content o → IsOutcome words content p → o ≡ p
+    IsOutcome words content o → IsOutcome words content p → but_certificate o ≡ but_certificate p

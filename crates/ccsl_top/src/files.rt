@@ -5,9 +5,18 @@ ghost use Rattle.ccsl_edge.specs.Slots.{IsInputFile};
 ghost use Rattle.ccsl_top.specs.Effects.{Reads};
 ghost use Rattle.ccsl_top.specs.Reading.{only, IsFile, IsStop};
 
-use ccsl_base::Memory;
-use ccsl_edge::{ReadFault, Slot, World, read_all};
+use ccsl_base::{MAX_FILE_BYTES, MAX_SCOPES, MAX_VARS, Memory};
+use ccsl_edge::{Failed, ReadFault, Slot, World, read_all};
+use ccsl_simulate::SimFault;
+use ccsl_vcd::Limits;
 use std::alloc::Global;
+
+/// The limits on a trace, and on the bytes of a certificate.
+pub(crate) const LIMITS: Limits = Limits {
+    bytes: MAX_FILE_BYTES,
+    vars: MAX_VARS,
+    scopes: MAX_SCOPES,
+};
 
 /// Why there is no answer.
 #[derive(Clone, Copy)]
@@ -26,6 +35,31 @@ impl From<Memory> for Stop {
 
     fn from(_memory: Memory) -> Stop {
         Stop::Memory
+    }
+}
+
+impl From<Failed> for Stop {
+    ghost use Rattle.std.specs.Prelude.{◌≡◌};
+    ghost use Rattle.ccsl_top.specs.declared.files.Stop.TheVariants.{Fault};
+
+    ghost from_gives = { λ _ stop. stop ≡ Fault };
+
+    fn from(_failed: Failed) -> Stop {
+        Stop::Fault
+    }
+}
+
+impl From<SimFault> for Stop {
+    ghost use Rattle.std.specs.Prelude.{◌≡◌};
+    ghost use Rattle.ccsl_top.specs.Stopping.{of_simulation};
+
+    ghost from_gives = { λ fault stop. stop ≡ of_simulation fault };
+
+    fn from(fault: SimFault) -> Stop {
+        match fault {
+            SimFault::Fault => Stop::Fault,
+            SimFault::Memory => Stop::Memory,
+        }
     }
 }
 

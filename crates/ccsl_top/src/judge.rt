@@ -3,34 +3,27 @@
 ghost use Rattle.std.specs.Prelude.{◌≡◌, ◌≢◌, ◌+◌, ◌≤◌, IfOk, IfErr, IsTrue, vec_len, vec_capacity, []};
 ghost use Rattle.ccsl_edge.specs.declared.slot.Slot.TheVariants.{Spec, Trace};
 ghost use Rattle.ccsl_edge.specs.World.{held};
+ghost use Rattle.ccsl_command.specs.declared.command.Command.TheVariants as command;
 ghost use Rattle.ccsl_judge.specs.Judged.{HasItem};
 ghost use Rattle.ccsl_report.specs.Room.{room};
 ghost use Rattle.ccsl_top.specs.Judge.{judge_outcome};
 ghost use Rattle.ccsl_top.specs.Effects.{Reads};
 ghost use Rattle.ccsl_top.specs.Reading.{only};
-ghost use Rattle.ccsl_top.specs.Judging.{IsReplyOn, IsTraceStop, JudgeAnswers, IsJudgeStop};
-ghost use Rattle.ccsl_top.specs.Answered.{plain_reply};
+ghost use Rattle.ccsl_top.specs.Judging.{IsReplyOn, IsTraceStop};
+ghost use Rattle.ccsl_top.specs.Answered.{plain_reply, AnswersTo, StopsAt};
 
-use crate::files::Stop;
+use crate::files::{LIMITS, Stop};
 use crate::reply::{Reply, Status};
 use crate::specification::read_specification;
-use ccsl_base::{MAX_FILE_BYTES, MAX_SCOPES, MAX_VARS, Memory};
+use ccsl_base::Memory;
 use ccsl_edge::{Slot, World};
 use ccsl_judge::{JudgeFault, Verdict};
 use ccsl_kernel::System;
 use ccsl_pool::Gate;
 use ccsl_report::{judge_room, put_no_run, put_run, put_trace_fault};
 use ccsl_spec::Specification;
-use ccsl_vcd::Limits;
 use std::alloc::Global;
 use std::thread::Threads;
-
-/// The limits on a trace.
-const LIMITS: Limits = Limits {
-    bytes: MAX_FILE_BYTES,
-    vars: MAX_VARS,
-    scopes: MAX_SCOPES,
-};
 
 // Room for the line on a trace. It is taken before the trace is read.
 fn empty_line(alloc: Global, system: &System) -> Result<Vec<u8>, Memory>
@@ -59,11 +52,11 @@ fn reply_on(
         }
         Ok(Verdict::Violated { step, time, item }) => {
             put_no_run(step, time, item, system, &mut line);
-            Status::NoRun
+            Status::No
         }
         Err(JudgeFault::Refused(fault)) => {
             put_trace_fault(&fault, system, &mut line);
-            Status::TraceRefused
+            Status::FileRefused
         }
         Err(JudgeFault::Fault) => return Err(Stop::Fault),
         Err(JudgeFault::Memory) => return Err(Stop::Memory),
@@ -83,7 +76,7 @@ fn judge_trace<R: Threads + Sync, W: World, G: Gate>(
 ) -> Result<Reply, Stop>
     requires { W.allows Trace trace.now }
     ensures reads { IfOk result (λ _. Reads (only Trace) (W.state world.old) (W.state world.new)) }
-    ensures status { IfOk result (λ reply. ((plain_reply reply).status ≤ 4) × ((plain_reply reply).status ≢ 2) × ((plain_reply reply).status ≢ 3)) }
+    ensures status { IfOk result (λ reply. ((plain_reply reply).status ≢ 2) × ((plain_reply reply).status ≢ 3)) }
     ensures outcome { IfOk result (λ reply. IsTrue W.told.files → IsTrue W.told.left →
         plain_reply reply ≡ judge_outcome system.now (held (W.state world.old).files trace.now)) }
     ensures stop { IfErr result (λ stop. IsTraceStop stop W.told system.now trace.now (W.state world.old) (W.state world.new)) }
@@ -108,9 +101,10 @@ pub(crate) fn judge<R: Threads + Sync, W: World, G: Gate>(
 ) -> Result<Reply, Stop>
     requires spec { W.allows Spec spec.now }
     requires trace { W.allows Trace trace.now }
-    ensures answers { IfOk result (λ reply.
-        JudgeAnswers W.told spec.now trace.now (plain_reply reply) (W.state world.old) (W.state world.new)) }
-    ensures stop { IfErr result (λ stop. IsJudgeStop stop W.told spec.now trace.now (W.state world.old) (W.state world.new)) }
+    ensures answers { IfOk result (λ reply. AnswersTo W.told
+        (command.Judge spec.now trace.now workers) reply (W.state world.old) (W.state world.new)) }
+    ensures stop { IfErr result (λ stop. StopsAt W.told
+        (command.Judge spec.now trace.now workers) stop (W.state world.old) (W.state world.new)) }
 {
     match read_specification(alloc, world, spec)? {
         Specification::Accepted(system) => {

@@ -1,17 +1,20 @@
 //! The program: words, files, an answer and a report.
 
-ghost use Rattle.std.specs.Prelude.{◌≡◌, ◌≢◌, Ok, IfOk, IfErr, OnOk, ℕ, List};
+ghost use Rattle.std.specs.Prelude.{◌≡◌, ◌≢◌, ℕ, List, Ok, IfOk, IfErr, OnOk};
 ghost use Rattle.ccsl_command.specs.Meaning.{meaning};
 ghost use Rattle.ccsl_command.specs.Opened.{files_of, files_opened};
 ghost use Rattle.ccsl_top.specs.Program.{usage_outcome};
 ghost use Rattle.ccsl_top.specs.Opening.{AreAllowed};
-ghost use Rattle.ccsl_top.specs.Answered.{plain_reply, Answered, IsUnanswered};
+ghost use Rattle.ccsl_top.specs.Answered.{plain_reply, Answered, IsUnanswered, AnswersTo, StopsAt};
 ghost use Rattle.ccsl_top.specs.Headline.{Headline};
 
+use crate::certify::certify;
 use crate::check::check;
 use crate::files::Stop;
 use crate::judge::judge;
 use crate::reply::{Reply, Status};
+use crate::simulate::simulate;
+use crate::trial::trial;
 use ccsl_base::CommandWord;
 use ccsl_command::{Command, Usage, words};
 use ccsl_edge::{Slot, World, write_all};
@@ -43,11 +46,10 @@ fn answer_command<R: Threads + Sync, W: World, G: Gate>(
     world: &mut W,
     gate: &G,
 ) -> Result<Reply, Stop>
-    requires { AreAllowed W.allows (files_of command.now) }
-    ensures ok { IfOk result (λ reply. (words : List (List ℕ)) → meaning words ≡ Ok command.now →
-        Answered W.told words (plain_reply reply) (W.state world.old) (W.state world.new)) }
-    ensures err { IfErr result (λ stop. (words : List (List ℕ)) → meaning words ≡ Ok command.now →
-        IsUnanswered stop W.told words (W.state world.old) (W.state world.new)) }
+    requires allowed { AreAllowed W.allows (files_of command.now) }
+    requires meant { (words : List (List ℕ)) × (meaning words ≡ Ok command.now) }
+    ensures ok { IfOk result (λ reply. AnswersTo W.told command.now reply (W.state world.old) (W.state world.new)) }
+    ensures err { IfErr result (λ stop. StopsAt W.told command.now stop (W.state world.old) (W.state world.new)) }
 {
     match command {
         Command::Check { spec } => check(alloc, world, spec.as_str()),
@@ -64,9 +66,32 @@ fn answer_command<R: Threads + Sync, W: World, G: Gate>(
             *workers,
             gate,
         ),
-        Command::Simulate { .. } => refuse_words(alloc, &Usage::UnknownCommand),
-        Command::Certify { .. } => refuse_words(alloc, &Usage::UnknownCommand),
-        Command::Trial { .. } => refuse_words(alloc, &Usage::UnknownCommand),
+        Command::Simulate {
+            spec,
+            policy,
+            seed,
+            steps,
+            trace,
+            cert,
+        } => simulate(
+            alloc,
+            world,
+            spec.as_str(),
+            *policy,
+            *seed,
+            *steps,
+            trace.as_str(),
+            cert.as_str(),
+        ),
+        Command::Certify { spec, trace, cert } => {
+            certify(alloc, world, spec.as_str(), trace.as_str(), cert.as_str())
+        }
+        Command::Trial {
+            clocks,
+            steps,
+            seed,
+            workers,
+        } => trial(rt, alloc, *clocks, *steps, *seed, *workers, gate),
     }
 }
 
@@ -79,7 +104,7 @@ fn answer<R: Threads + Sync, W: World, G: Gate>(
     gate: &G,
 ) -> Result<Reply, Stop>
     requires { AreAllowed W.allows (files_opened list.now) }
-    ensures ok { IfOk result (λ reply. Answered W.told list.now (plain_reply reply) (W.state world.old) (W.state world.new)) }
+    ensures ok { IfOk result (λ reply. Answered W.told list.now reply (W.state world.old) (W.state world.new)) }
     ensures err { IfErr result (λ stop. IsUnanswered stop W.told list.now (W.state world.old) (W.state world.new)) }
 {
     match words(alloc, list) {
@@ -88,9 +113,10 @@ fn answer<R: Threads + Sync, W: World, G: Gate>(
     }
 }
 
-/// Does all that the program does, and answers its exit status: 0 where it is done, 1 where a trace is no run, 2 to 4 where the
-/// words, the specification or the trace are refused, 5 where a file failed, 6 where there was no memory. `workers` threads judge
-/// a trace, and each part of their work enters the gate; neither changes the outcome.
+/// Does all that the program does, and answers its exit status: 0 where it is done, 1 where a trace is no run or a certificate not
+/// valid, 2 to 4 where the words, the specification, or a trace or certificate are refused, 5 where a file failed, 6 where there was
+/// no memory, 8 where a simulation ended early. `workers` threads judge a trace, and each part of their work enters the gate; neither
+/// changes the outcome.
 pub fn run<R: Threads + Sync, W: World, G: Gate>(
     rt: &R,
     alloc: Global,

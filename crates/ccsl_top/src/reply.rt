@@ -6,13 +6,16 @@ ghost use Rattle.ccsl_top.specs.Answered.{code_of};
 /// How an answer ends.
 #[derive(Clone, Copy, Debug, PartialEq, Eq)]
 pub enum Status {
-    /// The specification is accepted; the trace is a run.
+    /// The specification is accepted; the trace is a run; the certificate is valid; all steps were simulated.
     Done,
-    /// The trace is no run.
-    NoRun,
+    /// The trace is no run; the certificate is not valid.
+    No,
     WordsRefused,
     SpecRefused,
-    TraceRefused,
+    /// The trace or the certificate does not read.
+    FileRefused,
+    /// No step was left before all steps were simulated.
+    Deadlock,
 }
 
 impl Status {
@@ -22,10 +25,11 @@ impl Status {
     {
         match self {
             Status::Done => 0,
-            Status::NoRun => 1,
+            Status::No => 1,
             Status::WordsRefused => 2,
             Status::SpecRefused => 3,
-            Status::TraceRefused => 4,
+            Status::FileRefused => 4,
+            Status::Deadlock => 8,
         }
     }
 }

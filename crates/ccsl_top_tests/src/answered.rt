@@ -18,7 +18,8 @@ pub(crate) struct Answer {
     pub report: String,
 }
 
-fn held(alloc: Global, name: &str, content: &str) -> Result<HeldFile, Fail> {
+/// A file of a name.
+pub(crate) fn held(alloc: Global, name: &str, content: &str) -> Result<HeldFile, Fail> {
     let name = String::from_str(alloc, name)?;
     let content = Vec::from_slice(alloc, content.as_bytes())?;
     Ok(HeldFile::new(name, content))

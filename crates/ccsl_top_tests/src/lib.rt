@@ -4,9 +4,13 @@
 #[cfg(test)]
 mod answered;
 #[cfg(test)]
+mod certificates;
+#[cfg(test)]
 mod checks;
 #[cfg(test)]
 mod failing;
+#[cfg(test)]
+mod failing_writes;
 #[cfg(test)]
 mod gates;
 #[cfg(test)]
@@ -15,5 +19,9 @@ mod hostile;
 mod refused_traces;
 #[cfg(test)]
 mod runs;
+#[cfg(test)]
+mod simulations;
+#[cfg(test)]
+mod trials;
 #[cfg(test)]
 mod words;

@@ -1,15 +1,39 @@
-use Rattle.std.proofs.Common.{refl, ap, subst}
+use Rattle.std.proofs.Common.{◌≡◌, [], refl, ap, subst, arith}
+use Rattle.std.proofs.lemmas.Result.{err_from_is_err_and}
+use Rattle.ccsl_command.specs.declared.command.Command.TheVariants as command
 use Rattle.ccsl_top.specs.Outcome.{outcome}
-use Rattle.ccsl_top.specs.Program.{refused, accepted}
+use Rattle.ccsl_top.specs.Check.{check_outcome}
 use Rattle.ccsl_top.specs.Reading.{IsSpecOf}
+use Rattle.ccsl_top.proofs.Behind.{done-opens, spec-answered, spec-refused, spec-starved, reading-stops}
 use Rattle.ccsl_top.proofs.check.check.Goals as goal
 
-pub returns-in_ok-checked-in-Accepted-clause-outcome : goal.returns-in_ok-checked-in-Accepted-clause-outcome
-returns-in_ok-checked-in-Accepted-clause-outcome g c =
+pub returns-in_ok-checked-in-Accepted-clause-answers : goal.returns-in_ok-checked-in-Accepted-clause-answers
+returns-in_ok-checked-in-Accepted-clause-answers g c =
     let spec = subst (IsSpecOf g.W.World.told (g.W.World.state c.args.world.now).files c.args.spec.now) c.in-Accepted.is c.in_ok-system.ensures.spec in
-    λ f l. accepted c.in-Accepted.system (spec f l) (ap (outcome 0) c.in_ok-checked-in-Accepted.ensures)
+    λ words means.
+    spec-answered g.W.World.told words (command.Check c.args.spec.now) means c.args.spec.now [] refl (λ content K o. o ≡ check_outcome K) (λ content o is. is)
+    (g.W.World.state c.args.world.now) (g.W.World.state c.read_specification.new.world) c.in_ok-system.ensures.reads c.in-Accepted.system spec
+    _ done-opens (ap (outcome 0) c.in_ok-checked-in-Accepted.ensures)
 
-pub returns-in-Refused-clause-outcome : goal.returns-in-Refused-clause-outcome
-returns-in-Refused-clause-outcome g c =
+pub returns-in-Refused-clause-answers : goal.returns-in-Refused-clause-answers
+returns-in-Refused-clause-answers g c =
     let spec = subst (IsSpecOf g.W.World.told (g.W.World.state c.args.world.now).files c.args.spec.now) c.in-Refused.is c.in_ok-system.ensures.spec in
-    λ f l. refused c.in-Refused.line.items (spec f l) refl
+    λ words means.
+    spec-refused g.W.World.told words (command.Check c.args.spec.now) means c.args.spec.now [] refl (λ content K o. o ≡ check_outcome K) (λ content o is. is)
+    (g.W.World.state c.args.world.now) (g.W.World.state c.read_specification.new.world) c.in_ok-system.ensures.reads _ refl spec
+
+pub returns-in_err-system-clause-stop : goal.returns-in_err-system-clause-stop
+returns-in_err-system-clause-stop g c =
+    let p = err_from_is_err_and c.from_residual.result c.from_residual.ensures.1 in
+    rw (p.1, p.2)
+    (reading-stops g.W.World.told (command.Check c.args.spec.now) c.args.spec.now [] refl (λ content K o. o ≡ check_outcome K) (λ content o is. is)
+    (g.W.World.state c.args.world.now) (g.W.World.state c.read_specification.new.world) c.in_err-system.field-0.0 c.in_err-system.ensures.stop)
+
+pub returns-in_err-checked-in-Accepted-clause-stop : goal.returns-in_err-checked-in-Accepted-clause-stop
+returns-in_err-checked-in-Accepted-clause-stop g c =
+    let r = c.from_residual-in_err-checked-in-Accepted in
+    let p = err_from_is_err_and r.result r.ensures.1 in
+    rw (p.1, p.2)
+    (λ words means.
+    spec-starved g.W.World.told words (command.Check c.args.spec.now) means c.args.spec.now [] refl (λ content K o. o ≡ check_outcome K) (λ content o is. is)
+    (g.W.World.state c.args.world.now) (g.W.World.state c.read_specification.new.world) c.in_ok-system.ensures.reads)

@@ -1,24 +1,39 @@
-use Rattle.std.proofs.Common.{subst}
+use Rattle.std.proofs.Common.{◌≡◌, [], ◌∷◌, refl, subst}
+use Rattle.std.proofs.lemmas.Result.{err_from_is_err_and}
+use Rattle.ccsl_edge.specs.declared.slot.Slot.TheVariants.{Trace}
+use Rattle.ccsl_command.specs.declared.command.Command.TheVariants as command
+use Rattle.ccsl_top.specs.Judge.{judge_outcome}
 use Rattle.ccsl_top.specs.Reading.{IsSpecOf}
-use Rattle.ccsl_top.proofs.Specs.{spec-refused, spec-judged, spec-stopped}
+use Rattle.ccsl_top.proofs.Behind.{spec-refused, reading-stops}
+use Rattle.ccsl_top.proofs.Judging.{judge-replies, judge-stops}
 use Rattle.ccsl_top.proofs.judge.judge.Goals as goal
 
 pub returns-in-Accepted-clause-answers : goal.returns-in-Accepted-clause-answers
 returns-in-Accepted-clause-answers g c =
     let spec = subst (IsSpecOf g.W.World.told (g.W.World.state c.args.world.now).files c.args.spec.now) c.in-Accepted.is c.in_ok-system.ensures.spec in
-    spec-judged g.W.World.told c.args.spec.now c.args.trace.now (g.W.World.state c.args.world.now) (g.W.World.state c.read_specification.new.world)
+    judge-replies g.W.World.told c.args.spec.now c.args.trace.now c.args.workers (g.W.World.state c.args.world.now) (g.W.World.state c.read_specification.new.world)
     c.in_ok-system.ensures.reads c.in-Accepted.system spec (g.W.World.state c.judge_trace.new.world)
     c.judge_trace.result c.judge_trace.ensures.reads c.judge_trace.ensures.status c.judge_trace.ensures.outcome
 
 pub returns-in-Accepted-clause-stop : goal.returns-in-Accepted-clause-stop
 returns-in-Accepted-clause-stop g c =
     let spec = subst (IsSpecOf g.W.World.told (g.W.World.state c.args.world.now).files c.args.spec.now) c.in-Accepted.is c.in_ok-system.ensures.spec in
-    spec-stopped g.W.World.told c.args.spec.now c.args.trace.now (g.W.World.state c.args.world.now) (g.W.World.state c.read_specification.new.world)
+    judge-stops g.W.World.told c.args.spec.now c.args.trace.now c.args.workers (g.W.World.state c.args.world.now) (g.W.World.state c.read_specification.new.world)
     c.in_ok-system.ensures.reads c.in-Accepted.system spec (g.W.World.state c.judge_trace.new.world)
     c.judge_trace.result c.judge_trace.ensures.stop
+
+pub returns-in_err-system-clause-stop : goal.returns-in_err-system-clause-stop
+returns-in_err-system-clause-stop g c =
+    let p = err_from_is_err_and c.from_residual.result c.from_residual.ensures.1 in
+    rw (p.1, p.2)
+    (reading-stops g.W.World.told (command.Judge c.args.spec.now c.args.trace.now c.args.workers)
+    c.args.spec.now (record { slot = Trace; name = c.args.trace.now } ∷ []) refl (λ content K o. o ≡ judge_outcome K (content c.args.trace.now)) (λ content o is. is)
+    (g.W.World.state c.args.world.now) (g.W.World.state c.read_specification.new.world) c.in_err-system.field-0.0 c.in_err-system.ensures.stop)
 
 pub returns-in-Refused-clause-answers : goal.returns-in-Refused-clause-answers
 returns-in-Refused-clause-answers g c =
     let spec = subst (IsSpecOf g.W.World.told (g.W.World.state c.args.world.now).files c.args.spec.now) c.in-Refused.is c.in_ok-system.ensures.spec in
-    spec-refused g.W.World.told c.args.spec.now c.args.trace.now (g.W.World.state c.args.world.now) (g.W.World.state c.read_specification.new.world)
-    c.in_ok-system.ensures.reads c.in-Refused.line.items spec
+    λ words means.
+    spec-refused g.W.World.told words (command.Judge c.args.spec.now c.args.trace.now c.args.workers) means
+    c.args.spec.now (record { slot = Trace; name = c.args.trace.now } ∷ []) refl (λ content K o. o ≡ judge_outcome K (content c.args.trace.now)) (λ content o is. is)
+    (g.W.World.state c.args.world.now) (g.W.World.state c.read_specification.new.world) c.in_ok-system.ensures.reads _ refl spec

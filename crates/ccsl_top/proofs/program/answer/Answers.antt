@@ -1,4 +1,4 @@
-use Rattle.ccsl_top.proofs.Answering.{refusal-oks, starved-errs}
+use Rattle.ccsl_top.proofs.Commands.{refusal-oks, starved-errs}
 use Rattle.ccsl_top.proofs.program.answer.Goals as goal
 
 pub returns-in-Err-clause-ok : goal.returns-in-Err-clause-ok

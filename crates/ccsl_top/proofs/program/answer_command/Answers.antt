@@ -1,45 +1,25 @@
-use Rattle.std.proofs.Common.{Ok, sym, ap, ◌∙◌, subst}
-use Rattle.ccsl_top.specs.Program.{IsOutcomeOf}
-use Rattle.ccsl_top.proofs.Answering.{check-oks, judge-oks, judge-errs, unknown-oks, unknown-errs}
+use Rattle.std.proofs.Common.{Ok, ap, ◌∙◌}
+use Rattle.ccsl_top.proofs.Ranges.{trial-ranges}
+use Rattle.ccsl_top.proofs.Commands.{command-oks, command-errs, trial-outcome}
 use Rattle.ccsl_top.proofs.program.answer_command.Goals as goal
 
-pub returns-in-Check-clause-ok : goal.returns-in-Check-clause-ok
-returns-in-Check-clause-ok g c =
-    check-oks g.W.World.told (g.W.World.state c.args.world.now) (g.W.World.state c.check.new.world) c.args.command.now c.in-Check.spec c.in-Check.is
-    c.check.result c.check.ensures.reads c.check.ensures.known c.check.ensures.opened (rw c.as_str.ensures at c.check.ensures.outcome)
+pub trial-requires-clause-least : goal.trial-requires-clause-least
+trial-requires-clause-least g c =
+    λ κs b. (trial-ranges c.in-Trial.clocks c.in-Trial.steps c.in-Trial.seed c.in-Trial.workers c.requires.meant.0 (c.requires.meant.1 ∙ ap Ok c.in-Trial.is)).least
 
-pub returns-in-Judge-clause-ok : goal.returns-in-Judge-clause-ok
-returns-in-Judge-clause-ok g c =
-    judge-oks g.W.World.told (g.W.World.state c.args.world.now) (g.W.World.state c.judge.new.world) c.args.command.now
-    c.in-Judge.spec c.in-Judge.trace c.in-Judge.workers c.in-Judge.is
-    c.judge.result (rw (c.as_str-in-Judge.ensures, c.as_str-in-Judge-2.ensures) at c.judge.ensures.answers)
+pub trial-requires-clause-most : goal.trial-requires-clause-most
+trial-requires-clause-most g c =
+    λ κs b. (trial-ranges c.in-Trial.clocks c.in-Trial.steps c.in-Trial.seed c.in-Trial.workers c.requires.meant.0 (c.requires.meant.1 ∙ ap Ok c.in-Trial.is)).most
 
-pub returns-in-Judge-clause-err : goal.returns-in-Judge-clause-err
-returns-in-Judge-clause-err g c =
-    judge-errs g.W.World.told (g.W.World.state c.args.world.now) (g.W.World.state c.judge.new.world) c.args.command.now
-    c.in-Judge.spec c.in-Judge.trace c.in-Judge.workers c.in-Judge.is
-    c.judge.result (rw (c.as_str-in-Judge.ensures, c.as_str-in-Judge-2.ensures) at c.judge.ensures.stop)
-
-pub returns-in-Simulate-clause-ok : goal.returns-in-Simulate-clause-ok
-returns-in-Simulate-clause-ok g c =
-    unknown-oks g.W.World.told (g.W.World.state c.args.world.now) c.refuse_words.result c.args.command.now
-    (λ content o e. subst (λ x. IsOutcomeOf content (Ok x) o) (sym c.in-Simulate.is) e) c.refuse_words.ensures.reply
-
-pub returns-in-Simulate-clause-err : goal.returns-in-Simulate-clause-err
-returns-in-Simulate-clause-err g c = unknown-errs g.W.World.told (g.W.World.state c.args.world.now) c.refuse_words.result c.args.command.now c.refuse_words.ensures.stop
-
-pub returns-in-Certify-clause-ok : goal.returns-in-Certify-clause-ok
-returns-in-Certify-clause-ok g c =
-    unknown-oks g.W.World.told (g.W.World.state c.args.world.now) c.refuse_words-in-Certify.result c.args.command.now
-    (λ content o e. subst (λ x. IsOutcomeOf content (Ok x) o) (sym c.in-Certify.is) e) c.refuse_words-in-Certify.ensures.reply
-
-pub returns-in-Certify-clause-err : goal.returns-in-Certify-clause-err
-returns-in-Certify-clause-err g c = unknown-errs g.W.World.told (g.W.World.state c.args.world.now) c.refuse_words-in-Certify.result c.args.command.now c.refuse_words-in-Certify.ensures.stop
+pub trial-requires-clause-few : goal.trial-requires-clause-few
+trial-requires-clause-few g c =
+    λ κs b. (trial-ranges c.in-Trial.clocks c.in-Trial.steps c.in-Trial.seed c.in-Trial.workers c.requires.meant.0 (c.requires.meant.1 ∙ ap Ok c.in-Trial.is)).few
 
 pub returns-in-Trial-clause-ok : goal.returns-in-Trial-clause-ok
 returns-in-Trial-clause-ok g c =
-    unknown-oks g.W.World.told (g.W.World.state c.args.world.now) c.refuse_words-in-Trial.result c.args.command.now
-    (λ content o e. subst (λ x. IsOutcomeOf content (Ok x) o) (sym c.in-Trial.is) e) c.refuse_words-in-Trial.ensures.reply
+    command-oks g.W.World.told (g.W.World.state c.args.world.now) c.args.command.now c.trial.result
+    (trial-outcome c.args.command.now c.in-Trial.clocks c.in-Trial.steps c.in-Trial.seed c.in-Trial.workers c.in-Trial.is c.trial.result c.trial.ensures.reply)
 
 pub returns-in-Trial-clause-err : goal.returns-in-Trial-clause-err
-returns-in-Trial-clause-err g c = unknown-errs g.W.World.told (g.W.World.state c.args.world.now) c.refuse_words-in-Trial.result c.args.command.now c.refuse_words-in-Trial.ensures.stop
+returns-in-Trial-clause-err g c =
+    command-errs g.W.World.told (g.W.World.state c.args.world.now) c.args.command.now c.trial.result c.trial.ensures.stop

@@ -1,4 +1,3 @@
-use Rattle.ccsl_top.specs.Answered.{plain_reply}
 use Rattle.ccsl_top.proofs.Headlines.{headline-reported, headline-unreported, headline-faulted, headline-starved}
 use Rattle.ccsl_top.proofs.program.run.Goals as goal
 
@@ -15,12 +14,12 @@ returns-in-Err-Memory g c =
 pub returns-in-Ok-write_all : goal.returns-in-Ok-write_all
 returns-in-Ok-write_all g c =
     rw c.code.ensures
-    (headline-reported g.W.World.told c.args.words.now (g.W.World.state c.args.world.now) (plain_reply c.in-Ok.reply)
+    (headline-reported g.W.World.told c.args.words.now (g.W.World.state c.args.world.now) c.in-Ok.reply
     (g.W.World.state c.answer.new.world) (g.W.World.state c.write_all.new.world) c.in-Ok.ensures.ok
     (rw c.as_slice.ensures.value at c.in-Ok-write_all.ensures.ok))
 
 pub returns : goal.returns
 returns g c =
-    headline-unreported g.W.World.told c.args.words.now (g.W.World.state c.args.world.now) (plain_reply c.in-Ok.reply)
+    headline-unreported g.W.World.told c.args.words.now (g.W.World.state c.args.world.now) c.in-Ok.reply
     (g.W.World.state c.answer.new.world) (g.W.World.state c.write_all.new.world) c.in-Ok.ensures.ok
     (rw c.as_slice.ensures.value at c.in-Err.ensures.err)

@@ -1,0 +1,35 @@
+-- WHAT A SIMULATED TRACE IS WORTH: it reads back, and it is judged to be a run.
+use Rattle.std.specs.Prelude.{◌≡◌, ℕ, ◌+◌, ◌≤◌, List, [], ◌∷◌, length}
+use Rattle.ccsl_base.specs.declared.limits.TheConstants.{MAX_FILE_BYTES, MAX_VARS, MAX_SCOPES, MAX_STEPS}
+use Rattle.ccsl_kernel.specs.Syntax.{System}
+use Rattle.ccsl_kernel.specs.Lives.{Step}
+use Rattle.ccsl_kernel.specs.Verdict.{Run}
+use Rattle.ccsl_policy.specs.declared.policies.Policy.{Policy}
+use Rattle.ccsl_vcd.specs.declared.limits.Limits.{Limits}
+use Rattle.ccsl_vcd.specs.Rows.{IsRead}
+use Rattle.ccsl_bind.specs.Collected.{wanted_of}
+use Rattle.ccsl_vcd_write.specs.Text.{vcd_text, written_part}
+use Rattle.ccsl_simulate.specs.Simulation.{simulation}
+use Rattle.ccsl_judge.specs.Judged.{verdict_on}
+
+-- the limits on a trace
+abbrev pub LIMITS : Limits
+LIMITS = record { bytes = MAX_FILE_BYTES; vars = MAX_VARS; scopes = MAX_SCOPES }
+
+module _ (K : System) (policy : Policy) (seed steps : ℕ) where
+  abbrev pub written : List ℕ
+  written = vcd_text K (simulation K policy seed steps)
+
+  -- the trace of a simulation reads, and it is judged to be a run of all its steps
+  pub record IsJudgedRun : Type 0 where
+    pub read : IsRead (wanted_of K) LIMITS written
+    pub judged : verdict_on K LIMITS written ≡ Run (length (simulation K policy seed steps))
+
+-- EVERY SIMULATED TRACE IS JUDGED A RUN, of a system that is accepted and as many steps as a simulation may have
+abbrev pub SimulatedTracesAreRuns : System → Type 0
+SimulatedTracesAreRuns K = (policy : Policy) (seed steps : ℕ) → steps ≤ MAX_STEPS → IsJudgedRun K policy seed steps
+
+-- how many ticks the written clocks have in some steps
+abbrev pub ticks_written : System → List Step → ℕ
+ticks_written K [] = 0
+ticks_written K (step ∷ T) = length (written_part K step) + ticks_written K T

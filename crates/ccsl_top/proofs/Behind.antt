@@ -1,0 +1,181 @@
+-- Commands that read a specification first: its refusal, and what is answered behind it.
+use Rattle.std.proofs.Common.{◌≡◌, ◌≢◌, ◌⊎◌, ℕ, List, [], ◌∷◌, Bool, true, false, ◌||◌, Result, Ok, Err, IsTrue, inl, inr, ⊎_elim, refl, sym, ap, ◌∙◌, subst, arith}
+use Rattle.ccsl_edge.specs.declared.slot.Slot.{Slot}
+use Rattle.ccsl_edge.specs.declared.slot.Slot.TheVariants.{Spec, Trace}
+use Rattle.ccsl_edge.specs.World.{State, SlotState, Told, held, file_at}
+use Rattle.ccsl_command.specs.declared.command.Command.{Command}
+use Rattle.ccsl_command.specs.declared.usage.Usage.{Usage}
+use Rattle.ccsl_command.specs.declared.command.Command.TheVariants as command
+use Rattle.ccsl_command.specs.Meaning.{meaning}
+use Rattle.ccsl_command.specs.Opened.{Opened, files_meant, files_opened, files_of}
+use Rattle.ccsl_kernel.specs.Syntax.{System}
+use Rattle.ccsl_spec.specs.Specifications.{IsSystemOf, IsRefusedWith}
+use Rattle.ccsl_top.specs.declared.files.Stop.{Stop}
+use Rattle.ccsl_top.specs.declared.files.Stop.TheVariants.{Fault, Memory}
+use Rattle.ccsl_top.specs.declared.reply.Reply.{Reply}
+use Rattle.ccsl_top.specs.declared.reply.Status.TheVariants.{Done, SpecRefused}
+use Rattle.ccsl_top.specs.Outcome.{Outcome, outcome}
+use Rattle.ccsl_top.specs.Program.{IsSpecOutcome, refused, accepted, IsOutcome, IsOutcomeOf, usage_outcome}
+use Rattle.ccsl_top.specs.Opening.{opens, is_slot}
+use Rattle.ccsl_top.specs.Effects.{RoseAt, Uses, Reads}
+use Rattle.ccsl_top.specs.Reading.{only, Breaks, IsStop}
+use Rattle.ccsl_top.specs.Headline.{FaultCause, by_spec, by_file, IsBarelyRead, unread, kept, untouched}
+use Rattle.ccsl_top.specs.Answered.{code_of, plain_reply, Leaves, Stands, Answered, Faulted, Starved, IsUnanswered, StopsAt}
+use Rattle.ccsl_top.proofs.Slots.{is_slot-self, is_slot-other, both-ways}
+use Rattle.ccsl_top.proofs.Effects.{either-false, uses-changed, uses-stay, uses-then, reads-then}
+
+-- a specification of a name, and what stands in the list of opened files behind it
+abbrev pub with_spec : List ℕ → List Opened → List Opened
+with_spec spec behind = record { slot = Spec; name = spec } ∷ behind
+
+pub first-opens : (a b : Bool) → a ≡ true → (a || b) ≡ true
+first-opens true b e = refl
+first-opens false b e = both-ways false e refl
+
+-- a reply that all is done does not say that the words are refused
+pub done-opens : code_of Done ≢ 2
+done-opens e = omega (arith, e)
+
+-- the words mean a command that opens a specification and these files behind it, and answers so on its system
+module _ (told : Told) (words : List (List ℕ)) (c : Command) (means : meaning words ≡ Ok c)
+    (spec : List ℕ) (behind : List Opened) (opens_files : files_of c ≡ with_spec spec behind)
+    (IsAnswer : (List ℕ → List ℕ) → System → Outcome → Type 0)
+    (as_outcome : (content : List ℕ → List ℕ) (o : Outcome) → IsSpecOutcome (content spec) (IsAnswer content) o → IsOutcomeOf content (Ok c) o) where
+  opened-files : files_opened words ≡ with_spec spec behind
+  opened-files = ap files_meant means ∙ opens_files
+
+  opened-slot : (slot : Slot) → (is_slot Spec slot || opens behind slot) ≡ true → opens (files_opened words) slot ≡ true
+  opened-slot slot e = ap (λ fs. opens fs slot) opened-files ∙ e
+
+  pub not-refused : (fault : Usage) → meaning words ≡ Err fault → ⊥
+  not-refused fault e = let clash : (let R : Result Command Usage = Ok c in R) ≡ Err fault = sym means ∙ e in absurd (cc)
+
+  pub is-outcome : (content : List ℕ → List ℕ) (o : Outcome) → IsSpecOutcome (content spec) (IsAnswer content) o → IsOutcome words content o
+  is-outcome content o is = subst (λ m. IsOutcomeOf content m o) (sym means) (as_outcome content o is)
+
+  -- what reading some of these slots leaves
+  leaves-reads : (used : Slot → Bool) → ((slot : Slot) → used slot ≡ true → (is_slot Spec slot || opens behind slot) ≡ true) →
+      (s u : State) → Uses used s u → Leaves told words used s u
+  leaves-reads used within s u uses = record {
+    opened = λ slot e. opened-slot slot (within slot e);
+    stays = uses-stay told (files_opened words) used s u uses;
+    whole = λ _ _ _ name. kept (ap (λ fs. file_at fs name) uses.files);
+    fronts = λ _ _ _ slot out. untouched (ap (λ x. x.written) (uses-changed used s u uses slot));
+  }
+
+  spec-within : (slot : Slot) → only Spec slot ≡ true → (is_slot Spec slot || opens behind slot) ≡ true
+  spec-within slot e = first-opens (is_slot Spec slot) (opens behind slot) e
+
+  module _ (s t : State) where
+    -- a reading that did not end
+    pub spec-faulted : Breaks Spec s t → Faulted told words s t
+    spec-faulted b = record {
+      used = only Spec;
+      leaves = leaves-reads (only Spec) spec-within s t b.uses;
+      cause = by_spec (opened-slot Spec (spec-within Spec (is_slot-self Spec))) b.rose;
+    }
+
+    pub spec-starved : Reads (only Spec) s t → Starved told words s t
+    spec-starved reads = record {
+      used = only Spec;
+      leaves = leaves-reads (only Spec) spec-within s t reads.uses;
+      counts = reads.counts;
+      barely = λ _ _ _ _ _ _. unread (reads.uses.others Trace refl);
+    }
+
+    spec-stopped : (stop : Stop) → IsStop stop Spec s t → IsUnanswered stop told words s t
+    spec-stopped Fault b = spec-faulted b
+    spec-stopped Memory reads = spec-starved reads
+
+    module _ (reads : Reads (only Spec) s t) where
+      -- a reply that stands for what is answered on the specification alone
+      spec-replied : (reply : Reply) → code_of reply.status ≢ 2 →
+          (IsTrue told.files → IsTrue told.left → IsSpecOutcome (held s.files spec) (IsAnswer (held s.files)) (plain_reply reply)) → Answered told words reply s t
+      spec-replied reply opened is = record {
+        used = only Spec;
+        leaves = leaves-reads (only Spec) spec-within s t reads.uses;
+        counts = reads.counts;
+        unopened = λ e. absurd (opened e);
+        unread = λ _ slot n. is_slot-other Spec slot n;
+        stands = λ f l. record {
+          outcome = plain_reply reply;
+          status_is = refl;
+          report_is = refl;
+          defined = record { is = is-outcome (held s.files) (plain_reply reply) (is f l); files = λ _. record {} };
+        };
+        refused = λ fault e. absurd (not-refused fault e);
+      }
+
+      pub spec-refused : (line : Reply) → line.status ≡ SpecRefused →
+          (IsTrue told.files → IsTrue told.left → IsRefusedWith (held s.files spec) line.line.items) → Answered told words line s t
+      spec-refused reply status is = spec-replied reply
+          (rw status (λ e. omega (arith, e)))
+          (λ f l. refused reply.line.items (is f l) (ap (λ x. outcome (code_of x) reply.line.items) status))
+
+      module _ (K : System) (system : IsTrue told.files → IsTrue told.left → IsSystemOf (held s.files spec) K) where
+        pub spec-answered : (reply : Reply) → code_of reply.status ≢ 2 → IsAnswer (held s.files) K (plain_reply reply) → Answered told words reply s t
+        spec-answered reply opened is = spec-replied reply opened (λ f l. accepted K (system f l) is)
+
+        pub is-accepted : IsTrue told.files → IsTrue told.left → IsSystemOf (held s.files spec) K
+        is-accepted = system
+
+        -- more slots are read behind it
+        module _ (more : Slot → Bool) (within : (slot : Slot) → more slot ≡ true → opens behind slot ≡ true) (u : State) where
+          used : Slot → Bool
+          used slot = only Spec slot || more slot
+
+          both-within : (slot : Slot) → used slot ≡ true → (is_slot Spec slot || opens behind slot) ≡ true
+          unfolding used
+          both-within slot e = by-either (is_slot Spec slot) (more slot) (opens behind slot) e (within slot)
+            where
+              by-either : (a b d : Bool) → (a || b) ≡ true → (b ≡ true → d ≡ true) → (a || d) ≡ true
+              by-either true b d e f = refl
+              by-either false b d e f = f e
+
+          pub read-answered : (reply : Reply) → Reads more t u → code_of reply.status ≢ 2 → code_of reply.status ≢ 3 →
+              (IsTrue told.files → IsTrue told.left → IsAnswer (held s.files) K (plain_reply reply)) → Answered told words reply s u
+          unfolding used
+          read-answered reply after opened known is = record {
+            used = used;
+            leaves = leaves-reads used both-within s u (uses-then (only Spec) more s t u reads.uses after.uses);
+            counts = λ slot. after.counts slot ∙ reads.counts slot;
+            unopened = λ e. absurd (opened e);
+            unread = λ e. absurd (known e);
+            stands = λ f l. record {
+              outcome = plain_reply reply;
+              status_is = refl;
+              report_is = refl;
+              defined = record { is = is-outcome (held s.files) (plain_reply reply) (accepted K (system f l) (is f l)); files = λ _. record {} };
+            };
+            refused = λ fault e. absurd (not-refused fault e);
+          }
+
+          pub read-faulted : Uses more t u → (slot : Slot) → more slot ≡ true → RoseAt slot t u → Faulted told words s u
+          unfolding used
+          read-faulted uses slot one rose = record {
+            used = used;
+            leaves = leaves-reads used both-within s u (uses-then (only Spec) more s t u reads.uses uses);
+            cause = by_file spec behind opened-files (λ f l. record { system = K; is = system f l }) slot (within slot one) (rw (sym (reads.counts slot)) rose);
+          }
+
+          pub read-starved : Reads more t u →
+              (IsTrue told.files → IsTrue told.left → (name trace : List ℕ) (workers : ℕ) → c ≡ command.Judge name trace workers → IsBarelyRead name trace s u) →
+              Starved told words s u
+          unfolding used
+          read-starved after barely = record {
+            used = used;
+            leaves = leaves-reads used both-within s u (uses-then (only Spec) more s t u reads.uses after.uses);
+            counts = λ slot. after.counts slot ∙ reads.counts slot;
+            barely = λ f l name trace workers e. barely f l name trace workers (ok-same (command.Judge name trace workers) (sym means ∙ e));
+          }
+            where
+              ok-same : (d : Command) → (let R : Result Command Usage = Ok c in R) ≡ Ok d → c ≡ d
+              ok-same d e = cc
+
+-- a specification that was not read, whichever words mean the command
+pub reading-stops : (told : Told) (c : Command) (spec : List ℕ) (behind : List Opened) → files_of c ≡ with_spec spec behind →
+    (IsAnswer : (List ℕ → List ℕ) → System → Outcome → Type 0) →
+    ((content : List ℕ → List ℕ) (o : Outcome) → IsSpecOutcome (content spec) (IsAnswer content) o → IsOutcomeOf content (Ok c) o) →
+    (s t : State) (reason : Stop) → IsStop reason Spec s t → StopsAt told c reason s t
+reading-stops told c spec behind opens_files IsAnswer as_outcome s t reason stop =
+    λ words means. spec-stopped told words c means spec behind opens_files IsAnswer as_outcome s t reason stop

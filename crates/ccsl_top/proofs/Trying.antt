@@ -1,0 +1,63 @@
+-- The world of a trial, and what its trace is judged to be.
+use Rattle.std.proofs.Common.{◌≡◌, ◌≢◌, ℕ, ◌≤◌, List, [], length, Some, None, Option, Result, Ok, Err, IfOk, IfErr, IsTrue, true, unwrap_or, codes, refl, sym, ap, ◌∙◌, subst}
+use Rattle.ccsl_edge.specs.declared.slot.Slot.TheVariants.{Trace}
+use Rattle.ccsl_edge.specs.World.{State, file_at, held}
+use Rattle.ccsl_edge.specs.Calls.{OpensIn}
+use Rattle.ccsl_edge.specs.Memory.{MemoryState, shown, tells_all}
+use Rattle.ccsl_edge.specs.SlotTable.{slot_in}
+use Rattle.ccsl_base.specs.declared.limits.TheConstants.{MAX_STEPS}
+use Rattle.ccsl_policy.specs.declared.policies.Policy.TheVariants.{Seeded}
+use Rattle.ccsl_kernel.specs.Syntax.{System}
+use Rattle.ccsl_kernel.specs.Verdict as kernel
+use Rattle.ccsl_vcd.specs.declared.fault.VcdFault.{VcdFault}
+use Rattle.ccsl_vcd.specs.Reading.{reading}
+use Rattle.ccsl_bind.specs.Collected.{wanted_of}
+use Rattle.ccsl_vcd_write.specs.Text.{vcd_text}
+use Rattle.ccsl_simulate.specs.declared.answer.Done.{Done}
+use Rattle.ccsl_trace.specs.Traces.{IsRefused}
+use Rattle.ccsl_judge.specs.declared.verdict.Verdict.{Verdict}
+use Rattle.ccsl_judge.specs.declared.verdict.Verdict.TheVariants.{Run, Violated}
+use Rattle.ccsl_judge.specs.Judged.{IsJudged, plain, verdict_on}
+use Rattle.ccsl_roundtrip.specs.RoundTrip.{SimulatedTracesAreRuns}
+use Rattle.ccsl_top.specs.Judge.{LIMITS}
+use Rattle.ccsl_top.specs.Simulating.{WritesBoth}
+use Rattle.ccsl_top.specs.Trying.{drawn_run, KeepsTrace, HoldsTrace}
+
+-- the two names differ
+names-apart : codes "trace" ≢ codes "certificate"
+names-apart e = absurd (cc)
+
+-- a world in which the simulation was written, and its trace was opened
+pub holds-trace : (K : System) (seed steps : ℕ) (before after now : MemoryState) (done : Done) →
+    WritesBoth tells_all K Seeded seed steps (codes "trace") (codes "certificate") (shown before) (shown after) done →
+    OpensIn tells_all Trace (codes "trace") (shown after) (shown now) → HoldsTrace K seed steps now
+holds-trace K seed steps before after now done both opens =
+    let file = both.trace_holds names-apart refl refl in record {
+      file = ap (λ fs. file_at fs (codes "trace")) opens.only.files ∙ file;
+      left = opens.bytes refl refl ∙ ap (λ (f : Option (List ℕ)). unwrap_or f []) file;
+    }
+
+module _ (K : System) (law : SimulatedTracesAreRuns K) (seed steps : ℕ) (few : steps ≤ MAX_STEPS) (before : MemoryState) (holds : HoldsTrace K seed steps before)
+    (now : State) where
+  -- what it is judged to be
+  judged : (v : Verdict) → IsJudged tells_all K LIMITS (shown before) now v → plain v ≡ kernel.Run (length (drawn_run K seed steps))
+  judged v is = is.judged ∙ ap (verdict_on K LIMITS) (sym (is.whole refl) ∙ holds.left) ∙ (law Seeded seed steps few).judged
+
+  pub judged-run : (made : ℕ) → IsJudged tells_all K LIMITS (shown before) now (Run made) → made ≡ length (drawn_run K seed steps)
+  judged-run made is = run-same made (length (drawn_run K seed steps)) (judged (Run made) is)
+    where
+      run-same : (a b : ℕ) → kernel.Run a ≡ kernel.Run b → a ≡ b
+      run-same a b e = cc
+
+  pub never-violated : (step time item : ℕ) → IsJudged tells_all K LIMITS (shown before) now (Violated step time item) → ⊥
+  never-violated step time item is = apart step time item (length (drawn_run K seed steps)) (judged (Violated step time item) is)
+    where
+      apart : (s t i n : ℕ) → kernel.Violated s t i ≡ kernel.Run n → ⊥
+      apart s t i n e = absurd (cc)
+
+  pub never-refused : (f : VcdFault) → IsRefused tells_all (wanted_of K) LIMITS (shown before) now f → ⊥
+  never-refused f is = apart f (sym (law Seeded seed steps few).read
+      ∙ ap (λ bytes. (reading (wanted_of K) LIMITS bytes).fault) (sym holds.left) ∙ is.whole refl)
+    where
+      apart : (f : VcdFault) → (let N : Option VcdFault = None in N) ≡ Some f → ⊥
+      apart f e = absurd (cc)

@@ -1,0 +1,74 @@
+use Rattle.std.proofs.Common.{◌≡◌, [], ◌∷◌, refl, subst}
+use Rattle.std.proofs.lemmas.Result.{err_from_is_err_and}
+use Rattle.ccsl_edge.specs.declared.slot.Slot.TheVariants.{TraceOut, CertOut}
+use Rattle.ccsl_command.specs.declared.command.Command.TheVariants as command
+use Rattle.ccsl_top.specs.Simulate.{named_policy, IsSimulated}
+use Rattle.ccsl_top.specs.Reading.{IsSpecOf}
+use Rattle.ccsl_top.specs.Simulating.{WritesBoth, IsWriteStop}
+use Rattle.ccsl_top.proofs.Behind.{spec-refused, reading-stops}
+use Rattle.ccsl_top.proofs.Simulated.{simulate-answered, simulate-stopped, simulate-unreported}
+use Rattle.ccsl_top.proofs.simulate.simulate.Goals as goal
+
+pub returns-in_err-system-clause-stop : goal.returns-in_err-system-clause-stop
+returns-in_err-system-clause-stop g c =
+    let p = err_from_is_err_and c.from_residual.result c.from_residual.ensures.1 in
+    rw (p.1, p.2)
+    (reading-stops g.W.World.told (command.Simulate c.args.spec.now c.args.policy c.args.seed c.args.steps c.args.trace.now c.args.cert.now)
+    c.args.spec.now (record { slot = TraceOut; name = c.args.trace.now } ∷ record { slot = CertOut; name = c.args.cert.now } ∷ []) refl
+    (λ content K o. IsSimulated K (named_policy c.args.policy) c.args.seed c.args.steps c.args.trace.now c.args.cert.now o) (λ content o is. is)
+    (g.W.World.state c.args.world.now) (g.W.World.state c.read_specification.new.world) c.in_err-system.field-0.0 c.in_err-system.ensures.stop)
+
+pub returns-in-Refused-clause-answers : goal.returns-in-Refused-clause-answers
+returns-in-Refused-clause-answers g c =
+    let spec = subst (IsSpecOf g.W.World.told (g.W.World.state c.args.world.now).files c.args.spec.now) c.in-Refused.is c.in_ok-system.ensures.spec in
+    λ words means.
+    spec-refused g.W.World.told words (command.Simulate c.args.spec.now c.args.policy c.args.seed c.args.steps c.args.trace.now c.args.cert.now) means
+    c.args.spec.now (record { slot = TraceOut; name = c.args.trace.now } ∷ record { slot = CertOut; name = c.args.cert.now } ∷ []) refl
+    (λ content K o. IsSimulated K (named_policy c.args.policy) c.args.seed c.args.steps c.args.trace.now c.args.cert.now o) (λ content o is. is)
+    (g.W.World.state c.args.world.now) (g.W.World.state c.read_specification.new.world) c.in_ok-system.ensures.reads _ refl spec
+
+pub returns-in_err-done-in-Accepted-clause-stop : goal.returns-in_err-done-in-Accepted-clause-stop
+returns-in_err-done-in-Accepted-clause-stop g c =
+    let told = g.W.World.told in
+    let spec = subst (IsSpecOf told (g.W.World.state c.args.world.now).files c.args.spec.now) c.in-Accepted.is c.in_ok-system.ensures.spec in
+    let after = g.W.World.state c.write_run.new.world in
+    let before = g.W.World.state c.read_specification.new.world in
+    let r = c.from_residual-in_err-done-in-Accepted in
+    let p = err_from_is_err_and r.result r.ensures.1 in
+    let reason = c.in_err-done-in-Accepted.field-0.0 in
+    let stop = subst (λ q. IsWriteStop told c.in-Accepted.system q c.args.seed c.args.steps c.args.trace.now c.args.cert.now before after reason)
+    c.policy_named-policy.ensures c.in_err-done-in-Accepted.ensures.stop in
+    rw (p.1, p.2)
+    (λ words means.
+    simulate-stopped told words c.args.spec.now c.args.policy c.args.seed c.args.steps c.args.trace.now c.args.cert.now means
+    (g.W.World.state c.args.world.now) before after c.in_ok-system.ensures.reads c.in-Accepted.system spec reason stop)
+
+pub returns-in_err-reply_on-in-Accepted-clause-stop : goal.returns-in_err-reply_on-in-Accepted-clause-stop
+returns-in_err-reply_on-in-Accepted-clause-stop g c =
+    let told = g.W.World.told in
+    let spec = subst (IsSpecOf told (g.W.World.state c.args.world.now).files c.args.spec.now) c.in-Accepted.is c.in_ok-system.ensures.spec in
+    let after = g.W.World.state c.write_run.new.world in
+    let before = g.W.World.state c.read_specification.new.world in
+    let done = c.in_ok-done-in-Accepted.done in
+    let both = subst (λ q. WritesBoth told c.in-Accepted.system q c.args.seed c.args.steps c.args.trace.now c.args.cert.now before after done)
+    c.policy_named-policy.ensures c.in_ok-done-in-Accepted.ensures.done in
+    let r = c.from_residual-in_err-reply_on-in-Accepted in
+    let p = err_from_is_err_and r.result r.ensures.1 in
+    rw (p.1, p.2)
+    (λ words means.
+    simulate-unreported told words c.args.spec.now c.args.policy c.args.seed c.args.steps c.args.trace.now c.args.cert.now means
+    (g.W.World.state c.args.world.now) before after c.in_ok-system.ensures.reads c.in-Accepted.system spec done both)
+
+pub returns-in_ok-reply_on-in-Accepted-clause-answers : goal.returns-in_ok-reply_on-in-Accepted-clause-answers
+returns-in_ok-reply_on-in-Accepted-clause-answers g c =
+    let told = g.W.World.told in
+    let spec = subst (IsSpecOf told (g.W.World.state c.args.world.now).files c.args.spec.now) c.in-Accepted.is c.in_ok-system.ensures.spec in
+    let after = g.W.World.state c.write_run.new.world in
+    let before = g.W.World.state c.read_specification.new.world in
+    let done = c.in_ok-done-in-Accepted.done in
+    let both = subst (λ q. WritesBoth told c.in-Accepted.system q c.args.seed c.args.steps c.args.trace.now c.args.cert.now before after done)
+    c.policy_named-policy.ensures c.in_ok-done-in-Accepted.ensures.done in
+    λ words means.
+    simulate-answered told words c.args.spec.now c.args.policy c.args.seed c.args.steps c.args.trace.now c.args.cert.now means
+    (g.W.World.state c.args.world.now) before after c.in_ok-system.ensures.reads c.in-Accepted.system spec done
+    c.in_ok-reply_on-in-Accepted.field-0 c.in_ok-reply_on-in-Accepted.ensures both

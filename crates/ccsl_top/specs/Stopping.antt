@@ -1,0 +1,9 @@
+-- How a simulation that failed stops its command.
+use Rattle.ccsl_simulate.specs.declared.answer.SimFault.{SimFault}
+use Rattle.ccsl_simulate.specs.declared.answer.SimFault.TheVariants as faults
+use Rattle.ccsl_top.specs.declared.files.Stop.{Stop}
+use Rattle.ccsl_top.specs.declared.files.Stop.TheVariants.{Fault, Memory}
+
+abbrev pub of_simulation : SimFault → Stop
+of_simulation faults.Fault = Fault
+of_simulation faults.Memory = Memory

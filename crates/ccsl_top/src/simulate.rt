@@ -1,0 +1,106 @@
+//! The command `simulate`.
+
+ghost use Rattle.std.specs.Prelude.{◌≡◌, IfOk, IfErr};
+ghost use Rattle.ccsl_edge.specs.declared.slot.Slot.TheVariants.{Spec, TraceOut, CertOut};
+ghost use Rattle.ccsl_command.specs.declared.command.Command.TheVariants as command;
+ghost use Rattle.ccsl_top.specs.Simulate.{named_policy};
+ghost use Rattle.ccsl_top.specs.Simulating.{IsDoneReply, WritesBoth, IsWriteStop};
+ghost use Rattle.ccsl_top.specs.Answered.{AnswersTo, StopsAt};
+
+use crate::files::Stop;
+use crate::reply::{Reply, Status};
+use crate::specification::read_specification;
+use ccsl_base::Memory;
+use ccsl_command::PolicyName;
+use ccsl_edge::{Slot, World};
+use ccsl_kernel::System;
+use ccsl_policy::Policy;
+use ccsl_report::{deadlocked, simulated};
+use ccsl_simulate::Done;
+use ccsl_spec::Specification;
+use std::alloc::Global;
+
+// The policy of a name.
+fn policy_named(name: PolicyName) -> Policy
+    ensures { result ≡ named_policy name }
+{
+    match name {
+        PolicyName::Min => Policy::Min,
+        PolicyName::Max => Policy::Max,
+        PolicyName::Seeded => Policy::Seeded,
+    }
+}
+
+/// Writes a simulation to the files of two names.
+pub(crate) fn write_run<W: World>(
+    alloc: Global,
+    world: &mut W,
+    system: &System,
+    policy: Policy,
+    seed: u64,
+    steps: u64,
+    trace: &str,
+    cert: &str,
+) -> Result<Done, Stop>
+    requires trace { W.allows TraceOut trace.now }
+    requires cert { W.allows CertOut cert.now }
+    ensures done { IfOk result (λ done. WritesBoth W.told system.now policy seed steps trace.now cert.now
+        (W.state world.old) (W.state world.new) done) }
+    ensures stop { IfErr result (λ stop. IsWriteStop W.told system.now policy seed steps trace.now cert.now
+        (W.state world.old) (W.state world.new) stop) }
+{
+    world.open_out(Slot::TraceOut, trace)?;
+    world.open_out(Slot::CertOut, cert)?;
+    let done = ccsl_simulate::simulate(alloc, world, system, policy, seed, steps)?;
+    world.close_out(Slot::TraceOut)?;
+    world.close_out(Slot::CertOut)?;
+    Ok(done)
+}
+
+// The reply on how a simulation of so many steps ended.
+fn reply_on(alloc: Global, done: Done, steps: u64) -> Result<Reply, Memory>
+    ensures { IfOk result (λ reply. IsDoneReply done steps reply) }
+{
+    match done {
+        Done::Full => Ok(Reply {
+            status: Status::Done,
+            line: simulated(alloc, steps)?,
+        }),
+        Done::Deadlock(at) => Ok(Reply {
+            status: Status::Deadlock,
+            line: deadlocked(alloc, at)?,
+        }),
+    }
+}
+
+/// Simulates the specification of a name, and writes the trace and the certificate under two more.
+pub(crate) fn simulate<W: World>(
+    alloc: Global,
+    world: &mut W,
+    spec: &str,
+    policy: PolicyName,
+    seed: u64,
+    steps: u64,
+    trace: &str,
+    cert: &str,
+) -> Result<Reply, Stop>
+    requires spec { W.allows Spec spec.now }
+    requires trace { W.allows TraceOut trace.now }
+    requires cert { W.allows CertOut cert.now }
+    ensures answers { IfOk result (λ reply. AnswersTo W.told
+        (command.Simulate spec.now policy seed steps trace.now cert.now) reply (W.state world.old) (W.state world.new)) }
+    ensures stop { IfErr result (λ stop. StopsAt W.told
+        (command.Simulate spec.now policy seed steps trace.now cert.now) stop (W.state world.old) (W.state world.new)) }
+{
+    match read_specification(alloc, world, spec)? {
+        Specification::Accepted(system) => {
+            let policy = policy_named(policy);
+            let done = write_run(alloc, world, &system, policy, seed, steps, trace, cert)?;
+            Ok(reply_on(alloc, done, steps)?)
+        }
+        Specification::Refused(line) => Ok(Reply {
+            status: Status::SpecRefused,
+            line,
+        }),
+    }
+}

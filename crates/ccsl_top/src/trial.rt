@@ -1,0 +1,115 @@
+//! The command `trial`.
+
+ghost use Rattle.std.specs.Prelude.{◌≡◌, ◌≤◌, ℕ, IfOk, IfErr, length};
+ghost use Rattle.ccsl_base.specs.declared.limits.TheConstants.{MAX_STEPS};
+ghost use Rattle.ccsl_command.specs.declared.TheConstants.{MAX_TRIAL_STEPS, MIN_TRIAL_CLOCKS, MAX_TRIAL_CLOCKS};
+ghost use Rattle.ccsl_roundtrip.specs.RoundTrip.{ticks_written};
+ghost use Rattle.ccsl_top.specs.Trial.{trial_outcome};
+ghost use Rattle.ccsl_top.specs.Trying.{drawn_run, HoldsTrace, KeepsTrace};
+ghost use Rattle.ccsl_top.specs.declared.files.Stop.TheVariants as stop;
+ghost use Rattle.ccsl_top.specs.Answered.{plain_reply};
+
+use crate::files::{LIMITS, Stop};
+use crate::reply::{Reply, Status};
+use crate::simulate::write_run;
+use ccsl_base::Memory;
+use ccsl_chain::chain;
+use ccsl_edge::{MemoryWorld, Slot, World};
+use ccsl_judge::{JudgeFault, Verdict};
+use ccsl_kernel::System;
+use ccsl_policy::Policy;
+use ccsl_pool::Gate;
+use ccsl_report::trial_done;
+use ccsl_roundtrip::laws::simulated_traces_are_runs;
+use ccsl_roundtrip::ticks_in_text;
+use std::alloc::Global;
+use std::thread::Threads;
+
+/// The names of the files in the world of a trial.
+const TRACE: &str = "trace";
+
+const CERT: &str = "certificate";
+
+/// The most bytes that one read or write of this world moves.
+const PIECE: usize = 65_536;
+
+// Simulates into a world in memory, and opens the trace that was written.
+fn written(alloc: Global, system: &System, seed: u64, steps: u64) -> Result<MemoryWorld, Memory>
+    ensures { IfOk result (λ world. HoldsTrace system.now seed steps world) }
+{
+    let mut world = MemoryWorld::new(alloc, Vec::new(alloc), Vec::new(alloc), PIECE);
+    let policy = Policy::Seeded;
+    match write_run(alloc, &mut world, system, policy, seed, steps, TRACE, CERT) {
+        Ok(_done) => {}
+        Err(_stop) => return Err(Memory),
+    }
+    match world.open_in(Slot::Trace, TRACE) {
+        Ok(()) => {}
+        Err(_failed) => return Err(Memory),
+    }
+    Ok(world)
+}
+
+// How many steps the trace of a world is judged to have. That it is a run is a law.
+fn judged_steps<R: Threads + Sync, G: Gate>(
+    rt: &R,
+    alloc: Global,
+    world: &mut MemoryWorld,
+    system: &System,
+    workers: u32,
+    gate: &G,
+) -> Result<u64, Memory>
+    requires { (seed : ℕ) × (steps : ℕ) × HoldsTrace system.now seed steps world.old × (steps ≤ MAX_STEPS) }
+    ensures steps { IfOk result (λ made. (seed steps : ℕ) → HoldsTrace system.now seed steps world.old → steps ≤ MAX_STEPS →
+        made ≡ length (drawn_run system.now seed steps)) }
+    ensures files { IfOk result (λ _. world.new.files ≡ world.old.files) }
+{
+    simulated_traces_are_runs(system);
+    match ccsl_judge::judge(rt, alloc, world, system, workers.max(1), gate, &LIMITS) {
+        Ok(Verdict::Run(steps)) => Ok(steps),
+        Ok(Verdict::Violated { .. }) => unreachable!(),
+        Err(JudgeFault::Refused(_)) => unreachable!(),
+        Err(JudgeFault::Fault) => Err(Memory),
+        Err(JudgeFault::Memory) => Err(Memory),
+    }
+}
+
+// How many ticks the trace of a world has.
+fn ticks_of(alloc: Global, world: &MemoryWorld, system: &System, made: u64) -> Result<u64, Memory>
+    requires { (seed : ℕ) × (steps : ℕ) × KeepsTrace system.now seed steps world.now.files
+        × (made ≡ length (drawn_run system.now seed steps)) }
+    ensures { IfOk result (λ ticks. (seed steps : ℕ) → KeepsTrace system.now seed steps world.now.files →
+        made ≡ length (drawn_run system.now seed steps) → ticks ≡ ticks_written system.now (drawn_run system.now seed steps)) }
+{
+    match world.file(TRACE) {
+        Some(text) => ticks_in_text(alloc, system, text, made),
+        None => unreachable!(),
+    }
+}
+
+/// Simulates a chain of so many clocks by drawn words into a world in memory, judges what was written, and counts its ticks. A fault of
+/// this world is a want of memory of its own.
+pub(crate) fn trial<R: Threads + Sync, G: Gate>(
+    rt: &R,
+    alloc: Global,
+    clocks: u32,
+    steps: u64,
+    seed: u64,
+    workers: u32,
+    gate: &G,
+) -> Result<Reply, Stop>
+    requires least { MIN_TRIAL_CLOCKS ≤ clocks }
+    requires most { clocks ≤ MAX_TRIAL_CLOCKS }
+    requires few { steps ≤ MAX_TRIAL_STEPS }
+    ensures reply { IfOk result (λ reply. plain_reply reply ≡ trial_outcome clocks steps seed) }
+    ensures stop { IfErr result (λ reason. reason ≡ stop.Memory) }
+{
+    let system = chain(alloc, clocks)?;
+    let mut world = written(alloc, &system, seed, steps)?;
+    let made = judged_steps(rt, alloc, &mut world, &system, workers, gate)?;
+    let ticks = ticks_of(alloc, &world, &system, made)?;
+    Ok(Reply {
+        status: Status::Done,
+        line: trial_done(alloc, clocks, made, ticks)?,
+    })
+}
