@@ -1,0 +1,8 @@
+use Rattle.std.proofs.Common.{arith}
+use Rattle.std.proofs.lemmas.Grind.{common_steps}
+use Rattle.std.proofs.lemmas.List.FromFn.{map-range_with_len_more}
+use Rattle.ccsl_words.specs.Word.{letter}
+use Rattle.ccsl_periodic.proofs.text.first_letters.Goals as goal
+
+pub loop-k-preserved : goal.loop-k-preserved
+loop-k-preserved c = let more = map-range_with_len_more (letter c.args.word.now) 0 c.loop-k.k c.loop-k.k (omega arith) in grind (arith, common_steps, more)

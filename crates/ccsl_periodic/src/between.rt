@@ -1,0 +1,9 @@
+//! The relations that are decided.
+
+/// A relation of CCSL between two clocks.
+#[derive(Clone, Copy, Debug, PartialEq, Eq)]
+pub enum Between {
+    Precedes,
+    Subclock,
+    Excludes,
+}

@@ -1,0 +1,11 @@
+//! Answers on words, against worked rows and, for random words, against plain loops.
+#![tactic(auto)]
+
+#[cfg(test)]
+mod plain;
+#[cfg(test)]
+mod random;
+#[cfg(test)]
+mod trials;
+#[cfg(test)]
+mod worked;
