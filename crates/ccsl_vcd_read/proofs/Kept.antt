@@ -230,16 +230,34 @@ pub ticking-members : (now before ticks : List ℕ) (slots : List Slot) → ((x 
 ticking-members now before ticks slots inside h x =
     h x ∙ implied (ticks_in x (clocks_of slots)) (ticks_in x now) (inside x) (not (ticks_in x before)) ∙ sym (ticks-of now before slots x)
 
+-- No clock ticks where each of those that are 1 was.
+
+ticking-has : (now before : List ℕ) (slots : List Slot) → ((x : ℕ) → ticks_in x now ≡ true → ticks_in x (clocks_of slots) ≡ true) → (x : ℕ)
+    → ticks_in x (ticking (map (mark_in now before) slots)) ≡ (ticks_in x now && not (ticks_in x before))
+ticking-has now before slots inside x = ticks-of now before slots x ∙ sym (implied (ticks_in x (clocks_of slots)) (ticks_in x now) (inside x) (not (ticks_in x before)))
+
+no-members : (xs : List ℕ) → ((x : ℕ) → ticks_in x xs ≡ false) → xs ≡ []
+no-members [] h = refl
+no-members (x ∷ xs) h = absurd (let no : true ≡ false = sym (ap (λ t. t || ticks_in x xs) (eq-eqb x x refl)) ∙ h x in cc)
+
+pub quiet-none : (now before : List ℕ) (slots : List Slot) → ((x : ℕ) → ticks_in x now ≡ true → ticks_in x (clocks_of slots) ≡ true) → ((x : ℕ) → (ticks_in x now && not (ticks_in x before)) ≡ false)
+    → ticking (map (mark_in now before) slots) ≡ []
+quiet-none now before slots inside h = no-members (ticking (map (mark_in now before) slots)) (λ x. ticking-has now before slots inside x ∙ h x)
+
+pub none-quiet : (now before : List ℕ) (slots : List Slot) → ((x : ℕ) → ticks_in x now ≡ true → ticks_in x (clocks_of slots) ≡ true) → ticking (map (mark_in now before) slots) ≡ []
+    → (x : ℕ) → (ticks_in x now && not (ticks_in x before)) ≡ false
+none-quiet now before slots inside e x = sym (ticking-has now before slots inside x) ∙ ap (ticks_in x) e
+
 -- A later time.
 
-pub marks-age : (now before later events : List ℕ) (slots : List Slot) → AllByRecursion (λ s. ticks_in s.clock events ≡ s.event) slots
-    → ((x : ℕ) → ticks_in x later ≡ (ticks_in x now && not (ticks_in x events))) → map (mark_in later later) slots ≡ map aged (map (mark_in now before) slots)
-marks-age now before later events [] e h = refl
-marks-age now before later events (s ∷ ss) e h =
-    let at : Bool → Mark = λ b. record { clock = s.clock; code = s.code; event = s.event; now = b; before = b } in
-    ap₂ (λ (m : Mark) (ms : List Mark). m ∷ ms)
-    (ap at (h s.clock ∙ ap (λ v. ticks_in s.clock now && not v) e.0 ∙ and-swap (ticks_in s.clock now) (not s.event)))
-    (marks-age now before later events ss e.1 h)
+pub marks-age : (now before later former events : List ℕ) (slots : List Slot) → AllByRecursion (λ s. ticks_in s.clock events ≡ s.event) slots
+    → ((x : ℕ) → ticks_in x later ≡ (ticks_in x now && not (ticks_in x events))) → ((x : ℕ) → ticks_in x former ≡ ticks_in x later)
+    → map (mark_in later former) slots ≡ map aged (map (mark_in now before) slots)
+marks-age now before later former events [] e h g = refl
+marks-age now before later former events (s ∷ ss) e h g =
+    let at : Bool → Bool → Mark = λ a b. record { clock = s.clock; code = s.code; event = s.event; now = a; before = b } in
+    let v : ticks_in s.clock later ≡ (not s.event && ticks_in s.clock now) = h s.clock ∙ ap (λ w. ticks_in s.clock now && not w) e.0 ∙ and-swap (ticks_in s.clock now) (not s.event) in
+    ap₂ (λ (m : Mark) (ms : List Mark). m ∷ ms) (ap₂ at v (g s.clock ∙ v)) (marks-age now before later former events ss e.1 h g)
 
 pub age-kept : (slots : List Slot) (users : List User) (events now later : List ℕ) → AreKept slots users events now → ((x : ℕ) → ticks_in x later ≡ (ticks_in x now && not (ticks_in x events))) → AreKept slots users events later
 age-kept slots users events now later k h = record {

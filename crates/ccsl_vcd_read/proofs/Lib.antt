@@ -1,8 +1,11 @@
 pub mod Numbers
+pub mod Letters
 pub mod InPlace
 pub mod Passing
 pub mod Places
 pub mod Ascending
+pub mod BitLaws
+pub mod RowOrder
 pub mod Kept
 pub mod Ticking
 pub mod MarkLaws
@@ -11,6 +14,7 @@ pub mod HeadPictures
 pub mod Openings
 pub mod StagePictures
 pub mod Run
+pub mod ShortTimes
 pub mod Taking
 pub mod Racing
 pub mod Calm

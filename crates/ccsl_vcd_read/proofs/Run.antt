@@ -159,7 +159,7 @@ runs-same (Err g) f b c at x y s = subst (λ v. Runs b v at [] x y) (sym s.1) (s
 
 -- A short token.
 
-is-changes : (a : Amid) → is_changes (amid_of a) ≡ true → a ≡ Changes
+pub is-changes : (a : Amid) → is_changes (amid_of a) ≡ true → a ≡ Changes
 is-changes Changes h = refl
 is-changes Remark h = absurd (cc)
 is-changes (Code one) h = absurd (cc)
@@ -190,7 +190,7 @@ bit-of x h = (elim (nat_eq x 48) as (λ w. nat_eq x 48 ≡ w → (w || nat_eq x 
   | false ↦ λ _ g. inr (eqb-true x 49 g)
 ]) refl h
 
-take-first : (n : ℕ) (bytes : List ℕ) → 0 < n → 0 < length bytes → take n bytes ≡ get_or bytes 0 0 ∷ take (n - 1) (drop 1 bytes)
+pub take-first : (n : ℕ) (bytes : List ℕ) → 0 < n → 0 < length bytes → take n bytes ≡ get_or bytes 0 0 ∷ take (n - 1) (drop 1 bytes)
 take-first n [] some l = absurd (omega arith)
 take-first zero (x ∷ xs) some l = absurd (omega arith)
 take-first (suc n) (x ∷ xs) some l = ap (λ k. x ∷ take k xs) (let k : n ≡ suc n - 1 = omega arith in k)

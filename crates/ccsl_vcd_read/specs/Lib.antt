@@ -2,6 +2,8 @@ pub mod Meant
 pub mod Marks
 pub mod Users
 pub mod Kept
+pub mod Bits
+pub mod Order
 pub mod Places
 pub mod Passing
 pub mod Step
@@ -11,3 +13,4 @@ pub mod Heading
 pub mod Opening
 pub mod Staging
 pub mod Reading
+pub mod Letters

@@ -41,3 +41,13 @@ pub record IsShort (n : ℕ) (bytes : List ℕ) : Type 0 where
 -- The change of a short token was made, or nothing.
 abbrev pub Short : Body → Body → List ℕ → ℕ → Type 0
 Short old new bytes n = (0 < n → (IsShort n bytes × ((at : ℕ) (rows : List Row) → Says (hear_of old at (take n bytes)) (Ok tt) old new rows rows))) × (n ≡ 0 → new ≡ old)
+
+-- A token at the front with white space behind it was heard, or nothing.
+pub record HearsFront (n : ℕ) (bytes : List ℕ) (old new : Body) (at : ℕ) (before after : List Row) : Type 0 where
+  pub run : n ≡ prefix_len is_dark bytes
+  pub inside : n < length bytes
+  pub few : n ≤ 65536
+  pub says : Says (hear_of old at (take n bytes)) (Ok tt) old new before after
+
+abbrev pub Front : Body → Body → ℕ → List ℕ → ℕ → List Row → List Row → Type 0
+Front old new at bytes n before after = (0 < n → HearsFront n bytes old new at before after) × (n ≡ 0 → (new ≡ old) × (after ≡ before))

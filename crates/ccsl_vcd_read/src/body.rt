@@ -2,14 +2,14 @@
 
 ghost use Rattle.std.specs.Prelude.{◌≡◌, ◌<◌, ◌≤◌, ◌+◌, ◌++◌, ◌^◌, length, take, [], Ok};
 ghost use Rattle.ccsl_vcd_read.specs.Step.{Says, row_of, time_says, changed_says, skipped_says, remark_says, word_says, hear_of};
-ghost use Rattle.ccsl_vcd_read.specs.Run.{Runs, Short};
+ghost use Rattle.ccsl_vcd_read.specs.Run.{Runs, Short, Front};
 ghost use Rattle.ccsl_vcd.specs.Words.{dump, close};
 ghost use Rattle.ccsl_vcd_read.specs.Meant.{meant, rest_of};
 
 use crate::amid::Amid;
 use crate::codes::Codes;
 use crate::marks::Marks;
-use crate::scan::{is_bit, run_end, short_end};
+use crate::scan::{digits_at_front, is_bit, is_space, run_end, short_end};
 use crate::word::{Word, is_text, word_of};
 use ccsl_base::{Block, MAX_TOKEN_BYTES, Row};
 use ccsl_vcd::VcdFault;
@@ -25,20 +25,21 @@ pub(crate) struct Body {
 }
 
 /// Gives out the row of the present time, if a clock ticks.
+#[inline(always)]
 pub(crate) fn give(body: &Body, out: &mut Block)
     requires { length out.old.rows + length (row_of body.now) ≤ out.old.room }
     ensures { out.new ≡ record out.old { rows = out.old.rows ++ row_of body.now } }
 {
-    let ticks = body.marks.ticking();
-    if !ticks.is_empty() {
+    if !body.marks.are_quiet() {
         out.push(Row {
             time: body.present,
-            ticks,
+            ticks: body.marks.ticking(),
         });
     }
 }
 
 impl Body {
+    #[inline(always)]
     fn time(&mut self, at: u64, time: u64, out: &mut Block) -> Result<(), VcdFault>
         requires { length out.old.rows < out.old.room }
         ensures said { Says (time_says self.old at time) result self.old self.new out.old.rows out.new.rows }
@@ -60,6 +61,7 @@ impl Body {
     }
 
     // A change of a code to a value that is 1 or not.
+    #[inline(always)]
     fn change(&mut self, at: u64, code: &[u8], one: bool) -> Result<(), VcdFault>
         ensures { Says (changed_says self.old at code.now one) result self.old self.new [] [] }
     {
@@ -112,6 +114,7 @@ impl Body {
     }
 
     // What stands there until the next token.
+    #[inline(always)]
     fn go(&mut self, amid: Amid) -> Result<(), VcdFault>
         ensures { Says (Ok (record self.old { amid = amid }, [])) result self.old self.new [] [] }
     {
@@ -120,6 +123,7 @@ impl Body {
     }
 
     // A word in a change's place; `code` is the rest of its token.
+    #[inline(always)]
     fn say(&mut self, at: u64, word: Word, code: &[u8], out: &mut Block) -> Result<(), VcdFault>
         requires { length out.old.rows < out.old.room }
         ensures said { Says (word_says self.old at (meant word code.now)) result self.old self.new out.old.rows out.new.rows }
@@ -141,6 +145,7 @@ impl Body {
     }
 
     /// A token that ended, at a place.
+    #[inline(always)]
     pub(crate) fn hear(&mut self, at: u64, text: &[u8], out: &mut Block) -> Result<(), VcdFault>
         requires { length out.old.rows < out.old.room }
         ensures said { Says (hear_of self.old at text.now) result self.old self.new out.old.rows out.new.rows }
@@ -163,8 +168,11 @@ impl Body {
     fn short_change(&mut self, bytes: &[u8]) -> usize
         ensures { Short self.old self.new bytes.now result }
     {
+        if bytes.is_empty() || !is_bit(bytes[0]) {
+            return 0;
+        }
         let end = short_end(bytes);
-        if end == 0 || !self.amid.is_changes() || !is_bit(bytes[0]) {
+        if end == 0 || !self.amid.is_changes() {
             return 0;
         }
         let Some(number) = self.binding.known(&bytes[1..end]) else {
@@ -174,8 +182,35 @@ impl Body {
         end
     }
 
+    // Hears a time at the front of some bytes, with white space behind it. It answers how many bytes the
+    // token has, and 0 where it does nothing.
+    #[inline(always)]
+    fn short_time(&mut self, at: u64, bytes: &[u8], out: &mut Block) -> usize
+        requires room { length out.old.rows < out.old.room }
+        ensures heard { Front self.old self.new at bytes.now result out.old.rows out.new.rows }
+        ensures room { out.new.room ≡ out.old.room }
+    {
+        if bytes.is_empty() || bytes[0] != b'#' || !self.amid.is_changes() {
+            return 0;
+        }
+        let digits = digits_at_front(&bytes[1..]);
+        let end = digits.count + 1;
+        if digits.count == 0
+            || end == bytes.len()
+            || end > MAX_TOKEN_BYTES
+            || !is_space(bytes[end])
+        {
+            return 0;
+        }
+        match self.time(at, digits.value, out) {
+            Ok(()) => end,
+            Err(_) => 0,
+        }
+    }
+
     // Hears what stands at the front of some bytes: a byte of white space, or a token and the white space behind it. It answers
     // how many bytes that are: none where no token ends there, or the token is refused.
+    #[inline(always)]
     fn step(&mut self, at: u64, bytes: &[u8], out: &mut Block) -> usize
         requires room { length out.old.rows < out.old.room }
         ensures within { result ≤ length bytes.now }
@@ -185,6 +220,10 @@ impl Body {
         let short = self.short_change(bytes);
         if short > 0 {
             return short + 1;
+        }
+        let time = self.short_time(at, bytes, out);
+        if time > 0 {
+            return time + 1;
         }
         let end = run_end(bytes, 0);
         if end == bytes.len() || end > MAX_TOKEN_BYTES {

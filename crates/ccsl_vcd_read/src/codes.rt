@@ -96,6 +96,7 @@ impl Codes {
     }
 
     /// The number of a declared code, and `None` exactly where no declaration has it.
+    #[inline(always)]
     pub(crate) fn find(&mut self, code: &[u8]) -> Option<u32>
         ensures number { result ≡ number_of code.now self.old.codes }
         ensures same { self.new ≡ self.old }

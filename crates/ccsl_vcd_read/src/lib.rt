@@ -2,11 +2,13 @@
 #![tactic(auto)]
 
 mod amid;
+mod bits;
 mod body;
 mod buffer;
 mod codes;
 mod command;
 mod heading;
+pub mod laws;
 mod lexer;
 mod marks;
 mod number;

@@ -1,10 +1,11 @@
 //! What is kept of the changes of each bound clock's code.
 
-ghost use Rattle.std.specs.Prelude.{◌≡◌, ◌<◌, ◌++◌, [], ◌∷◌, map, not, IfOk, IsTrue};
+ghost use Rattle.std.specs.Prelude.{◌≡◌, ◌<◌, ◌↔◌, ◌++◌, [], ◌∷◌, map, not, IfOk, IsTrue};
 ghost use Rattle.ccsl_base.specs.Clocks.{is_ascending, are_below};
 ghost use Rattle.ccsl_vcd_read.specs.Marks.{put, ticking, aged};
 ghost use Rattle.ccsl_vcd_read.specs.Kept.{put_clock, put_in, put_all};
 
+use crate::bits::Bits;
 use crate::users::{Slot, User, Users};
 use ccsl_base::{ClockSet, MAX_CLOCKS, Memory};
 use std::alloc::Global;
@@ -21,32 +22,21 @@ pub struct Mark {
     pub before: bool,
 }
 
-// Makes a clock a member of a set, or takes it out.
-fn put_clock(set: &mut ClockSet, clock: u32, one: bool)
-    requires { clock < MAX_CLOCKS }
-    ensures { set.new ≡ put_clock clock one set.old }
-{
-    if one {
-        set.insert(clock);
-    } else {
-        set.remove(clock);
-    }
-}
-
 // A change of a clock's code to a value that is 1 or not, in a dump block or not.
-fn put_in(now: &mut ClockSet, slot: Slot, one: bool, dumped: bool)
+#[inline(always)]
+fn put_in(now: &mut Bits, slot: Slot, one: bool, dumped: bool)
     requires { slot.clock < MAX_CLOCKS }
     ensures { now.new ≡ put_in slot one dumped now.old }
 {
     if !slot.event {
-        put_clock(now, slot.clock, one);
+        now.put(slot.clock, one);
     } else if !dumped {
-        now.insert(slot.clock);
+        now.put(slot.clock, true);
     }
 }
 
 // The same for each clock that has a code.
-fn put_all(now: &mut ClockSet, slots: &[Slot], code: u32, one: bool, dumped: bool)
+fn put_all(now: &mut Bits, slots: &[Slot], code: u32, one: bool, dumped: bool)
     requires { IsTrue (are_below MAX_CLOCKS (map (λ s. s.clock) slots.now)) }
     ensures { now.new ≡ put_all code one dumped slots.now now.old }
 {
@@ -62,10 +52,10 @@ fn put_all(now: &mut ClockSet, slots: &[Slot], code: u32, one: bool, dumped: boo
 pub(crate) struct Marks {
     slots: Vec<Slot>,
     users: Users,
-    events: ClockSet,
+    events: Bits,
     // the clocks that are 1 now, and at the last earlier time with a change
-    ones: ClockSet,
-    earlier: ClockSet,
+    ones: Bits,
+    earlier: Bits,
 }
 
 impl Model for Marks {
@@ -87,9 +77,9 @@ impl Marks {
         Marks {
             slots: Vec::new(alloc),
             users: Users::new(alloc),
-            events: ClockSet::empty(),
-            ones: ClockSet::empty(),
-            earlier: ClockSet::empty(),
+            events: Bits::empty(),
+            ones: Bits::empty(),
+            earlier: Bits::empty(),
         }
     }
 
@@ -109,13 +99,14 @@ impl Marks {
         self.slots.reserve(1)?;
         self.users.add(slot)?;
         self.slots.push_reserved(slot);
-        put_clock(&mut self.events, clock, event);
-        put_clock(&mut self.ones, clock, !event);
-        put_clock(&mut self.earlier, clock, !event);
+        self.events.put(clock, event);
+        self.ones.put(clock, !event);
+        self.earlier.put(clock, !event);
         Ok(())
     }
 
     /// A change of a code to a value that is 1 or not, in a dump block or not.
+    #[inline(always)]
     pub(crate) fn change(&mut self, code: u32, one: bool, dumped: bool)
         ensures { self.new ≡ map (put code one dumped) self.old }
     {
@@ -126,21 +117,30 @@ impl Marks {
         }
     }
 
+    /// Whether no clock ticks at the present time.
+    #[inline(always)]
+    pub(crate) fn are_quiet(&self) -> bool
+        ensures { IsTrue result ↔ (ticking self.now ≡ []) }
+    {
+        self.ones.is_within(&self.earlier)
+    }
+
     /// The clocks that tick at the present time.
+    #[inline(always)]
     pub(crate) fn ticking(&self) -> ClockSet
         ensures { result ≡ ticking self.now }
     {
-        let mut ticks = self.ones.copy();
-        ticks.remove_all(&self.earlier);
+        let ticks = self.ones.beyond(&self.earlier);
         let _any = ticks.has(0);
         ticks
     }
 
     /// A later time.
+    #[inline(always)]
     pub(crate) fn age(&mut self)
         ensures { self.new ≡ map aged self.old }
     {
         self.ones.remove_all(&self.events);
-        self.earlier = self.ones.copy();
+        self.earlier.set_to(&self.ones);
     }
 }

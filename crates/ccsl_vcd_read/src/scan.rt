@@ -1,11 +1,12 @@
 //! Where a run of bytes ends, found many bytes at a time.
 
-ghost use Rattle.std.specs.Prelude.{◌≡◌, ◌+◌, ◌≤◌, ◌<◌, length, drop, map, nat_eq, ◌||◌};
-ghost use Rattle.std.specs.List.{prefix_len};
+ghost use Rattle.std.specs.Prelude.{◌≡◌, ◌+◌, ◌^◌, ◌≤◌, ◌<◌, length, take, drop, map};
+ghost use Rattle.std.specs.List.{prefix_len, list_all};
 ghost use Rattle.std.specs.Simd.Lanes.{mask_l};
 ghost use Rattle.ccsl_vcd_lex.specs.Tokens.{is_white};
 ghost use Rattle.ccsl_vcd_lex.specs.Lexing.{is_dark};
 ghost use Rattle.ccsl_vcd_read.specs.Run.{IsShort};
+ghost use Rattle.ccsl_vcd_read.specs.Letters.{is_bit, is_other, AreDigits};
 
 use std::simd::prelude::*;
 
@@ -59,6 +60,34 @@ pub(crate) fn run_end(bytes: &[u8], from: usize) -> usize
     run_end_slowly(bytes, i)
 }
 
+// Bit k says whether byte k is neither 0 nor 1.
+#[inline(always)]
+fn other_bits(v: u8x16) -> u64
+    ensures { result ≡ mask_l (map is_other v) }
+{
+    (v & u8x16::splat(0xfe))
+        .simd_ne(u8x16::splat(b'0'))
+        .to_bitmask()
+}
+
+/// Whether all bytes are letters of the values 0 and 1. The last 16 bytes are looked at together, whatever stands before.
+#[inline(always)]
+pub(crate) fn are_bits(bytes: &[u8]) -> bool
+    ensures { result ≡ list_all is_bit bytes.now }
+{
+    if bytes.len() < LANES {
+        return bytes.iter().all(|b| is_bit(*b));
+    }
+    let mut i = 0;
+    while bytes.len() - i > LANES {
+        if other_bits(u8x16::from_slice(&bytes[i..])) != 0 {
+            return false;
+        }
+        i += LANES;
+    }
+    other_bits(u8x16::from_slice(&bytes[bytes.len() - LANES..])) == 0
+}
+
 /// The length of a token of two to four bytes at the front, with white space behind it; 0 where there is none.
 #[inline(always)]
 pub(crate) fn short_end(bytes: &[u8]) -> usize
@@ -73,10 +102,36 @@ pub(crate) fn short_end(bytes: &[u8]) -> usize
     }
 }
 
+/// A number up to which any digit more fits 64 bits.
+const MANY: u64 = 1_000_000_000_000_000_000;
+
+/// How many digits stand at the front of some bytes, and their value.
+#[derive(Clone, Copy, Debug)]
+pub(crate) struct Digits {
+    pub count: usize,
+    pub value: u64,
+}
+
+/// The digits at the front, as long as one more fits 64 bits.
+#[inline(always)]
+pub(crate) fn digits_at_front(bytes: &[u8]) -> Digits
+    ensures within { result.count ≤ length bytes.now }
+    ensures fits { result.value < 2 ^ 64 }
+    ensures are { AreDigits (take result.count bytes.now) result.value }
+{
+    let mut count = 0;
+    let mut value = 0u64;
+    while count < bytes.len() && value < MANY && bytes[count] >= b'0' && bytes[count] <= b'9' {
+        value = 10 * value + (bytes[count] - b'0') as u64;
+        count += 1;
+    }
+    Digits { count, value }
+}
+
 /// Whether a byte is the letter of the value 0 or 1.
 #[inline(always)]
 pub(crate) fn is_bit(b: u8) -> bool
-    ensures { result ≡ (nat_eq b 48 || nat_eq b 49) }
+    ensures { result ≡ is_bit b }
 {
     b == b'0' || b == b'1'
 }

@@ -62,6 +62,7 @@ impl Users {
     }
 
     /// The user of a code.
+    #[inline(always)]
     pub(crate) fn of(&self, code: u32) -> User
         ensures { result ≡ user_in (slice_get self.now code) }
     {

@@ -6,6 +6,7 @@ ghost use Rattle.ccsl_vcd.specs.Words.{is_scalar, last_of, command_of, change_of
 ghost use Rattle.ccsl_vcd_read.specs.Meant.{meant, rest_of};
 
 use crate::number::number;
+use crate::scan::are_bits;
 
 /// A time, a change, a command, or a fault. A scalar's code is the rest of its token.
 #[derive(Clone, Copy, Debug, PartialEq, Eq)]
@@ -23,16 +24,18 @@ pub enum Word {
     Unknown,
 }
 
+#[inline(always)]
 fn is_scalar(b: u8) -> bool
     ensures { result ≡ is_scalar b }
 {
     b == b'0' || b == b'1' || b"01xXzZuUwWlLhH-".contains(&b)
 }
 
+#[inline(always)]
 fn all_scalar(text: &[u8]) -> bool
     ensures { result ≡ list_all is_scalar text.now }
 {
-    text.iter().all(|b| is_scalar(*b))
+    are_bits(text) || text.iter().all(|b| is_scalar(*b))
 }
 
 pub(crate) fn is_text(text: &[u8], word: &[u8]) -> bool
@@ -60,23 +63,24 @@ fn command_of(text: &[u8]) -> Word
     }
 }
 
+#[inline(always)]
 fn last_of(first: u8, rest: &[u8]) -> u8
     ensures { result ≡ last_of first rest.now }
 {
-    let mut last = first;
-    for b in rest {
-        last = *b;
+    match rest {
+        [.., last] => *last,
+        [] => first,
     }
-    last
 }
 
+#[inline(always)]
 fn change_of(first: u8, rest: &[u8]) -> Word
     ensures { change_of first rest.now ≡ meant result rest.now }
 {
-    if is_scalar(first) && !rest.is_empty() {
-        Word::Scalar(first == b'1')
-    } else if (first == b'b' || first == b'B') && !rest.is_empty() && all_scalar(rest) {
+    if (first == b'b' || first == b'B') && !rest.is_empty() && all_scalar(rest) {
         Word::Vector(last_of(first, rest) == b'1')
+    } else if is_scalar(first) && !rest.is_empty() {
+        Word::Scalar(first == b'1')
     } else if (first == b'r' || first == b'R') && !rest.is_empty() {
         Word::Skipped
     } else if first == b's' || first == b'S' {
@@ -86,6 +90,7 @@ fn change_of(first: u8, rest: &[u8]) -> Word
     }
 }
 
+#[inline(always)]
 fn time_of(digits: &[u8]) -> Word
     ensures { time_of (number 18446744073709551615 digits.now) ≡ meant result [] }
 {
@@ -96,6 +101,7 @@ fn time_of(digits: &[u8]) -> Word
 }
 
 // The word of a token.
+#[inline(always)]
 #[tactic(auto, unfolding(ccsl_vcd::specs::Words::word_of))]
 pub(crate) fn word_of(text: &[u8]) -> Word
     ensures { word_of text.now ≡ meant result (rest_of text.now) }

@@ -6,6 +6,5 @@ use Rattle.ccsl_vcd_read.proofs.marks.Marks.age.Goals as goal
 
 pub returns : goal.returns
 returns c =
-    ap (λ (xs : List ℕ). map (mark_in c.remove_all.new.self xs) c.self.inside.slots.items) c.copy-self-inside.ensures
-    ∙ marks-age c.self.inside.ones c.self.inside.earlier c.remove_all.new.self c.self.inside.events c.self.inside.slots.items c.self.invariant.marked c.remove_all.ensures
+    marks-age c.self.inside.ones c.self.inside.earlier c.remove_all.new.self _ c.self.inside.events c.self.inside.slots.items c.self.invariant.marked c.remove_all.ensures c.set_to.ensures
     ∙ ap (map aged) c.self.view_is

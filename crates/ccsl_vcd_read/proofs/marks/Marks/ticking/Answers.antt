@@ -9,5 +9,5 @@ pub returns : goal.returns
 returns c =
     same-members _ _ c.has-any.ensures.ascending (ticking-ascends c.self.inside.ones c.self.inside.earlier c.self.inside.slots.items c.self.invariant.ascending)
     (ticking-members c.self.inside.ones c.self.inside.earlier _ c.self.inside.slots.items c.self.invariant.inside
-    (λ x. c.remove_all.ensures x ∙ ap (λ xs. ticks_in x xs && not (ticks_in x c.self.inside.earlier)) c.copy-ticks.ensures))
+    c.beyond-ticks.ensures)
     ∙ ap ticking c.self.view_is

@@ -1,0 +1,115 @@
+//! A text that a reader is given in pieces.
+
+ghost use Rattle.std.specs.Prelude.{◌<◌, ℕ, List, [], length, IfOk, OnOk};
+ghost use Rattle.ccsl_bind.specs.Collected.{wanted_of};
+ghost use Rattle.ccsl_vcd.specs.Binding.{Wanted};
+ghost use Rattle.ccsl_vcd_read.specs.Reading.{StandsFor};
+
+use ccsl_base::{Block, Memory, Names, Seq};
+use ccsl_kernel::{Parts, System};
+use ccsl_vcd_read::{Counts, Limits, Reader, VcdFault};
+use std::alloc::Global;
+use std::test::Fail;
+
+/// Limits that no text here reaches.
+const WIDE: Limits = Limits {
+    bytes: 1_000_000,
+    vars: 100,
+    scopes: 100,
+};
+
+// The system of one clock.
+fn system(alloc: Global) -> Result<System, Fail> {
+    let mut names = Names::new(alloc);
+    names.add(b"a")?;
+    let parts = Parts {
+        names,
+        declared: 1,
+        written: 1,
+        groups: Seq::new(Vec::new(alloc)),
+        words: Seq::new(Vec::new(alloc)),
+        definitions: Seq::new(Vec::new(alloc)),
+        constraints: Seq::new(Vec::new(alloc)),
+    };
+    if !parts.accepted(alloc)? {
+        return Err(Fail::from("the parts are accepted"));
+    }
+    let count = parts.cells(alloc)?;
+    Ok(System::assemble(parts, count))
+}
+
+// A piece of the text. Full blocks are emptied.
+fn feed_all(reader: &mut Reader, block: &mut Block, piece: &[u8]) -> Result<(), VcdFault>
+    requires room { length block.old.rows < block.old.room }
+    requires stands { (wanted : Wanted) × (bytes : List ℕ) × StandsFor wanted reader.old bytes }
+    ensures room { OnOk result (length block.new.rows < block.new.room) }
+    ensures stands { OnOk result ((wanted : Wanted) × (bytes : List ℕ) × StandsFor wanted reader.new bytes) }
+{
+    let mut rest = piece;
+    while !rest.is_empty() {
+        let taken = match reader.feed(rest, block) {
+            Ok(taken) => taken,
+            Err(fault) => return Err(fault),
+        };
+        if block.is_full() {
+            block.clear();
+        }
+        rest = rest.split_at(taken.bytes).1;
+    }
+    Ok(())
+}
+
+// The whole text.
+fn read_all(
+    reader: &mut Reader,
+    block: &mut Block,
+    text: &[u8],
+    size: usize,
+) -> Result<Counts, VcdFault>
+    requires size { 0 < size }
+    requires room { length block.old.rows < block.old.room }
+    requires stands { (wanted : Wanted) × (bytes : List ℕ) × StandsFor wanted reader.old bytes }
+{
+    for piece in text.chunks(size) {
+        match feed_all(reader, block, piece) {
+            Ok(()) => {}
+            Err(fault) => return Err(fault),
+        }
+    }
+    reader.finish(block)
+}
+
+#[derive(Drop)]
+struct Desk {
+    block: Block,
+    reader: Reader,
+}
+
+fn open(alloc: Global, system: &System) -> Result<Desk, Memory>
+    ensures room { IfOk result (λ desk. length desk.block.rows < desk.block.room) }
+    ensures stands { IfOk result (λ desk. StandsFor (wanted_of system.now) desk.reader []) }
+{
+    let block = Block::with_room(alloc, 4)?;
+    let reader = Reader::open(alloc, system, &WIDE)?;
+    Ok(Desk { block, reader })
+}
+
+fn read_with(
+    alloc: Global,
+    system: &System,
+    text: &[u8],
+    size: usize,
+) -> Result<Result<Counts, VcdFault>, Memory>
+    requires { 0 < size }
+{
+    let mut desk = open(alloc, system)?;
+    Ok(read_all(&mut desk.reader, &mut desk.block, text, size))
+}
+
+/// What the text of a clock `a` counts in pieces of a size, or why it is refused.
+pub fn read(alloc: Global, text: &[u8], size: usize) -> Result<Result<Counts, VcdFault>, Fail>
+    requires { 0 < size }
+{
+    let system = system(alloc)?;
+    Ok(read_with(alloc, &system, text, size)?)
+}
