@@ -14,6 +14,7 @@ use Rattle.ccsl_kernel.specs.Verdict as verdicts
 use Rattle.ccsl_bind.specs.Collected.{wanted_of}
 use Rattle.ccsl_vcd.specs.declared.limits.Limits.{Limits}
 use Rattle.ccsl_items.specs.Formulas.{item_formulas, scope_of}
+use Rattle.ccsl_relate.specs.Watching.{are_sets}
 use Rattle.ccsl_trace.specs.Traces.{IsRefused, IsNearHeader}
 use Rattle.ccsl_trace.specs.Traces as traces
 use Rattle.ccsl_certify.specs.declared.answer.CertVerdict.{CertVerdict}
@@ -44,6 +45,7 @@ module _ (told : Told) (K : System) (limits : Limits) (old new : State) where
     pub text : List ℕ
     pub lines : List Line
     pub read : AreRead bound rows text
+    pub sets : are_sets rows ≡ true
     pub reads_as : reading K.names text ≡ Ok lines
     pub answers : Answers K bound rows lines v
 

@@ -1,16 +1,15 @@
 -- What a yes is worth.
-use Rattle.std.specs.Prelude.{◌≡◌, ℕ, List, true, length}
-use Rattle.std.specs.List.{list_all}
-use Rattle.ccsl_base.specs.Clocks.{is_ascending}
+use Rattle.std.specs.Prelude.{◌≡◌, ℕ, List, length}
 use Rattle.ccsl_base.specs.declared.rows.Row.{Row}
-use Rattle.ccsl_refute.specs.declared.line.Line.{Line}
+use Rattle.ccsl_edge.specs.World.{State, Told}
 use Rattle.ccsl_kernel.specs.Syntax.{System}
 use Rattle.ccsl_kernel.specs.Lives.{Step}
 use Rattle.ccsl_kernel.specs.Verdict.{completed_rows}
 use Rattle.ccsl_kernel.specs.Runs.{IsAdmissible}
 use Rattle.ccsl_items.specs.Laws.{IsNamedRun}
+use Rattle.ccsl_vcd.specs.declared.limits.Limits.{Limits}
 use Rattle.ccsl_certify.specs.declared.answer.CertVerdict.TheVariants.{Yes}
-use Rattle.ccsl_certify.specs.Certified.{Answers}
+use Rattle.ccsl_certify.specs.Certified.{IsCertified}
 
 -- the completed trace is a run of so many steps, and no set is admissible after it
 pub record IsDeadlocked (K : System) (rows : List Row) (steps : ℕ) : Type 0 where
@@ -18,7 +17,7 @@ pub record IsDeadlocked (K : System) (rows : List Row) (steps : ℕ) : Type 0 wh
   pub count : length (completed_rows K rows) ≡ steps
   pub ends : (s : Step) → IsAdmissible K (completed_rows K rows) s → ⊥
 
--- A YES ON A TRACE IS A DEADLOCK, where each row is a set, as every row that is read is
+-- A YES IS A DEADLOCK: the trace that was read is one
 abbrev pub YesIsDeadlock : System → Type 0
-YesIsDeadlock K = (bound : List ℕ) (rows : List Row) (lines : List Line) (steps : ℕ) → list_all (λ (row : Row). is_ascending row.ticks) rows ≡ true →
-    Answers K bound rows lines (Yes steps) → IsDeadlocked K rows steps
+YesIsDeadlock K = (told : Told) (limits : Limits) (old new : State) (steps : ℕ)
+    (certified : IsCertified told K limits old new (Yes steps)) → IsDeadlocked K certified.rows steps

@@ -1,5 +1,5 @@
 -- WHAT REPLAYING A TRACE ANSWERS: the verdict on its rows, and at a run the states after it.
-use Rattle.std.specs.Prelude.{◌≡◌, ℕ, List, Option, Some, None, length}
+use Rattle.std.specs.Prelude.{◌≡◌, ℕ, List, true, Option, Some, None, length}
 use Rattle.ccsl_base.specs.declared.rows.Row.{Row}
 use Rattle.ccsl_edge.specs.World.{State, Told}
 use Rattle.ccsl_kernel.specs.Syntax.{System, item_count}
@@ -36,6 +36,7 @@ module _ (told : Told) (K : System) (limits : Limits) (old new : State) where
     pub bound : List ℕ
     pub rows : List Row
     pub trace : IsTrace bound rows
+    pub sets : monitors.are_sets rows ≡ true
     pub answers : Answers K bound rows replayed
 
 -- the monitor of all items and the states have taken these rows

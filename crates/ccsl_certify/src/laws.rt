@@ -4,7 +4,7 @@ ghost use Rattle.ccsl_kernel.specs.Syntax.{System};
 ghost use Rattle.ccsl_kernel.specs.Accepted.{IsAccepted};
 ghost use Rattle.ccsl_certify.specs.Laws.{YesIsDeadlock};
 
-/// Where the answer is yes, the trace is a run of so many steps, and no set is admissible after it.
+/// Where the answer of [`crate::certify`] is yes, the trace that it read is a run of so many steps, and no set is admissible after it.
 pub fn yes_is_deadlock()
     ensures { (K : System) → IsAccepted K → YesIsDeadlock K }
 {}

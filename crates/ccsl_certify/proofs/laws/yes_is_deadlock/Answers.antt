@@ -2,4 +2,5 @@ use Rattle.ccsl_certify.proofs.Deadlocks.{deadlocked}
 use Rattle.ccsl_certify.proofs.laws.yes_is_deadlock.Goals as goal
 
 pub returns : goal.returns
-returns c = λ K ok bound rows lines steps sets answers. deadlocked K bound rows steps ok lines sets answers.0 answers.1
+returns c = λ K ok told limits old new steps certified.
+    deadlocked K certified.bound certified.rows steps ok certified.lines certified.sets certified.answers.0 certified.answers.1

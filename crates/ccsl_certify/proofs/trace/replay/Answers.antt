@@ -9,5 +9,6 @@ returns-in-Ok-take_all-clause-replayed g c =
       bound = e.bound;
       rows = e.rows;
       trace = record { row_count = c.in-Ok-take_all.rows; byte_count = e.byte_count; is_read = e.is_read };
+      sets = e.follows.stands.sets;
       answers = c.answer.ensures K e.bound e.rows e.follows (e.is_read.ends.counts.rows_are ∙ sym (ap length e.is_read.ends.rows_are));
     }
