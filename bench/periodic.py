@@ -17,7 +17,7 @@ WORST = [
     ("subclock, which never fails", "subclock", "(" + "1" * 4096 + ")", "(" + "1" * 4095 + ")"),
     ("precedes, which never fails", "precedes", "(" + "1" * 4096 + ")", "(0" + "1" * 4094 + ")"),
     ("precedes, overtaken in the first turn", "precedes", "(" + "1" * 4094 + "00)", "(0" + "1" * 4094 + ")"),
-    ("precedes, which loses one in each turn", "precedes", "1" * 2049 + "(" + "1" * 2046 + "0)", "(0" + "1" * 2047 + ")"),
+    ("precedes, which loses one in each turn", "precedes", "1" * 2049 + "(" + "1" * 2046 + "0)", "0" * 2048 + "(0" + "1" * 2047 + ")"),
     ("a prefix that waits for its ones", "on", "(" + "0" * 4095 + "1)", "0" * 4095 + "(1)"),
     ("a period sought to its end", "on", "(1)", "(" + "0" * 4095 + "1)"),
 ]
