@@ -201,11 +201,12 @@ module _ (u v : BinaryWord) (t : Turn) where
 
   pub record IsSoFar (first end : ℕ) : Type 0 where
     pub least : (j : ℕ) → t.start ≤ j → j < end → letter v j ≡ true → first ≤ overtaken_at u v t j
+    pub most : first ≤ 18446744073709551615
     pub none : first ≡ 18446744073709551615 → ones v end ≡ ones v t.start
     pub found : first ≢ 18446744073709551615 → IsFound first
 
   pub at_start : (k : ℕ) → k ≡ t.start → IsSoFar 18446744073709551615 k
-  at_start k e = record { least = λ j l w ticks. absurd (omega arith); none = λ _. ap (ones v) e; found = λ ne. absurd (ne refl) }
+  at_start k e = record { least = λ j l w ticks. absurd (omega arith); most = omega arith; none = λ _. ap (ones v) e; found = λ ne. absurd (ne refl) }
 
   least_rests : (first k : ℕ) → IsLeast first k → letter v k ≡ false → IsLeast first (k + 1)
   least_rests first k least rests j l w ticks =
@@ -237,6 +238,7 @@ module _ (u v : BinaryWord) (t : Turn) where
   pub one_rests : (first k : ℕ) → letter v k ≡ false → IsSoFar first k → IsSoFar first (k + 1)
   one_rests first k rests so_far = record {
     least = least_rests first k so_far.least rests;
+    most = so_far.most;
     none = λ e. ones-more v k ∙ (let r = ap as_number rests in omega (arith, r, so_far.none e));
     found = so_far.found;
   }
@@ -247,14 +249,21 @@ module _ (u v : BinaryWord) (t : Turn) where
       let more = min first (overtaken_at u v t k) in
       record {
         least = least_ticks first more k so_far.least (omega arith) (omega arith);
+        most = omega (arith, so_far.most);
         none = λ e. absurd (omega (arith, e, small));
         found = λ _. found_ticks first k l ticks so_far.found small;
       }
 
-  -- AT THE END OF THE TURN it is the first failure
+  -- AT THE END OF THE TURN there is one, since the right word gains, and it is the first failure
+  pub so_far_is_small : (first end : ℕ) → IsTurn u v t → t.left < t.right → end ≡ t.start + t.letters → IsSoFar first end →
+      first < 18446744073709551615
+  so_far_is_small first end is gains at so_far =
+      let ticked : first ≢ 18446744073709551615 = λ e. omega (arith, gains, so_far.none e, ap (ones v) at, is.right.ones t.start (omega arith)) in
+      omega (arith, ticked, so_far.most)
+
   pub so_far_is_first : (first end : ℕ) → IsTurn u v t → t.left < t.right → ((k : ℕ) → k < t.start → fails_at Precedes u v k ≡ false) →
       end ≡ t.start + t.letters → IsSoFar first end → IsFirstFailure Precedes u v first
   so_far_is_first first end is gains before at so_far =
-      let ticked : first ≢ 18446744073709551615 = λ e. omega (arith, gains, so_far.none e, ap (ones v) at, is.right.ones t.start (omega arith)) in
-      let found = so_far.found ticked in
+      let small = so_far_is_small first end is gains at so_far in
+      let found = so_far.found (λ e. omega (arith, small, e)) in
       overtaking_is_first u v t is first gains before (λ j l w. so_far.least j l (omega (arith, at, w))) found.place found.from found.ticks found.is

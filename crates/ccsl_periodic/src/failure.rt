@@ -22,6 +22,7 @@ pub fn compare(left: &Word, right: &Word, relation: Between) -> Option<u64>
     ensures fails { IfSome result (IsFirstFailure relation left.now right.now) }
     ensures holds { IfNone result (NeverFails relation left.now right.now) }
     ensures filters { FiltersAreRelated relation left.now right.now result }
+    ensures small { IfSome result (λ k. k < u64.MAX) }
 {
     let turn = Turn::of(left, right);
     if relation == Between::Precedes && turn.left < turn.right {
@@ -34,6 +35,7 @@ pub fn compare(left: &Word, right: &Word, relation: Between) -> Option<u64>
 fn first_below(left: &Word, right: &Word, relation: Between, end: u64) -> Option<u64>
     ensures fails { IfSome result (IsFirstFailure relation left.now right.now) }
     ensures holds { IfNone result ((k : ℕ) → k < end → fails_at relation left.now right.now k ≡ false) }
+    ensures below { IfSome result (λ k. k < end) }
 {
     let mut left_ones = 0;
     let mut right_ones = 0;
@@ -63,7 +65,8 @@ fn fails(relation: Between, left: bool, right: bool, as_often: bool) -> bool
 fn first_overtaking(left: &Word, right: &Word, turn: &Turn) -> u64
     requires turn { IsTurn left.now right.now turn.now }
     requires gains { turn.now.left < turn.now.right }
-    ensures { IsFirstFailure Between.Precedes left.now right.now result }
+    ensures fails { IsFirstFailure Between.Precedes left.now right.now result }
+    ensures small { result < u64.MAX }
 {
     if let Some(k) = first_below(left, right, Between::Precedes, turn.start) {
         return k;
@@ -77,7 +80,8 @@ fn first_in_turns(left: &Word, right: &Word, turn: &Turn) -> u64
     requires turn { IsTurn left.now right.now turn.now }
     requires gains { turn.now.left < turn.now.right }
     requires before { (k : ℕ) → k < turn.now.start → fails_at Between.Precedes left.now right.now k ≡ false }
-    ensures { IsFirstFailure Between.Precedes left.now right.now result }
+    ensures fails { IsFirstFailure Between.Precedes left.now right.now result }
+    ensures small { result < u64.MAX }
 {
     let mut left_ones = ones(left, turn.start);
     let mut right_ones = ones(right, turn.start);

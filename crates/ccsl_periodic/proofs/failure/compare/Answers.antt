@@ -46,7 +46,7 @@ returns-clause-holds c = none c.first_below.result c.first_below.ensures.holds
 pub returns-then-turn-clause-filters : goal.returns-then-turn-clause-filters
 returns-then-turn-clause-filters c =
     related_until c.args.relation c.args.left.now c.args.right.now c.first_overtaking.result
-    (subst (λ (r : Between). IsFirstFailure r c.args.left.now c.args.right.now c.first_overtaking.result) (sym (asked c.args.relation c.eq.result c.eq.ensures c.if-eq.true)) c.first_overtaking.ensures)
+    (subst (λ (r : Between). IsFirstFailure r c.args.left.now c.args.right.now c.first_overtaking.result) (sym (asked c.args.relation c.eq.result c.eq.ensures c.if-eq.true)) c.first_overtaking.ensures.fails)
 
 pub returns-clause-filters : goal.returns-clause-filters
 returns-clause-filters c = either_way c.args.relation c.args.left.now c.args.right.now c.first_below.result c.first_below.ensures.fails (returns-clause-holds c)

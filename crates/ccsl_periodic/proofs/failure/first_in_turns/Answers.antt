@@ -2,7 +2,7 @@ use Rattle.std.proofs.Common.{◌≡◌, ◌<◌, ◌+◌, ◌-◌, ◌*◌, ari
 use Rattle.std.specs.Int.{div_ceil}
 use Rattle.ccsl_periodic.specs.Turns.{overtaken_at}
 use Rattle.ccsl_periodic.proofs.Counts.{ones-next, byte-le}
-use Rattle.ccsl_periodic.proofs.Failing.{IsSoFar, at_start, one_rests, one_ticks, so_far_is_first}
+use Rattle.ccsl_periodic.proofs.Failing.{IsSoFar, at_start, one_rests, one_ticks, so_far_is_first, so_far_is_small}
 use Rattle.ccsl_periodic.proofs.failure.first_in_turns.Goals as goal
 use Rattle.ccsl_periodic.proofs.failure.first_in_turns.Goals.{After-from-right_ones, then-right_ticks, else-right_ticks}
 
@@ -39,5 +39,8 @@ loop-k-preserved c = record {
   so_far = so_far c;
 }
 
-pub returns : goal.returns
-returns c = so_far_is_first c.args.left.now c.args.right.now c.args.turn.now c.loop-k.first c.loop-k.k c.requires.turn c.requires.gains c.requires.before (omega arith) c.loop-k.invariant.so_far
+pub returns-clause-fails : goal.returns-clause-fails
+returns-clause-fails c = so_far_is_first c.args.left.now c.args.right.now c.args.turn.now c.loop-k.first c.loop-k.k c.requires.turn c.requires.gains c.requires.before (omega arith) c.loop-k.invariant.so_far
+
+pub returns-clause-small : goal.returns-clause-small
+returns-clause-small c = so_far_is_small c.args.left.now c.args.right.now c.args.turn.now c.loop-k.first c.loop-k.k c.requires.turn c.requires.gains (omega arith) c.loop-k.invariant.so_far
