@@ -1,6 +1,6 @@
 pub mod Slots
 pub mod Effects
-pub mod Periodic
+pub mod OneAnswer
 pub mod One
 pub mod Outputs
 pub mod Frames

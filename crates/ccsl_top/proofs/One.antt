@@ -7,7 +7,7 @@ use Rattle.ccsl_command.specs.Meaning.{meaning}
 use Rattle.ccsl_kernel.specs.Syntax.{System}
 use Rattle.ccsl_spec.specs.Laws.{OneSystem, OneRefusal, NotBoth}
 use Rattle.ccsl_periodic.specs.Laws.{CanonicalWordsAreOne, PlainLengthsAreOne}
-use Rattle.ccsl_top.proofs.Periodic.{periodic-one}
+use Rattle.ccsl_top.proofs.OneAnswer.{periodic-one}
 use Rattle.ccsl_top.specs.Outcome.{Outcome, outcome}
 use Rattle.ccsl_top.specs.Check.{check_outcome}
 use Rattle.ccsl_top.specs.Simulate.{named_policy, IsSimulated}

@@ -4,8 +4,8 @@
 ghost use Rattle.ccsl_top.specs.Program.{OutcomesAreOne};
 
 pub use ccsl_chain::laws::simulated_chains_are_full;
-pub use ccsl_roundtrip::laws::simulated_traces_are_runs;
 use ccsl_periodic::laws::{canonical_words_are_one, plain_lengths_are_one};
+pub use ccsl_roundtrip::laws::simulated_traces_are_runs;
 use ccsl_spec::laws::specifications_are_one;
 pub use ccsl_vcd_write::laws::read_back;
 

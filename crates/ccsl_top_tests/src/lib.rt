@@ -16,6 +16,8 @@ mod gates;
 #[cfg(test)]
 mod hostile;
 #[cfg(test)]
+mod periodics;
+#[cfg(test)]
 mod refused_traces;
 #[cfg(test)]
 mod runs;

@@ -18,9 +18,9 @@ module _ (between : Between) (u v : BinaryWord) where
   first-one j k a b = ⊎_elim
       (λ (l : j < k). absurd (false≢true (sym (b.least j l) ∙ a.fails)))
       (λ (m : k ≤ j). ⊎_elim
-          (λ (l : k < j). absurd (false≢true (sym (a.least k l) ∙ b.fails)))
-          (λ (n : j ≤ k). omega (arith, m, n))
-          (cases_lt k j))
+      (λ (l : k < j). absurd (false≢true (sym (a.least k l) ∙ b.fails)))
+      (λ (n : j ≤ k). omega (arith, m, n))
+      (cases_lt k j))
       (cases_lt j k)
 
 module _ (canonical : CanonicalWordsAreOne) (plain : PlainLengthsAreOne) where
