@@ -29,10 +29,19 @@ end
 
 complete -c ccsl -f
 complete -c ccsl -n __ccsl_has_no_command -a check -d "Say whether a specification is accepted"
+complete -c ccsl -n __ccsl_has_no_command -a simulate -d "Make a run of a specification"
+complete -c ccsl -n __ccsl_has_no_command -a certify -d "Say whether no step is left behind a trace"
+complete -c ccsl -n __ccsl_has_no_command -a trial -d "Simulate and judge a chain of clocks"
 complete -c ccsl -n __ccsl_has_no_command -a judge -d "Say whether a trace is a run of a specification"
 complete -c ccsl -n "__ccsl_command_is check" -a "(__ccsl_keys spec)"
+complete -c ccsl -n "__ccsl_command_is simulate" -a "(__ccsl_keys spec policy seed steps trace cert)"
 complete -c ccsl -n "__ccsl_command_is judge" -a "(__ccsl_keys spec trace workers)"
-complete -c ccsl -n "__ccsl_command_is check judge; and string match -q 'spec=*' -- (commandline -ct)" \
+complete -c ccsl -n "__ccsl_command_is certify" -a "(__ccsl_keys spec trace cert)"
+complete -c ccsl -n "__ccsl_command_is trial" -a "(__ccsl_keys clocks steps seed workers)"
+complete -c ccsl -n "__ccsl_command_is simulate" -a "policy=min policy=max policy=seeded"
+complete -c ccsl -n "__ccsl_command_is check simulate judge certify; and string match -q 'spec=*' -- (commandline -ct)" \
     -a "(__ccsl_files spec .ccsl)"
-complete -c ccsl -n "__ccsl_command_is judge; and string match -q 'trace=*' -- (commandline -ct)" \
+complete -c ccsl -n "__ccsl_command_is simulate judge certify; and string match -q 'trace=*' -- (commandline -ct)" \
     -a "(__ccsl_files trace .vcd)"
+complete -c ccsl -n "__ccsl_command_is simulate certify; and string match -q 'cert=*' -- (commandline -ct)" \
+    -a "(__ccsl_files cert .cert)"
