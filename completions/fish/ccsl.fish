@@ -34,17 +34,21 @@ complete -c ccsl -n __ccsl_has_no_command -a certify -d "Say whether no step is 
 complete -c ccsl -n __ccsl_has_no_command -a trial -d "Simulate and judge a chain of clocks"
 complete -c ccsl -n __ccsl_has_no_command -a periodic -d "Say whether a relation holds between two filters"
 complete -c ccsl -n __ccsl_has_no_command -a judge -d "Say whether a trace is a run of a specification"
+complete -c ccsl -n __ccsl_has_no_command -a explain -d "Say which items block every step behind a trace"
+complete -c ccsl -n __ccsl_has_no_command -a session -d "Try a specification step by step"
 complete -c ccsl -n "__ccsl_command_is check" -a "(__ccsl_keys spec)"
 complete -c ccsl -n "__ccsl_command_is simulate" -a "(__ccsl_keys spec policy seed steps trace cert)"
 complete -c ccsl -n "__ccsl_command_is judge" -a "(__ccsl_keys spec trace workers)"
 complete -c ccsl -n "__ccsl_command_is certify" -a "(__ccsl_keys spec trace cert)"
+complete -c ccsl -n "__ccsl_command_is explain" -a "(__ccsl_keys spec trace cert)"
+complete -c ccsl -n "__ccsl_command_is session" -a "(__ccsl_keys spec policy seed)"
 complete -c ccsl -n "__ccsl_command_is periodic" -a "(__ccsl_keys left right relation)"
 complete -c ccsl -n "__ccsl_command_is periodic" -a "relation=precedes relation=subclock relation=excludes relation=on"
 complete -c ccsl -n "__ccsl_command_is trial" -a "(__ccsl_keys clocks steps seed workers)"
-complete -c ccsl -n "__ccsl_command_is simulate" -a "policy=min policy=max policy=seeded"
-complete -c ccsl -n "__ccsl_command_is check simulate judge certify; and string match -q 'spec=*' -- (commandline -ct)" \
+complete -c ccsl -n "__ccsl_command_is simulate session" -a "policy=min policy=max policy=seeded"
+complete -c ccsl -n "__ccsl_command_is check simulate judge certify explain session; and string match -q 'spec=*' -- (commandline -ct)" \
     -a "(__ccsl_files spec .ccsl)"
-complete -c ccsl -n "__ccsl_command_is simulate judge certify; and string match -q 'trace=*' -- (commandline -ct)" \
+complete -c ccsl -n "__ccsl_command_is simulate judge certify explain; and string match -q 'trace=*' -- (commandline -ct)" \
     -a "(__ccsl_files trace .vcd)"
-complete -c ccsl -n "__ccsl_command_is simulate certify; and string match -q 'cert=*' -- (commandline -ct)" \
+complete -c ccsl -n "__ccsl_command_is simulate certify explain; and string match -q 'cert=*' -- (commandline -ct)" \
     -a "(__ccsl_files cert .cert)"
