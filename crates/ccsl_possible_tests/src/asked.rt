@@ -1,0 +1,75 @@
+//! The questions, asked of a system's text after some steps. The declared clocks are a, b, c and d, as many as there are.
+
+ghost use Rattle.std.specs.Prelude.{◌≡◌, IfOk};
+
+use ccsl_base::{ClockSet, MAX_CLOCKS, MAX_SPEC_BYTES};
+use ccsl_kernel::System;
+use ccsl_possible::{allowed, first_failing};
+use ccsl_spec::{Specification, read};
+use ccsl_state::States;
+use std::alloc::Global;
+use std::test::Fail;
+
+/// The system of a text.
+pub(crate) fn system_of(alloc: Global, text: &str) -> Result<System, Fail> {
+    if text.len() as u64 > MAX_SPEC_BYTES {
+        return Err(Fail::from("the text is long"));
+    }
+    match read(alloc, text.as_bytes())? {
+        Specification::Accepted(system) => Ok(system),
+        Specification::Refused(_line) => Err(Fail::from("the text is refused")),
+    }
+}
+
+/// The clocks of some letters.
+pub(crate) fn set_of(letters: &str) -> ClockSet {
+    let mut set = ClockSet::empty();
+    for letter in letters.as_bytes() {
+        let clock = u32::from(letter.saturating_sub(b'a'));
+        if clock < MAX_CLOCKS {
+            set.insert(clock);
+        }
+    }
+    set
+}
+
+/// The letters of the clocks of a set.
+pub(crate) fn letters(alloc: Global, set: &ClockSet) -> Result<String, Fail> {
+    let mut text = String::new(alloc);
+    for (clock, letter) in ['a', 'b', 'c', 'd', 'e'].iter().enumerate() {
+        if set.has(clock as u32) {
+            text.push(*letter)?;
+        }
+    }
+    Ok(text)
+}
+
+/// The states after steps, given by their declared clocks.
+fn states_after<'s>(alloc: Global, system: &'s System, steps: &str) -> Result<States<'s>, Fail>
+    ensures { IfOk result (λ states. states.system ≡ system.now) }
+{
+    let mut states = States::open(alloc, system)?;
+    for step in steps.split_ascii_whitespace() {
+        states.advance(&set_of(step));
+    }
+    Ok(states)
+}
+
+/// The clocks that may tick after some steps.
+pub(crate) fn allowed_after(alloc: Global, text: &str, steps: &str) -> Result<String, Fail> {
+    let system = system_of(alloc, text)?;
+    let states = states_after(alloc, &system, steps)?;
+    letters(alloc, &allowed(alloc, &system, &states)?)
+}
+
+/// The first constraint that fails where some steps go on by a set.
+pub(crate) fn failing_after(
+    alloc: Global,
+    text: &str,
+    steps: &str,
+    set: &str,
+) -> Result<Option<u32>, Fail> {
+    let system = system_of(alloc, text)?;
+    let states = states_after(alloc, &system, steps)?;
+    Ok(first_failing(alloc, &system, &states, &set_of(set))?)
+}
