@@ -1,0 +1,7 @@
+pub mod Looking
+pub mod Refilling
+pub mod Fronts
+pub mod Parts
+pub mod Taken
+pub mod Going
+pub mod Reading

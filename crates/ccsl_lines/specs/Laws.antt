@@ -1,0 +1,18 @@
+-- What the lines that were handed out are worth.
+use Rattle.std.specs.Prelude.{◌≡◌, ℕ, ◌+◌, ◌≤◌, List, [], ◌++◌, length, true}
+use Rattle.ccsl_lines.specs.Lines.{Line, lines_taken}
+use Rattle.ccsl_lines.specs.Held.{Held, StandsFor}
+
+-- more lines stand behind these
+pub record Begins (given all : List Line) : Type 0 where
+  pub behind : List Line
+  pub is : all ≡ given ++ behind
+
+-- LINES THAT WERE HANDED OUT ARE TAKEN, whatever the input has behind the bytes that were read
+abbrev pub GivenLinesAreTaken : Type 0
+GivenLinesAreTaken = (h : Held) (bytes rest : List ℕ) (given : List Line) → StandsFor h bytes given → (h.ended ≡ true → rest ≡ []) →
+    Begins given (lines_taken h.limit (bytes ++ rest))
+
+-- AT MOST ONE BYTE IS READ PAST THOSE THAT ARE TAKEN
+abbrev pub FewBytesAreRead : Type 0
+FewBytesAreRead = (h : Held) (bytes : List ℕ) (given : List Line) → StandsFor h bytes given → length bytes ≤ h.limit + 1
