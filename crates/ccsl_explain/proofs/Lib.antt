@@ -1,0 +1,9 @@
+pub mod Members
+pub mod Items
+pub mod Cores
+pub mod LeastSets
+pub mod Masks
+pub mod Certificates
+pub mod Uses
+pub mod Deletions
+pub mod Explanations

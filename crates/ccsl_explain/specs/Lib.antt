@@ -1,0 +1,9 @@
+pub mod Masked
+pub mod Used
+pub mod Asked
+pub mod Core
+pub mod Deletion
+pub mod Least
+pub mod LeastSteps
+pub mod Explained
+pub mod Laws

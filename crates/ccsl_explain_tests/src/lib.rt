@@ -1,0 +1,11 @@
+//! Tests of explanations, on cores and sets that are found by plain loops over all sets.
+#![tactic(auto)]
+
+pub mod asked;
+pub mod below;
+pub mod plain;
+pub mod random;
+#[cfg(test)]
+mod rows;
+#[cfg(test)]
+mod trials;

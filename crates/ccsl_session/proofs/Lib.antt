@@ -1,0 +1,11 @@
+pub mod Words
+pub mod Declared
+pub mod Found
+pub mod Sets
+pub mod NamedSets
+pub mod Stacks
+pub mod StackStates
+pub mod Texts
+pub mod Choices
+pub mod Saying
+pub mod Turning

@@ -1,0 +1,97 @@
+-- Sets with one more clock: the order of insertion does not matter, and they stay sets.
+use Rattle.std.proofs.Common.{◌≡◌, ◌≢◌, ◌⊎◌, inl, inr, ℕ, ◌<◌, List, [], ◌∷◌, Bool, true, nat_lt, nat_eq, if◌then◌else◌, refl, sym, ap, ◌∙◌, ⊎_elim, arith, lt-ltb, le-ltb, eq-eqb}
+use Rattle.std.specs.List.{list_all}
+use Rattle.std.proofs.lemmas.Bool.{cases_order, ne_eqb, and_parts, and_from, ltb-true}
+use Rattle.ccsl_base.specs.Clocks.{with_clock, is_ascending}
+
+with-before : (x y : ℕ) (s : List ℕ) → x < y → with_clock x (y ∷ s) ≡ x ∷ (y ∷ s)
+with-before x y s l = ap (λ t. if t then x ∷ (y ∷ s) else if nat_eq x y then y ∷ s else y ∷ with_clock x s) (lt-ltb x y l)
+
+with-same : (x y : ℕ) (s : List ℕ) → x ≡ y → with_clock x (y ∷ s) ≡ y ∷ s
+with-same x y s e =
+    ap (λ t. if t then x ∷ (y ∷ s) else if nat_eq x y then y ∷ s else y ∷ with_clock x s) (le-ltb x y (omega arith))
+    ∙ ap (λ t. if t then y ∷ s else y ∷ with_clock x s) (eq-eqb x y e)
+
+with-after : (x y : ℕ) (s : List ℕ) → y < x → with_clock x (y ∷ s) ≡ y ∷ with_clock x s
+with-after x y s l =
+    ap (λ t. if t then x ∷ (y ∷ s) else if nat_eq x y then y ∷ s else y ∷ with_clock x s) (le-ltb x y (omega arith))
+    ∙ ap (λ t. if t then y ∷ s else y ∷ with_clock x s) (ne_eqb x y (λ e. omega arith))
+
+-- a lower clock before a higher one, and behind it
+swap-lower : (x y : ℕ) (s : List ℕ) → x < y → with_clock x (with_clock y s) ≡ with_clock y (with_clock x s)
+swap-lower x y [] l = with-before x y [] l ∙ sym (with-after y x [] l)
+swap-lower x y (z ∷ s) l =
+    ⊎_elim
+    (λ (e : x ≡ z).
+    ap (with_clock x) (with-after y z s (omega arith))
+    ∙ with-same x z (with_clock y s) e
+    ∙ sym (ap (with_clock y) (with-same x z s e) ∙ with-after y z s (omega arith)))
+    (λ o. ⊎_elim
+    (λ (m : x < z).
+    front m (cases_order y z) ∙ sym (ap (with_clock y) (with-before x z s m) ∙ with-after y x (z ∷ s) l))
+    (λ (m : z < x).
+    ap (with_clock x) (with-after y z s (omega arith))
+    ∙ with-after x z (with_clock y s) m
+    ∙ ap (λ r. z ∷ r) (swap-lower x y s l)
+    ∙ sym (ap (with_clock y) (with-after x z s m) ∙ with-after y z (with_clock x s) (omega arith)))
+    o)
+    (cases_order x z)
+  where
+    front : x < z → (y ≡ z) ⊎ ((y < z) ⊎ (z < y)) → with_clock x (with_clock y (z ∷ s)) ≡ x ∷ with_clock y (z ∷ s)
+    front m (inl e) = ap (with_clock x) (with-same y z s e) ∙ with-before x z s m ∙ sym (ap (λ r. x ∷ r) (with-same y z s e))
+    front m (inr (inl o)) = ap (with_clock x) (with-before y z s o) ∙ with-before x y (z ∷ s) l ∙ sym (ap (λ r. x ∷ r) (with-before y z s o))
+    front m (inr (inr o)) = ap (with_clock x) (with-after y z s o) ∙ with-before x z (with_clock y s) m ∙ sym (ap (λ r. x ∷ r) (with-after y z s o))
+
+pub with_clock-swap : (x y : ℕ) (s : List ℕ) → with_clock x (with_clock y s) ≡ with_clock y (with_clock x s)
+with_clock-swap x y s =
+    ⊎_elim
+    (λ e. ap (λ k. with_clock k (with_clock y s)) e ∙ ap (λ k. with_clock y (with_clock k s)) (sym e))
+    (λ o. ⊎_elim (λ l. swap-lower x y s l) (λ l. sym (swap-lower y x s l)) o)
+    (cases_order x y)
+
+pub with_clock-some : (x : ℕ) (s : List ℕ) → with_clock x s ≢ []
+with_clock-some x [] e = cc
+with_clock-some x (y ∷ s) e =
+    ⊎_elim
+    (λ same. let z : y ∷ s ≡ [] = sym (with-same x y s same) ∙ e in cc)
+    (λ o. ⊎_elim
+    (λ l. let z : x ∷ (y ∷ s) ≡ [] = sym (with-before x y s l) ∙ e in cc)
+    (λ l. let z : y ∷ with_clock x s ≡ [] = sym (with-after x y s l) ∙ e in cc)
+    o)
+    (cases_order x y)
+
+-- what holds of each member holds with one more of which it holds
+pub list_all-with : (p : ℕ → Bool) (x : ℕ) (s : List ℕ) → p x ≡ true → list_all p s ≡ true → list_all p (with_clock x s) ≡ true
+list_all-with p x [] h g = and_from (p x) true h refl
+list_all-with p x (y ∷ s) h g =
+    let w = and_parts (p y) (list_all p s) g in
+    ⊎_elim
+    (λ e. ap (list_all p) (with-same x y s e) ∙ g)
+    (λ o. ⊎_elim
+    (λ l. ap (list_all p) (with-before x y s l) ∙ and_from (p x) (list_all p (y ∷ s)) h g)
+    (λ l. ap (list_all p) (with-after x y s l) ∙ and_from (p y) (list_all p (with_clock x s)) w.0 (list_all-with p x s h w.1))
+    o)
+    (cases_order x y)
+
+above : (x y : ℕ) (s : List ℕ) → x < y → list_all (nat_lt y) s ≡ true → list_all (nat_lt x) s ≡ true
+above x y [] l h = refl
+above x y (z ∷ s) l h =
+    let w = and_parts (nat_lt y z) (list_all (nat_lt y) s) h in
+    let over = ltb-true y z w.0 in
+    and_from (nat_lt x z) (list_all (nat_lt x) s) (lt-ltb x z (omega (arith, over))) (above x y s l w.1)
+
+pub with_clock-ascending : (x : ℕ) (s : List ℕ) → is_ascending s ≡ true → is_ascending (with_clock x s) ≡ true
+with_clock-ascending x [] h = refl
+with_clock-ascending x (y ∷ s) h =
+    let w = and_parts (list_all (nat_lt y) s) (is_ascending s) h in
+    ⊎_elim
+    (λ e. ap is_ascending (with-same x y s e) ∙ h)
+    (λ o. ⊎_elim
+    (λ l.
+    ap is_ascending (with-before x y s l)
+    ∙ and_from (list_all (nat_lt x) (y ∷ s)) (is_ascending (y ∷ s)) (and_from (nat_lt x y) (list_all (nat_lt x) s) (lt-ltb x y l) (above x y s l w.0)) h)
+    (λ l.
+    ap is_ascending (with-after x y s l)
+    ∙ and_from (list_all (nat_lt y) (with_clock x s)) (is_ascending (with_clock x s)) (list_all-with (nat_lt y) x s (lt-ltb y x l) w.0) (with_clock-ascending x s w.1))
+    o)
+    (cases_order x y)

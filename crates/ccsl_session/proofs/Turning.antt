@@ -1,0 +1,321 @@
+-- One turn of a session: a line is heard, and answered, or the session ends.
+use Rattle.std.proofs.Common.{◌≡◌, ℕ, List, [], ◌∷◌, ◌++◌, length, take, drop, Bool, true, false, ◌||◌, Option, Some, None, nat_lt, if◌then◌else◌, IsTrue, refl, sym, ap, ◌∙◌, subst, arith, append-nil, append_assoc, lt-ltb, le-ltb, length-append}
+use Rattle.std.specs.List.{list_any}
+use Rattle.std.proofs.lemmas.List.{take_at, take-append-drop}
+use Rattle.std.proofs.lemmas.List.Folds.{list_any-append}
+use Rattle.ccsl_edge.specs.declared.slot.Slot.TheVariants.{Input, Report}
+use Rattle.ccsl_edge.specs.World.{State, SlotState, Told}
+use Rattle.ccsl_edge.specs.Calls.{Adds, AddsFront}
+use Rattle.ccsl_kernel.specs.Syntax.{System}
+use Rattle.ccsl_kernel.specs.Lives.{Step}
+use Rattle.ccsl_policy.specs.declared.policies.Policy.{Policy}
+use Rattle.ccsl_lines.specs.declared.reader.Next.{Next}
+use Rattle.ccsl_lines.specs.declared.reader.Next.TheVariants as next
+use Rattle.ccsl_lines.specs.Lines.{Line, Whole, lines_taken}
+use Rattle.ccsl_lines.specs.Lines as lines
+use Rattle.ccsl_lines.specs.Held.{Held, StandsFor, going, ended}
+use Rattle.ccsl_lines.specs.Given.{Gives, Breaks, Follows}
+use Rattle.ccsl_lines.specs.Laws.{GivenLinesAreTaken}
+use Rattle.ccsl_session.specs.declared.answer.Ended.{Ended}
+use Rattle.ccsl_session.specs.declared.answer.Ended.TheVariants.{Quit, EndOfInput, TooLong}
+use Rattle.ccsl_session.specs.declared.answer.SessionFault.{SessionFault}
+use Rattle.ccsl_session.specs.declared.answer.SessionFault.TheVariants.{Fault, Memory}
+use Rattle.ccsl_session.specs.declared.asked.Asked.{Asked as Found}
+use Rattle.ccsl_session.specs.declared.world.Heard.TheVariants.{Asks}
+use Rattle.ccsl_session.specs.declared.world.Heard.TheVariants as heard
+use Rattle.ccsl_session.specs.Asked.{asked}
+use Rattle.ccsl_session.specs.Reading.{plain}
+use Rattle.ccsl_session.specs.Answers.{answer, answers, answers_over, after, is_quit}
+use Rattle.ccsl_session.specs.Session.{session_text, HasEnded, IsCut}
+use Rattle.ccsl_session.specs.Going.{quits_at, Goes, Turns, IsHeard, Hears, NotWritten}
+use Rattle.ccsl_session.proofs.Found.{by_test}
+use Rattle.ccsl_session.proofs.Saying.{says-nothing, counts-same, says-read, says-write, counts-read, counts-write, read-fails, write-fails, reads-only, adds-only}
+
+nothing-left : (bs rest : List ℕ) → [] ≡ bs ++ rest → rest ≡ []
+nothing-left [] rest e = sym e
+nothing-left (b ∷ bs) rest e = absurd (cc)
+
+-- a front of a list is what stands first in it
+front-of : (front rest whole : List ℕ) → whole ≡ front ++ rest → (n : ℕ) × (front ≡ take n whole)
+front-of front rest whole e = (length front, sym (ap (take (length front)) e ∙ take_at front rest (length front) refl))
+
+-- what holds of a system, a policy and a seed
+pub at-task : (P : System → Policy → ℕ → Type 0) (K K' : System) (p p' : Policy) (s s' : ℕ) → K ≡ K' → p ≡ p' → s ≡ s' → P K p s → P K' p' s'
+at-task P K K' p p' s s' a b c h = subst (λ (x : System). P x p' s') a (subst (λ (x : Policy). P K x s') b (subst (λ x. P K p x) c h))
+
+module _ (told : Told) (K : System) (policy : Policy) (seed limit : ℕ) (old : State) where
+  -- BEFORE THE FIRST LINE
+  pub opens : (h : Held) → h.limit ≡ limit → StandsFor h [] [] → h.ended ≡ false → Goes told K policy seed limit old old h [] []
+  opens h l s runs = record {
+    bytes = [];
+    given = [];
+    text = [];
+    says = says-nothing told K policy seed limit old;
+    counts = counts-same told K policy seed limit old;
+    limit_is = l;
+    left = λ t. refl;
+    ended = λ e t. absurd (cc);
+    stands = s;
+    answered = λ more. refl;
+    unended = refl;
+  }
+
+  -- cut short before the first line
+  pub nothing-cut : IsCut told K policy seed limit old old Memory
+  nothing-cut = record {
+    text = [];
+    says = says-nothing told K policy seed limit old;
+    cause = counts-same told K policy seed limit old;
+    front = λ t. (0, refl);
+  }
+
+module _ (told : Told) (K : System) (policy : Policy) (seed limit : ℕ) (old : State) (taken : GivenLinesAreTaken) where
+  abbrev GoesTo : State → Held → List Step → List Line → Type 0
+  GoesTo now h R waiting = Goes told K policy seed limit old now h R waiting
+
+  abbrev over : List Step → List Line → List ℕ
+  over R more = answers_over K policy seed R more
+
+  abbrev Ends : State → Ended → Type 0
+  Ends now e = HasEnded told K policy seed limit old now e
+
+  abbrev Cut : State → SessionFault → Type 0
+  Cut now fault = IsCut told K policy seed limit old now fault
+
+  abbrev all_lines : List Line
+  all_lines = lines_taken limit (old.slot_of Input).left
+
+  module _ (now : State) (h : Held) (R : List Step) (waiting : List Line) (g : GoesTo now h R waiting) where
+    -- the lines taken of the whole input are those that were handed out, and more
+    pub lines-are : IsTrue told.left → (behind : List Line) × (all_lines ≡ g.given ++ (waiting ++ behind))
+    lines-are t =
+        let rest = (now.slot_of Input).left in
+        let b = taken h g.bytes rest (g.given ++ waiting) g.stands (λ e. g.ended e t) in (
+          b.behind,
+          ap (λ input. lines_taken limit input) (g.left t)
+              ∙ ap (λ n. lines_taken n (g.bytes ++ rest)) (sym g.limit_is)
+              ∙ b.is
+              ∙ append_assoc g.given waiting b.behind,
+        )
+
+    pub text-is : IsTrue told.left → (behind : List Line) × (session_text K policy seed limit (old.slot_of Input).left ≡ g.text ++ over R (waiting ++ behind))
+    text-is t = let q = lines-are t in (q.0, ap (answers K policy seed) q.1 ∙ g.answered (waiting ++ q.0))
+
+    -- CUT SHORT before anything more is written
+    pub memory-cut : Cut now Memory
+    memory-cut = record {
+      text = g.text;
+      says = g.says;
+      cause = g.counts;
+      front = λ t. let q = text-is t in front-of g.text (over R (waiting ++ q.0)) (session_text K policy seed limit (old.slot_of Input).left) q.1;
+    }
+
+    pub read-cut : (later : State) → Breaks told now later → Cut later Fault
+    read-cut later b = record {
+      text = g.text;
+      says = says-read told K policy seed limit old now later g.text g.says b.fails.only b.fails.here;
+      cause = read-fails told K policy seed limit old now later g.counts b.bytes b.fails;
+      front = λ t. let q = text-is t in front-of g.text (over R (waiting ++ q.0)) (session_text K policy seed limit (old.slot_of Input).left) q.1;
+    }
+
+  module _ (now : State) (h : Held) (R : List Step) (g : GoesTo now h R []) where
+    -- the lines that were handed out stand for the bytes read
+    stands-for : StandsFor h g.bytes g.given
+    stands-for = subst (StandsFor h g.bytes) (append-nil g.given) g.stands
+
+    module _ (later : State) (h' : Held) (found : Next) (gives : Gives told now later h h' found) where
+      left-behind : IsTrue told.left → (old.slot_of Input).left ≡ (g.bytes ++ gives.bytes) ++ (later.slot_of Input).left
+      left-behind t =
+          g.left t ∙ ap (λ bs. g.bytes ++ bs) (gives.reads.taken t) ∙ sym (append_assoc g.bytes gives.bytes (later.slot_of Input).left)
+
+      follows : Follows found h' (g.bytes ++ gives.bytes) g.given
+      follows = gives.follows g.bytes g.given stands-for
+
+      no-more : h'.ended ≡ true → IsTrue told.left → (later.slot_of Input).left ≡ []
+      no-more e t =
+          by_test h.ended _
+          (λ b. nothing-left gives.bytes (later.slot_of Input).left (sym (g.ended b t) ∙ gives.reads.taken t))
+          (λ b. gives.ends e b t)
+
+      -- A LINE IS HEARD
+      pub hears : (line : Line) → StandsFor h' (g.bytes ++ gives.bytes) (g.given ++ line ∷ []) → GoesTo later h' R (line ∷ [])
+      hears line s = record {
+        bytes = g.bytes ++ gives.bytes;
+        given = g.given;
+        text = g.text;
+        says = says-read told K policy seed limit old now later g.text g.says gives.reads.only (reads-only told gives.bytes now later gives.reads);
+        counts = counts-read told K policy seed limit old now later g.counts gives.bytes gives.reads;
+        limit_is = gives.limit ∙ g.limit_is;
+        left = left-behind;
+        ended = no-more;
+        stands = s;
+        answered = g.answered;
+        unended = g.unended;
+      }
+
+      -- THE INPUT ENDS
+      ends : (e : Ended) →
+          (IsTrue told.left → (all_lines ≡ g.given) × (e ≡ (if nat_lt limit (length (old.slot_of Input).left) then TooLong else EndOfInput))) → Ends later e
+      ends e all = record {
+        text = g.text;
+        says = says-read told K policy seed limit old now later g.text g.says gives.reads.only (reads-only told gives.bytes now later gives.reads);
+        counts = counts-read told K policy seed limit old now later g.counts gives.bytes gives.reads;
+        all = λ t.
+            sym (ap (answers K policy seed) ((all t).0 ∙ sym (append-nil g.given)) ∙ g.answered [] ∙ append-nil g.text);
+        by = λ t.
+            (all t).1
+            ∙ sym (ap (λ (b : Bool). if b then Quit else if nat_lt limit (length (old.slot_of Input).left) then TooLong else EndOfInput) (ap (list_any (quits_at told K policy seed limit old)) (all t).0 ∙ g.unended));
+      }
+
+    pub input-ends : (later : State) (h' : Held) → Gives told now later h h' next.Ended → Ends later EndOfInput
+    input-ends later h' gives =
+        ends later h' next.Ended gives EndOfInput
+        (λ t. whole t (follows later h' next.Ended gives).0 (follows later h' next.Ended gives).1)
+      where
+        whole : IsTrue told.left → StandsFor h' (g.bytes ++ gives.bytes) g.given → h'.ended ≡ true →
+            (all_lines ≡ g.given) × (EndOfInput ≡ (if nat_lt limit (length (old.slot_of Input).left) then TooLong else EndOfInput))
+        whole t (going runs goes) e = absurd (cc)
+        whole t (ended end all) e =
+            let input : (old.slot_of Input).left ≡ g.bytes ++ gives.bytes =
+            left-behind later h' next.Ended gives t ∙ ap (λ bs. (g.bytes ++ gives.bytes) ++ bs) (no-more later h' next.Ended gives e t) ∙ append-nil (g.bytes ++ gives.bytes) in
+            let most : h'.limit ≡ limit = gives.limit ∙ g.limit_is in (
+              ap (lines_taken limit) input ∙ ap (λ n. lines_taken n (g.bytes ++ gives.bytes)) (sym most) ∙ all.lines_are,
+              sym
+                  (ap (λ (b : Bool). if b then TooLong else EndOfInput)
+                  (ap (λ bs. nat_lt limit (length bs)) input ∙ le-ltb limit (length (g.bytes ++ gives.bytes)) (omega (arith, all.few, most)))),
+            )
+
+    pub input-too-long : (later : State) (h' : Held) → Gives told now later h h' next.TooLong → Ends later TooLong
+    input-too-long later h' gives =
+        let f = follows later h' next.TooLong gives in
+        let most : h'.limit ≡ limit = gives.limit ∙ g.limit_is in
+        let rest = (later.slot_of Input).left in
+        ends later h' next.TooLong gives TooLong
+        (λ t. (
+          ap (lines_taken limit) (left-behind later h' next.TooLong gives t) ∙ ap (λ n. lines_taken n ((g.bytes ++ gives.bytes) ++ rest)) (sym most) ∙ f.1 rest,
+          sym
+              (ap (λ (b : Bool). if b then TooLong else EndOfInput)
+              (ap (λ bs. nat_lt limit (length bs)) (left-behind later h' next.TooLong gives t)
+              ∙ lt-ltb limit (length ((g.bytes ++ gives.bytes) ++ rest)) (omega (arith, f.0, most, length-append (g.bytes ++ gives.bytes) rest)))),
+        ))
+
+  module _ (now : State) (h : Held) (R : List Step) (line : Line) (g : GoesTo now h R (line ∷ [])) where
+    abbrev reply : List ℕ
+    reply = answer K policy seed R (asked K line)
+
+    abbrev behind_it : List Line → List ℕ
+    behind_it more = if is_quit K policy seed (asked K line) then [] else over (after K policy seed R (asked K line)) more
+
+    -- the text of the session goes on by the answer
+    goes-on-by : IsTrue told.left → (more : List ℕ) × (session_text K policy seed limit (old.slot_of Input).left ≡ g.text ++ (reply ++ more))
+    goes-on-by t = let q = text-is now h R (line ∷ []) g t in (behind_it q.0, q.1)
+
+    -- A WRITE FAILS
+    pub write-cut : (later : State) → AddsFront told Report reply now later → Cut later Fault
+    write-cut later w =
+        let part = take w.count reply in
+        let rest = drop w.count reply in
+        record {
+          text = g.text ++ part;
+          says = says-write told K policy seed limit old now later g.text g.says part w.only w.here w.front;
+          cause = write-fails told K policy seed limit old now later g.counts reply w;
+          front = λ t.
+              let q = goes-on-by t in
+              front-of (g.text ++ part) (rest ++ q.0) (session_text K policy seed limit (old.slot_of Input).left)
+              (q.1
+              ∙ ap (λ bs. g.text ++ (bs ++ q.0)) (sym (take-append-drop w.count reply))
+              ∙ ap (λ bs. g.text ++ bs) (append_assoc part rest q.0)
+              ∙ sym (append_assoc g.text part (rest ++ q.0)));
+        }
+
+    module _ (later : State) (w : Adds told Report reply now later) where
+      -- IT IS ANSWERED
+      pub replies : is_quit K policy seed (asked K line) ≡ false → GoesTo later h (after K policy seed R (asked K line)) []
+      replies not_quit = record {
+        bytes = g.bytes;
+        given = g.given ++ line ∷ [];
+        text = g.text ++ reply;
+        says = says-write told K policy seed limit old now later g.text g.says reply w.only (adds-only told reply now later w) w.end;
+        counts = counts-write told K policy seed limit old now later g.counts reply w;
+        limit_is = g.limit_is;
+        left = λ t. g.left t ∙ ap (λ (s : SlotState). g.bytes ++ s.left) (sym (w.only.others Input (λ e. cc)));
+        ended = λ e t. ap (λ (s : SlotState). s.left) (w.only.others Input (λ d. cc)) ∙ g.ended e t;
+        stands = subst (StandsFor h g.bytes) (sym (append-nil (g.given ++ line ∷ []))) g.stands;
+        answered = λ more.
+            ap (answers K policy seed) (append_assoc g.given (line ∷ []) more)
+            ∙ g.answered (line ∷ more)
+            ∙ ap (λ (b : Bool). g.text ++ (reply ++ (if b then [] else over (after K policy seed R (asked K line)) more))) not_quit
+            ∙ sym (append_assoc g.text reply (over (after K policy seed R (asked K line)) more));
+        unended =
+            list_any-append (quits_at told K policy seed limit old) g.given (line ∷ [])
+            ∙ ap (λ b. b || (is_quit K policy seed (asked K line) || false)) g.unended
+            ∙ ap (λ b. b || false) not_quit;
+      }
+
+      -- IT IS ANSWERED AND ENDS THE SESSION
+      pub quits-there : is_quit K policy seed (asked K line) ≡ true → Ends later Quit
+      quits-there quit = record {
+        text = g.text ++ reply;
+        says = says-write told K policy seed limit old now later g.text g.says reply w.only (adds-only told reply now later w) w.end;
+        counts = counts-write told K policy seed limit old now later g.counts reply w;
+        all = λ t.
+            let q = text-is now h R (line ∷ []) g t in
+            sym
+            (q.1
+            ∙ ap (λ (b : Bool). g.text ++ (reply ++ (if b then [] else over (after K policy seed R (asked K line)) q.0))) quit
+            ∙ ap (λ bs. g.text ++ bs) (append-nil reply));
+        by = λ t.
+            let q = lines-are now h R (line ∷ []) g t in
+            sym
+            (ap (λ (b : Bool). if b then Quit else if nat_lt limit (length (old.slot_of Input).left) then TooLong else EndOfInput)
+            (ap (list_any (quits_at told K policy seed limit old)) q.1
+            ∙ list_any-append (quits_at told K policy seed limit old) g.given (line ∷ q.0)
+            ∙ ap (λ b. b || (is_quit K policy seed (asked K line) || list_any (quits_at told K policy seed limit old) q.0)) g.unended
+            ∙ ap (λ b. b || list_any (quits_at told K policy seed limit old) q.0) quit));
+      }
+
+  module _ (now later : State) (h h' : Held) (R : List Step) where
+    -- WHAT IS HEARD is a line that waits, or the end
+    pub heard-line : (found : Found) → Hears told K now later h h' (Asks found) → GoesTo now h R [] → (line : Line) × (plain found ≡ asked K line) × GoesTo later h' R (line ∷ [])
+    heard-line found q g = on q.found q.gives q.is
+      where
+        on : (n : Next) → Gives told now later h h' n → IsHeard K h' n (Asks found) → (line : Line) × (plain found ≡ asked K line) × GoesTo later h' R (line ∷ [])
+        on next.Line gives is = (Whole h'.line, is, hears now h R g later h' next.Line gives (Whole h'.line) (follows now h R g later h' next.Line gives))
+        on next.Long gives is = (lines.Long, is, hears now h R g later h' next.Long gives lines.Long (follows now h R g later h' next.Long gives))
+        on next.Ended gives is = absurd is
+        on next.TooLong gives is = absurd is
+
+    pub heard-end : (e : Ended) → Hears told K now later h h' (heard.Ends e) → GoesTo now h R [] → Ends later e
+    heard-end e q g = on q.found q.gives q.is
+      where
+        on : (n : Next) → Gives told now later h h' n → IsHeard K h' n (heard.Ends e) → Ends later e
+        on next.Line gives is = absurd is
+        on next.Long gives is = absurd is
+        on next.Ended gives is = subst (λ (x : Ended). Ends later x) (sym is) (input-ends now h R g later h' gives)
+        on next.TooLong gives is = subst (λ (x : Ended). Ends later x) (sym is) (input-too-long now h R g later h' gives)
+
+    -- A LINE THAT WAITS IS ANSWERED
+    pub answered : (line : Line) (S : List Step) (end : Option Ended) → GoesTo now h' R (line ∷ []) → Adds told Report (answer K policy seed R (asked K line)) now later →
+        S ≡ after K policy seed R (asked K line) → end ≡ (if is_quit K policy seed (asked K line) then Some Quit else None) → Turns told K policy seed limit old later h' S end
+    answered line S end g w sets ends =
+        by_test (is_quit K policy seed (asked K line)) _
+        (λ quit.
+        subst (λ (x : Option Ended). Turns told K policy seed limit old later h' S x) (sym (ends ∙ ap (λ (b : Bool). if b then Some Quit else None) quit))
+        (quits-there now h' R line g later w quit))
+        (λ not_quit.
+        subst (λ (x : Option Ended). Turns told K policy seed limit old later h' S x) (sym (ends ∙ ap (λ (b : Bool). if b then Some Quit else None) not_quit))
+        (subst (λ T. GoesTo later h' T []) (sym sets) (replies now h' R line g later w not_quit)))
+
+    pub unanswered : (line : Line) (fault : SessionFault) → GoesTo now h' R (line ∷ []) → NotWritten told (answer K policy seed R (asked K line)) now later fault → Cut later fault
+    unanswered line Fault g w = write-cut now h' R line g later w
+    unanswered line Memory g e = subst (λ s. Cut s Memory) (sym e) (memory-cut now h' R (line ∷ []) g)
+
+-- what is asked is what some line asks
+pub heard-asked : (told : Told) (K : System) (now later : State) (h h' : Held) (found : Found) → Hears told K now later h h' (Asks found) → (line : Line) × (plain found ≡ asked K line)
+heard-asked told K now later h h' found q = on q.found q.is
+  where
+    on : (n : Next) → IsHeard K h' n (Asks found) → (line : Line) × (plain found ≡ asked K line)
+    on next.Line is = (Whole h'.line, is)
+    on next.Long is = (lines.Long, is)
+    on next.Ended is = absurd is
+    on next.TooLong is = absurd is
