@@ -89,6 +89,10 @@ command_of command.Trial pairs =
     meant.Trial (number_of command.Trial key.Clocks pairs) (number_of command.Trial key.Steps pairs)
     (number_of command.Trial key.Seed pairs) (workers_of command.Trial pairs)
 command_of command.Periodic pairs = meant.Periodic (word_in key.Left pairs) (word_in key.Right pairs) (relation_in pairs)
+command_of command.Explain pairs =
+    meant.Explain (value_of key.Spec pairs) (value_of key.Trace pairs) (value_of key.Cert pairs)
+command_of command.Session pairs =
+    meant.Session (value_of key.Spec pairs) (policy_in pairs) (number_of command.Session key.Seed pairs)
 
 -- The first word at fault comes first, then a missing key, then equal file names.
 abbrev pub pairs_meaning : CommandName → List (List ℕ) → Option Usage → Option Key → Result Command Usage

@@ -26,6 +26,11 @@ files_of (meant.Certify spec trace cert) =
     ∷ record { slot = slot.Cert; name = cert } ∷ []
 files_of (meant.Trial clocks steps seed workers) = []
 files_of (meant.Periodic left right relation) = []
+files_of (meant.Explain spec trace cert) =
+    record { slot = slot.Spec; name = spec }
+    ∷ record { slot = slot.Trace; name = trace }
+    ∷ record { slot = slot.CertOut; name = cert } ∷ []
+files_of (meant.Session spec policy seed) = record { slot = slot.Spec; name = spec } ∷ []
 
 abbrev pub files_meant : Result Command Usage → List Opened
 files_meant (Ok command) = files_of command

@@ -8,7 +8,9 @@ use Rattle.ccsl_command.specs.declared.table.RelationName.{RelationName}
 use Rattle.ccsl_command.specs.declared.table.RelationName.TheVariants as relation
 
 abbrev pub commands : List CommandName
-commands = command.Check ∷ command.Simulate ∷ command.Judge ∷ command.Certify ∷ command.Trial ∷ command.Periodic ∷ []
+commands =
+    command.Check ∷ command.Simulate ∷ command.Judge ∷ command.Certify ∷ command.Trial ∷ command.Periodic
+    ∷ command.Explain ∷ command.Session ∷ []
 
 -- the word of a command
 abbrev pub command_text : CommandName → List ℕ
@@ -18,6 +20,8 @@ command_text command.Judge = codes "judge"
 command_text command.Certify = codes "certify"
 command_text command.Trial = codes "trial"
 command_text command.Periodic = codes "periodic"
+command_text command.Explain = codes "explain"
+command_text command.Session = codes "session"
 
 -- the text of a key, before the = of a word
 abbrev pub key_text : Key → List ℕ
@@ -41,6 +45,8 @@ required_keys command.Judge = key.Spec ∷ key.Trace ∷ []
 required_keys command.Certify = key.Spec ∷ key.Trace ∷ key.Cert ∷ []
 required_keys command.Trial = key.Clocks ∷ key.Steps ∷ key.Seed ∷ key.Workers ∷ []
 required_keys command.Periodic = key.Left ∷ key.Right ∷ key.Relation ∷ []
+required_keys command.Explain = key.Spec ∷ key.Trace ∷ key.Cert ∷ []
+required_keys command.Session = key.Spec ∷ key.Policy ∷ key.Seed ∷ []
 
 -- the keys that a command takes besides
 abbrev pub optional_keys : CommandName → List Key

@@ -103,6 +103,8 @@ pub(crate) fn command_of(
             right: word_in(alloc, Key::Right, pairs)?,
             relation: relation_in(pairs),
         }),
+        CommandName::Explain => explain_of(alloc, pairs),
+        CommandName::Session => session_of(alloc, pairs),
     }
 }
 
@@ -118,4 +120,24 @@ fn simulate_of(alloc: Global, pairs: &[CommandWord]) -> Result<Command, Memory>
         trace: file_name(alloc, Key::Trace, pairs)?,
         cert: file_name(alloc, Key::Cert, pairs)?,
     })
+}
+
+fn explain_of(alloc: Global, pairs: &[CommandWord]) -> Result<Command, Memory>
+    ensures command { IfOk result (λ command. command ≡ command_of CommandName.Explain pairs.now) }
+    ensures infinite { IfOk result (λ command. HasInfiniteWords command) }
+{
+    let spec = file_name(alloc, Key::Spec, pairs)?;
+    let trace = file_name(alloc, Key::Trace, pairs)?;
+    let cert = file_name(alloc, Key::Cert, pairs)?;
+    Ok(Command::Explain { spec, trace, cert })
+}
+
+fn session_of(alloc: Global, pairs: &[CommandWord]) -> Result<Command, Memory>
+    ensures command { IfOk result (λ command. command ≡ command_of CommandName.Session pairs.now) }
+    ensures infinite { IfOk result (λ command. HasInfiniteWords command) }
+{
+    let spec = file_name(alloc, Key::Spec, pairs)?;
+    let policy = policy_in(pairs);
+    let seed = number_of(CommandName::Session, Key::Seed, pairs);
+    Ok(Command::Session { spec, policy, seed })
 }

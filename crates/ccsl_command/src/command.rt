@@ -44,4 +44,16 @@ pub enum Command {
         right: Word,
         relation: RelationName,
     },
+    /// Says which items block every step after a trace, with a certificate that names only these.
+    Explain {
+        spec: FileName,
+        trace: FileName,
+        cert: FileName,
+    },
+    /// Reads lines from standard input and answers each: steps are tried, taken back, asked for.
+    Session {
+        spec: FileName,
+        policy: PolicyName,
+        seed: u64,
+    },
 }

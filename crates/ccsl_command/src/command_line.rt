@@ -12,13 +12,15 @@ use crate::{Command, CommandName, Key, Usage};
 use ccsl_base::{CommandWord, Memory};
 use std::alloc::Global;
 
-const COMMANDS: [CommandName; 6] = [
+const COMMANDS: [CommandName; 8] = [
     CommandName::Check,
     CommandName::Simulate,
     CommandName::Judge,
     CommandName::Certify,
     CommandName::Trial,
     CommandName::Periodic,
+    CommandName::Explain,
+    CommandName::Session,
 ];
 
 /// The command of a list of words, or what is wrong with them: the first word at fault, then a missing key, then equal file names.

@@ -12,6 +12,8 @@ pub enum CommandName {
     Certify,
     Trial,
     Periodic,
+    Explain,
+    Session,
 }
 
 /// The key of a word `key=value`.
@@ -59,6 +61,8 @@ impl CommandName {
             CommandName::Certify => "certify",
             CommandName::Trial => "trial",
             CommandName::Periodic => "periodic",
+            CommandName::Explain => "explain",
+            CommandName::Session => "session",
         }
     }
 
@@ -80,6 +84,8 @@ impl CommandName {
             CommandName::Certify => &[Key::Spec, Key::Trace, Key::Cert],
             CommandName::Trial => &[Key::Clocks, Key::Steps, Key::Seed, Key::Workers],
             CommandName::Periodic => &[Key::Left, Key::Right, Key::Relation],
+            CommandName::Explain => &[Key::Spec, Key::Trace, Key::Cert],
+            CommandName::Session => &[Key::Spec, Key::Policy, Key::Seed],
         }
     }
 

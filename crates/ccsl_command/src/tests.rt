@@ -314,3 +314,63 @@ fn values_of_periodic(rt: HostRuntime) -> Result<(), Fail> {
     assert_eq!(rt; (right.letter(0), right.letter(3)), (false, false));
     Ok(())
 }
+
+#[test]
+fn files_of_an_explanation(rt: HostRuntime) -> Result<(), Fail> {
+    let alloc = rt.alloc();
+    let line = ["explain", "cert=c.cert", "spec=s.ccsl", "trace=t.vcd"];
+    let Ok(Command::Explain { spec, trace, cert }) = words(alloc, &listed(alloc, &line)?) else {
+        assert!(rt; false, "no explanation");
+        return Ok(());
+    };
+    assert_eq!(rt;
+        (spec.as_str(), trace.as_str(), cert.as_str()),
+        ("s.ccsl", "t.vcd", "c.cert")
+    );
+    assert_eq!(rt;
+        fault(alloc, &["explain", "spec=s", "trace=t", "cert=t"])?,
+        Some(Usage::SameName)
+    );
+    assert_eq!(rt;
+        fault(alloc, &["explain", "spec=s", "trace=t"])?,
+        Some(Usage::Missing(Key::Cert))
+    );
+    assert_eq!(rt;
+        fault(alloc, &["explain", "spec=s", "workers=2"])?,
+        Some(Usage::UnknownKey(2))
+    );
+    Ok(())
+}
+
+#[test]
+fn keys_of_a_session(rt: HostRuntime) -> Result<(), Fail> {
+    let alloc = rt.alloc();
+    let with = |policy: &str, seed: &str| fault(alloc, &["session", "spec=s", policy, seed]);
+    assert_eq!(rt; with("policy=min", "seed=18446744073709551615")?, None);
+    assert_eq!(rt; with("policy=least", "seed=0")?, Some(Usage::BadValue(2)));
+    assert_eq!(rt;
+        with("policy=max", "seed=18446744073709551616")?,
+        Some(Usage::BadValue(3))
+    );
+    assert_eq!(rt; with("policy=max", "steps=1")?, Some(Usage::UnknownKey(3)));
+    assert_eq!(rt;
+        fault(alloc, &["session", "spec=s", "seed=1"])?,
+        Some(Usage::Missing(Key::Policy))
+    );
+    Ok(())
+}
+
+#[test]
+fn values_of_a_session(rt: HostRuntime) -> Result<(), Fail> {
+    let alloc = rt.alloc();
+    let line = ["session", "seed=9", "policy=max", "spec=s.ccsl"];
+    let Ok(Command::Session { spec, policy, seed }) = words(alloc, &listed(alloc, &line)?) else {
+        assert!(rt; false, "no session");
+        return Ok(());
+    };
+    assert_eq!(rt;
+        (spec.as_str(), policy, seed),
+        ("s.ccsl", PolicyName::Max, 9)
+    );
+    Ok(())
+}

@@ -1,9 +1,9 @@
 -- How long lines are.
-use Rattle.std.proofs.Common.{◌≡◌, ℕ, zero, suc, ◌+◌, ◌-◌, ◌^◌, ◌<◌, ◌≤◌, List, [], ◌∷◌, ◌++◌, Bool, true, false, length, max, map, nat_lt, if◌then◌else◌, slice_index_or, slice_get, Option, Some, None, drop, min, add-one, length-append, ap, ◌∙◌, arith, refl}
+use Rattle.std.proofs.Common.{◌≡◌, ℕ, zero, suc, ◌+◌, ◌-◌, ◌^◌, ◌<◌, ◌≤◌, List, [], ◌∷◌, Bool, true, false, length, max, map, nat_lt, if◌then◌else◌, slice_index_or, slice_get, Some, None, drop, min, add-one, length-append, ap, ◌∙◌, arith, refl}
 use Rattle.std.specs.Prelude.{codes, decimal}
 use Rattle.std.proofs.lemmas.Fmt.{length-decimal-le}
 use Rattle.ccsl_kernel.specs.declared.constraint.Constraint.{Constraint}
-use Rattle.ccsl_kernel.specs.Syntax.{System, item_count}
+use Rattle.ccsl_kernel.specs.Syntax.{System}
 use Rattle.ccsl_report.specs.Line.{joined, line}
 use Rattle.ccsl_report.specs.Room.{longest, full_room, room}
 use Rattle.ccsl_report.specs.Texts.{clock_name, label_of, of_label, constraint_pieces, item_pieces, broken_pieces, run_yes_text, fault_at, time_back_text, clock_fault}

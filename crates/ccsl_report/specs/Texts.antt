@@ -1,6 +1,6 @@
 -- THE TABLE OF TEXTS: every line that the program reports. All of it is this project's own. Numbers are decimal, names are as
 -- they are, and the word `steps` stands for every number.
-use Rattle.std.specs.Prelude.{ℕ, zero, suc, ◌+◌, ◌-◌, ◌<◌, List, [], ◌∷◌, ◌++◌, length, codes, decimal, nat_lt, slice_index_or, if◌then◌else◌}
+use Rattle.std.specs.Prelude.{ℕ, zero, suc, ◌+◌, ◌-◌, List, [], ◌∷◌, ◌++◌, length, codes, decimal, nat_lt, slice_index_or, if◌then◌else◌}
 use Rattle.ccsl_base.specs.declared.limits.TheConstants.{MAX_CLOCKS, MAX_CONSTRAINTS, MAX_CELLS, MAX_LETTERS, MAX_SPEC_BYTES, MAX_FILE_BYTES}
 use Rattle.ccsl_lex.specs.declared.fault.LexFault.{LexFault}
 use Rattle.ccsl_lex.specs.declared.fault.LexFault.TheVariants as lex
@@ -44,6 +44,16 @@ abbrev pub item_pieces : System → ℕ → List (List ℕ)
 item_pieces K i =
     if nat_lt i (length K.definitions) then codes "definition " ∷ clock_name K (K.declared + i) ∷ []
     else constraint_pieces K (i - length K.definitions)
+
+-- the names of clocks, each behind a blank
+abbrev pub behind_blanks : System → List ℕ → List (List ℕ)
+behind_blanks K [] = []
+behind_blanks K (x ∷ xs) = codes " " ∷ clock_name K x ∷ behind_blanks K xs
+
+-- the names of clocks, parted by blanks
+abbrev pub parted : System → List ℕ → List (List ℕ)
+parted K [] = []
+parted K (x ∷ xs) = clock_name K x ∷ behind_blanks K xs
 
 -- ANSWERS
 
@@ -102,6 +112,23 @@ periodic_word_text word = line (codes "periodic: " ∷ word ∷ [])
 abbrev pub periodic_long_text : ℕ → List ℕ
 periodic_long_text letters =
     line (codes "periodic: " ∷ decimal letters ∷ codes " letters, at most " ∷ decimal MAX_LETTERS ∷ [])
+
+abbrev pub explain_no_run_text : ℕ → ℕ → ℕ → System → List ℕ
+explain_no_run_text step time item K = line (broken_pieces (codes "explain: ") step time item K)
+
+abbrev pub explain_open_text : ℕ → List ℕ
+explain_open_text steps = line (codes "explain: not blocked after " ∷ decimal steps ∷ codes " steps" ∷ [])
+
+abbrev pub explain_blocked_text : ℕ → ℕ → List ℕ
+explain_blocked_text steps items = line (
+    codes "explain: blocked after " ∷ decimal steps ∷ codes " steps by " ∷ decimal items ∷ codes " items" ∷ [])
+
+-- an item, and the clocks of a set
+abbrev pub explain_member_text : ℕ → List ℕ → System → List ℕ
+explain_member_text item set K = line (item_pieces K item ++ codes ": " ∷ parted K set)
+
+abbrev pub session_too_long_text : List ℕ
+session_too_long_text = line (codes "session: too long" ∷ [])
 
 -- REFUSED WORDS
 

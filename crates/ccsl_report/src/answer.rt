@@ -1,8 +1,8 @@
-//! The answers of each command.
+//! The answers of the commands; those of `periodic` and `explain` stand apart.
 
 ghost use Rattle.std.specs.Prelude.{◌≡◌, ◌<◌, IfOk};
 ghost use Rattle.ccsl_kernel.specs.Syntax.{item_count};
-ghost use Rattle.ccsl_report.specs.Texts.{checked_text, run_yes_text, run_no_text, simulated_text, deadlocked_text, cert_valid_text, cert_no_run_text, cert_no_line_text, trial_text};
+ghost use Rattle.ccsl_report.specs.Texts.{checked_text, run_yes_text, run_no_text, simulated_text, deadlocked_text, cert_valid_text, cert_no_run_text, cert_no_line_text, trial_text, session_too_long_text};
 
 use crate::item::broken_parts;
 use crate::line::Part::{Number, Text};
@@ -121,4 +121,11 @@ pub fn trial_done(alloc: Global, clocks: u32, steps: u64, ticks: u64) -> Result<
         Text(", run: yes"),
     ];
     line(alloc, &parts)
+}
+
+/// `session`: a line has more bytes than it may have.
+pub fn session_too_long(alloc: Global) -> Result<Vec<u8>, Memory>
+    ensures { IfOk result (λ text. text.items ≡ session_too_long_text) }
+{
+    line(alloc, &[Text("session: too long")])
 }

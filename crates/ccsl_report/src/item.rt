@@ -34,7 +34,8 @@ fn constraint_parts(system: &System, number: u32) -> [Part<'_>; 4]
     ]
 }
 
-fn item_parts(system: &System, item: u32) -> [Part<'_>; 4]
+/// The pieces of an item: a definition goes by its clock's name, a constraint by its number and its label.
+pub(crate) fn item_parts(system: &System, item: u32) -> [Part<'_>; 4]
     requires { item < item_count system.now }
     ensures { joined (part_texts result) ≡ joined (item_pieces system.now item) }
 {

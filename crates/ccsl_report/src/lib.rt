@@ -2,6 +2,7 @@
 #![tactic(auto)]
 
 pub mod answer;
+pub mod explained;
 mod fault;
 mod item;
 pub mod judged;
@@ -10,9 +11,10 @@ pub mod periodic;
 pub mod refusal;
 
 pub use answer::{
-    cert_no_line, cert_no_run, cert_valid, checked, deadlocked, run_no, run_yes, simulated,
-    trial_done,
+    cert_no_line, cert_no_run, cert_valid, checked, deadlocked, run_no, run_yes, session_too_long,
+    simulated, trial_done,
 };
+pub use explained::{explain_blocked, explain_member, explain_no_run, explain_open};
 pub use judged::{judge_room, put_no_run, put_run, put_trace_fault};
 pub use periodic::{periodic_fails, periodic_holds, periodic_long, periodic_word};
 pub use refusal::{

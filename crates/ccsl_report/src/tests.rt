@@ -1,7 +1,7 @@
 //! Every text once. The expected lines are those that users read.
 
 use super::*;
-use ccsl_base::{Memory, Names, Seq, Text};
+use ccsl_base::{ClockSet, Memory, Names, Seq, Text};
 use ccsl_command::{Key, RelationName, Usage};
 use ccsl_kernel::{Constraint, Expr, NumPrim, NumTerm, Parts, Place, RelationKind, System};
 use ccsl_lex::LexFault;
@@ -82,6 +82,19 @@ fn answers_without_a_system(rt: HostRuntime) -> Result<(), Fail> {
         )
     );
     assert!(rt; is(cert_no_line(alloc, 3), "certificate: no, line 3\n"));
+    assert!(rt;
+        is(
+            explain_open(alloc, 4),
+            "explain: not blocked after 4 steps\n"
+        )
+    );
+    assert!(rt;
+        is(
+            explain_blocked(alloc, 5, 2),
+            "explain: blocked after 5 steps by 2 items\n"
+        )
+    );
+    assert!(rt; is(session_too_long(alloc), "session: too long\n"));
     assert!(rt;
         is(
             trial_done(alloc, 2, 4, 4),
@@ -454,6 +467,38 @@ fn clocks_and_definitions_by_name(rt: HostRuntime) -> Result<(), Fail> {
         put_no_run(3, 40, 2, &system, &mut out);
         let line = b"run: no, step 3, time 40, constraint 1 of alternates@1\n";
         assert!(rt; out.as_slice() == line.as_slice());
+    }
+    Ok(())
+}
+
+#[test]
+fn lines_of_an_explanation(rt: HostRuntime) -> Result<(), Fail> {
+    let alloc = rt.alloc();
+    let Some(system) = system(alloc)? else {
+        assert!(rt; false, "the system is not accepted");
+        return Ok(());
+    };
+    let mut set = ClockSet::empty();
+    set.insert(1);
+    if system.names().len() == 3 && system.items() == 3 {
+        assert!(rt;
+            is(
+                explain_no_run(alloc, 2, 6, 1, &system),
+                "explain: no, step 2, time 6, constraint 0\n"
+            )
+        );
+        assert!(rt; is(explain_member(alloc, 1, &set, &system), "constraint 0: b\n"));
+        set.insert(0);
+        let definition = explain_member(alloc, 0, &set, &system);
+        assert!(rt; is(definition, "definition alternates@1.next: a b\n"));
+        set.insert(2);
+        let labelled = explain_member(alloc, 2, &set, &system);
+        assert!(rt;
+            is(
+                labelled,
+                "constraint 1 of alternates@1: a b alternates@1.next\n"
+            )
+        );
     }
     Ok(())
 }

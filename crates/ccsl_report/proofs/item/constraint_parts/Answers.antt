@@ -1,4 +1,4 @@
-use Rattle.std.proofs.Common.{ap, sym, ◌∙◌, ◌++◌, [], List, ℕ}
+use Rattle.std.proofs.Common.{ap, sym, ◌∙◌, ◌++◌, List, ℕ}
 use Rattle.std.specs.Prelude.{codes, decimal}
 use Rattle.ccsl_report.specs.Line.{joined}
 use Rattle.ccsl_report.specs.Texts.{of_label}
