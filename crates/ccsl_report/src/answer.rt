@@ -123,7 +123,7 @@ pub fn trial_done(alloc: Global, clocks: u32, steps: u64, ticks: u64) -> Result<
     line(alloc, &parts)
 }
 
-/// `session`: a line has more bytes than it may have.
+/// `session`: the input has more bytes than are taken.
 pub fn session_too_long(alloc: Global) -> Result<Vec<u8>, Memory>
     ensures { IfOk result (λ text. text.items ≡ session_too_long_text) }
 {
