@@ -1,7 +1,7 @@
 -- Commands that read a specification first: its refusal, and what is answered behind it.
 use Rattle.std.proofs.Common.{◌≡◌, ◌≢◌, ◌⊎◌, ℕ, List, [], ◌∷◌, Bool, true, false, ◌||◌, Result, Ok, Err, IsTrue, inl, inr, ⊎_elim, refl, sym, ap, ◌∙◌, subst, arith}
 use Rattle.ccsl_edge.specs.declared.slot.Slot.{Slot}
-use Rattle.ccsl_edge.specs.declared.slot.Slot.TheVariants.{Spec, Trace}
+use Rattle.ccsl_edge.specs.declared.slot.Slot.TheVariants.{Spec, Trace, CertOut}
 use Rattle.ccsl_edge.specs.World.{State, SlotState, Told, held, file_at}
 use Rattle.ccsl_command.specs.declared.command.Command.{Command}
 use Rattle.ccsl_command.specs.declared.usage.Usage.{Usage}
@@ -19,7 +19,7 @@ use Rattle.ccsl_top.specs.Program.{IsSpecOutcome, refused, accepted, IsOutcome, 
 use Rattle.ccsl_top.specs.Opening.{opens, is_slot}
 use Rattle.ccsl_top.specs.Effects.{RoseAt, Uses, Reads}
 use Rattle.ccsl_top.specs.Reading.{only, Breaks, IsStop}
-use Rattle.ccsl_top.specs.Headline.{FaultCause, by_spec, by_file, IsBarelyRead, unread, kept, untouched}
+use Rattle.ccsl_top.specs.Headline.{input_of, FaultCause, by_spec, by_file, IsBarelyRead, unread, kept, untouched}
 use Rattle.ccsl_top.specs.Answered.{code_of, plain_reply, Leaves, Stands, Answered, Faulted, Starved, IsUnanswered, StopsAt}
 use Rattle.ccsl_top.proofs.Slots.{is_slot-self, is_slot-other, both-ways}
 use Rattle.ccsl_top.proofs.Effects.{either-false, uses-changed, uses-stay, uses-then, reads-then}
@@ -39,8 +39,8 @@ done-opens e = omega (arith, e)
 -- the words mean a command that opens a specification and these files behind it, and answers so on its system
 module _ (told : Told) (words : List (List ℕ)) (c : Command) (means : meaning words ≡ Ok c)
     (spec : List ℕ) (behind : List Opened) (opens_files : files_of c ≡ with_spec spec behind)
-    (IsAnswer : (List ℕ → List ℕ) → System → Outcome → Type 0)
-    (as_outcome : (content : List ℕ → List ℕ) (o : Outcome) → IsSpecOutcome (content spec) (IsAnswer content) o → IsOutcomeOf content (Ok c) o) where
+    (IsAnswer : (List ℕ → List ℕ) → List ℕ → System → Outcome → Type 0)
+    (as_outcome : (content : List ℕ → List ℕ) (input : List ℕ) (o : Outcome) → IsSpecOutcome (content spec) (IsAnswer content input) o → IsOutcomeOf content input (Ok c) o) where
   opened-files : files_opened words ≡ with_spec spec behind
   opened-files = ap files_meant means ∙ opens_files
 
@@ -50,8 +50,8 @@ module _ (told : Told) (words : List (List ℕ)) (c : Command) (means : meaning 
   pub not-refused : (fault : Usage) → meaning words ≡ Err fault → ⊥
   not-refused fault e = let clash : (let R : Result Command Usage = Ok c in R) ≡ Err fault = sym means ∙ e in absurd (cc)
 
-  pub is-outcome : (content : List ℕ → List ℕ) (o : Outcome) → IsSpecOutcome (content spec) (IsAnswer content) o → IsOutcome words content o
-  is-outcome content o is = subst (λ m. IsOutcomeOf content m o) (sym means) (as_outcome content o is)
+  pub is-outcome : (content : List ℕ → List ℕ) (input : List ℕ) (o : Outcome) → IsSpecOutcome (content spec) (IsAnswer content input) o → IsOutcome words content input o
+  is-outcome content input o is = subst (λ m. IsOutcomeOf content input m o) (sym means) (as_outcome content input o is)
 
   -- what reading some of these slots leaves
   leaves-reads : (used : Slot → Bool) → ((slot : Slot) → used slot ≡ true → (is_slot Spec slot || opens behind slot) ≡ true) →
@@ -90,18 +90,19 @@ module _ (told : Told) (words : List (List ℕ)) (c : Command) (means : meaning 
     module _ (reads : Reads (only Spec) s t) where
       -- a reply that stands for what is answered on the specification alone
       spec-replied : (reply : Reply) → code_of reply.status ≢ 2 →
-          (IsTrue told.files → IsTrue told.left → IsSpecOutcome (held s.files spec) (IsAnswer (held s.files)) (plain_reply reply)) → Answered told words reply s t
+          (IsTrue told.files → IsTrue told.left → IsSpecOutcome (held s.files spec) (IsAnswer (held s.files) (input_of s)) (plain_reply reply)) → Answered told words reply s t
       spec-replied reply opened is = record {
         used = only Spec;
         leaves = leaves-reads (only Spec) spec-within s t reads.uses;
         counts = reads.counts;
         unopened = λ e. absurd (opened e);
         unread = λ _ slot n. is_slot-other Spec slot n;
+        unexplained = λ _ _ _ _ _. (reads.uses.others CertOut refl, λ name. ap (λ fs. file_at fs name) reads.uses.files);
         stands = λ f l. record {
           outcome = plain_reply reply;
           status_is = refl;
           report_is = refl;
-          defined = record { is = is-outcome (held s.files) (plain_reply reply) (is f l); files = λ _. record {} };
+          defined = record { is = is-outcome (held s.files) (input_of s) (plain_reply reply) (is f l); files = λ _. record {} };
         };
         refused = λ fault e. absurd (not-refused fault e);
       }
@@ -113,14 +114,15 @@ module _ (told : Told) (words : List (List ℕ)) (c : Command) (means : meaning 
           (λ f l. refused reply.line.items (is f l) (ap (λ x. outcome (code_of x) reply.line.items) status))
 
       module _ (K : System) (system : IsTrue told.files → IsTrue told.left → IsSystemOf (held s.files spec) K) where
-        pub spec-answered : (reply : Reply) → code_of reply.status ≢ 2 → IsAnswer (held s.files) K (plain_reply reply) → Answered told words reply s t
+        pub spec-answered : (reply : Reply) → code_of reply.status ≢ 2 → IsAnswer (held s.files) (input_of s) K (plain_reply reply) → Answered told words reply s t
         spec-answered reply opened is = spec-replied reply opened (λ f l. accepted K (system f l) is)
 
         pub is-accepted : IsTrue told.files → IsTrue told.left → IsSystemOf (held s.files spec) K
         is-accepted = system
 
         -- more slots are read behind it
-        module _ (more : Slot → Bool) (within : (slot : Slot) → more slot ≡ true → opens behind slot ≡ true) (u : State) where
+        module _ (more : Slot → Bool) (within : (slot : Slot) → more slot ≡ true → opens behind slot ≡ true)
+            (apart : more CertOut ≡ false) (u : State) where
           used : Slot → Bool
           used slot = only Spec slot || more slot
 
@@ -133,7 +135,7 @@ module _ (told : Told) (words : List (List ℕ)) (c : Command) (means : meaning 
               by-either false b d e f = f e
 
           pub read-answered : (reply : Reply) → Reads more t u → code_of reply.status ≢ 2 → code_of reply.status ≢ 3 →
-              (IsTrue told.files → IsTrue told.left → IsAnswer (held s.files) K (plain_reply reply)) → Answered told words reply s u
+              (IsTrue told.files → IsTrue told.left → IsAnswer (held s.files) (input_of s) K (plain_reply reply)) → Answered told words reply s u
           unfolding used
           read-answered reply after opened known is = record {
             used = used;
@@ -141,11 +143,13 @@ module _ (told : Told) (words : List (List ℕ)) (c : Command) (means : meaning 
             counts = λ slot. after.counts slot ∙ reads.counts slot;
             unopened = λ e. absurd (opened e);
             unread = λ e. absurd (known e);
+            unexplained = λ _ _ _ _ _. let both = uses-then (only Spec) more s t u reads.uses after.uses in
+                (both.others CertOut apart, λ name. ap (λ fs. file_at fs name) both.files);
             stands = λ f l. record {
               outcome = plain_reply reply;
               status_is = refl;
               report_is = refl;
-              defined = record { is = is-outcome (held s.files) (plain_reply reply) (accepted K (system f l) (is f l)); files = λ _. record {} };
+              defined = record { is = is-outcome (held s.files) (input_of s) (plain_reply reply) (accepted K (system f l) (is f l)); files = λ _. record {} };
             };
             refused = λ fault e. absurd (not-refused fault e);
           }
@@ -174,8 +178,8 @@ module _ (told : Told) (words : List (List ℕ)) (c : Command) (means : meaning 
 
 -- a specification that was not read, whichever words mean the command
 pub reading-stops : (told : Told) (c : Command) (spec : List ℕ) (behind : List Opened) → files_of c ≡ with_spec spec behind →
-    (IsAnswer : (List ℕ → List ℕ) → System → Outcome → Type 0) →
-    ((content : List ℕ → List ℕ) (o : Outcome) → IsSpecOutcome (content spec) (IsAnswer content) o → IsOutcomeOf content (Ok c) o) →
+    (IsAnswer : (List ℕ → List ℕ) → List ℕ → System → Outcome → Type 0) →
+    ((content : List ℕ → List ℕ) (input : List ℕ) (o : Outcome) → IsSpecOutcome (content spec) (IsAnswer content input) o → IsOutcomeOf content input (Ok c) o) →
     (s t : State) (reason : Stop) → IsStop reason Spec s t → StopsAt told c reason s t
 reading-stops told c spec behind opens_files IsAnswer as_outcome s t reason stop =
     λ words means. spec-stopped told words c means spec behind opens_files IsAnswer as_outcome s t reason stop

@@ -81,7 +81,7 @@ module _ (none-bad : NoBadLine) (K : System) (trace cert : List ℕ) where
     unread-outcome : (f : CertFault) → certificates.reading K.names cert ≡ Err f → outcome 4 (cert_text f) ≡ certify_outcome K trace cert
     unread-outcome f e = sym (fine-outcome fine short ∙ ap (text_outcome K trace) e)
 
-    verdict-outcome : (lines : List Line) → certificates.reading K.names cert ≡ Ok lines → (v : CertVerdict) → Answers K bound rows lines v →
+    pub verdict-outcome : (lines : List Line) → certificates.reading K.names cert ≡ Ok lines → (v : CertVerdict) → Answers K bound rows lines v →
         verdict_outcome K v ≡ certify_outcome K trace cert
     verdict-outcome lines reads v is = of-answer v is ∙ sym (fine-outcome fine short ∙ ap (text_outcome K trace) reads)
       where
@@ -290,8 +290,8 @@ module _ (told : Told) (spec trace cert : List ℕ) (s t : State) (reads : Reads
   abbrev behind : List Opened
   behind = record { slot = Trace; name = trace } ∷ record { slot = Cert; name = cert } ∷ []
 
-  abbrev IsAnswer : (List ℕ → List ℕ) → System → Outcome → Type 0
-  IsAnswer content K o = o ≡ certify_outcome K (content trace) (content cert)
+  abbrev IsAnswer : (List ℕ → List ℕ) → List ℕ → System → Outcome → Type 0
+  IsAnswer content input K o = o ≡ certify_outcome K (content trace) (content cert)
 
   within : (slot : Slot) → both slot ≡ true → opens behind slot ≡ true
   within slot e = by-either (is_slot Trace slot) (is_slot Cert slot) e
@@ -304,17 +304,17 @@ module _ (told : Told) (spec trace cert : List ℕ) (s t : State) (reads : Reads
   pub certify-answers : (result : Result Reply Stop) → IfOk result (λ reply. CertifyAnswers told K trace cert reply t u) →
       IfOk result (λ reply. AnswersTo told (command.Certify spec trace cert) reply s u)
   certify-answers (Ok reply) a = λ words means.
-      read-answered told words c means spec behind refl IsAnswer (λ content o x. x) s t reads K system both within u reply a.reads a.opened a.accepted
+      read-answered told words c means spec behind refl IsAnswer (λ content input o x. x) s t reads K system both within refl u reply a.reads a.opened a.accepted
       (λ f l. a.is f l ∙ ap (λ fs. certify_outcome K (held fs trace) (held fs cert)) reads.uses.files)
   certify-answers (Err reason) a = a
 
   both-stopped : (reason : Stop) → IsBothStop reason t u → StopsAt told (command.Certify spec trace cert) reason s u
   both-stopped stop.Fault b = λ words means. ⊎_elim
-      (λ rose. read-faulted told words c means spec behind refl IsAnswer (λ content o x. x) s t reads K system both within u b.uses Trace refl rose)
-      (λ rose. read-faulted told words c means spec behind refl IsAnswer (λ content o x. x) s t reads K system both within u b.uses Cert refl rose)
+      (λ rose. read-faulted told words c means spec behind refl IsAnswer (λ content input o x. x) s t reads K system both within refl u b.uses Trace refl rose)
+      (λ rose. read-faulted told words c means spec behind refl IsAnswer (λ content input o x. x) s t reads K system both within refl u b.uses Cert refl rose)
       b.rose
   both-stopped stop.Memory b = λ words means.
-      read-starved told words c means spec behind refl IsAnswer (λ content o x. x) s t reads K system both within u b
+      read-starved told words c means spec behind refl IsAnswer (λ content input o x. x) s t reads K system both within refl u b
       (λ f l name file n e. let clash : c ≡ command.Judge name file n = e in absurd (cc))
 
   pub certify-stops : (result : Result Reply Stop) → IfErr result (λ reason. IsBothStop reason t u) →

@@ -17,7 +17,7 @@ use Rattle.ccsl_top.specs.Outcome.{Outcome}
 use Rattle.ccsl_top.specs.Trial.{trial_outcome}
 use Rattle.ccsl_top.specs.Periodic.{IsPeriodicOutcome}
 use Rattle.ccsl_top.specs.Program.{IsOutcome, IsOutcomeOf, usage_outcome}
-use Rattle.ccsl_top.specs.Headline.{kept, untouched, unread}
+use Rattle.ccsl_top.specs.Headline.{input_of, kept, untouched, unread}
 use Rattle.ccsl_top.specs.Answered.{plain_reply, Leaves, Stands, Answered, Starved, IsUnanswered, AnswersTo, StopsAt}
 use Rattle.ccsl_top.proofs.Slots.{both-ways}
 use Rattle.ccsl_top.proofs.Effects.{reads-none, uses-stay}
@@ -32,7 +32,7 @@ module _ (told : Told) (words : List (List ℕ)) (s : State) where
   }
 
   -- a reply that stands for an outcome of the words
-  answered-none : (reply : Reply) → ((content : List ℕ → List ℕ) → IsOutcome words content (plain_reply reply)) →
+  answered-none : (reply : Reply) → ((content : List ℕ → List ℕ) (input : List ℕ) → IsOutcome words content input (plain_reply reply)) →
       ((fault : Usage) → meaning words ≡ Err fault → plain_reply reply ≡ usage_outcome fault) → Answered told words reply s s
   answered-none reply is refused = record {
     used = λ slot. false;
@@ -40,7 +40,8 @@ module _ (told : Told) (words : List (List ℕ)) (s : State) where
     counts = λ slot. refl;
     unopened = λ _ slot. refl;
     unread = λ _ slot _. refl;
-    stands = λ _ _. record { outcome = plain_reply reply; status_is = refl; report_is = refl; defined = record { is = is (held s.files); files = λ _. record {} } };
+    unexplained = λ spec trace cert _ _. (refl, λ name. refl);
+    stands = λ _ _. record { outcome = plain_reply reply; status_is = refl; report_is = refl; defined = record { is = is (held s.files) (input_of s); files = λ _. record {} } };
     refused = refused;
   }
 
@@ -56,17 +57,17 @@ module _ (told : Told) (words : List (List ℕ)) (s : State) where
   -- the words are refused
   pub words-refused : (fault : Usage) (reply : Reply) → plain_reply reply ≡ usage_outcome fault → meaning words ≡ Err fault → Answered told words reply s s
   words-refused fault reply is means = answered-none reply
-      (λ content. subst (λ m. IsOutcomeOf content m (plain_reply reply)) (sym means) is)
+      (λ content input. subst (λ m. IsOutcomeOf content input m (plain_reply reply)) (sym means) is)
       (λ other e. is ∙ ap usage_outcome (same-fault other e))
     where
       same-fault : (other : Usage) → meaning words ≡ Err other → fault ≡ other
       same-fault other e = let clash : (let R : Result Command Usage = Err fault in R) ≡ Err other = sym means ∙ e in cc
 
   -- a command that opens no file
-  pub command-answered : (c : Command) (reply : Reply) → ((content : List ℕ → List ℕ) → IsOutcomeOf content (Ok c) (plain_reply reply)) →
+  pub command-answered : (c : Command) (reply : Reply) → ((content : List ℕ → List ℕ) (input : List ℕ) → IsOutcomeOf content input (Ok c) (plain_reply reply)) →
       meaning words ≡ Ok c → Answered told words reply s s
   command-answered c reply is means = answered-none reply
-      (λ content. subst (λ m. IsOutcomeOf content m (plain_reply reply)) (sym means) (is content))
+      (λ content input. subst (λ m. IsOutcomeOf content input m (plain_reply reply)) (sym means) (is content input))
       (λ other e. let clash : (let R : Result Command Usage = Ok c in R) ≡ Err other = sym means ∙ e in absurd (cc))
 
 module _ (told : Told) (s : State) where
@@ -88,7 +89,7 @@ module _ (told : Told) (s : State) where
         starved-in (Err stop) e = rw e (starved-at-once told words s)
 
   module _ (c : Command) where
-    pub command-oks : (result : Result Reply Stop) → IfOk result (λ reply. (content : List ℕ → List ℕ) → IsOutcomeOf content (Ok c) (plain_reply reply)) →
+    pub command-oks : (result : Result Reply Stop) → IfOk result (λ reply. (content : List ℕ → List ℕ) (input : List ℕ) → IsOutcomeOf content input (Ok c) (plain_reply reply)) →
         IfOk result (λ reply. AnswersTo told c reply s s)
     command-oks (Ok reply) is = λ words means. command-answered told words s c reply is means
     command-oks (Err stop) is = is
@@ -100,13 +101,13 @@ module _ (told : Told) (s : State) where
 -- a trial
 pub trial-outcome : (c : Command) (clocks steps seed workers : ℕ) → c ≡ command.Trial clocks steps seed workers → (result : Result Reply Stop) →
     IfOk result (λ reply. plain_reply reply ≡ trial_outcome clocks steps seed) →
-    IfOk result (λ reply. (content : List ℕ → List ℕ) → IsOutcomeOf content (Ok c) (plain_reply reply))
-trial-outcome c clocks steps seed workers is (Ok reply) e = λ content. subst (λ x. IsOutcomeOf content (Ok x) (plain_reply reply)) (sym is) e
+    IfOk result (λ reply. (content : List ℕ → List ℕ) (input : List ℕ) → IsOutcomeOf content input (Ok c) (plain_reply reply))
+trial-outcome c clocks steps seed workers is (Ok reply) e = λ content input. subst (λ x. IsOutcomeOf content input (Ok x) (plain_reply reply)) (sym is) e
 trial-outcome c clocks steps seed workers is (Err stop) e = e
 
 -- words and a relation between their filters
 pub periodic-outcome : (c : Command) (left right : BinaryWord) (relation : RelationName) → c ≡ command.Periodic left right relation → (result : Result Reply Stop) →
     IfOk result (λ reply. IsPeriodicOutcome left right relation (plain_reply reply)) →
-    IfOk result (λ reply. (content : List ℕ → List ℕ) → IsOutcomeOf content (Ok c) (plain_reply reply))
-periodic-outcome c left right relation is (Ok reply) e = λ content. subst (λ x. IsOutcomeOf content (Ok x) (plain_reply reply)) (sym is) e
+    IfOk result (λ reply. (content : List ℕ → List ℕ) (input : List ℕ) → IsOutcomeOf content input (Ok c) (plain_reply reply))
+periodic-outcome c left right relation is (Ok reply) e = λ content input. subst (λ x. IsOutcomeOf content input (Ok x) (plain_reply reply)) (sym is) e
 periodic-outcome c left right relation is (Err stop) e = e

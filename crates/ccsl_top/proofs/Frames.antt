@@ -5,7 +5,7 @@ use Rattle.ccsl_edge.specs.declared.slot.Slot.TheVariants.{Report, TraceOut, Cer
 use Rattle.ccsl_edge.specs.World.{State, SlotState, Told, file_at}
 use Rattle.ccsl_edge.specs.Calls.{ChangesOnly}
 use Rattle.ccsl_command.specs.declared.command.Command.{Command}
-use Rattle.ccsl_command.specs.declared.command.Command.TheVariants.{Check, Simulate, Judge, Certify, Trial, Periodic}
+use Rattle.ccsl_command.specs.declared.command.Command.TheVariants.{Check, Simulate, Judge, Certify, Trial, Periodic, Explain, Session}
 use Rattle.ccsl_command.specs.declared.usage.Usage.{Usage}
 use Rattle.ccsl_command.specs.Meaning.{meaning}
 use Rattle.ccsl_command.specs.Opened.{files_meant, files_opened}
@@ -25,6 +25,8 @@ meant-report (Ok (Judge spec trace workers)) = refl
 meant-report (Ok (Certify spec trace cert)) = refl
 meant-report (Ok (Trial clocks steps seed workers)) = refl
 meant-report (Ok (Periodic left right relation)) = refl
+meant-report (Ok (Explain spec trace cert)) = refl
+meant-report (Ok (Session spec policy seed)) = refl
 
 -- the report is none of the files that words open
 pub opens-report : (words : List (List ℕ)) → opens (files_opened words) Report ≡ false

@@ -1,19 +1,24 @@
 -- The program's promise, from what was done and what was reported.
-use Rattle.std.proofs.Common.{◌≡◌, ◌≢◌, ◌⊎◌, ℕ, ◌≤◌, List, ◌++◌, take, Bool, IsTrue, ⊎_elim, inl, inr, refl, sym, ap, ◌∙◌, subst, arith}
+use Rattle.std.proofs.Common.{◌≡◌, ◌≢◌, ◌⊎◌, ℕ, ◌<◌, ◌≤◌, List, ◌++◌, take, Bool, false, ◌&&◌, IsTrue, ⊎_elim, inl, inr, refl, sym, ap, ◌∙◌, subst, arith}
 use Rattle.ccsl_edge.specs.declared.slot.Slot.{Slot}
-use Rattle.ccsl_edge.specs.declared.slot.Slot.TheVariants.{Report}
+use Rattle.ccsl_edge.specs.declared.slot.Slot.TheVariants.{Input, Report, CertOut}
 use Rattle.ccsl_edge.specs.World.{State, SlotState, Told, file_at, risen}
 use Rattle.ccsl_edge.specs.Calls.{Adds, AddsFront}
 use Rattle.ccsl_top.specs.declared.reply.Status.{Status}
 use Rattle.ccsl_top.specs.declared.reply.Status.TheVariants.{Done, No, WordsRefused, SpecRefused, FileRefused, Deadlock}
 use Rattle.ccsl_top.specs.declared.reply.Reply.{Reply}
 use Rattle.ccsl_top.specs.Outcome.{Outcome}
-use Rattle.ccsl_top.specs.Opening.{is_slot}
+use Rattle.ccsl_command.specs.Meaning.{meaning}
+use Rattle.ccsl_command.specs.Opened.{files_opened}
+use Rattle.ccsl_top.specs.Opening.{is_slot, opens, uses, is_session}
 use Rattle.ccsl_top.specs.Program.{usage_outcome}
-use Rattle.ccsl_top.specs.Answered.{code_of, plain_reply, Answered, Faulted, Starved}
+use Rattle.ccsl_top.specs.Answered.{code_of, plain_reply, Answered, Faulted, Starved, IsUnanswered}
+use Rattle.ccsl_top.specs.declared.files.Stop.{Stop}
+use Rattle.ccsl_top.specs.declared.files.Stop.TheVariants.{Fault, Memory}
+use Rattle.ccsl_top.specs.Stopping.{stop_code}
 use Rattle.ccsl_top.specs.Headline.{Headline, ReportGrows, AreHeld, by_report}
 use Rattle.ccsl_top.proofs.Slots.{is_slot-same, is_slot-differs}
-use Rattle.ccsl_top.proofs.Effects.{by-test}
+use Rattle.ccsl_top.proofs.Effects.{by-test, either-false}
 use Rattle.ccsl_top.proofs.Frames.{Frame, unused-of, report-same, frame-still, frame-reported}
 
 code-known : (s : Status) → (code_of s ≤ 6) ⊎ (code_of s ≡ 8)
@@ -31,6 +36,17 @@ code-answers WordsRefused = (λ e. omega (arith, e), λ e. omega (arith, e))
 code-answers SpecRefused = (λ e. omega (arith, e), λ e. omega (arith, e))
 code-answers FileRefused = (λ e. omega (arith, e), λ e. omega (arith, e))
 code-answers Deadlock = (λ e. omega (arith, e), λ e. omega (arith, e))
+
+-- what the words don't use they don't open
+pub unopened-of : (words : List (List ℕ)) (slot : Slot) → uses words slot ≡ false → opens (files_opened words) slot ≡ false
+unopened-of words slot e = either-false (opens (files_opened words) slot) (is_session (meaning words) && is_slot slot Input) e
+
+-- nothing was answered
+pub answers-none : {P : Type 0} (status : ℕ) → 4 < status → (status ≡ 1) ⊎ (status ≡ 4) → P
+answers-none status l e = absurd (⊎_elim (λ (n : status ≡ 1). omega (arith, n, l)) (λ (n : status ≡ 4). omega (arith, n, l)) e)
+
+cert-apart : CertOut ≢ Report
+cert-apart = is_slot-differs Report CertOut refl
 
 module _ (told : Told) (words : List (List ℕ)) (old : State) where
   module _ (reply : Reply) (mid new : State) (a : Answered told words reply old mid) where
@@ -74,14 +90,16 @@ module _ (told : Told) (words : List (List ℕ)) (old : State) where
         counts_rise = frame.rises;
         counts_stay = λ _. counts;
         fault_cause = not-five;
-        front = λ _ _. not-five;
-        silent = not-six;
+        front = λ _ _ e. ⊎_elim not-five not-six e;
+        silent = λ e _. not-six e;
         barely = λ _ _. not-six;
         whole = frame.whole;
         fronts = frame.fronts;
+        unexplained = λ spec trace cert means e. let kept = a.unexplained spec trace cert means e in
+            (adds.only.others CertOut cert-apart ∙ kept.0, λ name. ap (λ fs. file_at fs name) adds.only.files ∙ kept.1 name);
         unwritten = frame.unwritten;
         files = frame.files;
-        unused = λ slot n closed. frame.kept slot n (unused-of words a.used a.leaves.opened slot closed);
+        unused = λ slot n closed. frame.kept slot n (unused-of words a.used a.leaves.opened slot (unopened-of words slot closed));
         unopened = λ e slot n. frame.kept slot n (a.unopened e slot);
         unread = λ e slot n m. frame.kept slot n (a.unread e slot m);
         read = frame.slots;
@@ -107,13 +125,14 @@ module _ (told : Told) (words : List (List ℕ)) (old : State) where
           count = front.count;
           grows = λ w. front.front w ∙ ap (λ x. x.written ++ take front.count reply.line.items) same ∙ ap (λ t. (old.slot_of Report).written ++ take front.count t) s.report_is;
         });
-        silent = λ e. absurd (omega (arith, e));
+        silent = λ e _. absurd (omega (arith, e));
         barely = λ _ _ e. absurd (omega (arith, e));
         whole = part.whole;
         fronts = part.fronts;
+        unexplained = λ _ _ _ _ e. answers-none 5 (omega arith) e;
         unwritten = part.unwritten;
         files = part.files;
-        unused = λ slot n closed. part.kept slot n (unused-of words a.used a.leaves.opened slot closed);
+        unused = λ slot n closed. part.kept slot n (unused-of words a.used a.leaves.opened slot (unopened-of words slot closed));
         unopened = λ e. absurd (omega (arith, e));
         unread = λ e. absurd (omega (arith, e));
         read = part.slots;
@@ -133,13 +152,14 @@ module _ (told : Told) (words : List (List ℕ)) (old : State) where
           counts_stay = λ n. absurd (n refl);
           fault_cause = λ _. f.cause;
           front = λ _ _ _. inl (ap (λ s. s.written) (report-same told words f.used old new f.leaves));
-          silent = λ e. absurd (omega (arith, e));
+          silent = λ e _. absurd (omega (arith, e));
           barely = λ _ _ e. absurd (omega (arith, e));
           whole = still.whole;
           fronts = still.fronts;
+          unexplained = λ _ _ _ _ e. answers-none 5 (omega arith) e;
           unwritten = still.unwritten;
           files = still.files;
-          unused = λ slot n closed. still.kept slot n (unused-of words f.used f.leaves.opened slot closed);
+          unused = λ slot n closed. still.kept slot n (unused-of words f.used f.leaves.opened slot (unopened-of words slot closed));
           unopened = λ e. absurd (omega (arith, e));
           unread = λ e. absurd (omega (arith, e));
           read = still.slots;
@@ -157,16 +177,22 @@ module _ (told : Told) (words : List (List ℕ)) (old : State) where
           counts_rise = still.rises;
           counts_stay = λ _. s.counts;
           fault_cause = λ e. absurd (omega (arith, e));
-          front = λ _ _ e. absurd (omega (arith, e));
-          silent = λ _. report-same told words s.used old new s.leaves;
+          front = λ _ _ _. inl (ap (λ s. s.written) (report-same told words s.used old new s.leaves));
+          silent = λ _ _. report-same told words s.used old new s.leaves;
           barely = λ f l _. s.barely f l;
           whole = still.whole;
           fronts = still.fronts;
+          unexplained = λ _ _ _ _ e. answers-none 6 (omega arith) e;
           unwritten = still.unwritten;
           files = still.files;
-          unused = λ slot n closed. still.kept slot n (unused-of words s.used s.leaves.opened slot closed);
+          unused = λ slot n closed. still.kept slot n (unused-of words s.used s.leaves.opened slot (unopened-of words slot closed));
           unopened = λ e. absurd (omega (arith, e));
           unread = λ e. absurd (omega (arith, e));
           read = still.slots;
           report = still.report;
         }
+
+    -- it was not answered
+    pub headline-stopped : (stop : Stop) → IsUnanswered stop told words old new → Headline told words (stop_code stop) old new
+    headline-stopped Fault f = headline-faulted f
+    headline-stopped Memory s = headline-starved s

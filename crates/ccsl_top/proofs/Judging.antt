@@ -68,8 +68,8 @@ module _ (told : Told) (spec trace : List ℕ) (workers : ℕ) (s t : State) (re
   behind : List Opened
   behind = record { slot = Trace; name = trace } ∷ []
 
-  IsAnswer : (List ℕ → List ℕ) → System → Outcome → Type 0
-  IsAnswer content K o = o ≡ judge_outcome K (content trace)
+  IsAnswer : (List ℕ → List ℕ) → List ℕ → System → Outcome → Type 0
+  IsAnswer content input K o = o ≡ judge_outcome K (content trace)
 
   within : (slot : Slot) → only Trace slot ≡ true → opens behind slot ≡ true
   unfolding behind
@@ -81,16 +81,16 @@ module _ (told : Told) (spec trace : List ℕ) (workers : ℕ) (s t : State) (re
       IfOk result (λ reply. AnswersTo told (command.Judge spec trace workers) reply s u)
   unfolding c behind IsAnswer
   judge-replies (Ok reply) after status is = λ words means.
-      read-answered told words c means spec behind refl IsAnswer (λ content o x. x) s t reads K system (only Trace) within u reply after status.0 status.1
+      read-answered told words c means spec behind refl IsAnswer (λ content input o x. x) s t reads K system (only Trace) within refl u reply after status.0 status.1
       (λ f l. is f l ∙ ap (λ fs. judge_outcome K (held fs trace)) reads.uses.files)
   judge-replies (Err stop) after status is = after
 
   trace-stopped : (reason : Stop) → IsTraceStop reason told K trace t u → StopsAt told (command.Judge spec trace workers) reason s u
   unfolding c behind IsAnswer
   trace-stopped stop.Fault b = λ words means.
-      read-faulted told words c means spec behind refl IsAnswer (λ content o x. x) s t reads K system (only Trace) within u b.uses Trace (is_slot-self Trace) b.rose
+      read-faulted told words c means spec behind refl IsAnswer (λ content input o x. x) s t reads K system (only Trace) within refl u b.uses Trace (is_slot-self Trace) b.rose
   trace-stopped stop.Memory b = λ words means.
-      read-starved told words c means spec behind refl IsAnswer (λ content o x. x) s t reads K system (only Trace) within u b.reads
+      read-starved told words c means spec behind refl IsAnswer (λ content input o x. x) s t reads K system (only Trace) within refl u b.reads
       (λ f l name file n e.
       let spec-same : spec ≡ name = spec-of name file n e in
       let trace-same : trace ≡ file = trace-of name file n e in

@@ -1,6 +1,7 @@
 pub mod Slots
 pub mod Effects
 pub mod OneAnswer
+pub mod OneExplanation
 pub mod One
 pub mod Outputs
 pub mod Frames
@@ -11,9 +12,15 @@ pub mod Commands
 pub mod Behind
 pub mod Verdicts
 pub mod Certifying
+pub mod Certified
 pub mod Names
 pub mod Writing
 pub mod Simulating
 pub mod Simulated
+pub mod OneFile
+pub mod Members
+pub mod Running
+pub mod Explained
+pub mod Conversing
 pub mod Ranges
 pub mod Trying

@@ -58,6 +58,8 @@ module _ (spec : List ℕ) (policy : PolicyName) (seed steps : ℕ) (trace cert 
   command-differs name.Certify pairs missing differ e = absurd (cc)
   command-differs name.Trial pairs missing differ e = absurd (cc)
   command-differs name.Periodic pairs missing differ e = absurd (cc)
+  command-differs name.Explain pairs missing differ e = absurd (cc)
+  command-differs name.Session pairs missing differ e = absurd (cc)
   command-differs name.Simulate pairs missing differ e =
       let g = given pairs missing in
       let apart : bytes_eq (value_of key.Trace pairs) (value_of key.Cert pairs) ≡ false =

@@ -1,21 +1,28 @@
 -- Words and files have one outcome.
 use Rattle.std.proofs.Common.{◌≡◌, ℕ, List, Result, Ok, Err, sym, ap, ◌∙◌}
 use Rattle.ccsl_command.specs.declared.command.Command.{Command}
-use Rattle.ccsl_command.specs.declared.command.Command.TheVariants.{Check, Simulate, Judge, Certify, Trial, Periodic}
+use Rattle.ccsl_command.specs.declared.command.Command.TheVariants.{Check, Simulate, Judge, Certify, Trial, Periodic, Explain, Session}
 use Rattle.ccsl_command.specs.declared.usage.Usage.{Usage}
 use Rattle.ccsl_command.specs.Meaning.{meaning}
 use Rattle.ccsl_kernel.specs.Syntax.{System}
 use Rattle.ccsl_spec.specs.Laws.{OneSystem, OneRefusal, NotBoth}
 use Rattle.ccsl_periodic.specs.Laws.{CanonicalWordsAreOne, PlainLengthsAreOne}
+use Rattle.ccsl_formula.specs.declared.scope.Scope.{Scope}
+use Rattle.ccsl_formula.specs.Formula.{Formula}
+use Rattle.ccsl_explain.specs.Laws.{CoresAreOne, LeastSetsAreOne}
 use Rattle.ccsl_top.proofs.OneAnswer.{periodic-one}
+use Rattle.ccsl_top.proofs.OneExplanation.{explain-one}
 use Rattle.ccsl_top.specs.Outcome.{Outcome, outcome}
 use Rattle.ccsl_top.specs.Check.{check_outcome}
 use Rattle.ccsl_top.specs.Simulate.{named_policy, IsSimulated}
 use Rattle.ccsl_top.specs.Judge.{judge_outcome}
 use Rattle.ccsl_top.specs.Certify.{certify_outcome}
+use Rattle.ccsl_top.specs.Explain.{IsExplainOutcome}
+use Rattle.ccsl_top.specs.Converse.{session_outcome}
 use Rattle.ccsl_top.specs.Program.{IsSpecOutcome, refused, accepted, IsCommandOutcome, IsOutcomeOf, but_certificate, OutcomesAreOne}
 
-module _ (one_system : OneSystem) (one_refusal : OneRefusal) (not_both : NotBoth) (canonical : CanonicalWordsAreOne) (plain : PlainLengthsAreOne) where
+module _ (one_system : OneSystem) (one_refusal : OneRefusal) (not_both : NotBoth) (canonical : CanonicalWordsAreOne) (plain : PlainLengthsAreOne)
+    (cores : (scope : Scope) (formulas : List Formula) → CoresAreOne scope formulas) (least : (scope : Scope) (formulas : List Formula) → LeastSetsAreOne scope formulas) where
   -- where the answers on one system are one but for a certificate
   spec-outcome : (text : List ℕ) (IsAnswer : System → Outcome → Type 0) → ((K : System) (o p : Outcome) → IsAnswer K o → IsAnswer K p → but_certificate o ≡ but_certificate p) →
       (o p : Outcome) → IsSpecOutcome text IsAnswer o → IsSpecOutcome text IsAnswer p → but_certificate o ≡ but_certificate p
@@ -29,24 +36,29 @@ module _ (one_system : OneSystem) (one_refusal : OneRefusal) (not_both : NotBoth
   answer-outcome : (answer : System → Outcome) (K : System) (o p : Outcome) → o ≡ answer K → p ≡ answer K → but_certificate o ≡ but_certificate p
   answer-outcome answer K o p a b = ap but_certificate (a ∙ sym b)
 
-  command-outcome : (content : List ℕ → List ℕ) (command : Command) (o p : Outcome) → IsCommandOutcome content command o → IsCommandOutcome content command p →
+  command-outcome : (content : List ℕ → List ℕ) (input : List ℕ) (command : Command) (o p : Outcome) → IsCommandOutcome content input command o → IsCommandOutcome content input command p →
       but_certificate o ≡ but_certificate p
-  command-outcome content (Check spec) o p a b = spec-outcome (content spec) (λ K o. o ≡ check_outcome K) (answer-outcome check_outcome) o p a b
-  command-outcome content (Judge spec trace workers) o p a b =
+  command-outcome content input (Check spec) o p a b = spec-outcome (content spec) (λ K o. o ≡ check_outcome K) (answer-outcome check_outcome) o p a b
+  command-outcome content input (Judge spec trace workers) o p a b =
       spec-outcome (content spec) (λ K o. o ≡ judge_outcome K (content trace)) (answer-outcome (λ K. judge_outcome K (content trace))) o p a b
-  command-outcome content (Simulate spec policy seed steps trace cert) o p a b =
+  command-outcome content input (Simulate spec policy seed steps trace cert) o p a b =
       spec-outcome (content spec) (λ K o. IsSimulated K (named_policy policy) seed steps trace cert o)
       (λ K o p x y. ap but_certificate x.is ∙ sym (ap but_certificate y.is)) o p a b
-  command-outcome content (Certify spec trace cert) o p a b =
+  command-outcome content input (Certify spec trace cert) o p a b =
       spec-outcome (content spec) (λ K o. o ≡ certify_outcome K (content trace) (content cert))
       (answer-outcome (λ K. certify_outcome K (content trace) (content cert))) o p a b
-  command-outcome content (Trial clocks steps seed workers) o p a b = ap but_certificate (a ∙ sym b)
-  command-outcome content (Periodic left right relation) o p a b = ap but_certificate (periodic-one canonical plain left right relation o p a b)
+  command-outcome content input (Trial clocks steps seed workers) o p a b = ap but_certificate (a ∙ sym b)
+  command-outcome content input (Periodic left right relation) o p a b = ap but_certificate (periodic-one canonical plain left right relation o p a b)
+  command-outcome content input (Explain spec trace cert) o p a b =
+      spec-outcome (content spec) (λ K o. IsExplainOutcome K cert (content trace) o) (λ K o p x y. explain-one cores least K cert (content trace) o p x y) o p a b
+  command-outcome content input (Session spec policy seed) o p a b =
+      spec-outcome (content spec) (λ K o. o ≡ session_outcome K (named_policy policy) seed input)
+      (answer-outcome (λ K. session_outcome K (named_policy policy) seed input)) o p a b
 
-  meant-outcome : (content : List ℕ → List ℕ) (meant : Result Command Usage) (o p : Outcome) → IsOutcomeOf content meant o → IsOutcomeOf content meant p →
+  meant-outcome : (content : List ℕ → List ℕ) (input : List ℕ) (meant : Result Command Usage) (o p : Outcome) → IsOutcomeOf content input meant o → IsOutcomeOf content input meant p →
       but_certificate o ≡ but_certificate p
-  meant-outcome content (Err fault) o p a b = ap but_certificate (a ∙ sym b)
-  meant-outcome content (Ok command) o p a b = command-outcome content command o p a b
+  meant-outcome content input (Err fault) o p a b = ap but_certificate (a ∙ sym b)
+  meant-outcome content input (Ok command) o p a b = command-outcome content input command o p a b
 
   pub outcomes-are-one : OutcomesAreOne
-  outcomes-are-one words content o p a b = meant-outcome content (meaning words) o p a b
+  outcomes-are-one words content input o p a b = meant-outcome content input (meaning words) o p a b

@@ -98,6 +98,8 @@ module _ (clocks steps seed workers : ℕ) where
   command-ranges name.Judge pairs fine missing e = absurd (cc)
   command-ranges name.Certify pairs fine missing e = absurd (cc)
   command-ranges name.Periodic pairs fine missing e = absurd (cc)
+  command-ranges name.Explain pairs fine missing e = absurd (cc)
+  command-ranges name.Session pairs fine missing e = absurd (cc)
   command-ranges name.Trial pairs fine missing e =
       let g = given pairs missing in
       let c = in-range (range_of name.Trial key.Clocks) (value_of key.Clocks pairs) (given-value name.Trial key.Clocks clocks-keyed pairs [] 1 fine g.0) in

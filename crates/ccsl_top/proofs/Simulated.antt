@@ -25,7 +25,7 @@ use Rattle.ccsl_top.specs.Program.{accepted}
 use Rattle.ccsl_top.specs.Simulate.{named_policy, run, IsSimulated, IsOutput, simulate_outcome}
 use Rattle.ccsl_top.specs.Effects.{RoseAt, Reads, Stays}
 use Rattle.ccsl_top.specs.Reading.{only}
-use Rattle.ccsl_top.specs.Headline.{FaultCause, IsDefinedOutput, by_file}
+use Rattle.ccsl_top.specs.Headline.{input_of, FaultCause, IsDefinedOutput, by_file}
 use Rattle.ccsl_top.specs.Answered.{code_of, plain_reply, Leaves, Stands, Answered, Faulted, Starved, IsUnanswered, StopsAt, AnswersTo}
 use Rattle.ccsl_top.specs.Simulating.{IsDoneReply, IsEnd, WritesSome, WritesBoth, WriteBreaks, WriteStarves, IsWriteStop}
 use Rattle.ccsl_top.proofs.Slots.{both-ways}
@@ -45,7 +45,7 @@ apart-second true b e = both-ways true refl e
 apart-second false true e = both-ways true refl e
 apart-second false false e = refl
 
-name-apart : (a b : List ℕ) → bytes_eq a b ≡ false → b ≢ a
+pub name-apart : (a b : List ℕ) → bytes_eq a b ≡ false → b ≢ a
 name-apart a b e same = both-ways (bytes_eq a b) ((bytes_eq-Decides a b).1 (sym same)) e
 
 -- the outcome of a run of so many steps, by how it ended
@@ -81,8 +81,8 @@ module _ (told : Told) (words : List (List ℕ)) (spec : List ℕ) (policy : Pol
   abbrev p : Policy
   p = named_policy policy
 
-  abbrev IsAnswer : (List ℕ → List ℕ) → System → Outcome → Type 0
-  IsAnswer content K o = IsSimulated K p seed steps trace cert o
+  abbrev IsAnswer : (List ℕ → List ℕ) → List ℕ → System → Outcome → Type 0
+  IsAnswer content input K o = IsSimulated K p seed steps trace cert o
 
   words-open : files_opened words ≡ opened
   words-open = ap files_meant means
@@ -108,7 +108,7 @@ module _ (told : Told) (words : List (List ℕ)) (spec : List ℕ) (policy : Pol
   file-same name = ap (λ fs. file_at fs name) (sym reads.uses.files)
 
   defined-output : IsTrue told.files → IsTrue told.left → (o : Output) → IsOutput K p seed steps trace cert o → IsDefinedOutput words s.files o
-  defined-output f l o is = record {
+  defined-output f l o is = inl (record {
     spec = spec;
     policy = policy;
     seed = seed;
@@ -119,7 +119,7 @@ module _ (told : Told) (words : List (List ℕ)) (spec : List ℕ) (policy : Pol
     system = K;
     accepted = system f l;
     is = is;
-  }
+  })
 
   module _ (some : WritesSome told K (named_policy policy) seed steps trace cert t u) where
     stays : Stays told (files_opened words) used s u
@@ -152,6 +152,9 @@ module _ (told : Told) (words : List (List ℕ)) (spec : List ℕ) (policy : Pol
           front-moves P Q (defined-output f l) t s u u slot (ap (λ x. x.written) (sym (reads.uses.others slot (output-unread slot out)))) refl (some.fronts w slot out);
     }
 
+  no-explanation : (name file other : List ℕ) → meaning words ≡ Ok (command.Explain name file other) → ⊥
+  no-explanation name file other e = let clash : (let R : Result Command Usage = Ok c in R) ≡ Ok (command.Explain name file other) = sym means ∙ e in absurd (cc)
+
   -- both files were written
   module _ (done : Done) (both : WritesBoth told K (named_policy policy) seed steps trace cert t u done) where
     abbrev count : ℕ
@@ -164,7 +167,7 @@ module _ (told : Told) (words : List (List ℕ)) (spec : List ℕ) (policy : Pol
       status_is = status;
       report_is = line;
       defined = record {
-        is = is-outcome told words c means spec behind refl IsAnswer (λ content o x. x) (held s.files) (simulate_outcome K p seed steps trace cert both.text)
+        is = is-outcome told words c means spec behind refl IsAnswer (λ content input o x. x) (held s.files) (input_of s) (simulate_outcome K p seed steps trace cert both.text)
             (accepted K (system f l) (record { text = both.text; valid = both.valid; is = refl }));
         files = λ w. (both.trace_holds (names-differ spec policy seed steps trace cert words means) f w, (both.cert_holds f w, record {}));
       };
@@ -177,8 +180,9 @@ module _ (told : Told) (words : List (List ℕ)) (spec : List ℕ) (policy : Pol
       counts = λ slot. both.counts slot ∙ reads.counts slot;
       unopened = λ e. absurd (two e);
       unread = λ e. absurd (three e);
+      unexplained = λ name file other e. absurd (no-explanation name file other e);
       stands = is;
-      refused = λ fault e. absurd (not-refused told words c means spec behind refl IsAnswer (λ content o x. x) fault e);
+      refused = λ fault e. absurd (not-refused told words c means spec behind refl IsAnswer (λ content input o x. x) fault e);
     }
 
   pub simulate-answered : (done : Done) (reply : Reply) → IsDoneReply done steps reply → WritesBoth told K (named_policy policy) seed steps trace cert t u done →

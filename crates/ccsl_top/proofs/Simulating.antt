@@ -1,6 +1,5 @@
 -- A simulation that is written between the opening of its files and their closing.
-use Rattle.std.proofs.Common.{◌≡◌, ◌≢◌, ◌⊎◌, ℕ, ◌<◌, ◌≤◌, List, [], ◌++◌, length, take, Bool, true, false, Some, IsTrue, ⊎_elim, inl, inr, refl, sym, ap, ◌∙◌, subst, arith, bytes_eq, take_all, le_refl}
-use Rattle.std.proofs.lemmas.Slice.Eq.{bytes_eq-Decides}
+use Rattle.std.proofs.Common.{◌≡◌, ◌≢◌, ◌⊎◌, ℕ, ◌<◌, ◌≤◌, List, [], ◌++◌, length, take, true, Some, IsTrue, ⊎_elim, inl, inr, refl, sym, ap, ◌∙◌, subst, arith, take_all, le_refl}
 use Rattle.ccsl_edge.specs.declared.slot.Slot.{Slot}
 use Rattle.ccsl_edge.specs.declared.slot.Slot.TheVariants.{TraceOut, CertOut}
 use Rattle.ccsl_edge.specs.World.{State, Told, Rose, Stores, file_at}
@@ -21,9 +20,9 @@ use Rattle.ccsl_top.specs.Effects.{RoseAt, WritesAlone}
 use Rattle.ccsl_top.specs.Headline.{IsKeptOrWhole, kept, whole, IsFrontOn, untouched, nothing, part}
 use Rattle.ccsl_top.specs.Stopping.{of_simulation}
 use Rattle.ccsl_top.specs.Simulating.{IsEnd, WritesSome, WritesBoth, WriteBreaks, WriteStarves, IsWriteStop}
-use Rattle.ccsl_top.proofs.Effects.{by-test, alone-none, alone-then}
+use Rattle.ccsl_top.proofs.Effects.{alone-none, alone-then}
 use Rattle.ccsl_top.proofs.Outputs.{whole-moves, front-moves}
-use Rattle.ccsl_top.proofs.Writing.{cert-apart, trace-apart, on-output, fails-alone, opens-alone, opens-counts, adds-alone, adds-counts, part-alone, closes-alone, closes-counts, closes-written}
+use Rattle.ccsl_top.proofs.Writing.{cert-apart, trace-apart, on-output, by-name, fails-alone, opens-alone, opens-counts, adds-alone, adds-counts, part-alone, closes-alone, closes-counts, closes-written}
 
 module _ (told : Told) (K : System) (p : Policy) (seed steps : ℕ) (trace cert : List ℕ) where
   pub text : List ℕ
@@ -249,11 +248,6 @@ module _ (told : Told) (K : System) (p : Policy) (seed steps : ℕ) (trace cert 
 
             pub half-counts : (slot : Slot) → (d.slot_of slot).faults ≡ (s.slot_of slot).faults
             half-counts slot = closes-counts told TraceOut refl c d close_trace slot ∙ x.counts slot
-
-            by-name : (Q : Type 0) (name other : List ℕ) → (name ≡ other → Q) → (name ≢ other → Q) → Q
-            by-name Q name other yes_ no_ = by-test (bytes_eq name other)
-                (λ t. yes_ ((bytes_eq-Decides name other).0 t))
-                (λ t. no_ (λ same. let both : true ≡ false = sym ((bytes_eq-Decides name other).1 same) ∙ t in absurd (cc)))
 
             half-whole : (u : State) (name : List ℕ) → (file_at u.files name ≡ file_at d.files name) → IsTrue told.files → IsTrue told.written → IsKeptOrWhole P s u name
             unfolding text P

@@ -1,5 +1,6 @@
 -- What each call on an output slot leaves.
-use Rattle.std.proofs.Common.{◌≡◌, ◌≢◌, ℕ, ◌≤◌, List, Bool, true, false, IsTrue, refl, sym, ap, ◌∙◌, subst, arith}
+use Rattle.std.proofs.Common.{◌≡◌, ◌≢◌, ℕ, ◌≤◌, List, Bool, true, false, IsTrue, refl, sym, ap, ◌∙◌, subst, arith, bytes_eq}
+use Rattle.std.proofs.lemmas.Slice.Eq.{bytes_eq-Decides}
 use Rattle.ccsl_edge.specs.declared.slot.Slot.{Slot}
 use Rattle.ccsl_edge.specs.declared.slot.Slot.TheVariants.{Spec, Trace, Cert, Input, Report, TraceOut, CertOut}
 use Rattle.ccsl_edge.specs.World.{State, Told}
@@ -7,7 +8,7 @@ use Rattle.ccsl_edge.specs.Calls.{Fails, OpensOut, Adds, AddsFront, Closes}
 use Rattle.ccsl_top.specs.Opening.{is_output}
 use Rattle.ccsl_top.specs.Effects.{WritesAlone}
 use Rattle.ccsl_top.proofs.Slots.{both-ways, is_slot-differs}
-use Rattle.ccsl_top.proofs.Effects.{alone-at, alone-counts}
+use Rattle.ccsl_top.proofs.Effects.{by-test, alone-at, alone-counts}
 
 pub cert-apart : CertOut ≢ TraceOut
 cert-apart = is_slot-differs TraceOut CertOut refl
@@ -24,6 +25,12 @@ on-output Q t c Input e = both-ways (is_output Input) e refl
 on-output Q t c Report e = both-ways (is_output Report) e refl
 on-output Q t c TraceOut e = t
 on-output Q t c CertOut e = c
+
+-- two names are one, or differ
+pub by-name : (Q : Type 0) (name other : List ℕ) → (name ≡ other → Q) → (name ≢ other → Q) → Q
+by-name Q name other yes_ no_ = by-test (bytes_eq name other)
+    (λ t. yes_ ((bytes_eq-Decides name other).0 t))
+    (λ t. no_ (λ same. both-ways (bytes_eq name other) ((bytes_eq-Decides name other).1 same) t))
 
 module _ (told : Told) (slot : Slot) (is : is_output slot ≡ true) (s t : State) where
   pub fails-alone : Fails slot s t → WritesAlone s t

@@ -1,8 +1,8 @@
 -- What stands before the report is written.
-use Rattle.std.specs.Prelude.{◌≡◌, ◌≢◌, ℕ, Bool, true, false, List, Ok, Err, IsTrue}
+use Rattle.std.specs.Prelude.{◌≡◌, ◌≢◌, ◌⊎◌, ℕ, Bool, true, false, List, Ok, Err, IsTrue}
 use Rattle.ccsl_edge.specs.declared.slot.Slot.{Slot}
-use Rattle.ccsl_edge.specs.declared.slot.Slot.TheVariants.{Spec}
-use Rattle.ccsl_edge.specs.World.{State, Told, held}
+use Rattle.ccsl_edge.specs.declared.slot.Slot.TheVariants.{Spec, CertOut}
+use Rattle.ccsl_edge.specs.World.{State, Told, held, file_at}
 use Rattle.ccsl_command.specs.declared.command.Command.{Command}
 use Rattle.ccsl_command.specs.declared.command.Command.TheVariants as command
 use Rattle.ccsl_command.specs.declared.usage.Usage.{Usage}
@@ -17,7 +17,7 @@ use Rattle.ccsl_top.specs.Outcome.{Outcome, outcome}
 use Rattle.ccsl_top.specs.Program.{IsOutcome, usage_outcome}
 use Rattle.ccsl_top.specs.Opening.{opens, is_output}
 use Rattle.ccsl_top.specs.Effects.{Stays}
-use Rattle.ccsl_top.specs.Headline.{FaultCause, IsBarelyRead, IsDefinedOutput, IsKeptOrWhole, IsFrontOn, AreHeld}
+use Rattle.ccsl_top.specs.Headline.{input_of, FaultCause, IsBarelyRead, IsDefinedOutput, IsKeptOrWhole, IsFrontOn, AreHeld}
 
 abbrev pub code_of : Status → ℕ
 code_of Done = 0
@@ -46,7 +46,7 @@ pub record Leaves (told : Told) (words : List (List ℕ)) (used : Slot → Bool)
 
 -- this is the defined outcome, and its files are written
 pub record IsDefined (told : Told) (words : List (List ℕ)) (o : Outcome) (old new : State) : Type 0 where
-  pub is : IsOutcome words (held old.files) o
+  pub is : IsOutcome words (held old.files) (input_of old) o
   pub files : IsTrue told.written → AreHeld new.files o.outputs
 
 -- the outcome that a reply stands for
@@ -56,6 +56,10 @@ pub record Stands (told : Told) (words : List (List ℕ)) (reply : Reply) (old n
   pub report_is : reply.line.items ≡ outcome.report
   pub defined : IsDefined told words outcome old new
 
+-- no certificate was opened, and no file has changed
+abbrev pub LeavesCertificate : State → State → Type 0
+LeavesCertificate old new = (new.slot_of CertOut ≡ old.slot_of CertOut) × ((name : List ℕ) → file_at new.files name ≡ file_at old.files name)
+
 -- the defined outcome is known
 pub record Answered (told : Told) (words : List (List ℕ)) (reply : Reply) (old new : State) : Type 0 where
   pub used : Slot → Bool
@@ -63,6 +67,8 @@ pub record Answered (told : Told) (words : List (List ℕ)) (reply : Reply) (old
   pub counts : (slot : Slot) → (new.slot_of slot).faults ≡ (old.slot_of slot).faults
   pub unopened : code_of reply.status ≡ 2 → (slot : Slot) → used slot ≡ false
   pub unread : code_of reply.status ≡ 3 → (slot : Slot) → slot ≢ Spec → used slot ≡ false
+  pub unexplained : (spec trace cert : List ℕ) → meaning words ≡ Ok (command.Explain spec trace cert) →
+      (code_of reply.status ≡ 1) ⊎ (code_of reply.status ≡ 4) → LeavesCertificate old new
   pub stands : IsTrue told.files → IsTrue told.left → Stands told words reply old new
   pub refused : (fault : Usage) → meaning words ≡ Err fault → plain_reply reply ≡ usage_outcome fault
 

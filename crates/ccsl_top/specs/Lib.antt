@@ -3,9 +3,12 @@ pub mod Check
 pub mod Judge
 pub mod Simulate
 pub mod Certify
+pub mod Explain
+pub mod Converse
 pub mod Trial
 pub mod Periodic
 pub mod Program
+pub mod Laws
 pub mod Opening
 pub mod Effects
 pub mod Reading
@@ -15,4 +18,6 @@ pub mod Headline
 pub mod Judging
 pub mod Certifying
 pub mod Simulating
+pub mod Explaining
+pub mod Conversing
 pub mod Trying

@@ -1,10 +1,14 @@
--- The files that words name, and the slots under which they are opened.
-use Rattle.std.specs.Prelude.{ℕ, List, [], ◌∷◌, Bool, true, false, ◌&&◌, ◌||◌, nat_eq}
+-- The files that words name, and the slots under which they are opened or which are read.
+use Rattle.std.specs.Prelude.{ℕ, List, [], ◌∷◌, Bool, true, false, ◌&&◌, ◌||◌, nat_eq, Result, Ok, Err}
 use Rattle.std.specs.Str.{bytes_eq}
 use Rattle.ccsl_edge.specs.declared.slot.Slot.{Slot}
-use Rattle.ccsl_edge.specs.declared.slot.Slot.TheVariants.{TraceOut, CertOut}
+use Rattle.ccsl_edge.specs.declared.slot.Slot.TheVariants.{Input, TraceOut, CertOut}
 use Rattle.ccsl_edge.specs.Slots.{index_of}
-use Rattle.ccsl_command.specs.Opened.{Opened}
+use Rattle.ccsl_command.specs.declared.command.Command.{Command}
+use Rattle.ccsl_command.specs.declared.command.Command.TheVariants as command
+use Rattle.ccsl_command.specs.declared.usage.Usage.{Usage}
+use Rattle.ccsl_command.specs.Meaning.{meaning}
+use Rattle.ccsl_command.specs.Opened.{Opened, files_opened}
 
 -- a world allows each file under its slot
 abbrev pub AreAllowed : (Slot → List ℕ → Type 0) → List Opened → Type 0
@@ -27,3 +31,13 @@ is_output slot = is_slot slot TraceOut || is_slot slot CertOut
 abbrev pub writes : List Opened → List ℕ → Bool
 writes [] name = false
 writes (f ∷ fs) name = (is_output f.slot && bytes_eq f.name name) || writes fs name
+
+-- whether a command reads standard input
+abbrev pub is_session : Result Command Usage → Bool
+is_session (Ok (command.Session spec policy seed)) = true
+is_session (Ok c) = false
+is_session (Err fault) = false
+
+-- whether the words read or write through a slot, the report aside
+abbrev pub uses : List (List ℕ) → Slot → Bool
+uses words slot = opens (files_opened words) slot || (is_session (meaning words) && is_slot slot Input)

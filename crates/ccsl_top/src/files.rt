@@ -1,9 +1,10 @@
 //! Reading the files that the words name.
 
-ghost use Rattle.std.specs.Prelude.{IfOk, IfErr, option_map};
+ghost use Rattle.std.specs.Prelude.{◌≡◌, IfOk, IfErr, option_map};
 ghost use Rattle.ccsl_edge.specs.Slots.{IsInputFile};
 ghost use Rattle.ccsl_top.specs.Effects.{Reads};
 ghost use Rattle.ccsl_top.specs.Reading.{only, IsFile, IsStop};
+ghost use Rattle.ccsl_top.specs.Stopping.{stop_code};
 
 use ccsl_base::{MAX_FILE_BYTES, MAX_SCOPES, MAX_VARS, Memory};
 use ccsl_edge::{Failed, ReadFault, Slot, World, read_all};
@@ -25,6 +26,18 @@ pub(crate) enum Stop {
     Fault,
     /// No memory was to be had.
     Memory,
+}
+
+impl Stop {
+    /// The program's exit status.
+    pub(crate) fn code(self) -> u8
+        ensures { result ≡ stop_code self }
+    {
+        match self {
+            Stop::Fault => 5,
+            Stop::Memory => 6,
+        }
+    }
 }
 
 impl From<Memory> for Stop {

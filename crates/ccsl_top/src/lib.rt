@@ -3,12 +3,15 @@
 
 mod certify;
 mod check;
+mod explain;
 mod files;
 mod judge;
 pub mod laws;
 mod periodic;
 pub mod program;
 pub mod reply;
+mod report;
+mod session;
 mod simulate;
 mod specification;
 mod trial;

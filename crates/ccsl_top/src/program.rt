@@ -1,25 +1,28 @@
 //! The program: words, files, an answer and a report.
 
-ghost use Rattle.std.specs.Prelude.{◌≡◌, ◌≢◌, ℕ, List, Ok, IfOk, IfErr, OnOk};
+ghost use Rattle.std.specs.Prelude.{◌≡◌, ◌≢◌, ℕ, List, Ok, false, IfOk, IfErr, OnOk};
 ghost use Rattle.ccsl_command.specs.Infinite.{HasInfiniteWords};
 ghost use Rattle.ccsl_command.specs.Meaning.{meaning};
 ghost use Rattle.ccsl_command.specs.Opened.{files_of, files_opened};
 ghost use Rattle.ccsl_top.specs.Program.{usage_outcome};
-ghost use Rattle.ccsl_top.specs.Opening.{AreAllowed};
-ghost use Rattle.ccsl_top.specs.Answered.{plain_reply, Answered, IsUnanswered, AnswersTo, StopsAt};
+ghost use Rattle.ccsl_top.specs.Opening.{AreAllowed, is_session};
+ghost use Rattle.ccsl_top.specs.Answered.{plain_reply, AnswersTo, StopsAt};
 ghost use Rattle.ccsl_top.specs.Headline.{Headline};
 
 use crate::certify::certify;
 use crate::check::check;
+use crate::explain::explain;
 use crate::files::Stop;
 use crate::judge::judge;
 use crate::periodic::periodic;
 use crate::reply::{Reply, Status};
+use crate::report::report;
+use crate::session::session;
 use crate::simulate::simulate;
 use crate::trial::trial;
 use ccsl_base::CommandWord;
-use ccsl_command::{Command, Usage, words};
-use ccsl_edge::{Slot, World, write_all};
+use ccsl_command::{Command, Usage, words as command_line};
+use ccsl_edge::World;
 use ccsl_pool::Gate;
 use ccsl_report::usage;
 use std::alloc::Global;
@@ -40,7 +43,7 @@ fn refuse_words(alloc: Global, fault: &Usage) -> Result<Reply, Stop>
     })
 }
 
-// The answer to a command.
+// The answer to a command that is no session.
 fn answer_command<R: Threads + Sync, W: World, G: Gate>(
     rt: &R,
     alloc: Global,
@@ -51,6 +54,7 @@ fn answer_command<R: Threads + Sync, W: World, G: Gate>(
     requires allowed { AreAllowed W.allows (files_of command.now) }
     requires meant { (words : List (List ℕ)) × (meaning words ≡ Ok command.now) }
     requires infinite { HasInfiniteWords command.now }
+    requires no_session { is_session (Ok command.now) ≡ false }
     ensures ok { IfOk result (λ reply. AnswersTo W.told command.now reply (W.state world.old) (W.state world.new)) }
     ensures err { IfErr result (λ stop. StopsAt W.told command.now stop (W.state world.old) (W.state world.new)) }
 {
@@ -100,31 +104,38 @@ fn answer_command<R: Threads + Sync, W: World, G: Gate>(
             right,
             relation,
         } => periodic(alloc, left, right, *relation),
+        Command::Explain { spec, trace, cert } => {
+            explain(alloc, world, spec.as_str(), trace.as_str(), cert.as_str())
+        }
+        Command::Session { .. } => unreachable!(),
     }
 }
 
-// The answer to the words, before it is reported.
-fn answer<R: Threads + Sync, W: World, G: Gate>(
+// Obeys a command, and answers the exit status: a session reports by itself.
+fn obey<R: Threads + Sync, W: World, G: Gate>(
     rt: &R,
     alloc: Global,
-    list: &[CommandWord],
+    command: &Command,
     world: &mut W,
     gate: &G,
-) -> Result<Reply, Stop>
-    requires { AreAllowed W.allows (files_opened list.now) }
-    ensures ok { IfOk result (λ reply. Answered W.told list.now reply (W.state world.old) (W.state world.new)) }
-    ensures err { IfErr result (λ stop. IsUnanswered stop W.told list.now (W.state world.old) (W.state world.new)) }
+) -> u8
+    requires allowed { AreAllowed W.allows (files_of command.now) }
+    requires meant { (words : List (List ℕ)) × (meaning words ≡ Ok command.now) }
+    requires infinite { HasInfiniteWords command.now }
+    ensures { (words : List (List ℕ)) → meaning words ≡ Ok command.now →
+        Headline W.told words result (W.state world.old) (W.state world.new) }
 {
-    match words(alloc, list) {
-        Ok(command) => answer_command(rt, alloc, &command, world, gate),
-        Err(fault) => refuse_words(alloc, &fault),
+    if let Command::Session { spec, policy, seed } = command {
+        return session(alloc, world, spec.as_str(), *policy, *seed);
     }
+    let answer = answer_command(rt, alloc, command, world, gate);
+    report(world, answer)
 }
 
-/// Does all that the program does, and answers its exit status: 0 where it is done, 1 where a trace is no run or a certificate not
-/// valid, 2 to 4 where the words, the specification, or a trace or certificate are refused, 5 where a file failed, 6 where there was
-/// no memory, 8 where a simulation ended early. `workers` threads judge a trace, and each part of their work enters the gate; neither
-/// changes the outcome.
+/// Does all that the program does, and answers its exit status: 0 where it is done, 1 where a trace is no run, a certificate not valid or
+/// a step possible that was to be explained, 2 to 4 where the words, the specification, or a trace, a certificate or standard input are
+/// refused, 5 where a file failed, 6 where there was no memory, 8 where a simulation ended early. `workers` threads judge a trace, and each
+/// part of their work enters the gate; neither changes the outcome.
 pub fn run<R: Threads + Sync, W: World, G: Gate>(
     rt: &R,
     alloc: Global,
@@ -135,13 +146,8 @@ pub fn run<R: Threads + Sync, W: World, G: Gate>(
     requires { AreAllowed W.allows (files_opened words.now) }
     ensures { Headline W.told words.now result (W.state world.old) (W.state world.new) }
 {
-    let reply = match answer(rt, alloc, words, world, gate) {
-        Ok(reply) => reply,
-        Err(Stop::Fault) => return 5,
-        Err(Stop::Memory) => return 6,
-    };
-    match write_all(world, Slot::Report, reply.line.as_slice()) {
-        Ok(()) => reply.status.code(),
-        Err(_failed) => 5,
+    match command_line(alloc, words) {
+        Ok(command) => obey(rt, alloc, &command, world, gate),
+        Err(fault) => report(world, refuse_words(alloc, &fault)),
     }
 }

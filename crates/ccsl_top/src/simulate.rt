@@ -20,8 +20,8 @@ use ccsl_simulate::Done;
 use ccsl_spec::Specification;
 use std::alloc::Global;
 
-// The policy of a name.
-fn policy_named(name: PolicyName) -> Policy
+/// The policy of a name.
+pub(crate) fn policy_named(name: PolicyName) -> Policy
     ensures { result ≡ named_policy name }
 {
     match name {

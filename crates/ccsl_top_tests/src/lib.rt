@@ -8,6 +8,8 @@ mod certificates;
 #[cfg(test)]
 mod checks;
 #[cfg(test)]
+mod explanations;
+#[cfg(test)]
 mod failing;
 #[cfg(test)]
 mod failing_writes;
@@ -21,6 +23,8 @@ mod periodics;
 mod refused_traces;
 #[cfg(test)]
 mod runs;
+#[cfg(test)]
+mod sessions;
 #[cfg(test)]
 mod simulations;
 #[cfg(test)]

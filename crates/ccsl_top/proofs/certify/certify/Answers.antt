@@ -14,7 +14,7 @@ returns-in_err-system-clause-stop g c =
     rw (p.1, p.2)
     (reading-stops g.W.World.told (command.Certify c.args.spec.now c.args.trace.now c.args.cert.now)
     c.args.spec.now (record { slot = Trace; name = c.args.trace.now } ∷ record { slot = Cert; name = c.args.cert.now } ∷ []) refl
-    (λ content K o. o ≡ certify_outcome K (content c.args.trace.now) (content c.args.cert.now)) (λ content o is. is)
+    (λ content input K o. o ≡ certify_outcome K (content c.args.trace.now) (content c.args.cert.now)) (λ content input o is. is)
     (g.W.World.state c.args.world.now) (g.W.World.state c.read_specification.new.world) c.in_err-system.field-0.0 c.in_err-system.ensures.stop)
 
 pub returns-in-Accepted-clause-answers : goal.returns-in-Accepted-clause-answers
@@ -35,5 +35,5 @@ returns-in-Refused-clause-answers g c =
     λ words means.
     spec-refused g.W.World.told words (command.Certify c.args.spec.now c.args.trace.now c.args.cert.now) means
     c.args.spec.now (record { slot = Trace; name = c.args.trace.now } ∷ record { slot = Cert; name = c.args.cert.now } ∷ []) refl
-    (λ content K o. o ≡ certify_outcome K (content c.args.trace.now) (content c.args.cert.now)) (λ content o is. is)
+    (λ content input K o. o ≡ certify_outcome K (content c.args.trace.now) (content c.args.cert.now)) (λ content input o is. is)
     (g.W.World.state c.args.world.now) (g.W.World.state c.read_specification.new.world) c.in_ok-system.ensures.reads _ refl spec

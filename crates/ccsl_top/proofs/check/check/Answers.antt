@@ -11,7 +11,7 @@ pub returns-in_ok-checked-in-Accepted-clause-answers : goal.returns-in_ok-checke
 returns-in_ok-checked-in-Accepted-clause-answers g c =
     let spec = subst (IsSpecOf g.W.World.told (g.W.World.state c.args.world.now).files c.args.spec.now) c.in-Accepted.is c.in_ok-system.ensures.spec in
     λ words means.
-    spec-answered g.W.World.told words (command.Check c.args.spec.now) means c.args.spec.now [] refl (λ content K o. o ≡ check_outcome K) (λ content o is. is)
+    spec-answered g.W.World.told words (command.Check c.args.spec.now) means c.args.spec.now [] refl (λ content input K o. o ≡ check_outcome K) (λ content input o is. is)
     (g.W.World.state c.args.world.now) (g.W.World.state c.read_specification.new.world) c.in_ok-system.ensures.reads c.in-Accepted.system spec
     _ done-opens (ap (outcome 0) c.in_ok-checked-in-Accepted.ensures)
 
@@ -19,14 +19,14 @@ pub returns-in-Refused-clause-answers : goal.returns-in-Refused-clause-answers
 returns-in-Refused-clause-answers g c =
     let spec = subst (IsSpecOf g.W.World.told (g.W.World.state c.args.world.now).files c.args.spec.now) c.in-Refused.is c.in_ok-system.ensures.spec in
     λ words means.
-    spec-refused g.W.World.told words (command.Check c.args.spec.now) means c.args.spec.now [] refl (λ content K o. o ≡ check_outcome K) (λ content o is. is)
+    spec-refused g.W.World.told words (command.Check c.args.spec.now) means c.args.spec.now [] refl (λ content input K o. o ≡ check_outcome K) (λ content input o is. is)
     (g.W.World.state c.args.world.now) (g.W.World.state c.read_specification.new.world) c.in_ok-system.ensures.reads _ refl spec
 
 pub returns-in_err-system-clause-stop : goal.returns-in_err-system-clause-stop
 returns-in_err-system-clause-stop g c =
     let p = err_from_is_err_and c.from_residual.result c.from_residual.ensures.1 in
     rw (p.1, p.2)
-    (reading-stops g.W.World.told (command.Check c.args.spec.now) c.args.spec.now [] refl (λ content K o. o ≡ check_outcome K) (λ content o is. is)
+    (reading-stops g.W.World.told (command.Check c.args.spec.now) c.args.spec.now [] refl (λ content input K o. o ≡ check_outcome K) (λ content input o is. is)
     (g.W.World.state c.args.world.now) (g.W.World.state c.read_specification.new.world) c.in_err-system.field-0.0 c.in_err-system.ensures.stop)
 
 pub returns-in_err-checked-in-Accepted-clause-stop : goal.returns-in_err-checked-in-Accepted-clause-stop
@@ -35,5 +35,5 @@ returns-in_err-checked-in-Accepted-clause-stop g c =
     let p = err_from_is_err_and r.result r.ensures.1 in
     rw (p.1, p.2)
     (λ words means.
-    spec-starved g.W.World.told words (command.Check c.args.spec.now) means c.args.spec.now [] refl (λ content K o. o ≡ check_outcome K) (λ content o is. is)
+    spec-starved g.W.World.told words (command.Check c.args.spec.now) means c.args.spec.now [] refl (λ content input K o. o ≡ check_outcome K) (λ content input o is. is)
     (g.W.World.state c.args.world.now) (g.W.World.state c.read_specification.new.world) c.in_ok-system.ensures.reads)

@@ -27,7 +27,7 @@ returns-in_err-system-clause-stop g c =
     let p = err_from_is_err_and c.from_residual.result c.from_residual.ensures.1 in
     rw (p.1, p.2)
     (reading-stops g.W.World.told (command.Judge c.args.spec.now c.args.trace.now c.args.workers)
-    c.args.spec.now (record { slot = Trace; name = c.args.trace.now } ∷ []) refl (λ content K o. o ≡ judge_outcome K (content c.args.trace.now)) (λ content o is. is)
+    c.args.spec.now (record { slot = Trace; name = c.args.trace.now } ∷ []) refl (λ content input K o. o ≡ judge_outcome K (content c.args.trace.now)) (λ content input o is. is)
     (g.W.World.state c.args.world.now) (g.W.World.state c.read_specification.new.world) c.in_err-system.field-0.0 c.in_err-system.ensures.stop)
 
 pub returns-in-Refused-clause-answers : goal.returns-in-Refused-clause-answers
@@ -35,5 +35,5 @@ returns-in-Refused-clause-answers g c =
     let spec = subst (IsSpecOf g.W.World.told (g.W.World.state c.args.world.now).files c.args.spec.now) c.in-Refused.is c.in_ok-system.ensures.spec in
     λ words means.
     spec-refused g.W.World.told words (command.Judge c.args.spec.now c.args.trace.now c.args.workers) means
-    c.args.spec.now (record { slot = Trace; name = c.args.trace.now } ∷ []) refl (λ content K o. o ≡ judge_outcome K (content c.args.trace.now)) (λ content o is. is)
+    c.args.spec.now (record { slot = Trace; name = c.args.trace.now } ∷ []) refl (λ content input K o. o ≡ judge_outcome K (content c.args.trace.now)) (λ content input o is. is)
     (g.W.World.state c.args.world.now) (g.W.World.state c.read_specification.new.world) c.in_ok-system.ensures.reads _ refl spec

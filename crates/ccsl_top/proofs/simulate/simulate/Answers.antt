@@ -15,7 +15,7 @@ returns-in_err-system-clause-stop g c =
     rw (p.1, p.2)
     (reading-stops g.W.World.told (command.Simulate c.args.spec.now c.args.policy c.args.seed c.args.steps c.args.trace.now c.args.cert.now)
     c.args.spec.now (record { slot = TraceOut; name = c.args.trace.now } ∷ record { slot = CertOut; name = c.args.cert.now } ∷ []) refl
-    (λ content K o. IsSimulated K (named_policy c.args.policy) c.args.seed c.args.steps c.args.trace.now c.args.cert.now o) (λ content o is. is)
+    (λ content input K o. IsSimulated K (named_policy c.args.policy) c.args.seed c.args.steps c.args.trace.now c.args.cert.now o) (λ content input o is. is)
     (g.W.World.state c.args.world.now) (g.W.World.state c.read_specification.new.world) c.in_err-system.field-0.0 c.in_err-system.ensures.stop)
 
 pub returns-in-Refused-clause-answers : goal.returns-in-Refused-clause-answers
@@ -24,7 +24,7 @@ returns-in-Refused-clause-answers g c =
     λ words means.
     spec-refused g.W.World.told words (command.Simulate c.args.spec.now c.args.policy c.args.seed c.args.steps c.args.trace.now c.args.cert.now) means
     c.args.spec.now (record { slot = TraceOut; name = c.args.trace.now } ∷ record { slot = CertOut; name = c.args.cert.now } ∷ []) refl
-    (λ content K o. IsSimulated K (named_policy c.args.policy) c.args.seed c.args.steps c.args.trace.now c.args.cert.now o) (λ content o is. is)
+    (λ content input K o. IsSimulated K (named_policy c.args.policy) c.args.seed c.args.steps c.args.trace.now c.args.cert.now o) (λ content input o is. is)
     (g.W.World.state c.args.world.now) (g.W.World.state c.read_specification.new.world) c.in_ok-system.ensures.reads _ refl spec
 
 pub returns-in_err-done-in-Accepted-clause-stop : goal.returns-in_err-done-in-Accepted-clause-stop

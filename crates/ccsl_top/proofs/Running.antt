@@ -1,0 +1,149 @@
+-- What is explained behind a run, and behind a trace.
+use Rattle.std.proofs.Common.{◌≡◌, ◌≢◌, ◌⊎◌, ℕ, List, ◌++◌, length, Some, None, Result, Ok, Err, IfOk, IfErr, IsTrue, inl, inr, refl, sym, ap, ap₂, ◌∙◌, subst, arith}
+use Rattle.ccsl_base.specs.declared.rows.Row.{Row}
+use Rattle.ccsl_edge.specs.declared.slot.Slot.TheVariants.{Trace}
+use Rattle.ccsl_edge.specs.World.{State, Told, held}
+use Rattle.ccsl_edge.specs.Calls.{OpensIn}
+use Rattle.ccsl_formula.specs.declared.scope.Scope.{Scope}
+use Rattle.ccsl_formula.specs.Formula.{Formula}
+use Rattle.ccsl_kernel.specs.Syntax.{System}
+use Rattle.ccsl_kernel.specs.Lives.{Step}
+use Rattle.ccsl_kernel.specs.Verdict.{Verdict, verdict, completed_rows}
+use Rattle.ccsl_kernel.specs.Verdict as kernel
+use Rattle.ccsl_refute.specs.declared.line.Line.{Line}
+use Rattle.ccsl_state.specs.Held.{Held, StandsFor}
+use Rattle.ccsl_items.specs.Formulas.{item_formulas, scope_of}
+use Rattle.ccsl_explain.specs.Explained.{IsPossible, IsExplained}
+use Rattle.ccsl_vcd.specs.declared.fault.VcdFault.{VcdFault}
+use Rattle.ccsl_vcd.specs.Reading.{reading}
+use Rattle.ccsl_vcd.specs.Rows.{recorded}
+use Rattle.ccsl_bind.specs.Collected.{wanted_of}
+use Rattle.ccsl_trace.specs.Traces.{IsRefused, IsNearHeader}
+use Rattle.ccsl_trace.specs.Traces as traces
+use Rattle.ccsl_certify.specs.Replaying.{IsTrace, AreAfter}
+use Rattle.ccsl_report.specs.Texts.{trace_text, explain_no_run_text, explain_open_text, explain_blocked_text}
+use Rattle.ccsl_top.specs.declared.files.Stop.{Stop}
+use Rattle.ccsl_top.specs.declared.files.Stop.TheVariants as stop
+use Rattle.ccsl_top.specs.declared.reply.Reply.{Reply}
+use Rattle.ccsl_top.specs.Outcome.{Outcome, outcome}
+use Rattle.ccsl_top.specs.Judge.{LIMITS}
+use Rattle.ccsl_top.specs.Explain.{member_lines, cert_output, blocked_outcome, IsRunExplained, IsVerdictExplained, IsReadExplained, IsExplainOutcome}
+use Rattle.ccsl_top.specs.Explain as explain
+use Rattle.ccsl_top.specs.Effects.{Reads}
+use Rattle.ccsl_top.specs.Reading.{only}
+use Rattle.ccsl_top.specs.Answered.{plain_reply}
+use Rattle.ccsl_top.specs.Explaining.{BlockedAnswers, RunAnswers, possible, blocked, IsRunStop, TraceAnswers, unwritten, written, IsTraceStop}
+use Rattle.ccsl_top.proofs.Opened.{opened-reads, opened-breaks}
+
+-- BEHIND A RUN: what is explained on some formulas is explained on those of the items
+module _ (told : Told) (K : System) (cert : List ℕ) (steps : ℕ) (scope : Scope) (scope_is : scope ≡ scope_of K) (F : List Formula)
+    (Stand : List Step → Type 0) (same : (T : List Step) → Stand T → F ≡ item_formulas K T) (now : State) where
+  pub run-open : (set : List ℕ) → IsPossible scope F set → (reply : Reply) → plain_reply reply ≡ outcome 1 (explain_open_text steps) →
+      (T : List Step) → Stand T → RunAnswers told K cert steps (item_formulas K T) now now reply
+  run-open set one reply is T t =
+      possible set (subst (λ (fs : List Formula). IsPossible (scope_of K) fs set) (same T t) (subst (λ (s : Scope). IsPossible s F set) scope_is one)) is refl
+
+  module _ (core core' : List ℕ) (lines lines' : List Line) (without without' : List (List ℕ)) (core_is : core' ≡ core) (lines_are : lines' ≡ lines)
+      (without_is : without' ≡ without) (why : IsExplained scope F core lines without) (report : List ℕ)
+      (report_is : report ≡ explain_blocked_text steps (length core') ++ member_lines K core' without') (next : State) where
+    pub run-blocked : (r : Result Reply Stop) → IfOk r (λ reply. BlockedAnswers told (cert_output K cert lines') report reply now next) →
+        IfOk r (λ reply. (T : List Step) → Stand T → RunAnswers told K cert steps (item_formulas K T) now next reply)
+    run-blocked (Ok reply) a = λ T t.
+        let b = subst (λ (ls : List Line). BlockedAnswers told (cert_output K cert ls) report reply now next) lines_are a in
+        blocked core lines without
+        (subst (λ (fs : List Formula). IsExplained (scope_of K) fs core lines without) (same T t) (subst (λ (s : Scope). IsExplained s F core lines without) scope_is why))
+        b.status (b.report_is ∙ report_is ∙ ap₂ (λ c w. explain_blocked_text steps (length c) ++ member_lines K c w) core_is without_is) b.writes
+    run-blocked (Err reason) a = a
+
+-- BEHIND A TRACE that was opened and read
+module _ (told : Told) (K : System) (cert trace : List ℕ) (s t : State) (opens : OpensIn told Trace trace s t) (u : State) where
+  module _ (bound : List ℕ) (rows : List Row) (is : IsTrace told K LIMITS t u bound rows) where
+    pub trace-reads : Reads (only Trace) s u
+    trace-reads = opened-reads told Trace trace s t u opens is.is_read.bytes is.is_read.reads
+
+    pub trace-explains : (o : Outcome) → IsVerdictExplained K cert rows (verdict K bound rows) o → IsTrue told.files → IsTrue told.left →
+        IsExplainOutcome K cert (held s.files trace) o
+    trace-explains o a f l =
+        subst (λ bytes. IsExplainOutcome K cert bytes o) (sym (is.is_read.whole l) ∙ opens.bytes f l)
+        (subst (λ m. IsReadExplained K cert is.is_read.bytes m o) (sym is.is_read.ends.fine) (rw (is.is_read.ends.bound_are, is.is_read.ends.rows_are) at a))
+
+    -- it is no run
+    pub trace-no-run : (step time item : ℕ) → verdict K bound rows ≡ kernel.Violated step time item → (reply : Reply) →
+        plain_reply reply ≡ outcome 1 (explain_no_run_text step time item K) → TraceAnswers told K cert trace s u reply
+    trace-no-run step time item v reply e =
+        let status = ap (λ o. o.status) e in
+        unwritten trace-reads (λ n. omega (arith, n, status)) (λ n. omega (arith, n, status))
+        (trace-explains (plain_reply reply) (subst (λ (w : Verdict). IsVerdictExplained K cert rows w (plain_reply reply)) (sym v) e))
+
+    -- it is a run
+    module _ (steps : ℕ) (v : verdict K bound rows ≡ kernel.Run steps) (w : State) where
+      run-explains : (o : Outcome) → IsRunExplained K cert steps (item_formulas K (completed_rows K rows)) o → IsTrue told.files → IsTrue told.left →
+          IsExplainOutcome K cert (held s.files trace) o
+      run-explains o a = trace-explains o (subst (λ (x : Verdict). IsVerdictExplained K cert rows x o) (sym v) a)
+
+      run-answers : (reply : Reply) → RunAnswers told K cert steps (item_formulas K (completed_rows K rows)) u w reply → TraceAnswers told K cert trace s w reply
+      run-answers reply (possible step one is same) =
+          let status = ap (λ o. o.status) is in
+          unwritten (subst (Reads (only Trace) s) (sym same) trace-reads) (λ n. omega (arith, n, status)) (λ n. omega (arith, n, status))
+          (run-explains (plain_reply reply) (explain.possible step one is))
+      run-answers reply (blocked core lines without why status report writes) = written (record {
+        between = u;
+        reads = trace-reads;
+        steps = steps;
+        core = core;
+        lines = lines;
+        without = without;
+        is = run-explains (blocked_outcome K cert steps core lines without) (explain.blocked core lines without why refl);
+        writes = writes;
+      }) status report
+
+      run-stops : (reason : Stop) → IsRunStop told K cert (item_formulas K (completed_rows K rows)) u w reason → IsTraceStop told K cert trace s w reason
+      run-stops stop.Fault b = inr (record {
+        between = u;
+        reads = trace-reads;
+        steps = steps;
+        core = b.core;
+        lines = b.lines;
+        without = b.without;
+        is = run-explains (blocked_outcome K cert steps b.core b.lines b.without) (explain.blocked b.core b.lines b.without b.why refl);
+        writes = b.writes;
+      })
+      run-stops stop.Memory same = subst (Reads (only Trace) s) (sym same) trace-reads
+
+      module _ (h : Held) (after : AreAfter K rows h) (r : Result Reply Stop) where
+        pub trace-answers : IfOk r (λ reply. (T : List Step) → StandsFor h T → RunAnswers told K cert steps (item_formulas K T) u w reply) →
+            IfOk r (λ reply. TraceAnswers told K cert trace s w reply)
+        trace-answers a = of-ok r a
+          where
+            of-ok : (r : Result Reply Stop) → IfOk r (λ reply. (T : List Step) → StandsFor h T → RunAnswers told K cert steps (item_formulas K T) u w reply) →
+                IfOk r (λ reply. TraceAnswers told K cert trace s w reply)
+            of-ok (Ok reply) a = run-answers reply (a (completed_rows K rows) after.stands)
+            of-ok (Err reason) a = a
+
+        pub trace-stops : IfErr r (λ reason. (T : List Step) → StandsFor h T → IsRunStop told K cert (item_formulas K T) u w reason) →
+            IfErr r (λ reason. IsTraceStop told K cert trace s w reason)
+        trace-stops a = of-err r a
+          where
+            of-err : (r : Result Reply Stop) → IfErr r (λ reason. (T : List Step) → StandsFor h T → IsRunStop told K cert (item_formulas K T) u w reason) →
+                IfErr r (λ reason. IsTraceStop told K cert trace s w reason)
+            of-err (Ok reply) a = a
+            of-err (Err reason) a = run-stops reason (a (completed_rows K rows) after.stands)
+
+  -- it is refused
+  module _ (f : VcdFault) (is : IsRefused told (wanted_of K) LIMITS t u f) where
+    pub refused-reads : Reads (only Trace) s u
+    refused-reads = opened-reads told Trace trace s t u opens is.bytes is.reads
+
+    pub trace-refused : (reply : Reply) → plain_reply reply ≡ outcome 4 (trace_text f K) → TraceAnswers told K cert trace s u reply
+    trace-refused reply e =
+        let status = ap (λ o. o.status) e in
+        unwritten refused-reads (λ n. omega (arith, n, status)) (λ n. omega (arith, n, status))
+        (λ a l. subst (λ bytes. IsExplainOutcome K cert bytes (plain_reply reply)) (opens.bytes a l)
+        (subst (λ m. IsReadExplained K cert (t.slot_of Trace).left m (plain_reply reply)) (sym (is.whole l)) e))
+
+  -- it was not read to its end
+  pub trace-breaks : traces.Fails told (wanted_of K) LIMITS t u → IsTraceStop told K cert trace s u stop.Fault
+  trace-breaks is = inl (opened-breaks told Trace trace s t u opens is.bytes is.reads)
+
+  pub trace-starves : IsNearHeader told (wanted_of K) LIMITS t u → IsTraceStop told K cert trace s u stop.Memory
+  trace-starves is = opened-reads told Trace trace s t u opens is.bytes is.reads

@@ -1,0 +1,179 @@
+//! The command `explain`.
+
+ghost use Rattle.std.specs.Prelude.{◌≡◌, ◌++◌, ◌<◌, ◌^◌, List, All, IfOk, IfErr, OnOk, OnErr, length};
+ghost use Rattle.ccsl_edge.specs.declared.slot.Slot.TheVariants.{Spec, Trace, CertOut};
+ghost use Rattle.ccsl_command.specs.declared.command.Command.TheVariants as command;
+ghost use Rattle.ccsl_kernel.specs.Lives.{Step};
+ghost use Rattle.ccsl_refute.specs.Below.{AreBelow};
+ghost use Rattle.ccsl_refute.specs.Writing.{lines_text, literals};
+ghost use Rattle.ccsl_state.specs.Held.{StandsFor};
+ghost use Rattle.ccsl_items.specs.Formulas.{item_formulas};
+ghost use Rattle.ccsl_report.specs.Texts.{explain_blocked_text};
+ghost use Rattle.ccsl_top.specs.Explain.{member_lines, cert_output};
+ghost use Rattle.ccsl_top.specs.Explaining.{AreMembers, file_of, WritesWhole, WritesBreak, IsWriteStop, BlockedAnswers, RunAnswers, IsRunStop, TraceAnswers, IsTraceStop};
+ghost use Rattle.ccsl_top.specs.Answered.{AnswersTo, StopsAt};
+
+use crate::files::{LIMITS, Stop};
+use crate::reply::{Reply, Status};
+use crate::specification::read_specification;
+use ccsl_base::{ClockSet, Memory};
+use ccsl_certify::{ReplayFault, Replayed, replay};
+use ccsl_edge::{Failed, Slot, World, write_all};
+use ccsl_explain::Explained;
+use ccsl_items::put_formulas;
+use ccsl_kernel::System;
+use ccsl_refute::laws::valid_lines_name_clocks;
+use ccsl_refute::{Line, write};
+use ccsl_report::{explain_blocked, explain_member, explain_no_run, explain_open, trace_refused};
+use ccsl_spec::Specification;
+use ccsl_state::States;
+use std::alloc::Global;
+
+// The report on items that block, and the least set without each of them.
+fn blocked_report(
+    alloc: Global,
+    system: &System,
+    steps: u64,
+    core: &[u32],
+    without: &[ClockSet],
+) -> Result<Vec<u8>, Memory>
+    requires few { length core.now < 2 ^ 32 }
+    requires members { AreMembers system.now core.now without.now }
+    ensures { IfOk result (λ report. report.items ≡
+        explain_blocked_text steps (length core.now) ++ member_lines system.now core.now without.now) }
+{
+    let mut report = explain_blocked(alloc, steps, core.len() as u32)?;
+    for (item, set) in core.iter().zip(without) {
+        report.extend_from_slice(&explain_member(alloc, *item, set, system)?)?;
+    }
+    Ok(report)
+}
+
+// Writes a certificate under a name, by one call.
+fn write_certificate<W: World>(world: &mut W, cert: &str, text: &[u8]) -> Result<(), Failed>
+    requires { W.allows CertOut cert.now }
+    ensures whole { OnOk result (WritesWhole W.told (file_of cert.now text.now) (W.state world.old) (W.state world.new)) }
+    ensures breaks { OnErr result (WritesBreak W.told (file_of cert.now text.now) (W.state world.old) (W.state world.new)) }
+{
+    world.open_out(Slot::CertOut, cert)?;
+    write_all(world, Slot::CertOut, text)?;
+    world.close_out(Slot::CertOut)
+}
+
+// The certificate of some lines is written. All memory is taken before it is opened.
+fn answer_blocked<W: World>(
+    alloc: Global,
+    world: &mut W,
+    system: &System,
+    cert: &str,
+    report: Vec<u8>,
+    lines: &[Line],
+) -> Result<Reply, Stop>
+    requires allowed { W.allows CertOut cert.now }
+    requires below { All (λ line. AreBelow (length system.now.names) (literals line)) lines.now }
+    ensures answers { IfOk result (λ reply. BlockedAnswers W.told (cert_output system.now cert.now lines.now) report.items
+        reply (W.state world.old) (W.state world.new)) }
+    ensures stop { IfErr result (λ stop. IsWriteStop W.told (cert_output system.now cert.now lines.now)
+        (W.state world.old) (W.state world.new) stop) }
+{
+    let text = write(alloc, lines, system.names())?;
+    write_certificate(world, cert, &text)?;
+    Ok(Reply {
+        status: Status::Done,
+        line: report,
+    })
+}
+
+// Explains what follows a run of so many steps.
+fn explain_run<W: World>(
+    alloc: Global,
+    world: &mut W,
+    system: &System,
+    cert: &str,
+    steps: u64,
+    states: &States<'_>,
+) -> Result<Reply, Stop>
+    requires allowed { W.allows CertOut cert.now }
+    requires system { states.now.system ≡ system.now }
+    ensures answers { IfOk result (λ reply. (T : List Step) → StandsFor states.now T →
+        RunAnswers W.told system.now cert.now steps (item_formulas system.now T) (W.state world.old) (W.state world.new) reply) }
+    ensures stop { IfErr result (λ stop. (T : List Step) → StandsFor states.now T →
+        IsRunStop W.told system.now cert.now (item_formulas system.now T) (W.state world.old) (W.state world.new) stop) }
+{
+    valid_lines_name_clocks();
+    let mut formulas = Vec::new(alloc);
+    put_formulas(alloc, system, states, &mut formulas)?;
+    match ccsl_explain::explain(alloc, &formulas, &system.scope())? {
+        Explained::Open(_set) => Ok(Reply {
+            status: Status::No,
+            line: explain_open(alloc, steps)?,
+        }),
+        Explained::Blocked {
+            core,
+            lines,
+            without,
+        } => {
+            let report = blocked_report(alloc, system, steps, core.members(), without.members())?;
+            answer_blocked(alloc, world, system, cert, report, lines.members())
+        }
+    }
+}
+
+// Explains what follows the trace of a name, against a system.
+fn explain_trace<W: World>(
+    alloc: Global,
+    world: &mut W,
+    system: &System,
+    trace: &str,
+    cert: &str,
+) -> Result<Reply, Stop>
+    requires trace { W.allows Trace trace.now }
+    requires cert { W.allows CertOut cert.now }
+    ensures answers { IfOk result (λ reply. TraceAnswers W.told system.now cert.now trace.now
+        (W.state world.old) (W.state world.new) reply) }
+    ensures stop { IfErr result (λ stop. IsTraceStop W.told system.now cert.now trace.now
+        (W.state world.old) (W.state world.new) stop) }
+{
+    world.open_in(Slot::Trace, trace)?;
+    match replay(alloc, world, system, &LIMITS) {
+        Ok(Replayed::Run { steps, states }) => {
+            explain_run(alloc, world, system, cert, steps, &states)
+        }
+        Ok(Replayed::NotRun { step, time, item }) => Ok(Reply {
+            status: Status::No,
+            line: explain_no_run(alloc, step, time, item, system)?,
+        }),
+        Err(ReplayFault::Refused(fault)) => Ok(Reply {
+            status: Status::FileRefused,
+            line: trace_refused(alloc, &fault, system)?,
+        }),
+        Err(ReplayFault::Fault) => Err(Stop::Fault),
+        Err(ReplayFault::Memory) => Err(Stop::Memory),
+    }
+}
+
+/// Says which items block every step behind the trace of a name, against the specification of a name, and writes a certificate that
+/// cites no other item. It is opened only where items block.
+pub(crate) fn explain<W: World>(
+    alloc: Global,
+    world: &mut W,
+    spec: &str,
+    trace: &str,
+    cert: &str,
+) -> Result<Reply, Stop>
+    requires spec { W.allows Spec spec.now }
+    requires trace { W.allows Trace trace.now }
+    requires cert { W.allows CertOut cert.now }
+    ensures answers { IfOk result (λ reply. AnswersTo W.told
+        (command.Explain spec.now trace.now cert.now) reply (W.state world.old) (W.state world.new)) }
+    ensures stop { IfErr result (λ stop. StopsAt W.told
+        (command.Explain spec.now trace.now cert.now) stop (W.state world.old) (W.state world.new)) }
+{
+    match read_specification(alloc, world, spec)? {
+        Specification::Accepted(system) => explain_trace(alloc, world, &system, trace, cert),
+        Specification::Refused(line) => Ok(Reply {
+            status: Status::SpecRefused,
+            line,
+        }),
+    }
+}
