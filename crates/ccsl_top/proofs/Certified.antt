@@ -72,12 +72,13 @@ module _ (declared : ℕ) (lines : List Line) where
   hints-below : (n : ℕ) → length lines < n → (p : Part) (hints : List ℕ) → closes declared lines p hints ≡ true → AllBelow n hints
   hints-below n few p [] e = tt
   hints-below n few p (j ∷ []) e = let l = fails-below p j e in (omega (arith, l, few), tt)
-  hints-below n few p (j ∷ k ∷ js) e = of-unit (unit_at declared lines p j) refl e
+  hints-below n few p (j ∷ k ∷ js) e = of-unit (unit_at declared lines p j) refl e (λ q h. hints-below n few q (k ∷ js) h)
     where
       of-unit : (found : Option Lit) → unit_at declared lines p j ≡ found →
-          (elim found as (λ o. Bool) [ None ↦ false | Some l ↦ closes declared lines (with_value p l.clock l.positive) (k ∷ js) ]) ≡ true → AllBelow n (j ∷ k ∷ js)
-      of-unit None is e = both-ways false e refl
-      of-unit (Some l) is e = let b = unit-below p j l is in (omega (arith, b, few), hints-below n few (with_value p l.clock l.positive) (k ∷ js) e)
+          (elim found as (λ o. Bool) [ None ↦ false | Some l ↦ closes declared lines (with_value p l.clock l.positive) (k ∷ js) ]) ≡ true →
+          ((q : Part) → closes declared lines q (k ∷ js) ≡ true → AllBelow n (k ∷ js)) → AllBelow n (j ∷ k ∷ js)
+      of-unit None is e rest = both-ways false e refl
+      of-unit (Some l) is e rest = let b = unit-below p j l is in (omega (arith, b, few), rest (with_value p l.clock l.positive) e)
 
 item-below : (formulas : List Formula) (item : ℕ) (lits : List Lit) → refutes_item formulas item lits ≡ true → item < length formulas
 item-below formulas item lits e = of-formula (slice_get formulas item) refl e
@@ -125,7 +126,7 @@ formulas-count K T = length-map (steps 0 (item_count K)) (item_formula K T (leng
 module _ (none-bad : NoBadLine)
     (named : (scope : Scope) (formulas : List Formula) (lines : List Line) → are_valid scope formulas lines ≡ true → All (λ line. AreBelow scope.named (literals line)) lines)
     (back : (names : List (List ℕ)) (lines : List Line) → are_distinct names ≡ true → are_cert_names names ≡ true →
-        All (λ line. AreBelow (length names) (literals line)) lines → All NumbersFit lines → certificates.reading names (lines_text names lines) ≡ Ok lines)
+    All (λ line. AreBelow (length names) (literals line)) lines → All NumbersFit lines → certificates.reading names (lines_text names lines) ≡ Ok lines)
     (K : System) (ok : IsAccepted K) (distinct : are_distinct K.names ≡ true) (spelled : are_cert_names K.names ≡ true) where
   module _ (formulas : List Formula) (count : length formulas ≡ item_count K) (lines : List Line) (valid : is_certificate (scope_of K) formulas lines ≡ true)
       (short : length (lines_text K.names lines) ≤ MAX_FILE_BYTES) where

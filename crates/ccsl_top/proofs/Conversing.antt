@@ -271,8 +271,11 @@ module _ (told : Told) (words : List (List ℕ)) (K : System) (policy : Policy) 
     module _ (h : HasEnded told K policy seed MAX_FILE_BYTES begun now TooLong) where
       pub long-starved : Headline told words 6 start now
       long-starved = starved now h.text (ended-talk TooLong h) (ended-counts TooLong h)
-          (λ l. (length h.text, sym (take-append-le (length h.text) h.text session_too_long_text (le_refl (length h.text)) ∙ take_all (length h.text) h.text (le_refl (length h.text)))
-          ∙ ap (λ o. take (length h.text) o.report) (as-defined TooLong h l)))
+          (λ l. (
+            length h.text,
+            sym (take-append-le (length h.text) h.text session_too_long_text (le_refl (length h.text)) ∙ take_all (length h.text) h.text (le_refl (length h.text)))
+                ∙ ap (λ o. take (length h.text) o.report) (as-defined TooLong h l),
+          ))
 
       module _ (new : State) (line : List ℕ) (line_is : line ≡ session_too_long_text) where
         pub long-reported : Adds told Report line now new → Headline told words 4 start new
@@ -291,5 +294,8 @@ module _ (told : Told) (words : List (List ℕ)) (K : System) (policy : Policy) 
         long-unreported front = faulted new (h.text ++ take front.count line)
             (talk-more told start now new h.text (take front.count line) (ended-talk TooLong h) front.only front.here front.rose.0 front.front)
             (by_report (subst (λ n. Rose n (new.slot_of Report).faults) (ended-counts TooLong h Report) front.rose))
-            (λ l. (length h.text + front.count, sym (take-append-add h.text line front.count)
-            ∙ ap (λ x. take (length h.text + front.count) (h.text ++ x)) line_is ∙ ap (λ o. take (length h.text + front.count) o.report) (as-defined TooLong h l)))
+            (λ l. (
+              length h.text + front.count,
+              sym (take-append-add h.text line front.count)
+                  ∙ ap (λ x. take (length h.text + front.count) (h.text ++ x)) line_is ∙ ap (λ o. take (length h.text + front.count) o.report) (as-defined TooLong h l),
+            ))

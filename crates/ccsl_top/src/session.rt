@@ -13,8 +13,8 @@ ghost use Rattle.ccsl_session.specs.Session.{HasEnded};
 ghost use Rattle.ccsl_top.specs.Conversing.{Begins};
 ghost use Rattle.ccsl_top.specs.Headline.{Headline};
 
-use crate::report::report;
 use crate::reply::{Reply, Status};
+use crate::report::report;
 use crate::simulate::policy_named;
 use crate::specification::read_specification;
 use ccsl_base::{MAX_FILE_BYTES, Memory};
