@@ -1,8 +1,8 @@
 -- Commands that read a specification first: its refusal, and what is answered behind it.
-use Rattle.std.proofs.Common.{◌≡◌, ◌≢◌, ◌⊎◌, ℕ, List, [], ◌∷◌, Bool, true, false, ◌||◌, Result, Ok, Err, IsTrue, inl, inr, ⊎_elim, refl, sym, ap, ◌∙◌, subst, arith}
+use Rattle.std.proofs.Common.{◌≡◌, ◌≢◌, ℕ, List, ◌∷◌, Bool, true, false, ◌||◌, Result, Ok, Err, IsTrue, refl, sym, ap, ◌∙◌, subst, arith}
 use Rattle.ccsl_edge.specs.declared.slot.Slot.{Slot}
 use Rattle.ccsl_edge.specs.declared.slot.Slot.TheVariants.{Spec, Trace, CertOut}
-use Rattle.ccsl_edge.specs.World.{State, SlotState, Told, held, file_at}
+use Rattle.ccsl_edge.specs.World.{State, Told, held, file_at}
 use Rattle.ccsl_command.specs.declared.command.Command.{Command}
 use Rattle.ccsl_command.specs.declared.usage.Usage.{Usage}
 use Rattle.ccsl_command.specs.declared.command.Command.TheVariants as command
@@ -15,14 +15,14 @@ use Rattle.ccsl_top.specs.declared.files.Stop.TheVariants.{Fault, Memory}
 use Rattle.ccsl_top.specs.declared.reply.Reply.{Reply}
 use Rattle.ccsl_top.specs.declared.reply.Status.TheVariants.{Done, SpecRefused}
 use Rattle.ccsl_top.specs.Outcome.{Outcome, outcome}
-use Rattle.ccsl_top.specs.Program.{IsSpecOutcome, refused, accepted, IsOutcome, IsOutcomeOf, usage_outcome}
+use Rattle.ccsl_top.specs.Program.{IsSpecOutcome, refused, accepted, IsOutcome, IsOutcomeOf}
 use Rattle.ccsl_top.specs.Opening.{opens, is_slot}
 use Rattle.ccsl_top.specs.Effects.{RoseAt, Uses, Reads}
 use Rattle.ccsl_top.specs.Reading.{only, Breaks, IsStop}
-use Rattle.ccsl_top.specs.Headline.{input_of, FaultCause, by_spec, by_file, IsBarelyRead, unread, kept, untouched}
-use Rattle.ccsl_top.specs.Answered.{code_of, plain_reply, Leaves, Stands, Answered, Faulted, Starved, IsUnanswered, StopsAt}
+use Rattle.ccsl_top.specs.Headline.{input_of, by_spec, by_file, IsBarelyRead, unread, kept, untouched}
+use Rattle.ccsl_top.specs.Answered.{code_of, plain_reply, Leaves, Answered, Faulted, Starved, IsUnanswered, StopsAt}
 use Rattle.ccsl_top.proofs.Slots.{is_slot-self, is_slot-other, both-ways}
-use Rattle.ccsl_top.proofs.Effects.{either-false, uses-changed, uses-stay, uses-then, reads-then}
+use Rattle.ccsl_top.proofs.Effects.{uses-changed, uses-stay, uses-then}
 
 -- a specification of a name, and what stands in the list of opened files behind it
 abbrev pub with_spec : List ℕ → List Opened → List Opened

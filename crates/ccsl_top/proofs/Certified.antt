@@ -1,5 +1,5 @@
 -- A certificate that explains is one that `certify` accepts.
-use Rattle.std.proofs.Common.{◌≡◌, ℕ, zero, suc, ◌+◌, ◌<◌, ◌≤◌, ◌^◌, List, [], ◌∷◌, ◌++◌, length, Bool, true, false, ◌&&◌, Option, Some, None, Result, Ok, Err, All, slice_get, cond, refl, sym, ap, ◌∙◌, subst, arith, length-append}
+use Rattle.std.proofs.Common.{◌≡◌, ℕ, zero, suc, ◌+◌, ◌<◌, ◌≤◌, ◌^◌, List, [], ◌∷◌, ◌++◌, length, Bool, true, false, Option, Some, None, Ok, All, slice_get, cond, refl, sym, ap, ◌∙◌, subst, arith, length-append}
 use Rattle.std.specs.List.{AllByRecursion}
 use Rattle.std.proofs.lemmas.Bool.{and_parts, le-leb}
 use Rattle.std.proofs.lemmas.List.{length-map}
@@ -9,7 +9,7 @@ use Rattle.ccsl_base.specs.declared.rows.Row.{Row}
 use Rattle.ccsl_base.specs.Names.{are_distinct}
 use Rattle.ccsl_base.specs.Name.{are_cert_names}
 use Rattle.ccsl_formula.specs.declared.scope.Scope.{Scope}
-use Rattle.ccsl_formula.specs.Formula.{Formula, kleene}
+use Rattle.ccsl_formula.specs.Formula.{Formula}
 use Rattle.ccsl_formula.specs.Known.{with_value}
 use Rattle.ccsl_formula.specs.Truth.{Part}
 use Rattle.ccsl_kernel.specs.Syntax.{System, item_count}
@@ -21,11 +21,10 @@ use Rattle.ccsl_items.specs.Formulas.{item_formulas, scope_of}
 use Rattle.ccsl_refute.specs.declared.line.Lit.{Lit}
 use Rattle.ccsl_refute.specs.declared.line.Line.{Line}
 use Rattle.ccsl_refute.specs.declared.line.Line.TheVariants.{Nonempty, Item, Derived}
-use Rattle.ccsl_refute.specs.declared.fault.CertFault.{CertFault}
 use Rattle.ccsl_refute.specs.Literals.{falsified, are_proper}
 use Rattle.ccsl_refute.specs.Below.{AreBelow}
 use Rattle.ccsl_refute.specs.NumbersFit.{AllBelow, NumbersFit}
-use Rattle.ccsl_refute.specs.Validity.{line_at, fails_line, unit_line, fails_at, unit_at, closes, is_refuted, refutes_item, is_valid, valid_from, are_valid, ends_empty, is_certificate, clause}
+use Rattle.ccsl_refute.specs.Validity.{line_at, fails_line, unit_line, fails_at, unit_at, closes, is_refuted, refutes_item, is_valid, valid_from, are_valid, ends_empty, is_certificate}
 use Rattle.ccsl_refute.specs.Writing.{line_text, lines_text, literals}
 use Rattle.ccsl_refute.specs.Reading as certificates
 use Rattle.ccsl_certify.specs.declared.answer.CertVerdict.TheVariants.{Yes}
@@ -37,7 +36,7 @@ use Rattle.ccsl_report.specs.Texts.{cert_valid_text}
 use Rattle.ccsl_top.specs.Outcome.{Output, Outcome, outcome}
 use Rattle.ccsl_top.specs.Judge.{LIMITS, judged}
 use Rattle.ccsl_top.specs.Certify.{certify_outcome}
-use Rattle.ccsl_top.specs.Explain.{cert_output, blocked_outcome, IsRunExplained, possible, blocked, IsVerdictExplained, IsReadExplained, IsExplainOutcome}
+use Rattle.ccsl_top.specs.Explain.{cert_output, IsRunExplained, possible, blocked, IsVerdictExplained, IsReadExplained}
 use Rattle.ccsl_top.specs.Laws.{ExplanationsCertify}
 use Rattle.ccsl_top.proofs.Slots.{both-ways}
 use Rattle.ccsl_top.proofs.Members.{few-items}

@@ -1,5 +1,5 @@
 -- A trace and a certificate that were opened and checked.
-use Rattle.std.proofs.Common.{◌≡◌, ◌≢◌, ◌⊎◌, ℕ, ◌<◌, ◌≤◌, List, [], ◌∷◌, length, Bool, true, false, ◌||◌, nat_lt, cond, Option, Some, None, Result, Ok, Err, IfOk, IfErr, IsTrue, ⊎_elim, inl, inr, refl, sym, ap, ◌∙◌, subst, arith, lt-ltb, le-ltb}
+use Rattle.std.proofs.Common.{◌≡◌, ◌≢◌, ℕ, ◌<◌, ◌≤◌, List, [], ◌∷◌, length, Bool, true, false, ◌||◌, cond, Some, None, Result, Ok, Err, IfOk, IfErr, IsTrue, ⊎_elim, inl, inr, refl, sym, ap, ◌∙◌, subst, arith, lt-ltb, le-ltb}
 use Rattle.ccsl_base.specs.declared.limits.TheConstants.{MAX_FILE_BYTES}
 use Rattle.ccsl_base.specs.declared.rows.Row.{Row}
 use Rattle.ccsl_edge.specs.declared.slot.Slot.{Slot}
@@ -9,8 +9,6 @@ use Rattle.ccsl_edge.specs.Calls.{Fails, OpensIn, ReadsThenFails, ReadsAll}
 use Rattle.ccsl_edge.specs.Calls as edge
 use Rattle.ccsl_command.specs.declared.command.Command.{Command}
 use Rattle.ccsl_command.specs.declared.command.Command.TheVariants as command
-use Rattle.ccsl_command.specs.declared.usage.Usage.{Usage}
-use Rattle.ccsl_command.specs.Meaning.{meaning}
 use Rattle.ccsl_command.specs.Opened.{Opened}
 use Rattle.ccsl_kernel.specs.Syntax.{System}
 use Rattle.ccsl_kernel.specs.Verdict.{verdict}
@@ -27,14 +25,13 @@ use Rattle.ccsl_vcd.specs.declared.fault.VcdFault.{VcdFault}
 use Rattle.ccsl_vcd.specs.Reading.{reading}
 use Rattle.ccsl_vcd.specs.Rows.{recorded}
 use Rattle.ccsl_bind.specs.Collected.{wanted_of}
-use Rattle.ccsl_trace.specs.Traces.{IsRefused, IsNearHeader, IsReadBy, clocks_of}
-use Rattle.ccsl_trace.specs.Traces as traces
+use Rattle.ccsl_trace.specs.Traces.{clocks_of}
 use Rattle.ccsl_certify.specs.declared.answer.CertVerdict.{CertVerdict}
 use Rattle.ccsl_certify.specs.declared.answer.CertVerdict.TheVariants.{Yes, NotRun, BadLine}
 use Rattle.ccsl_certify.specs.declared.answer.CertifyFault.{CertifyFault}
 use Rattle.ccsl_certify.specs.declared.answer.CertifyFault.TheVariants as fault
 use Rattle.ccsl_certify.specs.Replaying.{IsTrace}
-use Rattle.ccsl_certify.specs.Certified.{Answers, AreRead, IsCertified, IsUncertified, ReadsTraceAlone, DoesNotRead}
+use Rattle.ccsl_certify.specs.Certified.{Answers, IsCertified, IsUncertified}
 use Rattle.ccsl_report.specs.Texts.{trace_text, cert_text, cert_too_long_text}
 use Rattle.ccsl_top.specs.declared.files.Stop.{Stop}
 use Rattle.ccsl_top.specs.declared.files.Stop.TheVariants as stop
@@ -42,10 +39,10 @@ use Rattle.ccsl_top.specs.declared.reply.Reply.{Reply}
 use Rattle.ccsl_top.specs.Outcome.{Outcome, outcome}
 use Rattle.ccsl_top.specs.Opening.{is_slot, opens}
 use Rattle.ccsl_top.specs.Judge.{LIMITS}
-use Rattle.ccsl_top.specs.Certify.{bad_line, lines_outcome, rows_outcome, text_outcome, cert_outcome, certify_behind, certify_outcome}
-use Rattle.ccsl_top.specs.Effects.{RoseAt, Uses, Reads}
+use Rattle.ccsl_top.specs.Certify.{lines_outcome, rows_outcome, text_outcome, certify_behind, certify_outcome}
+use Rattle.ccsl_top.specs.Effects.{Uses, Reads}
 use Rattle.ccsl_top.specs.Reading.{only, Breaks}
-use Rattle.ccsl_top.specs.Answered.{code_of, plain_reply, AnswersTo, StopsAt}
+use Rattle.ccsl_top.specs.Answered.{AnswersTo, StopsAt}
 use Rattle.ccsl_top.specs.Certifying.{HasItem, verdict_outcome, Gives, IsReplyOn, both, CertifyAnswers, BothBreak, IsBothStop}
 use Rattle.ccsl_top.proofs.Slots.{both-ways, is_slot-same, is_slot-differs}
 use Rattle.ccsl_top.proofs.Effects.{by-test, uses-changed, uses-rises, uses-then, reads-then, reads-only, breaks-only}

@@ -1,6 +1,5 @@
 -- Answers that open no file.
-use Rattle.std.proofs.Common.{◌≡◌, ◌≢◌, List, Bool, true, false, Result, Ok, Err, IfOk, IfErr, OnOk, refl, sym, ap, ◌∙◌, subst, arith, ℕ}
-use Rattle.ccsl_edge.specs.declared.slot.Slot.{Slot}
+use Rattle.std.proofs.Common.{◌≡◌, ◌≢◌, List, false, Result, Ok, Err, IfOk, IfErr, OnOk, refl, sym, ap, ◌∙◌, subst, ℕ}
 use Rattle.ccsl_words.specs.Word.{BinaryWord}
 use Rattle.ccsl_edge.specs.World.{State, Told, held}
 use Rattle.ccsl_command.specs.declared.command.Command.{Command}
@@ -13,12 +12,11 @@ use Rattle.ccsl_command.specs.Opened.{files_opened}
 use Rattle.ccsl_top.specs.declared.files.Stop.{Stop}
 use Rattle.ccsl_top.specs.declared.files.Stop.TheVariants.{Memory}
 use Rattle.ccsl_top.specs.declared.reply.Reply.{Reply}
-use Rattle.ccsl_top.specs.Outcome.{Outcome}
 use Rattle.ccsl_top.specs.Trial.{trial_outcome}
 use Rattle.ccsl_top.specs.Periodic.{IsPeriodicOutcome}
 use Rattle.ccsl_top.specs.Program.{IsOutcome, IsOutcomeOf, usage_outcome}
 use Rattle.ccsl_top.specs.Headline.{input_of, kept, untouched, unread}
-use Rattle.ccsl_top.specs.Answered.{plain_reply, Leaves, Stands, Answered, Starved, IsUnanswered, AnswersTo, StopsAt}
+use Rattle.ccsl_top.specs.Answered.{plain_reply, Leaves, Answered, Starved, IsUnanswered, AnswersTo, StopsAt}
 use Rattle.ccsl_top.proofs.Slots.{both-ways}
 use Rattle.ccsl_top.proofs.Effects.{reads-none, uses-stay}
 

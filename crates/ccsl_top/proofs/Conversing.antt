@@ -1,11 +1,11 @@
 -- A session, as an answer to words that mean it.
-use Rattle.std.proofs.Common.{◌≡◌, ◌≢◌, ◌⊎◌, ℕ, ◌+◌, ◌<◌, ◌≤◌, List, [], ◌∷◌, ◌++◌, length, take, Bool, true, false, ◌||◌, ◌&&◌, Result, Ok, Err, IsTrue, ⊎_elim, inl, inr, refl, sym, ap, ◌∙◌, subst, arith, append_assoc, append-nil, take_all, le_refl}
+use Rattle.std.proofs.Common.{◌≡◌, ◌≢◌, ◌⊎◌, ℕ, ◌+◌, ◌<◌, ◌≤◌, List, [], ◌++◌, length, take, true, false, ◌||◌, ◌&&◌, Result, Ok, Err, IsTrue, ⊎_elim, inl, inr, refl, sym, ap, ◌∙◌, subst, arith, append_assoc, take_all, le_refl}
 use Rattle.std.proofs.lemmas.Bool.{cases_lt}
 use Rattle.std.proofs.lemmas.List.{take-append-le}
 use Rattle.std.proofs.Math.Seq.{take-append-add}
 use Rattle.ccsl_base.specs.declared.limits.TheConstants.{MAX_FILE_BYTES}
 use Rattle.ccsl_edge.specs.declared.slot.Slot.{Slot}
-use Rattle.ccsl_edge.specs.declared.slot.Slot.TheVariants.{Spec, Input, Report, TraceOut, CertOut}
+use Rattle.ccsl_edge.specs.declared.slot.Slot.TheVariants.{Spec, Input, Report}
 use Rattle.ccsl_edge.specs.World.{State, SlotState, Told, Rose, held, file_at}
 use Rattle.ccsl_edge.specs.Calls.{ChangesOnly, Adds, AddsFront}
 use Rattle.ccsl_command.specs.declared.command.Command.{Command}
@@ -17,17 +17,14 @@ use Rattle.ccsl_kernel.specs.Syntax.{System}
 use Rattle.ccsl_policy.specs.declared.policies.Policy.{Policy}
 use Rattle.ccsl_session.specs.declared.answer.Ended.{Ended}
 use Rattle.ccsl_session.specs.declared.answer.Ended.TheVariants.{Quit, EndOfInput, TooLong}
-use Rattle.ccsl_session.specs.declared.answer.SessionFault.{SessionFault}
 use Rattle.ccsl_session.specs.declared.answer.SessionFault.TheVariants as faults
 use Rattle.ccsl_session.specs.Session.{session_text, ended_by, Says, HasEnded, SameCounts, IsCut}
-use Rattle.ccsl_session.specs.Session as sessions
 use Rattle.ccsl_report.specs.Texts.{session_too_long_text}
 use Rattle.ccsl_top.specs.Outcome.{Outcome}
 use Rattle.ccsl_top.specs.Converse.{conversed, session_outcome}
 use Rattle.ccsl_top.specs.Simulate.{named_policy}
-use Rattle.ccsl_top.specs.Opening.{opens, uses, is_slot, is_output, is_session}
+use Rattle.ccsl_top.specs.Opening.{opens, uses, is_slot, is_session}
 use Rattle.ccsl_top.specs.Program.{IsOutcome, accepted}
-use Rattle.ccsl_top.specs.Effects.{RoseAt}
 use Rattle.ccsl_top.specs.Reading.{only}
 use Rattle.ccsl_top.specs.Headline.{Headline, Answers, ReportsFront, ReportGrows, AreHeld, FaultCause, by_report, by_input, input_of, kept, untouched}
 use Rattle.ccsl_top.specs.Conversing.{Begins}

@@ -1,7 +1,7 @@
 -- Uses of slots, one after the other.
-use Rattle.std.proofs.Common.{◌≡◌, ◌≢◌, ℕ, ◌≤◌, List, Bool, true, false, ◌||◌, refl, sym, ap, ◌∙◌, subst, arith}
+use Rattle.std.proofs.Common.{◌≡◌, ◌≢◌, ◌≤◌, List, Bool, true, false, ◌||◌, refl, sym, ap, ◌∙◌, subst, arith}
 use Rattle.ccsl_edge.specs.declared.slot.Slot.{Slot}
-use Rattle.ccsl_edge.specs.World.{State, SlotState, Told, Rose, file_at}
+use Rattle.ccsl_edge.specs.World.{State, SlotState, Told, file_at}
 use Rattle.ccsl_edge.specs.Calls.{ChangesOnly}
 use Rattle.ccsl_command.specs.Opened.{Opened}
 use Rattle.ccsl_top.specs.Opening.{is_slot, is_output}

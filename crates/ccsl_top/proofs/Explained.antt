@@ -1,16 +1,14 @@
 -- The command `explain`, as an answer to words that mean it.
-use Rattle.std.proofs.Common.{◌≡◌, ◌≢◌, ◌⊎◌, ℕ, ◌≤◌, List, [], ◌∷◌, Bool, true, false, ◌||◌, Result, Ok, Err, IfOk, IfErr, IsTrue, ⊎_elim, inl, inr, refl, sym, ap, ◌∙◌, subst, arith, bytes_eq}
+use Rattle.std.proofs.Common.{◌≡◌, ◌≢◌, ℕ, ◌≤◌, List, [], ◌∷◌, Bool, true, false, ◌||◌, Result, Ok, Err, IfOk, IfErr, IsTrue, ⊎_elim, inr, refl, sym, ap, ◌∙◌, subst, arith, bytes_eq}
 use Rattle.ccsl_edge.specs.declared.slot.Slot.{Slot}
 use Rattle.ccsl_edge.specs.declared.slot.Slot.TheVariants.{Spec, Trace, TraceOut, CertOut}
 use Rattle.ccsl_edge.specs.World.{State, Told, Rose, held, file_at}
 use Rattle.ccsl_command.specs.declared.command.Command.{Command}
 use Rattle.ccsl_command.specs.declared.command.Command.TheVariants as command
-use Rattle.ccsl_command.specs.declared.usage.Usage.{Usage}
 use Rattle.ccsl_command.specs.Meaning.{meaning}
 use Rattle.ccsl_command.specs.Opened.{Opened, files_meant, files_opened}
 use Rattle.ccsl_kernel.specs.Syntax.{System}
 use Rattle.ccsl_spec.specs.Specifications.{IsSystemOf}
-use Rattle.ccsl_refute.specs.declared.line.Line.{Line}
 use Rattle.ccsl_top.specs.declared.files.Stop.{Stop}
 use Rattle.ccsl_top.specs.declared.files.Stop.TheVariants as stop
 use Rattle.ccsl_top.specs.declared.reply.Reply.{Reply}
@@ -19,11 +17,11 @@ use Rattle.ccsl_top.specs.Opening.{opens, writes, is_slot, is_output}
 use Rattle.ccsl_top.specs.Program.{accepted}
 use Rattle.ccsl_top.specs.Explain.{cert_output, blocked_outcome, IsExplainOutcome}
 use Rattle.ccsl_top.specs.Effects.{Reads, Stays}
-use Rattle.ccsl_top.specs.Reading.{only, Breaks}
-use Rattle.ccsl_top.specs.Headline.{input_of, FaultCause, IsDefinedOutput, IsFrontOn, by_file, untouched}
+use Rattle.ccsl_top.specs.Reading.{only}
+use Rattle.ccsl_top.specs.Headline.{input_of, IsDefinedOutput, IsFrontOn, by_file, untouched}
 use Rattle.ccsl_top.specs.Answered.{code_of, plain_reply, Leaves, Answered, Faulted, IsUnanswered, AnswersTo, StopsAt}
 use Rattle.ccsl_top.specs.Explaining.{WritesSome, WritesWhole, WritesBreak, IsBlocked, TraceAnswers, unwritten, written, IsTraceStop}
-use Rattle.ccsl_top.proofs.Slots.{both-ways, is_slot-same, is_slot-self, is_slot-differs, output-differs}
+use Rattle.ccsl_top.proofs.Slots.{both-ways, is_slot-same, is_slot-self, is_slot-differs}
 use Rattle.ccsl_top.proofs.Effects.{by-test, either-false, other-false, uses-changed, uses-rises, reads-then}
 use Rattle.ccsl_top.proofs.Outputs.{whole-moves, front-moves}
 use Rattle.ccsl_top.proofs.Behind.{is-outcome, not-refused, read-answered, read-faulted, read-starved}

@@ -1,5 +1,5 @@
 -- The program's promise, from what was done and what was reported.
-use Rattle.std.proofs.Common.{◌≡◌, ◌≢◌, ◌⊎◌, ℕ, ◌<◌, ◌≤◌, List, ◌++◌, take, Bool, false, ◌&&◌, IsTrue, ⊎_elim, inl, inr, refl, sym, ap, ◌∙◌, subst, arith}
+use Rattle.std.proofs.Common.{◌≡◌, ◌≢◌, ◌⊎◌, ℕ, ◌<◌, ◌≤◌, List, ◌++◌, take, false, ◌&&◌, ⊎_elim, inl, inr, refl, sym, ap, ◌∙◌, subst, arith}
 use Rattle.ccsl_edge.specs.declared.slot.Slot.{Slot}
 use Rattle.ccsl_edge.specs.declared.slot.Slot.TheVariants.{Input, Report, CertOut}
 use Rattle.ccsl_edge.specs.World.{State, SlotState, Told, file_at, risen}
@@ -7,12 +7,10 @@ use Rattle.ccsl_edge.specs.Calls.{Adds, AddsFront}
 use Rattle.ccsl_top.specs.declared.reply.Status.{Status}
 use Rattle.ccsl_top.specs.declared.reply.Status.TheVariants.{Done, No, WordsRefused, SpecRefused, FileRefused, Deadlock}
 use Rattle.ccsl_top.specs.declared.reply.Reply.{Reply}
-use Rattle.ccsl_top.specs.Outcome.{Outcome}
 use Rattle.ccsl_command.specs.Meaning.{meaning}
 use Rattle.ccsl_command.specs.Opened.{files_opened}
 use Rattle.ccsl_top.specs.Opening.{is_slot, opens, uses, is_session}
-use Rattle.ccsl_top.specs.Program.{usage_outcome}
-use Rattle.ccsl_top.specs.Answered.{code_of, plain_reply, Answered, Faulted, Starved, IsUnanswered}
+use Rattle.ccsl_top.specs.Answered.{code_of, Answered, Faulted, Starved, IsUnanswered}
 use Rattle.ccsl_top.specs.declared.files.Stop.{Stop}
 use Rattle.ccsl_top.specs.declared.files.Stop.TheVariants.{Fault, Memory}
 use Rattle.ccsl_top.specs.Stopping.{stop_code}

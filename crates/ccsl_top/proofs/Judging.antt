@@ -1,17 +1,15 @@
 -- A trace that was opened and judged.
-use Rattle.std.proofs.Common.{◌≡◌, ◌≢◌, ◌⊎◌, ℕ, ◌<◌, ◌≤◌, List, [], ◌∷◌, ◌++◌, length, Bool, true, false, ◌||◌, Some, None, Result, Ok, Err, IfOk, IfErr, IsTrue, ⊎_elim, inl, inr, refl, sym, ap, ◌∙◌, subst}
+use Rattle.std.proofs.Common.{◌≡◌, ◌≢◌, ◌⊎◌, ℕ, List, [], ◌∷◌, true, false, Result, Ok, Err, IfOk, IfErr, IsTrue, ⊎_elim, inr, refl, sym, ap, ◌∙◌, subst}
 use Rattle.ccsl_edge.specs.declared.slot.Slot.{Slot}
 use Rattle.ccsl_edge.specs.declared.slot.Slot.TheVariants.{Spec, Trace}
 use Rattle.ccsl_edge.specs.World.{State, Told, held}
 use Rattle.ccsl_edge.specs.Calls.{OpensIn}
-use Rattle.ccsl_edge.specs.Calls as edge
 use Rattle.ccsl_command.specs.declared.command.Command.{Command}
 use Rattle.ccsl_command.specs.declared.command.Command.TheVariants as command
 use Rattle.ccsl_command.specs.Opened.{Opened}
 use Rattle.ccsl_kernel.specs.Syntax.{System}
 use Rattle.ccsl_spec.specs.Specifications.{IsSystemOf}
 use Rattle.ccsl_vcd.specs.declared.fault.VcdFault.{VcdFault}
-use Rattle.ccsl_vcd.specs.Reading.{reading}
 use Rattle.ccsl_bind.specs.Collected.{wanted_of}
 use Rattle.ccsl_trace.specs.Traces.{IsRefused, IsNearHeader, Fails}
 use Rattle.ccsl_judge.specs.declared.verdict.Verdict.{Verdict}
@@ -27,7 +25,7 @@ use Rattle.ccsl_top.specs.declared.reply.Reply.{Reply}
 use Rattle.ccsl_top.specs.Opening.{is_slot, opens}
 use Rattle.ccsl_top.specs.Headline.{IsNear, IsBarelyRead, unread, hardly}
 use Rattle.ccsl_top.specs.Judging.{StarvesAt, IsTraceStop}
-use Rattle.ccsl_top.specs.Answered.{plain_reply, AnswersTo, StopsAt, IsUnanswered}
+use Rattle.ccsl_top.specs.Answered.{plain_reply, AnswersTo, StopsAt}
 use Rattle.ccsl_top.proofs.Slots.{is_slot-self}
 use Rattle.ccsl_top.proofs.Opened.{opened-reads, opened-breaks, opened-taken}
 use Rattle.ccsl_top.proofs.Behind.{first-opens, read-answered, read-faulted, read-starved}

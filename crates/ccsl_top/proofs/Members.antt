@@ -1,5 +1,5 @@
 -- The members of a core: how many they are, and the lines on them.
-use Rattle.std.proofs.Common.{◌≡◌, ◌⊎◌, ℕ, suc, ◌+◌, ◌<◌, ◌≤◌, ◌^◌, List, [], ◌∷◌, ◌++◌, length, Bool, true, false, ◌&&◌, All, nat_lt, inl, inr, refl, sym, ap, ◌∙◌, subst, arith, append_assoc, append-nil, ltb-true}
+use Rattle.std.proofs.Common.{◌≡◌, ◌⊎◌, ℕ, suc, ◌+◌, ◌<◌, ◌≤◌, ◌^◌, List, [], ◌∷◌, ◌++◌, length, Bool, true, false, ◌&&◌, nat_lt, inl, inr, refl, sym, ◌∙◌, subst, arith, append-nil, ltb-true}
 use Rattle.std.specs.List.{AllByRecursion, list_all}
 use Rattle.std.proofs.lemmas.List.Elements.{recursion_from_All}
 use Rattle.ccsl_base.specs.Clocks.{is_ascending}
@@ -10,7 +10,6 @@ use Rattle.ccsl_kernel.specs.Accepted.{IsAccepted}
 use Rattle.ccsl_items.specs.Formulas.{scope_of}
 use Rattle.ccsl_explain.specs.Core.{IsCore}
 use Rattle.ccsl_explain.specs.Explained.{AreLeast}
-use Rattle.ccsl_report.specs.Texts.{explain_member_text}
 use Rattle.ccsl_top.specs.Explain.{member_lines}
 use Rattle.ccsl_top.specs.Explaining.{AreMembers}
 use Rattle.ccsl_top.proofs.Slots.{both-ways}
@@ -72,15 +71,8 @@ module _ (K : System) (ok : IsAccepted K) where
           of-each is sets h.1 l.1,
         )
 
--- THE LINES on the members
+-- no line is left
 module _ (K : System) where
-  -- the line of the next member
-  pub members-step : (text head line all : List ℕ) (i : ℕ) (is : List ℕ) (s : List ℕ) (sets : List (List ℕ)) → line ≡ explain_member_text i s K →
-      text ++ member_lines K (i ∷ is) (s ∷ sets) ≡ all → (text ++ line) ++ member_lines K is sets ≡ all
-  members-step text head line all i is s sets e so_far =
-      append_assoc text line (member_lines K is sets) ∙ ap (λ l. text ++ (l ++ member_lines K is sets)) e ∙ so_far
-
-  -- and the end
   pub members-end : (text all : List ℕ) (is : List ℕ) (sets : List (List ℕ)) → (length is ≡ 0) ⊎ (length sets ≡ 0) →
       text ++ member_lines K is sets ≡ all → text ≡ all
   members-end text all [] sets h e = sym (append-nil text) ∙ e

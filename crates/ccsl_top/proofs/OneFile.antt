@@ -1,11 +1,11 @@
 -- A certificate that is opened, written and closed.
-use Rattle.std.proofs.Common.{◌≡◌, ◌≢◌, ℕ, ◌≤◌, List, [], ◌++◌, length, take, Some, IsTrue, inl, inr, refl, sym, ap, ◌∙◌, subst, arith, take_all, le_refl}
+use Rattle.std.proofs.Common.{◌≡◌, ◌≢◌, ℕ, ◌≤◌, List, ◌++◌, length, take, IsTrue, refl, sym, ap, ◌∙◌, subst, arith, take_all, le_refl}
 use Rattle.ccsl_edge.specs.declared.slot.Slot.{Slot}
 use Rattle.ccsl_edge.specs.declared.slot.Slot.TheVariants.{CertOut}
 use Rattle.ccsl_edge.specs.World.{State, Told, Rose, Stores, file_at}
 use Rattle.ccsl_edge.specs.Calls.{Fails, OpensOut, Adds, AddsFront, Closes}
 use Rattle.ccsl_top.specs.Outcome.{Output}
-use Rattle.ccsl_top.specs.Headline.{IsKeptOrWhole, kept, whole, IsFrontOn, untouched, nothing, part}
+use Rattle.ccsl_top.specs.Headline.{IsKeptOrWhole, kept, whole, IsFrontOn, untouched, part}
 use Rattle.ccsl_top.specs.Explaining.{file_of, IsThis, WritesSome, WritesWhole, WritesBreak}
 use Rattle.ccsl_top.proofs.Writing.{by-name}
 

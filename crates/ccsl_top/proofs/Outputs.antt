@@ -1,5 +1,5 @@
 -- Files and slots that hold what is defined for them, after other calls.
-use Rattle.std.proofs.Common.{◌≡◌, ℕ, List, [], take, Some, sym, ap, ◌∙◌}
+use Rattle.std.proofs.Common.{◌≡◌, ℕ, List, sym, ◌∙◌}
 use Rattle.ccsl_edge.specs.declared.slot.Slot.{Slot}
 use Rattle.ccsl_edge.specs.World.{State, file_at}
 use Rattle.ccsl_top.specs.Outcome.{Output}

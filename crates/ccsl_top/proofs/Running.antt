@@ -1,5 +1,5 @@
 -- What is explained behind a run, and behind a trace.
-use Rattle.std.proofs.Common.{◌≡◌, ◌≢◌, ◌⊎◌, ℕ, List, ◌++◌, length, Some, None, Result, Ok, Err, IfOk, IfErr, IsTrue, inl, inr, refl, sym, ap, ap₂, ◌∙◌, subst, arith}
+use Rattle.std.proofs.Common.{◌≡◌, ℕ, List, ◌++◌, length, Result, Ok, Err, IfOk, IfErr, IsTrue, inl, inr, refl, sym, ap, ap₂, ◌∙◌, subst, arith}
 use Rattle.ccsl_base.specs.declared.rows.Row.{Row}
 use Rattle.ccsl_edge.specs.declared.slot.Slot.TheVariants.{Trace}
 use Rattle.ccsl_edge.specs.World.{State, Told, held}
@@ -15,8 +15,6 @@ use Rattle.ccsl_state.specs.Held.{Held, StandsFor}
 use Rattle.ccsl_items.specs.Formulas.{item_formulas, scope_of}
 use Rattle.ccsl_explain.specs.Explained.{IsPossible, IsExplained}
 use Rattle.ccsl_vcd.specs.declared.fault.VcdFault.{VcdFault}
-use Rattle.ccsl_vcd.specs.Reading.{reading}
-use Rattle.ccsl_vcd.specs.Rows.{recorded}
 use Rattle.ccsl_bind.specs.Collected.{wanted_of}
 use Rattle.ccsl_trace.specs.Traces.{IsRefused, IsNearHeader}
 use Rattle.ccsl_trace.specs.Traces as traces

@@ -1,5 +1,5 @@
 -- The command `simulate`, as an answer to words that mean it.
-use Rattle.std.proofs.Common.{◌≡◌, ◌≢◌, ◌⊎◌, ℕ, ◌<◌, List, [], ◌∷◌, length, Bool, true, false, ◌||◌, nat_lt, cond, Result, Ok, Err, IfOk, IfErr, IsTrue, ⊎_elim, inl, inr, refl, sym, ap, ◌∙◌, subst, arith, lt-ltb, le-ltb, bytes_eq}
+use Rattle.std.proofs.Common.{◌≡◌, ◌≢◌, ℕ, ◌<◌, List, [], ◌∷◌, length, Bool, true, false, ◌||◌, nat_lt, cond, Result, Ok, IsTrue, ⊎_elim, inl, refl, sym, ap, ◌∙◌, subst, arith, lt-ltb, le-ltb, bytes_eq}
 use Rattle.std.proofs.lemmas.Slice.Eq.{bytes_eq-Decides}
 use Rattle.ccsl_edge.specs.declared.slot.Slot.{Slot}
 use Rattle.ccsl_edge.specs.declared.slot.Slot.TheVariants.{Spec, TraceOut, CertOut}
@@ -19,15 +19,15 @@ use Rattle.ccsl_report.specs.Texts.{simulated_text, deadlocked_text}
 use Rattle.ccsl_top.specs.declared.files.Stop.{Stop}
 use Rattle.ccsl_top.specs.declared.files.Stop.TheVariants as stop
 use Rattle.ccsl_top.specs.declared.reply.Reply.{Reply}
-use Rattle.ccsl_top.specs.Outcome.{Output, Outcome, outcome}
+use Rattle.ccsl_top.specs.Outcome.{Output, Outcome}
 use Rattle.ccsl_top.specs.Opening.{opens, writes, is_slot, is_output}
 use Rattle.ccsl_top.specs.Program.{accepted}
 use Rattle.ccsl_top.specs.Simulate.{named_policy, run, IsSimulated, IsOutput, simulate_outcome}
 use Rattle.ccsl_top.specs.Effects.{RoseAt, Reads, Stays}
 use Rattle.ccsl_top.specs.Reading.{only}
 use Rattle.ccsl_top.specs.Headline.{input_of, FaultCause, IsDefinedOutput, by_file}
-use Rattle.ccsl_top.specs.Answered.{code_of, plain_reply, Leaves, Stands, Answered, Faulted, Starved, IsUnanswered, StopsAt, AnswersTo}
-use Rattle.ccsl_top.specs.Simulating.{IsDoneReply, IsEnd, WritesSome, WritesBoth, WriteBreaks, WriteStarves, IsWriteStop}
+use Rattle.ccsl_top.specs.Answered.{code_of, Leaves, Stands, Answered, Faulted, Starved, IsUnanswered}
+use Rattle.ccsl_top.specs.Simulating.{IsDoneReply, WritesSome, WritesBoth, WriteBreaks, WriteStarves, IsWriteStop}
 use Rattle.ccsl_top.proofs.Slots.{both-ways}
 use Rattle.ccsl_top.proofs.Effects.{either-false, other-false, uses-changed, uses-rises}
 use Rattle.ccsl_top.proofs.Outputs.{whole-moves, front-moves}

@@ -1,5 +1,5 @@
 -- A simulation that is written between the opening of its files and their closing.
-use Rattle.std.proofs.Common.{◌≡◌, ◌≢◌, ◌⊎◌, ℕ, ◌<◌, ◌≤◌, List, [], ◌++◌, length, take, true, Some, IsTrue, ⊎_elim, inl, inr, refl, sym, ap, ◌∙◌, subst, arith, take_all, le_refl}
+use Rattle.std.proofs.Common.{◌≡◌, ◌≢◌, ℕ, ◌<◌, List, [], ◌++◌, length, take, true, IsTrue, ⊎_elim, inl, inr, refl, sym, ap, ◌∙◌, subst, take_all, le_refl}
 use Rattle.ccsl_edge.specs.declared.slot.Slot.{Slot}
 use Rattle.ccsl_edge.specs.declared.slot.Slot.TheVariants.{TraceOut, CertOut}
 use Rattle.ccsl_edge.specs.World.{State, Told, Rose, Stores, file_at}
@@ -12,11 +12,11 @@ use Rattle.ccsl_simulate.specs.declared.answer.Done.{Done}
 use Rattle.ccsl_simulate.specs.declared.answer.Done.TheVariants.{Full, Deadlock}
 use Rattle.ccsl_simulate.specs.declared.answer.SimFault.{SimFault}
 use Rattle.ccsl_simulate.specs.declared.answer.SimFault.TheVariants as faults
-use Rattle.ccsl_simulate.specs.Outcome.{IsDone, IsUndone, FailsAtCertificate}
+use Rattle.ccsl_simulate.specs.Outcome.{IsDone, IsUndone}
 use Rattle.ccsl_top.specs.Outcome.{Output}
 use Rattle.ccsl_top.specs.Opening.{is_output}
 use Rattle.ccsl_top.specs.Simulate.{run, IsCertificate, none, lines, IsOutput, of_trace, of_certificate, trace_output, cert_output}
-use Rattle.ccsl_top.specs.Effects.{RoseAt, WritesAlone}
+use Rattle.ccsl_top.specs.Effects.{WritesAlone}
 use Rattle.ccsl_top.specs.Headline.{IsKeptOrWhole, kept, whole, IsFrontOn, untouched, nothing, part}
 use Rattle.ccsl_top.specs.Stopping.{of_simulation}
 use Rattle.ccsl_top.specs.Simulating.{IsEnd, WritesSome, WritesBoth, WriteBreaks, WriteStarves, IsWriteStop}

@@ -1,10 +1,9 @@
 -- The world of a trial, and what its trace is judged to be.
-use Rattle.std.proofs.Common.{◌≡◌, ◌≢◌, ℕ, ◌≤◌, List, [], length, Some, None, Option, Result, Ok, Err, IfOk, IfErr, IsTrue, true, unwrap_or, codes, refl, sym, ap, ◌∙◌, subst}
+use Rattle.std.proofs.Common.{◌≡◌, ◌≢◌, ℕ, ◌≤◌, List, [], length, Some, None, Option, unwrap_or, codes, refl, sym, ap, ◌∙◌}
 use Rattle.ccsl_edge.specs.declared.slot.Slot.TheVariants.{Trace}
-use Rattle.ccsl_edge.specs.World.{State, file_at, held}
+use Rattle.ccsl_edge.specs.World.{State, file_at}
 use Rattle.ccsl_edge.specs.Calls.{OpensIn}
 use Rattle.ccsl_edge.specs.Memory.{MemoryState, shown, tells_all}
-use Rattle.ccsl_edge.specs.SlotTable.{slot_in}
 use Rattle.ccsl_base.specs.declared.limits.TheConstants.{MAX_STEPS}
 use Rattle.ccsl_policy.specs.declared.policies.Policy.TheVariants.{Seeded}
 use Rattle.ccsl_kernel.specs.Syntax.{System}
@@ -12,7 +11,6 @@ use Rattle.ccsl_kernel.specs.Verdict as kernel
 use Rattle.ccsl_vcd.specs.declared.fault.VcdFault.{VcdFault}
 use Rattle.ccsl_vcd.specs.Reading.{reading}
 use Rattle.ccsl_bind.specs.Collected.{wanted_of}
-use Rattle.ccsl_vcd_write.specs.Text.{vcd_text}
 use Rattle.ccsl_simulate.specs.declared.answer.Done.{Done}
 use Rattle.ccsl_trace.specs.Traces.{IsRefused}
 use Rattle.ccsl_judge.specs.declared.verdict.Verdict.{Verdict}
@@ -21,7 +19,7 @@ use Rattle.ccsl_judge.specs.Judged.{IsJudged, plain, verdict_on}
 use Rattle.ccsl_roundtrip.specs.RoundTrip.{SimulatedTracesAreRuns}
 use Rattle.ccsl_top.specs.Judge.{LIMITS}
 use Rattle.ccsl_top.specs.Simulating.{WritesBoth}
-use Rattle.ccsl_top.specs.Trying.{drawn_run, KeepsTrace, HoldsTrace}
+use Rattle.ccsl_top.specs.Trying.{drawn_run, HoldsTrace}
 
 -- the two names differ
 names-apart : codes "trace" ≢ codes "certificate"

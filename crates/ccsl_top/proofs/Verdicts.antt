@@ -1,10 +1,10 @@
 -- The item of a violation is one of the system's.
-use Rattle.std.proofs.Common.{◌≡◌, ℕ, zero, suc, ◌<◌, ◌≤◌, List, [], ◌∷◌, ◌++◌, Bool, true, false, Option, Some, None, length, find, cond, is_some, refl, sym, ap, ◌∙◌, subst, arith}
+use Rattle.std.proofs.Common.{◌≡◌, ℕ, zero, suc, ◌<◌, ◌≤◌, List, [], ◌∷◌, ◌++◌, Bool, true, false, Option, Some, None, length, find, cond, is_some, refl, sym, ap, subst, arith}
 use Rattle.std.proofs.lemmas.Bool.{le-leb}
 use Rattle.ccsl_base.specs.declared.rows.Row.{Row}
 use Rattle.ccsl_kernel.specs.Syntax.{System, item_count}
 use Rattle.ccsl_kernel.specs.Lives.{steps}
-use Rattle.ccsl_kernel.specs.Verdict.{Verdict, Run, Violated, verdict, verdict_at, first_step, first_item, is_violated}
+use Rattle.ccsl_kernel.specs.Verdict.{Run, Violated, verdict, verdict_at, first_step, first_item, is_violated}
 
 -- every number of a list is below m
 abbrev AreBelow : ℕ → List ℕ → Type 0

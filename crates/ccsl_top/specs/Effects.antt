@@ -2,7 +2,7 @@
 use Rattle.std.specs.Prelude.{◌≡◌, ℕ, ◌≤◌, List, Bool, true, false, IsTrue}
 use Rattle.ccsl_edge.specs.declared.slot.Slot.{Slot}
 use Rattle.ccsl_edge.specs.declared.slot.Slot.TheVariants.{TraceOut, CertOut}
-use Rattle.ccsl_edge.specs.World.{State, SlotState, Told, Rose, file_at}
+use Rattle.ccsl_edge.specs.World.{State, Told, Rose, file_at}
 use Rattle.ccsl_command.specs.Opened.{Opened}
 use Rattle.ccsl_top.specs.Opening.{opens, writes, is_output}
 

@@ -7,7 +7,6 @@ use Rattle.ccsl_edge.specs.World.{State, Told, held, file_at}
 use Rattle.ccsl_kernel.specs.Syntax.{System, item_count}
 use Rattle.ccsl_formula.specs.Formula.{Formula}
 use Rattle.ccsl_refute.specs.declared.line.Line.{Line}
-use Rattle.ccsl_refute.specs.Writing.{lines_text}
 use Rattle.ccsl_items.specs.Formulas.{scope_of}
 use Rattle.ccsl_explain.specs.Explained.{IsPossible, IsExplained}
 use Rattle.ccsl_report.specs.Texts.{explain_open_text}

@@ -1,15 +1,14 @@
 -- THE PROMISE OF THE PROGRAM'S ONE CALL, each sentence a field: what stands after it, from the words, the world before and the
 -- world after, and the status.
-use Rattle.std.specs.Prelude.{◌≡◌, ◌≢◌, ◌⊎◌, ℕ, ◌+◌, ◌<◌, ◌≤◌, List, [], ◌∷◌, ◌++◌, length, take, true, false, Some, Ok, Err, IsTrue}
+use Rattle.std.specs.Prelude.{◌≡◌, ◌≢◌, ◌⊎◌, ℕ, ◌+◌, ◌≤◌, List, [], ◌∷◌, ◌++◌, length, take, true, false, Some, Ok, Err, IsTrue}
 use Rattle.ccsl_edge.specs.declared.slot.Slot.{Slot}
 use Rattle.ccsl_edge.specs.declared.slot.Slot.TheVariants.{Spec, Trace, Input, Report, TraceOut, CertOut}
 use Rattle.ccsl_edge.specs.World.{State, Told, file_at, held}
-use Rattle.ccsl_command.specs.declared.command.Command.{Command}
 use Rattle.ccsl_command.specs.declared.command.Command.TheVariants as command
 use Rattle.ccsl_command.specs.declared.usage.Usage.{Usage}
 use Rattle.ccsl_command.specs.Meaning.{meaning}
 use Rattle.ccsl_command.specs.declared.table.PolicyName.{PolicyName}
-use Rattle.ccsl_command.specs.Opened.{Opened, files_of, files_opened}
+use Rattle.ccsl_command.specs.Opened.{Opened, files_opened}
 use Rattle.ccsl_kernel.specs.Syntax.{System}
 use Rattle.ccsl_spec.specs.Specifications.{IsSystemOf}
 use Rattle.ccsl_trace.specs.declared.pending.TheConstants.{PIECE}

@@ -1,5 +1,5 @@
 -- What reading the files of a command leaves, where it stops or goes on.
-use Rattle.std.specs.Prelude.{◌≡◌, ℕ, ◌<◌, ◌≤◌, Bool, true, false, List, length, Option, Some, None, IsTrue}
+use Rattle.std.specs.Prelude.{◌≡◌, ℕ, ◌<◌, ◌≤◌, Bool, List, length, Option, Some, None, IsTrue}
 use Rattle.ccsl_edge.specs.declared.slot.Slot.{Slot}
 use Rattle.ccsl_edge.specs.World.{State, Told, held}
 use Rattle.ccsl_spec.specs.declared.specification.Specification.{Specification}

@@ -1,4 +1,4 @@
-use Rattle.std.proofs.Common.{◌≡◌, [], refl, ap, subst, arith}
+use Rattle.std.proofs.Common.{◌≡◌, [], refl, ap, subst}
 use Rattle.std.proofs.lemmas.Result.{err_from_is_err_and}
 use Rattle.ccsl_command.specs.declared.command.Command.TheVariants as command
 use Rattle.ccsl_top.specs.Outcome.{outcome}

@@ -1,9 +1,8 @@
-use Rattle.std.proofs.Common.{◌≡◌, ◌<◌, ◌^◌, ℕ, List, length, map, refl, sym, ap, ◌∙◌, subst}
+use Rattle.std.proofs.Common.{◌<◌, ◌^◌, ℕ, List, length, map, sym, ap, ◌∙◌, subst}
 use Rattle.std.proofs.lemmas.List.{length-map}
 use Rattle.ccsl_formula.specs.declared.formula.Formula.{Formula as Boxed}
 use Rattle.ccsl_formula.specs.declared.scope.Scope.{Scope}
 use Rattle.ccsl_formula.specs.Plain.{plain}
-use Rattle.ccsl_kernel.specs.Lives.{Step}
 use Rattle.ccsl_solve.specs.Posed.{AllBelow}
 use Rattle.ccsl_state.specs.Held.{StandsFor}
 use Rattle.ccsl_explain.specs.declared.explanation.Explained.{Explained}
