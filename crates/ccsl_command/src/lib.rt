@@ -7,8 +7,6 @@ pub mod command_line;
 pub mod file_name;
 mod pair;
 pub mod table;
-#[cfg(test)]
-mod tests;
 pub mod usage;
 mod value;
 

@@ -27,6 +27,3 @@ pub use parts::Parts;
 pub use plain::plain_formula;
 pub use position::Position;
 pub use system::System;
-
-#[cfg(test)]
-mod tests;

@@ -18,6 +18,8 @@ mod relations;
 #[cfg(test)]
 mod run;
 #[cfg(test)]
+mod shared;
+#[cfg(test)]
 mod ticks;
 #[cfg(test)]
 mod variants;

@@ -15,6 +15,3 @@ pub use fault::CertFault;
 pub use line::{Line, Lit};
 pub use reader::read;
 pub use writer::write;
-
-#[cfg(test)]
-mod tests;

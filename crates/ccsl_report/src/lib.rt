@@ -21,6 +21,3 @@ pub use refusal::{
     cert_refused, cert_too_long, lex_refused, parse_refused, refused, spec_too_long, trace_refused,
     usage,
 };
-
-#[cfg(test)]
-mod tests;

@@ -1,6 +1,9 @@
 //! That threads may share a system and all that it is made of.
 
-use super::*;
+use ccsl_kernel::{
+    Actual, Body, Constraint, Expr, ExprOp, ExprTest, Group, NumPrim, NumSign, NumTerm, ParamKind,
+    Parts, Place, RelationKind, Suffix, System, Value, WordPlace,
+};
 use ccsl_words::Word;
 
 fn may_be_shared<T: Send + Sync>() {}

@@ -4,7 +4,7 @@ use Rattle.ccsl_refute.specs.declared.line.Lit.{Lit}
 use Rattle.ccsl_refute.specs.declared.line.Line.TheVariants.{Nonempty, Item}
 use Rattle.ccsl_refute.specs.Below.{AreBelow}
 use Rattle.ccsl_refute.specs.Writing.{literals}
-use Rattle.ccsl_refute.proofs.tests.lines_are_written_with_one_blank.Goals as goal
+use Rattle.ccsl_refute_tests.proofs.certificates.lines_are_written_with_one_blank.Goals as goal
 
 two-lines : (n item : ℕ) (lits : List Lit) (l : Lit) → lits ≡ l ∷ [] → l.clock < n → All (λ line. AreBelow n (literals line)) (Nonempty ∷ Item item lits ∷ [])
 two-lines n item lits l e b zero d m = tt

@@ -1,12 +1,18 @@
 //! Every text once. The expected lines are those that users read.
 
-use super::*;
 use ccsl_base::{ClockSet, Memory, Names, Seq, Text};
 use ccsl_command::{Key, RelationName, Usage};
 use ccsl_kernel::{Constraint, Expr, NumPrim, NumTerm, Parts, Place, RelationKind, System};
 use ccsl_lex::LexFault;
 use ccsl_parse::ParseFault;
 use ccsl_refute::CertFault;
+use ccsl_report::{
+    cert_no_line, cert_no_run, cert_refused, cert_too_long, cert_valid, checked, deadlocked,
+    explain_blocked, explain_member, explain_no_run, explain_open, judge_room, lex_refused,
+    parse_refused, periodic_fails, periodic_holds, periodic_long, periodic_word, put_no_run,
+    put_run, put_trace_fault, refused, run_no, run_yes, session_too_long, simulated, spec_too_long,
+    trace_refused, trial_done, usage,
+};
 use ccsl_rules::Refusal;
 use ccsl_vcd::VcdFault;
 use std::alloc::Global;

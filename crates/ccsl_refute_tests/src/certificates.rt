@@ -1,9 +1,8 @@
 //! Certificates by hand, against formulas of one and two declared clocks.
 
-use super::*;
-use crate::checker::CheckFault;
 use ccsl_base::{Names, Seq};
 use ccsl_formula::{Formula, Scope};
+use ccsl_refute::{CertFault, CheckFault, Line, Lit, check, read, write};
 use std::alloc::{AllocError, Global};
 use std::test::*;
 

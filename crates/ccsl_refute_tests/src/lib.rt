@@ -1,0 +1,5 @@
+//! Certificates: checked, read and written.
+#![tactic(auto)]
+
+#[cfg(test)]
+mod certificates;

@@ -1,0 +1,5 @@
+//! Every line of report, as users read it.
+#![tactic(auto)]
+
+#[cfg(test)]
+mod texts;
