@@ -1,15 +1,15 @@
 //! Expressions.
 
-ghost use Rattle.std.specs.Prelude.{◌≡◌, IfOk};
-ghost use Rattle.ccsl_ast.specs.Trees.{plain, EBinary, EDelayed, EIf};
+ghost use Rattle.std.specs.Prelude.{◌≡◌};
+ghost use Rattle.ccsl_ast.specs.Trees.{plain, EIf};
 ghost use Rattle.ccsl_grammar.specs.Terminals.{terminals};
 ghost use Rattle.ccsl_grammar.specs.Reader.{took, begins};
 ghost use Rattle.ccsl_grammar.specs.Parser.{named_at, parens_at, operand_at, second_at, delayed_at, delay_at, await_at, filter_at, rest_at, branches_at, choice_at, expr_with, is_expr, no_room, expr_at};
 ghost use Rattle.ccsl_parse.specs.Reads.{ReadsAs};
 
 use crate::leaf::{
-    begins_name, begins_symbol, begins_word, behind_symbol, behind_word, num_at, some_name_at,
-    symbol_at, word_at,
+    before_symbol, begins_name, begins_symbol, begins_word, behind_symbol, behind_word, num_at,
+    some_name_at, symbol_at, word_at,
 };
 use crate::list::list_at;
 use crate::operator::some_binop_at;
@@ -19,7 +19,7 @@ use crate::term::{term_at, wterm_at};
 use crate::test::test_at;
 use ccsl_ast::{BinaryOp, Spot, Test, Tree};
 use ccsl_lex::{Reserved, Token};
-use std::alloc::{AllocError, Global};
+use std::alloc::Global;
 
 /// What stands behind an operand's name.
 #[tactic(auto, unfolding(ccsl_grammar::specs::Parser::named_at))]
@@ -39,35 +39,6 @@ fn named_at<'a>(
     }
 }
 
-fn choice(alloc: Global, test: Test, yes: Tree, no: Tree) -> Result<Tree, AllocError>
-    ensures { IfOk result (λ tree. plain tree ≡ EIf test (plain yes) (plain no)) }
-{
-    Ok(Tree::If(test, Box::new(alloc, yes)?, Box::new(alloc, no)?))
-}
-
-fn binary(alloc: Global, op: BinaryOp, left: Tree, right: Tree) -> Result<Tree, AllocError>
-    ensures { IfOk result (λ tree. plain tree ≡ EBinary op (plain left) (plain right)) }
-{
-    Ok(Tree::Binary(op, Box::new(alloc, left)?, Box::new(alloc, right)?))
-}
-
-fn delayed(
-    alloc: Global,
-    operand: Tree,
-    number: (usize, u32),
-    base: Tree,
-) -> Result<Tree, AllocError>
-    ensures { IfOk result (λ tree. plain tree
-        ≡ EDelayed (plain operand) number.0 number.1 (plain base)) }
-{
-    Ok(Tree::Delayed(
-        Box::new(alloc, operand)?,
-        number.0,
-        number.1,
-        Box::new(alloc, base)?,
-    ))
-}
-
 /// What stands behind an operand and `delay`.
 #[tactic(auto, unfolding(ccsl_grammar::specs::Parser::delay_at))]
 fn delay_at<'a>(
@@ -77,8 +48,9 @@ fn delay_at<'a>(
 ) -> Result<(Tree, &'a [Token]), Stop<'a>>
     ensures { ReadsAs plain result (delay_at (plain operand)) tokens.now }
 {
+    let operand = Box::new(alloc, operand)?;
     let (term, rest) = term_at(alloc, tokens)?;
-    Ok((Tree::Delay(Box::new(alloc, operand)?, term), rest))
+    Ok((Tree::Delay(operand, term), rest))
 }
 
 /// What stands behind an operand and `await`.
@@ -90,8 +62,9 @@ fn await_at<'a>(
 ) -> Result<(Tree, &'a [Token]), Stop<'a>>
     ensures { ReadsAs plain result (await_at (plain operand)) tokens.now }
 {
+    let operand = Box::new(alloc, operand)?;
     let (term, rest) = term_at(alloc, tokens)?;
-    Ok((Tree::Await(Box::new(alloc, operand)?, term), rest))
+    Ok((Tree::Await(operand, term), rest))
 }
 
 /// What stands behind an operand and `filter`.
@@ -103,8 +76,9 @@ fn filter_at<'a>(
 ) -> Result<(Tree, &'a [Token]), Stop<'a>>
     ensures { ReadsAs plain result (filter_at (plain operand)) tokens.now }
 {
+    let operand = Box::new(alloc, operand)?;
     let (word, rest) = wterm_at(alloc, tokens)?;
-    Ok((Tree::Filter(Box::new(alloc, operand)?, word), rest))
+    Ok((Tree::Filter(operand, word), rest))
 }
 
 fn begins_expr(tokens: &[Token]) -> bool
@@ -178,26 +152,28 @@ fn choice_at<'a>(
     ensures { ReadsAs plain result (choice_at (expr_at room.two room.levels)) tokens.now }
 {
     let (test, rest) = test_at(alloc, tokens)?;
-    branches_at(alloc, room, test, rest)
+    let ((yes, no), rest) = branches_at(alloc, room, rest)?;
+    Ok((Tree::If(test, yes, no), rest))
 }
 
-/// What stands behind the test of an `if`.
+/// The two branches behind the test of an `if`.
 #[cycle(expr)]
 #[tactic(auto, unfolding(ccsl_grammar::specs::Parser::branches_at))]
 fn branches_at<'a>(
     alloc: Global,
     room: Room,
-    test: Test,
     tokens: &'a [Token],
-) -> Result<(Tree, &'a [Token]), Stop<'a>>
-    ensures { ReadsAs plain result (branches_at (expr_at room.two room.levels) test) tokens.now }
+) -> Result<((Box<Tree>, Box<Tree>), &'a [Token]), Stop<'a>>
+    ensures { (test : Test) → ReadsAs (λ x. EIf test (plain x.0.value) (plain x.1.value)) result
+        (branches_at (expr_at room.two room.levels) test) tokens.now }
 {
     let rest = word_at(tokens, Reserved::Use)?;
     let (yes, rest) = expr_at(alloc, room, rest)?;
+    let yes = Box::new(alloc, yes)?;
     let rest = word_at(rest, Reserved::Else)?;
     let (no, rest) = expr_at(alloc, room, rest)?;
-    let tree = choice(alloc, test, yes, no)?;
-    Ok((tree, rest))
+    let no = Box::new(alloc, no)?;
+    Ok(((yes, no), rest))
 }
 
 /// What stands behind the first operand.
@@ -247,9 +223,10 @@ fn second_at<'a>(
     ensures { ReadsAs plain result
         (second_at (expr_at room.two room.levels) op (plain operand)) tokens.now }
 {
+    let operand = Box::new(alloc, operand)?;
     let (other, rest) = operand_at(alloc, room, tokens)?;
-    let tree = binary(alloc, op, operand, other)?;
-    Ok((tree, rest))
+    let other = Box::new(alloc, other)?;
+    Ok((Tree::Binary(op, operand, other), rest))
 }
 
 /// What stands behind an operand and `delayed`.
@@ -264,11 +241,12 @@ fn delayed_at<'a>(
     ensures { ReadsAs plain result
         (delayed_at (expr_at room.two room.levels) (plain operand)) tokens.now }
 {
-    let (number, rest) = num_at(tokens)?;
+    let operand = Box::new(alloc, operand)?;
+    let ((at, number), rest) = num_at(tokens)?;
     let rest = word_at(rest, Reserved::On)?;
     let (base, rest) = operand_at(alloc, room, rest)?;
-    let tree = delayed(alloc, operand, number, base)?;
-    Ok((tree, rest))
+    let base = Box::new(alloc, base)?;
+    Ok((Tree::Delayed(operand, at, number, base), rest))
 }
 
 /// A name, a call, `never`, or an expression in parentheses.
@@ -302,6 +280,5 @@ fn parens_at<'a>(
 {
     let rest = symbol_at(tokens, b'(')?;
     let (tree, rest) = expr_at(alloc, room, rest)?;
-    let rest = symbol_at(rest, b')')?;
-    Ok((tree, rest))
+    before_symbol(tree, rest, b')')
 }

@@ -4,7 +4,7 @@ ghost use Rattle.std.specs.Prelude.{◌≡◌, true, IfOk};
 ghost use Rattle.ccsl_grammar.specs.Terminals.{terminal, terminals, is_word, is_symbol, is_name, is_quoted};
 ghost use Rattle.ccsl_grammar.specs.Reader.{took, begins};
 ghost use Rattle.ccsl_grammar.specs.Parser.{goes_on_by, word_at, symbol_at, name_at, num_at, quoted_at};
-ghost use Rattle.ccsl_parse.specs.Reads.{Reads, ReadsWhere, Passes, Skips};
+ghost use Rattle.ccsl_parse.specs.Reads.{Reads, ReadsAs, ReadsWhere, Passes, Skips};
 
 use crate::room::Room;
 use crate::stop::Stop;
@@ -151,6 +151,19 @@ pub fn symbol_at<'a>(tokens: &'a [Token], byte: u8) -> Result<&'a [Token], Stop<
         }
         [] => Err(Stop::Syntax(tokens)),
     }
+}
+
+/// The value, where the symbol of this byte stands behind it.
+pub fn before_symbol<'a, T: Drop>(
+    value: T,
+    tokens: &'a [Token],
+    byte: u8,
+) -> Result<(T, &'a [Token]), Stop<'a>>
+    ensures value { IfOk result (λ x. x.0 ≡ value) }
+    ensures symbol { ReadsAs (λ _. true) result (symbol_at byte) tokens.now }
+{
+    let rest = symbol_at(tokens, byte)?;
+    Ok((value, rest))
 }
 
 pub fn copied(alloc: Global, text: &Text) -> Result<Text, AllocError>

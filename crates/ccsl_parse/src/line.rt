@@ -9,7 +9,7 @@ ghost use Rattle.ccsl_grammar.proofs.Loop.{rline_falls, sline_falls};
 ghost use Rattle.ccsl_parse.specs.Reads.{ReadsAs};
 
 use crate::expression::expr_at;
-use crate::leaf::{behind_symbol, behind_word, is_symbol, name_at, symbol_at};
+use crate::leaf::{before_symbol, behind_symbol, behind_word, is_symbol, name_at, symbol_at};
 use crate::list::{further_members, list_at};
 use crate::relation::relop_at;
 use crate::repeat::Repeated;
@@ -31,8 +31,7 @@ fn define_at<'a>(
     let (name, rest) = name_at(alloc, tokens)?;
     let rest = symbol_at(rest, b'=')?;
     let (tree, rest) = expr_at(alloc, room, rest)?;
-    let rest = symbol_at(rest, b';')?;
-    Ok((RelationLine::Define(name, tree), rest))
+    before_symbol(RelationLine::Define(name, tree), rest, b';')
 }
 
 /// What stands behind the name of a called relation and its parenthesis.

@@ -5,7 +5,7 @@ use Rattle.std.specs.List.{list_all, AllByRecursion}
 use Rattle.std.proofs.lemmas.List.{take_more}
 use Rattle.std.proofs.lemmas.Bool.{and_parts, ne_eqb, ltb-true, eqb-true, cases_eq}
 use Rattle.ccsl_base.specs.declared.limits.TheConstants.{MAX_CLOCKS}
-use Rattle.ccsl_base.specs.Clocks.{ticks_in, with_clock, without_clock, is_ascending, are_below}
+use Rattle.ccsl_base.specs.Clocks.{ticks_in, with_clock, is_ascending, are_below}
 use Rattle.ccsl_base.proofs.Sets.{ticks_in-with_same, ticks_in-with_other, ticks_in-without_same, ticks_in-without_other}
 use Rattle.ccsl_vcd_read.specs.declared.marks.Mark.{Mark}
 use Rattle.ccsl_vcd_read.specs.declared.users.Slot.{Slot}

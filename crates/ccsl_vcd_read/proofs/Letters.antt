@@ -1,7 +1,7 @@
 -- Letters of the values 0 and 1, seen through the bits of a vector.
-use Rattle.std.proofs.Common.{◌≡◌, ℕ, zero, suc, ◌+◌, ◌-◌, ◌*◌, ◌<◌, ◌≤◌, List, [], ◌∷◌, ◌++◌, length, take, drop, get_or, map, Bool, true, false, not, cond, nat_eq, ◌&&◌, ◌||◌, refl, sym, ap, ◌∙◌, arith, length-drop}
+use Rattle.std.proofs.Common.{◌≡◌, ℕ, suc, ◌+◌, ◌-◌, ◌*◌, ◌<◌, ◌≤◌, List, [], ◌∷◌, ◌++◌, length, take, drop, get_or, map, Bool, true, false, not, cond, nat_eq, ◌||◌, refl, sym, ap, ◌∙◌, arith, length-drop}
 use Rattle.std.specs.List.{list_all}
-use Rattle.std.proofs.lemmas.Bool.{and_parts, eqb-true, eq-eqb, ne_eqb}
+use Rattle.std.proofs.lemmas.Bool.{and_parts, eqb-true, eq-eqb}
 use Rattle.std.proofs.lemmas.List.{take-append-drop, drop-drop}
 use Rattle.std.proofs.Math.Seq.{take-add}
 use lib.Lanes.{mask_l}
@@ -24,7 +24,7 @@ mask-all (x ∷ xs) e =
     let p = and_parts (is_bit x) (list_all is_bit xs) e in
     rw (p.0, mask-all xs p.1) refl
 
-all-both : (p : ℕ → Bool) (xs ys : List ℕ) → list_all p xs ≡ true → list_all p ys ≡ true → list_all p (xs ++ ys) ≡ true
+pub all-both : (p : ℕ → Bool) (xs ys : List ℕ) → list_all p xs ≡ true → list_all p ys ≡ true → list_all p (xs ++ ys) ≡ true
 all-both p [] ys h k = k
 all-both p (x ∷ xs) ys h k =
     let q = and_parts (p x) (list_all p xs) h in

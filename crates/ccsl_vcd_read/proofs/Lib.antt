@@ -15,6 +15,7 @@ pub mod Openings
 pub mod StagePictures
 pub mod Run
 pub mod ShortTimes
+pub mod ShortChanges
 pub mod Taking
 pub mod Racing
 pub mod Calm

@@ -1,12 +1,11 @@
 -- Tokens that stand further on, and bytes that were read past a tokenizer.
-use Rattle.std.proofs.Common.{◌≡◌, ℕ, zero, suc, ◌+◌, ◌≤◌, ◌<◌, ◌^◌, List, [], ◌∷◌, ◌++◌, length, take, Bool, true, false, Option, Some, None, nat_lt, ◌||◌, cond, refl, sym, ap, ap₂, ◌∙◌, subst, append_assoc, arith, length-append, filter, map, zero-add, replicate, ⊎_elim}
+use Rattle.std.proofs.Common.{◌≡◌, ℕ, zero, suc, ◌+◌, ◌<◌, List, [], ◌∷◌, ◌++◌, length, take, Bool, true, false, Some, None, nat_lt, ◌||◌, cond, refl, sym, ap, ap₂, ◌∙◌, subst, append_assoc, arith, length-append, filter, map, zero-add, replicate, ⊎_elim}
 use Rattle.std.specs.List.{AllByRecursion}
 use Rattle.std.proofs.lemmas.List.{append-nil, map-append}
 use Rattle.std.proofs.lemmas.Bool.{lt-ltb, le-ltb, cases_lt}
 use Rattle.ccsl_vcd_lex.specs.Tokens.{is_white, Token, token, end_of, run, begins, tokens_from, tokens, closed, settled, heard, Heard, hear, word, too_long, is_long, first_long}
 use Rattle.ccsl_vcd_lex.specs.Runs.{fresh_after}
-use Rattle.ccsl_vcd_lex.specs.Lexing.{Dark, Lexing, StandsFor, BreaksWithin, named}
-use Rattle.ccsl_vcd_lex.specs.declared.span.Span.{Span}
+use Rattle.ccsl_vcd_lex.specs.Lexing.{Dark, Lexing, StandsFor, BreaksWithin}
 use Rattle.ccsl_vcd_lex.proofs.Cuts.{White, tokens-cut, closed-before, long-append, fresh-behind, from-behind}
 use Rattle.ccsl_vcd_lex.proofs.Further.{heard-split}
 use Rattle.ccsl_vcd_lex.proofs.Steps.{parts, runs}

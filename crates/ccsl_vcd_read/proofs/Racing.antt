@@ -1,10 +1,10 @@
 -- What a reader stands for behind tokens that were heard one after another.
-use Rattle.std.proofs.Common.{◌≡◌, ℕ, ◌+◌, ◌-◌, ◌≤◌, ◌<◌, List, [], ◌∷◌, ◌++◌, length, take, Bool, true, false, cond, Some, None, Result, Ok, Err, fold, map, get_or, refl, sym, ap, ap₂, ◌∙◌, subst, append_assoc, arith, length-append, length-take-le, zero-add}
-use Rattle.std.proofs.lemmas.List.{append-nil, map-append, take-take, take_more}
+use Rattle.std.proofs.Common.{◌≡◌, ℕ, ◌+◌, ◌-◌, ◌≤◌, ◌<◌, List, [], ◌∷◌, ◌++◌, length, take, true, false, cond, Some, None, Result, Ok, Err, fold, map, get_or, refl, sym, ap, ap₂, ◌∙◌, subst, append_assoc, arith, length-append, length-take-le, zero-add}
+use Rattle.std.proofs.lemmas.List.{append-nil, take-take, take_more}
 use Rattle.ccsl_base.specs.declared.rows.Row.{Row}
-use Rattle.ccsl_vcd_lex.specs.Tokens.{is_white, Token, token, tokens_from, tokens, Heard, hear, word, too_long, settled, is_long, first_long}
+use Rattle.ccsl_vcd_lex.specs.Tokens.{is_white, Token, tokens_from, tokens, hear, word, too_long, settled, is_long, first_long}
 use Rattle.ccsl_vcd_lex.specs.Runs.{fresh_after}
-use Rattle.ccsl_vcd_lex.proofs.Cuts.{tokens-cut, closed-before, ends-before, all-kept, long-append, fresh-behind}
+use Rattle.ccsl_vcd_lex.proofs.Cuts.{tokens-cut, ends-before, all-kept, long-append, fresh-behind}
 use Rattle.ccsl_vcd.specs.declared.fault.VcdFault.{VcdFault}
 use Rattle.ccsl_vcd.specs.declared.limits.Limits.{Limits}
 use Rattle.ccsl_vcd.specs.Binding.{Wanted}
@@ -23,7 +23,7 @@ use Rattle.ccsl_vcd_read.specs.Reading.{Reading, FewRows, Running, Pushes, past_
 use Rattle.ccsl_vcd_read.proofs.BodyPictures.{Hears, hears}
 use Rattle.ccsl_vcd_read.proofs.Passing.{settled-at, settles_at, fresh-append, fresh-open}
 use Rattle.ccsl_vcd_read.proofs.Run.{hears-from}
-use Rattle.ccsl_vcd_read.proofs.Taking.{so_far-within, done-within, runs-past}
+use Rattle.ccsl_vcd_read.proofs.Taking.{done-within, runs-past}
 
 -- What tokens make of a story.
 

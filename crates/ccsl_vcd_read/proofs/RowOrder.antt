@@ -1,5 +1,5 @@
 -- The rows of every text are in order.
-use Rattle.std.proofs.Common.{◌≡◌, ◌≢◌, ℕ, ◌+◌, ◌≤◌, ◌<◌, List, [], ◌∷◌, ◌++◌, Bool, true, false, Option, Some, None, Result, Ok, Err, ◌&&◌, ◌==◌, nat_eq, nat_lt, nat_le, cond, filter, map, refl, sym, ap, ◌∙◌, subst, append_assoc, length, take, arith}
+use Rattle.std.proofs.Common.{◌≡◌, ◌≢◌, ℕ, ◌+◌, ◌≤◌, ◌<◌, List, [], ◌∷◌, ◌++◌, Bool, true, false, Option, Some, None, Result, Ok, Err, nat_eq, nat_lt, nat_le, cond, filter, map, refl, sym, ◌∙◌, subst, append_assoc, length, take, arith}
 use Rattle.std.specs.Prelude.{fold, bytes_eq, codes}
 use Rattle.std.specs.List.{list_all, AllByRecursion}
 use Rattle.std.proofs.lemmas.Bool.{and_parts, lt-ltb, ltb-false, eq-eqb}
@@ -14,8 +14,8 @@ use Rattle.ccsl_vcd.specs.Places as p
 use Rattle.ccsl_vcd.specs.Header as d
 use Rattle.ccsl_vcd.specs.Words as w
 use Rattle.ccsl_vcd.specs.Body.{is_declared, changed, change_says, body_says}
-use Rattle.ccsl_vcd.specs.Reading.{says, stands_at, Story, told, next_from, next, begin, story, decides, is_over, so_far, ends_at, at_end, reading}
-use Rattle.ccsl_vcd.specs.Rows.{put_time, times, row_at, rows, rows_of, has_ticks, now_at, bound_at, is_before, complete, recorded, done}
+use Rattle.ccsl_vcd.specs.Reading.{says, Story, told, next_from, next, begin, story, decides, is_over, so_far, ends_at, reading}
+use Rattle.ccsl_vcd.specs.Rows.{put_time, times, row_at, rows, rows_of, has_ticks, now_at, bound_at, is_before, recorded, done}
 use Rattle.ccsl_vcd_read.specs.Order.{ascend, AreInOrder}
 
 -- Changes whose times do not fall, up to a time.

@@ -1,6 +1,6 @@
 -- Tokens that are heard one after another.
-use Rattle.std.proofs.Common.{◌≡◌, ℕ, ◌+◌, ◌-◌, ◌≤◌, ◌<◌, List, [], ◌∷◌, ◌++◌, length, take, drop, get_or, Bool, true, false, not, Option, Some, None, Result, Ok, Err, cond, zero, suc, nat_eq, ◌||◌, length-take-le, length-drop, map, ◌⊎◌, inl, inr, fold, refl, sym, ap, ◌∙◌, subst, append_assoc, arith, length-append, zero-add}
-use Rattle.std.specs.List.{prefix_len, AllByRecursion}
+use Rattle.std.proofs.Common.{◌≡◌, ℕ, ◌+◌, ◌-◌, ◌≤◌, ◌<◌, List, [], ◌∷◌, ◌++◌, length, take, drop, get_or, Bool, true, false, not, Some, None, Result, Ok, Err, cond, zero, suc, nat_eq, ◌||◌, length-take-le, map, ◌⊎◌, inl, inr, fold, refl, sym, ap, ◌∙◌, subst, append_assoc, arith, length-append}
+use Rattle.std.specs.List.{prefix_len}
 use Rattle.std.proofs.lemmas.List.{append-nil, take_more}
 use Rattle.std.proofs.lemmas.Bool.{eqb-true}
 use Rattle.std.proofs.Math.Seq.{take-add}
@@ -11,7 +11,7 @@ use Rattle.ccsl_vcd_lex.specs.Lexing.{Dark, is_dark}
 use Rattle.ccsl_vcd_lex.proofs.Cuts.{tokens-cut, long-append, one-token, from-behind, fresh-behind}
 use Rattle.ccsl_vcd.specs.declared.fault.VcdFault.{VcdFault}
 use Rattle.ccsl_vcd_read.specs.declared.body.Body.{Body}
-use Rattle.ccsl_vcd_read.specs.Step.{hear_at, hear_of, word_says, put_number, row_of, Says}
+use Rattle.ccsl_vcd_read.specs.Step.{hear_at, hear_of, word_says, put_number, Says}
 use Rattle.ccsl_vcd.specs.Words.{word_of, scalar}
 use Rattle.ccsl_vcd.specs.Reading.{is_changes}
 use Rattle.ccsl_bind.specs.Codes.{number_of}
@@ -19,7 +19,7 @@ use Rattle.ccsl_vcd_read.specs.declared.amid.Amid.{Amid}
 use Rattle.ccsl_vcd_read.specs.declared.amid.Amid.TheVariants.{Changes, Remark, Code, CodeSkipped}
 use Rattle.ccsl_vcd_read.specs.Meant.{amid_of}
 use Rattle.ccsl_vcd_read.specs.Marks.{put}
-use Rattle.ccsl_vcd_read.specs.Run.{behind, hear_next, hear_all, Runs, IsShort, Short}
+use Rattle.ccsl_vcd_read.specs.Run.{behind, hear_next, hear_all, Runs}
 use Rattle.ccsl_vcd_read.proofs.Passing.{fresh-append}
 use Rattle.ccsl_vcd_read.proofs.StagePictures.{room-left}
 
@@ -179,12 +179,7 @@ short-says b c first number code a w n f e at rows =
     ap (hear_at b at (first ∷ code)) amid ∙ ap (word_says b at) (short-word first code w n) ∙ ap (put_number b at (nat_eq first 49)) f in
     rw said (e ∙ ap (λ (x : Amid). record b { amid = x; marks = map (put number (nat_eq first 49) b.dumping) b.marks }) amid, sym (append-nil rows))
 
-pub front-short : (b c : Body) (at n : ℕ) (bytes : List ℕ) (rows : List Row) → Short b c bytes n → 0 < n → Runs b c at (take (n + 1) bytes) rows rows
-front-short b c at n bytes rows h some =
-    let s = h.0 some in
-    front-word b c at n bytes rows rows s.0.run some s.0.inside (omega (arith, s.0.most)) (s.1 at rows)
-
-bit-of : (x : ℕ) → (nat_eq x 48 || nat_eq x 49) ≡ true → (x ≡ 48) ⊎ (x ≡ 49)
+pub bit-of : (x : ℕ) → (nat_eq x 48 || nat_eq x 49) ≡ true → (x ≡ 48) ⊎ (x ≡ 49)
 bit-of x h = (elim (nat_eq x 48) as (λ w. nat_eq x 48 ≡ w → (w || nat_eq x 49) ≡ true → (x ≡ 48) ⊎ (x ≡ 49)) [
   | true ↦ λ e _. inl (eqb-true x 48 e)
   | false ↦ λ _ g. inr (eqb-true x 49 g)
@@ -194,19 +189,3 @@ pub take-first : (n : ℕ) (bytes : List ℕ) → 0 < n → 0 < length bytes →
 take-first n [] some l = absurd (omega arith)
 take-first zero (x ∷ xs) some l = absurd (omega arith)
 take-first (suc n) (x ∷ xs) some l = ap (λ k. x ∷ take k xs) (let k : n ≡ suc n - 1 = omega arith in k)
-
--- the change was made
-pub short-made : (b c : Body) (n number : ℕ) (bytes : List ℕ) → IsShort n bytes → is_changes (amid_of b.amid) ≡ true → (nat_eq (get_or bytes 0 0) 48 || nat_eq (get_or bytes 0 0) 49) ≡ true
-    → number_of (take (n - 1) (drop 1 bytes)) b.binding.codes ≡ Some number → c ≡ record b { marks = map (put number (nat_eq (get_or bytes 0 0) 49) b.dumping) b.marks } → Short b c bytes n
-short-made b c n number bytes s a w f e =
-    let code = take (n - 1) (drop 1 bytes) in
-    let inside : n < length bytes = s.inside in
-    let least : 2 ≤ n = s.least in
-    let len : length code ≡ n - 1 = length-take-le (n - 1) (drop 1 bytes) (omega (arith, length-drop 1 bytes, inside)) in (
-      (λ _. (
-        s,
-        λ at rows. subst (λ text. Says (hear_of b at text) (Ok tt) b c rows rows) (sym (take-first n bytes (omega (arith, least)) (omega (arith, inside))))
-            (short-says b c (get_or bytes 0 0) number code a (bit-of (get_or bytes 0 0) w) (omega (arith, len, least)) f e at rows),
-      )),
-      λ z. absurd (omega (arith, z, least)),
-    )

@@ -1,6 +1,7 @@
 -- Times that are heard where they lie.
-use Rattle.std.proofs.Common.{◌≡◌, ℕ, zero, suc, ◌+◌, ◌-◌, ◌*◌, ◌^◌, ◌<◌, ◌≤◌, List, [], ◌∷◌, ◌++◌, length, take, drop, get_or, Bool, true, false, not, Option, Some, None, Result, Ok, Err, cond, nat_le, nat_eq, ◌&&◌, ◌||◌, refl, sym, ap, ◌∙◌, subst, arith, length-drop, length-take-le}
+use Rattle.std.proofs.Common.{◌≡◌, ℕ, zero, suc, ◌+◌, ◌-◌, ◌*◌, ◌^◌, ◌<◌, ◌≤◌, List, [], ◌∷◌, ◌++◌, length, take, drop, get_or, Bool, true, false, not, Some, Result, Ok, Err, nat_le, refl, sym, ap, ◌∙◌, subst, arith, length-drop, length-take-le}
 use Rattle.std.specs.List.{list_all, prefix_len}
+use Rattle.std.proofs.Math.Nat.{pow-suc, pow-le-pow_right}
 use Rattle.std.proofs.lemmas.Bool.{and_parts, le-leb, leb-true}
 use Rattle.std.proofs.lemmas.List.{take_more}
 use Rattle.std.proofs.lemmas.Grind.{common_steps}
@@ -11,12 +12,11 @@ use Rattle.ccsl_vcd.specs.declared.fault.VcdFault.{VcdFault}
 use Rattle.ccsl_vcd.specs.Words.{is_digit, digits_from, number, word_of, time, time_of}
 use Rattle.ccsl_vcd.specs.Reading.{is_changes}
 use Rattle.ccsl_vcd_read.specs.declared.body.Body.{Body}
-use Rattle.ccsl_vcd_read.specs.declared.amid.Amid.TheVariants.{Changes}
 use Rattle.ccsl_vcd_read.specs.Meant.{amid_of}
 use Rattle.ccsl_vcd_read.specs.Letters.{AreDigits}
 use Rattle.ccsl_vcd_read.specs.Step.{hear_at, hear_of, word_says, time_says, Says}
-use Rattle.ccsl_vcd_read.specs.Run.{Runs, HearsFront, Front}
-use Rattle.ccsl_vcd_read.proofs.Numbers.{value_of, number-value, digit-is}
+use Rattle.ccsl_vcd_read.specs.Run.{Runs, Front}
+use Rattle.ccsl_vcd_read.proofs.Numbers.{number-value, digit-is}
 use Rattle.ccsl_vcd_read.proofs.Run.{is-changes, take-first, front-word}
 
 -- one digit more
@@ -41,6 +41,20 @@ one-digit-more bytes i value l d low high =
       amount = ap (λ n. 10 * n + (x - 48)) d.amount ∙ sym (digits-more 0 (take i bytes) x);
     })
 
+-- So many digits have a value below that power of ten.
+
+pub more-digits : (n value digit : ℕ) → value < 10 ^ n → digit < 10 → 10 * value + digit < 10 ^ (n + 1)
+more-digits n value digit l d =
+    let k : n + 1 ≡ suc n = omega arith in
+    let p = ap (λ m. 10 ^ m) k ∙ pow-suc 10 n in
+    omega (arith, l, d, p)
+
+pub few-digits : (n most value : ℕ) → value < 10 ^ n → n ≤ most → value < 10 ^ most
+few-digits n most value l m =
+    let some : zero < 10 = omega arith in
+    let p = pow-le-pow_right {n = 10} some m in
+    omega (arith, l, p)
+
 -- digits are not white
 
 digit-dark : (b : ℕ) → is_digit b ≡ true → is_dark b ≡ true
@@ -57,7 +71,7 @@ all-dark (x ∷ xs) h =
     let q = and_parts (is_digit x) (list_all is_digit xs) h in
     rw (digit-dark x q.0) (all-dark xs q.1)
 
-run-is : (q : ℕ → Bool) (n : ℕ) (xs : List ℕ) → list_all q (take n xs) ≡ true → n < length xs → q (get_or xs n 0) ≡ false → n ≡ prefix_len q xs
+pub run-is : (q : ℕ → Bool) (n : ℕ) (xs : List ℕ) → list_all q (take n xs) ≡ true → n < length xs → q (get_or xs n 0) ≡ false → n ≡ prefix_len q xs
 run-is q n [] h l e = absurd (omega arith)
 run-is q zero (x ∷ xs) h l e = rw e refl
 run-is q (suc n) (x ∷ xs) h l e =
@@ -110,5 +124,5 @@ front-heard b c at n bytes x y h some =
     front-word b c at n bytes x y s.run some s.inside s.few s.says
 
 -- where two calls did nothing
-pub from-same : (a b c d : Body) (at : ℕ) (part : List ℕ) (x y z : List Row) → b ≡ a → (c ≡ b) × (y ≡ x) → Runs c d at part y z → Runs a d at part x z
-from-same a b c d at part x y z e f r = subst (λ v. Runs v d at part x z) (f.0 ∙ e) (subst (λ rs. Runs c d at part rs z) f.1 r)
+pub after-same : (a b c d : Body) (at : ℕ) (part : List ℕ) (x y z : List Row) → (b ≡ a) × (y ≡ x) → c ≡ b → Runs c d at part y z → Runs a d at part x z
+after-same a b c d at part x y z e f r = subst (λ v. Runs v d at part x z) (f ∙ e.0) (subst (λ rs. Runs c d at part rs z) e.1 r)

@@ -1,5 +1,5 @@
 -- How marks are kept: what does not change of each clock, and the sets of the clocks that are 1 now and before.
-use Rattle.std.specs.Prelude.{◌≡◌, ℕ, List, [], ◌∷◌, Bool, true, ◌==◌, if◌then◌else◌, fold, map, slice_get}
+use Rattle.std.specs.Prelude.{◌≡◌, ℕ, List, Bool, true, ◌==◌, if◌then◌else◌, fold, map, slice_get}
 use Rattle.std.specs.List.{AllByRecursion}
 use Rattle.ccsl_base.specs.declared.limits.TheConstants.{MAX_CLOCKS}
 use Rattle.ccsl_base.specs.Clocks.{ticks_in, with_clock, without_clock, is_ascending, are_below}

@@ -31,16 +31,11 @@ pub record Runs (old new : Body) (at : ℕ) (part : List ℕ) (before after : Li
   pub short : first_long (tokens_from true at part) ≡ None
   pub few : length pushed ≤ length part
 
--- a token of so many bytes, at least two and at most four, at the front, and white space behind it
-pub record IsShort (n : ℕ) (bytes : List ℕ) : Type 0 where
-  pub least : 2 ≤ n
-  pub most : n ≤ 4
-  pub run : n ≡ prefix_len is_dark bytes
-  pub inside : n < length bytes
-
--- The change of a short token was made, or nothing.
-abbrev pub Short : Body → Body → List ℕ → ℕ → Type 0
-Short old new bytes n = (0 < n → (IsShort n bytes × ((at : ℕ) (rows : List Row) → Says (hear_of old at (take n bytes)) (Ok tt) old new rows rows))) × (n ≡ 0 → new ≡ old)
+-- The tokens of so many bytes from the front were heard, and none gave out a row.
+pub record Made (old new : Body) (bytes : List ℕ) (n : ℕ) : Type 0 where
+  pub within : n ≤ length bytes
+  pub runs : (at : ℕ) (rows : List Row) → Runs old new at (take n bytes) rows rows
+  pub none : n ≡ 0 → new ≡ old
 
 -- A token at the front with white space behind it was heard, or nothing.
 pub record HearsFront (n : ℕ) (bytes : List ℕ) (old new : Body) (at : ℕ) (before after : List Row) : Type 0 where

@@ -137,19 +137,18 @@ impl Bits {
         true
     }
 
-    /// The members that are not another's.
+    /// Makes the members that are not another's members of a set that is empty.
     #[inline(always)]
-    pub(crate) fn beyond(&self, other: &Bits) -> ClockSet
-        ensures { (x : ℕ) → ticks_in x result ≡ (ticks_in x self.now && not (ticks_in x other.now)) }
+    pub(crate) fn add_beyond(&self, other: &Bits, set: &mut ClockSet)
+        requires { set.old ≡ [] }
+        ensures { (x : ℕ) → ticks_in x set.new ≡ (ticks_in x self.now && not (ticks_in x other.now)) }
     {
-        let mut set = ClockSet::empty();
         for i in 0..self.used {
             add_word(
-                &mut set,
+                set,
                 u64::BITS * i as u32,
                 without(self.words[i], other.words[i]),
             );
         }
-        set
     }
 }

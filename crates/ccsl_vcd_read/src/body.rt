@@ -2,16 +2,16 @@
 
 ghost use Rattle.std.specs.Prelude.{◌≡◌, ◌<◌, ◌≤◌, ◌+◌, ◌++◌, ◌^◌, length, take, [], Ok};
 ghost use Rattle.ccsl_vcd_read.specs.Step.{Says, row_of, time_says, changed_says, skipped_says, remark_says, word_says, hear_of};
-ghost use Rattle.ccsl_vcd_read.specs.Run.{Runs, Short, Front};
+ghost use Rattle.ccsl_vcd_read.specs.Run.{Runs, Made, Front};
 ghost use Rattle.ccsl_vcd.specs.Words.{dump, close};
 ghost use Rattle.ccsl_vcd_read.specs.Meant.{meant, rest_of};
 
 use crate::amid::Amid;
-use crate::codes::Codes;
+use crate::codes::{Codes, code_at_front};
 use crate::marks::Marks;
-use crate::scan::{digits_at_front, is_bit, is_space, run_end, short_end};
-use crate::word::{Word, is_text, word_of};
-use ccsl_base::{Block, MAX_TOKEN_BYTES, Row};
+use crate::scan::{bits_at_front, digits_at_front, is_bit, is_space, run_end};
+use crate::word::{Word, is_text, last_of, word_of};
+use ccsl_base::{Block, ClockSet, MAX_TOKEN_BYTES, Row};
 use ccsl_vcd::VcdFault;
 
 /// What is kept of a body that is being read.
@@ -31,10 +31,12 @@ pub(crate) fn give(body: &Body, out: &mut Block)
     ensures { out.new ≡ record out.old { rows = out.old.rows ++ row_of body.now } }
 {
     if !body.marks.are_quiet() {
-        out.push(Row {
+        let mut row = Row {
             time: body.present,
-            ticks: body.marks.ticking(),
-        });
+            ticks: ClockSet::empty(),
+        };
+        body.marks.tell(&mut row.ticks);
+        out.push(row);
     }
 }
 
@@ -162,24 +164,70 @@ impl Body {
         }
     }
 
-    // Makes the change of a short token at the front of some bytes, if that is a change to 0 or 1 of a code that was found
-    // before. It answers how many bytes the token has, and 0 where it does nothing.
+    // Makes the change at the front of some bytes, if that is one of a bit to 0 or 1, of a short code that was found before. It
+    // answers how many bytes that are, with the white space behind it, and 0 where it does nothing.
     #[inline(always)]
-    fn short_change(&mut self, bytes: &[u8]) -> usize
-        ensures { Short self.old self.new bytes.now result }
+    fn bit_change(&mut self, bytes: &[u8]) -> usize
+        ensures { Made self.old self.new bytes.now result }
     {
-        if bytes.is_empty() || !is_bit(bytes[0]) {
+        if bytes.is_empty() || !is_bit(bytes[0]) || !self.amid.is_changes() {
             return 0;
         }
-        let end = short_end(bytes);
-        if end == 0 || !self.amid.is_changes() {
-            return 0;
-        }
-        let Some(number) = self.binding.known(&bytes[1..end]) else {
+        let code = code_at_front(&bytes[1..]);
+        let Some(number) = self.binding.known(code.place) else {
             return 0;
         };
         self.marks.change(number, bytes[0] == b'1', self.dumping);
-        end
+        code.len + 2
+    }
+
+    // The same of a vector of letters of the values 0 and 1.
+    #[inline(always)]
+    fn vector_change(&mut self, bytes: &[u8]) -> usize
+        ensures { Made self.old self.new bytes.now result }
+    {
+        if bytes.is_empty() || bytes[0] != b'b' || !self.amid.is_changes() {
+            return 0;
+        }
+        let end = bits_at_front(&bytes[1..]) + 1;
+        if end == 1 || end == bytes.len() || end > MAX_TOKEN_BYTES || !is_space(bytes[end]) {
+            return 0;
+        }
+        let code = code_at_front(&bytes[end + 1..]);
+        let Some(number) = self.binding.known(code.place) else {
+            return 0;
+        };
+        let one = last_of(b'b', &bytes[1..end]) == b'1';
+        self.marks.change(number, one, self.dumping);
+        end + code.len + 2
+    }
+
+    // The same of either.
+    #[inline(always)]
+    fn one_change(&mut self, bytes: &[u8]) -> usize
+        ensures { Made self.old self.new bytes.now result }
+    {
+        let taken = self.bit_change(bytes);
+        if taken > 0 {
+            return taken;
+        }
+        self.vector_change(bytes)
+    }
+
+    // Makes the changes at the front of some bytes, as far as each is one of these. It answers how many bytes they have.
+    #[inline(always)]
+    fn changes(&mut self, bytes: &[u8]) -> usize
+        ensures { Made self.old self.new bytes.now result }
+    {
+        let mut from = 0;
+        while from < bytes.len() {
+            let taken = self.one_change(&bytes[from..]);
+            if taken == 0 {
+                return from;
+            }
+            from += taken;
+        }
+        from
     }
 
     // Hears a time at the front of some bytes, with white space behind it. It answers how many bytes the
@@ -210,21 +258,13 @@ impl Body {
 
     // Hears what stands at the front of some bytes: a byte of white space, or a token and the white space behind it. It answers
     // how many bytes that are: none where no token ends there, or the token is refused.
-    #[inline(always)]
-    fn step(&mut self, at: u64, bytes: &[u8], out: &mut Block) -> usize
+    #[inline(never)]
+    fn token(&mut self, at: u64, bytes: &[u8], out: &mut Block) -> usize
         requires room { length out.old.rows < out.old.room }
         ensures within { result ≤ length bytes.now }
         ensures runs { Runs self.old self.new at (take result bytes.now) out.old.rows out.new.rows }
         ensures room { out.new.room ≡ out.old.room }
     {
-        let short = self.short_change(bytes);
-        if short > 0 {
-            return short + 1;
-        }
-        let time = self.short_time(at, bytes, out);
-        if time > 0 {
-            return time + 1;
-        }
         let end = run_end(bytes, 0);
         if end == bytes.len() || end > MAX_TOKEN_BYTES {
             return 0;
@@ -236,6 +276,26 @@ impl Body {
             Ok(()) => end + 1,
             Err(_) => 0,
         }
+    }
+
+    // Hears what stands at the front of some bytes: a time, changes, or whatever else. It answers how many bytes that are: none
+    // where no token ends there, or the token is refused.
+    #[inline(always)]
+    fn step(&mut self, at: u64, bytes: &[u8], out: &mut Block) -> usize
+        requires room { length out.old.rows < out.old.room }
+        ensures within { result ≤ length bytes.now }
+        ensures runs { Runs self.old self.new at (take result bytes.now) out.old.rows out.new.rows }
+        ensures room { out.new.room ≡ out.old.room }
+    {
+        let time = self.short_time(at, bytes, out);
+        if time > 0 {
+            return time + 1;
+        }
+        let changes = self.changes(bytes);
+        if changes > 0 {
+            return changes;
+        }
+        self.token(at, bytes, out)
     }
 
     /// Hears the tokens that lie whole in a piece, from its front up to one that is refused, or where the block became full. It

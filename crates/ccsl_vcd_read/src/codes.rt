@@ -1,9 +1,11 @@
 //! The declared codes, and a table of the short ones.
 
-ghost use Rattle.std.specs.Prelude.{◌≡◌, ◌≤◌, ℕ, List, IfOk, IfSome, Some, vec_len, map, get_or};
+ghost use Rattle.std.specs.Prelude.{◌≡◌, ◌<◌, ◌≤◌, ℕ, List, IfOk, IfSome, OnSome, Some, vec_len, map, get_or, length, take, true, false};
 ghost use Rattle.ccsl_bind.specs.Codes.{number_of};
-ghost use Rattle.ccsl_vcd_read.specs.Places.{is_visible, place_of};
+ghost use Rattle.ccsl_vcd_lex.specs.Tokens.{is_white};
+ghost use Rattle.ccsl_vcd_read.specs.Places.{is_visible, place_of, IsCode};
 
+use crate::scan::is_space;
 use ccsl_base::{ClockSet, Memory};
 use ccsl_bind::Binding;
 use std::alloc::Global;
@@ -33,10 +35,19 @@ impl Model for Codes {
 }
 
 #[inline(always)]
+#[tactic(auto, unfolding(ccsl_vcd_lex::specs::Tokens::is_white))]
 fn is_visible(b: u8) -> bool
-    ensures { result ≡ is_visible b }
+    ensures value { result ≡ is_visible b }
+    ensures dark { result ≡ true → is_white b ≡ false }
 {
     b >= 33 && b <= 126
+}
+
+/// How many bytes a code at the front of some bytes has, and its place in the table.
+#[derive(Clone, Copy, Debug)]
+pub(crate) struct Placed {
+    pub len: usize,
+    pub place: usize,
 }
 
 // The place of a code in the table, or its length for one that has none.
@@ -52,6 +63,33 @@ fn place(code: &[u8]) -> usize
             *a as usize - 33 + 94 * (*b as usize - 32) + 8836 * (*c as usize - 32)
         }
         _ => SHORT,
+    }
+}
+
+// The first bytes, as a code.
+#[inline(always)]
+fn first_code(bytes: &[u8], len: usize) -> Placed
+    requires { len ≤ length bytes.now }
+    ensures len { result.len ≡ len }
+    ensures place { result.place ≡ place_of (take len bytes.now) }
+{
+    let place = place(&bytes[..len]);
+    Placed { len, place }
+}
+
+/// The code of one to three bytes at the front of some bytes, with white space behind it. Where there is none the place is past
+/// the table.
+#[inline(always)]
+pub(crate) fn code_at_front(bytes: &[u8]) -> Placed
+    ensures { result.place < 839514 → (0 < result.len) × IsCode result.len result.place bytes.now }
+{
+    match bytes {
+        [a, b, ..] if is_visible(*a) && is_space(*b) => first_code(bytes, 1),
+        [a, b, c, ..] if is_visible(*a) && is_visible(*b) && is_space(*c) => first_code(bytes, 2),
+        [a, b, c, d, ..] if is_visible(*a) && is_visible(*b) && is_visible(*c) && is_space(*d) => {
+            first_code(bytes, 3)
+        }
+        _ => first_code(bytes, 0),
     }
 }
 
@@ -72,12 +110,12 @@ impl Codes {
         Ok(Codes { binding, table })
     }
 
-    /// The number of a code that was found before.
+    /// The number of the code of a place, if it was found before.
     #[inline(always)]
-    pub(crate) fn known(&self, code: &[u8]) -> Option<u32>
-        ensures { IfSome result (λ n. number_of code.now self.now.codes ≡ Some n) }
+    pub(crate) fn known(&self, place: usize) -> Option<u32>
+        ensures number { IfSome result (λ n. (code : List ℕ) → place ≡ place_of code → number_of code self.now.codes ≡ Some n) }
+        ensures below { OnSome result (place < 839514) }
     {
-        let place = place(code);
         if place >= SHORT {
             return None;
         }
@@ -101,7 +139,7 @@ impl Codes {
         ensures number { result ≡ number_of code.now self.old.codes }
         ensures same { self.new ≡ self.old }
     {
-        if let Some(number) = self.known(code) {
+        if let Some(number) = self.known(place(code)) {
             return Some(number);
         }
         let number = self.binding.find(code)?;

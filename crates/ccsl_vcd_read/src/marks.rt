@@ -125,14 +125,14 @@ impl Marks {
         self.ones.is_within(&self.earlier)
     }
 
-    /// The clocks that tick at the present time.
+    /// Makes the clocks that tick at the present time members of a set that is empty.
     #[inline(always)]
-    pub(crate) fn ticking(&self) -> ClockSet
-        ensures { result ≡ ticking self.now }
+    pub(crate) fn tell(&self, ticks: &mut ClockSet)
+        requires { ticks.old ≡ [] }
+        ensures { ticks.new ≡ ticking self.now }
     {
-        let ticks = self.ones.beyond(&self.earlier);
+        self.ones.add_beyond(&self.earlier, ticks);
         let _any = ticks.has(0);
-        ticks
     }
 
     /// A later time.

@@ -1,11 +1,10 @@
 //! Where a run of bytes ends, found many bytes at a time.
 
-ghost use Rattle.std.specs.Prelude.{◌≡◌, ◌+◌, ◌^◌, ◌≤◌, ◌<◌, length, take, drop, map};
+ghost use Rattle.std.specs.Prelude.{◌≡◌, ◌+◌, ◌^◌, ◌≤◌, ◌<◌, length, take, drop, map, true};
 ghost use Rattle.std.specs.List.{prefix_len, list_all};
 ghost use Rattle.std.specs.Simd.Lanes.{mask_l};
 ghost use Rattle.ccsl_vcd_lex.specs.Tokens.{is_white};
 ghost use Rattle.ccsl_vcd_lex.specs.Lexing.{is_dark};
-ghost use Rattle.ccsl_vcd_read.specs.Run.{IsShort};
 ghost use Rattle.ccsl_vcd_read.specs.Letters.{is_bit, is_other, AreDigits};
 
 use std::simd::prelude::*;
@@ -88,22 +87,25 @@ pub(crate) fn are_bits(bytes: &[u8]) -> bool
     other_bits(u8x16::from_slice(&bytes[bytes.len() - LANES..])) == 0
 }
 
-/// The length of a token of two to four bytes at the front, with white space behind it; 0 where there is none.
+/// How many letters of the values 0 and 1 stand at the front; fewer may be counted where fewer than 16 bytes are left.
 #[inline(always)]
-pub(crate) fn short_end(bytes: &[u8]) -> usize
-    ensures { 0 < result → IsShort result bytes.now }
+pub(crate) fn bits_at_front(bytes: &[u8]) -> usize
+    ensures within { result ≤ length bytes.now }
+    ensures are { list_all is_bit (take result bytes.now) ≡ true }
 {
-    match bytes {
-        [a, b, ..] if is_space(*a) || is_space(*b) => 0,
-        [_, _, c, ..] if is_space(*c) => 2,
-        [_, _, _, d, ..] if is_space(*d) => 3,
-        [_, _, _, _, e, ..] if is_space(*e) => 4,
-        _ => 0,
+    let mut i = 0;
+    while bytes.len() - i >= LANES {
+        let found = other_bits(u8x16::from_slice(&bytes[i..]));
+        if found != 0 {
+            return i + found.trailing_zeros() as usize;
+        }
+        i += LANES;
     }
+    i
 }
 
-/// A number up to which any digit more fits 64 bits.
-const MANY: u64 = 1_000_000_000_000_000_000;
+/// A number of digits of which any value fits 64 bits.
+const DIGITS: usize = 19;
 
 /// How many digits stand at the front of some bytes, and their value.
 #[derive(Clone, Copy, Debug)]
@@ -112,16 +114,17 @@ pub(crate) struct Digits {
     pub value: u64,
 }
 
-/// The digits at the front, as long as one more fits 64 bits.
+/// The digits at the front, as many as surely fit 64 bits.
 #[inline(always)]
 pub(crate) fn digits_at_front(bytes: &[u8]) -> Digits
     ensures within { result.count ≤ length bytes.now }
     ensures fits { result.value < 2 ^ 64 }
     ensures are { AreDigits (take result.count bytes.now) result.value }
 {
+    let most = bytes.len().min(DIGITS);
     let mut count = 0;
     let mut value = 0u64;
-    while count < bytes.len() && value < MANY && bytes[count] >= b'0' && bytes[count] <= b'9' {
+    while count < most && bytes[count] >= b'0' && bytes[count] <= b'9' {
         value = 10 * value + (bytes[count] - b'0') as u64;
         count += 1;
     }

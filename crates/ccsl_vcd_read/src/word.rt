@@ -64,7 +64,7 @@ fn command_of(text: &[u8]) -> Word
 }
 
 #[inline(always)]
-fn last_of(first: u8, rest: &[u8]) -> u8
+pub(crate) fn last_of(first: u8, rest: &[u8]) -> u8
     ensures { result ≡ last_of first rest.now }
 {
     match rest {

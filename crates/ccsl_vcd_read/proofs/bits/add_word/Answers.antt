@@ -1,4 +1,4 @@
-use Rattle.std.proofs.Common.{ℕ, List, sym, ap, subst}
+use Rattle.std.proofs.Common.{ℕ, List, sym, subst}
 use Rattle.ccsl_vcd_read.proofs.BitLaws.{Adding, adds-more}
 use Rattle.ccsl_vcd_read.proofs.bits.add_word.Goals as goal
 

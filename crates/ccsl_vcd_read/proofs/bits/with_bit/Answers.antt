@@ -1,4 +1,4 @@
-use Rattle.std.proofs.Common.{◌≡◌, ℕ, ◌-◌, ◌*◌, ◌%◌, ◌^◌, ◌<◌, true, false, bit_and, sym, ap, ◌∙◌, nat_eq, arith}
+use Rattle.std.proofs.Common.{sym, ap, ◌∙◌, nat_eq}
 use Rattle.std.specs.Int.{w64}
 use Rattle.std.proofs.lemmas.Nat.{and_le_l}
 use Rattle.std.proofs.lemmas.Nat.Bits.{bit_at_set_same, bit_at_set_other, bit_at_clear_same, bit_at_clear_other}

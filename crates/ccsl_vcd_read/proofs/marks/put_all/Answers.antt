@@ -1,7 +1,4 @@
-use Rattle.std.proofs.Common.{refl, sym, ap, ◌∙◌}
-use Rattle.std.proofs.lemmas.List.{take_all}
 use Rattle.ccsl_base.specs.declared.limits.TheConstants.{MAX_CLOCKS}
-use Rattle.ccsl_vcd_read.specs.Kept.{put_all}
 use Rattle.ccsl_vcd_read.proofs.Kept.{clock-below}
 use Rattle.ccsl_vcd_read.proofs.marks.put_all.Goals as goal
 

@@ -1,4 +1,4 @@
-use Rattle.std.proofs.Common.{◌-◌, length, arith}
+use Rattle.std.proofs.Common.{arith}
 use Rattle.ccsl_vcd_read.proofs.Letters.{bits-fail, bits-next, bits-last}
 use Rattle.ccsl_vcd_read.proofs.scan.are_bits.Goals as goal
 

@@ -1,7 +1,7 @@
-use Rattle.std.proofs.Common.{◌≡◌, ℕ, ◌<◌, ◌+◌, ◌-◌, List, [], ◌∷◌, ◌++◌, length, take, map, refl, sym, ap, ◌∙◌, arith, length-append, length-take-le}
+use Rattle.std.proofs.Common.{◌<◌, ◌+◌, ◌-◌, [], ◌∷◌, ◌++◌, length, take, refl, sym, ap, ◌∙◌, arith, length-append, length-take-le}
 use Rattle.ccsl_vcd_lex.specs.Tokens.{token, word, too_long, settled}
 use Rattle.ccsl_vcd_lex.specs.Lexing.{named}
-use Rattle.ccsl_vcd_read.proofs.Passing.{enter, blank, placed, none-seen, none-behind, settles-more, settles-same, settled-place, lexes-more, breaks-behind}
+use Rattle.ccsl_vcd_read.proofs.Passing.{enter, blank, none-seen, none-behind, settles-more, settles-same, settled-place, lexes-more, breaks-behind}
 use Rattle.ccsl_vcd_read.proofs.lexer.Lexer.feed_run.Goals as goal
 use Rattle.ccsl_vcd_read.proofs.lexer.Lexer.feed_run.Goals.{in-Ok+in-Some, in-Ok+in-None, in-Err}
 

@@ -1,7 +1,7 @@
-use Rattle.std.proofs.Common.{◌≡◌, ◌<◌, ◌+◌, List, [], ◌∷◌, ◌++◌, length, map, refl, sym, ap, ◌∙◌, arith}
+use Rattle.std.proofs.Common.{◌<◌, ◌+◌, [], ◌∷◌, ◌++◌, length, ap, ◌∙◌, arith}
 use Rattle.ccsl_vcd_lex.specs.Tokens.{token, word, settled}
 use Rattle.ccsl_vcd_lex.specs.Lexing.{named}
-use Rattle.ccsl_vcd_read.proofs.Passing.{enter, blank, none-seen, all-heard, heard-place, placed}
+use Rattle.ccsl_vcd_read.proofs.Passing.{enter, blank, none-seen, all-heard, heard-place}
 use Rattle.ccsl_vcd_read.proofs.lexer.Lexer.finish.Goals as goal
 use Rattle.ccsl_vcd_read.proofs.lexer.Lexer.finish.Goals.{in-Some, in-None}
 

@@ -1,6 +1,5 @@
-use Rattle.std.proofs.Common.{List, ℕ, map, ap, ◌∙◌}
+use Rattle.std.proofs.Common.{map, ap, ◌∙◌}
 use Rattle.ccsl_vcd_read.specs.Marks.{aged}
-use Rattle.ccsl_vcd_read.specs.Kept.{mark_in}
 use Rattle.ccsl_vcd_read.proofs.Kept.{marks-age}
 use Rattle.ccsl_vcd_read.proofs.marks.Marks.age.Goals as goal
 

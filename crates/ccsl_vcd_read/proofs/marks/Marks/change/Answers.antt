@@ -1,4 +1,4 @@
-use Rattle.std.proofs.Common.{◌≡◌, List, ℕ, map, sym, ap, ◌∙◌, subst}
+use Rattle.std.proofs.Common.{List, ℕ, map, sym, ap, ◌∙◌, subst}
 use Rattle.ccsl_base.specs.declared.limits.TheConstants.{MAX_CLOCKS}
 use Rattle.ccsl_vcd_read.specs.Marks.{put}
 use Rattle.ccsl_vcd_read.specs.Kept.{mark_in, put_all, AreKept}

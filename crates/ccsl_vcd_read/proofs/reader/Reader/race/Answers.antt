@@ -1,5 +1,4 @@
-use Rattle.std.proofs.Common.{◌≡◌, ℕ, ◌+◌, ◌-◌, ◌≤◌, ◌<◌, List, [], ◌++◌, length, take, true, sym, ap, ◌∙◌, subst, arith}
-use Rattle.ccsl_vcd.specs.Binding.{Wanted}
+use Rattle.std.proofs.Common.{◌≡◌, ◌-◌, ◌≤◌, ◌<◌, ◌++◌, length, take, sym, ap, ◌∙◌, subst, arith}
 use Rattle.ccsl_vcd.specs.Rows.{done}
 use Rattle.ccsl_vcd_read.specs.Reading.{Reading, Pushes, past_header}
 use Rattle.ccsl_vcd_read.proofs.Faults.{enter}

@@ -1,7 +1,6 @@
-use Rattle.std.proofs.Common.{◌≡◌, ℕ, ◌<◌, List, ◌++◌, length, take, false, sym, ap, ◌∙◌, subst, arith}
+use Rattle.std.proofs.Common.{◌++◌, take, false, sym, ◌∙◌, subst, arith}
 use Rattle.std.proofs.lemmas.Grind.{common_steps}
-use Rattle.ccsl_vcd.specs.Binding.{Wanted}
-use Rattle.ccsl_vcd_read.specs.Reading.{Reading, StandsFor, HeaderSo}
+use Rattle.ccsl_vcd_read.specs.Reading.{HeaderSo}
 use Rattle.ccsl_vcd_read.proofs.Feeding.{Passed, more-stands, more-pushes, more-header}
 use Rattle.ccsl_vcd_read.proofs.Passing.{none-open}
 use Rattle.ccsl_vcd_read.proofs.Racing.{white-last}

@@ -1,6 +1,6 @@
 use Rattle.std.proofs.Common.{◌∙◌, arith}
 use Rattle.ccsl_vcd_read.proofs.BitLaws.{beyond-all, as-ticks}
-use Rattle.ccsl_vcd_read.proofs.bits.Bits.beyond.Goals as goal
+use Rattle.ccsl_vcd_read.proofs.bits.Bits.add_beyond.Goals as goal
 
 pub returns : goal.returns
 returns c x =
