@@ -171,32 +171,31 @@ pub fn resolve(
         }
         Tree::Never => Ok(Expr::Never),
         Tree::Binary(op, a, d) => {
-            let a = resolve(alloc, tables, setting, next, a)?;
-            let d = resolve(alloc, tables, setting, next, d)?;
-            Ok(Expr::Binary(operator(*op), Box::new(alloc, a)?, Box::new(alloc, d)?))
+            let a = Box::new(alloc, resolve(alloc, tables, setting, next, a)?)?;
+            let d = Box::new(alloc, resolve(alloc, tables, setting, next, d)?)?;
+            Ok(Expr::Binary(operator(*op), a, d))
         }
         Tree::Delay(a, m) => {
-            let a = resolve(alloc, tables, setting, next, a)?;
-            Ok(Expr::Delay(Box::new(alloc, a)?, term(alloc, setting, m)?))
+            let a = Box::new(alloc, resolve(alloc, tables, setting, next, a)?)?;
+            Ok(Expr::Delay(a, term(alloc, setting, m)?))
         }
         Tree::Await(a, m) => {
-            let a = resolve(alloc, tables, setting, next, a)?;
-            Ok(Expr::Await(Box::new(alloc, a)?, term(alloc, setting, m)?))
+            let a = Box::new(alloc, resolve(alloc, tables, setting, next, a)?)?;
+            Ok(Expr::Await(a, term(alloc, setting, m)?))
         }
         Tree::Filter(a, w) => {
-            let a = resolve(alloc, tables, setting, next, a)?;
-            Ok(Expr::Filter(Box::new(alloc, a)?, word(tables, setting, next, w)?))
+            let a = Box::new(alloc, resolve(alloc, tables, setting, next, a)?)?;
+            Ok(Expr::Filter(a, word(tables, setting, next, w)?))
         }
         Tree::Delayed(a, _, m, d) => {
-            let a = resolve(alloc, tables, setting, next, a)?;
-            let d = resolve(alloc, tables, setting, next, d)?;
-            Ok(Expr::Delayed(Box::new(alloc, a)?, *m, Box::new(alloc, d)?))
+            let a = Box::new(alloc, resolve(alloc, tables, setting, next, a)?)?;
+            let d = Box::new(alloc, resolve(alloc, tables, setting, next, d)?)?;
+            Ok(Expr::Delayed(a, *m, d))
         }
         Tree::If(q, a, d) => {
-            let q = test(alloc, setting, q)?;
-            let a = resolve(alloc, tables, setting, next, a)?;
-            let d = resolve(alloc, tables, setting, next, d)?;
-            Ok(Expr::If(q, Box::new(alloc, a)?, Box::new(alloc, d)?))
+            let a = Box::new(alloc, resolve(alloc, tables, setting, next, a)?)?;
+            let d = Box::new(alloc, resolve(alloc, tables, setting, next, d)?)?;
+            Ok(Expr::If(test(alloc, setting, q)?, a, d))
         }
     }
 }

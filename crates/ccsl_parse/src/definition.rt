@@ -9,7 +9,7 @@ ghost use Rattle.ccsl_grammar.proofs.Loop.{further_member_falls, definition_fall
 ghost use Rattle.ccsl_parse.specs.Reads.{ReadsAs};
 
 use crate::expression::expr_at;
-use crate::leaf::{behind_word, is_word, name_at, symbol_at};
+use crate::leaf::{before_symbol, behind_word, is_word, name_at, symbol_at};
 use crate::line::rline_at;
 use crate::list::list_at;
 use crate::repeat::{Repeated, many_at};
@@ -36,15 +36,12 @@ fn relation_at<'a>(
     let mut first = Vec::new(alloc);
     first.push(line)?;
     let (lines, rest) = many_at(alloc, room, first, rest)?;
-    let rest = symbol_at(rest, b'}')?;
-    Ok((
-        Definition::Relation {
-            name,
-            params,
-            lines,
-        },
-        rest,
-    ))
+    let relation = Definition::Relation {
+        name,
+        params,
+        lines,
+    };
+    before_symbol(relation, rest, b'}')
 }
 
 /// A defined expression of a group.
@@ -77,8 +74,7 @@ fn group_at<'a>(
     let mut first = Vec::new(alloc);
     first.push(member)?;
     let (members, rest) = many_at(alloc, room, first, rest)?;
-    let rest = symbol_at(rest, b';')?;
-    Ok((Definition::Group(members), rest))
+    before_symbol(Definition::Group(members), rest, b';')
 }
 
 /// The further members of a group, each with its `and`.

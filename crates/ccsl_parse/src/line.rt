@@ -44,8 +44,7 @@ fn call_at<'a>(
     ensures { ReadsAs plain_line result (call_at name) tokens.now }
 {
     let (args, rest) = list_at(alloc, tokens)?;
-    let rest = symbol_at(rest, b';')?;
-    Ok((RelationLine::Call(name, args), rest))
+    before_symbol(RelationLine::Call(name, args), rest, b';')
 }
 
 /// What stands behind the first name of a constraint.
@@ -60,8 +59,7 @@ fn constraint_at<'a>(
 {
     let (relation, rest) = relop_at(room, tokens)?;
     let (right, rest) = name_at(alloc, rest)?;
-    let rest = symbol_at(rest, b';')?;
-    Ok((RelationLine::Constraint(left, relation, right), rest))
+    before_symbol(RelationLine::Constraint(left, relation, right), rest, b';')
 }
 
 /// A line of a relation's body.
@@ -93,8 +91,7 @@ fn clocks_at<'a>(alloc: Global, tokens: &'a [Token]) -> Result<(SystemLine, &'a 
     let mut first = Vec::new(alloc);
     first.push(name)?;
     let (names, rest) = further_members(alloc, first, rest)?;
-    let rest = symbol_at(rest, b';')?;
-    Ok((SystemLine::Clocks(names), rest))
+    before_symbol(SystemLine::Clocks(names), rest, b';')
 }
 
 /// A line of the system.

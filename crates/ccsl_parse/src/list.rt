@@ -7,7 +7,7 @@ ghost use Rattle.ccsl_grammar.specs.Loop.{behind};
 ghost use Rattle.ccsl_grammar.specs.Parser.{further_at, list_at};
 ghost use Rattle.ccsl_parse.specs.Reads.{Reads, ReadsWhere};
 
-use crate::leaf::{behind_symbol, name_at, symbol_at};
+use crate::leaf::{before_symbol, behind_symbol, name_at};
 use crate::stop::Stop;
 use ccsl_ast::Spot;
 use ccsl_base::Seq;
@@ -80,8 +80,7 @@ pub fn list_at<'a, T: Listed>(
     let mut first = Vec::new(alloc);
     first.push(item)?;
     let (members, rest) = further_members(alloc, first, rest)?;
-    let rest = symbol_at(rest, b')')?;
-    Ok((members, rest))
+    before_symbol(members, rest, b')')
 }
 
 impl Listed for Spot {

@@ -12,7 +12,7 @@ ghost use Rattle.ccsl_parse.specs.Reads.{Reads, ReadsAs, Fails};
 ghost use Rattle.ccsl_parse.specs.Answered.{StandsIn};
 
 use crate::fault::ParseFault;
-use crate::leaf::{symbol_at, word_at};
+use crate::leaf::{before_symbol, symbol_at, word_at};
 use crate::repeat::many_at;
 use crate::room::Room;
 use crate::stop::Stop;
@@ -57,8 +57,7 @@ fn system_at<'a>(
     let rest = word_at(tokens, Reserved::System)?;
     let rest = symbol_at(rest, b'{')?;
     let (lines, rest) = many_at(alloc, room, Vec::new(alloc), rest)?;
-    let rest = symbol_at(rest, b'}')?;
-    Ok((lines, rest))
+    before_symbol(lines, rest, b'}')
 }
 
 /// What a file is made of.
