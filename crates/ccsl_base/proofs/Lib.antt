@@ -1,5 +1,6 @@
 pub mod Picked
 pub mod Words
+pub mod Differences
 pub mod Tables
 pub mod ReservedWords
 pub mod Digits

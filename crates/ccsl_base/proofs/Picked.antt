@@ -1,6 +1,7 @@
 -- The members that a test of clocks picks.
-use Rattle.std.proofs.Common.{◌≡◌, ◌≢◌, ℕ, zero, suc, ◌+◌, ◌<◌, ◌≤◌, [], ◌∷◌, length, Bool, true, false, cond, ◌||◌, ◌&&◌, refl, sym, ap, ◌∙◌, ⊎_elim, arith, nat_eq, nat_lt, not, ap₂, add-suc, suc-add, add-zero, zero-add}
+use Rattle.std.proofs.Common.{◌≡◌, ◌≢◌, ℕ, zero, suc, ◌+◌, ◌<◌, ◌≤◌, List, [], ◌∷◌, filter, length, Bool, true, false, cond, ◌||◌, ◌&&◌, refl, sym, ap, ◌∙◌, ⊎_elim, arith, nat_eq, nat_lt, not, ap₂, add-suc, suc-add, add-zero, zero-add}
 use Rattle.std.specs.List.{list_all}
+use Rattle.std.proofs.Math.Bool.{and-false, and-true}
 use Rattle.std.proofs.lemmas.Bool.{cases_eq, eq-eqb, ne_eqb, lt-ltb, le-ltb}
 use Rattle.ccsl_base.specs.Bits.{members_where}
 use Rattle.ccsl_base.specs.Clocks.{ticks_in, with_clock, without_clock, is_ascending, are_below}
@@ -118,28 +119,35 @@ members-below p first (suc count) bound l =
     (λ e. rw (members-set p first count e) (ap (λ t. t && are_below bound (members_where p (suc first) count)) (lt-ltb first bound (omega arith)) ∙ members-below p (suc first) count bound (omega arith)))
     (λ e. rw (members-clear p first count e) (members-below p (suc first) count bound (omega arith)))
 
+-- the members that pass another test too
+pub members-filter : (p q both : ℕ → Bool) (first count : ℕ) → ((x : ℕ) → first ≤ x → x < first + count → both x ≡ (p x && q x)) →
+    filter q (members_where p first count) ≡ members_where both first count
+members-filter p q both first zero same = rw (members-none p first, members-none both first) refl
+members-filter p q both first (suc count) same =
+    let later : filter q (members_where p (suc first) count) ≡ members_where both (suc first) count =
+    members-filter p q both (suc first) count (λ x l m. same x (omega arith) (omega arith)) in
+    let here : both first ≡ (p first && q first) = same first (omega arith) (omega arith) in
+    let chosen : Bool → List ℕ = λ b. cond b (first ∷ filter q (members_where p (suc first) count)) (filter q (members_where p (suc first) count)) in
+    by_test p first _
+    (λ e. by_test q first _
+    (λ f.
+    rw (members-set p first count e, members-set both first count (here ∙ ap (λ b. b && q first) e ∙ f))
+    (ap chosen f ∙ ap (λ xs. first ∷ xs) later))
+    (λ f.
+    rw (members-set p first count e, members-clear both first count (here ∙ ap (λ b. b && q first) e ∙ f))
+    (ap chosen f ∙ later)))
+    (λ e. rw (members-clear p first count e, members-clear both first count (here ∙ ap (λ b. b && q first) e)) later)
+
 -- a test that one clock less passes has one member less
 pub without_clock-members : (old new : ℕ → Bool) (first count c : ℕ) → new c ≡ false → ((x : ℕ) → first ≤ x → x < first + count → x ≢ c → new x ≡ old x) →
     without_clock c (members_where old first count) ≡ members_where new first count
-without_clock-members old new first zero c gone same = rw (members-none old first, members-none new first) refl
-without_clock-members old new first (suc count) c gone same =
-    let later : without_clock c (members_where old (suc first) count) ≡ members_where new (suc first) count =
-    without_clock-members old new (suc first) count c gone (λ x l m. same x (omega arith) (omega arith)) in
+without_clock-members old new first count c gone same =
+    members-filter old (λ y. not (nat_eq c y)) new first count
+    (λ x l m.
     ⊎_elim
-    (λ e.
-    let clear : members_where new first (suc count) ≡ members_where new (suc first) count = members-clear new first count (ap new (sym e) ∙ gone) in
-    by_test old first _
-    (λ s. rw (members-set old first count s, clear)
-    (ap (λ t. cond (not t) (first ∷ without_clock c (members_where old (suc first) count)) (without_clock c (members_where old (suc first) count))) (eq-eqb c first e) ∙ later))
-    (λ s. rw (members-clear old first count s, clear) later))
-    (λ other.
-    let here : new first ≡ old first = same first (omega arith) (omega arith) (λ q. other (sym q)) in
-    by_test old first _
-    (λ s. rw (members-set old first count s, members-set new first count (here ∙ s))
-    (ap (λ t. cond (not t) (first ∷ without_clock c (members_where old (suc first) count)) (without_clock c (members_where old (suc first) count))) (ne_eqb c first other)
-    ∙ ap (λ xs. first ∷ xs) later))
-    (λ s. rw (members-clear old first count s, members-clear new first count (here ∙ s)) later))
-    (cases_eq c first)
+    (λ e. ap new (sym e) ∙ gone ∙ sym (ap (λ b. old x && not b) (eq-eqb c x e) ∙ and-false (old x)))
+    (λ other. same x l m (λ q. other (sym q)) ∙ sym (ap (λ b. old x && not b) (ne_eqb c x other) ∙ and-true (old x)))
+    (cases_eq c x))
 
 -- a test that no clock passes has no members
 pub members-empty : (p : ℕ → Bool) (first count : ℕ) → ((x : ℕ) → first ≤ x → x < first + count → p x ≡ false) → members_where p first count ≡ []

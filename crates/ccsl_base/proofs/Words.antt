@@ -1,6 +1,7 @@
 -- What words of 64 bits say as a set of clocks.
-use Rattle.std.proofs.Common.{◌≡◌, ◌≢◌, ℕ, zero, suc, ◌+◌, ◌-◌, ◌<◌, ◌≤◌, ◌*◌, ◌/◌, ◌%◌, ◌^◌, List, [], ◌∷◌, length, Bool, true, false, refl, sym, ap, ◌∙◌, ⊎_elim, subst, arith, nat_eq, get_or, slice_set, replicate, add-suc, pow-suc, div-one, take, ap₂, ◌||◌, ◌&&◌, not, max, min, bit_or, bit_and}
+use Rattle.std.proofs.Common.{◌≡◌, ◌≢◌, ℕ, zero, suc, ◌+◌, ◌-◌, ◌<◌, ◌≤◌, ◌*◌, ◌/◌, ◌%◌, ◌^◌, List, [], ◌∷◌, length, Bool, true, false, refl, sym, ap, ◌∙◌, ⊎_elim, subst, arith, nat_eq, get_or, slice_set, replicate, add-suc, zero-mul, pow-suc, div-one, take, ap₂, ◌||◌, ◌&&◌, not, max, min, bit_or, bit_and}
 use Rattle.std.specs.Int.{bit_at, bit_not, w64}
+use mir.Val.{bool_byte}
 use Rattle.std.specs.List.{sum_by}
 use Rattle.std.proofs.lemmas.List.Sums.{sum_by-cons, sum_by_push}
 use Rattle.std.proofs.lemmas.Bool.{eqb-true, cases_eq, cases_lt}
@@ -8,12 +9,13 @@ use Rattle.std.proofs.lemmas.List.{get_or-set_same, get_or-set_other, get_or_pas
 use Rattle.std.proofs.lemmas.Nat.{div_below}
 use Rattle.std.specs.Int.Count.{ones, ones_step}
 use Rattle.std.proofs.Math.Nat.{div-div-eq-div-mul}
-use Rattle.std.proofs.lemmas.Nat.Bits.{bit_at-lt, bit_at-zero, bit_at_or, bit_at_and, bit_at_not}
+use Rattle.std.proofs.Math.Bool.{or-false}
+use Rattle.std.proofs.lemmas.Nat.Bits.{bit_at-lt, bit_at-zero, bit_at_or, bit_at_and, bit_at_not, bit_at_set_same, bit_at_set_other, bit_at_clear_same, bit_at_clear_other}
 use Rattle.ccsl_base.specs.Bits.{is_set, bit_of, members_where, members_of, members_left, EmptyFrom, size_of_word}
-use Rattle.ccsl_base.specs.Clocks.{ticks_in, with_clock, without_clock, is_ascending, are_below}
+use Rattle.ccsl_base.specs.Clocks.{ticks_in, with_clock, without_clock, put_clock, is_ascending, are_below}
 use Rattle.ccsl_base.proofs.Picked.{members-set, members-clear, members-none, by_test, ticks_in-members, ticks_in-past, with_clock-members, without_clock-members, members-ascending, members-below, members-same, members-empty, members-skip, members-cut, length-split, length-moved, length-most}
 
-is_set-zero : (x : ℕ) → is_set 0 x ≡ false
+pub is_set-zero : (x : ℕ) → is_set 0 x ≡ false
 is_set-zero x = ap (λ b. nat_eq b 1) (bit_at-zero x)
 
 bit_from : (b : ℕ) → b < 2 → nat_eq b 1 ≡ false → b ≡ 0
@@ -95,7 +97,7 @@ pub sizes-next : (words : List ℕ) (i : ℕ) → i < length words →
 sizes-next words i l = ap (sum_by size_of_word) (take_more words i 0 l) ∙ sum_by_push size_of_word (take i words) (get_or words i 0)
 
 -- words that are 0 from a place on have no bit there
-clear-from : (place : ℕ) (words : List ℕ) → EmptyFrom place words → (x : ℕ) → 64 * place ≤ x → bit_of words x ≡ false
+pub clear-from : (place : ℕ) (words : List ℕ) → EmptyFrom place words → (x : ℕ) → 64 * place ≤ x → bit_of words x ≡ false
 clear-from place words empty x l =
     let zero_word : get_or words (x / 64) 0 ≡ 0 = empty (x / 64) (omega arith) in
     ap (λ w. is_set w (x % 64)) zero_word ∙ is_set-zero (x % 64)
@@ -180,6 +182,57 @@ pub words-without-absent : (used : ℕ) (words : List ℕ) (c : ℕ) → EmptyFr
 words-without-absent used words c empty l =
     without_clock-members (bit_of words) (bit_of words) 0 (64 * length words) c (clear-from used words empty c (omega arith)) (λ x m n o. refl)
 
+bit-or : (a b : ℕ) → a < 2 → b < 2 → nat_eq (max a b) 1 ≡ (nat_eq a 1 || nat_eq b 1)
+bit-or zero zero l m = refl
+bit-or zero (suc zero) l m = refl
+bit-or (suc zero) zero l m = refl
+bit-or (suc zero) (suc zero) l m = refl
+bit-or (suc (suc a)) b l m = absurd (omega arith)
+bit-or zero (suc (suc b)) l m = absurd (omega arith)
+bit-or (suc zero) (suc (suc b)) l m = absurd (omega arith)
+
+pub is_set-or : (a b i : ℕ) → is_set (bit_or a b) i ≡ (is_set a i || is_set b i)
+is_set-or a b i = ap (λ n. nat_eq n 1) (bit_at_or a b i) ∙ bit-or (bit_at a i) (bit_at b i) (bit_at-lt a i) (bit_at-lt b i)
+
+bit-without : (a b : ℕ) → a < 2 → b < 2 → nat_eq (min a (1 - b)) 1 ≡ (nat_eq a 1 && not (nat_eq b 1))
+bit-without zero zero l m = refl
+bit-without zero (suc zero) l m = refl
+bit-without (suc zero) zero l m = refl
+bit-without (suc zero) (suc zero) l m = refl
+bit-without (suc (suc a)) b l m = absurd (omega arith)
+bit-without zero (suc (suc b)) l m = absurd (omega arith)
+bit-without (suc zero) (suc (suc b)) l m = absurd (omega arith)
+
+pub is_set-without : (a b i : ℕ) → b < 2 ^ 64 → i < 64 → is_set (bit_and a (bit_not w64 b)) i ≡ (is_set a i && not (is_set b i))
+is_set-without a b i fits inside =
+    ap (λ n. nat_eq n 1) (bit_at_and a (bit_not w64 b) i ∙ ap (min (bit_at a i)) (bit_at_not w64 b i fits inside))
+    ∙ bit-without (bit_at a i) (bit_at b i) (bit_at-lt a i) (bit_at-lt b i)
+
+-- a bit more or less is a member more or less
+pub words-put : (words : List ℕ) (c word : ℕ) (one : Bool) → c / 64 < length words → is_set word (c % 64) ≡ one →
+    ((y : ℕ) → y < 64 → y ≢ c % 64 → is_set word y ≡ is_set (get_or words (c / 64) 0) y) → put_clock c one (members_of words) ≡ members_of (slice_set words (c / 64) word)
+words-put words c word true l here others = words-with words c word l here others
+words-put words c word false l here others = words-without words c word l here others
+
+-- a word with a bit cleared, and then put to a value
+shifted-none : (place : ℕ) → 0 * 2 ^ place % 2 ^ 64 ≡ 0
+shifted-none place = ap (λ n. n % 2 ^ 64) (zero-mul (2 ^ place))
+
+pub bit-put_same : (word place : ℕ) (one : Bool) → place < 64 → is_set (bit_or (bit_and word (bit_not w64 (1 * 2 ^ place % 2 ^ 64))) (bool_byte one * 2 ^ place % 2 ^ 64)) place ≡ one
+bit-put_same word place true l = ap (λ b. nat_eq b 1) (bit_at_set_same w64 _ place l)
+bit-put_same word place false l =
+    is_set-or (bit_and word (bit_not w64 (1 * 2 ^ place % 2 ^ 64))) (0 * 2 ^ place % 2 ^ 64) place
+    ∙ ap₂ (λ a b. a || b) (ap (λ b. nat_eq b 1) (bit_at_clear_same w64 word place l)) (ap (λ w. is_set w place) (shifted-none place) ∙ is_set-zero place)
+
+pub bit-put_other : (word place : ℕ) (one : Bool) → place < 64 → (i : ℕ) → i < 64 → i ≢ place →
+    is_set (bit_or (bit_and word (bit_not w64 (1 * 2 ^ place % 2 ^ 64))) (bool_byte one * 2 ^ place % 2 ^ 64)) i ≡ is_set word i
+bit-put_other word place true l i m n =
+    ap (λ b. nat_eq b 1) (bit_at_set_other w64 _ place l i n ∙ bit_at_clear_other w64 word place l i m n)
+bit-put_other word place false l i m n =
+    is_set-or (bit_and word (bit_not w64 (1 * 2 ^ place % 2 ^ 64))) (0 * 2 ^ place % 2 ^ 64) i
+    ∙ ap₂ (λ a b. a || b) (ap (λ b. nat_eq b 1) (bit_at_clear_other w64 word place l i m n)) (ap (λ w. is_set w i) (shifted-none place) ∙ is_set-zero i)
+    ∙ or-false (is_set word i)
+
 -- ---- two sets
 
 -- the words before a place are those of two sets, bit by bit
@@ -229,32 +282,6 @@ pub has-none : (b : Bool) (word k : ℕ) → word ≡ 0 → (is_set word k && b)
 has-none b word k z =
     let none : is_set word k ≡ false = ap (λ w. is_set w k) z ∙ is_set-zero k in
     ap (λ a. a && b) none ∙ sym none
-
-bit-or : (a b : ℕ) → a < 2 → b < 2 → nat_eq (max a b) 1 ≡ (nat_eq a 1 || nat_eq b 1)
-bit-or zero zero l m = refl
-bit-or zero (suc zero) l m = refl
-bit-or (suc zero) zero l m = refl
-bit-or (suc zero) (suc zero) l m = refl
-bit-or (suc (suc a)) b l m = absurd (omega arith)
-bit-or zero (suc (suc b)) l m = absurd (omega arith)
-bit-or (suc zero) (suc (suc b)) l m = absurd (omega arith)
-
-pub is_set-or : (a b i : ℕ) → is_set (bit_or a b) i ≡ (is_set a i || is_set b i)
-is_set-or a b i = ap (λ n. nat_eq n 1) (bit_at_or a b i) ∙ bit-or (bit_at a i) (bit_at b i) (bit_at-lt a i) (bit_at-lt b i)
-
-bit-without : (a b : ℕ) → a < 2 → b < 2 → nat_eq (min a (1 - b)) 1 ≡ (nat_eq a 1 && not (nat_eq b 1))
-bit-without zero zero l m = refl
-bit-without zero (suc zero) l m = refl
-bit-without (suc zero) zero l m = refl
-bit-without (suc zero) (suc zero) l m = refl
-bit-without (suc (suc a)) b l m = absurd (omega arith)
-bit-without zero (suc (suc b)) l m = absurd (omega arith)
-bit-without (suc zero) (suc (suc b)) l m = absurd (omega arith)
-
-pub is_set-without : (a b i : ℕ) → b < 2 ^ 64 → i < 64 → is_set (bit_and a (bit_not w64 b)) i ≡ (is_set a i && not (is_set b i))
-is_set-without a b i fits inside =
-    ap (λ n. nat_eq n 1) (bit_at_and a (bit_not w64 b) i ∙ ap (min (bit_at a i)) (bit_at_not w64 b i fits inside))
-    ∙ bit-without (bit_at a i) (bit_at b i) (bit_at-lt a i) (bit_at-lt b i)
 
 -- ---- a walk
 

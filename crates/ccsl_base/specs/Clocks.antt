@@ -16,6 +16,14 @@ with_clock x (y ∷ ys) = if nat_lt x y then x ∷ (y ∷ ys) else if nat_eq x y
 abbrev pub without_clock : ℕ → List ℕ → List ℕ
 without_clock x ys = filter (λ y. not (nat_eq x y)) ys
 
+-- the set with clock x as a member, or without it
+abbrev pub put_clock : ℕ → Bool → List ℕ → List ℕ
+put_clock x one ys = if one then with_clock x ys else without_clock x ys
+
+-- the members of the one set that are not the other's
+abbrev pub difference : List ℕ → List ℕ → List ℕ
+difference xs ys = filter (λ x. not (ticks_in x ys)) xs
+
 -- each member is less than all behind it
 abbrev pub is_ascending : List ℕ → Bool
 is_ascending [] = true

@@ -1,7 +1,7 @@
 //! Sets of clocks.
 
-ghost use Rattle.std.specs.Prelude.{◌≡◌, ◌<◌, ◌↔◌, ℕ, ◌||◌, ◌&&◌, not, [], IsTrue, length};
-ghost use Rattle.ccsl_base.specs.Clocks.{ticks_in, with_clock, without_clock, is_ascending, are_below};
+ghost use Rattle.std.specs.Prelude.{◌≡◌, ◌≢◌, ◌<◌, ◌↔◌, ℕ, ◌||◌, ◌&&◌, not, [], IsTrue, length};
+ghost use Rattle.ccsl_base.specs.Clocks.{ticks_in, with_clock, without_clock, put_clock, difference, is_ascending, are_below};
 ghost use Rattle.ccsl_base.specs.Bits.{is_set, size_of_word};
 
 use crate::MAX_CLOCKS;
@@ -15,8 +15,9 @@ const WORDS: usize = 16;
 /// walked in the words that it uses, not in all of them.
 #[derive(Drop)]
 pub struct ClockSet {
-    words: [u64; WORDS],
+    // the words from here on are 0; it stands beside the first word, which most walks read next
     used: usize,
+    words: [u64; WORDS],
 }
 
 impl Model for ClockSet {
@@ -31,6 +32,7 @@ impl Model for ClockSet {
 }
 
 /// The number of bits of a word that are set.
+#[inline(always)]
 fn size_of_word(word: u64) -> u32
     ensures { result ≡ size_of_word word }
 {
@@ -38,6 +40,7 @@ fn size_of_word(word: u64) -> u32
 }
 
 /// The bits of two words.
+#[inline(always)]
 fn either_word(word: u64, other: u64) -> u64
     ensures { (i : ℕ) → is_set result i ≡ (is_set word i || is_set other i) }
 {
@@ -45,24 +48,38 @@ fn either_word(word: u64, other: u64) -> u64
 }
 
 /// The bits of a word that are not another's.
+#[inline(always)]
 fn word_without(word: u64, other: u64) -> u64
-    ensures { (i : ℕ) → i < u64.BITS → is_set result i ≡ (is_set word i && not (is_set other i)) }
+    ensures bits { (i : ℕ) → i < u64.BITS → is_set result i ≡ (is_set word i && not (is_set other i)) }
+    ensures none { word ≡ 0 → result ≡ 0 }
 {
     word & !other
 }
 
+/// A word with the bit of a place set or not, whatever it was.
+#[inline(always)]
+fn word_with(word: u64, place: u32, one: bool) -> u64
+    requires { place < u64.BITS }
+    ensures here { is_set result place ≡ one }
+    ensures others { (i : ℕ) → i < u64.BITS → i ≢ place → is_set result i ≡ is_set word i }
+{
+    (word & !(1 << place)) | ((one as u64) << place)
+}
+
 impl ClockSet {
     /// The set without members.
+    #[inline]
     pub fn empty() -> ClockSet
         ensures { result ≡ [] }
     {
         ClockSet {
-            words: [0; WORDS],
             used: 0,
+            words: [0; WORDS],
         }
     }
 
     /// Makes a clock a member.
+    #[inline(always)]
     pub fn insert(&mut self, clock: u32)
         requires { clock < MAX_CLOCKS }
         ensures { self.new ≡ with_clock clock self.old }
@@ -73,6 +90,7 @@ impl ClockSet {
     }
 
     /// Takes a clock out. A number past the limit is none.
+    #[inline(always)]
     pub fn remove(&mut self, clock: u32)
         ensures { self.new ≡ without_clock clock self.old }
     {
@@ -82,7 +100,19 @@ impl ClockSet {
         }
     }
 
+    /// Makes a clock a member, or takes it out.
+    #[inline(always)]
+    pub fn put(&mut self, clock: u32, one: bool)
+        requires { clock < MAX_CLOCKS }
+        ensures { self.new ≡ put_clock clock one self.old }
+    {
+        let place = (clock / u64::BITS) as usize;
+        self.words[place] = word_with(self.words[place], clock % u64::BITS, one);
+        self.used = self.used.max(place + 1);
+    }
+
     /// Makes the members of another set members.
+    #[inline]
     pub fn insert_all(&mut self, other: &ClockSet)
         ensures { (x : ℕ) → ticks_in x self.new ≡ (ticks_in x self.old || ticks_in x other.now) }
     {
@@ -93,6 +123,7 @@ impl ClockSet {
     }
 
     /// Takes the members of another set out.
+    #[inline(always)]
     pub fn remove_all(&mut self, other: &ClockSet)
         ensures { (x : ℕ) → ticks_in x self.new ≡ (ticks_in x self.old && not (ticks_in x other.now)) }
     {
@@ -101,7 +132,43 @@ impl ClockSet {
         }
     }
 
+    /// Has the members of another set from now on.
+    #[inline(always)]
+    pub fn copy_from(&mut self, other: &ClockSet)
+        ensures { self.new ≡ other.now }
+    {
+        for i in 0..self.used.max(other.used) {
+            self.words[i] = other.words[i];
+        }
+        self.used = other.used;
+    }
+
+    /// Has the members of one set that are not another's from now on.
+    #[inline(always)]
+    pub fn copy_difference(&mut self, one: &ClockSet, other: &ClockSet)
+        ensures { self.new ≡ difference one.now other.now }
+    {
+        for i in 0..self.used.max(one.used) {
+            self.words[i] = word_without(one.words[i], other.words[i]);
+        }
+        self.used = one.used;
+    }
+
+    /// Whether each member is another's too.
+    #[inline(always)]
+    pub fn is_subset(&self, other: &ClockSet) -> bool
+        ensures { IsTrue result ↔ (difference self.now other.now ≡ []) }
+    {
+        for i in 0..self.used {
+            if word_without(self.words[i], other.words[i]) != 0 {
+                return false;
+            }
+        }
+        true
+    }
+
     /// Whether a clock is a member. A number past the limit is none.
+    #[inline(always)]
     pub fn has(&self, clock: u32) -> bool
         ensures member { result ≡ ticks_in clock self.now }
         ensures ascending { IsTrue (is_ascending self.now) }
@@ -111,6 +178,7 @@ impl ClockSet {
             && (self.words[(clock / u64::BITS) as usize] >> (clock % u64::BITS)) & 1 == 1
     }
 
+    #[inline(always)]
     pub fn is_empty(&self) -> bool
         ensures { IsTrue result ↔ (self.now ≡ []) }
     {
@@ -118,6 +186,7 @@ impl ClockSet {
     }
 
     /// The number of members.
+    #[inline]
     pub fn len(&self) -> u32
         ensures { result ≡ length self.now }
     {
@@ -129,16 +198,18 @@ impl ClockSet {
     }
 
     /// A set with the same members.
+    #[inline]
     pub fn copy(&self) -> ClockSet
         ensures { result ≡ self.now }
     {
         ClockSet {
-            words: self.words,
             used: self.used,
+            words: self.words,
         }
     }
 
     /// The members, in ascending order.
+    #[inline(always)]
     pub fn members(&self) -> Members<'_>
         ensures members { result ≡ self.now }
         ensures ascending { IsTrue (is_ascending self.now) }

@@ -13,8 +13,6 @@ pub mod numeral;
 pub mod reserved;
 pub mod rows;
 pub mod seq;
-#[cfg(test)]
-mod tests;
 pub mod text;
 
 pub use clock_set::ClockSet;

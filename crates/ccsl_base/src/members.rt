@@ -30,6 +30,7 @@ impl<'a> Model for Members<'a> {
 
 impl<'a> Members<'a> {
     /// Those of words.
+    #[inline(always)]
     pub(crate) fn new(words: &'a [u64]) -> Members<'a>
         requires { length words.now ≤ 16 }
         ensures { result ≡ members_of words.now }
@@ -50,6 +51,7 @@ impl<'a> Members<'a> {
 }
 
 /// The place of the lowest bit that is set.
+#[inline(always)]
 fn lowest(word: u64) -> u32
     requires { 0 < word }
     ensures inside { result < u64.BITS }
@@ -66,6 +68,7 @@ impl<'a> Iterator for Members<'a> {
 
     ghost remaining = { item_count (λ m. m) };
 
+    #[inline]
     fn next(&mut self) -> Option<u32> {
         'words: while self.word == 0 {
             let (word, others) = self.words.split_first()?;

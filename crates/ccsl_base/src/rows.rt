@@ -1,6 +1,7 @@
 //! Rows of a trace, and bounded lists of them.
 
 ghost use Rattle.std.specs.Prelude.{◌≡◌, ◌<◌, ◌≤◌, ◌↔◌, [], ◌∷◌, ◌++◌, IsTrue, IfOk, length, slice_get, Some};
+ghost use Rattle.ccsl_base.specs.Clocks.{difference};
 
 use crate::{ClockSet, Memory};
 use std::alloc::Global;
@@ -16,19 +17,21 @@ pub struct Row {
 /// A list of rows that has room for a fixed number of them. Contracts see its `rows` and its `room`.
 #[derive(Drop)]
 pub struct Block {
+    // as many as there is room for, which are filled again and again
     rows: Vec<Row>,
-    room: usize,
+    // how many are filled
+    len: usize,
 }
 
 impl Model for Block {
-    ghost use Rattle.std.specs.Prelude.{◌≤◌, vec_len, vec_capacity};
+    ghost use Rattle.std.specs.Prelude.{◌≤◌, take, vec_len};
     ghost use Rattle.ccsl_base.specs.Rows.{RowList};
 
     ghost Value = { RowList };
 
-    ghost view = { λ b. record { rows = b.rows.items; room = b.room } };
+    ghost view = { λ b. record { rows = take b.len b.rows.items; room = vec_len b.rows } };
 
-    ghost invariant = { λ b. (vec_len b.rows ≤ b.room) × (b.room ≤ vec_capacity b.rows) };
+    ghost invariant = { λ b. b.len ≤ vec_len b.rows };
 }
 
 impl Block {
@@ -36,36 +39,65 @@ impl Block {
     pub fn with_room(alloc: Global, n: usize) -> Result<Block, Memory>
         ensures { IfOk result (λ b. b ≡ record { rows = []; room = n }) }
     {
-        let rows = Vec::with_capacity(alloc, n)?;
-        Ok(Block { rows, room: n })
+        let mut rows = Vec::with_capacity(alloc, n)?;
+        while rows.len() < n {
+            rows.push_reserved(Row {
+                time: 0,
+                ticks: ClockSet::empty(),
+            });
+        }
+        Ok(Block { rows, len: 0 })
     }
 
+    #[inline(always)]
     pub fn push(&mut self, row: Row)
         requires { length self.old.rows < self.old.room }
         ensures { self.new ≡ record self.old { rows = self.old.rows ++ row ∷ [] } }
     {
-        self.rows.push_reserved(row);
+        self.rows[self.len] = row;
+        self.len += 1;
     }
 
+    /// Appends a row whose clocks are the members of one set that are not another's. It is made in its place.
+    #[inline(always)]
+    pub fn push_difference(&mut self, time: u64, now: &ClockSet, earlier: &ClockSet)
+        requires { length self.old.rows < self.old.room }
+        ensures { self.new ≡ record self.old {
+          rows = self.old.rows ++ (record {
+            time = time;
+            ticks = difference now.now earlier.now;
+          }) ∷ [];
+        } }
+    {
+        let row = &mut self.rows[self.len];
+        row.time = time;
+        row.ticks.copy_difference(now, earlier);
+        self.len += 1;
+    }
+
+    #[inline(always)]
     pub fn is_full(&self) -> bool
         ensures full { IsTrue result ↔ (length self.now.rows ≡ self.now.room) }
         ensures room { length self.now.rows ≤ self.now.room }
     {
-        self.rows.len() == self.room
+        self.len == self.rows.len()
     }
 
+    #[inline(always)]
     pub fn len(&self) -> usize
         ensures { result ≡ length self.now.rows }
     {
-        self.rows.len()
+        self.len
     }
 
+    #[inline(always)]
     pub fn is_empty(&self) -> bool
         ensures { IsTrue result ↔ (self.now.rows ≡ []) }
     {
-        self.rows.is_empty()
+        self.len == 0
     }
 
+    #[inline(always)]
     pub fn row(&self, i: usize) -> &Row
         requires { i < length self.now.rows }
         ensures { slice_get self.now.rows i ≡ Some result.now }
@@ -74,9 +106,10 @@ impl Block {
     }
 
     /// Takes the rows out, and keeps the room.
+    #[inline(always)]
     pub fn clear(&mut self)
         ensures { self.new ≡ record self.old { rows = [] } }
     {
-        self.rows.clear();
+        self.len = 0;
     }
 }

@@ -1,6 +1,6 @@
 use Rattle.std.proofs.Common.{IsTrue}
 use Rattle.ccsl_base.specs.Clocks.{are_below}
-use Rattle.ccsl_base.proofs.tests.rebuilt.Given as goal
+use Rattle.ccsl_base_tests.proofs.sets.rebuilt.Given as goal
 
 -- what is left is below the limit
 abbrev pub invariant-loop-clock : goal.invariant-loop-clock
