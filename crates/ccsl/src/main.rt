@@ -1,12 +1,13 @@
 //! The program: it hands the real words and the real files to `run`, and says on standard error why there is no answer.
 #![tactic(auto)]
 
-use ccsl_base::CommandWord;
+use ccsl_base::{CommandWord, HashKeys};
 use ccsl_edge::FileWorld;
 use ccsl_pool::NoGate;
 use ccsl_top::run;
 use std::alloc::AllocError;
 use std::process::ExitCode;
+use std::random::RandomSource;
 use std::{env, io};
 
 // The words behind the program's name.
@@ -18,6 +19,18 @@ fn command_words(rt: &HostRuntime) -> io::Result<Vec<CommandWord>> {
         }
     }
     Ok(words)
+}
+
+// Keys that no file can be made for.
+fn drawn_keys(rt: &HostRuntime) -> io::Result<HashKeys> {
+    let mut first = [0; 8];
+    let mut second = [0; 8];
+    rt.fill_bytes(&mut first)?;
+    rt.fill_bytes(&mut second)?;
+    Ok(HashKeys {
+        first: u64::from_le_bytes(first),
+        second: u64::from_le_bytes(second),
+    })
 }
 
 fn main(rt: HostRuntime) -> ExitCode {
@@ -32,8 +45,12 @@ fn main(rt: HostRuntime) -> ExitCode {
             return ExitCode::from(2);
         }
     };
+    let Ok(keys) = drawn_keys(&rt) else {
+        let _ = eprintln!(rt; "ccsl: no random numbers");
+        return ExitCode::from(5);
+    };
     let mut world = FileWorld::new(&rt);
-    let status = run(&rt, rt.alloc(), words.as_slice(), &mut world, &NoGate);
+    let status = run(&rt, rt.alloc(), keys, words.as_slice(), &mut world, &NoGate);
     if status == 5 {
         let _ = eprintln!(rt; "ccsl: a file failed");
     }

@@ -3,6 +3,7 @@
 
 pub mod clock_set;
 pub mod command_word;
+pub mod keys;
 pub mod laws;
 pub mod limits;
 pub mod members;
@@ -17,6 +18,7 @@ pub mod text;
 
 pub use clock_set::ClockSet;
 pub use command_word::CommandWord;
+pub use keys::HashKeys;
 pub use limits::{
     BLOCK_ROWS, MAX_CALL_LEVELS, MAX_CELLS, MAX_CLOCKS, MAX_CODE_BYTES, MAX_CONSTRAINTS, MAX_DELAY,
     MAX_FILE_BYTES, MAX_LETTERS, MAX_LEVELS, MAX_NAME_BYTES, MAX_NUMBER, MAX_PARAMS, MAX_SCOPES,

@@ -6,16 +6,18 @@ ghost use Rattle.ccsl_base.specs.Names.{find_name, IsAdded, are_distinct};
 use crate::Memory;
 use indexmap::IndexSet;
 use std::alloc::Global;
+use std::hash::{BuildHasher, BuildHasherDefault, FoldHasher};
 use std::marker::Model;
 
-/// A list of distinct byte texts, each with its number in the order of addition. A look-up takes constant time.
+/// A list of distinct byte texts, each with its number in the order of addition. A look-up takes constant expected time: where a
+/// stranger chooses the texts, by a hasher that he does not know.
 #[derive(Drop)]
-pub struct Names {
+pub struct Names<S: BuildHasher = BuildHasherDefault<FoldHasher>> {
     alloc: Global,
-    texts: IndexSet<Vec<u8>>,
+    texts: IndexSet<Vec<u8>, S>,
 }
 
-impl Model for Names {
+impl<S: BuildHasher> Model for Names<S> {
     ghost use Rattle.std.specs.Prelude.{List, ℕ, map, length, ◌<◌, ◌^◌, IsTrue};
     ghost use Rattle.ccsl_base.specs.Names.{are_distinct};
 
@@ -27,13 +29,22 @@ impl Model for Names {
 }
 
 impl Names {
-    /// A table without names.
+    /// A table without names, whose hasher is always the same.
     pub fn new(alloc: Global) -> Names
+        ensures { result ≡ [] }
+    {
+        Names::with_hasher(alloc, BuildHasherDefault::new())
+    }
+}
+
+impl<S: BuildHasher> Names<S> {
+    /// A table without names.
+    pub fn with_hasher(alloc: Global, hasher: S) -> Names<S>
         ensures { result ≡ [] }
     {
         Names {
             alloc,
-            texts: IndexSet::new(alloc),
+            texts: IndexSet::with_hasher(alloc, hasher),
         }
     }
 

@@ -10,7 +10,7 @@ ghost use Rattle.ccsl_bind.specs.Slots.{clocks_from};
 use crate::binding::Binding;
 use crate::candidate::{Candidates, noted};
 use crate::fault::BindFault;
-use ccsl_base::{ClockSet, MAX_CLOCKS, Memory, Names};
+use ccsl_base::{ClockSet, HashKeys, MAX_CLOCKS, Memory, Names};
 use ccsl_kernel::System;
 use std::alloc::Global;
 use std::marker::Model;
@@ -20,7 +20,7 @@ use std::marker::Model;
 pub struct Binder {
     names: Names,
     declared: u32,
-    codes: Names,
+    codes: Names<HashKeys>,
     found: Vec<Option<Candidates>>,
 }
 
@@ -48,8 +48,9 @@ fn may_bind(kind: &[u8], size: u32) -> bool
 }
 
 impl Binder {
-    /// A binder before the first declaration, for the written clocks of a system.
-    pub fn open(alloc: Global, system: &System) -> Result<Binder, Memory>
+    /// A binder before the first declaration, for the written clocks of a system. A stranger chooses the codes, so that their table
+    /// has a hasher with random keys.
+    pub fn open(alloc: Global, keys: HashKeys, system: &System) -> Result<Binder, Memory>
         ensures { IfOk result (λ b. StandsFor (wanted_of system.now) b []) }
     {
         let mut names = Names::new(alloc);
@@ -61,7 +62,7 @@ impl Binder {
         Ok(Binder {
             names,
             declared: system.scope().declared,
-            codes: Names::new(alloc),
+            codes: Names::with_hasher(alloc, keys),
             found,
         })
     }

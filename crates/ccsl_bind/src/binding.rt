@@ -8,14 +8,14 @@ ghost use Rattle.ccsl_bind.specs.Bindings.{code_number, is_bound_event, are_decl
 ghost use Rattle.ccsl_bind.specs.Slots.{bound_from, are_numbered, slot_of};
 
 use crate::candidate::Candidates;
-use ccsl_base::{ClockSet, Names};
+use ccsl_base::{ClockSet, HashKeys, Names};
 use std::marker::Model;
 
 /// The codes that a header declares, numbered from 0 in the order of first declarations, and the clocks that are bound to
 /// them.
 #[derive(Drop)]
 pub struct Binding {
-    codes: Names,
+    codes: Names<HashKeys>,
     bound: ClockSet,
     // what each clock is bound to
     slots: Vec<Option<Candidates>>,
@@ -45,7 +45,11 @@ fn slot_of(slots: &[Option<Candidates>], clock: u32) -> Option<Candidates>
 
 impl Binding {
     /// The codes by number, the bound clocks, and what each clock is bound to.
-    pub(crate) fn new(codes: Names, bound: ClockSet, slots: Vec<Option<Candidates>>) -> Binding
+    pub(crate) fn new(
+        codes: Names<HashKeys>,
+        bound: ClockSet,
+        slots: Vec<Option<Candidates>>,
+    ) -> Binding
         requires clocks { bound ≡ map (λ c. c.clock) (bound_from 0 codes slots.items) }
         requires numbers { IsTrue (are_numbered codes slots.items) }
         ensures { result ≡ record { codes = codes; bound = bound_from 0 codes slots.items } }

@@ -3,10 +3,16 @@
 ghost use Rattle.std.specs.Prelude.{◌<◌, length};
 
 use super::*;
-use ccsl_base::{Names, Seq};
+use ccsl_base::{HashKeys, Names, Seq};
 use ccsl_kernel::{Expr, Parts, System};
 use std::alloc::Global;
 use std::test::Fail;
+
+/// Any keys: no answer depends on them.
+const KEYS: HashKeys = HashKeys {
+    first: 1,
+    second: 2,
+};
 
 #[derive(Clone, Copy)]
 struct Declared {
@@ -66,7 +72,7 @@ fn system(alloc: Global) -> Result<System, Fail> {
 fn closed(alloc: Global, lines: &[Declared]) -> Result<Result<Binding, BindFault>, Fail>
     requires { length lines.now < 100 }
 {
-    let mut binder = Binder::open(alloc, &system(alloc)?)?;
+    let mut binder = Binder::open(alloc, KEYS, &system(alloc)?)?;
     for line in lines {
         binder.declare(line.depth, line.kind, line.size, line.code, line.reference)?;
     }

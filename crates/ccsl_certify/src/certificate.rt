@@ -11,7 +11,7 @@ ghost use Rattle.ccsl_certify.specs.Certified.{Answers, IsCertified, IsUncertifi
 
 use crate::answer::{CertVerdict, CertifyFault, Replayed};
 use crate::trace::replay;
-use ccsl_base::Memory;
+use ccsl_base::{HashKeys, Memory};
 use ccsl_edge::{Slot, World, read_all};
 use ccsl_items::put_formulas;
 use ccsl_kernel::System;
@@ -49,6 +49,7 @@ fn check_lines(
 /// step is left after it. The certificate has at most as many bytes as the limits allow a trace.
 pub fn certify<W: World>(
     alloc: Global,
+    keys: HashKeys,
     world: &mut W,
     system: &System,
     limits: &Limits,
@@ -58,7 +59,7 @@ pub fn certify<W: World>(
     ensures uncertified { IfErr result (λ fault.
         IsUncertified W.told system.now limits.now (W.state world.old) (W.state world.new) fault) }
 {
-    let replayed = replay(alloc, world, system, limits)?;
+    let replayed = replay(alloc, keys, world, system, limits)?;
     let text = read_all(alloc, world, Slot::Cert, limits.bytes)?;
     let lines = read(alloc, &text, system.names())?;
     match replayed {

@@ -11,7 +11,7 @@ ghost use Rattle.ccsl_certify.specs.Replaying.{Follows, IsReplayed, Goes, HasEnd
 
 use crate::answer::Replayed;
 use crate::follower::Follower;
-use ccsl_base::Memory;
+use ccsl_base::{HashKeys, Memory};
 use ccsl_edge::World;
 use ccsl_kernel::System;
 use ccsl_trace::{Feed, Next, TraceFault};
@@ -42,6 +42,7 @@ impl<'s> Replaying<'s> {
     // Reads the header, and follows the trace from there on.
     fn begin<W: World>(
         alloc: Global,
+        keys: HashKeys,
         world: &mut W,
         system: &'s System,
         limits: &Limits,
@@ -51,7 +52,7 @@ impl<'s> Replaying<'s> {
         ensures unread { IfErr result (λ fault.
             IsUnread W.told (wanted_of system.now) limits.now (W.state world.old) (W.state world.new) fault) }
     {
-        let mut feed = match Feed::open(alloc, system, limits) {
+        let mut feed = match Feed::open(alloc, keys, system, limits) {
             Ok(feed) => feed,
             Err(Memory) => return Err(ReplayFault::Memory),
         };
@@ -114,6 +115,7 @@ impl<'s> Replaying<'s> {
 /// answered; else the least step at which an item is violated, and the least item there.
 pub fn replay<'s, W: World>(
     alloc: Global,
+    keys: HashKeys,
     world: &mut W,
     system: &'s System,
     limits: &Limits,
@@ -123,7 +125,7 @@ pub fn replay<'s, W: World>(
     ensures unread { IfErr result (λ fault.
         IsUnread W.told (wanted_of system.now) limits.now (W.state world.old) (W.state world.new) fault) }
 {
-    let mut replaying = match Replaying::begin(alloc, world, system, limits) {
+    let mut replaying = match Replaying::begin(alloc, keys, world, system, limits) {
         Ok(replaying) => replaying,
         Err(fault) => return Err(fault),
     };

@@ -2,7 +2,7 @@
 
 ghost use Rattle.std.specs.Prelude.{◌≤◌};
 
-use ccsl_base::MAX_SPEC_BYTES;
+use ccsl_base::{HashKeys, MAX_SPEC_BYTES};
 use ccsl_certify::{CertVerdict, CertifyFault, certify};
 use ccsl_edge::{CallKind, HeldFile, MemoryWorld, Slot, World};
 use ccsl_kernel::System;
@@ -11,6 +11,12 @@ use ccsl_vcd::Limits;
 use std::alloc::Global;
 use std::process::Abort;
 use std::test::*;
+
+/// Any keys: no answer depends on them.
+const KEYS: HashKeys = HashKeys {
+    first: 1,
+    second: 2,
+};
 
 /// Limits that no file here reaches.
 pub(crate) const WIDE: Limits = Limits {
@@ -85,7 +91,7 @@ pub(crate) fn answer_in(
     limits: &Limits,
     world: &mut MemoryWorld,
 ) -> Answer {
-    let answer = certify(alloc, world, system, limits);
+    let answer = certify(alloc, KEYS, world, system, limits);
     Answer {
         answer,
         trace_faults: world.faults(Slot::Trace),

@@ -1,13 +1,19 @@
 //! Traces that are replayed, and the states behind them.
 
 use crate::certified::{WIDE, system_of, trace_of, world};
-use ccsl_base::ClockSet;
+use ccsl_base::{ClockSet, HashKeys};
 use ccsl_certify::{ReplayFault, Replayed, replay};
 use ccsl_kernel::System;
 use ccsl_vcd::VcdFault;
 use std::alloc::Global;
 use std::process::Abort;
 use std::test::*;
+
+/// Any keys: no answer depends on them.
+const KEYS: HashKeys = HashKeys {
+    first: 1,
+    second: 2,
+};
 
 /// What a replay answers: a run of so many steps, after which so many clocks tick where the first one does; or
 /// no run.
@@ -31,7 +37,7 @@ fn what_is(replayed: &Replayed<'_>) -> Seen {
 fn replayed(alloc: Global, system: &System, body: &str) -> Result<Result<Seen, ReplayFault>, Fail> {
     let trace = trace_of(alloc, body)?;
     let mut world = world(alloc, trace.as_str(), "", Vec::new(alloc), 4096)?;
-    match replay(alloc, &mut world, system, &WIDE) {
+    match replay(alloc, KEYS, &mut world, system, &WIDE) {
         Ok(replayed) => Ok(Ok(what_is(&replayed))),
         Err(fault) => Ok(Err(fault)),
     }

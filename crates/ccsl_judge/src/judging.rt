@@ -14,7 +14,7 @@ ghost use Rattle.ccsl_judge.specs.Judged.{IsJudged, HasItem};
 use crate::share::Share;
 use crate::shares::{check_rows, first_of, open_shares};
 use crate::verdict::{Verdict, verdict_on};
-use ccsl_base::Memory;
+use ccsl_base::{HashKeys, Memory};
 use ccsl_edge::World;
 use ccsl_kernel::System;
 use ccsl_pool::Gate;
@@ -54,6 +54,7 @@ impl<'s> Judging<'s> {
     // Reads the header, and opens the shares for the clocks that it binds.
     fn begin<W: World>(
         alloc: Global,
+        keys: HashKeys,
         world: &mut W,
         system: &'s System,
         workers: u32,
@@ -65,7 +66,7 @@ impl<'s> Judging<'s> {
         ensures unread { IfErr result (λ fault.
             IsUnread W.told (wanted_of system.now) limits.now (W.state world.old) (W.state world.new) fault) }
     {
-        let mut feed = match Feed::open(alloc, system, limits) {
+        let mut feed = match Feed::open(alloc, keys, system, limits) {
             Ok(feed) => feed,
             Err(Memory) => return Err(JudgeFault::Memory),
         };
@@ -144,6 +145,7 @@ impl<'s> Judging<'s> {
 pub fn judge<R: Threads + Sync, W: World, G: Gate>(
     rt: &R,
     alloc: Global,
+    keys: HashKeys,
     world: &mut W,
     system: &System,
     workers: u32,
@@ -157,7 +159,7 @@ pub fn judge<R: Threads + Sync, W: World, G: Gate>(
     ensures unread { IfErr result (λ fault.
         IsUnread W.told (wanted_of system.now) limits.now (W.state world.old) (W.state world.new) fault) }
 {
-    let mut judging = match Judging::begin(alloc, world, system, workers, limits) {
+    let mut judging = match Judging::begin(alloc, keys, world, system, workers, limits) {
         Ok(judging) => judging,
         Err(fault) => return Err(fault),
     };

@@ -6,6 +6,7 @@ ghost use Rattle.ccsl_command.specs.declared.command.Command.TheVariants as comm
 ghost use Rattle.ccsl_top.specs.Certifying.{HasItem, IsReplyOn, CertifyAnswers, IsBothStop};
 ghost use Rattle.ccsl_top.specs.Answered.{AnswersTo, StopsAt};
 
+use ccsl_base::HashKeys;
 use crate::files::{LIMITS, Stop};
 use crate::reply::{Reply, Status};
 use crate::specification::read_specification;
@@ -48,6 +49,7 @@ fn reply_on(
 // Checks the certificate of a name behind the trace of a name, against a system.
 fn certify_files<W: World>(
     alloc: Global,
+    keys: HashKeys,
     world: &mut W,
     system: &System,
     trace: &str,
@@ -62,13 +64,14 @@ fn certify_files<W: World>(
     world.open_in(Slot::Trace, trace)?;
     world.open_in(Slot::Cert, cert)?;
     first_bad_line_is_first();
-    let certified = ccsl_certify::certify(alloc, world, system, &LIMITS);
+    let certified = ccsl_certify::certify(alloc, keys, world, system, &LIMITS);
     reply_on(alloc, certified, system)
 }
 
 /// Checks the certificate of a name behind the trace of a name, against the specification of a name.
 pub(crate) fn certify<W: World>(
     alloc: Global,
+    keys: HashKeys,
     world: &mut W,
     spec: &str,
     trace: &str,
@@ -83,7 +86,7 @@ pub(crate) fn certify<W: World>(
         (command.Certify spec.now trace.now cert.now) stop (W.state world.old) (W.state world.new)) }
 {
     match read_specification(alloc, world, spec)? {
-        Specification::Accepted(system) => certify_files(alloc, world, &system, trace, cert),
+        Specification::Accepted(system) => certify_files(alloc, keys, world, &system, trace, cert),
         Specification::Refused(line) => Ok(Reply {
             status: Status::SpecRefused,
             line,

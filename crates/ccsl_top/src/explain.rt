@@ -16,7 +16,7 @@ ghost use Rattle.ccsl_top.specs.Answered.{AnswersTo, StopsAt};
 use crate::files::{LIMITS, Stop};
 use crate::reply::{Reply, Status};
 use crate::specification::read_specification;
-use ccsl_base::{ClockSet, Memory};
+use ccsl_base::{ClockSet, HashKeys, Memory};
 use ccsl_certify::{ReplayFault, Replayed, replay};
 use ccsl_edge::{Failed, Slot, World, write_all};
 use ccsl_explain::Explained;
@@ -122,6 +122,7 @@ fn explain_run<W: World>(
 // Explains what follows the trace of a name, against a system.
 fn explain_trace<W: World>(
     alloc: Global,
+    keys: HashKeys,
     world: &mut W,
     system: &System,
     trace: &str,
@@ -135,7 +136,7 @@ fn explain_trace<W: World>(
         (W.state world.old) (W.state world.new) stop) }
 {
     world.open_in(Slot::Trace, trace)?;
-    match replay(alloc, world, system, &LIMITS) {
+    match replay(alloc, keys, world, system, &LIMITS) {
         Ok(Replayed::Run { steps, states }) => {
             explain_run(alloc, world, system, cert, steps, &states)
         }
@@ -156,6 +157,7 @@ fn explain_trace<W: World>(
 /// cites no other item. It is opened only where items block.
 pub(crate) fn explain<W: World>(
     alloc: Global,
+    keys: HashKeys,
     world: &mut W,
     spec: &str,
     trace: &str,
@@ -170,7 +172,7 @@ pub(crate) fn explain<W: World>(
         (command.Explain spec.now trace.now cert.now) stop (W.state world.old) (W.state world.new)) }
 {
     match read_specification(alloc, world, spec)? {
-        Specification::Accepted(system) => explain_trace(alloc, world, &system, trace, cert),
+        Specification::Accepted(system) => explain_trace(alloc, keys, world, &system, trace, cert),
         Specification::Refused(line) => Ok(Reply {
             status: Status::SpecRefused,
             line,

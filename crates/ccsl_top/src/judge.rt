@@ -15,7 +15,7 @@ ghost use Rattle.ccsl_top.specs.Answered.{plain_reply, AnswersTo, StopsAt};
 use crate::files::{LIMITS, Stop};
 use crate::reply::{Reply, Status};
 use crate::specification::read_specification;
-use ccsl_base::Memory;
+use ccsl_base::{HashKeys, Memory};
 use ccsl_edge::{Slot, World};
 use ccsl_judge::{JudgeFault, Verdict};
 use ccsl_kernel::System;
@@ -68,6 +68,7 @@ fn reply_on(
 fn judge_trace<R: Threads + Sync, W: World, G: Gate>(
     rt: &R,
     alloc: Global,
+    keys: HashKeys,
     world: &mut W,
     system: &System,
     trace: &str,
@@ -85,7 +86,7 @@ fn judge_trace<R: Threads + Sync, W: World, G: Gate>(
     if world.open_in(Slot::Trace, trace).is_err() {
         return Err(Stop::Fault);
     }
-    let judged = ccsl_judge::judge(rt, alloc, world, system, workers.max(1), gate, &LIMITS);
+    let judged = ccsl_judge::judge(rt, alloc, keys, world, system, workers.max(1), gate, &LIMITS);
     reply_on(judged, system, line)
 }
 
@@ -93,6 +94,7 @@ fn judge_trace<R: Threads + Sync, W: World, G: Gate>(
 pub(crate) fn judge<R: Threads + Sync, W: World, G: Gate>(
     rt: &R,
     alloc: Global,
+    keys: HashKeys,
     world: &mut W,
     spec: &str,
     trace: &str,
@@ -108,7 +110,7 @@ pub(crate) fn judge<R: Threads + Sync, W: World, G: Gate>(
 {
     match read_specification(alloc, world, spec)? {
         Specification::Accepted(system) => {
-            judge_trace(rt, alloc, world, &system, trace, workers, gate)
+            judge_trace(rt, alloc, keys, world, &system, trace, workers, gate)
         }
         Specification::Refused(line) => Ok(Reply {
             status: Status::SpecRefused,

@@ -20,7 +20,7 @@ use crate::report::report;
 use crate::session::session;
 use crate::simulate::simulate;
 use crate::trial::trial;
-use ccsl_base::CommandWord;
+use ccsl_base::{CommandWord, HashKeys};
 use ccsl_command::{Command, Usage, words as command_line};
 use ccsl_edge::World;
 use ccsl_pool::Gate;
@@ -47,6 +47,7 @@ fn refuse_words(alloc: Global, fault: &Usage) -> Result<Reply, Stop>
 fn answer_command<R: Threads + Sync, W: World, G: Gate>(
     rt: &R,
     alloc: Global,
+    keys: HashKeys,
     command: &Command,
     world: &mut W,
     gate: &G,
@@ -67,6 +68,7 @@ fn answer_command<R: Threads + Sync, W: World, G: Gate>(
         } => judge(
             rt,
             alloc,
+            keys,
             world,
             spec.as_str(),
             trace.as_str(),
@@ -91,21 +93,21 @@ fn answer_command<R: Threads + Sync, W: World, G: Gate>(
             cert.as_str(),
         ),
         Command::Certify { spec, trace, cert } => {
-            certify(alloc, world, spec.as_str(), trace.as_str(), cert.as_str())
+            certify(alloc, keys, world, spec.as_str(), trace.as_str(), cert.as_str())
         }
         Command::Trial {
             clocks,
             steps,
             seed,
             workers,
-        } => trial(rt, alloc, *clocks, *steps, *seed, *workers, gate),
+        } => trial(rt, alloc, keys, *clocks, *steps, *seed, *workers, gate),
         Command::Periodic {
             left,
             right,
             relation,
         } => periodic(alloc, left, right, *relation),
         Command::Explain { spec, trace, cert } => {
-            explain(alloc, world, spec.as_str(), trace.as_str(), cert.as_str())
+            explain(alloc, keys, world, spec.as_str(), trace.as_str(), cert.as_str())
         }
         Command::Session { .. } => unreachable!(),
     }
@@ -115,6 +117,7 @@ fn answer_command<R: Threads + Sync, W: World, G: Gate>(
 fn obey<R: Threads + Sync, W: World, G: Gate>(
     rt: &R,
     alloc: Global,
+    keys: HashKeys,
     command: &Command,
     world: &mut W,
     gate: &G,
@@ -128,17 +131,18 @@ fn obey<R: Threads + Sync, W: World, G: Gate>(
     if let Command::Session { spec, policy, seed } = command {
         return session(alloc, world, spec.as_str(), *policy, *seed);
     }
-    let answer = answer_command(rt, alloc, command, world, gate);
+    let answer = answer_command(rt, alloc, keys, command, world, gate);
     report(world, answer)
 }
 
 /// Does all that the program does, and answers its exit status: 0 where it is done, 1 where a trace is no run, a certificate not valid or
 /// a step possible that was to be explained, 2 to 4 where the words, the specification, or a trace, a certificate or standard input are
 /// refused, 5 where a file failed, 6 where there was no memory, 8 where a simulation ended early. `workers` threads judge a trace, and each
-/// part of their work enters the gate; neither changes the outcome.
+/// part of their work enters the gate; neither changes the outcome, nor do the keys by which a trace's codes are hashed.
 pub fn run<R: Threads + Sync, W: World, G: Gate>(
     rt: &R,
     alloc: Global,
+    keys: HashKeys,
     words: &[CommandWord],
     world: &mut W,
     gate: &G,
@@ -147,7 +151,7 @@ pub fn run<R: Threads + Sync, W: World, G: Gate>(
     ensures { Headline W.told words.now result (W.state world.old) (W.state world.new) }
 {
     match command_line(alloc, words) {
-        Ok(command) => obey(rt, alloc, &command, world, gate),
+        Ok(command) => obey(rt, alloc, keys, &command, world, gate),
         Err(fault) => report(world, refuse_words(alloc, &fault)),
     }
 }

@@ -12,7 +12,7 @@ ghost use Rattle.ccsl_top.specs.Answered.{plain_reply};
 use crate::files::{LIMITS, Stop};
 use crate::reply::{Reply, Status};
 use crate::simulate::write_run;
-use ccsl_base::Memory;
+use ccsl_base::{HashKeys, Memory};
 use ccsl_chain::chain;
 use ccsl_edge::{MemoryWorld, Slot, World};
 use ccsl_judge::{JudgeFault, Verdict};
@@ -54,6 +54,7 @@ fn written(alloc: Global, system: &System, seed: u64, steps: u64) -> Result<Memo
 fn judged_steps<R: Threads + Sync, G: Gate>(
     rt: &R,
     alloc: Global,
+    keys: HashKeys,
     world: &mut MemoryWorld,
     system: &System,
     workers: u32,
@@ -65,7 +66,7 @@ fn judged_steps<R: Threads + Sync, G: Gate>(
     ensures files { IfOk result (λ _. world.new.files ≡ world.old.files) }
 {
     simulated_traces_are_runs(system);
-    match ccsl_judge::judge(rt, alloc, world, system, workers.max(1), gate, &LIMITS) {
+    match ccsl_judge::judge(rt, alloc, keys, world, system, workers.max(1), gate, &LIMITS) {
         Ok(Verdict::Run(steps)) => Ok(steps),
         Ok(Verdict::Violated { .. }) => unreachable!(),
         Err(JudgeFault::Refused(_)) => unreachable!(),
@@ -92,6 +93,7 @@ fn ticks_of(alloc: Global, world: &MemoryWorld, system: &System, made: u64) -> R
 pub(crate) fn trial<R: Threads + Sync, G: Gate>(
     rt: &R,
     alloc: Global,
+    keys: HashKeys,
     clocks: u32,
     steps: u64,
     seed: u64,
@@ -106,7 +108,7 @@ pub(crate) fn trial<R: Threads + Sync, G: Gate>(
 {
     let system = chain(alloc, clocks)?;
     let mut world = written(alloc, &system, seed, steps)?;
-    let made = judged_steps(rt, alloc, &mut world, &system, workers, gate)?;
+    let made = judged_steps(rt, alloc, keys, &mut world, &system, workers, gate)?;
     let ticks = ticks_of(alloc, &world, &system, made)?;
     Ok(Reply {
         status: Status::Done,

@@ -2,7 +2,7 @@
 
 ghost use Rattle.std.specs.Prelude.{◌≤◌};
 
-use ccsl_base::CommandWord;
+use ccsl_base::{CommandWord, HashKeys};
 use ccsl_edge::{CallKind, HeldFile, MemoryWorld, Slot};
 use ccsl_pool::{Gate, NoGate};
 use ccsl_top::run;
@@ -10,6 +10,12 @@ use std::alloc::Global;
 use std::process::Abort;
 use std::test::*;
 use std::thread::Threads;
+
+/// Any keys: no answer depends on them.
+const KEYS: HashKeys = HashKeys {
+    first: 1,
+    second: 2,
+};
 
 /// What the program answered and reported.
 #[derive(Drop)]
@@ -61,7 +67,7 @@ pub(crate) fn answer_in<R: Threads + Sync, G: Gate>(
     gate: &G,
 ) -> Result<Answer, Fail> {
     let words = words_of(alloc, line)?;
-    let status = run(rt, alloc, words.as_slice(), world, gate);
+    let status = run(rt, alloc, KEYS, words.as_slice(), world, gate);
     let report = Vec::from_slice(alloc, world.written(Slot::Report))?;
     Ok(Answer {
         status,

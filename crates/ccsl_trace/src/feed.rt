@@ -14,7 +14,7 @@ ghost use Rattle.ccsl_trace.specs.Traces.{Fails, IsUnread};
 use crate::fault::{TraceFault, unread};
 use crate::next::Next;
 use crate::pending::Pending;
-use ccsl_base::{BLOCK_ROWS, Block, ClockSet, Memory};
+use ccsl_base::{BLOCK_ROWS, Block, ClockSet, HashKeys, Memory};
 use ccsl_edge::World;
 use ccsl_kernel::System;
 use ccsl_vcd::Limits;
@@ -48,14 +48,19 @@ impl Model for Feed {
 
 impl Feed {
     // With the limits by value, whose numbers are known to fit.
-    fn begin(alloc: Global, system: &System, limits: Limits) -> Result<Feed, Memory>
+    fn begin(
+        alloc: Global,
+        keys: HashKeys,
+        system: &System,
+        limits: Limits,
+    ) -> Result<Feed, Memory>
         ensures unbound { IfOk result (λ feed. bound_of feed ≡ None) }
         ensures feeds { IfOk result (λ feed. (told : Told) (now : State) →
             Feeds told (wanted_of system.now) limits now now feed []) }
     {
         let pending = Pending::open(alloc)?;
         let block = Block::with_room(alloc, BLOCK_ROWS)?;
-        let reader = Reader::open(alloc, system, &limits)?;
+        let reader = Reader::open(alloc, keys, system, &limits)?;
         Ok(Feed {
             pending,
             reader,
@@ -66,12 +71,17 @@ impl Feed {
     }
 
     /// A feed before the first byte of a trace. It takes all memory that is taken before the first read.
-    pub fn open(alloc: Global, system: &System, limits: &Limits) -> Result<Feed, Memory>
+    pub fn open(
+        alloc: Global,
+        keys: HashKeys,
+        system: &System,
+        limits: &Limits,
+    ) -> Result<Feed, Memory>
         ensures unbound { IfOk result (λ feed. bound_of feed ≡ None) }
         ensures feeds { IfOk result (λ feed. (told : Told) (now : State) →
             Feeds told (wanted_of system.now) limits.now now now feed []) }
     {
-        Feed::begin(alloc, system, *limits)
+        Feed::begin(alloc, keys, system, *limits)
     }
 
     // The rows that were handed out make room.

@@ -8,12 +8,18 @@ ghost use Rattle.ccsl_trace.specs.Feeding.{Feeds};
 ghost use Rattle.ccsl_trace.specs.Traces.{IsReadBy, IsUnread};
 
 use super::*;
-use ccsl_base::{Names, Seq};
+use ccsl_base::{HashKeys, Names, Seq};
 use ccsl_edge::{CallKind, HeldFile, MemoryWorld, Slot, World};
 use ccsl_kernel::{Parts, System};
 use ccsl_vcd::{Limits, VcdFault};
 use std::alloc::Global;
 use std::test::*;
+
+/// Any keys: no answer depends on them.
+const KEYS: HashKeys = HashKeys {
+    first: 1,
+    second: 2,
+};
 
 // The number of all rows.
 fn count<W: World>(feed: &mut Feed, world: &mut W) -> Result<u64, TraceFault>
@@ -102,7 +108,7 @@ fn counted(
     let system = system(alloc)?;
     let trace = format!(in alloc; "{HEAD}{body}")?;
     let mut world = world(alloc, trace.as_str(), failing, piece)?;
-    let mut feed = Feed::open(alloc, &system, &LIMITS)?;
+    let mut feed = Feed::open(alloc, KEYS, &system, &LIMITS)?;
     let rows = count(&mut feed, &mut world);
     Ok((rows, feed.bound().map(|bound| bound.len())))
 }

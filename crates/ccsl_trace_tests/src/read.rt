@@ -7,7 +7,7 @@ ghost use Rattle.ccsl_vcd.specs.Binding.{Wanted};
 ghost use Rattle.ccsl_trace.specs.Feeding.{Feeds};
 
 use crate::listing::{keep, lines};
-use ccsl_base::{Memory, Names, Row, Seq};
+use ccsl_base::{HashKeys, Memory, Names, Row, Seq};
 use ccsl_edge::{HeldFile, MemoryWorld, Slot, World};
 use ccsl_kernel::{Parts, System};
 use ccsl_trace::{Feed, Next, TraceFault};
@@ -15,6 +15,12 @@ use ccsl_vcd::{Limits, VcdFault};
 use std::alloc::Global;
 use std::process::Abort;
 use std::test::Fail;
+
+/// Any keys: no answer depends on them.
+const KEYS: HashKeys = HashKeys {
+    first: 1,
+    second: 2,
+};
 
 /// Limits that no text here reaches.
 pub const WIDE: Limits = Limits {
@@ -99,7 +105,7 @@ fn rows_in(
     world: &mut MemoryWorld,
     limits: &Limits,
 ) -> Result<Result<Vec<Row>, TraceFault>, Memory> {
-    let mut feed = Feed::open(alloc, system, limits)?;
+    let mut feed = Feed::open(alloc, KEYS, system, limits)?;
     all_rows(alloc, &mut feed, world)
 }
 

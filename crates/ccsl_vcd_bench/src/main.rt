@@ -7,7 +7,7 @@ ghost use Rattle.ccsl_bind.specs.Collected.{wanted_of};
 ghost use Rattle.ccsl_vcd.specs.Binding.{Wanted};
 ghost use Rattle.ccsl_vcd_read.specs.Reading.{StandsFor};
 
-use ccsl_base::{BLOCK_ROWS, Block, Memory, Names, Seq};
+use ccsl_base::{BLOCK_ROWS, Block, HashKeys, Memory, Names, Seq};
 use ccsl_kernel::{Parts, System};
 use ccsl_vcd_read::{Counts, Limits, Reader, VcdFault};
 use std::alloc::{AllocError, Global};
@@ -15,6 +15,12 @@ use std::fs::File;
 use std::io::Read;
 use std::string::String;
 use std::{env, io};
+
+/// Any keys: no answer depends on them.
+const KEYS: HashKeys = HashKeys {
+    first: 1,
+    second: 2,
+};
 
 /// The bytes that are read at once.
 const PIECE: usize = 65_536;
@@ -123,7 +129,7 @@ fn open(alloc: Global, system: &System) -> Result<Desk, Memory>
 {
     let buf = vec![in alloc; 0u8; PIECE]?;
     let block = Block::with_room(alloc, BLOCK_ROWS)?;
-    let reader = Reader::open(alloc, system, &LIMITS)?;
+    let reader = Reader::open(alloc, KEYS, system, &LIMITS)?;
     Ok(Desk { buf, block, reader })
 }
 

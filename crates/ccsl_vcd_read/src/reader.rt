@@ -17,7 +17,7 @@ use crate::heading::Heading;
 use crate::lexer::Lexer;
 use crate::scan::is_space;
 use crate::stage::{Stage, bound, give_left, hear, is_body, may_end, run};
-use ccsl_base::{Block, ClockSet, Memory};
+use ccsl_base::{Block, ClockSet, HashKeys, Memory};
 use ccsl_bind::Binder;
 use ccsl_kernel::System;
 use ccsl_vcd::{Limits, VcdFault};
@@ -66,14 +66,19 @@ impl Model for Reader {
 }
 
 impl Reader {
-    /// A reader before the first byte of a trace, for the written clocks of a system.
-    pub fn open(alloc: Global, system: &System, limits: &Limits) -> Result<Reader, Memory>
+    /// A reader before the first byte of a trace, for the written clocks of a system. The trace's codes are hashed by random keys.
+    pub fn open(
+        alloc: Global,
+        keys: HashKeys,
+        system: &System,
+        limits: &Limits,
+    ) -> Result<Reader, Memory>
         ensures limits { IfOk result (λ r. r.limits ≡ limits.now) }
         ensures runs { IfOk result (λ r. r.fault ≡ None) }
         ensures stands { IfOk result (λ r. StandsFor (wanted_of system.now) r []) }
     {
         let lexer = Lexer::open(alloc)?;
-        let binder = Binder::open(alloc, system)?;
+        let binder = Binder::open(alloc, keys, system)?;
         Ok(Reader {
             alloc,
             lexer,

@@ -5,11 +5,17 @@ ghost use Rattle.ccsl_bind.specs.Collected.{wanted_of};
 ghost use Rattle.ccsl_vcd.specs.Binding.{Wanted};
 ghost use Rattle.ccsl_vcd_read.specs.Reading.{StandsFor};
 
-use ccsl_base::{Block, Memory, Names, Seq};
+use ccsl_base::{Block, HashKeys, Memory, Names, Seq};
 use ccsl_kernel::{Parts, System};
 use ccsl_vcd_read::{Counts, Limits, Reader, VcdFault};
 use std::alloc::Global;
 use std::test::Fail;
+
+/// Any keys: no answer depends on them.
+const KEYS: HashKeys = HashKeys {
+    first: 1,
+    second: 2,
+};
 
 /// Limits that no text here reaches.
 const WIDE: Limits = Limits {
@@ -90,7 +96,7 @@ fn open(alloc: Global, system: &System) -> Result<Desk, Memory>
     ensures stands { IfOk result (λ desk. StandsFor (wanted_of system.now) desk.reader []) }
 {
     let block = Block::with_room(alloc, 4)?;
-    let reader = Reader::open(alloc, system, &WIDE)?;
+    let reader = Reader::open(alloc, KEYS, system, &WIDE)?;
     Ok(Desk { block, reader })
 }
 
