@@ -81,12 +81,17 @@ def main():
             names = ", ".join(f"w{i}" for i in range(64))
             lines = " ".join(f"w{i} subclock w{i};" for i in range(64))
             out.write(f"ccsl 1; system {{ clock {names}; {lines} }}\n")
+        with open(f"{folder}/sampled.ccsl", "w") as out:
+            lines = " ".join(f"define s{i} = w{i} sampled on w{(i + 1) % 64}; s{i} subclock w{(i + 1) % 64};" for i in range(64))
+            out.write(f"ccsl 1; system {{ clock {names}; {lines} }}\n")
         with open(f"{folder}/free.ccsl", "w") as out:
             out.write("ccsl 1; system { clock a, b; a subclock a; }\n")
         compare("two event variables, one constraint that holds", f"{folder}/events.vcd", f"{folder}/free.ccsl", folder, 1)
         compare("two event variables, one constraint that fails", f"{folder}/events.vcd", f"{folder}/events.ccsl", folder, 1)
         for workers in (1, 4):
             compare("64 wires, 64 constraints that hold", f"{folder}/wires.vcd", f"{folder}/wires.ccsl", folder, workers)
+        for workers in (1, 4):
+            compare("64 wires, 64 sampled clocks, 64 constraints", f"{folder}/wires.vcd", f"{folder}/sampled.ccsl", folder, workers)
 
 
 main()
