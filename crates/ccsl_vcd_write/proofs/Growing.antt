@@ -1,5 +1,5 @@
 -- How the written text grows.
-use Rattle.std.proofs.Common.{◌≡◌, ℕ, zero, suc, ◌+◌, ◌*◌, ◌^◌, ◌≤◌, ◌<◌, List, [], ◌∷◌, ◌++◌, length, map, take, filter, Bool, true, false, nat_lt, cond, Some, slice_get, sym, ap, ◌∙◌, arith, lit<, add-one, length-append, append_assoc, append-nil, decimal, codes}
+use Rattle.std.proofs.Common.{◌≡◌, ℕ, zero, suc, ◌+◌, ◌*◌, ◌^◌, ◌≤◌, ◌<◌, List, [], ◌∷◌, ◌++◌, length, map, take, filter, Bool, true, false, cond, Some, slice_get, sym, ap, ◌∙◌, arith, lit<, add-one, length-append, append_assoc, append-nil, decimal, codes}
 use Rattle.std.proofs.lemmas.Fmt.{length-decimal-le}
 use Rattle.ccsl_kernel.specs.Syntax.{System}
 use Rattle.ccsl_vcd_write.specs.Room.{step_room}
@@ -38,14 +38,11 @@ pub step-length : (k : ℕ) (K : System) (step : List ℕ) → k < 2 ^ 64 → le
 step-length k K step h =
     omega (arith, length-append (time_line k) (10 ∷ text_of (map tick_line (written_part K step))), time-length k h, ticks-length (written_part K step))
 
-filter-shorter : (p : ℕ → Bool) (xs : List ℕ) → length (filter p xs) ≤ length xs
+pub filter-shorter : (p : ℕ → Bool) (xs : List ℕ) → length (filter p xs) ≤ length xs
 filter-shorter p [] = omega arith
 filter-shorter p (x ∷ xs) =
     let rest : length (filter p xs) ≤ length xs = filter-shorter p xs in
     elim (p x) as (λ w. length (cond w (x ∷ filter p xs) (filter p xs)) ≤ length (x ∷ xs)) [ true ↦ omega arith | false ↦ omega arith ]
-
-pub step-room : (k : ℕ) (K : System) (step : List ℕ) → k < 2 ^ 64 → length (step_text k K step) ≤ step_room step
-step-room k K step h = omega (arith, step-length k K step h, filter-shorter (λ x. nat_lt x K.written) step)
 
 -- A trace with one more step is the trace, and then that step.
 

@@ -10,4 +10,3 @@ pub mod Traces
 pub mod Growing
 pub mod Worked
 pub mod Sizes
-pub mod InPlace

@@ -40,12 +40,15 @@ members-few : (low high : ℕ) (xs : List ℕ) → IsWithin low high xs → leng
 members-few low high [] h = omega arith
 members-few low high (x ∷ xs) h = let a = h.0 in let b = h.1 in omega (arith, members-few (x + 1) high xs h.2)
 
+-- at most so many clocks of a step are written
+pub written-few : (K : System) (step : List ℕ) → IsTrue (is_ascending step) → length (written_part K step) ≤ K.written
+written-few K step h = omega (arith, members-few 0 K.written (written_part K step) (within 0 K.written step (all-from-0 step) h))
+
 steps-length : (k : ℕ) (K : System) (steps : List (List ℕ)) → K.written ≤ 1024 → All (λ step. IsTrue (is_ascending step)) steps → k + length steps ≤ 2 ^ 64 → length (steps_text k K steps) ≤ 4118 * length steps
 steps-length k K [] few a h = omega arith
 steps-length k K (step ∷ steps) few a h =
     let S : List ℕ → Type 0 = λ s. IsTrue (is_ascending s) in
-    let members : length (written_part K step) ≤ K.written - 0 = members-few 0 K.written (written_part K step) (within 0 K.written step (all-from-0 step) (All-head S step steps a)) in
-    omega (arith, length-append (step_text k K step) (steps_text (k + 1) K steps), step-length k K step (omega arith), members, steps-length (k + 1) K steps few (All-tail S step steps a) (omega arith))
+    omega (arith, length-append (step_text k K step) (steps_text (k + 1) K steps), step-length k K step (omega arith), written-few K step (All-head S step steps a), steps-length (k + 1) K steps few (All-tail S step steps a) (omega arith))
 
 -- Every trace of as many steps as are simulated at most is within the bytes of a file.
 pub texts-fit : (K : System) → HasNames K → (steps : List (List ℕ)) → All (λ step. IsTrue (is_ascending step)) steps → length steps ≤ 10000000 → length (vcd_text K steps) ≤ 68719476736

@@ -1,5 +1,5 @@
 pub mod Code
-pub mod CodeBytes
+pub mod Digits
 pub mod Text
 pub mod ReadsBack
 pub mod Room

@@ -2,6 +2,7 @@
 #![tactic(auto)]
 
 mod code;
+mod digits;
 pub mod laws;
 pub mod writer;
 

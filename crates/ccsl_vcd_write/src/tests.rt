@@ -1,6 +1,6 @@
 //! Traces of a system with the declared clocks a and b and a hidden clock.
 
-use crate::code::put_code;
+use crate::code::{MOST_CODE_BYTES, put_code};
 use crate::{header, step};
 use ccsl_base::{ClockSet, MAX_CLOCKS, Names, Seq};
 use ccsl_kernel::{Expr, Parts, System};
@@ -89,10 +89,34 @@ fn codes(rt: HostRuntime) -> Result<(), Fail> {
         (1023, "*t"),
     ] {
         let mut out = Vec::new(rt.alloc());
+        out.reserve(MOST_CODE_BYTES)?;
         if clock < MAX_CLOCKS {
-            put_code(clock, &mut out)?;
+            put_code(clock, &mut out);
         }
         assert_eq!(rt; out.as_slice(), code.as_bytes());
+    }
+    Ok(())
+}
+
+/// Times on both sides of each bound at which their digits are told otherwise.
+#[test]
+fn times(rt: HostRuntime) -> Result<(), Fail> {
+    let system = system(rt.alloc())?;
+    for (k, line) in [
+        (9, "#9\n"),
+        (10, "#10\n"),
+        (99, "#99\n"),
+        (100, "#100\n"),
+        (9_999, "#9999\n"),
+        (10_000, "#10000\n"),
+        (1_000_007, "#1000007\n"),
+        (99_999_999, "#99999999\n"),
+        (100_000_000, "#100000000\n"),
+        (70_000_000_000, "#70000000000\n"),
+    ] {
+        let mut out = Vec::new(rt.alloc());
+        step(k, &ClockSet::empty(), &system, &mut out)?;
+        assert_eq!(rt; out.as_slice(), line.as_bytes());
     }
     Ok(())
 }

@@ -1,13 +1,14 @@
 //! The header of a trace, and its steps.
 
-ghost use Rattle.std.specs.Prelude.{◌≡◌, ◌+◌, ◌<◌, ◌≤◌, [], ◌*◌, ◌∷◌, ◌++◌, IfOk, OnOk, OnErr, length, map, take, vec_len, vec_capacity, decimal};
+ghost use Rattle.std.specs.Prelude.{◌≡◌, ◌+◌, ◌<◌, ◌≤◌, [], ◌*◌, ◌∷◌, ◌++◌, IsTrue, IfOk, OnOk, OnErr, length, map, take, vec_len, vec_capacity};
+ghost use Rattle.ccsl_base.specs.Clocks.{is_ascending};
 ghost use Rattle.ccsl_vcd_write.specs.Room.{step_room};
 ghost use Rattle.ccsl_vcd_write.specs.Text.{text_of, var_line, var_lines, header_text, time_line, tick_line, written_part, step_text};
 
-use crate::code::{Code, code_of, put_code};
+use crate::code::{MOST_CODE_BYTES, put_code};
+use crate::digits::put_decimal;
 use ccsl_base::{ClockSet, MAX_CLOCKS, Memory, Names};
 use ccsl_kernel::System;
-use itoa::write_digits;
 use std::alloc::Global;
 
 fn put_line(line: &[u8], out: &mut Vec<u8>) -> Result<(), Memory>
@@ -24,7 +25,8 @@ fn put_var(clock: u32, name: &[u8], out: &mut Vec<u8>) -> Result<(), Memory>
     ensures { OnOk result (out.new.items ≡ out.old.items ++ text_of (var_line clock name.now ∷ [])) }
 {
     out.extend_from_slice(b"$var event 1 ")?;
-    put_code(clock, out)?;
+    out.reserve(MOST_CODE_BYTES)?;
+    put_code(clock, out);
     out.push(b' ')?;
     out.extend_from_slice(name)?;
     out.extend_from_slice(b" $end\n")?;
@@ -71,75 +73,60 @@ const MOST_TIME_BYTES: usize = 22;
 /// The most bytes of the line of a tick: its value, a code and a line feed.
 const MOST_TICK_BYTES: usize = 4;
 
-/// How many digits a number has.
-fn digit_count(n: u64) -> usize
-    ensures digits { result ≡ length (decimal n) }
-    ensures few { result ≤ 20 }
-{
-    match n.checked_ilog10() {
-        None => 1,
-        Some(power) => power as usize + 1,
-    }
-}
-
-/// The line of a time. Its digits are written in their places, behind a line of hash signs that is cut off where they end.
+/// The line of a time.
 #[inline(always)]
-fn put_time(k: u64, out: &mut Vec<u8>) -> Result<(), Memory>
-    ensures text { OnOk result (out.new.items ≡ out.old.items ++ text_of (time_line k ∷ [])) }
-    ensures same { OnErr result (out.new.items ≡ out.old.items) }
-    ensures full { OnErr result (vec_capacity out.old < vec_len out.old + MOST_TIME_BYTES) }
-    ensures len { OnOk result (vec_len out.new ≤ vec_len out.old + MOST_TIME_BYTES) }
-    ensures capacity { vec_capacity out.old ≤ vec_capacity out.new }
+fn put_time(k: u64, out: &mut Vec<u8>)
+    requires room { vec_len out.old + MOST_TIME_BYTES ≤ vec_capacity out.old }
+    ensures text { out.new.items ≡ out.old.items ++ text_of (time_line k ∷ []) }
+    ensures len { vec_len out.new ≤ vec_len out.old + MOST_TIME_BYTES }
+    ensures capacity { vec_capacity out.new ≡ vec_capacity out.old }
 {
-    let end = out.len() + (digit_count(k) + 1);
-    out.extend_from_slice(&[b'#'; MOST_TIME_BYTES])?;
-    write_digits(k, out.as_mut_slice(), end);
-    out[end] = b'\n';
-    out.truncate(end + 1);
-    Ok(())
+    out.push_reserved(b'#');
+    put_decimal(k, out);
+    out.push_reserved(b'\n');
 }
 
 /// The line of a clock that ticks.
-fn put_tick(clock: u32, out: &mut Vec<u8>) -> Result<(), Memory>
-    requires { clock < MAX_CLOCKS }
-    ensures text { OnOk result (out.new.items ≡ out.old.items ++ text_of (tick_line clock ∷ [])) }
-    ensures same { OnErr result (out.new.items ≡ out.old.items) }
-    ensures full { OnErr result (vec_capacity out.old < vec_len out.old + MOST_TICK_BYTES) }
-    ensures len { OnOk result (vec_len out.new ≤ vec_len out.old + MOST_TICK_BYTES) }
-    ensures capacity { vec_capacity out.old ≤ vec_capacity out.new }
+#[inline(always)]
+fn put_tick(clock: u32, out: &mut Vec<u8>)
+    requires below { clock < MAX_CLOCKS }
+    requires room { vec_len out.old + MOST_TICK_BYTES ≤ vec_capacity out.old }
+    ensures text { out.new.items ≡ out.old.items ++ text_of (tick_line clock ∷ []) }
+    ensures len { vec_len out.new ≤ vec_len out.old + MOST_TICK_BYTES }
+    ensures capacity { vec_capacity out.new ≡ vec_capacity out.old }
 {
-    match code_of(clock) {
-        Code::One(byte) => out.extend_from_slice(&[b'1', byte, b'\n'])?,
-        Code::Two(high, low) => out.extend_from_slice(&[b'1', high, low, b'\n'])?,
-    }
-    Ok(())
+    out.push_reserved(b'1');
+    put_code(clock, out);
+    out.push_reserved(b'\n');
 }
 
-/// The lines of the clocks below `written` that tick.
-fn put_ticks(ticks: &ClockSet, system: &System, out: &mut Vec<u8>) -> Result<(), Memory>
-    ensures text { OnOk result (out.new.items ≡
-        out.old.items ++ text_of (map tick_line (written_part system.now ticks.now))) }
-    ensures front { take (vec_len out.old) out.new.items ≡ out.old.items }
-    ensures full { OnErr result (vec_capacity out.old <
-        vec_len out.old + MOST_TICK_BYTES * length ticks.now) }
-{
-    let written = system.written();
-    for clock in ticks.members() {
-        if clock < written {
-            put_tick(clock, out)?;
-        }
-    }
-    Ok(())
-}
-
-/// The lines of a step.
-fn put_step(k: u64, ticks: &ClockSet, system: &System, out: &mut Vec<u8>) -> Result<(), Memory>
-    ensures text { OnOk result (out.new.items ≡ out.old.items ++ step_text k system.now ticks.now) }
-    ensures front { take (vec_len out.old) out.new.items ≡ out.old.items }
+/// Makes room for a line for each clock that ticks, and one for the time.
+#[cold]
+#[inline(never)]
+fn reserve_step(ticks: &ClockSet, out: &mut Vec<u8>) -> Result<(), Memory>
+    ensures items { out.new.items ≡ out.old.items }
+    ensures room { OnOk result (vec_len out.new + step_room ticks.now ≤ vec_capacity out.new) }
     ensures full { OnErr result (vec_capacity out.old < vec_len out.old + step_room ticks.now) }
 {
-    put_time(k, out)?;
-    put_ticks(ticks, system, out)
+    out.reserve(MOST_TIME_BYTES + MOST_TICK_BYTES * ticks.len() as usize)?;
+    Ok(())
+}
+
+/// Makes room for the lines of a step. Room for all written clocks is enough, and it is seen at once, where the clocks that
+/// tick have to be counted.
+#[inline(always)]
+fn make_room(ticks: &ClockSet, system: &System, out: &mut Vec<u8>) -> Result<(), Memory>
+    requires ascending { IsTrue (is_ascending ticks.now) }
+    ensures items { out.new.items ≡ out.old.items }
+    ensures room { OnOk result (vec_len out.new + step_room (written_part system.now ticks.now) ≤
+        vec_capacity out.new) }
+    ensures full { OnErr result (vec_capacity out.old < vec_len out.old + step_room ticks.now) }
+{
+    let enough = MOST_TIME_BYTES + MOST_TICK_BYTES * system.written() as usize;
+    if out.capacity() - out.len() < enough {
+        reserve_step(ticks, out)?;
+    }
+    Ok(())
 }
 
 /// Appends the text of step `k`: its time, and a line for each clock below `written` that ticks. Where `out` has room no memory
@@ -149,10 +136,14 @@ pub fn step(k: u64, ticks: &ClockSet, system: &System, out: &mut Vec<u8>) -> Res
     ensures same { OnErr result (out.new.items ≡ out.old.items) }
     ensures room { OnErr result (vec_capacity out.old < vec_len out.old + step_room ticks.now) }
 {
-    let start = out.len();
-    if put_step(k, ticks, system, out).is_err() {
-        out.truncate(start);
-        return Err(Memory);
+    let members = ticks.members();
+    make_room(ticks, system, out)?;
+    put_time(k, out);
+    let written = system.written();
+    for clock in members {
+        if clock < written {
+            put_tick(clock, out);
+        }
     }
     Ok(())
 }
