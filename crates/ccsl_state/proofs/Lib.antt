@@ -14,6 +14,7 @@ pub mod Ones
 pub mod Each
 pub mod TableLaws
 pub mod StateLaws
+pub mod WithinLaws
 pub mod BelowLaws
 pub mod Counted
 pub mod PlaceLaws
@@ -21,3 +22,4 @@ pub mod WholeLaws
 pub mod StandLaws
 pub mod SilentLaws
 pub mod AnyBit
+pub mod ReachLaws

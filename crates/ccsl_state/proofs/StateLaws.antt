@@ -38,7 +38,7 @@ module _ (K : System) (ok : IsGuarded K) where
   table T n zero = []
   table T n (suc x) = put (definition_dead K T (dead_below K T x) n (definition_of K x)) x (table T n x)
 
-  put_ticks : (t : Bool) (x y : ℕ) (s : List ℕ) → ticks_in y (put t x s) ≡ ((nat_eq y x && t) || ticks_in y s)
+  pub put_ticks : (t : Bool) (x y : ℕ) (s : List ℕ) → ticks_in y (put t x s) ≡ ((nat_eq y x && t) || ticks_in y s)
   put_ticks true x y s = ticks_in-with_clock y x s ∙ ap (λ b. b || ticks_in y s) (and_true (nat_eq y x))
     where
       and_true : (b : Bool) → b ≡ (b && true)
@@ -56,7 +56,7 @@ module _ (K : System) (ok : IsGuarded K) where
       put_ticks (definition_dead K T (dead_below K T x) n (definition_of K x)) x y (table T n x)
       ∙ ap₂ (λ e b. (e && definition_dead K T (dead_below K T x) n (definition_of K x)) || b) (ne_eqb y x (λ e. let z : ⊥ = omega (arith, e, l) in z)) (table-past T n x y (omega (arith, l)))
 
-  table-reads : (T : List Step) (n x y : ℕ) → gone_in (table T n x) y ≡ dead_below K T x n y
+  pub table-reads : (T : List Step) (n x y : ℕ) → gone_in (table T n x) y ≡ dead_below K T x n y
   table-reads T n zero y = refl
   table-reads T n (suc x) y =
       put_ticks here x y (table T n x)
@@ -73,7 +73,7 @@ module _ (K : System) (ok : IsGuarded K) where
       or_false false = refl
 
   -- the tree of a definition after one more step
-  tree_step : (T : List Step) (s : Step) (x : ℕ) (e : Expression) →
+  pub tree_step : (T : List Step) (s : Step) (x : ℕ) (e : Expression) →
       tree_after K (T ++ s ∷ []) x e ≡ next K s (dead_below K (T ++ s ∷ []) x (suc (length T))) (tree_after K T x e)
   tree_step T s x e =
       let T' = T ++ s ∷ [] in
@@ -83,11 +83,11 @@ module _ (K : System) (ok : IsGuarded K) where
       (grown_same K T' T (dead_below K T' x) (dead_below K T x) (opening K e []) 0 (length T) (omega arith) (λ i l. step_at-front T s i l)
       (λ i l. fun_ext (λ y. dead_below-same K ok T' T (length T) (omega (arith, length-append T (s ∷ []))) (omega arith) (λ i l. step_at-front T s i l) x i y l)))
 
-  length-step : (T : List Step) (s : Step) → length (T ++ s ∷ []) ≡ suc (length T)
+  pub length-step : (T : List Step) (s : Step) → length (T ++ s ∷ []) ≡ suc (length T)
   length-step T s = omega (arith, length-append T (s ∷ []))
 
   -- the death of a definition's tree is the clock's
-  tree_dead : (T : List Step) (x : ℕ) (e : Expression) → length T ≤ most → definition_of K x ≡ Some e →
+  pub tree_dead : (T : List Step) (x : ℕ) (e : Expression) → length T ≤ most → definition_of K x ≡ Some e →
       dead_of (dead_below K T x (length T)) (tree_after K T x e) ≡ definition_dead K T (dead_below K T x) (length T) (definition_of K x)
   tree_dead T x e few is =
       ap (λ (now : Now). now.dead) (tree_theorem K ok.bodies T (dead_below K T x) e [] 0 (length T) few (definition_allowed K ok x e is) (omega arith) (omega arith))
@@ -131,7 +131,7 @@ module _ (K : System) (ok : IsGuarded K) where
       ∙ ap (table T (length T)) (let z : suc x + length es ≡ x + suc (length es) = omega arith in z)
 
   -- before the definitions no clock is dead
-  table-declared : (T : List Step) (n x : ℕ) → x ≤ K.declared → table T n x ≡ []
+  pub table-declared : (T : List Step) (n x : ℕ) → x ≤ K.declared → table T n x ≡ []
   table-declared T n zero l = refl
   table-declared T n (suc x) l =
       ap₂ (λ v s. put v x s) (ap (definition_dead K T (dead_below K T x) n) (ap (λ t. if t then None else slice_get K.definitions (x - K.declared)) (lt-ltb x K.declared l))) (table-declared T n x (omega arith))

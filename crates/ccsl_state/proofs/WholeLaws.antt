@@ -18,7 +18,7 @@ use Rattle.ccsl_state.specs.States.{put, cells_from, next_all, deaths_from, deri
 use Rattle.ccsl_state.specs.Below.{TreesBelow}
 use Rattle.ccsl_state.specs.Held.{calls_of, trees_of, deaths_of, counts_of, derived_by, CellsCount, Advances}
 use Rattle.ccsl_state.proofs.TableLaws.{table_len, table_enough, table_room}
-use Rattle.ccsl_state.proofs.BelowLaws.{opening_below, next_below, next_same}
+use Rattle.ccsl_state.proofs.WithinLaws.{below_within, opening_within, next_within, next_same}
 use Rattle.ccsl_state.proofs.Frame.{read_same}
 use Rattle.ccsl_state.proofs.Regions.{behind_head, front_head, within, fewer}
 
@@ -37,7 +37,8 @@ module _ (K : System) (ok : IsAccepted K) where
   opened-from : (x : ℕ) (es : List Expression) → ((j : ℕ) → slice_get es j ≡ definition_of K (x + j)) → TreesBelow x (opened_all K es)
   opened-from x [] h = tt
   opened-from x (e ∷ es) h = (
-    opening_below x K (accepted_scoped K ok).bodies e [] ((accepted_scoped K ok).definitions x e (sym (h 0 ∙ ap (definition_of K) (let z : x + 0 ≡ x = omega arith in z)))) tt,
+    opening_within (λ y. y < x) K (accepted_scoped K ok).bodies e []
+        (below_within (λ y. y < x) x e ((accepted_scoped K ok).definitions x e (sym (h 0 ∙ ap (definition_of K) (let z : x + 0 ≡ x = omega arith in z)))) (λ y l. l)) tt,
     opened-from (suc x) es (λ j. h (suc j) ∙ ap (definition_of K) (let z : x + suc j ≡ suc x + j = omega arith in z)),
   )
 
@@ -47,12 +48,12 @@ module _ (K : System) (ok : IsAccepted K) where
   pub nexts_below : (s : Step) (known : List ℕ) (x : ℕ) (ts : List Tree) → TreesBelow x ts → TreesBelow x (next_all K s known x ts)
   nexts_below s known x [] h = tt
   nexts_below s known x (t ∷ ts) h = (
-    next_below x K (accepted_scoped K ok).bodies s (gone_in known) t h.0,
+    next_within (λ y. y < x) K (accepted_scoped K ok).bodies s (gone_in known) t h.0,
     nexts_below s (put (dead_of (gone_in known) (next K s (gone_in known) t)) x known) (suc x) ts h.1,
   )
 
 -- THE FULL STEP ON THE WAY. What is derived from clock x on has the same lower clocks
-derived-keeps : (ts : List Tree) (x : ℕ) (s : Step) (y : ℕ) → y < x → ticks_in y (derived_in ts x s) ≡ ticks_in y s
+pub derived-keeps : (ts : List Tree) (x : ℕ) (s : Step) (y : ℕ) → y < x → ticks_in y (derived_in ts x s) ≡ ticks_in y s
 derived-keeps [] x s y l = refl
 derived-keeps (t ∷ ts) x s y l = derived-keeps ts (suc x) (put (eval (formula_of t) s) x s) y (omega (arith, l)) ∙ kept (eval (formula_of t) s)
   where
@@ -60,13 +61,13 @@ derived-keeps (t ∷ ts) x s y l = derived-keeps ts (suc x) (put (eval (formula_
     kept true = ticks_in-with_clock y x s ∙ ap (λ b. b || ticks_in y s) (ne_eqb y x (λ e. let z : ⊥ = omega (arith, e, l) in z))
     kept false = refl
 
-pub passed_is : (K : System) (s : Step) (known : List ℕ) (x : ℕ) (ts : List Tree) → TreesBelow x ts → passed_all K s known x ts ≡ next_all K (derived_in ts x s) known x ts
-passed_is K s known x [] h = refl
-passed_is K s known x (t ∷ ts) h =
+pub passed_is : (K : System) → IsAccepted K → (s : Step) (known : List ℕ) (x : ℕ) (ts : List Tree) → TreesBelow x ts → passed_all K s known x ts ≡ next_all K (derived_in ts x s) known x ts
+passed_is K ok s known x [] h = refl
+passed_is K ok s known x (t ∷ ts) h =
     let s' = derived_in (t ∷ ts) x s in
-    let here : next K s (gone_in known) t ≡ next K s' (gone_in known) t = next_same x K (gone_in known) s s' (λ y l. sym (derived-keeps (t ∷ ts) x s y l)) t h.0 in
+    let here : next K s (gone_in known) t ≡ next K s' (gone_in known) t = next_same (λ y. y < x) K (accepted_scoped K ok).bodies s s' (λ y l. sym (derived-keeps (t ∷ ts) x s y l)) (gone_in known) (gone_in known) (λ y l. refl) t h.0 in
     ap₂ (λ t' ts'. t' ∷ ts') here
-    (passed_is K (put (eval (formula_of t) s) x s) (put (dead_of (gone_in known) (next K s (gone_in known) t)) x known) (suc x) ts h.1
+    (passed_is K ok (put (eval (formula_of t) s) x s) (put (dead_of (gone_in known) (next K s (gone_in known) t)) x known) (suc x) ts h.1
     ∙ ap (λ t'. next_all K s' (put (dead_of (gone_in known) t') x known) (suc x) ts) here)
 
 -- A ROW AFTER A STEP, from its two parts
@@ -103,7 +104,7 @@ module _ (K : System) (ok : IsAccepted K) where
       let new = trees_front front' counts' (same' ∙ few) whole' in
       let derived : step ≡ derived_in (trees_in K C D (front ++ counts)) K.declared declared = step_is ∙ ap (λ ts. derived_in ts K.declared declared) (sym old) in
       let nexts : trees_in K C D (front' ++ counts') ≡ next_all K step [] K.declared (trees_in K C D (front ++ counts)) =
-      new ∙ trees ∙ ap (passed_all K declared [] K.declared) (sym old) ∙ passed_is K declared [] K.declared (trees_in K C D (front ++ counts)) below
+      new ∙ trees ∙ ap (passed_all K declared [] K.declared) (sym old) ∙ passed_is K ok declared [] K.declared (trees_in K C D (front ++ counts)) below
       ∙ ap (λ s. next_all K s [] K.declared (trees_in K C D (front ++ counts))) (sym derived) in
       record {
         derived = derived;

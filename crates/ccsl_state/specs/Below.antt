@@ -1,15 +1,11 @@
 -- The clocks that a state tree names, with those of the expressions that are still to be born.
 use Rattle.std.specs.Prelude.{ℕ, suc, ◌<◌, List, [], ◌∷◌}
-use Rattle.ccsl_kernel.proofs.Scoped.{NamesBelow, ActualsBelow}
-use Rattle.ccsl_state.specs.Tree.{Tree, TName, TNever, TOne, TTwo, TThen}
+use Rattle.ccsl_state.specs.Tree.{Tree}
+use Rattle.ccsl_state.specs.Within.{TreeWithin}
 
 -- a tree names clocks below X only
 abbrev pub TreeBelow : ℕ → Tree → Type 0
-TreeBelow X (TName x) = x < X
-TreeBelow X TNever = Unit {0}
-TreeBelow X (TOne o a) = TreeBelow X a
-TreeBelow X (TTwo o a d) = TreeBelow X a × TreeBelow X d
-TreeBelow X (TThen a d ρ) = TreeBelow X a × NamesBelow X d × ActualsBelow X ρ
+TreeBelow X t = TreeWithin (λ x. x < X) t
 
 -- the tree of clock number x names lower clocks only, and so do those behind it
 abbrev pub TreesBelow : ℕ → List Tree → Type 0

@@ -6,7 +6,9 @@ pub mod Nodes
 pub mod Rings
 pub mod Grown
 pub mod States
+pub mod Within
 pub mod Below
+pub mod Reach
 pub mod Held
 pub mod Laws
 pub mod Whole

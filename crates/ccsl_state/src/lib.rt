@@ -15,10 +15,12 @@ mod name;
 mod node;
 mod open;
 mod params;
+mod reach;
 mod relation;
 pub mod states;
 mod tail;
 mod told;
 mod whole;
 
+pub use reach::reached;
 pub use states::States;
