@@ -23,3 +23,6 @@ pub mod StandLaws
 pub mod SilentLaws
 pub mod AnyBit
 pub mod ReachLaws
+pub mod PartLaws
+pub mod PartRegions
+pub mod PartStands

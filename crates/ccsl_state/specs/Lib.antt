@@ -13,4 +13,7 @@ pub mod Held
 pub mod Laws
 pub mod Whole
 pub mod Laid
+pub mod Part
+pub mod PartLaid
 pub mod Regions
+pub mod Passing

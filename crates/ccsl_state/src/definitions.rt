@@ -13,7 +13,7 @@ use crate::open::opened;
 use ccsl_base::{ClockSet, MAX_CELLS, MAX_CLOCKS};
 
 /// Makes a clock a member of a set, or leaves the set as it is.
-fn put(set: &mut ClockSet, clock: u32, member: bool)
+pub fn put(set: &mut ClockSet, clock: u32, member: bool)
     requires { clock < MAX_CLOCKS }
     ensures { set.new ≡ put member clock set.old }
 {

@@ -1,0 +1,109 @@
+//! The states of some definitions of a system.
+
+ghost use Rattle.std.specs.Prelude.{◌≡◌, ◌<◌, ◌+◌, ◌^◌, ℕ, List, [], ◌∷◌, ◌++◌, true, length, IfOk};
+ghost use Rattle.ccsl_base.specs.Clocks.{ticks_in, are_below};
+ghost use Rattle.ccsl_kernel.specs.Lives.{Step};
+ghost use Rattle.ccsl_kernel.specs.Runs.{full_step};
+ghost use Rattle.ccsl_state.specs.Reach.{Includes, IsClosed};
+ghost use Rattle.ccsl_state.specs.Part.{part_of, PartStandsFor};
+
+use crate::follow::{follow, numbers};
+use crate::items::places;
+use crate::lay::Lay;
+use crate::reach::reached;
+use crate::whole::row_opened;
+use ccsl_base::{ClockSet, Memory};
+use ccsl_kernel::System;
+use std::alloc::Global;
+use std::marker::Model;
+
+/// The states of the definitions that some clocks lead to, after some steps. The row has the regions of all definitions, so that each
+/// has its place, but a step visits and rewrites only those that are followed, and takes no memory. Constraints are not counted.
+#[derive(Drop)]
+pub struct Part<'s> {
+    system: &'s System,
+    // the cells of a call to each group
+    calls: Vec<u32>,
+    // where each definition's region begins in the row
+    places: Vec<u32>,
+    // the numbers of the definitions that are followed
+    numbers: Vec<u32>,
+    row: Vec<u64>,
+    followed: ClockSet,
+}
+
+impl<'s> Model for Part<'s> {
+    ghost use Rattle.std.specs.Coded.{codes};
+    ghost use Rattle.ccsl_kernel.specs.Coded.{coded_expression};
+    ghost use Rattle.ccsl_state.specs.Part.{HeldPart};
+
+    ghost Value = { HeldPart };
+
+    ghost coded = { Prim.hlevel (codes, coded_expression) };
+
+    ghost use Rattle.ccsl_state.specs.PartLaid.{held_part, IsPartLaid};
+
+    ghost view = { held_part };
+
+    ghost invariant = { IsPartLaid };
+}
+
+impl<'s> Part<'s> {
+    /// The states before the first step, of the definitions that these clocks lead to. They take one row of cells, and three small
+    /// tables.
+    pub fn open(alloc: Global, system: &'s System, clocks: &ClockSet) -> Result<Part<'s>, Memory>
+        ensures system { IfOk result (λ p. p.system ≡ system.now) }
+        ensures has { IfOk result (λ p. (x : ℕ) →
+            ticks_in x clocks.now ≡ true → ticks_in x p.followed ≡ true) }
+        ensures closed { IfOk result (λ p. IsClosed system.now p.followed) }
+        ensures least { IfOk result (λ p. (set : List ℕ) → IsClosed system.now set →
+            Includes system.now set clocks.now → Includes system.now set p.followed) }
+        ensures stands { IfOk result (λ p. PartStandsFor p []) }
+    {
+        let calls = system.group_cells(alloc)?;
+        let mut row = Vec::from_elem(alloc, 0u64, system.cells() as usize)?;
+        let lay = Lay {
+            system,
+            earlier: calls.as_slice(),
+        };
+        let places = places(alloc, &lay)?;
+        row_opened(&lay, row.as_mut_slice());
+        let followed = reached(system, clocks);
+        let numbers = numbers(alloc, system, &followed)?;
+        Ok(Part {
+            system,
+            calls,
+            places,
+            numbers,
+            row,
+            followed,
+        })
+    }
+
+    /// The clocks whose definitions are followed: those that it was opened with, and all that their definitions lead to.
+    pub fn followed(&self) -> &ClockSet
+        ensures followed { result.now ≡ self.now.followed }
+        ensures closed { IsClosed self.now.system self.now.followed }
+    {
+        &self.followed
+    }
+
+    /// Goes on by the full step that a set of declared clocks gives, and answers what of that step is declared or followed.
+    pub fn advance(&mut self, declared: &ClockSet) -> ClockSet
+        requires { are_below self.old.system.declared declared.now ≡ true }
+        ensures system { self.new.system ≡ self.old.system }
+        ensures followed { self.new.followed ≡ self.old.followed }
+        ensures step { (T : List Step) → PartStandsFor self.old T →
+            result ≡ part_of self.old (full_step self.old.system T declared.now) }
+        ensures stands { (T : List Step) → PartStandsFor self.old T → length T + 1 < 2 ^ 64 →
+            PartStandsFor self.new (T ++ full_step self.old.system T declared.now ∷ []) }
+    {
+        let lay = Lay {
+            system: self.system,
+            earlier: self.calls.as_slice(),
+        };
+        let numbers = self.numbers.as_slice();
+        let places = self.places.as_slice();
+        follow(&lay, numbers, places, self.row.as_mut_slice(), declared)
+    }
+}
