@@ -15,7 +15,7 @@ pub record Taken (start now : Watching) (block : List Row) (i : ℕ) : Type 0 wh
 pub taken-none : (v : Watching) (block : List Row) → Taken v v block 0
 taken-none v block = record { within = omega arith; system = refl; start_is = refl; count = refl; stands = λ recorded rows s l. subst (λ rs. StandsFor recorded v rs) (sym (append-nil rows)) s }
 
-take-more : (block : List Row) (i : ℕ) (row : Row) → slice_get block i ≡ Some row → take (i + 1) block ≡ take i block ++ row ∷ []
+pub take-more : (block : List Row) (i : ℕ) (row : Row) → slice_get block i ≡ Some row → take (i + 1) block ≡ take i block ++ row ∷ []
 take-more [] i row e = absurd (cc)
 take-more (x ∷ block) Rattle.std.proofs.Common.zero row e = ap (λ y. y ∷ []) (let q : x ≡ row = cc in q)
 take-more (x ∷ block) (Rattle.std.proofs.Common.suc i) row e =

@@ -1,5 +1,5 @@
 -- What items read of a step is known without states where they read declared clocks alone.
-use Rattle.std.proofs.Common.{◌≡◌, ℕ, ◌+◌, ◌<◌, List, [], ◌∷◌, Bool, true, false, not, ◌&&◌, ◌||◌, cond, nat_eq, nat_le, nat_lt, map, length, get_or, lt-ltb, subst, Option, Some, None, refl, sym, ap, ap₂, ◌∙◌}
+use Rattle.std.proofs.Common.{◌≡◌, ℕ, ◌+◌, ◌<◌, List, [], ◌∷◌, Bool, true, false, not, ◌&&◌, ◌||◌, cond, nat_eq, nat_le, nat_lt, map, length, get_or, subst, Option, Some, None, refl, sym, ap, ap₂, ◌∙◌}
 use Rattle.std.specs.List.{list_all}
 use Rattle.std.proofs.lemmas.Bool.{and_parts, ltb-true}
 use Rattle.ccsl_base.specs.Clocks.{ticks_in}
@@ -15,7 +15,6 @@ use Rattle.ccsl_relate.specs.declared.watched.Related.{Related}
 use Rattle.ccsl_relate.specs.declared.watched.Watched.{Watched}
 use Rattle.ccsl_relate.specs.declared.watched.Watched.TheVariants.{Nothing, Definition, Relation}
 use Rattle.ccsl_relate.specs.Watching.{counted, counted_on, related_formula, fails_in, next_in, reads_declared, Suffice, step_known}
-use Rattle.ccsl_relate.proofs.Ascending.{below-ticks}
 use Rattle.ccsl_relate.proofs.History.{declared-ticks}
 use Rattle.ccsl_relate.proofs.Within.{list_all_at}
 
@@ -41,55 +40,43 @@ module _ (s t : Step) where
   same-truth PrecedesWeakly a b m n e d = ticking-with (nat_eq m n) b a d e
   same-truth (PrecedesWithin k) a b m n e d = ap₂ (λ x y. x && y) (not-ticking (nat_eq m n) b d) (ticking-with (nat_le (n + k) m) a b e d)
 
--- what is asked of the declared ticks is what is asked of the full step
+-- what is asked of a row's ticks is what is asked of the step that they complete
 module _ (K : System) (T : List Step) (ticks : Step) where
-  abbrev declared : Step
-  declared = declared_part K ticks
-
   abbrev whole : Step
-  whole = full_step K T declared
+  whole = full_step K T (declared_part K ticks)
 
-  same-below : (x : ℕ) → nat_lt x K.declared ≡ true → ticks_in x declared ≡ ticks_in x whole
-  same-below x l =
-      let below : x < K.declared = ltb-true x K.declared l in
-      declared-here x below ∙ sym (declared-ticks K T ticks x below)
-    where
-      declared-here : (x : ℕ) → x < K.declared → ticks_in x declared ≡ ticks_in x ticks
-      declared-here x l = below-ticks K.declared x ticks ∙ ap (λ v. ticks_in x ticks && v) (lt-ltb x K.declared l) ∙ and-true (ticks_in x ticks)
-        where
-          and-true : (v : Bool) → (v && true) ≡ v
-          and-true true = refl
-          and-true false = refl
+  same-below : (x : ℕ) → nat_lt x K.declared ≡ true → ticks_in x ticks ≡ ticks_in x whole
+  same-below x l = sym (declared-ticks K T ticks x (ltb-true x K.declared l))
 
   module _ (r : Related) (h : reads_declared K.declared (Relation r) ≡ true) where
     both : (nat_lt r.left K.declared ≡ true) × (nat_lt r.right K.declared ≡ true)
     both = and_parts (nat_lt r.left K.declared) (nat_lt r.right K.declared) h
 
-    same-left : ticks_in r.left declared ≡ ticks_in r.left whole
+    same-left : ticks_in r.left ticks ≡ ticks_in r.left whole
     same-left = same-below r.left both.0
 
-    same-right : ticks_in r.right declared ≡ ticks_in r.right whole
+    same-right : ticks_in r.right ticks ≡ ticks_in r.right whole
     same-right = same-below r.right both.1
 
-    relation-known : related_formula r declared ≡ related_formula r whole
-    relation-known = same-truth declared whole r.kind r.left r.right r.left_count r.right_count same-left same-right
+    relation-known : related_formula r ticks ≡ related_formula r whole
+    relation-known = same-truth ticks whole r.kind r.left r.right r.left_count r.right_count same-left same-right
 
-    counts-known : counted_on r declared ≡ counted_on r whole
+    counts-known : counted_on r ticks ≡ counted_on r whole
     counts-known = ap₂ (λ a b. record r { left_count = counted a r.left_count; right_count = counted b r.right_count }) same-left same-right
 
-  fails-declared : (given : List ℕ) (w : Watched) → reads_declared K.declared w ≡ true → fails_in given declared w ≡ fails_in given whole w
+  fails-declared : (given : List ℕ) (w : Watched) → reads_declared K.declared w ≡ true → fails_in given ticks w ≡ fails_in given whole w
   fails-declared given Nothing h = refl
   fails-declared given (Definition clock) h = absurd (cc)
   fails-declared given (Relation r) h = ap not (relation-known r h)
 
-  next-declared : (w : Watched) → reads_declared K.declared w ≡ true → next_in declared w ≡ next_in whole w
+  next-declared : (w : Watched) → reads_declared K.declared w ≡ true → next_in ticks w ≡ next_in whole w
   next-declared Nothing h = refl
   next-declared (Definition clock) h = absurd (cc)
   next-declared (Relation r) h = ap Relation (counts-known r h)
 
   -- a list of items, by states or without
   abbrev known : Option Held → Step
-  known held = step_known K held T declared
+  known held = step_known K held T ticks
 
   pub fails-known : (held : Option Held) (given : List ℕ) (kept : List Watched) (k : ℕ) (d : Watched) → Suffice K held kept → k < length kept → fails_in given (known held) (get_or kept k d) ≡ fails_in given whole (get_or kept k d)
   fails-known (Some h) given kept k d e l = refl

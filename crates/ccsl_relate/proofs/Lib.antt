@@ -6,5 +6,6 @@ pub mod Known
 pub mod Partly
 pub mod Finding
 pub mod Passing
+pub mod Resting
 pub mod Undeclared
 pub mod Blocks

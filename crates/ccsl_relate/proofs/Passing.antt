@@ -30,11 +30,8 @@ module _ (recorded : List ℕ) (v : Watching) (rows : List Row) (row : Row) (s :
   abbrev more : List Row
   more = rows ++ row ∷ []
 
-  abbrev declared : Step
-  declared = declared_part K row.ticks
-
   abbrev whole : Step
-  whole = full_step K T declared
+  whole = full_step K T (declared_part K row.ticks)
 
   -- where an item was violated, the monitor rests
   pub next-resting : (x : Violation) → v.first ≡ Some x → IsNext recorded v v rows row v.first
@@ -65,16 +62,17 @@ module _ (recorded : List ℕ) (v : Watching) (rows : List Row) (row : Row) (s :
     pub few-steps : length rows + 1 < 2 ^ 64 → length T + 1 < 2 ^ 64
     few-steps few = omega (arith, X-length K rows, few)
 
+    -- what is read of the row's step
+    abbrev step : Step
+    step = step_known K v.states T row.ticks
+
     -- what is asked of an item is whether the row violates it
-    asked : (k : ℕ) (d : Watched) → k < length v.kept → fails_in row.ticks (step_known K v.states T declared) (get_or v.kept k d) ≡ is_violated K recorded more (length rows) (v.start + k)
+    asked : (k : ℕ) (d : Watched) → k < length v.kept → fails_in row.ticks step (get_or v.kept k d) ≡ is_violated K recorded more (length rows) (v.start + k)
     asked k d l =
         fails-known K T row.ticks v.states row.ticks v.kept k d follows.suffice l
         ∙ fails-where-violated K s.accepted recorded (v.start + k) rows row s.sets sorted (get_or v.kept k d) (keeps-at k d l)
 
-    module _ (w : Watching) (step : Step) (known : step ≡ step_known K v.states T declared) (same : w ≡ record v { kept = w.kept; states = w.states }) (count : length w.kept ≡ length v.kept) where
-      fails-at : (k : ℕ) (d : Watched) → k < length v.kept → fails_in row.ticks step (get_or v.kept k d) ≡ is_violated K recorded more (length rows) (v.start + k)
-      fails-at k d l = ap (λ f. fails_in row.ticks f (get_or v.kept k d)) known ∙ asked k d l
-
+    module _ (w : Watching) (same : w ≡ record v { kept = w.kept; states = w.states }) (count : length w.kept ≡ length v.kept) where
       -- AN ITEM FAILS at the row
       pub next-violated : (place : ℕ) → FailsFirst row.ticks step v.kept place → IsNext recorded v w rows row (Some (record { step = v.steps; time = row.time; item = v.start + place }))
       next-violated place f = record {
@@ -82,8 +80,8 @@ module _ (recorded : List ℕ) (v : Watching) (rows : List Row) (row : Row) (s :
         count = count;
         sets = sets-snoc rows row s.sets sorted;
         first_is = subst (λ n. Finds K recorded more v.start (length v.kept) (Some (record { step = n; time = row.time; item = v.start + place }))) (sym s.steps)
-            (first-here K s.accepted recorded rows row s.sets sorted v.start (length v.kept) place obeyed f.inside (sym (fails-at place Nothing f.inside) ∙ f.fails Nothing)
-            (λ k l. sym (fails-at k Nothing (omega (arith, l, f.inside))) ∙ f.before k Nothing l));
+            (first-here K s.accepted recorded rows row s.sets sorted v.start (length v.kept) place obeyed f.inside (sym (asked place Nothing f.inside) ∙ f.fails Nothing)
+            (λ k l. sym (asked k Nothing (omega (arith, l, f.inside))) ∙ f.before k Nothing l));
         follows = λ n. absurd (cc n);
       }
 
@@ -94,7 +92,7 @@ module _ (recorded : List ℕ) (v : Watching) (rows : List Row) (row : Row) (s :
         count = count;
         sets = sets-snoc rows row s.sets sorted;
         first_is = obeyed-on K s.accepted recorded rows row s.sets sorted v.start (length v.kept) obeyed
-            (λ k l. sym (fails-at k Nothing l) ∙ obeys k Nothing l);
+            (λ k l. sym (asked k Nothing l) ∙ obeys k Nothing l);
         follows = λ _. record {
           keeps = subst (Each (Keeps K recorded (completed_rows K more)) v.start) (sym kept-is)
               (each_made_from (Keeps K recorded (completed_rows K more)) (next_in whole) v.start v.kept (λ k d l. keeps-on K s.accepted recorded (v.start + k) rows row s.sets sorted (get_or v.kept k d) (keeps-at k d l)));
@@ -104,7 +102,7 @@ module _ (recorded : List ℕ) (v : Watching) (rows : List Row) (row : Row) (s :
       }
         where
           kept-is : w.kept ≡ map (next_in whole) v.kept
-          kept-is = next ∙ ap (λ f. map (next_in f) v.kept) known ∙ next-known K T row.ticks v.states v.kept follows.suffice
+          kept-is = next ∙ next-known K T row.ticks v.states v.kept follows.suffice
 
 -- the next row was taken
 pub row-taken : (recorded : List ℕ) (v w : Watching) (rows : List Row) (row : Row) (first : Option Violation) (w' : Watching) → StandsFor recorded v rows → IsNext recorded v w rows row first

@@ -10,7 +10,7 @@ use Rattle.ccsl_kernel.specs.Syntax.{System, item_count}
 use Rattle.ccsl_kernel.specs.Accepted.{IsAccepted, Each}
 use Rattle.ccsl_kernel.specs.Lives.{Step}
 use Rattle.ccsl_kernel.specs.Items.{clock_count, relation_formula}
-use Rattle.ccsl_kernel.specs.Runs.{full_step}
+use Rattle.ccsl_kernel.specs.Runs.{full_step, declared_part}
 use Rattle.ccsl_kernel.specs.Verdict.{is_recorded, completed_rows}
 use Rattle.ccsl_state.specs.Held.{Held}
 use Rattle.ccsl_state.specs.Held as states
@@ -112,10 +112,11 @@ abbrev pub AreAfter : System → Option Held → List Step → Type 0
 AreAfter K None T = Unit {0}
 AreAfter K (Some h) T = (h.system ≡ K) × states.StandsFor h T
 
--- the step that declared ticks give after the steps T, as far as it is known: without states these ticks alone
+-- the step that a row's ticks complete after the steps T, as far as it is known: without states the ticks alone,
+-- which tell the same of declared clocks
 abbrev pub step_known : System → Option Held → List Step → Step → Step
-step_known K None T s = s
-step_known K (Some h) T s = full_step K T s
+step_known K None T ticks = ticks
+step_known K (Some h) T ticks = full_step K T (declared_part K ticks)
 
 -- items from number `start` on, and the states that they need, after the steps T
 pub record Follows (K : System) (recorded : List ℕ) (start : ℕ) (kept : List Watched) (held : Option Held) (T : List Step) : Type 0 where

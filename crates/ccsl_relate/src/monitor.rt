@@ -1,14 +1,14 @@
 //! Monitors of neighbouring items.
 
-ghost use Rattle.std.specs.Prelude.{◌≡◌, ℕ, ◌+◌, ◌<◌, ◌≤◌, ◌^◌, List, [], ◌∷◌, ◌++◌, length, IfOk};
+ghost use Rattle.std.specs.Prelude.{◌≡◌, ℕ, ◌+◌, ◌<◌, ◌≤◌, ◌^◌, List, [], ◌∷◌, ◌++◌, length, IfOk, IsSome};
 ghost use Rattle.ccsl_base.specs.declared.rows.Row.{Row};
 ghost use Rattle.ccsl_kernel.specs.Syntax.{item_count};
 ghost use Rattle.ccsl_relate.specs.Violations.{Finds};
 ghost use Rattle.ccsl_relate.specs.Watching.{Suffice, AreAfter, StandsFor, IsNext};
 
-use crate::steps::{declared_ticks, is_set, next_step, undeclared};
+use crate::steps::{first_violated, is_set, rows_are_sets, undeclared};
 use crate::violation::Violation;
-use crate::watched::{Watched, first_failing, open_all, read_declared};
+use crate::watched::{Watched, open_all, read_declared};
 use ccsl_base::{Block, ClockSet, Memory, Row};
 use ccsl_kernel::System;
 use ccsl_state::States;
@@ -99,6 +99,7 @@ impl<'s> Monitor<'s> {
     }
 
     // The first violation, with this row taken too.
+    #[inline(always)]
     fn first_with(&mut self, row: &Row) -> Option<Violation>
         requires { (recorded : List ℕ) × (rows : List Row) × StandsFor recorded self.old rows × (length rows + 1 < 2 ^ 64) }
         ensures { (recorded : List ℕ) (rows : List Row) → StandsFor recorded self.old rows → length rows + 1 < 2 ^ 64 →
@@ -108,9 +109,14 @@ impl<'s> Monitor<'s> {
         if self.first.is_some() {
             return self.first;
         }
-        let declared = declared_ticks(&row.ticks, &self.undeclared);
-        let step = next_step(self.system, &mut self.states, declared);
-        let place = first_failing(self.kept.as_mut_slice(), &row.ticks, &step)?;
+        let kept = self.kept.as_mut_slice();
+        let place = first_violated(
+            self.system,
+            &mut self.states,
+            &self.undeclared,
+            kept,
+            &row.ticks,
+        )?;
         Some(Violation {
             step: self.steps,
             time: row.time,
@@ -119,6 +125,7 @@ impl<'s> Monitor<'s> {
     }
 
     // The next row.
+    #[inline(always)]
     fn check_row(&mut self, row: &Row)
         requires { (recorded : List ℕ) × (rows : List Row) × StandsFor recorded self.old rows × (length rows + 1 < 2 ^ 64) }
         ensures system { self.new.system ≡ self.old.system }
@@ -131,6 +138,21 @@ impl<'s> Monitor<'s> {
         self.steps += 1;
     }
 
+    // Takes the rows of a block as the next ones behind a violation: they change no answer.
+    fn rest(&mut self, block: &Block)
+        requires violated { IsSome self.old.first }
+        requires stands { (recorded : List ℕ) × (rows : List Row) × StandsFor recorded self.old rows
+            × (length rows + length block.now.rows < 2 ^ 64) }
+        ensures system { self.new.system ≡ self.old.system }
+        ensures start { self.new.start ≡ self.old.start }
+        ensures count { length self.new.kept ≡ length self.old.kept }
+        ensures stands { (recorded : List ℕ) (rows : List Row) → StandsFor recorded self.old rows →
+            length rows + length block.now.rows < 2 ^ 64 → StandsFor recorded self.new (rows ++ block.now.rows) }
+    {
+        rows_are_sets(block);
+        self.steps += block.len() as u64;
+    }
+
     /// Takes the rows of a block as the next ones. It takes no memory.
     pub fn check_block(&mut self, block: &Block)
         requires { (recorded : List ℕ) × (rows : List Row) × StandsFor recorded self.old rows
@@ -141,6 +163,10 @@ impl<'s> Monitor<'s> {
         ensures stands { (recorded : List ℕ) (rows : List Row) → StandsFor recorded self.old rows →
             length rows + length block.now.rows < 2 ^ 64 → StandsFor recorded self.new (rows ++ block.now.rows) }
     {
+        if self.first().is_some() {
+            self.rest(block);
+            return;
+        }
         for i in 0..block.len() {
             self.check_row(block.row(i));
         }

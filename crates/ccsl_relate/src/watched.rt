@@ -34,6 +34,7 @@ pub enum Watched {
 
 impl Related {
     // Whether the relation fails in a step. The ticks of its clocks are counted.
+    #[inline(always)]
     fn fails(&mut self, step: &ClockSet) -> bool
         requires few { (self.old.left_count + 1 < 2 ^ 64) × (self.old.right_count + 1 < 2 ^ 64) }
         ensures fails { result ≡ not (related_formula self.old step.now) }
@@ -42,12 +43,8 @@ impl Related {
         let left = step.has(self.left);
         let right = step.has(self.right);
         let holds = holds(self.kind, left, right, self.left_count, self.right_count);
-        if left {
-            self.left_count += 1;
-        }
-        if right {
-            self.right_count += 1;
-        }
+        self.left_count += left as u64;
+        self.right_count += right as u64;
         !holds
     }
 }
@@ -88,6 +85,7 @@ impl Watched {
     }
 
     /// Whether the item fails in the step that a row with these ticks completes. It goes on by the step.
+    #[inline(always)]
     fn fails(&mut self, ticks: &ClockSet, step: &ClockSet) -> bool
         requires { HasRoom self.old }
         ensures fails { result ≡ fails_in ticks.now step.now self.old }
@@ -129,6 +127,7 @@ pub(crate) fn read_declared(kept: &[Watched], declared: u32) -> bool
 }
 
 /// The place of the first item that fails in the step that a row with these ticks completes. Where none does, all go on by the step.
+#[inline(always)]
 pub(crate) fn first_failing(kept: &mut [Watched], ticks: &ClockSet, step: &ClockSet) -> Option<u32>
     requires few { length kept.old < 2 ^ 32 }
     requires room { EachHasRoom kept.old }

@@ -1,11 +1,10 @@
-use Rattle.std.proofs.Common.{◌≡◌, ◌+◌, [], ◌∷◌, ◌++◌, length, map, false, Some, None, refl, sym, ap, ◌∙◌, subst}
+use Rattle.std.proofs.Common.{◌≡◌, ◌+◌, length, map, false, Some, None, refl, sym, ap, ◌∙◌, subst}
 use Rattle.std.specs.Prelude.{All}
 use Rattle.std.specs.Vec.{with_items}
 use Rattle.std.proofs.lemmas.List.{with_items_is}
-use Rattle.ccsl_kernel.specs.Runs.{full_step}
 use Rattle.ccsl_kernel.specs.Verdict.{completed_rows}
 use Rattle.ccsl_relate.specs.Few.{EachHasRoom}
-use Rattle.ccsl_relate.specs.Watching.{Watching, fails_in, next_in, FailsFirst, AreAfter, step_known, StandsFor, IsNext}
+use Rattle.ccsl_relate.specs.Watching.{Watching, fails_in, next_in, FailsFirst, step_known, StandsFor, IsNext}
 use Rattle.ccsl_relate.proofs.Passing.{states-after, few-steps, each-has-room, next-resting, next-violated, next-obeyed}
 use Rattle.ccsl_relate.proofs.Undeclared.{some-of, none-of}
 use Rattle.ccsl_relate.proofs.monitor.Monitor.first_with.Goals as goal
@@ -23,20 +22,18 @@ returns c = λ recorded rows s l.
     let T = completed_rows K rows in
     let n = none-of c.self.inside.first (sym c.is_some.ensures ∙ c.if-is_some.false) in
     let t = subst (λ v. StandsFor recorded v rows) (sym c.self.view_is) s in
-    let value = c.as_mut_slice.ensures.value in
-    let declared = c.declared_ticks-declared.ensures K c.self.invariant in
+    let value = c.as_mut_slice-kept.ensures.value in
+    let step = step_known K c.self.inside.states T c.args.row.now.ticks in
     let after = states-after recorded _ rows c.args.row.now t c.is_set.ensures.ascending n in
     let count = c.in_ok-place.ensures.count ∙ ap length value in
-    let written = with_items c.self.inside.kept c.first_failing.new.kept in
-    let items = with_items_is c.self.inside.kept c.first_failing.new.kept (count ∙ sym c.self.inside.kept.ok.0) in
-    let w : Watching = record { system = K; start = c.self.inside.start; kept = written.items; states = c.next_step-step.new.states; steps = c.self.inside.steps; first = c.self.inside.first } in
+    let written = with_items c.self.inside.kept c.first_violated.new.kept in
+    let items = with_items_is c.self.inside.kept c.first_violated.new.kept (count ∙ sym c.self.inside.kept.ok.0) in
+    let w : Watching = record { system = K; start = c.self.inside.start; kept = written.items; states = c.first_violated.new.states; steps = c.self.inside.steps; first = c.self.inside.first } in
     subst (λ v. IsNext recorded v w rows c.args.row.now (Some (record { step = c.self.inside.steps; time = c.args.row.now.time; item = c.self.inside.start + c.in_ok-place.place }))) c.self.view_is
-    (next-violated recorded _ rows c.args.row.now t c.is_set.ensures.ascending n w c.next_step-step.result
-    (c.next_step-step.ensures.step T after ∙ ap (step_known K c.self.inside.states T) declared)
-    refl
+    (next-violated recorded _ rows c.args.row.now t c.is_set.ensures.ascending n w refl
     (ap length items ∙ count)
     c.in_ok-place.place
-    (subst (λ ws. FailsFirst c.args.row.now.ticks c.next_step-step.result ws c.in_ok-place.place) value c.in_ok-place.ensures.fails))
+    (subst (λ ws. FailsFirst c.args.row.now.ticks step ws c.in_ok-place.place) value (c.in_ok-place.ensures.fails T after)))
 
 pub returns-in_err-place : goal.returns-in_err-place
 returns-in_err-place c = λ recorded rows s l.
@@ -44,28 +41,26 @@ returns-in_err-place c = λ recorded rows s l.
     let T = completed_rows K rows in
     let n = none-of c.self.inside.first (sym c.is_some.ensures ∙ c.if-is_some.false) in
     let t = subst (λ v. StandsFor recorded v rows) (sym c.self.view_is) s in
-    let value = c.as_mut_slice.ensures.value in
-    let declared = c.declared_ticks-declared.ensures K c.self.invariant in
+    let value = c.as_mut_slice-kept.ensures.value in
+    let step = step_known K c.self.inside.states T c.args.row.now.ticks in
     let after = states-after recorded _ rows c.args.row.now t c.is_set.ensures.ascending n in
     let few = few-steps recorded _ rows c.args.row.now t c.is_set.ensures.ascending n l in
     let count = c.in_err-place.ensures.count ∙ ap length value in
-    let written = with_items c.self.inside.kept c.first_failing.new.kept in
-    let items = with_items_is c.self.inside.kept c.first_failing.new.kept (count ∙ sym c.self.inside.kept.ok.0) in
-    let w : Watching = record { system = K; start = c.self.inside.start; kept = written.items; states = c.next_step-step.new.states; steps = c.self.inside.steps; first = c.self.inside.first } in
+    let written = with_items c.self.inside.kept c.first_violated.new.kept in
+    let items = with_items_is c.self.inside.kept c.first_violated.new.kept (count ∙ sym c.self.inside.kept.ok.0) in
+    let w : Watching = record { system = K; start = c.self.inside.start; kept = written.items; states = c.first_violated.new.states; steps = c.self.inside.steps; first = c.self.inside.first } in
     subst (IsNext recorded c.args.self.now w rows c.args.row.now) (sym c.from_residual.ensures)
     (subst (λ v. IsNext recorded v w rows c.args.row.now None) c.self.view_is
-    (next-obeyed recorded _ rows c.args.row.now t c.is_set.ensures.ascending n w c.next_step-step.result
-    (c.next_step-step.ensures.step T after ∙ ap (step_known K c.self.inside.states T) declared)
-    refl
+    (next-obeyed recorded _ rows c.args.row.now t c.is_set.ensures.ascending n w refl
     (ap length items ∙ count)
-    (subst (All (λ x. fails_in c.args.row.now.ticks c.next_step-step.result x ≡ false)) value c.in_err-place.ensures.none)
-    (items ∙ c.in_err-place.ensures.next ∙ ap (map (next_in c.next_step-step.result)) value)
-    c.next_step-step.ensures.none
-    (subst (λ d. AreAfter K c.next_step-step.new.states (T ++ full_step K T d ∷ [])) declared (c.next_step-step.ensures.after T after few))))
+    (subst (All (λ x. fails_in c.args.row.now.ticks step x ≡ false)) value (c.in_err-place.ensures.none T after))
+    (items ∙ c.in_err-place.ensures.next T after ∙ ap (map (next_in step)) value)
+    c.first_violated.ensures.still
+    (c.first_violated.ensures.after T after few)))
 
-pub first_failing-requires-clause-room : goal.first_failing-requires-clause-room
-first_failing-requires-clause-room c =
+pub first_violated-requires-clause-room : goal.first_violated-requires-clause-room
+first_violated-requires-clause-room c =
     let w = c.requires in
     let n = none-of c.self.inside.first (sym c.is_some.ensures ∙ c.if-is_some.false) in
     let s = subst (λ v. StandsFor w.0 v w.1) (sym c.self.view_is) w.2 in
-    subst EachHasRoom (sym c.as_mut_slice.ensures.value) (each-has-room w.0 _ w.1 c.args.row.now s c.is_set.ensures.ascending n w.3)
+    subst EachHasRoom (sym c.as_mut_slice-kept.ensures.value) (each-has-room w.0 _ w.1 c.args.row.now s c.is_set.ensures.ascending n w.3)
