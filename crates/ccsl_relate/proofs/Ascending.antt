@@ -11,7 +11,7 @@ use Rattle.ccsl_kernel.proofs.Sets.{below-ascending}
 use Rattle.ccsl_relate.specs.Watching.{IsUndeclared}
 
 -- a member is above what is below all
-above : (x : ℕ) (ys : List ℕ) (y : ℕ) → list_all (nat_lt x) ys ≡ true → ticks_in y ys ≡ true → x < y
+pub above : (x : ℕ) (ys : List ℕ) (y : ℕ) → list_all (nat_lt x) ys ≡ true → ticks_in y ys ≡ true → x < y
 above x [] y h t = absurd (cc)
 above x (z ∷ ys) y h t = by-first (nat_eq y z) refl (λ r. above x ys y (and_parts (nat_lt x z) (list_all (nat_lt x) ys) h).1 r)
   where

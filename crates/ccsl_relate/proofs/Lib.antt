@@ -9,3 +9,7 @@ pub mod Passing
 pub mod Resting
 pub mod Undeclared
 pub mod Blocks
+pub mod Quiet
+pub mod Ranges
+pub mod Walking
+pub mod Told

@@ -1,3 +1,4 @@
 pub mod Violations
 pub mod Few
 pub mod Watching
+pub mod Reading

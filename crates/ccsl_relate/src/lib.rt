@@ -2,8 +2,10 @@
 #![tactic(auto)]
 
 pub mod monitor;
+mod readers;
 mod relation;
 mod steps;
+mod touched;
 pub mod violation;
 pub mod watched;
 

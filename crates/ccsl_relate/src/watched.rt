@@ -86,7 +86,7 @@ impl Watched {
 
     /// Whether the item fails in the step that a row with these ticks completes. It goes on by the step.
     #[inline(always)]
-    fn fails(&mut self, ticks: &ClockSet, step: &ClockSet) -> bool
+    pub(crate) fn fails(&mut self, ticks: &ClockSet, step: &ClockSet) -> bool
         requires { HasRoom self.old }
         ensures fails { result ≡ fails_in ticks.now step.now self.old }
         ensures next { self.new ≡ next_in step.now self.old }

@@ -1,0 +1,78 @@
+-- An item none of whose clocks ticks neither fails nor changes.
+use Rattle.std.proofs.Common.{◌≡◌, ℕ, ◌+◌, List, [], ◌∷◌, Bool, true, false, not, ◌||◌, ◌&&◌, cond, nat_eq, nat_le, refl, sym, ap, ap₂, ◌∙◌, eq-eqb}
+use Rattle.std.specs.List.{list_any}
+use Rattle.std.proofs.lemmas.Bool.{or_parts, eqb-true}
+use Rattle.ccsl_base.specs.Clocks.{ticks_in}
+use Rattle.ccsl_formula.specs.Formula.{FTrue, FVar, FNot, FOr, eval, same}
+use Rattle.ccsl_kernel.specs.declared.constraint.RelationKind.{RelationKind}
+use Rattle.ccsl_kernel.specs.declared.constraint.RelationKind.TheVariants.{Subclock, Coincides, Excludes, Precedes, PrecedesWeakly, PrecedesWithin}
+use Rattle.ccsl_kernel.specs.Lives.{Step}
+use Rattle.ccsl_kernel.specs.Items.{relation_formula}
+use Rattle.ccsl_relate.specs.declared.watched.Watched.{Watched}
+use Rattle.ccsl_relate.specs.declared.watched.Watched.TheVariants.{Nothing, Definition, Relation}
+use Rattle.ccsl_relate.specs.Watching.{counted}
+use Rattle.ccsl_relate.specs.Reading.{clocks_of, IsQuiet}
+
+-- whether one of some clocks is among those that are read
+abbrev pub meet : List ℕ → List ℕ → Bool
+meet clocks read = list_any (λ c. ticks_in c read) clocks
+
+-- a test that no member passes
+none-passes : (p : ℕ → Bool) (xs : List ℕ) (x : ℕ) → list_any p xs ≡ false → ticks_in x xs ≡ true → p x ≡ false
+none-passes p [] x h t = absurd (cc)
+none-passes p (y ∷ xs) x h t = by-first (nat_eq x y) refl (λ r. none-passes p xs x (or_parts (p y) (list_any p xs) h).1 r)
+  where
+    by-first : (b : Bool) → nat_eq x y ≡ b → (ticks_in x xs ≡ true → p x ≡ false) → p x ≡ false
+    by-first true e k = ap p (eqb-true x y e) ∙ (or_parts (p y) (list_any p xs) h).0
+    by-first false e k = k (sym (ap (λ b. b || ticks_in x xs) e) ∙ t)
+
+not-among : (clocks read : List ℕ) (x : ℕ) → meet clocks read ≡ false → ticks_in x read ≡ true → ticks_in x clocks ≡ false
+not-among clocks read x h t = by-value (ticks_in x clocks) refl
+  where
+    by-value : (b : Bool) → ticks_in x clocks ≡ b → ticks_in x clocks ≡ false
+    by-value true e = let f : ticks_in x read ≡ false = none-passes (λ c. ticks_in c read) clocks x h e in absurd (let g : true ≡ false = sym t ∙ f in cc)
+    by-value false e = e
+
+module _ (s : Step) where
+  abbrev Rests : ℕ → Type 0
+  Rests x = ticks_in x s ≡ false
+
+  not-asked : (v : Bool) (b : ℕ) → Rests b → eval (cond v (FNot (FVar b)) FTrue) s ≡ true
+  not-asked true b e = ap not e
+  not-asked false b e = refl
+
+  not-asked-with : (v : Bool) (a b : ℕ) → Rests a → eval (cond v (FOr (FNot (FVar a)) (FVar b)) FTrue) s ≡ true
+  not-asked-with true a b e = ap (λ x. not x || ticks_in b s) e
+  not-asked-with false a b e = refl
+
+  -- a relation holds where neither of its clocks ticks
+  holds-quiet : (kind : RelationKind) (a b m n : ℕ) → Rests a → Rests b → eval (relation_formula kind a b m n) s ≡ true
+  holds-quiet Subclock a b m n e d = ap (λ x. not x || ticks_in b s) e
+  holds-quiet Coincides a b m n e d = ap₂ same e d
+  holds-quiet Excludes a b m n e d = ap (λ x. not (x && ticks_in b s)) e
+  holds-quiet Precedes a b m n e d = not-asked (nat_eq m n) b d
+  holds-quiet PrecedesWeakly a b m n e d = not-asked-with (nat_eq m n) b a d
+  holds-quiet (PrecedesWithin k) a b m n e d = ap₂ (λ x y. x && y) (not-asked (nat_eq m n) b d) (not-asked-with (nat_le (n + k) m) a b e)
+
+  module _ (ticks clocks : List ℕ) (all : (x : ℕ) → ticks_in x clocks ≡ (ticks_in x ticks || ticks_in x s)) where
+    module _ (w : Watched) (h : meet clocks (clocks_of w) ≡ false) where
+      rests : (x : ℕ) → ticks_in x (clocks_of w) ≡ true → (ticks_in x ticks ≡ false) × (ticks_in x s ≡ false)
+      rests x t = or_parts (ticks_in x ticks) (ticks_in x s) (sym (all x) ∙ not-among clocks (clocks_of w) x h t)
+
+    -- AN ITEM THAT READS NO CLOCK THAT TICKS
+    pub quiet-unread : (w : Watched) → meet clocks (clocks_of w) ≡ false → IsQuiet ticks s w
+    quiet-unread Nothing h = record { obeys = refl; stays = refl }
+    quiet-unread (Definition clock) h =
+        let r = rests (Definition clock) h clock (ap (λ b. b || false) (eq-eqb clock clock refl)) in
+        record { obeys = ap₂ (λ x y. not (same x y)) r.0 r.1; stays = refl }
+    quiet-unread (Relation r) h =
+        let left = (rests (Relation r) h r.left (ap (λ b. b || ticks_in r.left (r.right ∷ [])) (eq-eqb r.left r.left refl))).1 in
+        let right = (rests (Relation r) h r.right (right-read (nat_eq r.right r.left) r.right)).1 in
+        record {
+          obeys = ap not (holds-quiet r.kind r.left r.right r.left_count r.right_count left right);
+          stays = ap₂ (λ a b. Relation (record r { left_count = counted a r.left_count; right_count = counted b r.right_count })) left right;
+        }
+      where
+        right-read : (b : Bool) (x : ℕ) → (b || (nat_eq x x || false)) ≡ true
+        right-read true x = refl
+        right-read false x = ap (λ b. b || false) (eq-eqb x x refl)

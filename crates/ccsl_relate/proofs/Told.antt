@@ -1,0 +1,228 @@
+-- What the sets of a group tell.
+use Rattle.std.proofs.Common.{◌≡◌, ◌≢◌, ℕ, ◌+◌, ◌*◌, ◌<◌, ◌≤◌, List, [], ◌∷◌, ◌++◌, Bool, true, false, ◌||◌, ◌&&◌, nat_eq, nat_lt, map, length, get_or, slice_set, refl, sym, ap, ap₂, ◌∙◌, subst, arith, eq-eqb, lt-ltb, le-ltb, length-append, ◌⊎◌, inl, inr, ⊎_elim}
+use Rattle.std.specs.List.{list_any}
+use Rattle.std.proofs.Math.Seq.{get_or-append_seam}
+use Rattle.std.proofs.lemmas.Bool.{cases_eq, ne_eqb, ltb-true, ltb-false}
+use Rattle.std.proofs.lemmas.List.{get_or_default, get_or_past, get_or_append_left, get_or-map, get_or-set_same, get_or-set_other, length-map}
+use Rattle.ccsl_base.specs.declared.limits.TheConstants.{MAX_CLOCKS}
+use Rattle.ccsl_base.specs.Clocks.{ticks_in, with_clock}
+use Rattle.ccsl_base.proofs.Sets.{ticks_in-with_same, ticks_in-with_other}
+use Rattle.ccsl_kernel.specs.Lives.{Step}
+use Rattle.ccsl_relate.specs.declared.watched.Watched.{Watched}
+use Rattle.ccsl_relate.specs.declared.watched.Watched.TheVariants.{Nothing}
+use Rattle.ccsl_relate.specs.Reading.{clocks_of, TellsFrom, AreReaders, Touches}
+use Rattle.ccsl_relate.proofs.Quiet.{meet, quiet-unread}
+
+-- whether place p is told at clock c
+abbrev pub told : List (List ℕ) → ℕ → ℕ → Bool
+told group c p = ticks_in p (get_or group c [])
+
+-- AN ITEM MORE
+told-with : (place p : ℕ) (s : List ℕ) → ticks_in p (with_clock place s) ≡ (ticks_in p s || nat_eq p place)
+told-with place p s =
+    ⊎_elim
+    (λ (q : p ≡ place). ap (λ x. ticks_in x (with_clock place s)) q ∙ ticks_in-with_same place s ∙ sym (ap (λ b. ticks_in p s || b) (eq-eqb p place q) ∙ or-yes (ticks_in p s)))
+    (λ (q : p ≢ place). ticks_in-with_other place p s q ∙ sym (ap (λ b. ticks_in p s || b) (ne_eqb p place q) ∙ or-no (ticks_in p s)))
+    (cases_eq p place)
+  where
+    or-yes : (b : Bool) → (b || true) ≡ true
+    or-yes true = refl
+    or-yes false = refl
+
+    or-no : (b : Bool) → (b || false) ≡ b
+    or-no true = refl
+    or-no false = refl
+
+pub without : (a b : Bool) → (a || (b && false)) ≡ a
+without true b = refl
+without false true = refl
+without false false = refl
+
+-- with one place more at one clock
+pub told-more : (old mid : List (List ℕ)) (clock place : ℕ) (was now : List ℕ) → ((c : ℕ) → get_or mid c [] ≡ get_or old c []) → clock < length mid → was ≡ get_or mid clock was → now ≡ with_clock place was
+    → (c p : ℕ) → told (slice_set mid clock now) c p ≡ (told old c p || (nat_eq p place && nat_eq c clock))
+told-more old mid clock place was now same l at is c p =
+    ⊎_elim
+    (λ (q : c ≡ clock).
+    ap (λ k. told (slice_set mid clock now) k p) q
+    ∙ ap (ticks_in p) (get_or-set_same mid clock now [] l ∙ is ∙ ap (with_clock place) (at ∙ get_or_default mid clock was [] l ∙ same clock))
+    ∙ told-with place p (get_or old clock [])
+    ∙ ap₂ (λ k b. told old k p || b) (sym q) (sym (ap (λ b. nat_eq p place && b) (eq-eqb c clock q) ∙ and-yes (nat_eq p place))))
+    (λ (q : c ≢ clock).
+    ap (ticks_in p) (get_or-set_other mid clock c now [] q ∙ same c)
+    ∙ sym (ap (λ b. told old c p || (nat_eq p place && b)) (ne_eqb c clock q) ∙ without (told old c p) (nat_eq p place)))
+    (cases_eq c clock)
+  where
+    and-yes : (b : Bool) → (b && true) ≡ b
+    and-yes true = refl
+    and-yes false = refl
+
+pub at-one : (a b x : Bool) → (a || (b && x)) ≡ (a || (b && (x || false)))
+at-one true b x = refl
+at-one false false x = refl
+at-one false true true = refl
+at-one false true false = refl
+
+pub at-two : (a b x y : Bool) → ((a || (b && x)) || (b && y)) ≡ (a || (b && (x || (y || false))))
+at-two true b x y = refl
+at-two false false x y = refl
+at-two false true true y = refl
+at-two false true false y = at-one false true y
+
+-- the items before a place are told
+pub record TellsBefore (start place : ℕ) (group read : List (List ℕ)) : Type 0 where
+  pub tell : (c p : ℕ) → told group c p ≡ (nat_lt p place && ticks_in c (get_or read (start + p) []))
+
+pub before-none : (start : ℕ) (read : List (List ℕ)) → TellsBefore start 0 [] read
+before-none start read = record { tell = λ c p. sym (ap (λ v. v && ticks_in c (get_or read (start + p) [])) (le-ltb p 0 (omega arith))) }
+
+pub before-more : (start place : ℕ) (group next : List (List ℕ)) (kept : List Watched) (w : Watched) → TellsBefore start place group (map clocks_of kept) → w ≡ get_or kept (start + place) w → start + place < length kept
+    → ((c p : ℕ) → told next c p ≡ (told group c p || (nat_eq p place && ticks_in c (clocks_of w)))) → TellsBefore start (place + 1) next (map clocks_of kept)
+before-more start place group next kept w b is l h = record { tell = λ c p. h c p ∙ ap (λ v. v || (nat_eq p place && ticks_in c (clocks_of w))) (b.tell c p) ∙ by-place c p (cases_eq p place) }
+  where
+    read : List (List ℕ)
+    read = map clocks_of kept
+
+    here : get_or read (start + place) [] ≡ clocks_of w
+    here = get_or-map clocks_of kept (start + place) w [] l ∙ ap clocks_of (sym is)
+
+    by-place : (c p : ℕ) → (p ≡ place) ⊎ (p ≢ place) → ((nat_lt p place && ticks_in c (get_or read (start + p) [])) || (nat_eq p place && ticks_in c (clocks_of w))) ≡ (nat_lt p (place + 1) && ticks_in c (get_or read (start + p) []))
+    by-place c p (inl q) =
+        let same : nat_eq p place ≡ true = eq-eqb p place q in
+        let low : nat_lt p place ≡ false = le-ltb p place (omega (arith, q)) in
+        let up : nat_lt p (place + 1) ≡ true = lt-ltb p (place + 1) (omega (arith, q)) in
+        ap (λ v. (v && ticks_in c (get_or read (start + p) [])) || (nat_eq p place && ticks_in c (clocks_of w))) low
+        ∙ ap (λ v. v && ticks_in c (clocks_of w)) same
+        ∙ ap (ticks_in c) (sym here ∙ ap (λ k. get_or read (start + k) []) (sym q))
+        ∙ sym (ap (λ v. v && ticks_in c (get_or read (start + p) [])) up)
+    by-place c p (inr q) =
+        let other : nat_eq p place ≡ false = ne_eqb p place q in
+        ap (λ v. (nat_lt p place && ticks_in c (get_or read (start + p) [])) || (v && ticks_in c (clocks_of w))) other
+        ∙ or-no (nat_lt p place && ticks_in c (get_or read (start + p) []))
+        ∙ ap (λ v. v && ticks_in c (get_or read (start + p) [])) (same-test (nat_lt p place) refl)
+      where
+        or-no : (v : Bool) → (v || false) ≡ v
+        or-no true = refl
+        or-no false = refl
+
+        same-test : (v : Bool) → nat_lt p place ≡ v → nat_lt p place ≡ nat_lt p (place + 1)
+        same-test true e = e ∙ sym (lt-ltb p (place + 1) (let z : p < place = ltb-true p place e in omega (arith, z)))
+        same-test false e = e ∙ sym (le-ltb p (place + 1) (let z : place ≤ p = ltb-false p place e in omega (arith, z, q)))
+
+-- all items of a group are told
+pub before-all : (start count : ℕ) (group read : List (List ℕ)) → TellsBefore start count group read → (count ≡ MAX_CLOCKS) ⊎ (length read ≤ start + count) → TellsFrom start group read
+before-all start count group read b whole = λ c p l. b.tell c p ∙ by-test c p l (nat_lt p count) refl
+  where
+    none : (v : Bool) → (v && false) ≡ false
+    none true = refl
+    none false = refl
+
+    by-test : (c p : ℕ) → p < MAX_CLOCKS → (v : Bool) → nat_lt p count ≡ v → (nat_lt p count && ticks_in c (get_or read (start + p) [])) ≡ ticks_in c (get_or read (start + p) [])
+    by-test c p l true e = ap (λ v. v && ticks_in c (get_or read (start + p) [])) e
+    by-test c p l false e =
+        let high : count ≤ p = ltb-false p count e in
+        ⊎_elim
+        (λ (q : count ≡ MAX_CLOCKS). absurd (omega (arith, q, high, l)))
+        (λ (q : length read ≤ start + count).
+        let past : get_or read (start + p) [] ≡ [] = get_or_past read (start + p) [] (omega (arith, q, high)) in
+        ap (λ ys. nat_lt p count && ticks_in c ys) past ∙ none (nat_lt p count) ∙ sym (ap (ticks_in c) past))
+        whole
+
+-- GROUPS, one more
+pub record AreSoFar (start : ℕ) (groups : List (List (List ℕ))) (read : List (List ℕ)) : Type 0 where
+  pub start_is : start ≡ length groups * MAX_CLOCKS
+  pub few : start < length read + MAX_CLOCKS
+  pub tell : (i : ℕ) → i < length groups → TellsFrom (i * MAX_CLOCKS) (get_or groups i []) read
+
+pub groups-none : (read : List (List ℕ)) → AreSoFar 0 [] read
+groups-none read = record { start_is = refl; few = omega arith; tell = λ i l. absurd (omega (arith, l)) }
+
+pub groups-more : (start : ℕ) (groups : List (List (List ℕ))) (group read : List (List ℕ)) → AreSoFar start groups read → TellsFrom start group read → start < length read → AreSoFar (start + MAX_CLOCKS) (groups ++ group ∷ []) read
+groups-more start groups group read a t l = record {
+  start_is = omega (arith, a.start_is, length-append groups (group ∷ []));
+  few = omega (arith, l);
+  tell = λ i u. by-place i u (nat_lt i (length groups)) refl;
+}
+  where
+    by-place : (i : ℕ) → i < length (groups ++ group ∷ []) → (v : Bool) → nat_lt i (length groups) ≡ v → TellsFrom (i * MAX_CLOCKS) (get_or (groups ++ group ∷ []) i []) read
+    by-place i u true e =
+        let l' : i < length groups = ltb-true i (length groups) e in
+        subst (λ (g : List (List ℕ)). TellsFrom (i * MAX_CLOCKS) g read) (sym (get_or_append_left groups (group ∷ []) [] i l')) (a.tell i l')
+    by-place i u false e =
+        let q : i ≡ length groups = (let z : length groups ≤ i = ltb-false i (length groups) e in omega (arith, z, u, length-append groups (group ∷ []))) in
+        subst (λ (k : ℕ). TellsFrom (k * MAX_CLOCKS) (get_or (groups ++ group ∷ []) k []) read) (sym q)
+        (subst (λ (g : List (List ℕ)). TellsFrom (length groups * MAX_CLOCKS) g read) (sym (get_or-append_seam groups group [] []))
+        (subst (λ (n : ℕ). TellsFrom n group read) a.start_is t))
+
+pub groups-all : (start : ℕ) (groups : List (List (List ℕ))) (read : List (List ℕ)) → AreSoFar start groups read → length read ≤ start → AreReaders groups read
+groups-all start groups read a l = record { whole = omega (arith, l, a.start_is); few = omega (arith, a.few, a.start_is); tell = a.tell }
+
+-- what a group of these tells
+pub tell-of : (groups : List (List (List ℕ))) (group read read' : List (List ℕ)) (i : ℕ) → AreReaders groups read → i < length groups → group ≡ get_or groups i group → read' ≡ read → TellsFrom (i * MAX_CLOCKS) group read'
+tell-of groups group read read' i a l is same =
+    subst (TellsFrom (i * MAX_CLOCKS) group) (sym same)
+    (subst (λ (g : List (List ℕ)). TellsFrom (i * MAX_CLOCKS) g read) (get_or_default groups i [] group l ∙ sym is) (a.tell i l))
+
+-- THE PLACES THAT ARE TOLD at some clocks
+abbrev pub told_at : List (List ℕ) → List ℕ → ℕ → Bool
+told_at group clocks p = list_any (λ c. told group c p) clocks
+
+-- what is gathered, and what the clocks that are left tell, is what all tell
+pub record Gathers (group : List (List ℕ)) (clocks rest touched : List ℕ) : Type 0 where
+  pub both : (p : ℕ) → (ticks_in p touched || told_at group rest p) ≡ told_at group clocks p
+
+pub gathers-none : (group : List (List ℕ)) (clocks : List ℕ) → Gathers group clocks clocks []
+gathers-none group clocks = record { both = λ p. refl }
+
+pub gathers-more : (group : List (List ℕ)) (clocks rest touched next : List ℕ) (c : ℕ) → Gathers group clocks (c ∷ rest) touched → ((p : ℕ) → ticks_in p next ≡ (ticks_in p touched || told group c p)) → Gathers group clocks rest next
+gathers-more group clocks rest touched next c g h = record { both = λ p. ap (λ v. v || told_at group rest p) (h p) ∙ assoc (ticks_in p touched) (told group c p) (told_at group rest p) ∙ g.both p }
+  where
+    assoc : (x y z : Bool) → ((x || y) || z) ≡ (x || (y || z))
+    assoc true y z = refl
+    assoc false y z = refl
+
+pub gathers-past : (group : List (List ℕ)) (clocks rest touched : List ℕ) (c : ℕ) → Gathers group clocks (c ∷ rest) touched → length group ≤ c → Gathers group clocks rest touched
+gathers-past group clocks rest touched c g l = record { both = λ p. sym (ap (λ ys. ticks_in p touched || (ticks_in p ys || told_at group rest p)) (get_or_past group c [] l)) ∙ g.both p }
+
+pub gathers-all : (group : List (List ℕ)) (clocks touched : List ℕ) → Gathers group clocks [] touched → (p : ℕ) → ticks_in p touched ≡ told_at group clocks p
+gathers-all group clocks touched g p = sym (or-no (ticks_in p touched)) ∙ g.both p
+  where
+    or-no : (b : Bool) → (b || false) ≡ b
+    or-no true = refl
+    or-no false = refl
+
+-- THE ITEMS OF A GROUP THAT ARE TOUCHED
+told-meet : (start : ℕ) (group read : List (List ℕ)) → TellsFrom start group read → (clocks : List ℕ) (p : ℕ) → p < MAX_CLOCKS → told_at group clocks p ≡ meet clocks (get_or read (start + p) [])
+told-meet start group read t [] p l = refl
+told-meet start group read t (c ∷ clocks) p l = ap₂ (λ x y. x || y) (t c p l) (told-meet start group read t clocks p l)
+
+meet-none : (clocks : List ℕ) → meet clocks [] ≡ false
+meet-none [] = refl
+meet-none (c ∷ clocks) = meet-none clocks
+
+pub touches-told : (ticks : List ℕ) (s : Step) (clocks : List ℕ) (start : ℕ) (group : List (List ℕ)) (touched : List ℕ) (kept : List Watched) → ((x : ℕ) → ticks_in x clocks ≡ (ticks_in x ticks || ticks_in x s))
+    → TellsFrom start group (map clocks_of kept) → ((p : ℕ) → ticks_in p touched ≡ told_at group clocks p) → Touches ticks s touched start kept
+touches-told ticks s clocks start group touched kept all t h = record {
+  inside = λ p l e. inside p l e (nat_lt (start + p) (length kept)) refl;
+  quiet = λ p l e. quiet-unread s ticks clocks all (get_or kept (start + p) Nothing) (sym (met p l ∙ ap (meet clocks) (at p (nat_lt (start + p) (length kept)) refl)) ∙ e);
+}
+  where
+    read : List (List ℕ)
+    read = map clocks_of kept
+
+    met : (p : ℕ) → p < MAX_CLOCKS → ticks_in p touched ≡ meet clocks (get_or read (start + p) [])
+    met p l = h p ∙ told-meet start group read t clocks p l
+
+    at : (p : ℕ) → (v : Bool) → nat_lt (start + p) (length kept) ≡ v → get_or read (start + p) [] ≡ clocks_of (get_or kept (start + p) Nothing)
+    at p true e = get_or-map clocks_of kept (start + p) Nothing [] (ltb-true (start + p) (length kept) e)
+    at p false e =
+        let high : length kept ≤ start + p = ltb-false (start + p) (length kept) e in
+        get_or_past read (start + p) [] (omega (arith, high, length-map kept clocks_of)) ∙ ap clocks_of (sym (get_or_past kept (start + p) Nothing high))
+
+    inside : (p : ℕ) → p < MAX_CLOCKS → ticks_in p touched ≡ true → (v : Bool) → nat_lt (start + p) (length kept) ≡ v → start + p < length kept
+    inside p l e true b = ltb-true (start + p) (length kept) b
+    inside p l e false b =
+        let high : length kept ≤ start + p = ltb-false (start + p) (length kept) b in
+        let past : get_or read (start + p) [] ≡ [] = get_or_past read (start + p) [] (omega (arith, high, length-map kept clocks_of)) in
+        let z : true ≡ false = sym e ∙ met p l ∙ ap (meet clocks) past ∙ meet-none clocks in
+        absurd (cc)

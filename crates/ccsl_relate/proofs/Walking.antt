@@ -1,0 +1,126 @@
+-- A walk over the places of the items of a group that read a clock that ticks.
+use Rattle.std.proofs.Common.{◌≡◌, ℕ, ◌+◌, ◌-◌, ◌<◌, ◌≤◌, List, [], ◌∷◌, Bool, true, false, ◌||◌, nat_eq, nat_lt, length, get_or, slice_set, ◌⊎◌, inl, inr, ⊎_elim, refl, sym, ap, ◌∙◌, subst, arith, eq-eqb}
+use Rattle.std.specs.List.{list_all}
+use Rattle.std.proofs.lemmas.Bool.{and_parts, or_right, eqb-true}
+use Rattle.ccsl_base.specs.declared.limits.TheConstants.{MAX_CLOCKS}
+use Rattle.ccsl_base.specs.Clocks.{ticks_in, is_ascending, are_below}
+use Rattle.ccsl_base.proofs.Sets.{member-below}
+use Rattle.ccsl_kernel.specs.Lives.{Step}
+use Rattle.ccsl_relate.specs.declared.watched.Watched.{Watched}
+use Rattle.ccsl_relate.specs.declared.watched.Watched.TheVariants.{Nothing}
+use Rattle.ccsl_relate.specs.Watching.{fails_in, next_in}
+use Rattle.ccsl_relate.specs.Reading.{IsQuiet, Touches, FailsFrom, GoesOn}
+use Rattle.ccsl_relate.proofs.Ascending.{above}
+use Rattle.ccsl_relate.proofs.Ranges.{on-none, on-skip, on-more, fails-here}
+
+-- the items before place `next` are behind the walk, and the places that are left are all that follow
+pub record Walks (ticks : List ℕ) (s : Step) (start : ℕ) (touched rest : List ℕ) (old now : List Watched) : Type 0 where
+  pub next : ℕ
+  pub low : start ≤ next
+  pub high : next ≤ start + MAX_CLOCKS
+  pub on : GoesOn ticks s start next old now
+  pub left : (p : ℕ) → next ≤ start + p → ticks_in p touched ≡ true → ticks_in p rest ≡ true
+  pub behind : (p : ℕ) → ticks_in p rest ≡ true → next ≤ start + p
+  pub within : (p : ℕ) → ticks_in p rest ≡ true → ticks_in p touched ≡ true
+  pub sorted : is_ascending rest ≡ true
+  pub below : are_below MAX_CLOCKS touched ≡ true
+
+pub walk-none : (ticks : List ℕ) (s : Step) (start : ℕ) (touched : List ℕ) (kept : List Watched) → is_ascending touched ≡ true → are_below MAX_CLOCKS touched ≡ true → Walks ticks s start touched touched kept kept
+walk-none ticks s start touched kept a b = record {
+  next = start;
+  low = omega arith;
+  high = omega arith;
+  on = on-none ticks s start kept;
+  left = λ p l t. t;
+  behind = λ p t. omega arith;
+  within = λ p t. t;
+  sorted = a;
+  below = b;
+}
+
+first-member : (m : ℕ) (rest : List ℕ) → ticks_in m (m ∷ rest) ≡ true
+first-member m rest = ap (λ b. b || ticks_in m rest) (eq-eqb m m refl)
+
+module _ (ticks : List ℕ) (s : Step) (start : ℕ) (touched : List ℕ) (old now : List Watched) (t : Touches ticks s touched start old) where
+  -- an item at which the walk does not stop is quiet
+  quiet-between : (next : ℕ) (stop : ℕ) → start ≤ next → stop ≤ start + MAX_CLOCKS → ((p : ℕ) → next ≤ start + p → start + p < stop → ticks_in p touched ≡ false)
+      → (k : ℕ) → next ≤ k → k < stop → k < length old → IsQuiet ticks s (get_or old k Nothing)
+  quiet-between next stop low high none k a b l =
+      let p : ℕ = k - start in
+      let at : start + p ≡ k = omega (arith, low, a) in
+      subst (λ (i : ℕ). IsQuiet ticks s (get_or old i Nothing)) at
+      (t.quiet p (omega (arith, at, b, high)) (none p (omega (arith, at, a)) (omega (arith, at, b))))
+
+  module _ (m : ℕ) (rest : List ℕ) (w : Walks ticks s start touched (m ∷ rest) old now) where
+    parts : (list_all (nat_lt m) rest ≡ true) × (is_ascending rest ≡ true)
+    parts = and_parts (list_all (nat_lt m) rest) (is_ascending rest) w.sorted
+
+    member : ticks_in m touched ≡ true
+    member = w.within m (first-member m rest)
+
+    small : m < MAX_CLOCKS
+    small = member-below MAX_CLOCKS touched m w.below member
+
+    pub walk-inside : start + m < length old
+    walk-inside = t.inside m small member
+
+    from : w.next ≤ start + m
+    from = w.behind m (first-member m rest)
+
+    -- what is left behind the next place
+    later : (p : ℕ) → ticks_in p (m ∷ rest) ≡ true → (p ≡ m) ⊎ (ticks_in p rest ≡ true)
+    later p h = by-first (nat_eq p m) refl
+      where
+        by-first : (b : Bool) → nat_eq p m ≡ b → (p ≡ m) ⊎ (ticks_in p rest ≡ true)
+        by-first true e = inl (eqb-true p m e)
+        by-first false e = inr (sym (ap (λ b. b || ticks_in p rest) e) ∙ h)
+
+    none-between : (p : ℕ) → w.next ≤ start + p → start + p < start + m → ticks_in p touched ≡ false
+    none-between p a b = by-value (ticks_in p touched) refl
+      where
+        by-value : (v : Bool) → ticks_in p touched ≡ v → ticks_in p touched ≡ false
+        by-value true e =
+            absurd (⊎_elim
+            (λ (q : p ≡ m). omega (arith, q, b))
+            (λ (q : ticks_in p rest ≡ true). let l : m < p = above m rest p parts.0 q in omega (arith, l, b))
+            (later p (w.left p a e)))
+        by-value false e = e
+
+    -- the walk comes to the next place
+    comes : GoesOn ticks s start (start + m) old now
+    comes = on-skip ticks s start w.next (start + m) old now w.on w.low from (quiet-between w.next (start + m) w.low (omega (arith, small)) none-between)
+
+    pub walk-same : (d : Watched) → get_or now (start + m) d ≡ get_or old (start + m) d
+    walk-same d = comes.rest (start + m) d (omega arith)
+
+    pub walk-fails : fails_in ticks s (get_or now (start + m) Nothing) ≡ true → FailsFrom ticks s start old (start + m)
+    walk-fails e = fails-here ticks s start (start + m) old now comes (omega arith) walk-inside e
+
+    pub walk-more : (x : Watched) → fails_in ticks s (get_or now (start + m) Nothing) ≡ false → x ≡ next_in s (get_or now (start + m) Nothing)
+        → Walks ticks s start touched rest old (slice_set now (start + m) x)
+    walk-more x e is = record {
+      next = start + m + 1;
+      low = omega arith;
+      high = omega (arith, small);
+      on = on-more ticks s start (start + m) old now x comes (omega arith) walk-inside e is;
+      left = λ p a h.
+          ⊎_elim
+          (λ (q : p ≡ m). absurd (omega (arith, q, a)))
+          (λ (q : ticks_in p rest ≡ true). q)
+          (later p (w.left p (omega (arith, a, from)) h));
+      behind = λ p h. let l : m < p = above m rest p parts.0 h in omega (arith, l);
+      within = λ p h. w.within p (or_right (nat_eq p m) (ticks_in p rest) h);
+      sorted = parts.1;
+      below = w.below;
+    }
+
+  -- the walk is over
+  pub walk-done : Walks ticks s start touched [] old now → GoesOn ticks s start (start + MAX_CLOCKS) old now
+  walk-done w = on-skip ticks s start w.next (start + MAX_CLOCKS) old now w.on w.low w.high (quiet-between w.next (start + MAX_CLOCKS) w.low (omega arith) none)
+    where
+      none : (p : ℕ) → w.next ≤ start + p → start + p < start + MAX_CLOCKS → ticks_in p touched ≡ false
+      none p a b = by-value (ticks_in p touched) refl
+        where
+          by-value : (v : Bool) → ticks_in p touched ≡ v → ticks_in p touched ≡ false
+          by-value true e = let z : false ≡ true = w.left p a e in absurd (cc)
+          by-value false e = e

@@ -1,0 +1,50 @@
+use Rattle.std.proofs.Common.{◌≡◌, ◌+◌, ◌*◌, ◌||◌, length, map, sym, ap, ◌∙◌, subst, arith}
+use Rattle.std.proofs.lemmas.List.{length-map}
+use Rattle.std.specs.Prelude.{IfNone}
+use Rattle.ccsl_base.specs.declared.limits.TheConstants.{MAX_CLOCKS}
+use Rattle.ccsl_base.specs.Clocks.{ticks_in}
+use Rattle.ccsl_relate.specs.Watching.{FailsFirst}
+use Rattle.ccsl_relate.specs.Reading.{clocks_of, AreReaders, FailsFrom, GoesOn}
+use Rattle.ccsl_relate.proofs.Ranges.{on-both, on-all, fails-first, some-more}
+use Rattle.ccsl_relate.proofs.Told.{touches-told, tell-of}
+use Rattle.ccsl_relate.proofs.Undeclared.{none-of}
+use Rattle.ccsl_relate.proofs.touched.first_touched.Goals as goal
+
+pub first_at-place-requires-clause-touched : goal.first_at-place-requires-clause-touched
+first_at-place-requires-clause-touched c =
+    let i = c.loop-i.i in
+    let group = c.index-groups-i.result in
+    touches-told c.args.ticks.now c.args.step.now c.insert_all.new.self (i * MAX_CLOCKS) group c.touched-touched.result c.loop-i.kept
+    (λ x. c.insert_all.ensures x ∙ ap (λ ys. ticks_in x ys || ticks_in x c.args.step.now) c.copy-clocks.ensures)
+    (tell-of c.groups-groups.result.now group (map clocks_of c.args.kept.now) (map clocks_of c.loop-i.kept) i
+    (subst (λ gs. AreReaders gs (map clocks_of c.args.kept.now)) (sym c.groups-groups.ensures) c.requires.readers)
+    c.loop-i-test.true c.index-groups-i.is c.loop-i.invariant.clocks)
+    c.touched-touched.ensures
+
+pub returns-then-is_some-clause-fails : goal.returns-then-is_some-clause-fails
+returns-then-is_some-clause-fails c =
+    let ticks = c.args.ticks.now in
+    let step = c.args.step.now in
+    let mid = c.loop-i.i * MAX_CLOCKS in
+    some-more (FailsFrom ticks step mid c.loop-i.kept) (FailsFirst ticks step c.args.kept.now) c.first_at-place.result
+    (λ place f. fails-first ticks step mid place c.args.kept.now c.loop-i.kept c.loop-i.invariant.on f) c.first_at-place.ensures.fails
+
+pub loop-i-preserved : goal.loop-i-preserved
+loop-i-preserved c =
+    let ticks = c.args.ticks.now in
+    let step = c.args.step.now in
+    let mid = c.loop-i.i * MAX_CLOCKS in
+    let old = c.loop-i.kept in
+    let new = c.first_at-place.new.kept in
+    let none = none-of c.first_at-place.result (sym c.is_some.ensures ∙ c.if-is_some.false) in
+    let here : GoesOn ticks step mid (mid + MAX_CLOCKS) old new = subst (λ o. IfNone o (GoesOn ticks step mid (mid + MAX_CLOCKS) old new)) none c.first_at-place.ensures.none in
+    let next : mid + MAX_CLOCKS ≡ (c.loop-i.i + 1) * MAX_CLOCKS = omega arith in
+    record {
+      on = subst (λ n. GoesOn ticks step 0 n c.args.kept.now new) next (on-both ticks step 0 mid (mid + MAX_CLOCKS) c.args.kept.now old new c.loop-i.invariant.on here (omega arith) (omega arith));
+      clocks = c.first_at-place.ensures.clocks ∙ c.loop-i.invariant.clocks;
+    }
+
+pub returns-clause-next : goal.returns-clause-next
+returns-clause-next c =
+    on-all c.args.ticks.now c.args.step.now (c.loop-i.i * MAX_CLOCKS) c.args.kept.now c.loop-i.kept c.loop-i.invariant.on
+    (omega (arith, c.requires.readers.whole, length-map c.args.kept.now clocks_of, ap length c.groups-groups.ensures))

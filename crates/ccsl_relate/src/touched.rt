@@ -1,0 +1,101 @@
+//! The items that read a clock that ticks, and no others: only these can fail or change in a step.
+
+ghost use Rattle.std.specs.Prelude.{◌≡◌, ℕ, ◌+◌, ◌<◌, ◌≤◌, ◌^◌, false, length, map, slice_index_or, All, IfOk, IfSome, IfNone};
+ghost use Rattle.ccsl_base.specs.declared.limits.TheConstants.{MAX_CLOCKS};
+ghost use Rattle.ccsl_relate.specs.Few.{HasRoom, EachHasRoom};
+ghost use Rattle.ccsl_relate.specs.Watching.{fails_in, next_in, FailsFirst};
+ghost use Rattle.ccsl_relate.specs.Reading.{clocks_of, AreReaders, Fit, Touches, FailsFrom, GoesOn};
+
+use crate::readers::{GROUP, Readers};
+use crate::watched::{Watched, first_failing};
+use ccsl_base::{ClockSet, Memory};
+use std::alloc::Global;
+
+/// Fewer items are sooner looked at one by one.
+const FEWEST: usize = 8;
+
+// The first item that fails, of those at some places behind `start`. The others of the group neither fail nor change.
+fn first_at(
+    kept: &mut [Watched],
+    start: usize,
+    touched: &ClockSet,
+    ticks: &ClockSet,
+    step: &ClockSet,
+) -> Option<u32>
+    requires few { length kept.old < 2 ^ 32 }
+    requires room { (k : ℕ) (d : Watched) → start ≤ k → k < length kept.old → HasRoom (slice_index_or kept.old k d) }
+    requires touched { Touches ticks.now step.now touched.now start kept.old }
+    ensures clocks { map clocks_of kept.new ≡ map clocks_of kept.old }
+    ensures fails { IfSome result (FailsFrom ticks.now step.now start kept.old) }
+    ensures none { IfNone result (GoesOn ticks.now step.now start (start + MAX_CLOCKS) kept.old kept.new) }
+{
+    for place in touched.members() {
+        let at = start + place as usize;
+        if kept[at].fails(ticks, step) {
+            return Some(at as u32);
+        }
+    }
+    None
+}
+
+// As `first_failing` tells it, of the items that are looked at.
+fn first_touched(
+    kept: &mut [Watched],
+    readers: &Readers,
+    ticks: &ClockSet,
+    step: &ClockSet,
+) -> Option<u32>
+    requires readers { AreReaders readers.now (map clocks_of kept.old) }
+    requires few { length kept.old < 2 ^ 32 }
+    requires room { EachHasRoom kept.old }
+    ensures clocks { map clocks_of kept.new ≡ map clocks_of kept.old }
+    ensures fails { IfSome result (FailsFirst ticks.now step.now kept.old) }
+    ensures none { IfNone result (All (λ w. fails_in ticks.now step.now w ≡ false) kept.old) }
+    ensures next { IfNone result (kept.new ≡ map (next_in step.now) kept.old) }
+{
+    let mut clocks = ticks.copy();
+    clocks.insert_all(step);
+    let groups = readers.groups();
+    for i in 0..groups.len() {
+        let touched = groups[i].touched(&clocks);
+        let place = first_at(kept, i * GROUP, &touched, ticks, step);
+        if place.is_some() {
+            return place;
+        }
+    }
+    None
+}
+
+/// Which of some items read a clock, where they are enough to gain by it.
+pub(crate) fn readers_of(alloc: Global, kept: &[Watched]) -> Result<Option<Readers>, Memory>
+    requires { length kept.now < 2 ^ 32 }
+    ensures { IfOk result (λ readers. Fit readers kept.now) }
+{
+    if kept.len() < FEWEST {
+        return Ok(None);
+    }
+    Ok(Some(Readers::open(alloc, kept)?))
+}
+
+/// The place of the first item that fails in the step that a row with these ticks completes, as `first_failing` tells it. Where it is
+/// known which items read a clock, no others than those that read a clock that ticks are looked at.
+pub(crate) fn first_read(
+    kept: &mut [Watched],
+    readers: &Option<Readers>,
+    ticks: &ClockSet,
+    step: &ClockSet,
+) -> Option<u32>
+    requires readers { Fit readers.now kept.old }
+    requires few { length kept.old < 2 ^ 32 }
+    requires room { EachHasRoom kept.old }
+    ensures readers { Fit readers.now kept.new }
+    ensures count { length kept.new ≡ length kept.old }
+    ensures fails { IfSome result (FailsFirst ticks.now step.now kept.old) }
+    ensures none { IfNone result (All (λ w. fails_in ticks.now step.now w ≡ false) kept.old) }
+    ensures next { IfNone result (kept.new ≡ map (next_in step.now) kept.old) }
+{
+    match readers {
+        Some(readers) => first_touched(kept, readers, ticks, step),
+        None => first_failing(kept, ticks, step),
+    }
+}
