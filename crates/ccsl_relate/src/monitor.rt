@@ -6,7 +6,9 @@ ghost use Rattle.ccsl_kernel.specs.Syntax.{item_count};
 ghost use Rattle.ccsl_relate.specs.Violations.{Finds};
 ghost use Rattle.ccsl_relate.specs.Watching.{Suffice, AreAfter, StandsFor, IsNext};
 
+use crate::readers::Readers;
 use crate::steps::{first_violated, is_set, rows_are_sets, undeclared};
+use crate::touched::readers_of;
 use crate::violation::Violation;
 use crate::watched::{Watched, open_all, read_declared};
 use ccsl_base::{Block, ClockSet, Memory, Row};
@@ -25,6 +27,8 @@ pub struct Monitor<'s> {
     // all clocks that the system does not declare
     undeclared: ClockSet,
     kept: Vec<Watched>,
+    // which of them read a clock
+    readers: Option<Readers>,
     states: Option<States<'s>>,
     steps: u64,
     first: Option<Violation>,
@@ -40,6 +44,7 @@ impl<'s> Model for Monitor<'s> {
     ghost coded = { Prim.hlevel (codes, coded_expression) };
 
     ghost use Rattle.ccsl_relate.specs.Watching.{IsUndeclared};
+    ghost use Rattle.ccsl_relate.specs.Reading.{Fit};
 
     ghost view = { λ m. record {
       system = m.system.now;
@@ -50,7 +55,7 @@ impl<'s> Model for Monitor<'s> {
       first = m.first;
     } };
 
-    ghost invariant = { λ m. IsUndeclared m.system.now m.undeclared };
+    ghost invariant = { λ m. IsUndeclared m.system.now m.undeclared × Fit m.readers m.kept.items };
 }
 
 // The states of the system, where an item needs them.
@@ -85,6 +90,7 @@ impl<'s> Monitor<'s> {
         ensures stands { IfOk result (λ m. StandsFor recorded.now m []) }
     {
         let kept = open_all(alloc, system, start, count, recorded)?;
+        let readers = readers_of(alloc, kept.as_slice())?;
         let states = states_for(alloc, system, kept.as_slice())?;
         system.names();
         Ok(Monitor {
@@ -92,6 +98,7 @@ impl<'s> Monitor<'s> {
             start,
             undeclared: undeclared(system),
             kept,
+            readers,
             states,
             steps: 0,
             first: None,
@@ -115,6 +122,7 @@ impl<'s> Monitor<'s> {
             &mut self.states,
             &self.undeclared,
             kept,
+            &self.readers,
             &row.ticks,
         )?;
         Some(Violation {

@@ -7,9 +7,12 @@ ghost use Rattle.ccsl_kernel.specs.Syntax.{System};
 ghost use Rattle.ccsl_kernel.specs.Lives.{Step};
 ghost use Rattle.ccsl_kernel.specs.Runs.{full_step, declared_part};
 ghost use Rattle.ccsl_relate.specs.Few.{EachHasRoom};
+ghost use Rattle.ccsl_relate.specs.Reading.{Fit};
 ghost use Rattle.ccsl_relate.specs.Watching.{IsUndeclared, AreAfter, are_sets, step_known, fails_in, next_in, FailsFirst};
 
-use crate::watched::{Watched, first_failing};
+use crate::readers::Readers;
+use crate::touched::first_read;
+use crate::watched::Watched;
 use ccsl_base::{Block, ClockSet, MAX_CLOCKS};
 use ccsl_kernel::System;
 use ccsl_state::States;
@@ -83,11 +86,14 @@ pub(crate) fn first_violated(
     states: &mut Option<States<'_>>,
     undeclared: &ClockSet,
     kept: &mut [Watched],
+    readers: &Option<Readers>,
     ticks: &ClockSet,
 ) -> Option<u32>
     requires undeclared { IsUndeclared system.now undeclared.now }
+    requires readers { Fit readers.now kept.old }
     requires few { length kept.old < 2 ^ 32 }
     requires room { EachHasRoom kept.old }
+    ensures readers { Fit readers.now kept.new }
     ensures count { length kept.new ≡ length kept.old }
     ensures fails { (T : List Step) → AreAfter system.now states.old T →
         IfSome result (FailsFirst ticks.now (step_known system.now states.old T ticks.now) kept.old) }
@@ -102,8 +108,8 @@ pub(crate) fn first_violated(
     match states {
         Some(states) => {
             let step = next_step(system, states, undeclared, ticks);
-            first_failing(kept, ticks, &step)
+            first_read(kept, readers, ticks, &step)
         }
-        None => first_failing(kept, ticks, ticks),
+        None => first_read(kept, readers, ticks, ticks),
     }
 }
