@@ -1,5 +1,5 @@
--- Sets with the same members are the same list.
-use Rattle.std.proofs.Common.{◌≡◌, ℕ, ◌<◌, List, [], ◌∷◌, Bool, true, false, ◌||◌, nat_eq, nat_lt, refl, sym, ap, ap₂, ◌∙◌, arith, eq-eqb}
+-- Ascending lists: a part of one ascends, and sets with the same members are the same list.
+use Rattle.std.proofs.Common.{◌≡◌, ℕ, ◌<◌, List, [], ◌∷◌, Bool, true, false, ◌||◌, cond, filter, nat_eq, nat_lt, refl, sym, ap, ap₂, ◌∙◌, arith, eq-eqb}
 use Rattle.std.specs.List.{list_all}
 use Rattle.std.proofs.lemmas.Bool.{and_parts, ne_eqb, ltb-true, eqb-true}
 use Rattle.ccsl_base.specs.Clocks.{ticks_in, is_ascending}
@@ -20,6 +20,21 @@ no-member x ys h = by-value (ticks_in x ys) refl
     by-value : (b : Bool) → ticks_in x ys ≡ b → ticks_in x ys ≡ false
     by-value true e = let l : x < x = above x ys x h e in absurd (omega arith)
     by-value false e = e
+
+-- a part is above what is below all
+part-above : (p : ℕ → Bool) (x : ℕ) (ys : List ℕ) → list_all (nat_lt x) ys ≡ true → list_all (nat_lt x) (filter p ys) ≡ true
+part-above p x [] h = refl
+part-above p x (y ∷ ys) h =
+    let q = and_parts (nat_lt x y) (list_all (nat_lt x) ys) h in
+    let later = part-above p x ys q.1 in
+    elim (p y) as (λ w. list_all (nat_lt x) (cond w (y ∷ filter p ys) (filter p ys)) ≡ true) [ true ↦ rw q.0 later | false ↦ later ]
+
+pub part-ascends : (p : ℕ → Bool) (ys : List ℕ) → is_ascending ys ≡ true → is_ascending (filter p ys) ≡ true
+part-ascends p [] h = refl
+part-ascends p (y ∷ ys) h =
+    let q = and_parts (list_all (nat_lt y) ys) (is_ascending ys) h in
+    let later = part-ascends p ys q.1 in
+    elim (p y) as (λ w. is_ascending (cond w (y ∷ filter p ys) (filter p ys)) ≡ true) [ true ↦ rw (part-above p y ys q.0) later | false ↦ later ]
 
 pub same-members : (xs ys : List ℕ) → is_ascending xs ≡ true → is_ascending ys ≡ true → ((x : ℕ) → ticks_in x xs ≡ ticks_in x ys) → xs ≡ ys
 same-members [] [] a b h = refl

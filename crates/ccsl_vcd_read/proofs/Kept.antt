@@ -5,15 +5,16 @@ use Rattle.std.specs.List.{list_all, AllByRecursion}
 use Rattle.std.proofs.lemmas.List.{take_more}
 use Rattle.std.proofs.lemmas.Bool.{and_parts, ne_eqb, ltb-true, eqb-true, cases_eq}
 use Rattle.ccsl_base.specs.declared.limits.TheConstants.{MAX_CLOCKS}
-use Rattle.ccsl_base.specs.Clocks.{ticks_in, with_clock, is_ascending, are_below}
-use Rattle.ccsl_base.proofs.Sets.{ticks_in-with_same, ticks_in-with_other, ticks_in-without_same, ticks_in-without_other}
+use Rattle.ccsl_base.specs.Clocks.{ticks_in, with_clock, put_clock, difference, is_ascending, are_below}
+use Rattle.ccsl_base.proofs.Sets.{ticks_in-with_same, ticks_in-with_other, ticks_in-put_same, ticks_in-put_other, ticks_in-difference}
 use Rattle.ccsl_vcd_read.specs.declared.marks.Mark.{Mark}
 use Rattle.ccsl_vcd_read.specs.declared.users.Slot.{Slot}
 use Rattle.ccsl_vcd_read.specs.declared.users.User.{User}
 use Rattle.ccsl_vcd_read.specs.declared.users.User.TheVariants.{Nobody, One, Many}
 use Rattle.ccsl_vcd_read.specs.Marks.{put, aged, is_ticking, ticking}
 use Rattle.ccsl_vcd_read.specs.Users.{with_slot, user_of, user_in, IsMore}
-use Rattle.ccsl_vcd_read.specs.Kept.{mark_in, clocks_of, put_clock, put_in, put_each, put_all, AreKept}
+use Rattle.ccsl_vcd_read.specs.Kept.{mark_in, clocks_of, put_in, put_each, put_all, AreKept}
+use Rattle.ccsl_vcd_read.proofs.Ascending.{part-ascends, same-members}
 
 or-true : (b : Bool) → (b || true) ≡ true
 or-true true = refl
@@ -22,16 +23,6 @@ or-true false = refl
 or-none : (b : Bool) → (b || false) ≡ b
 or-none true = refl
 or-none false = refl
-
--- a clock that is put in or taken out
-
-pub clock-same : (c : ℕ) (one : Bool) (set : List ℕ) → ticks_in c (put_clock c one set) ≡ one
-clock-same c true set = ticks_in-with_same c set
-clock-same c false set = ticks_in-without_same c set
-
-pub clock-other : (c : ℕ) (one : Bool) (set : List ℕ) (x : ℕ) → x ≢ c → ticks_in x (put_clock c one set) ≡ ticks_in x set
-clock-other c true set x o = ticks_in-with_other c x set o
-clock-other c false set x o = ticks_in-without_other c x set o
 
 -- a change of a clock's code
 
@@ -42,14 +33,14 @@ put-same s one dumped now =
         | true ↦ sym (or-none (ticks_in s.clock now))
         | false ↦ ticks_in-with_same s.clock now ∙ sym (or-true (ticks_in s.clock now))
       ]
-      | false ↦ clock-same s.clock one now
+      | false ↦ ticks_in-put_same s.clock one now
     ]
 
 put-other : (s : Slot) (one dumped : Bool) (now : List ℕ) (x : ℕ) → x ≢ s.clock → ticks_in x (put_in s one dumped now) ≡ ticks_in x now
 put-other s one dumped now x o =
     elim s.event as (λ w. ticks_in x (cond w (cond dumped now (with_clock s.clock now)) (put_clock s.clock one now)) ≡ ticks_in x now) [
       | true ↦ elim dumped as (λ w. ticks_in x (cond w now (with_clock s.clock now)) ≡ ticks_in x now) [ true ↦ refl | false ↦ ticks_in-with_other s.clock x now o ]
-      | false ↦ clock-other s.clock one now x o
+      | false ↦ ticks_in-put_other s.clock one x now o
     ]
 
 each-other : (code : ℕ) (one dumped : Bool) (now : List ℕ) (s : Slot) (x : ℕ) → x ≢ s.clock → ticks_in x (put_each code one dumped now s) ≡ ticks_in x now
@@ -225,39 +216,23 @@ implied a true h c = ap (λ v. v && c) (sym (h refl))
 implied a false h c = sym (and-false a)
 
 -- the members of the one set that are not the other's tick
-pub ticking-members : (now before ticks : List ℕ) (slots : List Slot) → ((x : ℕ) → ticks_in x now ≡ true → ticks_in x (clocks_of slots) ≡ true)
-    → ((x : ℕ) → ticks_in x ticks ≡ (ticks_in x now && not (ticks_in x before))) → (x : ℕ) → ticks_in x ticks ≡ ticks_in x (ticking (map (mark_in now before) slots))
-ticking-members now before ticks slots inside h x =
-    h x ∙ implied (ticks_in x (clocks_of slots)) (ticks_in x now) (inside x) (not (ticks_in x before)) ∙ sym (ticks-of now before slots x)
-
--- No clock ticks where each of those that are 1 was.
-
-ticking-has : (now before : List ℕ) (slots : List Slot) → ((x : ℕ) → ticks_in x now ≡ true → ticks_in x (clocks_of slots) ≡ true) → (x : ℕ)
-    → ticks_in x (ticking (map (mark_in now before) slots)) ≡ (ticks_in x now && not (ticks_in x before))
-ticking-has now before slots inside x = ticks-of now before slots x ∙ sym (implied (ticks_in x (clocks_of slots)) (ticks_in x now) (inside x) (not (ticks_in x before)))
-
-no-members : (xs : List ℕ) → ((x : ℕ) → ticks_in x xs ≡ false) → xs ≡ []
-no-members [] h = refl
-no-members (x ∷ xs) h = absurd (let no : true ≡ false = sym (ap (λ t. t || ticks_in x xs) (eq-eqb x x refl)) ∙ h x in cc)
-
-pub quiet-none : (now before : List ℕ) (slots : List Slot) → ((x : ℕ) → ticks_in x now ≡ true → ticks_in x (clocks_of slots) ≡ true) → ((x : ℕ) → (ticks_in x now && not (ticks_in x before)) ≡ false)
-    → ticking (map (mark_in now before) slots) ≡ []
-quiet-none now before slots inside h = no-members (ticking (map (mark_in now before) slots)) (λ x. ticking-has now before slots inside x ∙ h x)
-
-pub none-quiet : (now before : List ℕ) (slots : List Slot) → ((x : ℕ) → ticks_in x now ≡ true → ticks_in x (clocks_of slots) ≡ true) → ticking (map (mark_in now before) slots) ≡ []
-    → (x : ℕ) → (ticks_in x now && not (ticks_in x before)) ≡ false
-none-quiet now before slots inside e x = sym (ticking-has now before slots inside x) ∙ ap (ticks_in x) e
+pub difference-ticks : (now before : List ℕ) (slots : List Slot) → is_ascending now ≡ true → is_ascending (clocks_of slots) ≡ true
+    → ((x : ℕ) → ticks_in x now ≡ true → ticks_in x (clocks_of slots) ≡ true) → difference now before ≡ ticking (map (mark_in now before) slots)
+difference-ticks now before slots a b inside =
+    same-members (difference now before) (ticking (map (mark_in now before) slots)) (part-ascends (λ x. not (ticks_in x before)) now a) (ticking-ascends now before slots b)
+    (λ x. ticks_in-difference now before x ∙ implied (ticks_in x (clocks_of slots)) (ticks_in x now) (inside x) (not (ticks_in x before)) ∙ sym (ticks-of now before slots x))
 
 -- A later time.
 
 pub marks-age : (now before later former events : List ℕ) (slots : List Slot) → AllByRecursion (λ s. ticks_in s.clock events ≡ s.event) slots
-    → ((x : ℕ) → ticks_in x later ≡ (ticks_in x now && not (ticks_in x events))) → ((x : ℕ) → ticks_in x former ≡ ticks_in x later)
+    → ((x : ℕ) → ticks_in x later ≡ (ticks_in x now && not (ticks_in x events))) → ((x : ℕ) → ticks_in x former ≡ (ticks_in x now && not (ticks_in x events)))
     → map (mark_in later former) slots ≡ map aged (map (mark_in now before) slots)
 marks-age now before later former events [] e h g = refl
 marks-age now before later former events (s ∷ ss) e h g =
     let at : Bool → Bool → Mark = λ a b. record { clock = s.clock; code = s.code; event = s.event; now = a; before = b } in
-    let v : ticks_in s.clock later ≡ (not s.event && ticks_in s.clock now) = h s.clock ∙ ap (λ w. ticks_in s.clock now && not w) e.0 ∙ and-swap (ticks_in s.clock now) (not s.event) in
-    ap₂ (λ (m : Mark) (ms : List Mark). m ∷ ms) (ap₂ at v (g s.clock ∙ v)) (marks-age now before later former events ss e.1 h g)
+    let v : (ticks_in s.clock now && not (ticks_in s.clock events)) ≡ (not s.event && ticks_in s.clock now) =
+    ap (λ w. ticks_in s.clock now && not w) e.0 ∙ and-swap (ticks_in s.clock now) (not s.event) in
+    ap₂ (λ (m : Mark) (ms : List Mark). m ∷ ms) (ap₂ at (h s.clock ∙ v) (g s.clock ∙ v)) (marks-age now before later former events ss e.1 h g)
 
 pub age-kept : (slots : List Slot) (users : List User) (events now later : List ℕ) → AreKept slots users events now → ((x : ℕ) → ticks_in x later ≡ (ticks_in x now && not (ticks_in x events))) → AreKept slots users events later
 age-kept slots users events now later k h = record {
@@ -306,15 +281,15 @@ fresh-stay now before c a b (s ∷ ss) h =
     let p = split-or c s.clock (ticks_in c (clocks_of ss)) h in
     let at : Bool → Bool → Mark = λ v w. record { clock = s.clock; code = s.code; event = s.event; now = v; before = w } in
     ap₂ (λ (m : Mark) (ms : List Mark). m ∷ ms)
-    (ap₂ at (clock-other c a now s.clock (λ q. p.0 (sym q))) (clock-other c b before s.clock (λ q. p.0 (sym q))))
+    (ap₂ at (ticks_in-put_other c a s.clock now (λ q. p.0 (sym q))) (ticks_in-put_other c b s.clock before (λ q. p.0 (sym q))))
     (fresh-stay now before c a b ss p.1)
 
 events-stay : (events : List ℕ) (s : Slot) (slots : List Slot) → ticks_in s.clock (clocks_of slots) ≡ false → AllByRecursion (λ t. ticks_in t.clock events ≡ t.event) slots
     → AllByRecursion (λ t. ticks_in t.clock (put_clock s.clock s.event events) ≡ t.event) (slots ++ s ∷ [])
-events-stay events s [] h e = (clock-same s.clock s.event events, tt)
+events-stay events s [] h e = (ticks_in-put_same s.clock s.event events, tt)
 events-stay events s (t ∷ ts) h e =
     let p = split-or s.clock t.clock (ticks_in s.clock (clocks_of ts)) h in
-    (clock-other s.clock s.event events t.clock (λ q. p.0 (sym q)) ∙ e.0, events-stay events s ts p.1 e.1)
+    (ticks_in-put_other s.clock s.event t.clock events (λ q. p.0 (sym q)) ∙ e.0, events-stay events s ts p.1 e.1)
 
 clocks-more : (slots : List Slot) (s : Slot) → clocks_of (slots ++ s ∷ []) ≡ clocks_of slots ++ s.clock ∷ []
 clocks-more [] s = refl
@@ -338,7 +313,7 @@ marks-more-in now before slots s a =
     let at : Bool → Bool → Mark = λ v w. record { clock = s.clock; code = s.code; event = s.event; now = v; before = w } in
     Rattle.std.proofs.lemmas.List.map-append (mark_in (put_clock s.clock (not s.event) now) (put_clock s.clock (not s.event) before)) slots (s ∷ [])
     ∙ ap₂ (λ (xs ys : List Mark). xs ++ ys) (fresh-stay now before s.clock (not s.event) (not s.event) slots f)
-    (ap (λ (m : Mark). m ∷ []) (ap₂ at (clock-same s.clock (not s.event) now) (clock-same s.clock (not s.event) before)))
+    (ap (λ (m : Mark). m ∷ []) (ap₂ at (ticks_in-put_same s.clock (not s.event) now) (ticks_in-put_same s.clock (not s.event) before)))
 
 pub push-kept : (slots : List Slot) (users more : List User) (events now before : List ℕ) (s : Slot) → AreKept slots users events now → IsMore users more s → s.clock < MAX_CLOCKS
     → is_ascending (map (λ m. m.clock) (map (mark_in now before) slots) ++ s.clock ∷ []) ≡ true
@@ -351,7 +326,7 @@ push-kept slots users more events now before s k m l a =
       marked = events-stay events s slots (last-fresh (clocks_of slots) s.clock asc) k.marked;
       inside = λ x t. among-more x slots s ∙ by-value (nat_eq x s.clock) ((ticks_in x (clocks_of slots) || nat_eq x s.clock) ≡ true)
           (λ e. ap (λ v. ticks_in x (clocks_of slots) || v) e ∙ or-true (ticks_in x (clocks_of slots)))
-          (λ e. ap (λ v. v || nat_eq x s.clock) (k.inside x (sym (clock-other s.clock (not s.event) now x (λ q. let z : true ≡ false = sym (eq-eqb x s.clock q) ∙ e in absurd (cc))) ∙ t)));
+          (λ e. ap (λ v. v || nat_eq x s.clock) (k.inside x (sym (ticks_in-put_other s.clock (not s.event) x now (λ q. let z : true ≡ false = sym (eq-eqb x s.clock q) ∙ e in absurd (cc))) ∙ t)));
       known = λ code. m code ∙ ap (λ u. cond (nat_eq s.code code) (with_slot u s) u) (k.known code) ∙ sym (user-more code slots s);
     }
 

@@ -4,7 +4,6 @@ pub mod InPlace
 pub mod Passing
 pub mod Places
 pub mod Ascending
-pub mod BitLaws
 pub mod RowOrder
 pub mod Kept
 pub mod Ticking

@@ -1,9 +1,12 @@
 -- Times that are heard where they lie.
-use Rattle.std.proofs.Common.{◌≡◌, ℕ, zero, suc, ◌+◌, ◌-◌, ◌*◌, ◌^◌, ◌<◌, ◌≤◌, List, [], ◌∷◌, ◌++◌, length, take, drop, get_or, Bool, true, false, not, Some, Result, Ok, Err, nat_le, refl, sym, ap, ◌∙◌, subst, arith, length-drop, length-take-le}
+use Rattle.std.proofs.Common.{◌≡◌, ℕ, zero, suc, ◌+◌, ◌-◌, ◌*◌, ◌%◌, ◌^◌, ◌<◌, ◌≤◌, List, [], ◌∷◌, length, take, drop, get_or, Bool, true, false, not, ◌&&◌, cond, Some, Result, Ok, Err, nat_le, zero-mul, refl, sym, ap, ◌∙◌, subst, arith, length-drop, length-take-le}
 use Rattle.std.specs.List.{list_all, prefix_len}
 use Rattle.std.proofs.Math.Nat.{pow-suc, pow-le-pow_right}
 use Rattle.std.proofs.lemmas.Bool.{and_parts, le-leb, leb-true}
-use Rattle.std.proofs.lemmas.List.{take_more}
+use Rattle.std.proofs.lemmas.List.{length-take}
+use Rattle.std.specs.Char.{digit_value}
+use Rattle.std.specs.Str.Parse.{digits_value_after}
+use Rattle.std.proofs.lemmas.Str.{digit_value_digit}
 use Rattle.std.proofs.lemmas.Grind.{common_steps}
 use Rattle.ccsl_base.specs.declared.rows.Row.{Row}
 use Rattle.ccsl_vcd_lex.specs.Tokens.{is_white}
@@ -16,44 +19,66 @@ use Rattle.ccsl_vcd_read.specs.Meant.{amid_of}
 use Rattle.ccsl_vcd_read.specs.Letters.{AreDigits}
 use Rattle.ccsl_vcd_read.specs.Step.{hear_at, hear_of, word_says, time_says, Says}
 use Rattle.ccsl_vcd_read.specs.Run.{Runs, Front}
-use Rattle.ccsl_vcd_read.proofs.Numbers.{number-value, digit-is}
+use Rattle.ccsl_vcd_read.proofs.Numbers.{number-value}
 use Rattle.ccsl_vcd_read.proofs.Run.{is-changes, take-first, front-word}
 
--- one digit more
+-- the digits at the front are digits
 
-all-more : (p : ℕ → Bool) (xs : List ℕ) (x : ℕ) → list_all p xs ≡ true → p x ≡ true → list_all p (xs ++ x ∷ []) ≡ true
-all-more p [] x h k = rw k refl
-all-more p (y ∷ xs) x h k =
-    let q = and_parts (p y) (list_all p xs) h in
-    rw (q.0) (all-more p xs x q.1 k)
+digits-all : (n : ℕ) (xs : List ℕ) → n ≡ prefix_len is_digit xs → list_all is_digit (take n xs) ≡ true
+digits-all zero xs e = refl
+digits-all (suc n) [] e = refl
+digits-all (suc n) (x ∷ xs) e =
+    (elim (is_digit x) as (λ b. is_digit x ≡ b → suc n ≡ cond b (1 + prefix_len is_digit xs) 0 → (is_digit x && list_all is_digit (take n xs)) ≡ true) [
+      | true ↦ λ h g. rw h (digits-all n xs (omega (arith, g)))
+      | false ↦ λ h g. absurd (omega (arith, g))
+    ]) refl e
 
-digits-more : (n : ℕ) (xs : List ℕ) (x : ℕ) → digits_from n (xs ++ x ∷ []) ≡ 10 * digits_from n xs + (x - 48)
-digits-more n [] x = refl
-digits-more n (y ∷ xs) x = digits-more (10 * n + (y - 48)) xs x
+-- and write one value, whoever reads them
 
-pub one-digit-more : (bytes : List ℕ) (i value : ℕ) → i < length bytes → AreDigits (take i bytes) value → 48 ≤ get_or bytes i 0 → get_or bytes i 0 ≤ 57
-    → AreDigits (take (i + 1) bytes) (10 * value + (get_or bytes i 0 - 48))
-one-digit-more bytes i value l d low high =
-    let x : ℕ = get_or bytes i 0 in
-    subst (λ (xs : List ℕ). AreDigits xs (10 * value + (x - 48))) (sym (take_more bytes i 0 l))
-    (record {
-      all = all-more is_digit (take i bytes) x d.all (digit-is x low high);
-      amount = ap (λ n. 10 * n + (x - 48)) d.amount ∙ sym (digits-more 0 (take i bytes) x);
-    })
+digits-same : (n : ℕ) (ds : List ℕ) → list_all is_digit ds ≡ true → digits_value_after 10 n ds ≡ digits_from n ds
+digits-same n [] h = refl
+digits-same n (d ∷ ds) h =
+    let p = and_parts (is_digit d) (list_all is_digit ds) h in
+    let q = and_parts (nat_le 48 d) (nat_le d 57) p.0 in
+    let value : digit_value d + 48 ≡ d = digit_value_digit d (leb-true 48 d q.0, leb-true d 57 q.1) in
+    let step : n * 10 + digit_value d ≡ 10 * n + (d - 48) = omega (arith, value) in
+    ap (λ v. digits_value_after 10 v ds) step ∙ digits-same (10 * n + (d - 48)) ds p.1
 
 -- So many digits have a value below that power of ten.
 
-pub more-digits : (n value digit : ℕ) → value < 10 ^ n → digit < 10 → 10 * value + digit < 10 ^ (n + 1)
+more-digits : (n value digit : ℕ) → value < 10 ^ n → digit < 10 → 10 * value + digit < 10 ^ (n + 1)
 more-digits n value digit l d =
     let k : n + 1 ≡ suc n = omega arith in
     let p = ap (λ m. 10 ^ m) k ∙ pow-suc 10 n in
     omega (arith, l, d, p)
 
-pub few-digits : (n most value : ℕ) → value < 10 ^ n → n ≤ most → value < 10 ^ most
+few-digits : (n most value : ℕ) → value < 10 ^ n → n ≤ most → value < 10 ^ most
 few-digits n most value l m =
     let some : zero < 10 = omega arith in
     let p = pow-le-pow_right {n = 10} some m in
     omega (arith, l, p)
+
+digits-small : (n value : ℕ) (ds : List ℕ) → value < 10 ^ n → list_all is_digit ds ≡ true → digits_from value ds < 10 ^ (n + length ds)
+digits-small n value [] l h = subst (λ (k : ℕ). value < 10 ^ k) (omega arith) l
+digits-small n value (d ∷ ds) l h =
+    let p = and_parts (is_digit d) (list_all is_digit ds) h in
+    let q = and_parts (nat_le 48 d) (nat_le d 57) p.0 in
+    let high : d ≤ 57 = leb-true d 57 q.1 in
+    let more : 10 * value + (d - 48) < 10 ^ (n + 1) = more-digits n value (d - 48) l (omega (arith, high)) in
+    subst (λ (k : ℕ). digits_from (10 * value + (d - 48)) ds < 10 ^ k) (omega arith) (digits-small (n + 1) (10 * value + (d - 48)) ds more p.1)
+
+-- the digits that were read eight at a time
+pub front-digits : (bytes : List ℕ) (n value : ℕ) → n ≡ 0 + prefix_len is_digit (drop 0 bytes) → n ≤ 19
+    → value ≡ (0 * 10 ^ (n - 0) + digits_value_after 10 0 (take (n - 0) (drop 0 bytes))) % 2 ^ 64 → AreDigits (take n bytes) value
+front-digits bytes n value run few read =
+    let ds : List ℕ = take n bytes in
+    let back : n - 0 ≡ n = omega arith in
+    let all : list_all is_digit ds ≡ true = digits-all n bytes (omega (arith, run)) in
+    let len : length ds ≤ 19 = omega (arith, length-take n bytes, few) in
+    let small : digits_from 0 ds < 10 ^ 19 = few-digits (0 + length ds) 19 (digits_from 0 ds) (digits-small 0 0 ds (omega arith) all) (omega (arith, len)) in
+    let none : 0 * 10 ^ (n - 0) ≡ 0 = zero-mul (10 ^ (n - 0)) in
+    let same : digits_value_after 10 0 (take (n - 0) bytes) ≡ digits_from 0 ds = ap (λ (k : ℕ). digits_value_after 10 0 (take k bytes)) back ∙ digits-same 0 ds all in
+    record { all = all; amount = omega (arith, read, none, same, small) }
 
 -- digits are not white
 

@@ -2,7 +2,7 @@
 use Rattle.std.specs.Prelude.{◌≡◌, ℕ, List, Bool, true, ◌==◌, if◌then◌else◌, fold, map, slice_get}
 use Rattle.std.specs.List.{AllByRecursion}
 use Rattle.ccsl_base.specs.declared.limits.TheConstants.{MAX_CLOCKS}
-use Rattle.ccsl_base.specs.Clocks.{ticks_in, with_clock, without_clock, is_ascending, are_below}
+use Rattle.ccsl_base.specs.Clocks.{ticks_in, with_clock, put_clock, is_ascending, are_below}
 use Rattle.ccsl_vcd_read.specs.declared.marks.Mark.{Mark}
 use Rattle.ccsl_vcd_read.specs.declared.users.Slot.{Slot}
 use Rattle.ccsl_vcd_read.specs.declared.users.User.{User}
@@ -19,9 +19,6 @@ mark_in now before s = record {
 
 abbrev pub clocks_of : List Slot → List ℕ
 clocks_of ss = map (λ s. s.clock) ss
-
-abbrev pub put_clock : ℕ → Bool → List ℕ → List ℕ
-put_clock clock one set = if one then with_clock clock set else without_clock clock set
 
 -- a change of a clock's code to a value that is 1 or not, in a dump block or not
 abbrev pub put_in : Slot → Bool → Bool → List ℕ → List ℕ

@@ -2,7 +2,6 @@ pub mod Meant
 pub mod Marks
 pub mod Users
 pub mod Kept
-pub mod Bits
 pub mod Order
 pub mod Places
 pub mod Passing

@@ -11,7 +11,7 @@ use crate::codes::{Codes, code_at_front};
 use crate::marks::Marks;
 use crate::scan::{bits_at_front, digits_at_front, is_bit, is_space, run_end};
 use crate::word::{Word, is_text, last_of, word_of};
-use ccsl_base::{Block, ClockSet, MAX_TOKEN_BYTES, Row};
+use ccsl_base::{Block, MAX_TOKEN_BYTES};
 use ccsl_vcd::VcdFault;
 
 /// What is kept of a body that is being read.
@@ -31,12 +31,7 @@ pub(crate) fn give(body: &Body, out: &mut Block)
     ensures { out.new ≡ record out.old { rows = out.old.rows ++ row_of body.now } }
 {
     if !body.marks.are_quiet() {
-        let mut row = Row {
-            time: body.present,
-            ticks: ClockSet::empty(),
-        };
-        body.marks.tell(&mut row.ticks);
-        out.push(row);
+        body.marks.push_row(body.present, out);
     }
 }
 

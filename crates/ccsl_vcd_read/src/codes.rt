@@ -1,6 +1,6 @@
 //! The declared codes, and a table of the short ones.
 
-ghost use Rattle.std.specs.Prelude.{◌≡◌, ◌<◌, ◌≤◌, ℕ, List, IfOk, IfSome, OnSome, Some, vec_len, map, get_or, length, take, true, false};
+ghost use Rattle.std.specs.Prelude.{◌≡◌, ◌<◌, ◌≤◌, ℕ, List, [], ◌∷◌, IfOk, IfSome, OnSome, Some, vec_len, map, get_or, length, true, false};
 ghost use Rattle.ccsl_bind.specs.Codes.{number_of};
 ghost use Rattle.ccsl_vcd_lex.specs.Tokens.{is_white};
 ghost use Rattle.ccsl_vcd_read.specs.Places.{is_visible, place_of, IsCode};
@@ -50,6 +50,37 @@ pub(crate) struct Placed {
     pub place: usize,
 }
 
+// The place of a code of one byte in the table, and of one with two and with three.
+#[inline(always)]
+fn place_of_one(a: u8) -> usize
+    requires { is_visible a ≡ true }
+    ensures value { result ≡ place_of (a ∷ []) }
+    ensures within { result < 94 }
+{
+    a as usize - 33
+}
+
+#[inline(always)]
+fn place_of_two(a: u8, b: u8) -> usize
+    requires first { is_visible a ≡ true }
+    requires second { is_visible b ≡ true }
+    ensures value { result ≡ place_of (a ∷ b ∷ []) }
+    ensures within { result < 8930 }
+{
+    place_of_one(a) + 94 * (b as usize - 32)
+}
+
+#[inline(always)]
+fn place_of_three(a: u8, b: u8, c: u8) -> usize
+    requires first { is_visible a ≡ true }
+    requires second { is_visible b ≡ true }
+    requires third { is_visible c ≡ true }
+    ensures value { result ≡ place_of (a ∷ b ∷ c ∷ []) }
+    ensures within { result < 839514 }
+{
+    place_of_two(a, b) + 8836 * (c as usize - 32)
+}
+
 // The place of a code in the table, or its length for one that has none.
 #[inline(always)]
 fn place(code: &[u8]) -> usize
@@ -57,24 +88,13 @@ fn place(code: &[u8]) -> usize
     ensures within { result ≤ 839514 }
 {
     match code {
-        [a] if is_visible(*a) => *a as usize - 33,
-        [a, b] if is_visible(*a) && is_visible(*b) => *a as usize - 33 + 94 * (*b as usize - 32),
+        [a] if is_visible(*a) => place_of_one(*a),
+        [a, b] if is_visible(*a) && is_visible(*b) => place_of_two(*a, *b),
         [a, b, c] if is_visible(*a) && is_visible(*b) && is_visible(*c) => {
-            *a as usize - 33 + 94 * (*b as usize - 32) + 8836 * (*c as usize - 32)
+            place_of_three(*a, *b, *c)
         }
         _ => SHORT,
     }
-}
-
-// The first bytes, as a code.
-#[inline(always)]
-fn first_code(bytes: &[u8], len: usize) -> Placed
-    requires { len ≤ length bytes.now }
-    ensures len { result.len ≡ len }
-    ensures place { result.place ≡ place_of (take len bytes.now) }
-{
-    let place = place(&bytes[..len]);
-    Placed { len, place }
 }
 
 /// The code of one to three bytes at the front of some bytes, with white space behind it. Where there is none the place is past
@@ -84,12 +104,24 @@ pub(crate) fn code_at_front(bytes: &[u8]) -> Placed
     ensures { result.place < 839514 → (0 < result.len) × IsCode result.len result.place bytes.now }
 {
     match bytes {
-        [a, b, ..] if is_visible(*a) && is_space(*b) => first_code(bytes, 1),
-        [a, b, c, ..] if is_visible(*a) && is_visible(*b) && is_space(*c) => first_code(bytes, 2),
+        [a, b, ..] if is_visible(*a) && is_space(*b) => Placed {
+            len: 1,
+            place: place_of_one(*a),
+        },
+        [a, b, c, ..] if is_visible(*a) && is_visible(*b) && is_space(*c) => Placed {
+            len: 2,
+            place: place_of_two(*a, *b),
+        },
         [a, b, c, d, ..] if is_visible(*a) && is_visible(*b) && is_visible(*c) && is_space(*d) => {
-            first_code(bytes, 3)
+            Placed {
+                len: 3,
+                place: place_of_three(*a, *b, *c),
+            }
         }
-        _ => first_code(bytes, 0),
+        _ => Placed {
+            len: 0,
+            place: SHORT,
+        },
     }
 }
 

@@ -2,7 +2,6 @@
 #![tactic(auto)]
 
 mod amid;
-mod bits;
 mod body;
 mod buffer;
 mod codes;

@@ -1,13 +1,12 @@
 //! What is kept of the changes of each bound clock's code.
 
-ghost use Rattle.std.specs.Prelude.{◌≡◌, ◌<◌, ◌↔◌, ◌++◌, [], ◌∷◌, map, not, IfOk, IsTrue};
+ghost use Rattle.std.specs.Prelude.{◌≡◌, ◌<◌, ◌↔◌, ◌++◌, [], ◌∷◌, map, not, length, IfOk, IsTrue};
 ghost use Rattle.ccsl_base.specs.Clocks.{is_ascending, are_below};
 ghost use Rattle.ccsl_vcd_read.specs.Marks.{put, ticking, aged};
-ghost use Rattle.ccsl_vcd_read.specs.Kept.{put_clock, put_in, put_all};
+ghost use Rattle.ccsl_vcd_read.specs.Kept.{put_in, put_all};
 
-use crate::bits::Bits;
 use crate::users::{Slot, User, Users};
-use ccsl_base::{ClockSet, MAX_CLOCKS, Memory};
+use ccsl_base::{Block, ClockSet, MAX_CLOCKS, Memory};
 use std::alloc::Global;
 use std::marker::Model;
 
@@ -24,19 +23,17 @@ pub struct Mark {
 
 // A change of a clock's code to a value that is 1 or not, in a dump block or not.
 #[inline(always)]
-fn put_in(now: &mut Bits, slot: Slot, one: bool, dumped: bool)
+fn put_in(now: &mut ClockSet, slot: Slot, one: bool, dumped: bool)
     requires { slot.clock < MAX_CLOCKS }
     ensures { now.new ≡ put_in slot one dumped now.old }
 {
-    if !slot.event {
-        now.put(slot.clock, one);
-    } else if !dumped {
-        now.put(slot.clock, true);
+    if !(slot.event && dumped) {
+        now.put(slot.clock, one || slot.event);
     }
 }
 
 // The same for each clock that has a code.
-fn put_all(now: &mut Bits, slots: &[Slot], code: u32, one: bool, dumped: bool)
+fn put_all(now: &mut ClockSet, slots: &[Slot], code: u32, one: bool, dumped: bool)
     requires { IsTrue (are_below MAX_CLOCKS (map (λ s. s.clock) slots.now)) }
     ensures { now.new ≡ put_all code one dumped slots.now now.old }
 {
@@ -52,10 +49,10 @@ fn put_all(now: &mut Bits, slots: &[Slot], code: u32, one: bool, dumped: bool)
 pub(crate) struct Marks {
     slots: Vec<Slot>,
     users: Users,
-    events: Bits,
+    events: ClockSet,
     // the clocks that are 1 now, and at the last earlier time with a change
-    ones: Bits,
-    earlier: Bits,
+    ones: ClockSet,
+    earlier: ClockSet,
 }
 
 impl Model for Marks {
@@ -77,9 +74,9 @@ impl Marks {
         Marks {
             slots: Vec::new(alloc),
             users: Users::new(alloc),
-            events: Bits::empty(),
-            ones: Bits::empty(),
-            earlier: Bits::empty(),
+            events: ClockSet::empty(),
+            ones: ClockSet::empty(),
+            earlier: ClockSet::empty(),
         }
     }
 
@@ -122,17 +119,24 @@ impl Marks {
     pub(crate) fn are_quiet(&self) -> bool
         ensures { IsTrue result ↔ (ticking self.now ≡ []) }
     {
-        self.ones.is_within(&self.earlier)
+        // its contract says that the members ascend
+        let _ascends = self.ones.has(0);
+        self.ones.is_subset(&self.earlier)
     }
 
-    /// Makes the clocks that tick at the present time members of a set that is empty.
+    /// Appends the row of the clocks that tick at the present time.
     #[inline(always)]
-    pub(crate) fn tell(&self, ticks: &mut ClockSet)
-        requires { ticks.old ≡ [] }
-        ensures { ticks.new ≡ ticking self.now }
+    pub(crate) fn push_row(&self, time: u64, out: &mut Block)
+        requires { length out.old.rows < out.old.room }
+        ensures { out.new ≡ record out.old {
+          rows = out.old.rows ++ (record {
+            time = time;
+            ticks = ticking self.now;
+          }) ∷ [];
+        } }
     {
-        self.ones.add_beyond(&self.earlier, ticks);
-        let _any = ticks.has(0);
+        let _ascends = self.ones.has(0);
+        out.push_difference(time, &self.ones, &self.earlier);
     }
 
     /// A later time.
@@ -140,7 +144,7 @@ impl Marks {
     pub(crate) fn age(&mut self)
         ensures { self.new ≡ map aged self.old }
     {
+        self.earlier.copy_difference(&self.ones, &self.events);
         self.ones.remove_all(&self.events);
-        self.earlier.set_to(&self.ones);
     }
 }

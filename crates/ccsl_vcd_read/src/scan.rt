@@ -7,6 +7,7 @@ ghost use Rattle.ccsl_vcd_lex.specs.Tokens.{is_white};
 ghost use Rattle.ccsl_vcd_lex.specs.Lexing.{is_dark};
 ghost use Rattle.ccsl_vcd_read.specs.Letters.{is_bit, is_other, AreDigits};
 
+use core::dec2flt::read_digits;
 use std::simd::prelude::*;
 
 const LANES: usize = 16;
@@ -114,19 +115,16 @@ pub(crate) struct Digits {
     pub value: u64,
 }
 
-/// The digits at the front, as many as surely fit 64 bits.
+/// The digits at the front, where any value of so many fits 64 bits; of more digits none are counted.
 #[inline(always)]
 pub(crate) fn digits_at_front(bytes: &[u8]) -> Digits
     ensures within { result.count ≤ length bytes.now }
     ensures fits { result.value < 2 ^ 64 }
     ensures are { AreDigits (take result.count bytes.now) result.value }
 {
-    let most = bytes.len().min(DIGITS);
-    let mut count = 0;
-    let mut value = 0u64;
-    while count < most && bytes[count] >= b'0' && bytes[count] <= b'9' {
-        value = 10 * value + (bytes[count] - b'0') as u64;
-        count += 1;
+    let (count, value) = read_digits(bytes, 0, 0);
+    if count > DIGITS {
+        return Digits { count: 0, value: 0 };
     }
     Digits { count, value }
 }
