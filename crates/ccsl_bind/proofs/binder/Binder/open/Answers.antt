@@ -32,8 +32,8 @@ returns c =
     let names = c.loop-clock.invariant.names_are ∙ ap (λ i. take i c.args.system.now.names) n in
     record {
       wanted = ap (λ ns. record { names = ns; declared = c.scope.result.declared }) names ∙ ap (λ d. record { names = take c.args.system.now.written c.args.system.now.names; declared = d }) (ap (λ s. s.declared) c.scope.ensures.scope);
-      codes = c.new.ensures;
-      found = subst (λ t. AllSumUp t [] c.loop-clock.names c.loop-clock.found.items) (sym c.new.ensures) c.loop-clock.invariant.found;
+      codes = c.with_hasher.ensures;
+      found = subst (λ t. AllSumUp t [] c.loop-clock.names c.loop-clock.found.items) (sym c.with_hasher.ensures) c.loop-clock.invariant.found;
       few =
           let e : length c.loop-clock.names ≡ length (take c.loop-clock.clock c.args.system.now.names) = ap length c.loop-clock.invariant.names_are in
           let f : length c.args.system.now.names ≤ MAX_CLOCKS = c.written-clock-end.ensures.accepted.few_clocks in
