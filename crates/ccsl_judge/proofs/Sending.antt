@@ -19,9 +19,11 @@ use Rattle.ccsl_kernel.specs.contracts.group.Group as group
 use Rattle.ccsl_kernel.specs.contracts.parts.Parts as parts
 use Rattle.ccsl_kernel.specs.contracts.system.System as system
 use Rattle.ccsl_kernel.proofs.expr.Expr.TheLaws.TheKnot as knot
-use Rattle.ccsl_state.specs.contracts.states.States as states
+use Rattle.ccsl_state.specs.contracts.part.Part as part
 use Rattle.ccsl_relate.specs.contracts.violation.Violation as violation
 use Rattle.ccsl_relate.specs.contracts.watched.Watched as watched
+use Rattle.ccsl_relate.specs.contracts.readers.Group as places
+use Rattle.ccsl_relate.specs.contracts.readers.Readers as readers
 use Rattle.ccsl_relate.specs.contracts.monitor.Monitor as monitor
 use Rattle.ccsl_judge.specs.contracts.share.Share as share
 
@@ -96,8 +98,14 @@ watched_send = search (sendable, crosses) depth 40
 violation_send : IsSend (violation.the_field).row
 violation_send = search (sendable, crosses) depth 40
 
-states_send : (ℓ : NamedLft) → IsSend (states.the_field ℓ).row
-states_send ℓ =
+places_send : IsSend (places.the_field).row
+places_send = let s = set_send in search (sendable, crosses) depth 40
+
+readers_send : IsSend (readers.the_field).row
+readers_send = let p = places_send in search (sendable, crosses) depth 40
+
+part_send : (ℓ : NamedLft) → IsSend (part.the_field ℓ).row
+part_send ℓ =
     let y = system_sync in
     let s = set_send in
     search (sendable, crosses) depth 40
@@ -108,7 +116,8 @@ monitor_send ℓ =
     let s = set_send in
     let w = watched_send in
     let v = violation_send in
-    let h = states_send ℓ in
+    let r = readers_send in
+    let h = part_send ℓ in
     search (sendable, crosses) depth 40
 
 pub share_send : (ℓ : NamedLft) → IsSend (share.the_row ℓ)

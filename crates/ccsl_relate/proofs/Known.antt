@@ -1,6 +1,7 @@
--- What items read of a step is known without states where they read declared clocks alone.
-use Rattle.std.proofs.Common.{◌≡◌, ℕ, ◌+◌, ◌<◌, List, [], ◌∷◌, Bool, true, false, not, ◌&&◌, ◌||◌, cond, nat_eq, nat_le, nat_lt, map, length, get_or, subst, Option, Some, None, refl, sym, ap, ap₂, ◌∙◌}
+-- What items read of a step is known where they read clocks alone that are declared or followed.
+use Rattle.std.proofs.Common.{◌≡◌, ℕ, ◌+◌, ◌<◌, List, [], ◌∷◌, Bool, true, false, not, ◌&&◌, ◌||◌, cond, nat_eq, nat_le, map, length, get_or, subst, Option, Some, None, refl, sym, ap, ap₂, ◌∙◌}
 use Rattle.std.specs.List.{list_all}
+use Rattle.std.specs.Option.{ForSome}
 use Rattle.std.proofs.lemmas.Bool.{and_parts, ltb-true}
 use Rattle.ccsl_base.specs.Clocks.{ticks_in}
 use Rattle.ccsl_formula.specs.Formula.{FTrue, FVar, FNot, FOr, eval, same}
@@ -10,11 +11,13 @@ use Rattle.ccsl_kernel.specs.Syntax.{System}
 use Rattle.ccsl_kernel.specs.Lives.{Step}
 use Rattle.ccsl_kernel.specs.Items.{relation_formula}
 use Rattle.ccsl_kernel.specs.Runs.{full_step, declared_part}
-use Rattle.ccsl_state.specs.Held.{Held}
+use Rattle.ccsl_state.specs.Reach.{is_within}
+use Rattle.ccsl_state.specs.Part.{HeldPart}
+use Rattle.ccsl_state.proofs.PartLaws.{part_ticks}
 use Rattle.ccsl_relate.specs.declared.watched.Related.{Related}
 use Rattle.ccsl_relate.specs.declared.watched.Watched.{Watched}
 use Rattle.ccsl_relate.specs.declared.watched.Watched.TheVariants.{Nothing, Definition, Relation}
-use Rattle.ccsl_relate.specs.Watching.{counted, counted_on, related_formula, fails_in, next_in, reads_declared, Suffice, step_known}
+use Rattle.ccsl_relate.specs.Watching.{counted, counted_on, related_formula, fails_in, next_in, reads_only, is_known, Suffice, AreAfter, IsUndeclared, step_known}
 use Rattle.ccsl_relate.proofs.History.{declared-ticks}
 use Rattle.ccsl_relate.proofs.Within.{list_all_at}
 
@@ -40,65 +43,72 @@ module _ (s t : Step) where
   same-truth PrecedesWeakly a b m n e d = ticking-with (nat_eq m n) b a d e
   same-truth (PrecedesWithin k) a b m n e d = ap₂ (λ x y. x && y) (not-ticking (nat_eq m n) b d) (ticking-with (nat_le (n + k) m) a b e d)
 
--- what is asked of a row's ticks is what is asked of the step that they complete
-module _ (K : System) (T : List Step) (ticks : Step) where
+-- what is known of a step tells the same of the clocks whose ticks are known
+same-known : (K : System) (T : List Step) (ticks : Step) (held : Option HeldPart) (x : ℕ) → is_known K held x ≡ true → ticks_in x (step_known K held T ticks) ≡ ticks_in x (full_step K T (declared_part K ticks))
+same-known K T ticks None x l = sym (declared-ticks K T ticks x (ltb-true x K.declared l))
+same-known K T ticks (Some p) x l = part_ticks (is_within p.system p.followed) (full_step K T (declared_part K ticks)) x l
+
+-- what is asked of the step that is known is what is asked of the whole step
+module _ (K : System) (T : List Step) (ticks : Step) (held : Option HeldPart) where
   abbrev whole : Step
   whole = full_step K T (declared_part K ticks)
 
-  same-below : (x : ℕ) → nat_lt x K.declared ≡ true → ticks_in x ticks ≡ ticks_in x whole
-  same-below x l = sym (declared-ticks K T ticks x (ltb-true x K.declared l))
+  abbrev known : Step
+  known = step_known K held T ticks
 
-  module _ (r : Related) (h : reads_declared K.declared (Relation r) ≡ true) where
-    both : (nat_lt r.left K.declared ≡ true) × (nat_lt r.right K.declared ≡ true)
-    both = and_parts (nat_lt r.left K.declared) (nat_lt r.right K.declared) h
+  abbrev reads : Watched → Bool
+  reads = reads_only (is_known K held)
 
-    same-left : ticks_in r.left ticks ≡ ticks_in r.left whole
-    same-left = same-below r.left both.0
+  module _ (r : Related) (h : reads (Relation r) ≡ true) where
+    both : (is_known K held r.left ≡ true) × (is_known K held r.right ≡ true)
+    both = and_parts (is_known K held r.left) (is_known K held r.right) h
 
-    same-right : ticks_in r.right ticks ≡ ticks_in r.right whole
-    same-right = same-below r.right both.1
+    same-left : ticks_in r.left known ≡ ticks_in r.left whole
+    same-left = same-known K T ticks held r.left both.0
 
-    relation-known : related_formula r ticks ≡ related_formula r whole
-    relation-known = same-truth ticks whole r.kind r.left r.right r.left_count r.right_count same-left same-right
+    same-right : ticks_in r.right known ≡ ticks_in r.right whole
+    same-right = same-known K T ticks held r.right both.1
 
-    counts-known : counted_on r ticks ≡ counted_on r whole
+    relation-known : related_formula r known ≡ related_formula r whole
+    relation-known = same-truth known whole r.kind r.left r.right r.left_count r.right_count same-left same-right
+
+    counts-known : counted_on r known ≡ counted_on r whole
     counts-known = ap₂ (λ a b. record r { left_count = counted a r.left_count; right_count = counted b r.right_count }) same-left same-right
 
-  fails-declared : (given : List ℕ) (w : Watched) → reads_declared K.declared w ≡ true → fails_in given ticks w ≡ fails_in given whole w
-  fails-declared given Nothing h = refl
-  fails-declared given (Definition clock) h = absurd (cc)
-  fails-declared given (Relation r) h = ap not (relation-known r h)
+  fails-one : (given : List ℕ) (w : Watched) → reads w ≡ true → fails_in given known w ≡ fails_in given whole w
+  fails-one given Nothing h = refl
+  fails-one given (Definition clock) h = ap (λ b. not (same (ticks_in clock given) b)) (same-known K T ticks held clock h)
+  fails-one given (Relation r) h = ap not (relation-known r h)
 
-  next-declared : (w : Watched) → reads_declared K.declared w ≡ true → next_in ticks w ≡ next_in whole w
-  next-declared Nothing h = refl
-  next-declared (Definition clock) h = absurd (cc)
-  next-declared (Relation r) h = ap Relation (counts-known r h)
+  next-one : (w : Watched) → reads w ≡ true → next_in known w ≡ next_in whole w
+  next-one Nothing h = refl
+  next-one (Definition clock) h = refl
+  next-one (Relation r) h = ap Relation (counts-known r h)
 
-  -- a list of items, by states or without
-  abbrev known : Option Held → Step
-  known held = step_known K held T ticks
+  -- a list of items
+  pub fails-known : (given : List ℕ) (kept : List Watched) (k : ℕ) (d : Watched) → Suffice K held kept → k < length kept → fails_in given known (get_or kept k d) ≡ fails_in given whole (get_or kept k d)
+  fails-known given kept k d e l = fails-one given (get_or kept k d) (list_all_at reads kept k d e l)
 
-  pub fails-known : (held : Option Held) (given : List ℕ) (kept : List Watched) (k : ℕ) (d : Watched) → Suffice K held kept → k < length kept → fails_in given (known held) (get_or kept k d) ≡ fails_in given whole (get_or kept k d)
-  fails-known (Some h) given kept k d e l = refl
-  fails-known None given kept k d e l = fails-declared given (get_or kept k d) (list_all_at (reads_declared K.declared) kept k d e l)
+  pub next-known : (kept : List Watched) → Suffice K held kept → map (next_in known) kept ≡ map (next_in whole) kept
+  next-known [] e = refl
+  next-known (w ∷ kept) e = let parts = and_parts (reads w) (list_all reads kept) e in ap₂ (λ x xs. x ∷ xs) (next-one w parts.0) (next-known kept parts.1)
 
-  pub next-known : (held : Option Held) (kept : List Watched) → Suffice K held kept → map (next_in (known held)) kept ≡ map (next_in whole) kept
-  next-known (Some h) kept e = refl
-  next-known None [] e = refl
-  next-known None (w ∷ kept) e =
-      let parts = and_parts (reads_declared K.declared w) (list_all (reads_declared K.declared) kept) e in
-      ap₂ (λ x xs. x ∷ xs) (next-declared w parts.0) (next-known None kept parts.1)
+-- an item reads the same clocks after a step
+module _ (p q : ℕ → Bool) (e : (x : ℕ) → p x ≡ q x) (s : Step) where
+  reads-same : (w : Watched) → reads_only p (next_in s w) ≡ reads_only q w
+  reads-same Nothing = refl
+  reads-same (Definition clock) = e clock
+  reads-same (Relation r) = ap₂ (λ x y. x && y) (e r.left) (e r.right)
 
-  -- an item reads the same clocks after a step
-  reads-same : (s : Step) (w : Watched) → reads_declared K.declared (next_in s w) ≡ reads_declared K.declared w
-  reads-same s Nothing = refl
-  reads-same s (Definition clock) = refl
-  reads-same s (Relation r) = refl
+  reads-on : (kept : List Watched) → list_all (reads_only p) (map (next_in s) kept) ≡ list_all (reads_only q) kept
+  reads-on [] = refl
+  reads-on (w ∷ kept) = ap₂ (λ x y. x && y) (reads-same w) (reads-on kept)
 
-  reads-on : (s : Step) (kept : List Watched) → list_all (reads_declared K.declared) (map (next_in s) kept) ≡ list_all (reads_declared K.declared) kept
-  reads-on s [] = refl
-  reads-on s (w ∷ kept) = ap₂ (λ x y. x && y) (reads-same s w) (reads-on s kept)
+pub suffice-on : (K : System) (held held' : Option HeldPart) (s : Step) (kept : List Watched) → ((x : ℕ) → is_known K held' x ≡ is_known K held x) → Suffice K held kept → Suffice K held' (map (next_in s) kept)
+suffice-on K held held' s kept same e = reads-on (is_known K held') (is_known K held) same s kept ∙ e
 
-  pub suffice-on : (held held' : Option Held) (s : Step) (kept : List Watched) → (held' ≡ None → held ≡ None) → Suffice K held kept → Suffice K held' (map (next_in s) kept)
-  suffice-on held (Some h) s kept n e = tt
-  suffice-on held None s kept n e = reads-on s kept ∙ subst (λ o. Suffice K o kept) (n refl) e
+-- the clocks that are not declared, as the states have it
+pub undeclared-for : (K : System) (held : Option HeldPart) (T : List Step) (set : List ℕ) → AreAfter K held T → IsUndeclared K set → ForSome held (λ p. IsUndeclared p.system set)
+undeclared-for K held T set after u p e =
+    let own : AreAfter K (Some p) T = subst (λ o. AreAfter K o T) e after in
+    subst (λ X. IsUndeclared X set) (sym own.0) u

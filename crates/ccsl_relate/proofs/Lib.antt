@@ -4,6 +4,7 @@ pub mod History
 pub mod Judging
 pub mod Known
 pub mod Partly
+pub mod Following
 pub mod Finding
 pub mod Passing
 pub mod Resting

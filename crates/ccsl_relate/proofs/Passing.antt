@@ -14,7 +14,7 @@ use Rattle.ccsl_relate.specs.declared.watched.Watched.{Watched}
 use Rattle.ccsl_relate.specs.declared.watched.Watched.TheVariants.{Nothing}
 use Rattle.ccsl_relate.specs.Few.{EachHasRoom}
 use Rattle.ccsl_relate.specs.Violations.{AreObeyed, Finds}
-use Rattle.ccsl_relate.specs.Watching.{Watching, Keeps, fails_in, next_in, FailsFirst, Suffice, AreAfter, step_known, Follows, StandsFor, IsNext}
+use Rattle.ccsl_relate.specs.Watching.{Watching, Keeps, fails_in, next_in, FailsFirst, Suffice, AreAfter, is_known, step_known, Follows, StandsFor, IsNext}
 use Rattle.ccsl_relate.proofs.Finding.{first-stays, first-here, obeyed-on}
 use Rattle.ccsl_relate.proofs.History.{X-more, X-length, sets-snoc}
 use Rattle.ccsl_relate.proofs.Judging.{fails-where-violated, keeps-on, keeps-room}
@@ -86,8 +86,8 @@ module _ (recorded : List ℕ) (v : Watching) (rows : List Row) (row : Row) (s :
       }
 
       -- NO ITEM FAILS at the row, and all go on
-      pub next-obeyed : All (λ x. fails_in row.ticks step x ≡ false) v.kept → w.kept ≡ map (next_in step) v.kept → (w.states ≡ None → v.states ≡ None) → AreAfter K w.states (T ++ whole ∷ []) → IsNext recorded v w rows row None
-      next-obeyed obeys next still after = record {
+      pub next-obeyed : All (λ x. fails_in row.ticks step x ≡ false) v.kept → w.kept ≡ map (next_in step) v.kept → ((x : ℕ) → is_known K w.states x ≡ is_known K v.states x) → AreAfter K w.states (T ++ whole ∷ []) → IsNext recorded v w rows row None
+      next-obeyed obeys next known after = record {
         same = same;
         count = count;
         sets = sets-snoc rows row s.sets sorted;
@@ -96,7 +96,7 @@ module _ (recorded : List ℕ) (v : Watching) (rows : List Row) (row : Row) (s :
         follows = λ _. record {
           keeps = subst (Each (Keeps K recorded (completed_rows K more)) v.start) (sym kept-is)
               (each_made_from (Keeps K recorded (completed_rows K more)) (next_in whole) v.start v.kept (λ k d l. keeps-on K s.accepted recorded (v.start + k) rows row s.sets sorted (get_or v.kept k d) (keeps-at k d l)));
-          suffice = subst (Suffice K w.states) (sym kept-is) (suffice-on K T row.ticks v.states w.states whole v.kept still follows.suffice);
+          suffice = subst (Suffice K w.states) (sym kept-is) (suffice-on K v.states w.states whole v.kept known follows.suffice);
           states = subst (AreAfter K w.states) (sym (X-more K rows row)) after;
         };
       }

@@ -2,3 +2,4 @@ pub mod Violations
 pub mod Few
 pub mod Watching
 pub mod Reading
+pub mod Following

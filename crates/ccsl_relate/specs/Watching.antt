@@ -12,8 +12,8 @@ use Rattle.ccsl_kernel.specs.Lives.{Step}
 use Rattle.ccsl_kernel.specs.Items.{clock_count, relation_formula}
 use Rattle.ccsl_kernel.specs.Runs.{full_step, declared_part}
 use Rattle.ccsl_kernel.specs.Verdict.{is_recorded, completed_rows}
-use Rattle.ccsl_state.specs.Held.{Held}
-use Rattle.ccsl_state.specs.Held as states
+use Rattle.ccsl_state.specs.Reach.{is_within}
+use Rattle.ccsl_state.specs.Part.{HeldPart, part_of, PartStandsFor}
 use Rattle.ccsl_relate.specs.declared.violation.Violation.{Violation}
 use Rattle.ccsl_relate.specs.declared.watched.Related.{Related}
 use Rattle.ccsl_relate.specs.declared.watched.Watched.{Watched}
@@ -25,7 +25,7 @@ pub record Watching : Type 0 where
   pub system : System
   pub start : ℕ
   pub kept : List Watched
-  pub states : Option Held
+  pub states : Option HeldPart
   pub steps : ℕ
   pub first : Option Violation
 
@@ -96,30 +96,34 @@ pub record FailsFirst (ticks : List ℕ) (s : Step) (kept : List Watched) (place
   pub before : (k : ℕ) (d : Watched) → k < place → fails_in ticks s (slice_index_or kept k d) ≡ false
 
 -- THE STATES THAT ITEMS NEED
--- an item that reads declared clocks alone
-abbrev pub reads_declared : ℕ → Watched → Bool
-reads_declared declared Nothing = true
-reads_declared declared (Definition clock) = false
-reads_declared declared (Relation r) = nat_lt r.left declared && nat_lt r.right declared
+-- an item that reads clocks of one kind alone
+abbrev pub reads_only : (ℕ → Bool) → Watched → Bool
+reads_only is Nothing = true
+reads_only is (Definition clock) = is clock
+reads_only is (Relation r) = is r.left && is r.right
 
--- there are states, or each item reads declared clocks alone
-abbrev pub Suffice : System → Option Held → List Watched → Type 0
-Suffice K None kept = list_all (reads_declared K.declared) kept ≡ true
-Suffice K (Some h) kept = Unit {0}
+-- the clocks whose ticks are known at each step: the declared ones, and those whose definitions are followed
+abbrev pub is_known : System → Option HeldPart → ℕ → Bool
+is_known K None = λ x. nat_lt x K.declared
+is_known K (Some p) = is_within p.system p.followed
 
--- states of the system after the steps T, or none
-abbrev pub AreAfter : System → Option Held → List Step → Type 0
+-- each item reads clocks alone whose ticks are known
+abbrev pub Suffice : System → Option HeldPart → List Watched → Type 0
+Suffice K held kept = list_all (reads_only (is_known K held)) kept ≡ true
+
+-- states of definitions of the system after the steps T, or none
+abbrev pub AreAfter : System → Option HeldPart → List Step → Type 0
 AreAfter K None T = Unit {0}
-AreAfter K (Some h) T = (h.system ≡ K) × states.StandsFor h T
+AreAfter K (Some p) T = (p.system ≡ K) × PartStandsFor p T
 
 -- the step that a row's ticks complete after the steps T, as far as it is known: without states the ticks alone,
 -- which tell the same of declared clocks
-abbrev pub step_known : System → Option Held → List Step → Step → Step
+abbrev pub step_known : System → Option HeldPart → List Step → Step → Step
 step_known K None T ticks = ticks
-step_known K (Some h) T ticks = full_step K T (declared_part K ticks)
+step_known K (Some p) T ticks = part_of p (full_step K T (declared_part K ticks))
 
 -- items from number `start` on, and the states that they need, after the steps T
-pub record Follows (K : System) (recorded : List ℕ) (start : ℕ) (kept : List Watched) (held : Option Held) (T : List Step) : Type 0 where
+pub record Follows (K : System) (recorded : List ℕ) (start : ℕ) (kept : List Watched) (held : Option HeldPart) (T : List Step) : Type 0 where
   pub keeps : Each (Keeps K recorded T) start kept
   pub suffice : Suffice K held kept
   pub states : AreAfter K held T

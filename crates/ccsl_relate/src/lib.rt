@@ -4,6 +4,7 @@
 pub mod monitor;
 mod readers;
 mod relation;
+mod states;
 mod steps;
 mod touched;
 pub mod violation;

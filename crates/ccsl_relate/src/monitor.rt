@@ -4,22 +4,24 @@ ghost use Rattle.std.specs.Prelude.{◌≡◌, ℕ, ◌+◌, ◌<◌, ◌≤◌,
 ghost use Rattle.ccsl_base.specs.declared.rows.Row.{Row};
 ghost use Rattle.ccsl_kernel.specs.Syntax.{item_count};
 ghost use Rattle.ccsl_relate.specs.Violations.{Finds};
-ghost use Rattle.ccsl_relate.specs.Watching.{Suffice, AreAfter, StandsFor, IsNext};
+ghost use Rattle.ccsl_relate.specs.Watching.{StandsFor, IsNext};
+ghost use Rattle.ccsl_relate.specs.Following.{FollowsNoMore};
 
 use crate::readers::Readers;
+use crate::states::states_for;
 use crate::steps::{first_violated, is_set, rows_are_sets, undeclared};
 use crate::touched::readers_of;
 use crate::violation::Violation;
-use crate::watched::{Watched, open_all, read_declared};
+use crate::watched::{Watched, open_all};
 use ccsl_base::{Block, ClockSet, Memory, Row};
 use ccsl_kernel::System;
-use ccsl_state::States;
+use ccsl_state::Part;
 use std::alloc::Global;
 use std::marker::Model;
 
 /// Follows some neighbouring items of a system over the rows of a trace, up to the first row that violates one of them. The states
-/// of the system go on once a row, and only where an item needs them: a definition whose clock was not recorded and a constraint
-/// between declared clocks touch no cell.
+/// of the definitions that its items reach go on once a row, and no others: a definition whose clock was not recorded and a
+/// constraint between declared clocks touch no cell.
 #[derive(Drop)]
 pub struct Monitor<'s> {
     system: &'s System,
@@ -29,7 +31,7 @@ pub struct Monitor<'s> {
     kept: Vec<Watched>,
     // which of them read a clock
     readers: Option<Readers>,
-    states: Option<States<'s>>,
+    states: Option<Part<'s>>,
     steps: u64,
     first: Option<Violation>,
 }
@@ -58,24 +60,9 @@ impl<'s> Model for Monitor<'s> {
     ghost invariant = { λ m. IsUndeclared m.system.now m.undeclared × Fit m.readers m.kept.items };
 }
 
-// The states of the system, where an item needs them.
-fn states_for<'s>(
-    alloc: Global,
-    system: &'s System,
-    kept: &[Watched],
-) -> Result<Option<States<'s>>, Memory>
-    ensures suffice { IfOk result (λ held. Suffice system.now held kept.now) }
-    ensures after { IfOk result (λ held. AreAfter system.now held []) }
-{
-    if read_declared(kept, system.scope().declared) {
-        return Ok(None);
-    }
-    Ok(Some(States::open(alloc, system)?))
-}
-
 impl<'s> Monitor<'s> {
-    /// Follows `count` items from number `start` on, where these clocks are bound. It takes the states of the system where one of
-    /// the items needs them.
+    /// Follows `count` items from number `start` on, where these clocks are bound. It takes the states of the definitions that the
+    /// items reach, where one of them reads a defined clock.
     pub fn open(
         alloc: Global,
         system: &'s System,
@@ -88,11 +75,12 @@ impl<'s> Monitor<'s> {
         ensures start { IfOk result (λ m. m.start ≡ start) }
         ensures count { IfOk result (λ m. length m.kept ≡ count) }
         ensures stands { IfOk result (λ m. StandsFor recorded.now m []) }
+        ensures follows { IfOk result (λ m. FollowsNoMore m.system m.states m.kept) }
     {
         let kept = open_all(alloc, system, start, count, recorded)?;
         let readers = readers_of(alloc, kept.as_slice())?;
-        let states = states_for(alloc, system, kept.as_slice())?;
         system.names();
+        let states = states_for(alloc, system, kept.as_slice())?;
         Ok(Monitor {
             system,
             start,
@@ -118,7 +106,6 @@ impl<'s> Monitor<'s> {
         }
         let kept = self.kept.as_mut_slice();
         let place = first_violated(
-            self.system,
             &mut self.states,
             &self.undeclared,
             kept,

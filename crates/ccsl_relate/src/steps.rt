@@ -1,6 +1,7 @@
 //! The step that a row completes, and the items that fail in it.
 
-ghost use Rattle.std.specs.Prelude.{◌≡◌, ◌+◌, ◌<◌, ◌^◌, List, [], ◌∷◌, ◌++◌, false, length, map, Some, None, All, IsTrue, IfSome, IfNone};
+ghost use Rattle.std.specs.Prelude.{◌≡◌, ℕ, ◌+◌, ◌<◌, ◌^◌, List, [], ◌∷◌, ◌++◌, false, length, map, Some, All, IsTrue, IfSome, IfNone};
+ghost use Rattle.std.specs.Option.{ForSome};
 ghost use Rattle.ccsl_base.specs.declared.limits.TheConstants.{MAX_CLOCKS};
 ghost use Rattle.ccsl_base.specs.Clocks.{is_ascending, are_below};
 ghost use Rattle.ccsl_kernel.specs.Syntax.{System};
@@ -8,15 +9,14 @@ ghost use Rattle.ccsl_kernel.specs.Lives.{Step};
 ghost use Rattle.ccsl_kernel.specs.Runs.{full_step, declared_part};
 ghost use Rattle.ccsl_relate.specs.Few.{EachHasRoom};
 ghost use Rattle.ccsl_relate.specs.Reading.{Fit};
-ghost use Rattle.ccsl_relate.specs.Watching.{IsUndeclared, AreAfter, are_sets, step_known, fails_in, next_in, FailsFirst};
+ghost use Rattle.ccsl_relate.specs.Watching.{IsUndeclared, AreAfter, are_sets, is_known, step_known, fails_in, next_in, FailsFirst};
 
 use crate::readers::Readers;
 use crate::touched::first_read;
 use crate::watched::Watched;
 use ccsl_base::{Block, ClockSet, MAX_CLOCKS};
 use ccsl_kernel::System;
-use ccsl_state::States;
-use ccsl_state::laws::rows_mean;
+use ccsl_state::Part;
 
 /// All clocks that the system does not declare.
 pub(crate) fn undeclared(system: &System) -> ClockSet
@@ -59,22 +59,16 @@ fn declared_ticks(ticks: &ClockSet, undeclared: &ClockSet) -> ClockSet
     declared
 }
 
-// The step that a row with these ticks completes. The states go on by it.
+// What is known of the step that a row with these ticks completes. The states go on by it.
 #[inline(always)]
-fn next_step(
-    system: &System,
-    states: &mut States<'_>,
-    undeclared: &ClockSet,
-    ticks: &ClockSet,
-) -> ClockSet
-    requires { IsUndeclared system.now undeclared.now }
-    ensures step { (T : List Step) → AreAfter system.now (Some states.old) T →
-        result ≡ full_step system.now T (declared_part system.now ticks.now) }
-    ensures after { (T : List Step) → AreAfter system.now (Some states.old) T → length T + 1 < 2 ^ 64 →
-        AreAfter system.now (Some states.new) (T ++ full_step system.now T (declared_part system.now ticks.now) ∷ []) }
+fn next_step(states: &mut Part<'_>, undeclared: &ClockSet, ticks: &ClockSet) -> ClockSet
+    requires { IsUndeclared states.old.system undeclared.now }
+    ensures known { (K : System) (x : ℕ) → is_known K (Some states.new) x ≡ is_known K (Some states.old) x }
+    ensures step { (K : System) (T : List Step) → AreAfter K (Some states.old) T →
+        result ≡ step_known K (Some states.old) T ticks.now }
+    ensures after { (K : System) (T : List Step) → AreAfter K (Some states.old) T → length T + 1 < 2 ^ 64 →
+        AreAfter K (Some states.new) (T ++ full_step K T (declared_part K ticks.now) ∷ []) }
 {
-    system.names();
-    rows_mean();
     states.advance(&declared_ticks(ticks, undeclared))
 }
 
@@ -82,32 +76,31 @@ fn next_step(
 /// and the states with them. Where there are none, no step is made: the row's ticks are all that the items read of it.
 #[inline(always)]
 pub(crate) fn first_violated(
-    system: &System,
-    states: &mut Option<States<'_>>,
+    states: &mut Option<Part<'_>>,
     undeclared: &ClockSet,
     kept: &mut [Watched],
     readers: &Option<Readers>,
     ticks: &ClockSet,
 ) -> Option<u32>
-    requires undeclared { IsUndeclared system.now undeclared.now }
+    requires undeclared { ForSome states.old (λ p. IsUndeclared p.system undeclared.now) }
     requires readers { Fit readers.now kept.old }
     requires few { length kept.old < 2 ^ 32 }
     requires room { EachHasRoom kept.old }
     ensures readers { Fit readers.now kept.new }
     ensures count { length kept.new ≡ length kept.old }
-    ensures fails { (T : List Step) → AreAfter system.now states.old T →
-        IfSome result (FailsFirst ticks.now (step_known system.now states.old T ticks.now) kept.old) }
-    ensures none { (T : List Step) → AreAfter system.now states.old T →
-        IfNone result (All (λ w. fails_in ticks.now (step_known system.now states.old T ticks.now) w ≡ false) kept.old) }
-    ensures next { (T : List Step) → AreAfter system.now states.old T →
-        IfNone result (kept.new ≡ map (next_in (step_known system.now states.old T ticks.now)) kept.old) }
-    ensures after { (T : List Step) → AreAfter system.now states.old T → length T + 1 < 2 ^ 64 →
-        AreAfter system.now states.new (T ++ full_step system.now T (declared_part system.now ticks.now) ∷ []) }
-    ensures still { states.new ≡ None → states.old ≡ None }
+    ensures fails { (K : System) (T : List Step) → AreAfter K states.old T →
+        IfSome result (FailsFirst ticks.now (step_known K states.old T ticks.now) kept.old) }
+    ensures none { (K : System) (T : List Step) → AreAfter K states.old T →
+        IfNone result (All (λ w. fails_in ticks.now (step_known K states.old T ticks.now) w ≡ false) kept.old) }
+    ensures next { (K : System) (T : List Step) → AreAfter K states.old T →
+        IfNone result (kept.new ≡ map (next_in (step_known K states.old T ticks.now)) kept.old) }
+    ensures after { (K : System) (T : List Step) → AreAfter K states.old T → length T + 1 < 2 ^ 64 →
+        AreAfter K states.new (T ++ full_step K T (declared_part K ticks.now) ∷ []) }
+    ensures known { (K : System) (x : ℕ) → is_known K states.new x ≡ is_known K states.old x }
 {
     match states {
         Some(states) => {
-            let step = next_step(system, states, undeclared, ticks);
+            let step = next_step(states, undeclared, ticks);
             first_read(kept, readers, ticks, &step)
         }
         None => first_read(kept, readers, ticks, ticks),

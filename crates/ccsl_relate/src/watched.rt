@@ -1,11 +1,11 @@
 //! What is kept of items from row to row.
 
-ghost use Rattle.std.specs.Prelude.{◌≡◌, ℕ, ◌+◌, ◌-◌, ◌<◌, ◌≤◌, ◌^◌, List, [], false, not, length, map, All, IfOk, IfSome, IfNone};
+ghost use Rattle.std.specs.Prelude.{◌≡◌, ℕ, ◌+◌, ◌-◌, ◌<◌, nat_lt, ◌≤◌, ◌^◌, List, [], false, not, length, map, All, IfOk, IfSome, IfNone};
 ghost use Rattle.std.specs.List.{list_all, AllPass};
 ghost use Rattle.ccsl_kernel.specs.Syntax.{System, item_count};
 ghost use Rattle.ccsl_kernel.specs.Accepted.{Each};
 ghost use Rattle.ccsl_relate.specs.Few.{HasRoom, EachHasRoom};
-ghost use Rattle.ccsl_relate.specs.Watching.{Keeps, related_formula, fails_in, counted_on, next_in, FailsFirst, reads_declared};
+ghost use Rattle.ccsl_relate.specs.Watching.{Keeps, related_formula, fails_in, counted_on, next_in, FailsFirst, reads_only};
 
 use crate::relation::holds;
 use ccsl_base::{ClockSet, Memory};
@@ -75,11 +75,11 @@ impl Watched {
 
     /// Whether it needs no defined clock.
     fn reads_declared(&self, declared: u32) -> bool
-        ensures { result ≡ reads_declared declared self.now }
+        ensures { result ≡ reads_only (λ x. nat_lt x declared) self.now }
     {
         match self {
             Watched::Nothing => true,
-            Watched::Definition(_) => false,
+            Watched::Definition(clock) => *clock < declared,
             Watched::Relation(related) => related.left < declared && related.right < declared,
         }
     }
@@ -121,7 +121,7 @@ pub(crate) fn open_all(
 
 /// Whether each item needs no defined clock.
 pub(crate) fn read_declared(kept: &[Watched], declared: u32) -> bool
-    ensures { result ≡ list_all (reads_declared declared) kept.now }
+    ensures { result ≡ list_all (reads_only (λ x. nat_lt x declared)) kept.now }
 {
     kept.iter().all(|watched| watched.reads_declared(declared))
 }

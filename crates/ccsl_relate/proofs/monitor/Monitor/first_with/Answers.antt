@@ -5,6 +5,7 @@ use Rattle.std.proofs.lemmas.List.{with_items_is}
 use Rattle.ccsl_kernel.specs.Verdict.{completed_rows}
 use Rattle.ccsl_relate.specs.Few.{EachHasRoom}
 use Rattle.ccsl_relate.specs.Watching.{Watching, fails_in, next_in, FailsFirst, step_known, StandsFor, IsNext}
+use Rattle.ccsl_relate.proofs.Known.{undeclared-for}
 use Rattle.ccsl_relate.proofs.Passing.{states-after, few-steps, each-has-room, next-resting, next-violated, next-obeyed}
 use Rattle.ccsl_relate.proofs.Undeclared.{some-of, none-of}
 use Rattle.ccsl_relate.proofs.monitor.Monitor.first_with.Goals as goal
@@ -33,7 +34,7 @@ returns c = λ recorded rows s l.
     (next-violated recorded _ rows c.args.row.now t c.is_set.ensures.ascending n w refl
     (ap length items ∙ count)
     c.in_ok-place.place
-    (subst (λ ws. FailsFirst c.args.row.now.ticks step ws c.in_ok-place.place) value (c.in_ok-place.ensures.fails T after)))
+    (subst (λ ws. FailsFirst c.args.row.now.ticks step ws c.in_ok-place.place) value (c.in_ok-place.ensures.fails K T after)))
 
 pub returns-in_err-place : goal.returns-in_err-place
 returns-in_err-place c = λ recorded rows s l.
@@ -53,10 +54,19 @@ returns-in_err-place c = λ recorded rows s l.
     (subst (λ v. IsNext recorded v w rows c.args.row.now None) c.self.view_is
     (next-obeyed recorded _ rows c.args.row.now t c.is_set.ensures.ascending n w refl
     (ap length items ∙ count)
-    (subst (All (λ x. fails_in c.args.row.now.ticks step x ≡ false)) value (c.in_err-place.ensures.none T after))
-    (items ∙ c.in_err-place.ensures.next T after ∙ ap (map (next_in step)) value)
-    c.first_violated.ensures.still
-    (c.first_violated.ensures.after T after few)))
+    (subst (All (λ x. fails_in c.args.row.now.ticks step x ≡ false)) value (c.in_err-place.ensures.none K T after))
+    (items ∙ c.in_err-place.ensures.next K T after ∙ ap (map (next_in step)) value)
+    (c.first_violated.ensures.known K)
+    (c.first_violated.ensures.after K T after few)))
+
+pub first_violated-requires-clause-undeclared : goal.first_violated-requires-clause-undeclared
+first_violated-requires-clause-undeclared c =
+    let w = c.requires in
+    let K = c.self.inside.system.now in
+    let n = none-of c.self.inside.first (sym c.is_some.ensures ∙ c.if-is_some.false) in
+    let s = subst (λ v. StandsFor w.0 v w.1) (sym c.self.view_is) w.2 in
+    undeclared-for K c.self.inside.states (completed_rows K w.1) c.self.inside.undeclared
+    (states-after w.0 _ w.1 c.args.row.now s c.is_set.ensures.ascending n) c.self.invariant.0
 
 pub first_violated-requires-clause-room : goal.first_violated-requires-clause-room
 first_violated-requires-clause-room c =
