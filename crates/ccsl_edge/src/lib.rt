@@ -21,10 +21,3 @@ pub use slot::Slot;
 pub use steady::SteadyWorld;
 pub use whole::{ReadFault, read_all, write_all};
 pub use world::{Failed, World};
-
-#[cfg(test)]
-mod fake;
-#[cfg(test)]
-mod tests;
-#[cfg(test)]
-mod tests_failed;

@@ -1,6 +1,6 @@
 //! The worlds at work: what a proof can't see of them.
 
-use crate::{
+use ccsl_edge::{
     CallKind, Failed, FileWorld, HeldFile, MemoryWorld, ReadFault, Slot, SteadyWorld, World,
     read_all, write_all,
 };

@@ -1,7 +1,7 @@
 //! The world of the real files over a system that reads short and fails in mid-stream.
 
 use crate::fake::{FakeFile, FakeSystem};
-use crate::{Failed, FileWorld, ReadFault, Slot, World, read_all, write_all};
+use ccsl_edge::{Failed, FileWorld, ReadFault, Slot, World, read_all, write_all};
 use std::alloc::Global;
 use std::test::Fail;
 
