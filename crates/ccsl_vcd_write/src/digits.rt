@@ -55,6 +55,7 @@ fn put_below_myriad(n: u64, out: &mut Vec<u8>)
     put_pair(n - hundreds * 100, out);
 }
 
+/// A product tells each of the last pairs from what stands in front of it: a remainder would be a division more.
 #[inline(always)]
 fn put_short(n: u64, out: &mut Vec<u8>)
     requires below { n < SHORT }
@@ -72,6 +73,7 @@ fn put_short(n: u64, out: &mut Vec<u8>)
     put_pair(n - hundreds * 100, out);
 }
 
+/// No trace is so long that it matters how fast this is.
 #[cold]
 #[inline(never)]
 fn put_long(n: u64, out: &mut Vec<u8>)

@@ -67,19 +67,12 @@ fn write_trace<W: Write>(
     to: &mut W,
 ) -> io::Result<()> {
     let mut out = header(alloc, system).map_err(no_memory)?;
-    let mut next = 0;
-    for k in 0..steps {
+    for (k, set) in (0..steps).zip(sets.iter().cycle()) {
         if out.len() >= BUFFER {
             to.write_all(out.as_slice())?;
             out.clear();
         }
-        if next >= sets.len() {
-            next = 0;
-        }
-        if next < sets.len() {
-            step(k, &sets[next], system, &mut out).map_err(no_memory)?;
-            next += 1;
-        }
+        step(k, set, system, &mut out).map_err(no_memory)?;
     }
     to.write_all(out.as_slice())
 }
