@@ -1,0 +1,132 @@
+//! A trace that is judged in a world.
+
+ghost use Rattle.std.specs.Prelude.{◌≤◌};
+
+use ccsl_base::MAX_SPEC_BYTES;
+use ccsl_edge::{CallKind, HeldFile, MemoryWorld, Slot, World};
+use ccsl_judge::{JudgeFault, Verdict, judge};
+use ccsl_kernel::System;
+use ccsl_pool::{Gate, NoGate};
+use ccsl_spec::{Specification, read};
+use ccsl_vcd::Limits;
+use std::alloc::Global;
+use std::process::Abort;
+use std::test::*;
+use std::thread::Threads;
+
+pub(crate) type Answer = Result<Verdict, JudgeFault>;
+
+/// Limits that no trace here reaches.
+pub(crate) const WIDE: Limits = Limits {
+    bytes: 1_000_000,
+    vars: 100,
+    scopes: 100,
+};
+
+/// A run of so many rows.
+pub(crate) fn run(rows: u64) -> Answer {
+    Ok(Verdict::Run(rows))
+}
+
+/// The first row that violates an item, its time, and the item.
+pub(crate) fn violated(step: u64, time: u64, item: u32) -> Answer {
+    Ok(Verdict::Violated { step, time, item })
+}
+
+/// The system of these lines.
+pub(crate) fn system_of(alloc: Global, lines: &str) -> Result<System, Fail> {
+    let text = format!(in alloc; "ccsl 2; system {{ {lines} }}")?;
+    if text.len() as u64 > MAX_SPEC_BYTES {
+        return Err(Fail::from("the text is long"));
+    }
+    match read(alloc, text.as_str().as_bytes())? {
+        Specification::Accepted(system) => Ok(system),
+        Specification::Refused(_line) => Err(Fail::from("the text is refused")),
+    }
+}
+
+/// A trace of event variables of these names, which have the codes `!`, `"`, `#` and so on.
+pub(crate) fn trace_of(alloc: Global, names: &str, body: &str) -> Result<String, Fail> {
+    let mut text = String::new(alloc);
+    let mut code = b'!';
+    for name in names.split(' ') {
+        let code_text = code as char;
+        let line = format!(in alloc; "$var event 1 {code_text} {name} $end\n")?;
+        text.push_str(line.as_str())?;
+        code = code.saturating_add(1);
+    }
+    text.push_str("$enddefinitions $end\n")?;
+    text.push_str(body)?;
+    text.push_str("\n")?;
+    Ok(text)
+}
+
+/// A world in which a trace is open, some calls fail, and a read moves at most so many bytes.
+pub(crate) fn world(
+    alloc: Global,
+    trace: &str,
+    failing: Vec<(CallKind, u64)>,
+    piece: usize,
+) -> Result<MemoryWorld, Fail>
+    requires { 1 ≤ piece }
+{
+    let name = String::from_str(alloc, "t")?;
+    let content = Vec::from_slice(alloc, trace.as_bytes())?;
+    let mut files = Vec::new(alloc);
+    files.push(HeldFile::new(name, content))?;
+    let mut world = MemoryWorld::new(alloc, files, failing, piece);
+    if world.open_in(Slot::Trace, "t").is_err() {
+        return Err(Fail::from("the trace opens"));
+    }
+    Ok(world)
+}
+
+/// What is answered on a trace by so many workers, through a gate.
+pub(crate) fn answer_by<R: Threads + Sync, G: Gate>(
+    rt: &R,
+    alloc: Global,
+    system: &System,
+    trace: &str,
+    piece: usize,
+    workers: u32,
+    gate: &G,
+) -> Result<Answer, Fail>
+    requires piece { 1 ≤ piece }
+    requires workers { 1 ≤ workers }
+{
+    let mut world = world(alloc, trace, Vec::new(alloc), piece)?;
+    Ok(judge(rt, alloc, &mut world, system, workers, gate, &WIDE))
+}
+
+// Asserts what is answered by one worker, two and sixteen.
+fn answers<R: Threads + Sync + Abort>(
+    rt: &R,
+    alloc: Global,
+    system: &System,
+    trace: &str,
+    piece: usize,
+    answer: Answer,
+) -> Result<(), Fail>
+    requires { 1 ≤ piece }
+{
+    for workers in [1, 2, 16] {
+        let found = answer_by(rt, alloc, system, trace, piece, workers, &NoGate)?;
+        assert_eq!(rt; found, answer);
+    }
+    Ok(())
+}
+
+/// Asserts what is answered on a trace of event variables, by reads of one byte and of many, and by one worker, two and sixteen.
+pub(crate) fn judges<R: Threads + Sync + Abort>(
+    rt: &R,
+    alloc: Global,
+    lines: &str,
+    names: &str,
+    body: &str,
+    answer: Answer,
+) -> Result<(), Fail> {
+    let system = system_of(alloc, lines)?;
+    let trace = trace_of(alloc, names, body)?;
+    answers(rt, alloc, &system, trace.as_str(), 1, answer)?;
+    answers(rt, alloc, &system, trace.as_str(), 4096, answer)
+}
