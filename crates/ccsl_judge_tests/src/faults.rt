@@ -1,6 +1,6 @@
 //! Traces that do not read.
 
-use crate::judged::{Answer, WIDE, judges, system_of, trace_of, world};
+use crate::judged::{Answer, KEYS, WIDE, judges, system_of, trace_of, world};
 use ccsl_edge::{CallKind, Slot};
 use ccsl_judge::{JudgeFault, judge};
 use ccsl_pool::NoGate;
@@ -46,7 +46,7 @@ fn with_failing<R: Threads + Sync>(
     let trace = trace_of(alloc, "a b", "#0 1\" #5 1!")?;
     let failing = vec![in alloc; (CallKind::Read, number)]?;
     let mut world = world(alloc, trace.as_str(), failing, 1)?;
-    let answer = judge(rt, alloc, &mut world, &system, 2, &NoGate, &WIDE);
+    let answer = judge(rt, alloc, KEYS, &mut world, &system, 2, &NoGate, &WIDE);
     Ok((answer, world.faults(Slot::Trace)))
 }
 

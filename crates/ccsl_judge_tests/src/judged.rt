@@ -2,7 +2,7 @@
 
 ghost use Rattle.std.specs.Prelude.{◌≤◌};
 
-use ccsl_base::MAX_SPEC_BYTES;
+use ccsl_base::{HashKeys, MAX_SPEC_BYTES};
 use ccsl_edge::{CallKind, HeldFile, MemoryWorld, Slot, World};
 use ccsl_judge::{JudgeFault, Verdict, judge};
 use ccsl_kernel::System;
@@ -15,6 +15,12 @@ use std::test::*;
 use std::thread::Threads;
 
 pub(crate) type Answer = Result<Verdict, JudgeFault>;
+
+/// Any keys: no answer depends on them.
+pub(crate) const KEYS: HashKeys = HashKeys {
+    first: 1,
+    second: 2,
+};
 
 /// Limits that no trace here reaches.
 pub(crate) const WIDE: Limits = Limits {
@@ -95,7 +101,7 @@ pub(crate) fn answer_by<R: Threads + Sync, G: Gate>(
     requires workers { 1 ≤ workers }
 {
     let mut world = world(alloc, trace, Vec::new(alloc), piece)?;
-    Ok(judge(rt, alloc, &mut world, system, workers, gate, &WIDE))
+    Ok(judge(rt, alloc, KEYS, &mut world, system, workers, gate, &WIDE))
 }
 
 // Asserts what is answered by one worker, two and sixteen.

@@ -295,6 +295,7 @@ impl Body {
 
     /// Hears the tokens that lie whole in a piece, from its front up to one that is refused, or where the block became full. It
     /// answers how many bytes that are.
+    #[inline(never)]
     pub(crate) fn run(&mut self, at: u64, piece: &[u8], out: &mut Block) -> usize
         requires room { length out.old.rows < out.old.room }
         requires fits { at + length piece.now < 2 ^ 64 }
