@@ -167,25 +167,26 @@ tell-of groups group read read' i a l is same =
 abbrev pub told_at : List (List ℕ) → List ℕ → ℕ → Bool
 told_at group clocks p = list_any (λ c. told group c p) clocks
 
--- what is gathered, and what the clocks that are left tell, is what all tell
-pub record Gathers (group : List (List ℕ)) (clocks rest touched : List ℕ) : Type 0 where
-  pub both : (p : ℕ) → (ticks_in p touched || told_at group rest p) ≡ told_at group clocks p
+-- what is gathered, and what the clocks that are left tell, is what was there and what all tell
+pub record Gathers (group : List (List ℕ)) (clocks rest before touched : List ℕ) : Type 0 where
+  pub both : (p : ℕ) → (ticks_in p touched || told_at group rest p) ≡ (ticks_in p before || told_at group clocks p)
 
-pub gathers-none : (group : List (List ℕ)) (clocks : List ℕ) → Gathers group clocks clocks []
-gathers-none group clocks = record { both = λ p. refl }
+pub gathers-none : (group : List (List ℕ)) (clocks before : List ℕ) → Gathers group clocks clocks before before
+gathers-none group clocks before = record { both = λ p. refl }
 
-pub gathers-more : (group : List (List ℕ)) (clocks rest touched next : List ℕ) (c : ℕ) → Gathers group clocks (c ∷ rest) touched → ((p : ℕ) → ticks_in p next ≡ (ticks_in p touched || told group c p)) → Gathers group clocks rest next
-gathers-more group clocks rest touched next c g h = record { both = λ p. ap (λ v. v || told_at group rest p) (h p) ∙ assoc (ticks_in p touched) (told group c p) (told_at group rest p) ∙ g.both p }
+pub gathers-more : (group : List (List ℕ)) (clocks rest before touched next : List ℕ) (c : ℕ) → Gathers group clocks (c ∷ rest) before touched → ((p : ℕ) → ticks_in p next ≡ (ticks_in p touched || told group c p))
+    → Gathers group clocks rest before next
+gathers-more group clocks rest before touched next c g h = record { both = λ p. ap (λ v. v || told_at group rest p) (h p) ∙ assoc (ticks_in p touched) (told group c p) (told_at group rest p) ∙ g.both p }
   where
     assoc : (x y z : Bool) → ((x || y) || z) ≡ (x || (y || z))
     assoc true y z = refl
     assoc false y z = refl
 
-pub gathers-past : (group : List (List ℕ)) (clocks rest touched : List ℕ) (c : ℕ) → Gathers group clocks (c ∷ rest) touched → length group ≤ c → Gathers group clocks rest touched
-gathers-past group clocks rest touched c g l = record { both = λ p. sym (ap (λ ys. ticks_in p touched || (ticks_in p ys || told_at group rest p)) (get_or_past group c [] l)) ∙ g.both p }
+pub gathers-past : (group : List (List ℕ)) (clocks rest before touched : List ℕ) (c : ℕ) → Gathers group clocks (c ∷ rest) before touched → length group ≤ c → Gathers group clocks rest before touched
+gathers-past group clocks rest before touched c g l = record { both = λ p. sym (ap (λ ys. ticks_in p touched || (ticks_in p ys || told_at group rest p)) (get_or_past group c [] l)) ∙ g.both p }
 
-pub gathers-all : (group : List (List ℕ)) (clocks touched : List ℕ) → Gathers group clocks [] touched → (p : ℕ) → ticks_in p touched ≡ told_at group clocks p
-gathers-all group clocks touched g p = sym (or-no (ticks_in p touched)) ∙ g.both p
+pub gathers-all : (group : List (List ℕ)) (clocks before touched : List ℕ) → Gathers group clocks [] before touched → (p : ℕ) → ticks_in p touched ≡ (ticks_in p before || told_at group clocks p)
+gathers-all group clocks before touched g p = sym (or-no (ticks_in p touched)) ∙ g.both p
   where
     or-no : (b : Bool) → (b || false) ≡ b
     or-no true = refl

@@ -95,17 +95,17 @@ impl Group {
         Ok(Group { places })
     }
 
-    /// The places of the items that read one of some clocks.
-    pub(crate) fn touched(&self, clocks: &ClockSet) -> ClockSet
-        ensures { (p : ℕ) → ticks_in p result ≡ list_any (λ c. ticks_in p (slice_index_or self.now c [])) clocks.now }
+    /// Makes the places of the items that read one of some clocks members of a set.
+    #[inline(always)]
+    pub(crate) fn gather(&self, clocks: &ClockSet, touched: &mut ClockSet)
+        ensures { (p : ℕ) → ticks_in p touched.new ≡
+            (ticks_in p touched.old || list_any (λ c. ticks_in p (slice_index_or self.now c [])) clocks.now) }
     {
-        let mut touched = ClockSet::empty();
         for clock in clocks.members() {
             if let Some(places) = self.places.get(clock as usize) {
                 touched.insert_all(places);
             }
         }
-        touched
     }
 }
 
@@ -123,6 +123,7 @@ impl Readers {
         Ok(Readers { groups })
     }
 
+    #[inline(always)]
     pub(crate) fn groups(&self) -> &[Group]
         ensures { result.now ≡ self.now }
     {

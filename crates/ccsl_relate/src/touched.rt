@@ -12,9 +12,10 @@ use ccsl_base::{ClockSet, Memory};
 use std::alloc::Global;
 
 /// Fewer items are sooner looked at one by one.
-const FEWEST: usize = 8;
+const FEWEST: usize = 16;
 
 // The first item that fails, of those at some places behind `start`. The others of the group neither fail nor change.
+#[inline(always)]
 fn first_at(
     kept: &mut [Watched],
     start: usize,
@@ -39,6 +40,7 @@ fn first_at(
 }
 
 // As `first_failing` tells it, of the items that are looked at.
+#[inline(always)]
 fn first_touched(
     kept: &mut [Watched],
     readers: &Readers,
@@ -53,11 +55,13 @@ fn first_touched(
     ensures none { IfNone result (All (λ w. fails_in ticks.now step.now w ≡ false) kept.old) }
     ensures next { IfNone result (kept.new ≡ map (next_in step.now) kept.old) }
 {
-    let mut clocks = ticks.copy();
+    let mut clocks = ClockSet::empty();
+    clocks.insert_all(ticks);
     clocks.insert_all(step);
     let groups = readers.groups();
     for i in 0..groups.len() {
-        let touched = groups[i].touched(&clocks);
+        let mut touched = ClockSet::empty();
+        groups[i].gather(&clocks, &mut touched);
         let place = first_at(kept, i * GROUP, &touched, ticks, step);
         if place.is_some() {
             return place;
@@ -78,7 +82,8 @@ pub(crate) fn readers_of(alloc: Global, kept: &[Watched]) -> Result<Option<Reade
 }
 
 /// The place of the first item that fails in the step that a row with these ticks completes, as `first_failing` tells it. Where it is
-/// known which items read a clock, no others than those that read a clock that ticks are looked at.
+/// known which items read a clock and few clocks tick, no others than those that read one that ticks are looked at.
+#[inline(always)]
 pub(crate) fn first_read(
     kept: &mut [Watched],
     readers: &Option<Readers>,
@@ -95,7 +100,9 @@ pub(crate) fn first_read(
     ensures next { IfNone result (kept.new ≡ map (next_in step.now) kept.old) }
 {
     match readers {
-        Some(readers) => first_touched(kept, readers, ticks, step),
-        None => first_failing(kept, ticks, step),
+        Some(readers) if (step.len() as usize) < kept.len() / 2 => {
+            first_touched(kept, readers, ticks, step)
+        }
+        _ => first_failing(kept, ticks, step),
     }
 }

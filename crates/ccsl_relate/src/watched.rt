@@ -6,6 +6,7 @@ ghost use Rattle.ccsl_kernel.specs.Syntax.{System, item_count};
 ghost use Rattle.ccsl_kernel.specs.Accepted.{Each};
 ghost use Rattle.ccsl_relate.specs.Few.{HasRoom, EachHasRoom};
 ghost use Rattle.ccsl_relate.specs.Watching.{Keeps, related_formula, fails_in, counted_on, next_in, FailsFirst, reads_only};
+ghost use Rattle.ccsl_relate.specs.Reading.{clocks_of};
 
 use crate::relation::holds;
 use ccsl_base::{ClockSet, Memory};
@@ -132,6 +133,7 @@ pub(crate) fn first_failing(kept: &mut [Watched], ticks: &ClockSet, step: &Clock
     requires few { length kept.old < 2 ^ 32 }
     requires room { EachHasRoom kept.old }
     ensures count { length kept.new ≡ length kept.old }
+    ensures clocks { map clocks_of kept.new ≡ map clocks_of kept.old }
     ensures fails { IfSome result (FailsFirst ticks.now step.now kept.old) }
     ensures none { IfNone result (All (λ w. fails_in ticks.now step.now w ≡ false) kept.old) }
     ensures next { IfNone result (kept.new ≡ map (next_in step.now) kept.old) }

@@ -6,20 +6,23 @@ use Rattle.ccsl_base.specs.Clocks.{ticks_in}
 use Rattle.ccsl_relate.specs.Watching.{FailsFirst}
 use Rattle.ccsl_relate.specs.Reading.{clocks_of, AreReaders, FailsFrom, GoesOn}
 use Rattle.ccsl_relate.proofs.Ranges.{on-both, on-all, fails-first, some-more}
-use Rattle.ccsl_relate.proofs.Told.{touches-told, tell-of}
+use Rattle.ccsl_relate.proofs.Told.{told_at, touches-told, tell-of}
 use Rattle.ccsl_relate.proofs.Undeclared.{none-of}
 use Rattle.ccsl_relate.proofs.touched.first_touched.Goals as goal
 
 pub first_at-place-requires-clause-touched : goal.first_at-place-requires-clause-touched
 first_at-place-requires-clause-touched c =
     let i = c.loop-i.i in
+    let ticks = c.args.ticks.now in
+    let step = c.args.step.now in
+    let clocks = c.insert_all-2.new.self in
     let group = c.index-groups-i.result in
-    touches-told c.args.ticks.now c.args.step.now c.insert_all.new.self (i * MAX_CLOCKS) group c.touched-touched.result c.loop-i.kept
-    (λ x. c.insert_all.ensures x ∙ ap (λ ys. ticks_in x ys || ticks_in x c.args.step.now) c.copy-clocks.ensures)
+    touches-told ticks step clocks (i * MAX_CLOCKS) group c.gather.new.touched c.loop-i.kept
+    (λ x. c.insert_all-2.ensures x ∙ ap (λ b. b || ticks_in x step) (c.insert_all.ensures x ∙ ap (λ ys. ticks_in x ys || ticks_in x ticks) c.empty-clocks.ensures))
     (tell-of c.groups-groups.result.now group (map clocks_of c.args.kept.now) (map clocks_of c.loop-i.kept) i
     (subst (λ gs. AreReaders gs (map clocks_of c.args.kept.now)) (sym c.groups-groups.ensures) c.requires.readers)
     c.loop-i-test.true c.index-groups-i.is c.loop-i.invariant.clocks)
-    c.touched-touched.ensures
+    (λ p. c.gather.ensures p ∙ ap (λ ys. ticks_in p ys || told_at group clocks p) c.empty-touched.ensures)
 
 pub returns-then-is_some-clause-fails : goal.returns-then-is_some-clause-fails
 returns-then-is_some-clause-fails c =

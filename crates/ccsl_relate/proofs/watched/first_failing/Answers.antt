@@ -4,6 +4,7 @@ use Rattle.ccsl_relate.specs.declared.watched.Watched.{Watched}
 use Rattle.ccsl_relate.specs.declared.watched.Watched.TheVariants.{Nothing}
 use Rattle.ccsl_relate.specs.Watching.{fails_in, next_in}
 use Rattle.ccsl_relate.proofs.Partly.{partly, partly-at, partly-more}
+use Rattle.ccsl_relate.proofs.Ranges.{clocks-set}
 use Rattle.ccsl_relate.proofs.watched.first_failing.Goals as goal
 
 pub loop-i-preserved : goal.loop-i-preserved
@@ -22,4 +23,8 @@ loop-i-preserved c =
           ap₂ (λ ws w. slice_set ws i w) c.loop-i.invariant.gone (c.fails.ensures.next ∙ ap on same)
           ∙ partly-more on i old Nothing c.loop-i-test.true
           ∙ ap (λ n. partly on n old) next;
+      clocks = clocks-set c.args.step.now c.loop-i.kept i Nothing c.fails.new.self c.fails.ensures.next ∙ c.loop-i.invariant.clocks;
     }
+
+pub returns-then-fails-clause-clocks : goal.returns-then-fails-clause-clocks
+returns-then-fails-clause-clocks c = clocks-set c.args.step.now c.loop-i.kept c.loop-i.i Nothing c.fails.new.self c.fails.ensures.next ∙ c.loop-i.invariant.clocks

@@ -1,5 +1,0 @@
-use Rattle.ccsl_relate.proofs.Told.{Gathers}
-use Rattle.ccsl_relate.proofs.readers.Group.touched.Given as goal
-
-abbrev pub invariant-loop-clock : goal.invariant-loop-clock
-invariant-loop-clock l = Gathers l.self l.clocks l.clock-iterator l.touched
