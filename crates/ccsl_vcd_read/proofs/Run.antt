@@ -152,10 +152,14 @@ runs-on a b c at i n piece rest x y z l e r s =
     subst (λ part. Runs a c at part x z) (ap (λ xs. take i piece ++ take n xs) e ∙ sym (take-add i n piece))
     (runs-both a b c at (take i piece) (take n rest) x y z r (subst (λ j. Runs b c (at + j) (take n rest) y z) (sym k) s))
 
+-- where nothing was done
+pub runs-still : (b c : Body) (at : ℕ) (x y : List Row) → c ≡ b → y ≡ x → Runs b c at [] x y
+runs-still b c at x y e f = subst (λ v. Runs b v at [] x y) (sym e) (subst (λ rs. Runs b b at [] x rs) (sym f) (runs-none b at x))
+
 -- a token that is refused
 pub runs-same : (r : Result (Body × List Row) VcdFault) (f : VcdFault) (b c : Body) (at : ℕ) (x y : List Row) → Says r (Err f) b c x y → Runs b c at [] x y
 runs-same (Ok p) f b c at x y s = absurd s
-runs-same (Err g) f b c at x y s = subst (λ v. Runs b v at [] x y) (sym s.1) (subst (λ rs. Runs b b at [] x rs) (sym s.2) (runs-none b at x))
+runs-same (Err g) f b c at x y s = runs-still b c at x y s.1 s.2
 
 -- A short token.
 

@@ -176,8 +176,8 @@ impl Body {
         code.len + 2
     }
 
-    // The same of a vector of letters of the values 0 and 1.
-    #[inline(always)]
+    // The same of a vector of letters of the values 0 and 1. It is a call, so that the loop over changes of bits stays small.
+    #[inline(never)]
     fn vector_change(&mut self, bytes: &[u8]) -> usize
         ensures { Made self.old self.new bytes.now result }
     {
@@ -203,7 +203,7 @@ impl Body {
         ensures { Made self.old self.new bytes.now result }
     {
         let taken = self.bit_change(bytes);
-        if taken > 0 {
+        if taken > 0 || bytes.is_empty() || bytes[0] != b'b' {
             return taken;
         }
         self.vector_change(bytes)
@@ -251,6 +251,22 @@ impl Body {
         }
     }
 
+    // The same, with the white space behind it.
+    #[inline(always)]
+    fn time_and_space(&mut self, at: u64, bytes: &[u8], out: &mut Block) -> usize
+        requires room { length out.old.rows < out.old.room }
+        ensures within { result ≤ length bytes.now }
+        ensures runs { Runs self.old self.new at (take result bytes.now) out.old.rows out.new.rows }
+        ensures none { result ≡ 0 → (self.new ≡ self.old) × (out.new.rows ≡ out.old.rows) }
+        ensures room { out.new.room ≡ out.old.room }
+    {
+        let time = self.short_time(at, bytes, out);
+        if time == 0 {
+            return 0;
+        }
+        time + 1
+    }
+
     // Hears what stands at the front of some bytes: a byte of white space, or a token and the white space behind it. It answers
     // how many bytes that are: none where no token ends there, or the token is refused.
     #[inline(never)]
@@ -273,8 +289,8 @@ impl Body {
         }
     }
 
-    // Hears what stands at the front of some bytes: a time, changes, or whatever else. It answers how many bytes that are: none
-    // where no token ends there, or the token is refused.
+    // Hears what stands at the front of some bytes: a time and the changes behind it, or whatever else. It answers how many bytes
+    // that are: none where no token ends there, or the token is refused.
     #[inline(always)]
     fn step(&mut self, at: u64, bytes: &[u8], out: &mut Block) -> usize
         requires room { length out.old.rows < out.old.room }
@@ -282,13 +298,10 @@ impl Body {
         ensures runs { Runs self.old self.new at (take result bytes.now) out.old.rows out.new.rows }
         ensures room { out.new.room ≡ out.old.room }
     {
-        let time = self.short_time(at, bytes, out);
-        if time > 0 {
-            return time + 1;
-        }
-        let changes = self.changes(bytes);
-        if changes > 0 {
-            return changes;
+        let time = self.time_and_space(at, bytes, out);
+        let taken = time + self.changes(&bytes[time..]);
+        if taken > 0 {
+            return taken;
         }
         self.token(at, bytes, out)
     }
