@@ -9,7 +9,7 @@ ghost use Rattle.ccsl_state.specs.Reach.{place_names, arguments_name, names_cloc
 use ccsl_base::{ClockSet, MAX_CLOCKS};
 use ccsl_kernel::{Expr, Place, System, Value};
 
-/// Makes a clock a member of a set, if it is none of a parameter.
+/// Makes a clock a member of a set. A parameter names none.
 fn add_place(place: &Place, set: &mut ClockSet)
     requires { PlaceWithin (λ x. x < MAX_CLOCKS) place.now }
     ensures { (y : ℕ) → ticks_in y set.new ≡ (place_names place.now y || ticks_in y set.old) }
