@@ -6,10 +6,10 @@ ghost use Rattle.ccsl_command.specs.declared.command.Command.TheVariants as comm
 ghost use Rattle.ccsl_top.specs.Certifying.{HasItem, IsReplyOn, CertifyAnswers, IsBothStop};
 ghost use Rattle.ccsl_top.specs.Answered.{AnswersTo, StopsAt};
 
-use ccsl_base::HashKeys;
 use crate::files::{LIMITS, Stop};
 use crate::reply::{Reply, Status};
 use crate::specification::read_specification;
+use ccsl_base::HashKeys;
 use ccsl_certify::{CertVerdict, CertifyFault};
 use ccsl_edge::{Slot, World};
 use ccsl_kernel::System;

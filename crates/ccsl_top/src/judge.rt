@@ -86,7 +86,16 @@ fn judge_trace<R: Threads + Sync, W: World, G: Gate>(
     if world.open_in(Slot::Trace, trace).is_err() {
         return Err(Stop::Fault);
     }
-    let judged = ccsl_judge::judge(rt, alloc, keys, world, system, workers.max(1), gate, &LIMITS);
+    let judged = ccsl_judge::judge(
+        rt,
+        alloc,
+        keys,
+        world,
+        system,
+        workers.max(1),
+        gate,
+        &LIMITS,
+    );
     reply_on(judged, system, line)
 }
 

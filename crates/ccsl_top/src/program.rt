@@ -93,7 +93,14 @@ fn answer_command<R: Threads + Sync, W: World, G: Gate>(
             cert.as_str(),
         ),
         Command::Certify { spec, trace, cert } => {
-            certify(alloc, keys, world, spec.as_str(), trace.as_str(), cert.as_str())
+            certify(
+                alloc,
+                keys,
+                world,
+                spec.as_str(),
+                trace.as_str(),
+                cert.as_str(),
+            )
         }
         Command::Trial {
             clocks,
@@ -107,7 +114,14 @@ fn answer_command<R: Threads + Sync, W: World, G: Gate>(
             relation,
         } => periodic(alloc, left, right, *relation),
         Command::Explain { spec, trace, cert } => {
-            explain(alloc, keys, world, spec.as_str(), trace.as_str(), cert.as_str())
+            explain(
+                alloc,
+                keys,
+                world,
+                spec.as_str(),
+                trace.as_str(),
+                cert.as_str(),
+            )
         }
         Command::Session { .. } => unreachable!(),
     }

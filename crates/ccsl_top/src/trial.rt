@@ -66,7 +66,16 @@ fn judged_steps<R: Threads + Sync, G: Gate>(
     ensures files { IfOk result (λ _. world.new.files ≡ world.old.files) }
 {
     simulated_traces_are_runs(system);
-    match ccsl_judge::judge(rt, alloc, keys, world, system, workers.max(1), gate, &LIMITS) {
+    match ccsl_judge::judge(
+        rt,
+        alloc,
+        keys,
+        world,
+        system,
+        workers.max(1),
+        gate,
+        &LIMITS,
+    ) {
         Ok(Verdict::Run(steps)) => Ok(steps),
         Ok(Verdict::Violated { .. }) => unreachable!(),
         Err(JudgeFault::Refused(_)) => unreachable!(),

@@ -48,12 +48,7 @@ impl Model for Feed {
 
 impl Feed {
     // With the limits by value, whose numbers are known to fit.
-    fn begin(
-        alloc: Global,
-        keys: HashKeys,
-        system: &System,
-        limits: Limits,
-    ) -> Result<Feed, Memory>
+    fn begin(alloc: Global, keys: HashKeys, system: &System, limits: Limits) -> Result<Feed, Memory>
         ensures unbound { IfOk result (λ feed. bound_of feed ≡ None) }
         ensures feeds { IfOk result (λ feed. (told : Told) (now : State) →
             Feeds told (wanted_of system.now) limits now now feed []) }
