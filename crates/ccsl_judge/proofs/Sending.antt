@@ -1,8 +1,11 @@
 -- A share may go to another thread: threads may share its system, and the rest of it is plain data.
 -- Each fact is named, since a search that goes down through all types at once runs out of steps.
 use denote.Ref.{NamedLft}
+use denote.RattleType.{RattleType}
 use denote.Param.Send.{IsSend, IsSync, sendable}
 use Rattle.std.proofs.Crossing.{crosses}
+use Rattle.std.specs.declared.hash.BuildHasher as BuildHasher
+use Rattle.std.specs.declared.hash.Hasher as Hasher
 use Rattle.ccsl_base.specs.contracts.clock_set.ClockSet as set
 use Rattle.ccsl_base.specs.contracts.names.Names as names
 use Rattle.ccsl_words.specs.contracts.word.Word as word
@@ -27,8 +30,9 @@ use Rattle.ccsl_relate.specs.contracts.readers.Readers as readers
 use Rattle.ccsl_relate.specs.contracts.monitor.Monitor as monitor
 use Rattle.ccsl_judge.specs.contracts.share.Share as share
 
-names_sync : IsSync (names.the_field).row
-names_sync = search (sendable, crosses) depth 40
+-- whatever their hasher
+names_sync : (S H : RattleType) (b : BuildHasher.Ghosts S.Denot H.Denot) (h : Hasher.Ghosts H.Denot) → IsSync S → IsSync (names.the_field S H b h).row
+names_sync S H b h s = search (sendable, crosses) depth 40
 
 word_sync : IsSync (word.the_field).row
 word_sync = search (sendable, crosses) depth 40
@@ -79,12 +83,11 @@ group_sync = let b = body_sync in search (sendable, crosses) depth 40
 
 parts_sync : IsSync (parts.the_field).row
 parts_sync =
-    let n = names_sync in
     let g = group_sync in
     let w = word_sync in
     let e = expr_sync in
     let c = constraint_sync in
-    search (sendable, crosses) depth 40
+    search (sendable, crosses, names_sync) depth 40
 
 system_sync : IsSync (system.the_field).row
 system_sync = let p = parts_sync in search (sendable, crosses) depth 40
