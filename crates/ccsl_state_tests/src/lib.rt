@@ -12,6 +12,8 @@ mod members;
 #[cfg(test)]
 mod parts;
 #[cfg(test)]
+mod portions;
+#[cfg(test)]
 mod postfix;
 #[cfg(test)]
 mod random;

@@ -43,7 +43,7 @@ const OPERATORS: [ExprOp; 10] = [
 ];
 
 /// A number below a bound.
-fn below(generator: &mut Pcg32, bound: u32) -> u32
+pub fn below(generator: &mut Pcg32, bound: u32) -> u32
     requires { 0 < bound }
     ensures { result < bound }
 {

@@ -16,7 +16,7 @@ pub fn assembled(alloc: Global, parts: Parts) -> Result<Option<System>, Memory> 
 }
 
 /// The set of the clocks that a text names by their letters.
-fn set_of(text: &str) -> ClockSet {
+pub fn set_of(text: &str) -> ClockSet {
     let mut set = ClockSet::empty();
     for letter in text.as_bytes() {
         match clock_number(*letter) {
