@@ -44,6 +44,26 @@ made-all IsWord i words old made past j =
     (λ l. subst (IsWord j) (sym (made.later j l)) (past j l))
     (cases_lt j i)
 
+-- the first word is made before the others
+made-first : (IsWord : ℕ → ℕ → Type 0) (word : ℕ) (old : List ℕ) → 0 < length old → IsWord 0 word → Made IsWord 1 (slice_set old 0 word) old
+made-first IsWord word old l is = made-next IsWord 0 word old old (made-none IsWord old) l is
+
+pub made-begun : (IsWord : ℕ → ℕ → Type 0) (word : ℕ) (old : List ℕ) → 0 < length old → IsWord 0 word → Made IsWord 1 (slice_set old 0 word) (slice_set old 0 word)
+made-begun IsWord word old l is = record { size = refl; done = (made-first IsWord word old l is).done; later = λ j m. refl }
+
+pub made-behind : (IsWord : ℕ → ℕ → Type 0) (i word : ℕ) (words old : List ℕ) → 0 < length old → IsWord 0 word → Made IsWord i words (slice_set old 0 word) →
+    ((j : ℕ) → i ≤ j → IsWord j (get_or old j 0)) → (length words ≡ length old) × ((j : ℕ) → IsWord j (get_or words j 0))
+made-behind IsWord i word words old l is made past =
+    let first = made-first IsWord word old l is in (
+      made.size ∙ length-set old 0 word,
+      made-all IsWord i words (slice_set old 0 word) made
+          (λ k m.
+          ⊎_elim
+          (λ n. first.done k n)
+          (λ n. subst (IsWord k) (sym (first.later k n)) (past k m))
+          (cases_lt k 1)),
+    )
+
 -- words are the same set where they are the same
 pub words-same : (words other : List ℕ) → length words ≡ length other → ((j : ℕ) → get_or words j 0 ≡ get_or other j 0) → members_of words ≡ members_of other
 words-same words other size same =

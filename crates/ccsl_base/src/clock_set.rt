@@ -12,7 +12,7 @@ use std::marker::Model;
 const WORDS: usize = 16;
 
 /// A set of clock numbers below [`MAX_CLOCKS`], as the clocks that tick in one step. A set whose members are small is
-/// walked in the words that it uses, not in all of them.
+/// walked in the words that it uses, not in all of them. Most sets use one word: where it counts that is done before the loop.
 #[derive(Drop)]
 pub struct ClockSet {
     // the words from here on are 0; it stands beside the first word, which most walks read next
@@ -137,7 +137,8 @@ impl ClockSet {
     pub fn copy_from(&mut self, other: &ClockSet)
         ensures { self.new ≡ other.now }
     {
-        for i in 0..self.used.max(other.used) {
+        self.words[0] = other.words[0];
+        for i in 1..self.used.max(other.used) {
             self.words[i] = other.words[i];
         }
         self.used = other.used;
@@ -148,7 +149,9 @@ impl ClockSet {
     pub fn copy_difference(&mut self, one: &ClockSet, other: &ClockSet)
         ensures { self.new ≡ difference one.now other.now }
     {
-        for i in 0..self.used.max(one.used) {
+        let first = word_without(one.words[0], other.words[0]);
+        self.words[0] = first;
+        for i in 1..self.used.max(one.used) {
             self.words[i] = word_without(one.words[i], other.words[i]);
         }
         self.used = one.used;
@@ -159,7 +162,11 @@ impl ClockSet {
     pub fn is_subset(&self, other: &ClockSet) -> bool
         ensures { IsTrue result ↔ (difference self.now other.now ≡ []) }
     {
-        for i in 0..self.used {
+        let first = word_without(self.words[0], other.words[0]);
+        if first != 0 {
+            return false;
+        }
+        for i in 1..self.used {
             if word_without(self.words[i], other.words[i]) != 0 {
                 return false;
             }

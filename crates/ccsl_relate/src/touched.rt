@@ -14,6 +14,9 @@ use std::alloc::Global;
 /// Fewer items are sooner looked at one by one.
 const FEWEST: usize = 16;
 
+/// So many items are looked at in the time that it takes to gather the places of one clock.
+const ITEMS_A_CLOCK: usize = 4;
+
 // The first item that fails, of those at some places behind `start`. The others of the group neither fail nor change.
 #[inline(always)]
 fn first_at(
@@ -100,7 +103,7 @@ pub(crate) fn first_read(
     ensures next { IfNone result (kept.new ≡ map (next_in step.now) kept.old) }
 {
     match readers {
-        Some(readers) if (step.len() as usize) < kept.len() / 2 => {
+        Some(readers) if (step.len() as usize) < kept.len() / ITEMS_A_CLOCK => {
             first_touched(kept, readers, ticks, step)
         }
         _ => first_failing(kept, ticks, step),

@@ -145,6 +145,6 @@ impl Marks {
         ensures { self.new ≡ map aged self.old }
     {
         self.earlier.copy_difference(&self.ones, &self.events);
-        self.ones.remove_all(&self.events);
+        self.ones.copy_from(&self.earlier);
     }
 }

@@ -1,10 +1,14 @@
 use Rattle.std.proofs.Common.{sym, ap₂, ◌∙◌, arith, refl}
 use Rattle.ccsl_base.specs.Clocks.{difference}
-use Rattle.ccsl_base.proofs.Differences.{made-none, made-next, made-all, zero-beyond, words-difference}
+use Rattle.ccsl_base.proofs.Differences.{made-next, made-begun, made-behind, zero-beyond, words-difference}
 use Rattle.ccsl_base.proofs.clock_set.ClockSet.copy_difference.Goals as goal
 
 pub loop-i-init : goal.loop-i-init
-loop-i-init c = record { same = refl; made = made-none _ _ }
+loop-i-init c = record {
+  same = refl;
+  made = made-begun _ _ c.self.inside.words (omega (arith, c.self.invariant.0))
+      (record { bits = c.word_without-first.ensures.bits; none = c.word_without-first.ensures.none });
+}
 
 pub loop-i-preserved : goal.loop-i-preserved
 loop-i-preserved c = record {
@@ -14,17 +18,18 @@ loop-i-preserved c = record {
 }
 
 pub invariant_of-self : goal.invariant_of-self
-invariant_of-self c = (
-  c.loop-i.invariant.made.size ∙ c.self.invariant.0,
-  c.one.invariant.1,
-  (λ j l. (made-all _ c.loop-i.i _ _ c.loop-i.invariant.made
-      (λ k m. zero-beyond _ _ _ (c.one.invariant.2 k (omega (arith, m, c.loop-i-test.false, c.max-i-end.ensures))) (c.self.invariant.2 k (omega (arith, m, c.loop-i-test.false, c.max-i-end.ensures))))
-      j).none (c.one.invariant.2 j l)),
-)
+invariant_of-self c =
+    let all =
+    made-behind _ c.loop-i.i _ c.loop-i.self-inside.words c.self.inside.words (omega (arith, c.self.invariant.0))
+    (record { bits = c.word_without-first.ensures.bits; none = c.word_without-first.ensures.none }) c.loop-i.invariant.made
+    (λ k m. zero-beyond _ _ _ (c.one.invariant.2 k (omega (arith, m, c.loop-i-test.false, c.max-i-end.ensures))) (c.self.invariant.2 k (omega (arith, m, c.loop-i-test.false, c.max-i-end.ensures)))) in
+    (all.0 ∙ c.self.invariant.0, c.one.invariant.1, λ j l. (all.1 j).none (c.one.invariant.2 j l))
 
 pub returns : goal.returns
 returns c =
-    words-difference c.loop-i.self-inside.words c.one.inside.words c.other.inside.words (c.loop-i.invariant.made.size ∙ c.self.invariant.0 ∙ sym c.one.invariant.0)
-    (made-all _ c.loop-i.i _ _ c.loop-i.invariant.made
-    (λ k m. zero-beyond _ _ _ (c.one.invariant.2 k (omega (arith, m, c.loop-i-test.false, c.max-i-end.ensures))) (c.self.invariant.2 k (omega (arith, m, c.loop-i-test.false, c.max-i-end.ensures)))))
+    let all =
+    made-behind _ c.loop-i.i _ c.loop-i.self-inside.words c.self.inside.words (omega (arith, c.self.invariant.0))
+    (record { bits = c.word_without-first.ensures.bits; none = c.word_without-first.ensures.none }) c.loop-i.invariant.made
+    (λ k m. zero-beyond _ _ _ (c.one.invariant.2 k (omega (arith, m, c.loop-i-test.false, c.max-i-end.ensures))) (c.self.invariant.2 k (omega (arith, m, c.loop-i-test.false, c.max-i-end.ensures)))) in
+    words-difference c.loop-i.self-inside.words c.one.inside.words c.other.inside.words (all.0 ∙ c.self.invariant.0 ∙ sym c.one.invariant.0) all.1
     ∙ ap₂ difference c.one.view_is c.other.view_is

@@ -1,7 +1,18 @@
 use Rattle.std.proofs.Common.{◌≡◌, true, false, refl, ◌∙◌, sym, ap₂, arith}
 use Rattle.ccsl_base.specs.Clocks.{difference}
-use Rattle.ccsl_base.proofs.Differences.{within-all, not-within}
+use Rattle.ccsl_base.proofs.Differences.{within-none, within-next, within-all, not-within}
 use Rattle.ccsl_base.proofs.clock_set.ClockSet.is_subset.Goals as goal
+
+pub returns-then-first-ne0 : goal.returns-then-first-ne0
+returns-then-first-ne0 c = (
+  (λ no. absurd (let e : false ≡ true = no in cc)),
+  (λ none. absurd (not-within 0 c.word_without-first.result c.self.inside.words c.other.inside.words c.if-first-ne0.true c.word_without-first.type_inv c.word_without-first.ensures.bits
+      (ap₂ difference c.self.view_is c.other.view_is ∙ none))),
+)
+
+pub loop-i-init : goal.loop-i-init
+loop-i-init c =
+    within-next 0 c.word_without-first.result c.self.inside.words c.other.inside.words (within-none c.self.inside.words c.other.inside.words) (omega (arith, c.if-first-ne0.false)) c.word_without-first.ensures.bits
 
 pub returns-then-word_without-ne0 : goal.returns-then-word_without-ne0
 returns-then-word_without-ne0 c = (
