@@ -3,6 +3,7 @@
 use crate::judged::{Answer, KEYS, WIDE, judges, system_of, trace_of, world};
 use ccsl_edge::{CallKind, Slot};
 use ccsl_judge::{JudgeFault, judge};
+use ccsl_kernel::System;
 use ccsl_pool::NoGate;
 use ccsl_vcd::VcdFault;
 use std::alloc::Global;
@@ -40,21 +41,23 @@ fn a_clock_that_is_not_there(rt: HostRuntime) -> Result<(), Fail> {
 fn with_failing<R: Threads + Sync>(
     rt: &R,
     alloc: Global,
+    system: &System,
+    trace: &str,
     number: u64,
 ) -> Result<(Answer, u64), Fail> {
-    let system = system_of(alloc, LINES)?;
-    let trace = trace_of(alloc, "a b", "#0 1\" #5 1!")?;
     let failing = vec![in alloc; (CallKind::Read, number)]?;
-    let mut world = world(alloc, trace.as_str(), failing, 1)?;
-    let answer = judge(rt, alloc, KEYS, &mut world, &system, 2, &NoGate, &WIDE);
+    let mut world = world(alloc, trace, failing, 1)?;
+    let answer = judge(rt, alloc, KEYS, &mut world, system, 2, &NoGate, &WIDE);
     Ok((answer, world.faults(Slot::Trace)))
 }
 
 // Each byte is read by one call, and the end by one more.
 #[test]
 fn each_read_that_fails_is_told(rt: HostRuntime) -> Result<(), Fail> {
+    let system = system_of(rt.alloc(), LINES)?;
+    let trace = trace_of(rt.alloc(), "a b", "#0 1\" #5 1!")?;
     for number in 1..79 {
-        let found = with_failing(&rt, rt.alloc(), number)?;
+        let found = with_failing(&rt, rt.alloc(), &system, trace.as_str(), number)?;
         assert_eq!(rt; found, (Err(JudgeFault::Fault), 1));
     }
     Ok(())

@@ -3,7 +3,7 @@
 ghost use Rattle.std.specs.Prelude.{◌≤◌};
 
 use crate::blocks::{ROWS, long_trace};
-use crate::judged::{answer_by, run, system_of, trace_of};
+use crate::judged::{Answer, answer_on, run, trace_of};
 use ccsl_pool::Gate;
 use std::alloc::Global;
 use std::process::Abort;
@@ -72,11 +72,9 @@ fn enters<R: Threads + Sync + Abort>(
 ) -> Result<(), Fail>
     requires { 1 ≤ workers }
 {
-    let system = system_of(alloc, PAIR)?;
     let gate = Counted::new();
-    let found = answer_by(rt, alloc, &system, trace, 4096, workers, &gate)?;
-    assert_eq!(rt; found, run(ROWS));
-    assert_eq!(rt; gate.seen(), seen);
+    let found = answer_on(rt, alloc, PAIR, trace, workers, &gate)?;
+    assert_eq!(rt; (found, gate.seen()), (run(ROWS), seen));
     Ok(())
 }
 
@@ -88,16 +86,19 @@ fn each_part_enters_once_for_each_block(rt: HostRuntime) -> Result<(), Fail> {
     enters(&rt, rt.alloc(), trace.as_str(), 16, (3, 3, 0))
 }
 
+// What two workers answer through a gate on a run of two rows.
+fn answer_through<R: Threads + Sync>(rt: &R, alloc: Global, gate: &Held) -> Result<Answer, Fail> {
+    let trace = trace_of(alloc, "a b", "#0 1! #5 1!")?;
+    answer_on(rt, alloc, PAIR, trace.as_str(), 2, gate)
+}
+
 #[test]
 fn two_shares_are_judged_side_by_side(rt: HostRuntime) -> Result<(), Fail> {
-    let alloc = rt.alloc();
-    let system = system_of(alloc, PAIR)?;
-    let trace = trace_of(alloc, "a b", "#0 1! #5 1!")?;
     let gate = Held {
         entered: [AtomicU64::new(0), AtomicU64::new(0)],
         gave_up: AtomicU64::new(0),
     };
-    let found = answer_by(&rt, alloc, &system, trace.as_str(), 4096, 2, &gate)?;
+    let found = answer_through(&rt, rt.alloc(), &gate)?;
     assert_eq!(rt; found, run(2));
     assert_eq!(rt; gate.gave_up.load(Ordering::SeqCst), 0);
     Ok(())

@@ -39,16 +39,21 @@ pub(crate) fn violated(step: u64, time: u64, item: u32) -> Answer {
     Ok(Verdict::Violated { step, time, item })
 }
 
-/// The system of these lines.
-pub(crate) fn system_of(alloc: Global, lines: &str) -> Result<System, Fail> {
-    let text = format!(in alloc; "ccsl 2; system {{ {lines} }}")?;
+// The system of a text.
+fn system_in(alloc: Global, text: &str) -> Result<System, Fail> {
     if text.len() as u64 > MAX_SPEC_BYTES {
         return Err(Fail::from("the text is long"));
     }
-    match read(alloc, text.as_str().as_bytes())? {
+    match read(alloc, text.as_bytes())? {
         Specification::Accepted(system) => Ok(system),
         Specification::Refused(_line) => Err(Fail::from("the text is refused")),
     }
+}
+
+/// The system of these lines.
+pub(crate) fn system_of(alloc: Global, lines: &str) -> Result<System, Fail> {
+    let text = format!(in alloc; "ccsl 2; system {{ {lines} }}")?;
+    system_in(alloc, text.as_str())
 }
 
 /// A trace of event variables of these names, which have the codes `!`, `"`, `#` and so on.
@@ -102,6 +107,21 @@ pub(crate) fn answer_by<R: Threads + Sync, G: Gate>(
 {
     let mut world = world(alloc, trace, Vec::new(alloc), piece)?;
     Ok(judge(rt, alloc, KEYS, &mut world, system, workers, gate, &WIDE))
+}
+
+/// What is answered on a trace where the system has these lines, by reads of many bytes.
+pub(crate) fn answer_on<R: Threads + Sync, G: Gate>(
+    rt: &R,
+    alloc: Global,
+    lines: &str,
+    trace: &str,
+    workers: u32,
+    gate: &G,
+) -> Result<Answer, Fail>
+    requires { 1 ≤ workers }
+{
+    let system = system_of(alloc, lines)?;
+    answer_by(rt, alloc, &system, trace, 4096, workers, gate)
 }
 
 // Asserts what is answered by one worker, two and sixteen.
