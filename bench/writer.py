@@ -1,9 +1,10 @@
-"""Measures how fast traces are written, beside cat and beside dd with reads and writes of 64 KiB.
+"""Measures how fast traces are written, beside copies of the result: by `cat`, by dd through a buffer of 64 KiB, and by `tr a a`,
+which reads and writes through buffers too but looks at each byte.
 
     (cd crates/ccsl_write_bench && rt run -- 2 3)     builds the program
     python3 bench/writer.py [STEPS]                   10,000,000 steps where it is not given
 
-A time is the processor time of a whole process that writes into a file, the least of three.
+A time is the processor time of a whole process that writes into a file, the least of five; the copies are made in turn.
 """
 import os
 import resource
@@ -15,12 +16,13 @@ from figures import note
 
 HERE = os.path.dirname(os.path.abspath(__file__))
 PROGRAM = os.path.join(HERE, "..", "crates", "ccsl_write_bench", "out", "ccsl_write_bench")
+COPIES = {"cat": ["cat"], "dd by 64 KiB": ["dd", "bs=64k", "status=none"], "tr": ["tr", "a", "a"]}
 
 
-def seconds(words, path):
+def seconds(words, source, target):
     before = resource.getrusage(resource.RUSAGE_CHILDREN)
-    with open(path, "wb") as out:
-        subprocess.run(words, stdout=out, check=True)
+    with open(source, "rb") as read, open(target, "wb") as written:
+        subprocess.run(words, stdin=read, stdout=written, check=True)
     after = resource.getrusage(resource.RUSAGE_CHILDREN)
     return after.ru_utime + after.ru_stime - before.ru_utime - before.ru_stime
 
@@ -29,15 +31,16 @@ def main():
     steps = sys.argv[1] if len(sys.argv) > 1 else "10000000"
     with tempfile.TemporaryDirectory() as folder:
         trace, copy = f"{folder}/trace.vcd", f"{folder}/copy.vcd"
-        own, cat, dd = [], [], []
-        for _ in range(3):
-            own.append(seconds([PROGRAM, "2", steps], trace))
-            cat.append(seconds(["cat", trace], copy))
-            dd.append(seconds(["dd", f"if={trace}", "bs=64k", "status=none"], copy))
+        own, copies = [], {name: [] for name in COPIES}
+        for _ in range(5):
+            own.append(seconds([PROGRAM, "2", steps], os.devnull, trace))
+            for name, words in COPIES.items():
+                copies[name].append(seconds(words, trace, copy))
         size = os.path.getsize(trace) / 1e6
-    print(f"{steps} steps of two clocks, {size:.0f} MB: {min(own):.2f} s; cat {min(cat):.2f} s, dd by 64 KiB {min(dd):.2f} s")
-    note("ccsl_vcd_write", f"a trace of {size:.0f} MB", "cat", processor=min(cat) / min(own))
-    note("ccsl_vcd_write", f"a trace of {size:.0f} MB", "dd by 64 KiB", processor=min(dd) / min(own))
+    told = ", ".join(f"{name} {min(times):.2f} s" for name, times in copies.items())
+    print(f"{steps} steps of two clocks, {size:.0f} MB: {min(own):.2f} s; {told}")
+    for name, times in copies.items():
+        note("ccsl_vcd_write", f"a trace of {size:.0f} MB", name, processor=min(times) / min(own))
 
 
 main()
