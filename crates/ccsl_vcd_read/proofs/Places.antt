@@ -1,6 +1,6 @@
 -- Codes in a table.
-use Rattle.std.proofs.Common.{◌≡◌, ℕ, zero, suc, ◌+◌, ◌-◌, ◌*◌, ◌<◌, ◌≤◌, List, [], ◌∷◌, length, Bool, true, false, ◌&&◌, nat_le, Some, cond, get_or, replicate, slice_set, refl, sym, ap, ◌∙◌, arith, ⊎_elim, subst}
-use Rattle.std.proofs.lemmas.List.{get_or-set_same, get_or-set_other}
+use Rattle.std.proofs.Common.{◌≡◌, ℕ, zero, suc, ◌+◌, ◌-◌, ◌*◌, ◌<◌, ◌≤◌, List, [], ◌∷◌, ◌++◌, length, take, Bool, true, false, ◌&&◌, nat_le, Some, cond, get_or, replicate, slice_set, refl, sym, ap, ◌∙◌, arith, ⊎_elim, subst}
+use Rattle.std.proofs.lemmas.List.{get_or-set_same, get_or-set_other, take_all}
 use Rattle.std.proofs.lemmas.Bool.{and_parts, cases_eq, leb-true}
 use Rattle.ccsl_bind.specs.Codes.{number_of}
 use Rattle.ccsl_vcd_read.specs.Places.{is_visible, SHORT, place_of, AreFound}
@@ -77,6 +77,19 @@ zeros (suc k) (suc i) d e = zeros k i d e
 
 pub none-found : (table : List ℕ) (codes : List (List ℕ)) → ((i : ℕ) → get_or table i 0 ≡ 0) → AreFound table codes
 none-found table codes h text n e = absurd (no-number n (sym (h (place_of text)) ∙ e))
+
+-- a longer table
+longer : (xs : List ℕ) (k i : ℕ) → get_or (xs ++ replicate k 0) i 0 ≡ get_or xs i 0
+longer [] k i = zeros k i 0 refl
+longer (x ∷ xs) k zero = refl
+longer (x ∷ xs) k (suc i) = longer xs k i
+
+pub grown : (ok : Bool) (old new : List ℕ) (n k i : ℕ) → length old ≤ n → new ≡ cond ok (take n old ++ replicate k 0) old → get_or new i 0 ≡ get_or old i 0
+grown true old new n k i l e = ap (λ ys. get_or ys i 0) (e ∙ ap (λ ys. ys ++ replicate k 0) (take_all n old l)) ∙ longer old k i
+grown false old new n k i l e = ap (λ ys. get_or ys i 0) e
+
+pub still-found : (old new : List ℕ) (codes : List (List ℕ)) → AreFound old codes → ((i : ℕ) → get_or new i 0 ≡ get_or old i 0) → AreFound new codes
+still-found old new codes h same text n e = h text n (sym (same (place_of text)) ∙ e)
 
 -- one more code was found
 pub one-found : (table : List ℕ) (codes : List (List ℕ)) (code : List ℕ) (p m : ℕ) → AreFound table codes → p ≡ place_of code → p < length table → p < SHORT → number_of code codes ≡ Some m → AreFound (slice_set table p (m + 1)) codes

@@ -1,7 +1,7 @@
 -- Tokens that are heard one after another.
-use Rattle.std.proofs.Common.{◌≡◌, ℕ, ◌+◌, ◌-◌, ◌≤◌, ◌<◌, List, [], ◌∷◌, ◌++◌, length, take, drop, get_or, Bool, true, false, not, Some, None, Result, Ok, Err, cond, zero, suc, nat_eq, ◌||◌, length-take-le, map, ◌⊎◌, inl, inr, fold, refl, sym, ap, ◌∙◌, subst, append_assoc, arith, length-append}
+use Rattle.std.proofs.Common.{◌≡◌, ℕ, ◌+◌, ◌-◌, ◌≤◌, ◌<◌, List, [], ◌∷◌, ◌++◌, length, take, drop, get_or, Bool, true, false, not, Some, None, Result, Ok, Err, cond, zero, suc, nat_eq, ◌||◌, length-take-le, map, ◌⊎◌, inl, inr, fold, refl, sym, ap, ◌∙◌, subst, append_assoc, arith, length-append, length-drop}
 use Rattle.std.specs.List.{prefix_len}
-use Rattle.std.proofs.lemmas.List.{append-nil, take_more}
+use Rattle.std.proofs.lemmas.List.{append-nil, take_more, drop-drop}
 use Rattle.std.proofs.lemmas.Bool.{eqb-true}
 use Rattle.std.proofs.Math.Seq.{take-add}
 use Rattle.ccsl_base.specs.declared.rows.Row.{Row}
@@ -140,17 +140,50 @@ front-word b c at end bytes x y e n l m s =
     (runs-word b c at (get_or bytes end 0) (take end bytes) x y (subst (λ i. Dark (take i bytes)) (sym e) (dark-front bytes)) (omega (arith, k, n)) (omega (arith, k, m))
     (subst (λ i. is_white (get_or bytes i 0) ≡ true) (sym e) (white-stop bytes (omega (arith, e, l)))) s)
 
--- a loop over a piece
-pub record RunsTo (old now : Body) (at : ℕ) (piece : List ℕ) (i room : ℕ) (before after : List Row) : Type 0 where
-  pub runs : Runs old now at (take i piece) before after
-  pub within : i ≤ length piece
-
 -- the rest of a piece, as a slice gives it
 pub runs-on : (a b c : Body) (at i n : ℕ) (piece rest : List ℕ) (x y z : List Row) → i ≤ length piece → rest ≡ drop i piece → Runs a b at (take i piece) x y → Runs b c (at + i) (take n rest) y z → Runs a c at (take (i + n) piece) x z
 runs-on a b c at i n piece rest x y z l e r s =
     let k : length (take i piece) ≡ i = length-take-le i piece l in
     subst (λ part. Runs a c at part x z) (ap (λ xs. take i piece ++ take n xs) e ∙ sym (take-add i n piece))
     (runs-both a b c at (take i piece) (take n rest) x y z r (subst (λ j. Runs b c (at + j) (take n rest) y z) (sym k) s))
+
+-- The bytes in front of the rest were heard.
+abbrev pub RunsBefore : Body → Body → ℕ → List ℕ → List ℕ → List Row → List Row → Type 0
+RunsBefore a b at piece rest x y = record {
+  runs : Runs a b at (take (length piece - length rest) piece) x y;
+  fits : length rest ≤ length piece;
+  rest : rest ≡ drop (length piece - length rest) piece;
+}
+
+pub runs-before-none : (a : Body) (at : ℕ) (piece : List ℕ) (x : List Row) → RunsBefore a a at piece piece x x
+runs-before-none a at piece x =
+    let zero_ : 0 ≡ length piece - length piece = omega arith in
+    record {
+      runs = subst (λ i. Runs a a at (take i piece) x x) zero_ (runs-none a at x);
+      fits = omega arith;
+      rest = ap (λ i. drop i piece) zero_;
+    }
+
+pub runs-before-more : (a b c : Body) (at k : ℕ) (piece rest more : List ℕ) (x y z : List Row) → RunsBefore a b at piece rest x y → k ≤ length rest
+    → Runs b c (at + (length piece - length rest)) (take k rest) y z → more ≡ drop k rest → RunsBefore a c at piece more x z
+runs-before-more a b c at k piece rest more x y z so within on cut =
+    let n : ℕ = length piece - length rest in
+    let len : length more ≡ length rest - k = ap length cut ∙ length-drop k rest in
+    let sum : n + k ≡ length piece - length more = omega (arith, so.fits, within, len) in
+    let fits : n ≤ length piece = omega arith in
+    record {
+      runs = subst (λ i. Runs a c at (take i piece) x z) sum (runs-on a b c at n k piece rest x y z fits so.rest so.runs on);
+      fits = omega (arith, so.fits, len);
+      rest = cut ∙ ap (drop k) so.rest ∙ drop-drop k n piece ∙ ap (λ i. drop i piece) sum;
+    }
+
+pub runs-before-end : (a b c : Body) (at k : ℕ) (piece rest : List ℕ) (x y z : List Row) → RunsBefore a b at piece rest x y
+    → Runs b c (at + (length piece - length rest)) (take k rest) y z → k ≡ 0 → Runs a c at (take (length piece - length rest) piece) x z
+runs-before-end a b c at k piece rest x y z so on none_ =
+    let n : ℕ = length piece - length rest in
+    let same : n + k ≡ n = omega (arith, none_) in
+    let fits : n ≤ length piece = omega arith in
+    subst (λ i. Runs a c at (take i piece) x z) same (runs-on a b c at n k piece rest x y z fits so.rest so.runs on)
 
 -- where nothing was done
 pub runs-still : (b c : Body) (at : ℕ) (x y : List Row) → c ≡ b → y ≡ x → Runs b c at [] x y

@@ -2,7 +2,7 @@
 use Rattle.std.proofs.Common.{◌≡◌, ℕ, suc, ◌+◌, ◌-◌, ◌<◌, ◌≤◌, ◌⊎◌, inl, inr, List, [], ◌∷◌, length, take, drop, get_or, map, Bool, true, false, not, nat_eq, ◌||◌, cond, Some, Ok, refl, sym, ap, ◌∙◌, subst, arith, length-drop, length-take-le}
 use Rattle.std.specs.List.{list_all, prefix_len}
 use Rattle.std.proofs.lemmas.Bool.{and_parts}
-use Rattle.std.proofs.lemmas.List.{append-nil}
+use Rattle.std.proofs.lemmas.List.{append-nil, drop-drop}
 use Rattle.std.proofs.lemmas.List.Sums.{prefix_len-le-length}
 use Rattle.std.proofs.Math.Seq.{take-add}
 use Rattle.ccsl_base.specs.declared.rows.Row.{Row}
@@ -43,6 +43,42 @@ made-both a b c i n bytes rest e p q = record {
   runs = λ at rows. runs-on a b c at i n bytes rest rows rows rows p.within e (p.runs at rows) (q.runs (at + i) rows);
   none = λ z. q.none (omega (arith, z)) ∙ p.none (omega (arith, z));
 }
+
+-- The changes in front of the rest.
+
+abbrev pub MadeTo : Body → Body → List ℕ → List ℕ → Type 0
+MadeTo a b bytes rest = record {
+  made : Made a b bytes (length bytes - length rest);
+  fits : length rest ≤ length bytes;
+  rest : rest ≡ drop (length bytes - length rest) bytes;
+}
+
+pub made-to-none : (a : Body) (bytes : List ℕ) → MadeTo a a bytes bytes
+made-to-none a bytes =
+    let zero_ : 0 ≡ length bytes - length bytes = omega arith in
+    record {
+      made = subst (Made a a bytes) zero_ (none-made a bytes);
+      fits = omega arith;
+      rest = ap (λ i. drop i bytes) zero_;
+    }
+
+pub made-to-more : (a b c : Body) (bytes rest more : List ℕ) (k : ℕ) → MadeTo a b bytes rest → Made b c rest k → more ≡ drop k rest → MadeTo a c bytes more
+made-to-more a b c bytes rest more k so on cut =
+    let n : ℕ = length bytes - length rest in
+    let len : length more ≡ length rest - k = ap length cut ∙ length-drop k rest in
+    let sum : n + k ≡ length bytes - length more = omega (arith, so.fits, on.within, len) in
+    record {
+      made = subst (Made a c bytes) sum (made-both a b c n k bytes rest so.rest so.made on);
+      fits = omega (arith, so.fits, len);
+      rest = cut ∙ ap (drop k) so.rest ∙ drop-drop k n bytes ∙ ap (λ i. drop i bytes) sum;
+    }
+
+-- where no more was made
+pub made-to-end : (a b c : Body) (bytes rest : List ℕ) (k : ℕ) → MadeTo a b bytes rest → Made b c rest k → k ≡ 0 → Made a c bytes (length bytes - length rest)
+made-to-end a b c bytes rest k so on none_ =
+    let n : ℕ = length bytes - length rest in
+    let same : n + k ≡ n = omega (arith, none_) in
+    subst (Made a c bytes) same (made-both a b c n k bytes rest so.rest so.made on)
 
 -- A change of a bit.
 

@@ -214,15 +214,15 @@ impl Body {
     fn changes(&mut self, bytes: &[u8]) -> usize
         ensures { Made self.old self.new bytes.now result }
     {
-        let mut from = 0;
-        while from < bytes.len() {
-            let taken = self.one_change(&bytes[from..]);
+        let mut rest = bytes;
+        while !rest.is_empty() {
+            let taken = self.one_change(rest);
             if taken == 0 {
-                return from;
+                return bytes.len() - rest.len();
             }
-            from += taken;
+            rest = &rest[taken..];
         }
-        from
+        bytes.len()
     }
 
     // Hears a time at the front of some bytes, with white space behind it. It answers how many bytes the
@@ -316,14 +316,15 @@ impl Body {
         ensures runs { Runs self.old self.new at (take result piece.now) out.old.rows out.new.rows }
         ensures room { out.new.room ≡ out.old.room }
     {
-        let mut from = 0;
-        while from < piece.len() && !out.is_full() {
-            let taken = self.step(at + from as u64, &piece[from..], out);
+        let mut rest = piece;
+        while !rest.is_empty() && !out.is_full() {
+            let from = piece.len() - rest.len();
+            let taken = self.step(at + from as u64, rest, out);
             if taken == 0 {
                 return from;
             }
-            from += taken;
+            rest = &rest[taken..];
         }
-        from
+        piece.len() - rest.len()
     }
 }

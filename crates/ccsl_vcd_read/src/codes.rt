@@ -1,6 +1,6 @@
 //! The declared codes, and a table of the short ones.
 
-ghost use Rattle.std.specs.Prelude.{◌≡◌, ◌<◌, ◌≤◌, ℕ, List, [], ◌∷◌, IfOk, IfSome, OnSome, Some, vec_len, map, get_or, length, true, false};
+ghost use Rattle.std.specs.Prelude.{◌≡◌, ◌<◌, ◌≤◌, ℕ, List, [], ◌∷◌, IfOk, IfSome, OnSome, Some, vec_len, vec_capacity, map, get_or, length, true, false};
 ghost use Rattle.ccsl_bind.specs.Codes.{number_of};
 ghost use Rattle.ccsl_vcd_lex.specs.Tokens.{is_white};
 ghost use Rattle.ccsl_vcd_read.specs.Places.{is_visible, place_of, IsCode};
@@ -18,12 +18,13 @@ const SHORT: usize = 839_514;
 #[derive(Drop)]
 pub(crate) struct Codes {
     binding: Binding,
-    // at the place of a code one more than its number, and 0 before it is found
+    // at the place of a code one more than its number, and 0 before it is found; it has room for all places from the start,
+    // and is as long as the codes that were found ask
     table: Vec<u32>,
 }
 
 impl Model for Codes {
-    ghost use Rattle.std.specs.Prelude.{◌≡◌, vec_len};
+    ghost use Rattle.std.specs.Prelude.{◌≤◌, vec_len, vec_capacity};
     ghost use Rattle.ccsl_bind.specs.Bindings.{Bindings};
     ghost use Rattle.ccsl_vcd_read.specs.Places.{AreFound};
 
@@ -31,7 +32,7 @@ impl Model for Codes {
 
     ghost view = { λ c. c.binding };
 
-    ghost invariant = { λ c. (vec_len c.table ≡ 839514) × AreFound c.table.items c.binding.codes };
+    ghost invariant = { λ c. (vec_len c.table ≤ 839514) × (839514 ≤ vec_capacity c.table) × AreFound c.table.items c.binding.codes };
 }
 
 #[inline(always)]
@@ -125,12 +126,17 @@ pub(crate) fn code_at_front(bytes: &[u8]) -> Placed
     }
 }
 
-// A table without a code.
-fn empty_table(alloc: Global, places: usize) -> Result<Vec<u32>, Memory>
-    ensures len { IfOk result (λ t. vec_len t ≡ places) }
-    ensures empty { IfOk result (λ t. (i : ℕ) → get_or t.items i 0 ≡ 0) }
+// Makes a table reach a place, within its room.
+fn reach(table: &mut Vec<u32>, place: usize)
+    requires { place < vec_capacity table.old }
+    ensures reaches { place < vec_len table.new }
+    ensures most { place < 839514 → vec_len table.old ≤ 839514 → vec_len table.new ≤ 839514 }
+    ensures room { vec_capacity table.old ≤ vec_capacity table.new }
+    ensures same { (i : ℕ) → get_or table.new.items i 0 ≡ get_or table.old.items i 0 }
 {
-    Ok(vec![in alloc; 0u32; places]?)
+    if place >= table.len() {
+        let _ = table.resize(place + 1, 0);
+    }
 }
 
 impl Codes {
@@ -138,7 +144,7 @@ impl Codes {
     pub(crate) fn new(alloc: Global, binding: Binding) -> Result<Codes, Memory>
         ensures { IfOk result (λ c. c ≡ binding) }
     {
-        let table = empty_table(alloc, SHORT)?;
+        let table = Vec::with_capacity(alloc, SHORT)?;
         Ok(Codes { binding, table })
     }
 
@@ -148,7 +154,7 @@ impl Codes {
         ensures number { IfSome result (λ n. (code : List ℕ) → place ≡ place_of code → number_of code self.now.codes ≡ Some n) }
         ensures below { OnSome result (place < 839514) }
     {
-        if place >= SHORT {
+        if place >= SHORT || place >= self.table.len() {
             return None;
         }
         let next = self.table[place];
@@ -161,6 +167,7 @@ impl Codes {
         ensures { self.new ≡ self.old }
     {
         if place < SHORT && number < u32::MAX {
+            reach(&mut self.table, place);
             self.table[place] = number + 1;
         }
     }

@@ -27,12 +27,15 @@ fn put_in(now: &mut ClockSet, slot: Slot, one: bool, dumped: bool)
     requires { slot.clock < MAX_CLOCKS }
     ensures { now.new ≡ put_in slot one dumped now.old }
 {
-    if !(slot.event && dumped) {
-        now.put(slot.clock, one || slot.event);
+    if !slot.event {
+        now.put(slot.clock, one);
+    } else if !dumped {
+        now.insert(slot.clock);
     }
 }
 
-// The same for each clock that has a code.
+// The same for each clock that has a code. It is a call, so that the loop over changes stays small.
+#[inline(never)]
 fn put_all(now: &mut ClockSet, slots: &[Slot], code: u32, one: bool, dumped: bool)
     requires { IsTrue (are_below MAX_CLOCKS (map (λ s. s.clock) slots.now)) }
     ensures { now.new ≡ put_all code one dumped slots.now now.old }

@@ -1,20 +1,16 @@
-use Rattle.std.proofs.Common.{◌+◌, ◌≡◌, subst, arith}
-use Rattle.ccsl_vcd_read.specs.Run.{Made}
 use Rattle.ccsl_vcd_read.proofs.Feeding.{rest-is}
-use Rattle.ccsl_vcd_read.proofs.ShortChanges.{none-made, made-both}
+use Rattle.ccsl_vcd_read.proofs.ShortChanges.{made-to-none, made-to-more, made-to-end}
 use Rattle.ccsl_vcd_read.proofs.body.Body.changes.Goals as goal
 
-pub loop-from-init : goal.loop-from-init
-loop-from-init c = none-made c.args.self.now c.args.bytes.now
+pub loop-rest-init : goal.loop-rest-init
+loop-rest-init c = made-to-none c.args.self.now c.args.bytes.now
 
-pub loop-from-preserved : goal.loop-from-preserved
-loop-from-preserved c =
-    made-both c.args.self.now c.loop-from.self c.one_change-taken.new.self c.loop-from.from c.one_change-taken.result c.args.bytes.now _ (rest-is c.loop-from.from c.args.bytes.now)
-    c.loop-from.invariant c.one_change-taken.ensures
+pub loop-rest-preserved : goal.loop-rest-preserved
+loop-rest-preserved c =
+    made-to-more c.args.self.now c.loop-rest.self c.one_change-taken.new.self c.args.bytes.now c.loop-rest.rest.now _ c.one_change-taken.result
+    c.loop-rest.invariant c.one_change-taken.ensures (rest-is c.one_change-taken.result c.loop-rest.rest.now)
 
 pub returns-then-taken-eq0 : goal.returns-then-taken-eq0
 returns-then-taken-eq0 c =
-    let k : c.loop-from.from + c.one_change-taken.result ≡ c.loop-from.from = omega (arith, c.if-taken-eq0.true) in
-    subst (Made c.args.self.now c.one_change-taken.new.self c.args.bytes.now) k
-    (made-both c.args.self.now c.loop-from.self c.one_change-taken.new.self c.loop-from.from c.one_change-taken.result c.args.bytes.now _ (rest-is c.loop-from.from c.args.bytes.now)
-    c.loop-from.invariant c.one_change-taken.ensures)
+    made-to-end c.args.self.now c.loop-rest.self c.one_change-taken.new.self c.args.bytes.now c.loop-rest.rest.now c.one_change-taken.result
+    c.loop-rest.invariant c.one_change-taken.ensures c.if-taken-eq0.true

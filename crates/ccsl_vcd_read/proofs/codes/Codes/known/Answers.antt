@@ -8,8 +8,8 @@ pub returns-else-next-eq0-clause-number : goal.returns-else-next-eq0-clause-numb
 returns-else-next-eq0-clause-number c code at =
     let table = c.self.inside.table.items in
     let next = c.index-next.result.now in
-    let l : c.args.place < length table = omega (arith, c.if-place-ge-SHORT.false, c.self.invariant.0) in
+    let l : c.args.place < length table = omega (arith, c.if-place-len.false) in
     let e : get_or table c.args.place 0 ≡ next = sym (c.index-next.ensures ∙ get_or_default table c.args.place next 0 l) in
     let some : next ≡ suc (next - 1) = omega (arith, c.if-next-eq0.false) in
     ap (λ (v : Bindings). number_of code v.codes) (sym c.self.view_is)
-    ∙ c.self.invariant.1 code (next - 1) (ap (λ i. get_or table i 0) (sym at) ∙ e ∙ some)
+    ∙ c.self.invariant.2 code (next - 1) (ap (λ i. get_or table i 0) (sym at) ∙ e ∙ some)
