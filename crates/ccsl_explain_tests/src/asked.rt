@@ -1,10 +1,10 @@
 //! Explanations and certificates, asked for where the conditions hold.
 
-use crate::below::are_below;
 use ccsl_base::{ClockSet, MAX_CLOCKS, Memory, Seq};
 use ccsl_explain::{Explained, explain};
 use ccsl_formula::{Formula, Scope};
 use ccsl_refute::{CheckFault, Line, check};
+use ccsl_solve_tests::below::are_below;
 use std::alloc::Global;
 
 /// Why no step is possible.

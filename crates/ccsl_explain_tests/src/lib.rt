@@ -2,9 +2,7 @@
 #![tactic(auto)]
 
 pub mod asked;
-pub mod below;
 pub mod plain;
-pub mod random;
 #[cfg(test)]
 mod rows;
 #[cfg(test)]

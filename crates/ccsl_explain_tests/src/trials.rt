@@ -2,9 +2,9 @@
 
 use crate::asked::{Asked, Reasons, cite_only, explained, is_certified};
 use crate::plain::{bits_of, core_of, has_less, is_step, items_of, least};
-use crate::random::formulas;
 use ccsl_base::Memory;
 use ccsl_formula::{Formula, Scope};
+use ccsl_solve_tests::random::formulas;
 use rand_pcg::Pcg32;
 use std::alloc::Global;
 use std::test::*;

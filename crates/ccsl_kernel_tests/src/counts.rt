@@ -1,8 +1,8 @@
 //! Numbers of clocks and definitions, and names, that are accepted, and such that are not.
 
-use crate::parts::{add_name, parts};
 use ccsl_base::{MAX_CLOCKS, Memory, Names};
 use ccsl_kernel::Parts;
+use ccsl_small_systems::parts::{add_name, parts};
 use std::alloc::Global;
 use std::test::*;
 

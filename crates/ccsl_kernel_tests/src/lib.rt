@@ -8,10 +8,6 @@ mod library;
 #[cfg(test)]
 mod limits;
 #[cfg(test)]
-mod parts;
-#[cfg(test)]
-mod postfix;
-#[cfg(test)]
 mod refused;
 #[cfg(test)]
 mod relations;

@@ -1,7 +1,7 @@
 //! The expressions of the library, each built by hand.
 
-use crate::parts::parts;
 use crate::run::ticks_of;
+use ccsl_small_systems::parts::parts;
 use std::alloc::Global;
 use std::test::*;
 

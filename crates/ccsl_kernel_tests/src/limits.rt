@@ -1,9 +1,9 @@
 //! The limits of depth, levels, constraints and cells.
 
-use crate::parts::{constraints, parts};
 use crate::run::cells_of;
 use ccsl_base::Memory;
 use ccsl_kernel::RelationKind;
+use ccsl_small_systems::parts::{constraints, parts};
 use std::alloc::Global;
 use std::string::String;
 use std::test::*;

@@ -1,7 +1,7 @@
 //! Members of groups, definitions and constraints that are accepted, and such that are not.
 
-use crate::parts::{constraints, parts};
 use ccsl_kernel::RelationKind;
+use ccsl_small_systems::parts::{constraints, parts};
 use std::test::*;
 
 #[test]

@@ -1,8 +1,8 @@
 //! At which steps the formulas of constraints hold.
 
-use crate::parts::{constraints, parts};
 use crate::run::holding_of;
 use ccsl_kernel::RelationKind;
+use ccsl_small_systems::parts::{constraints, parts};
 use std::alloc::Global;
 use std::test::*;
 

@@ -3,9 +3,9 @@
 ghost use Rattle.std.specs.Prelude.{◌<◌};
 ghost use Rattle.ccsl_kernel.specs.Syntax.{item_count};
 
-use crate::postfix::clock_number;
 use ccsl_base::{ClockSet, MAX_CLOCKS, Memory};
 use ccsl_kernel::{Parts, System, plain_formula};
+use ccsl_small_systems::postfix::clock_number;
 use std::alloc::Global;
 
 /// The system of some parts, and none where they are not accepted.

@@ -1,7 +1,7 @@
 //! When the clock x of a definition ticks, and the clock y that follows it and, once x is dead, the clock c.
 
-use crate::parts::parts;
 use crate::run::ticks_of;
+use ccsl_small_systems::parts::parts;
 use std::alloc::Global;
 use std::test::*;
 

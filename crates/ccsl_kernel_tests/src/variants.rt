@@ -1,9 +1,9 @@
 //! Choices by each test, and calls with each kind of argument: when x ticks, and y that follows it and, once x is dead,
 //! the clock c.
 
-use crate::parts::{parts, parts_of_group};
 use crate::run::ticks_of;
 use ccsl_kernel::Parts;
+use ccsl_small_systems::parts::{parts, parts_of_group};
 use std::alloc::Global;
 use std::test::*;
 

@@ -1,9 +1,9 @@
 //! Systems at the limits: many definitions, each over the one before, and a row of just as many cells as are allowed.
 
-use crate::parts::{add_name, parts};
 use crate::steps::{assembled, sets_of};
 use ccsl_base::{MAX_CELLS, Memory, Names, Seq};
 use ccsl_kernel::{Expr, ExprOp, Parts, Place};
+use ccsl_small_systems::parts::{add_name, parts};
 use ccsl_state::States;
 use std::alloc::Global;
 use std::test::*;

@@ -10,11 +10,7 @@ mod large;
 #[cfg(test)]
 mod members;
 #[cfg(test)]
-mod parts;
-#[cfg(test)]
 mod portions;
-#[cfg(test)]
-mod postfix;
 #[cfg(test)]
 mod random;
 #[cfg(test)]

@@ -1,9 +1,9 @@
 //! Calls: a period that grows, members that call one another in tail positions, and words by `tail` to their end.
 
 use crate::alike::agree;
-use crate::parts::parts_of_group;
 use crate::rows::found;
 use crate::steps::{assembled, both_tick, sets_of};
+use ccsl_small_systems::parts::parts_of_group;
 use std::test::*;
 
 // period(c, n) is (c await n) then period(c, n + 1)

@@ -3,11 +3,11 @@
 ghost use Rattle.std.specs.Prelude.{◌≡◌, ◌<◌, ◌≤◌, true};
 ghost use Rattle.ccsl_base.specs.Clocks.{are_below};
 
-use crate::parts::parts;
 use crate::random::{below, system};
 use crate::steps::{assembled, set_of};
 use ccsl_base::{ClockSet, MAX_CLOCKS, Memory};
 use ccsl_kernel::System;
+use ccsl_small_systems::parts::parts;
 use ccsl_state::{Part, States};
 use rand_pcg::Pcg32;
 use std::alloc::Global;

@@ -2,12 +2,12 @@
 
 ghost use Rattle.std.specs.Prelude.{◌<◌, ◌≤◌};
 
-use crate::parts::parts;
 use ccsl_base::{ClockSet, Memory, Seq, Text};
 use ccsl_kernel::{
     Constraint, Expr, ExprOp, ExprTest, NumPrim, NumTerm, Parts, Place, RelationKind, Value,
     WordPlace,
 };
+use ccsl_small_systems::parts::parts;
 use rand_core::utils::NextWord;
 use rand_pcg::Pcg32;
 use std::alloc::Global;

@@ -1,8 +1,8 @@
 //! The rows of the table worked by hand: when the clock x of a definition ticks, and the clock y of `x then c`.
 
 use crate::alike::agree;
-use crate::parts::parts;
 use crate::steps::{assembled, both_tick, sets_of};
+use ccsl_small_systems::parts::parts;
 use std::alloc::Global;
 use std::test::*;
 

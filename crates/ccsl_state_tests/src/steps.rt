@@ -1,8 +1,8 @@
 //! Lists of declared ticks, and how the states of a system go on by them.
 
-use crate::postfix::clock_number;
 use ccsl_base::{ClockSet, MAX_CLOCKS, Memory};
 use ccsl_kernel::{Parts, System};
+use ccsl_small_systems::postfix::clock_number;
 use ccsl_state::States;
 use std::alloc::Global;
 

@@ -5,7 +5,6 @@ use ccsl_base::{Memory, Names, Seq, Text};
 use ccsl_kernel::{Body, Constraint, Expr, Group, ParamKind, Parts, RelationKind};
 use ccsl_words::Word;
 use std::alloc::Global;
-use std::test::Fail;
 
 /// Adds a name that is not there yet.
 pub fn add_name(names: &mut Names, name: &[u8]) -> Result<(), Memory> {
@@ -24,10 +23,18 @@ fn letters(alloc: Global, count: usize) -> Result<Names, Memory> {
     Ok(names)
 }
 
-fn words(alloc: Global) -> Result<Vec<Word>, Fail> {
+/// The word of a text that is one: nothing but memory can be wanting.
+fn word(alloc: Global, text: &str) -> Result<Word, Memory> {
+    match Word::read(alloc, text.as_bytes()) {
+        Ok(word) => Ok(word),
+        Err(_) => Err(Memory),
+    }
+}
+
+fn words(alloc: Global) -> Result<Vec<Word>, Memory> {
     let mut words = Vec::new(alloc);
     for text in ["101", "(10)"] {
-        words.push(Word::read(alloc, text.as_bytes())?)?;
+        words.push(word(alloc, text)?)?;
     }
     Ok(words)
 }
@@ -83,7 +90,7 @@ fn definitions(alloc: Global, list: &[&str]) -> Result<Vec<Expr>, Memory> {
 }
 
 /// The parts with groups, and with definitions of x, y and further clocks.
-pub fn parts(alloc: Global, groups: &[(&str, &str)], defined: &[&str]) -> Result<Parts, Fail> {
+pub fn parts(alloc: Global, groups: &[(&str, &str)], defined: &[&str]) -> Result<Parts, Memory> {
     let names = letters(alloc, defined.len().saturating_add(3))?;
     let written = names.len();
     let groups = Seq::new(self::groups(alloc, groups)?);
@@ -105,7 +112,7 @@ pub fn parts_of_group(
     alloc: Global,
     members: &[(&str, &str)],
     defined: &[&str],
-) -> Result<Parts, Fail> {
+) -> Result<Parts, Memory> {
     let mut parts = parts(alloc, &[], defined)?;
     let mut groups = Vec::new(alloc);
     groups.push(group(alloc, members)?)?;
