@@ -9,6 +9,3 @@ pub mod fault;
 pub use binder::Binder;
 pub use binding::Binding;
 pub use fault::BindFault;
-
-#[cfg(test)]
-mod tests;

@@ -15,6 +15,3 @@ pub use pairs::Pairs;
 pub use partial::Partial;
 pub use scope::Scope;
 pub use truth3::Truth3;
-
-#[cfg(test)]
-mod tests;

@@ -13,6 +13,3 @@ pub use ccsl_base::Reserved;
 pub use fault::LexFault;
 pub use lexer::tokens;
 pub use token::{Token, TokenKind};
-
-#[cfg(test)]
-mod tests;

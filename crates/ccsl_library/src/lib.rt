@@ -6,6 +6,3 @@ pub mod laws;
 mod source;
 
 pub use source::{TEXT, library};
-
-#[cfg(test)]
-mod tests;

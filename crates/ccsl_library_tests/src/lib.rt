@@ -3,3 +3,5 @@
 
 #[cfg(test)]
 mod members;
+#[cfg(test)]
+mod printed;

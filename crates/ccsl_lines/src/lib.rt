@@ -11,6 +11,3 @@ pub use reader::{LineReader, Next};
 
 /// The most bytes of a line, its line feed not counted, a carriage return before it counted.
 pub const MAX_LINE_BYTES: usize = 65_536;
-
-#[cfg(test)]
-mod tests;

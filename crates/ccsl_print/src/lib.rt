@@ -11,7 +11,5 @@ mod list;
 mod page;
 mod printer;
 mod term;
-#[cfg(test)]
-mod tests;
 
 pub use printer::print;

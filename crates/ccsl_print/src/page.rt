@@ -127,10 +127,3 @@ impl Page {
         Ok(())
     }
 }
-
-#[cfg(test)]
-impl Page {
-    pub fn bytes(&self) -> &[u8] {
-        self.text.as_slice()
-    }
-}

@@ -11,6 +11,10 @@ fn expressions_are_read(rt: HostRuntime) -> Result<(), Fail> {
         ("((a))", "a"),
         ("e()", "e()"),
         ("e(1,\"01\",tail w)", "e(1, \"01\", tail w)"),
+        (
+            "f(n-0+4294967295,\"0(1)\")",
+            "f(n - 0 + 4294967295, \"0(1)\")",
+        ),
         ("a union b", "a union b"),
         ("a inter b", "a inter b"),
         ("a minus b", "a minus b"),

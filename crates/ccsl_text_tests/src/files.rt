@@ -66,6 +66,10 @@ fn definitions_are_read(rt: HostRuntime) -> Result<(), Fail> {
         ),
         ("expression e()=never;", "expression e() = never;\n"),
         (
+            "expression f()=never and g(number n)=never;",
+            "expression f() = never and g(number n) = never;\n",
+        ),
+        (
             "expression e(clock c)=c and f()=e(f)and g()=g;",
             "expression e(clock c) = c and f() = e(f) and g() = g;\n",
         ),

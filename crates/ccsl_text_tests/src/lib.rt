@@ -12,4 +12,6 @@ mod files;
 #[cfg(test)]
 mod lines;
 #[cfg(test)]
+mod tokens;
+#[cfg(test)]
 mod versions;

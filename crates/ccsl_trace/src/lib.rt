@@ -10,6 +10,3 @@ pub use fault::TraceFault;
 pub use feed::Feed;
 pub use next::Next;
 pub use pending::PIECE;
-
-#[cfg(test)]
-mod tests;

@@ -4,6 +4,8 @@
 #[cfg(test)]
 mod body;
 #[cfg(test)]
+mod counts;
+#[cfg(test)]
 mod header;
 #[cfg(test)]
 mod listing;

@@ -7,4 +7,3 @@ pub mod Told
 pub mod Pieces
 pub mod Further
 pub mod Longest
-pub mod Rooms

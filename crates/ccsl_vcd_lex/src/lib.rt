@@ -8,6 +8,3 @@ pub mod tokenizer;
 
 pub use span::{Fed, Span, TokenTooLong};
 pub use tokenizer::Tokenizer;
-
-#[cfg(test)]
-mod tests;

@@ -8,6 +8,3 @@ pub mod word;
 
 pub use fault::WordFault;
 pub use word::Word;
-
-#[cfg(test)]
-mod tests;

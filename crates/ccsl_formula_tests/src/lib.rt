@@ -1,0 +1,5 @@
+//! Formulas and partial assignments against tables.
+#![tactic(auto)]
+
+#[cfg(test)]
+mod tables;

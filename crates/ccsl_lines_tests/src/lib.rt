@@ -1,0 +1,5 @@
+//! Lines pulled from inputs in memory.
+#![tactic(auto)]
+
+#[cfg(test)]
+mod lines;

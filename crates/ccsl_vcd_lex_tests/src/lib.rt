@@ -1,0 +1,5 @@
+//! Tokens of texts, over several cuttings.
+#![tactic(auto)]
+
+#[cfg(test)]
+mod cuttings;

@@ -1,0 +1,5 @@
+//! Binary words and their texts.
+#![tactic(auto)]
+
+#[cfg(test)]
+mod words;
