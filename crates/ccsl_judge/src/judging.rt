@@ -141,7 +141,8 @@ impl<'s> Judging<'s> {
 
 /// Judges what is left of the trace against a system. It is read to its end also behind a violation, and a fault of it comes
 /// before a verdict. The items are divided among as many shares as the lesser of `workers` and their number, each of which takes
-/// every block in a part of the work of its own. Memory is taken before the first row.
+/// every block in a part of the work of its own. A share has neighbouring items, and costs about as much as another: the definition of
+/// a clock that is not recorded costs nothing, a constraint between declared clocks little. Memory is taken before the first row.
 pub fn judge<R: Threads + Sync, W: World, G: Gate>(
     rt: &R,
     alloc: Global,

@@ -5,6 +5,7 @@ pub mod judging;
 mod share;
 mod shares;
 pub mod verdict;
+mod weights;
 
 pub use judging::{JudgeFault, judge};
 pub use verdict::Verdict;

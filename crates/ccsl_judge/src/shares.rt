@@ -8,6 +8,7 @@ ghost use Rattle.ccsl_judge.specs.Shares.{earlier};
 ghost use Rattle.ccsl_judge.specs.Divided.{FollowAll};
 
 use crate::share::Share;
+use crate::weights::{Cut, next_cut, weight_of_all};
 use ccsl_base::{Block, ClockSet, Memory};
 use ccsl_kernel::System;
 use ccsl_pool::{Gate, check_all};
@@ -15,8 +16,8 @@ use ccsl_relate::Violation;
 use std::alloc::Global;
 use std::thread::Threads;
 
-/// Opens as many shares as the lesser of `workers` and the number of items. Each has neighbouring items, and their numbers of items
-/// differ by at most one.
+/// Opens as many shares as the lesser of `workers` and the number of items. Each has neighbouring items, one at least, and weighs
+/// about as much as another.
 pub(crate) fn open_shares<'s>(
     alloc: Global,
     system: &'s System,
@@ -26,14 +27,15 @@ pub(crate) fn open_shares<'s>(
     requires { 1 ≤ workers }
     ensures { IfOk result (λ v. FollowAll system.now bound.now [] v.items) }
 {
-    let items = system.items();
-    let count = workers.min(items);
+    let count = workers.min(system.items());
+    let all = weight_of_all(system, bound);
     let mut shares = Vec::with_capacity(alloc, count as usize)?;
-    let mut start = 0;
+    let mut cut = Cut { item: 0, weight: 0 };
     for done in 0..count {
-        let size = (items - start) / (count - done);
-        shares.push(Share::open(alloc, system, start, size, bound)?)?;
-        start += size;
+        let next = next_cut(system, bound, cut, count - done, all);
+        let size = next.item - cut.item;
+        shares.push(Share::open(alloc, system, cut.item, size, bound)?)?;
+        cut = next;
     }
     Ok(shares)
 }

@@ -13,7 +13,7 @@ use Rattle.ccsl_kernel.proofs.Bounded.{clocks_bounded}
 use Rattle.ccsl_relate.specs.declared.watched.Related.{Related}
 use Rattle.ccsl_relate.specs.declared.watched.Watched.{Watched}
 use Rattle.ccsl_relate.specs.declared.watched.Watched.TheVariants.{Nothing, Definition, Relation}
-use Rattle.ccsl_relate.specs.Few.{HasRoom}
+use Rattle.ccsl_relate.specs.Few.{HasRoom, HasRoomFor}
 use Rattle.ccsl_relate.specs.Watching.{are_sets, IsRelation, Keeps, counted, counted_on, related_formula, fails_in, next_in}
 use Rattle.ccsl_relate.proofs.History.{X-more, X-length, last-step, last-row, sets-snoc, definition-holds, constraint-holds, count-more}
 
@@ -104,3 +104,13 @@ module _ (K : System) (ok : IsAccepted K) (recorded : List ℕ) (i : ℕ) (rows 
   keeps-room l Nothing f = tt
   keeps-room l (Definition clock) f = tt
   keeps-room l (Relation r) f = counts-few r f l
+
+-- the counts are fewer than the rows, and leave room for more
+pub keeps-room-for : (K : System) → IsAccepted K → (recorded : List ℕ) (i : ℕ) (rows : List Row) (n : ℕ) → length rows + n < 2 ^ 64 → (w : Watched) → Keeps K recorded (completed_rows K rows) i w → HasRoomFor n w
+keeps-room-for K ok recorded i rows n few Nothing f = tt
+keeps-room-for K ok recorded i rows n few (Definition clock) f = tt
+keeps-room-for K ok recorded i rows n few (Relation r) f =
+    let T = completed_rows K rows in
+    let a = clocks_bounded T f.of.left (length T) in
+    let b = clocks_bounded T f.of.right (length T) in
+    (omega (arith, a, f.left_count, X-length K rows, few), omega (arith, b, f.right_count, X-length K rows, few))

@@ -14,3 +14,6 @@ pub mod Quiet
 pub mod Ranges
 pub mod Walking
 pub mod Told
+pub mod ByRows
+pub mod Earliest
+pub mod Through

@@ -11,7 +11,7 @@ use Rattle.ccsl_relate.specs.Watching.{fails_in, next_in, FailsFirst}
 use Rattle.ccsl_relate.specs.Reading.{clocks_of, IsQuiet, FailsFrom, GoesOn}
 
 -- a step changes none of the clocks that an item reads
-clocks_of-next : (s : Step) (w : Watched) → clocks_of (next_in s w) ≡ clocks_of w
+pub clocks_of-next : (s : Step) (w : Watched) → clocks_of (next_in s w) ≡ clocks_of w
 clocks_of-next s Nothing = refl
 clocks_of-next s (Definition clock) = refl
 clocks_of-next s (Relation r) = refl

@@ -3,3 +3,4 @@ pub mod Few
 pub mod Watching
 pub mod Reading
 pub mod Following
+pub mod Alone

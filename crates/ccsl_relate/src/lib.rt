@@ -1,6 +1,7 @@
 //! Monitors: the first row of a trace at which one of some items of a system is violated.
 #![tactic(auto)]
 
+mod alone;
 pub mod monitor;
 mod readers;
 mod relation;

@@ -1,12 +1,13 @@
 //! Monitors of neighbouring items.
 
-ghost use Rattle.std.specs.Prelude.{◌≡◌, ℕ, ◌+◌, ◌<◌, ◌≤◌, ◌^◌, List, [], ◌∷◌, ◌++◌, length, IfOk, IsSome};
+ghost use Rattle.std.specs.Prelude.{◌≡◌, ℕ, ◌+◌, ◌<◌, ◌≤◌, ◌^◌, List, [], ◌∷◌, ◌++◌, length, None, IfOk, IsSome};
 ghost use Rattle.ccsl_base.specs.declared.rows.Row.{Row};
 ghost use Rattle.ccsl_kernel.specs.Syntax.{item_count};
 ghost use Rattle.ccsl_relate.specs.Violations.{Finds};
 ghost use Rattle.ccsl_relate.specs.Watching.{StandsFor, IsNext};
 ghost use Rattle.ccsl_relate.specs.Following.{FollowsNoMore};
 
+use crate::alone::first_in;
 use crate::readers::Readers;
 use crate::states::states_for;
 use crate::steps::{first_violated, is_set, rows_are_sets, undeclared};
@@ -148,6 +149,33 @@ impl<'s> Monitor<'s> {
         self.steps += block.len() as u64;
     }
 
+    // Takes the rows of a block as the next ones, item by item: they are steps by themselves.
+    fn check_items(&mut self, block: &Block)
+        requires none { self.old.first ≡ None }
+        requires alone { self.old.states ≡ None }
+        requires stands { (recorded : List ℕ) × (rows : List Row) × StandsFor recorded self.old rows
+            × (length rows + length block.now.rows < 2 ^ 64) }
+        ensures system { self.new.system ≡ self.old.system }
+        ensures start { self.new.start ≡ self.old.start }
+        ensures count { length self.new.kept ≡ length self.old.kept }
+        ensures stands { (recorded : List ℕ) (rows : List Row) → StandsFor recorded self.old rows →
+            length rows + length block.now.rows < 2 ^ 64 → StandsFor recorded self.new (rows ++ block.now.rows) }
+    {
+        rows_are_sets(block);
+        let rows = block.len() as u64;
+        let kept = self.kept.as_mut_slice();
+        let first = match first_in(kept, block) {
+            None => None,
+            Some(failure) => Some(Violation {
+                step: self.steps + failure.row as u64,
+                time: block.row(failure.row).time,
+                item: self.start + failure.place,
+            }),
+        };
+        self.first = first;
+        self.steps += rows;
+    }
+
     /// Takes the rows of a block as the next ones. It takes no memory.
     pub fn check_block(&mut self, block: &Block)
         requires { (recorded : List ℕ) × (rows : List Row) × StandsFor recorded self.old rows
@@ -160,6 +188,10 @@ impl<'s> Monitor<'s> {
     {
         if self.first().is_some() {
             self.rest(block);
+            return;
+        }
+        if self.states.is_none() && self.readers.is_none() {
+            self.check_items(block);
             return;
         }
         for i in 0..block.len() {

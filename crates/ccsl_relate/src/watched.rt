@@ -34,9 +34,9 @@ pub enum Watched {
 }
 
 impl Related {
-    // Whether the relation fails in a step. The ticks of its clocks are counted.
+    /// Whether the relation fails in a step. The ticks of its clocks are counted.
     #[inline(always)]
-    fn fails(&mut self, step: &ClockSet) -> bool
+    pub(crate) fn fails(&mut self, step: &ClockSet) -> bool
         requires few { (self.old.left_count + 1 < 2 ^ 64) × (self.old.right_count + 1 < 2 ^ 64) }
         ensures fails { result ≡ not (related_formula self.old step.now) }
         ensures next { self.new ≡ counted_on self.old step.now }

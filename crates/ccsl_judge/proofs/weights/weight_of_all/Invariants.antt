@@ -1,0 +1,5 @@
+use Rattle.std.proofs.Common.{◌*◌, ◌≤◌}
+use Rattle.ccsl_judge.proofs.weights.weight_of_all.Given as goal
+
+abbrev pub invariant-loop-item : goal.invariant-loop-item
+invariant-loop-item l = l.weight ≤ l.item * 16

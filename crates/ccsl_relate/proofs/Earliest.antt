@@ -1,0 +1,129 @@
+-- Items that are taken over rows, one after the other: the first row at which one of them fails.
+use Rattle.std.proofs.Common.{◌≡◌, ℕ, suc, ◌+◌, ◌<◌, ◌≤◌, List, Option, Some, None, true, false, map, length, take, get_or, slice_set, refl, ap, ap₂, ◌∙◌, subst, arith, below_more}
+use Rattle.std.specs.Prelude.{All, IfSome, IfNone}
+use Rattle.std.proofs.Math.Seq.{map-set_same}
+use Rattle.std.proofs.lemmas.List.{get_or_default, get_or-set_other, length-set, take_all}
+use Rattle.ccsl_base.specs.declared.rows.Row.{Row}
+use Rattle.ccsl_relate.specs.declared.alone.Failure.{Failure}
+use Rattle.ccsl_relate.specs.declared.watched.Watched.{Watched}
+use Rattle.ccsl_relate.specs.declared.watched.Watched.TheVariants.{Nothing}
+use Rattle.ccsl_relate.specs.Reading.{clocks_of}
+use Rattle.ccsl_relate.specs.Alone.{after_rows, fails_at, ObeysUpTo, IsFirstRow, IsFirstIn}
+use Rattle.ccsl_relate.proofs.Partly.{partly, partly-more, partly-all}
+
+module _ (rows : List Row) (old : List Watched) where
+  -- of the items before item i one fails first at row `end`
+  pub record IsFound (i end : ℕ) (f : Failure) : Type 0 where
+    pub row : f.row ≡ end
+    pub inside : f.row < length rows
+    pub place : f.place < i
+    pub fails : fails_at rows (get_or old f.place Nothing) f.row ≡ true
+    pub lower : (k : ℕ) → k < f.place → fails_at rows (get_or old k Nothing) f.row ≡ false
+
+  -- none of them fails
+  pub record HaveGone (now : List Watched) (i end : ℕ) : Type 0 where
+    pub whole : end ≡ length rows
+    pub gone : now ≡ partly (after_rows rows) i old
+
+  -- the items before item i were taken, and none of them fails before row `end`
+  pub record IsSoFar (now : List Watched) (i end : ℕ) (first : Option Failure) : Type 0 where
+    pub count : length now ≡ length old
+    pub clocks : map clocks_of now ≡ map clocks_of old
+    pub within : end ≤ length rows
+    pub before : (k : ℕ) → k < i → ObeysUpTo rows end (get_or old k Nothing)
+    pub rest : (k : ℕ) → i ≤ k → get_or now k Nothing ≡ get_or old k Nothing
+    pub found : IfSome first (IsFound i end)
+    pub none : IfNone first (HaveGone now i end)
+
+  pub far-none : IsSoFar old 0 (length rows) None
+  far-none = record {
+    count = refl;
+    clocks = refl;
+    within = omega arith;
+    before = λ k l. absurd (omega (arith, l));
+    rest = λ k l. refl;
+    found = tt;
+    none = record { whole = refl; gone = refl };
+  }
+
+  module _ (now : List Watched) (i end : ℕ) (first : Option Failure) (f : IsSoFar now i end first) (l : i < length old) (x : Watched) (clocks : clocks_of x ≡ clocks_of (get_or now i Nothing)) where
+    abbrev next : List Watched
+    next = slice_set now i x
+
+    same : get_or now i Nothing ≡ get_or old i Nothing
+    same = f.rest i (omega arith)
+
+    next-rest : (k : ℕ) → i + 1 ≤ k → get_or next k Nothing ≡ get_or old k Nothing
+    next-rest k m = get_or-set_other now i k x Nothing (λ e. omega (arith, e, m)) ∙ f.rest k (omega (arith, m))
+
+    -- the next item does not fail before row `end`
+    module _ (obeys : ObeysUpTo rows end (get_or now i Nothing)) (is : x ≡ after_rows (take end rows) (get_or now i Nothing)) where
+      found-on : (o : Option Failure) → IfSome o (IsFound i end) → IfSome o (IsFound (i + 1) end)
+      found-on None h = tt
+      found-on (Some v) h = record { row = h.row; inside = h.inside; place = omega (arith, h.place); fails = h.fails; lower = h.lower }
+
+      gone-on : (o : Option Failure) → IfNone o (HaveGone now i end) → IfNone o (HaveGone next (i + 1) end)
+      gone-on (Some v) h = tt
+      gone-on None h =
+          let on = after_rows rows in
+          let x-is : x ≡ on (get_or old i Nothing) =
+          is ∙ ap₂ after_rows (ap (λ n. take n rows) h.whole ∙ take_all (length rows) rows (omega arith)) same in
+          record {
+            whole = h.whole;
+            gone =
+                ap₂ (λ ws w. slice_set ws i w) h.gone x-is
+                ∙ partly-more on i old Nothing l
+                ∙ ap (λ n. partly on n old) (let z : suc i ≡ i + 1 = omega arith in z);
+          }
+
+      pub far-on : IsSoFar next (i + 1) end first
+      far-on = record {
+        count = length-set now i x ∙ f.count;
+        clocks = map-set_same clocks_of now i x Nothing clocks ∙ f.clocks;
+        within = f.within;
+        before = below_more (λ (k : ℕ). ObeysUpTo rows end (get_or old k Nothing)) i f.before (subst (ObeysUpTo rows end) same obeys);
+        rest = next-rest;
+        found = found-on first f.found;
+        none = gone-on first f.none;
+      }
+
+    -- it fails at an earlier row than those before it
+    pub far-found : (row : ℕ) → IsFirstRow rows end (get_or now i Nothing) row → IsSoFar next (i + 1) row (Some (record { row = row; place = i }))
+    far-found row r =
+        let here : IsFirstRow rows end (get_or old i Nothing) row = subst (λ w. IsFirstRow rows end w row) same r in
+        record {
+          count = length-set now i x ∙ f.count;
+          clocks = map-set_same clocks_of now i x Nothing clocks ∙ f.clocks;
+          within = omega (arith, here.inside, f.within);
+          before = below_more (λ (k : ℕ). ObeysUpTo rows row (get_or old k Nothing)) i (λ k m n b. f.before k m n (omega (arith, b, here.inside))) here.before;
+          rest = next-rest;
+          found = record {
+            row = refl;
+            inside = omega (arith, here.inside, f.within);
+            place = omega arith;
+            fails = here.fails;
+            lower = λ k m. f.before k m row here.inside;
+          };
+          none = tt;
+        }
+
+  module _ (now : List Watched) (i end : ℕ) (whole : length old ≤ i) where
+    -- ALL ITEMS were taken
+    pub done-found : (first : Option Failure) → i ≤ length old → IsSoFar now i end first → IfSome first (IsFirstIn rows old)
+    done-found None m f = tt
+    done-found (Some v) m f = record {
+      row = f.found.inside;
+      place = omega (arith, f.found.place, m);
+      fails = f.found.fails;
+      earlier = λ k l n b. f.before k (omega (arith, l, whole)) n (omega (arith, b, f.found.row));
+      lower = f.found.lower;
+    }
+
+    pub done-none : (first : Option Failure) → IsSoFar now i end first → IfNone first (All (ObeysUpTo rows (length rows)) old)
+    done-none (Some v) f = tt
+    done-none None f = λ k d l.
+        subst (ObeysUpTo rows (length rows)) (get_or_default old k Nothing d l) (λ n b. f.before k (omega (arith, l, whole)) n (omega (arith, b, f.none.whole)))
+
+    pub done-next : (first : Option Failure) → IsSoFar now i end first → IfNone first (now ≡ map (after_rows rows) old)
+    done-next (Some v) f = tt
+    done-next None f = f.none.gone ∙ partly-all (after_rows rows) i old whole

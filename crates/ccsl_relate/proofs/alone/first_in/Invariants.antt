@@ -1,0 +1,5 @@
+use Rattle.ccsl_relate.proofs.Earliest.{IsSoFar}
+use Rattle.ccsl_relate.proofs.alone.first_in.Given as goal
+
+abbrev pub invariant-loop-i : goal.invariant-loop-i
+invariant-loop-i l = IsSoFar l.block.rows l.fn.kept l.kept l.i l.end l.first
