@@ -98,14 +98,15 @@ class Text:
         return f'{self.term(names)} {self.draw.choice("=<")} {self.term(names)}'
 
     def expression(self, names, depth, tail, guarded):
-        form = self.draw.choice(['alone', 'then', 'if', *(['then', 'then', 'if'] if tail else []), 'binary', 'binary', 'binary', 'number',
+        form = self.draw.choice(['alone', 'then', 'then', 'then', 'if', *(['then', 'if'] if tail else []), 'binary', 'binary', 'binary', 'number',
                                  'filter', 'sampled', 'delayed'])
         if form == 'if' and depth > 0:
             branches = [self.expression(names, depth - 1, tail, guarded) for _ in range(2)]
             return f'if {self.test(names)} use {branches[0]} else {branches[1]}'
         if form in ('alone', 'if'):
             return self.operand(names, depth, tail, guarded)
-        left = self.operand(names, depth, False, False)
+        mortal = form == 'then' and self.draw.random() < 0.7
+        left = self.mortal(names, depth + 1) if mortal else self.operand(names, depth, False, False)
         if form == 'number':
             return f'{left} {self.draw.choice(["delay", "await"])} {self.term(names)}'
         if form == 'filter':
@@ -117,12 +118,20 @@ class Text:
         then = tail and form == 'then'
         return f'{left} {self.draw.choice(operator)} {self.operand(names, depth, then, then)}'
 
+    def mortal(self, names, depth):
+        """An operand that is soon dead."""
+        if depth > 0 and self.draw.random() < 0.6:
+            operator = self.draw.choice(['union', 'inter', 'minus', 'inf', 'sup', 'sup', 'then', 'sampled on', 'sampled weakly on', 'delayed 2 on'])
+            return f'({self.mortal(names, depth - 1)} {operator} {self.mortal(names, depth - 1)})'
+        end = self.draw.choice(['await 1', 'await 2', 'filter "01"', 'filter "110"', f'upto {self.name(names, "clock")}'])
+        return f'({self.name(names, "clock")} {end})'
+
     def operand(self, names, depth, tail, guarded):
         form = self.draw.random()
         if form < 0.3 and depth > 0:
             return f'({self.expression(names, depth - 1, tail, guarded)})'
         if form < 0.45:
-            own = self.own and (guarded and self.draw.random() < 0.7 or self.errs())
+            own = self.own and (guarded and self.draw.random() < 0.7 or tail and self.wrong and self.draw.random() < 0.6 or self.errs())
             return self.call(names, self.own if own else self.expressions)
         return 'never' if form < 0.5 else self.name(names, 'clock')
 
