@@ -119,10 +119,11 @@ class Text:
         return f'{left} {self.draw.choice(operator)} {self.operand(names, depth, then, then)}'
 
     def mortal(self, names, depth):
-        """An operand that is soon dead."""
+        """An operand that is often soon dead."""
         if depth > 0 and self.draw.random() < 0.6:
             operator = self.draw.choice(['union', 'inter', 'minus', 'inf', 'sup', 'sup', 'then', 'sampled on', 'sampled weakly on', 'delayed 2 on'])
-            return f'({self.mortal(names, depth - 1)} {operator} {self.mortal(names, depth - 1)})'
+            right = self.name(names, 'clock') if self.draw.random() < 0.4 else self.mortal(names, depth - 1)
+            return f'({self.mortal(names, depth - 1)} {operator} {right})'
         end = self.draw.choice(['await 1', 'await 2', 'filter "01"', 'filter "110"', f'upto {self.name(names, "clock")}'])
         return f'({self.name(names, "clock")} {end})'
 
