@@ -151,6 +151,9 @@ def damaged(draw, text):
     change = draw.choice(['drop', 'double', 'swap', 'replace', 'insert', 'cut'])
     if change == 'swap':
         parts[place], parts[other] = parts[other], parts[place]
+    elif change == 'cut':
+        parts = parts[:place]
     else:
-        parts[place:place + 1] = {'drop': [], 'double': parts[place:place + 1] * 2, 'replace': [strange], 'insert': [strange, parts[place]], 'cut': []}[change]
-    return (' ' if by_token else '').join(parts[:place] if change == 'cut' else parts)
+        here = parts[place]
+        parts[place:place + 1] = {'drop': [], 'double': [here, here], 'replace': [strange], 'insert': [strange, here]}[change]
+    return (' ' if by_token else '').join(parts)

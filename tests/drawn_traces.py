@@ -37,7 +37,8 @@ class Trace:
         if self.draw.random() < 0.3:
             kind = self.draw.choice(['event', 'wire', 'real', 'realtime', 'string', 'integer'])
             size = self.draw.choice(['1', '01', '0', '8', '4294967295'])
-            reference = self.draw.choice([[name, '[0:0]'], [name, '[0', ':0]'], [f'{name}[0:0]'], [name, '[7:0]'], [name, '[0:0]', '[0:0]'], [name[:1], name[1:]]])
+            indices = self.draw.choice([['[0:0]'], ['[0', ':0]'], ['[7:0]'], ['[0:0]', '[0:0]'], []])
+            reference = self.draw.choice([[name, *indices], [name, *indices], [f'{name}[0:0]'], [name[:1], name[1:]]])
         size = self.draw.choice(['-1', '4294967296', '1x', '']) if self.errs() else size
         self.codes.append(code)
         return [word for word in ['$var', kind, size, code, *reference, '$end'] if word]
