@@ -12,7 +12,7 @@ use ccsl_base::{ClockSet, Memory};
 use std::alloc::Global;
 
 /// Fewer items are sooner looked at one by one.
-const FEWEST: usize = 16;
+const FEWEST: usize = 32;
 
 /// So many items are looked at in the time that it takes to gather the places of one clock.
 const ITEMS_A_CLOCK: usize = 4;
