@@ -289,8 +289,8 @@ impl Body {
         }
     }
 
-    // Hears what stands at the front of some bytes: a time and the changes behind it, or whatever else. It answers how many bytes
-    // that are: none where no token ends there, or the token is refused.
+    // Hears what stands at the front of some bytes: a time and the changes behind it, or whatever else. It stops behind a time that
+    // fills the block. It answers how many bytes that are: none where no token ends there, or the token is refused.
     #[inline(always)]
     fn step(&mut self, at: u64, bytes: &[u8], out: &mut Block) -> usize
         requires room { length out.old.rows < out.old.room }
@@ -299,6 +299,9 @@ impl Body {
         ensures room { out.new.room ≡ out.old.room }
     {
         let time = self.time_and_space(at, bytes, out);
+        if out.is_full() {
+            return time;
+        }
         let taken = time + self.changes(&bytes[time..]);
         if taken > 0 {
             return taken;
