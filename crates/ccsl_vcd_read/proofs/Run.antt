@@ -123,6 +123,12 @@ dark-front (x ∷ xs) =
     one-more : (n : ℕ) → 1 + n ≡ suc n
     one-more n = omega arith
 
+-- the bytes of a token, where the white space behind it is counted too
+pub dark-but-last : (n : ℕ) (bytes : List ℕ) → n ≡ prefix_len is_dark bytes → Dark (take (n + 1 - 1) bytes)
+dark-but-last n bytes e =
+    let k : prefix_len is_dark bytes ≡ n + 1 - 1 = omega (arith, e) in
+    subst (λ i. Dark (take i bytes)) k (dark-front bytes)
+
 white-stop : (xs : List ℕ) → prefix_len is_dark xs < length xs → is_white (get_or xs (prefix_len is_dark xs) 0) ≡ true
 white-stop xs l = not-false _ (Rattle.std.proofs.lemmas.List.Sums.prefix_len_stops is_dark xs 0 l)
 

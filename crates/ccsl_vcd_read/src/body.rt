@@ -1,8 +1,9 @@
 //! The tokens of a body.
 
-ghost use Rattle.std.specs.Prelude.{◌≡◌, ◌<◌, ◌≤◌, ◌+◌, ◌++◌, ◌^◌, length, take, [], Ok};
+ghost use Rattle.std.specs.Prelude.{◌≡◌, ◌<◌, ◌≤◌, ◌+◌, ◌-◌, ◌++◌, ◌^◌, length, take, [], Ok};
 ghost use Rattle.ccsl_vcd_read.specs.Step.{Says, row_of, time_says, changed_says, skipped_says, remark_says, word_says, hear_of};
 ghost use Rattle.ccsl_vcd_read.specs.Run.{Runs, Made, Front};
+ghost use Rattle.ccsl_vcd_lex.specs.Lexing.{Dark};
 ghost use Rattle.ccsl_vcd.specs.Words.{dump, close};
 ghost use Rattle.ccsl_vcd_read.specs.Meant.{meant, rest_of};
 
@@ -257,6 +258,7 @@ impl Body {
         requires room { length out.old.rows < out.old.room }
         ensures within { result ≤ length bytes.now }
         ensures runs { Runs self.old self.new at (take result bytes.now) out.old.rows out.new.rows }
+        ensures one { Dark (take (result - 1) bytes.now) }
         ensures none { result ≡ 0 → (self.new ≡ self.old) × (out.new.rows ≡ out.old.rows) }
         ensures room { out.new.room ≡ out.old.room }
     {
@@ -274,6 +276,7 @@ impl Body {
         requires room { length out.old.rows < out.old.room }
         ensures within { result ≤ length bytes.now }
         ensures runs { Runs self.old self.new at (take result bytes.now) out.old.rows out.new.rows }
+        ensures one { Dark (take (result - 1) bytes.now) }
         ensures room { out.new.room ≡ out.old.room }
     {
         let end = run_end(bytes, 0);
@@ -289,16 +292,21 @@ impl Body {
         }
     }
 
-    // Hears what stands at the front of some bytes: a time and the changes behind it, or whatever else. It answers how many bytes
-    // that are: none where no token ends there, or the token is refused.
+    // Hears what stands at the front of some bytes: a time and the changes behind it, or whatever else. It stops behind a time that
+    // fills the block. It answers how many bytes that are: none where no token ends there, or the token is refused.
     #[inline(always)]
     fn step(&mut self, at: u64, bytes: &[u8], out: &mut Block) -> usize
         requires room { length out.old.rows < out.old.room }
         ensures within { result ≤ length bytes.now }
         ensures runs { Runs self.old self.new at (take result bytes.now) out.old.rows out.new.rows }
+        // Where the block is full, the last byte ended the one token that was heard.
+        ensures full { length out.new.rows ≡ out.new.room → Dark (take (result - 1) bytes.now) }
         ensures room { out.new.room ≡ out.old.room }
     {
         let time = self.time_and_space(at, bytes, out);
+        if out.is_full() {
+            return time;
+        }
         let taken = time + self.changes(&bytes[time..]);
         if taken > 0 {
             return taken;

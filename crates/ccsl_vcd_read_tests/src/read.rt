@@ -91,11 +91,12 @@ struct Desk {
     reader: Reader,
 }
 
-fn open(alloc: Global, system: &System) -> Result<Desk, Memory>
+fn open(alloc: Global, system: &System, room: usize) -> Result<Desk, Memory>
+    requires room { 0 < room }
     ensures room { IfOk result (λ desk. length desk.block.rows < desk.block.room) }
     ensures stands { IfOk result (λ desk. StandsFor (wanted_of system.now) desk.reader []) }
 {
-    let block = Block::with_room(alloc, 4)?;
+    let block = Block::with_room(alloc, room)?;
     let reader = Reader::open(alloc, KEYS, system, &WIDE)?;
     Ok(Desk { block, reader })
 }
@@ -108,7 +109,7 @@ fn read_with(
 ) -> Result<Result<Counts, VcdFault>, Memory>
     requires { 0 < size }
 {
-    let mut desk = open(alloc, system)?;
+    let mut desk = open(alloc, system, 4)?;
     Ok(read_all(&mut desk.reader, &mut desk.block, text, size))
 }
 
@@ -118,4 +119,59 @@ pub fn read(alloc: Global, text: &[u8], size: usize) -> Result<Result<Counts, Vc
 {
     let system = system(alloc)?;
     Ok(read_with(alloc, &system, text, size)?)
+}
+
+/// How many bytes a call took, how many rows the block then had, and the time of the last.
+#[derive(Clone, Copy, Debug, PartialEq, Eq)]
+pub struct Stop {
+    pub bytes: usize,
+    pub rows: usize,
+    pub last: u64,
+}
+
+fn stop_behind(bytes: usize, block: &Block) -> Stop {
+    let rows = block.len();
+    Stop {
+        bytes,
+        rows,
+        last: if rows == 0 {
+            0
+        } else {
+            block.row(rows - 1).time
+        },
+    }
+}
+
+fn stops_of(
+    reader: &mut Reader,
+    block: &mut Block,
+    text: &[u8],
+    stops: &mut Vec<Stop>,
+) -> Result<(), Fail>
+    requires room { length block.old.rows < block.old.room }
+    requires stands { (wanted : Wanted) × (bytes : List ℕ) × StandsFor wanted reader.old bytes }
+{
+    let mut rest = text;
+    while !rest.is_empty() {
+        let Ok(taken) = reader.feed(rest, block) else {
+            return Err(Fail::from("the text is read"));
+        };
+        stops.push(stop_behind(taken.bytes, block))?;
+        if block.is_full() {
+            block.clear();
+        }
+        rest = rest.split_at(taken.bytes).1;
+    }
+    Ok(())
+}
+
+/// Where the calls stop that are given the text of a clock `a`, and then what is left of it, with room for so many rows.
+pub fn stops(alloc: Global, text: &[u8], room: usize) -> Result<Vec<Stop>, Fail>
+    requires { 0 < room }
+{
+    let system = system(alloc)?;
+    let mut desk = open(alloc, &system, room)?;
+    let mut stops = Vec::new(alloc);
+    stops_of(&mut desk.reader, &mut desk.block, text, &mut stops)?;
+    Ok(stops)
 }

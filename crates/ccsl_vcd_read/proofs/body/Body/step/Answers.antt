@@ -1,4 +1,5 @@
-use Rattle.std.proofs.Common.{◌+◌, take, arith}
+use Rattle.std.proofs.Common.{◌+◌, ◌<◌, length, take, arith}
+use Rattle.std.proofs.lemmas.Grind.{common_steps}
 use Rattle.ccsl_vcd_read.proofs.Feeding.{rest-is}
 use Rattle.ccsl_vcd_read.proofs.Run.{runs-on}
 use Rattle.ccsl_vcd_read.proofs.ShortTimes.{after-same}
@@ -16,3 +17,8 @@ returns-clause-runs c =
     let still = time.ensures.none (omega (arith, c.if-taken-gt0.false)) in
     let same = c.changes.ensures.none (omega (arith, c.if-taken-gt0.false)) in
     after-same c.args.self.now time.new.self c.changes.new.self c.token.new.self c.args.at (take c.token.result c.args.bytes.now) c.args.out.now.rows time.new.out.rows _ still same c.token.ensures.runs
+
+pub returns-then-taken-gt0-clause-full : goal.returns-then-taken-gt0-clause-full
+returns-then-taken-gt0-clause-full c = λ full.
+    let room : length c.time_and_space-time.new.out.rows < c.time_and_space-time.new.out.room = grind (arith, common_steps, c.is_full.ensures, c.if-is_full.false) in
+    absurd (omega (arith, room, full))

@@ -1,5 +1,5 @@
 use Rattle.std.proofs.Common.{◌∙◌, arith, zero-add}
-use Rattle.ccsl_vcd_read.proofs.Run.{runs-none, runs-same, front-white, front-word}
+use Rattle.ccsl_vcd_read.proofs.Run.{runs-none, runs-same, front-white, front-word, dark-but-last}
 use Rattle.ccsl_vcd_read.proofs.body.Body.token.Goals as goal
 
 pub returns-then-end-bytes-clause-runs : goal.returns-then-end-bytes-clause-runs
@@ -17,3 +17,6 @@ returns-in-Ok-clause-runs c =
 
 pub returns-in-Err-clause-runs : goal.returns-in-Err-clause-runs
 returns-in-Err-clause-runs c = runs-same _ _ c.args.self.now c.hear.new.self c.args.at c.args.out.now.rows c.hear.new.out.rows c.in-Err.ensures.said
+
+pub returns-in-Ok-clause-one : goal.returns-in-Ok-clause-one
+returns-in-Ok-clause-one c = dark-but-last c.run_end-end.result c.args.bytes.now (c.run_end-end.ensures.value ∙ zero-add _)
