@@ -3,3 +3,5 @@
 
 #[cfg(test)]
 mod meetings;
+#[cfg(test)]
+mod parts;
