@@ -5,3 +5,5 @@
 mod meetings;
 #[cfg(test)]
 mod parts;
+#[cfg(test)]
+mod turns;
