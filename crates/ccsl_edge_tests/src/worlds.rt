@@ -154,3 +154,19 @@ fn real_files_hold_what_was_written(rt: HostRuntime) -> Result<(), Fail> {
     fs::remove_file(&rt, path.as_str())?;
     Ok(())
 }
+
+#[test]
+fn a_real_file_is_written_anew(rt: HostRuntime) -> Result<(), Fail> {
+    let path = env::temp_dir(&rt)?.join(rt.alloc(), "ccsl_edge_rewritten")?;
+    let mut world = FileWorld::new(&rt);
+    for text in ["a long text that is written first", "a shorter one"] {
+        world.open_out(Slot::TraceOut, path.as_str())?;
+        write_all(&mut world, Slot::TraceOut, text.as_bytes())?;
+        world.close_out(Slot::TraceOut)?;
+        world.open_in(Slot::Trace, path.as_str())?;
+        let all = read_all(rt.alloc(), &mut world, Slot::Trace, 100)?;
+        assert_eq!(rt; all.as_slice(), text.as_bytes());
+    }
+    fs::remove_file(&rt, path.as_str())?;
+    Ok(())
+}
