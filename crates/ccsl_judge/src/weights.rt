@@ -2,6 +2,7 @@
 
 ghost use Rattle.std.specs.Prelude.{◌≡◌, ◌+◌, ◌*◌, ◌<◌, ◌≤◌};
 ghost use Rattle.ccsl_kernel.specs.Syntax.{item_count};
+ghost use Rattle.ccsl_judge.specs.Weights as spec;
 
 use ccsl_base::ClockSet;
 use ccsl_kernel::System;
@@ -19,7 +20,8 @@ pub(crate) struct Cut {
 // What it costs to judge an item, about. The definition of a clock that was not recorded costs nothing.
 fn weight_of(system: &System, bound: &ClockSet, item: u32) -> u64
     requires { item < item_count system.now }
-    ensures { result ≤ 16 }
+    ensures weight { result ≡ spec.weight_of system.now bound.now item }
+    ensures most { result ≤ 16 }
 {
     let declared = system.scope().declared;
     let definitions = system.definitions();
@@ -39,7 +41,9 @@ fn weight_of(system: &System, bound: &ClockSet, item: u32) -> u64
 }
 
 /// What all items weigh.
-pub(crate) fn weight_of_all(system: &System, bound: &ClockSet) -> u64 {
+pub(crate) fn weight_of_all(system: &System, bound: &ClockSet) -> u64
+    ensures { result ≡ spec.weight_before system.now bound.now (item_count system.now) }
+{
     let mut weight = 0;
     for item in 0..system.items() {
         weight += weight_of(system, bound, item);
