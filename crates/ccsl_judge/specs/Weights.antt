@@ -1,5 +1,5 @@
 -- What items weigh, about, and how they are divided.
-use Rattle.std.specs.Prelude.{ℕ, zero, suc, ◌+◌, ◌-◌, ◌&&◌, List, Option, Some, None, length, slice_get, nat_lt, if◌then◌else◌}
+use Rattle.std.specs.Prelude.{ℕ, zero, suc, ◌+◌, ◌-◌, ◌/◌, ◌&&◌, List, Option, Some, None, length, slice_get, nat_lt, if◌then◌else◌}
 use Rattle.ccsl_base.specs.Clocks.{ticks_in}
 use Rattle.ccsl_kernel.specs.Syntax.{System}
 use Rattle.ccsl_kernel.specs.declared.constraint.Constraint.{Constraint}
@@ -21,3 +21,7 @@ weight_of K bound item =
 abbrev pub weight_before : System → List ℕ → ℕ → ℕ
 weight_before K bound zero = 0
 weight_before K bound (suc n) = weight_before K bound n + weight_of K bound n
+
+-- what a share ends at, where so many are left behind a cut of this weight: it takes its part of what is left of the weight of all
+abbrev pub aim : ℕ → ℕ → ℕ → ℕ
+aim weight left all = weight + (all - weight) / left

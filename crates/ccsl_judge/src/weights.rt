@@ -1,6 +1,6 @@
 //! Where the items of a system are divided.
 
-ghost use Rattle.std.specs.Prelude.{◌≡◌, ◌+◌, ◌*◌, ◌<◌, ◌≤◌};
+ghost use Rattle.std.specs.Prelude.{◌≡◌, ℕ, ◌+◌, ◌*◌, ◌<◌, ◌≤◌, ◌⊎◌};
 ghost use Rattle.ccsl_kernel.specs.Syntax.{item_count};
 ghost use Rattle.ccsl_judge.specs.Weights as spec;
 
@@ -57,10 +57,15 @@ pub(crate) fn next_cut(system: &System, bound: &ClockSet, cut: Cut, left: u32, a
     requires left { 1 ≤ left }
     requires room { cut.item + left ≤ item_count system.now }
     requires weight { cut.weight ≤ cut.item * 16 }
+    requires weighed { cut.weight ≡ spec.weight_before system.now bound.now cut.item }
     ensures behind { cut.item < result.item }
     ensures room { result.item + left ≤ item_count system.now + 1 }
     ensures last { left ≡ 1 → result.item ≡ item_count system.now }
     ensures weight { result.weight ≤ result.item * 16 }
+    ensures weighed { result.weight ≡ spec.weight_before system.now bound.now result.item }
+    ensures reaches { (spec.aim cut.weight left all ≤ result.weight) ⊎ (result.item + left ≡ item_count system.now + 1) }
+    ensures below { (n : ℕ) → 2 ≤ left → cut.item < n → n < result.item →
+        spec.weight_before system.now bound.now n < spec.aim cut.weight left all }
 {
     let end = system.items() - (left - 1);
     let aim = cut.weight + all.saturating_sub(cut.weight) / left as u64;

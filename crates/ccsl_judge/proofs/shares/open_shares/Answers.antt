@@ -22,4 +22,5 @@ loop-done-preserved c =
       last = λ e. c.next_cut-next.ensures.last (omega (arith, e));
       opened = ap length c.in_ok-push.ensures.items ∙ omega (arith, length-append c.loop-done.shares.items (s ∷ []), c.loop-done.invariant.opened);
       weight = c.next_cut-next.ensures.weight;
+      weighed = c.next_cut-next.ensures.weighed;
     }
