@@ -2,3 +2,4 @@ pub mod Judged
 pub mod Shares
 pub mod Divided
 pub mod Going
+pub mod Weights

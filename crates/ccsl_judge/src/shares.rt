@@ -1,6 +1,6 @@
 //! All items of a system, in shares.
 
-ghost use Rattle.std.specs.Prelude.{◌≡◌, ℕ, ◌+◌, ◌<◌, ◌≤◌, ◌^◌, List, [], ◌++◌, length, IfOk};
+ghost use Rattle.std.specs.Prelude.{◌≡◌, ℕ, ◌+◌, ◌<◌, ◌≤◌, ◌^◌, min, List, [], ◌++◌, length, IfOk};
 ghost use Rattle.ccsl_base.specs.declared.rows.Row.{Row};
 ghost use Rattle.ccsl_kernel.specs.Syntax.{System, item_count};
 ghost use Rattle.ccsl_relate.specs.Violations.{Finds};
@@ -25,7 +25,8 @@ pub(crate) fn open_shares<'s>(
     bound: &ClockSet,
 ) -> Result<Vec<Share<'s>>, Memory>
     requires { 1 ≤ workers }
-    ensures { IfOk result (λ v. FollowAll system.now bound.now [] v.items) }
+    ensures follow { IfOk result (λ v. FollowAll system.now bound.now [] v.items) }
+    ensures count { IfOk result (λ v. length v.items ≡ min workers (item_count system.now)) }
 {
     let count = workers.min(system.items());
     let all = weight_of_all(system, bound);

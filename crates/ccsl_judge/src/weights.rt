@@ -1,7 +1,8 @@
 //! Where the items of a system are divided.
 
-ghost use Rattle.std.specs.Prelude.{◌≡◌, ◌+◌, ◌*◌, ◌<◌, ◌≤◌};
+ghost use Rattle.std.specs.Prelude.{◌≡◌, ℕ, ◌+◌, ◌*◌, ◌<◌, ◌≤◌, ◌⊎◌};
 ghost use Rattle.ccsl_kernel.specs.Syntax.{item_count};
+ghost use Rattle.ccsl_judge.specs.Weights as spec;
 
 use ccsl_base::ClockSet;
 use ccsl_kernel::System;
@@ -19,7 +20,8 @@ pub(crate) struct Cut {
 // What it costs to judge an item, about. The definition of a clock that was not recorded costs nothing.
 fn weight_of(system: &System, bound: &ClockSet, item: u32) -> u64
     requires { item < item_count system.now }
-    ensures { result ≤ 16 }
+    ensures weight { result ≡ spec.weight_of system.now bound.now item }
+    ensures most { result ≤ 16 }
 {
     let declared = system.scope().declared;
     let definitions = system.definitions();
@@ -39,7 +41,9 @@ fn weight_of(system: &System, bound: &ClockSet, item: u32) -> u64
 }
 
 /// What all items weigh.
-pub(crate) fn weight_of_all(system: &System, bound: &ClockSet) -> u64 {
+pub(crate) fn weight_of_all(system: &System, bound: &ClockSet) -> u64
+    ensures { result ≡ spec.weight_before system.now bound.now (item_count system.now) }
+{
     let mut weight = 0;
     for item in 0..system.items() {
         weight += weight_of(system, bound, item);
@@ -53,10 +57,15 @@ pub(crate) fn next_cut(system: &System, bound: &ClockSet, cut: Cut, left: u32, a
     requires left { 1 ≤ left }
     requires room { cut.item + left ≤ item_count system.now }
     requires weight { cut.weight ≤ cut.item * 16 }
+    requires weighed { cut.weight ≡ spec.weight_before system.now bound.now cut.item }
     ensures behind { cut.item < result.item }
     ensures room { result.item + left ≤ item_count system.now + 1 }
     ensures last { left ≡ 1 → result.item ≡ item_count system.now }
     ensures weight { result.weight ≤ result.item * 16 }
+    ensures weighed { result.weight ≡ spec.weight_before system.now bound.now result.item }
+    ensures reaches { (spec.aim cut.weight left all ≤ result.weight) ⊎ (result.item + left ≡ item_count system.now + 1) }
+    ensures below { (n : ℕ) → 2 ≤ left → cut.item < n → n < result.item →
+        spec.weight_before system.now bound.now n < spec.aim cut.weight left all }
 {
     let end = system.items() - (left - 1);
     let aim = cut.weight + all.saturating_sub(cut.weight) / left as u64;

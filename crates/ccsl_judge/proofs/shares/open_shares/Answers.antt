@@ -1,4 +1,4 @@
-use Rattle.std.proofs.Common.{◌≡◌, ◌+◌, ◌-◌, [], ◌∷◌, ◌++◌, sym, ap, ◌∙◌, subst, arith}
+use Rattle.std.proofs.Common.{◌≡◌, ◌+◌, ◌-◌, [], ◌∷◌, ◌++◌, length, length-append, sym, ap, ◌∙◌, subst, arith}
 use Rattle.ccsl_judge.specs.Shares.{IsAt}
 use Rattle.ccsl_judge.specs.Divided.{Follow}
 use Rattle.ccsl_judge.proofs.Sharing.{follow-more}
@@ -20,5 +20,7 @@ loop-done-preserved c =
           (follow-more K bound [] 0 c.loop-done.shares.items start s c.loop-done.invariant.follow at));
       room = omega (arith, c.next_cut-next.ensures.room);
       last = λ e. c.next_cut-next.ensures.last (omega (arith, e));
+      opened = ap length c.in_ok-push.ensures.items ∙ omega (arith, length-append c.loop-done.shares.items (s ∷ []), c.loop-done.invariant.opened);
       weight = c.next_cut-next.ensures.weight;
+      weighed = c.next_cut-next.ensures.weighed;
     }
