@@ -18,8 +18,6 @@ mod gates;
 #[cfg(test)]
 mod hostile;
 #[cfg(test)]
-mod opening_order;
-#[cfg(test)]
 mod periodics;
 #[cfg(test)]
 mod refused_traces;
