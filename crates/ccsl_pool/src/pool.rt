@@ -1,4 +1,4 @@
-//! Dividing pieces among threads, by halves of halves.
+//! Dividing pieces among threads, one part after the other.
 
 ghost use Rattle.std.specs.Prelude.{◌≡◌, ◌+◌, ◌<◌, ◌≤◌, ◌^◌, length};
 ghost use Rattle.std.specs.Thread.{IsSync, IsSend};
@@ -9,8 +9,9 @@ use ccsl_base::Block;
 use std::thread::{Threads, join_mut};
 
 /// Lets every piece take the block's rows, in as many parts as the lesser of `workers` and the number of pieces.
-/// Each part is a run of neighbours, enters the gate once with its number from the left, and then works;
-/// where no thread can be started the caller's does its part too. No memory is taken.
+/// Each part is a run of neighbours, enters the gate once with its number from the left, and then works. Of two parts and more
+/// each has a thread of its own, and the caller's waits; where none can be started the caller's does that part too. No memory is
+/// taken, and the stack grows by the number of parts.
 pub fn check_all<R: Threads + Sync, P: Piece, G: Gate>(
     rt: &R,
     pieces: &mut [P],
@@ -30,7 +31,11 @@ pub fn check_all<R: Threads + Sync, P: Piece, G: Gate>(
     } else {
         workers
     };
-    divide(rt, gate, block, 0, parts, pieces);
+    if parts == 1 {
+        part(gate, block, 0, pieces);
+    } else {
+        start_each(rt, gate, block, 0, parts, pieces);
+    }
 }
 
 // One part: it enters the gate, and then each piece works.
@@ -51,11 +56,12 @@ fn work_each<P: Piece>(block: &Block, pieces: &mut [P])
     }
 }
 
-// As many parts as `parts`, the leftmost with number `first`. The pieces come last: a closure that lends them can read
-// nothing else that it borrows after that.
-#[cycle(halves)]
+// As many parts as `parts`, the leftmost with number `first`. This thread does none of them: the first that it starts often waits on
+// its processor, while others are idle, until it waits itself. And it starts all of them, since a thread that is new and starts
+// another one runs late.
+#[cycle(parts)]
 #[tactic(auto, using(crate::proofs::Taking::every_front, crate::proofs::Taking::every_back))]
-fn divide<R: Threads + Sync, P: Piece, G: Gate>(
+fn start_each<R: Threads + Sync, P: Piece, G: Gate>(
     rt: &R,
     gate: &G,
     block: &Block,
@@ -68,42 +74,60 @@ fn divide<R: Threads + Sync, P: Piece, G: Gate>(
     ensures { Pairwise (λ p q. P.takes p block.now.rows q) pieces.old pieces.new }
 {
     if parts <= 1 {
-        part(gate, block, first, pieces);
+        start(rt, gate, block, first, pieces);
         return;
     }
-    let (left, right) = pieces.split_at_mut(pieces.len() / 2);
-    both_halves(rt, gate, block, first, parts, left, right);
+    let (one, others) = pieces.split_at_mut(pieces.len() / parts as usize);
+    start_one_of(rt, gate, block, first, parts, one, others);
 }
 
-#[cycle(halves)]
-fn both_halves<R: Threads + Sync, P: Piece, G: Gate>(
+// The pieces come last: a closure that lends them can read nothing else that it borrows after that.
+#[cycle(parts)]
+fn start_one_of<R: Threads + Sync, P: Piece, G: Gate>(
     rt: &R,
     gate: &G,
     block: &Block,
     first: u32,
     parts: u32,
-    left: &mut [P],
-    right: &mut [P],
+    one: &mut [P],
+    others: &mut [P],
 )
     requires some { 2 ≤ parts }
     requires numbers { first + parts < 2 ^ 32 }
-    requires left_ready { Every (λ p. P.can_take p block.now.rows) left.old }
-    requires right_ready { Every (λ p. P.can_take p block.now.rows) right.old }
-    ensures left_taken { Pairwise (λ p q. P.takes p block.now.rows q) left.old left.new }
-    ensures right_taken { Pairwise (λ p q. P.takes p block.now.rows q) right.old right.new }
+    requires one_ready { Every (λ p. P.can_take p block.now.rows) one.old }
+    requires others_ready { Every (λ p. P.can_take p block.now.rows) others.old }
+    ensures one_taken { Pairwise (λ p q. P.takes p block.now.rows q) one.old one.new }
+    ensures others_taken { Pairwise (λ p q. P.takes p block.now.rows q) others.old others.new }
 {
-    let low = parts / 2;
-    let high = parts - low;
-    let middle = first + low;
+    let next = first + 1;
+    let left = parts - 1;
     let mut front = ||
-        requires { IsSync R.row × IsSync G.row × IsSend P.row × (first + low < 2 ^ 32)
-            × Every (λ p. P.can_take p block.now.rows) left.now }
-        ensures { Pairwise (λ p q. P.takes p block.entry.now.rows q) left.entry.now left.exit.now }
-    { divide(rt, gate, block, first, low, left) };
+        requires { IsSync G.row × IsSend P.row × Every (λ p. P.can_take p block.now.rows) one.now }
+        ensures { Pairwise (λ p q. P.takes p block.entry.now.rows q) one.entry.now one.exit.now }
+    { part(gate, block, first, one) };
     let mut back = ||
-        requires { IsSync R.row × IsSync G.row × IsSend P.row × (middle + high < 2 ^ 32)
-            × Every (λ p. P.can_take p block.now.rows) right.now }
-        ensures { Pairwise (λ p q. P.takes p block.entry.now.rows q) right.entry.now right.exit.now }
-    { divide(rt, gate, block, middle, high, right) };
+        requires { IsSync R.row × IsSync G.row × IsSend P.row × (next + left < 2 ^ 32)
+            × Every (λ p. P.can_take p block.now.rows) others.now }
+        ensures { Pairwise (λ p q. P.takes p block.entry.now.rows q) others.entry.now others.exit.now }
+    { start_each(rt, gate, block, next, left, others) };
     join_mut(rt, &mut front, &mut back);
+}
+
+// The part with this number, in a thread of its own.
+fn start<R: Threads + Sync, P: Piece, G: Gate>(
+    rt: &R,
+    gate: &G,
+    block: &Block,
+    number: u32,
+    pieces: &mut [P],
+)
+    requires { Every (λ p. P.can_take p block.now.rows) pieces.old }
+    ensures { Pairwise (λ p q. P.takes p block.now.rows q) pieces.old pieces.new }
+{
+    let mut work = ||
+        requires { IsSync G.row × IsSend P.row × Every (λ p. P.can_take p block.now.rows) pieces.now }
+        ensures { Pairwise (λ p q. P.takes p block.entry.now.rows q) pieces.entry.now pieces.exit.now }
+    { part(gate, block, number, pieces) };
+    let mut wait = || {};
+    join_mut(rt, &mut work, &mut wait);
 }
