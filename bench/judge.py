@@ -71,6 +71,30 @@ def compare(name, trace, spec, folder, workers):
     note("ccsl_judge", f"{name}, workers {workers}", "vcd2fst", processor=others / busy, clock=theirs / clock)
 
 
+def together(count, trace, spec):
+    """The seconds by the clock of so many runs by one worker at one time."""
+    words = [PROGRAM, "judge", f"spec={spec}", f"trace={trace}", "workers=1"]
+    begin = time.time()
+    runs = [subprocess.Popen(words, stdout=subprocess.DEVNULL) for _ in range(count)]
+    for run in runs:
+        run.wait()
+    return time.time() - begin
+
+
+def divided(name, trace, spec):
+    """Four workers beside one, and beside what the machine gives at best: four separate runs at one time."""
+    one, four, runs = [], [], []
+    for _ in range(5):
+        one.append(together(1, trace, spec))
+        four.append(ran([PROGRAM, "judge", f"spec={spec}", f"trace={trace}", "workers=4"])[0])
+        runs.append(together(4, trace, spec))
+    one, four, runs = sorted(one)[2], sorted(four)[2], sorted(runs)[2]
+    print(f"{name}: four workers {four:.2f} s, one {one:.2f} s, so {one / four:.1f} times as fast; four runs at once {runs:.2f} s, "
+          f"so the machine does {4 * one / runs:.1f} times the work of one (medians of five)")
+    note("ccsl_judge", f"{name}, four workers", "one worker", clock=one / four, wanted=2.5)
+    note("ccsl_judge", f"{name}, four runs at once", "one run", clock=4 * one / runs)
+
+
 def main():
     with tempfile.TemporaryDirectory() as folder:
         events(f"{folder}/events.vcd")
@@ -92,6 +116,7 @@ def main():
             compare("64 wires, 64 constraints that hold", f"{folder}/wires.vcd", f"{folder}/wires.ccsl", folder, workers)
         for workers in (1, 4):
             compare("64 wires, 64 sampled clocks, 64 constraints", f"{folder}/wires.vcd", f"{folder}/sampled.ccsl", folder, workers)
+        divided("64 wires, 64 sampled clocks, 64 constraints", f"{folder}/wires.vcd", f"{folder}/sampled.ccsl")
 
 
 main()
