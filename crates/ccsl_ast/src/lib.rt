@@ -15,6 +15,3 @@ pub use line::{Relation, RelationLine, SystemLine};
 pub use spot::Spot;
 pub use term::{Argument, Prim, Primary, Sign, Term, Test, WordTerm};
 pub use tree::{BinaryOp, Tree};
-
-#[cfg(test)]
-mod tests;

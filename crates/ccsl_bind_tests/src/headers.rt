@@ -5,7 +5,7 @@ ghost use Rattle.std.specs.Prelude.{◌<◌, length};
 use ccsl_base::{HashKeys, Names, Seq};
 use ccsl_bind::{BindFault, Binder, Binding};
 use ccsl_kernel::{Expr, Parts, System};
-use std::alloc::Global;
+use std::alloc::{AllocError, Global};
 use std::test::Fail;
 
 /// Any keys: no answer depends on them.
@@ -14,30 +14,8 @@ const KEYS: HashKeys = HashKeys {
     second: 2,
 };
 
-#[derive(Clone, Copy)]
-struct Declared {
-    depth: u32,
-    kind: &'static [u8],
-    size: u32,
-    code: &'static [u8],
-    reference: &'static [u8],
-}
-
-fn line(
-    depth: u32,
-    kind: &'static str,
-    size: u32,
-    code: &'static str,
-    reference: &'static str,
-) -> Declared {
-    Declared {
-        depth,
-        kind: kind.as_bytes(),
-        size,
-        code: code.as_bytes(),
-        reference: reference.as_bytes(),
-    }
-}
+/// Depth, kind, size, code and reference of a declaration.
+type Declared = (u32, &'static str, u32, &'static str, &'static str);
 
 fn parts(alloc: Global) -> Result<Parts, Fail> {
     let mut names = Names::new(alloc);
@@ -68,75 +46,94 @@ fn system(alloc: Global) -> Result<System, Fail> {
     Ok(System::assemble(parts, count))
 }
 
-/// The binding of a header.
-fn closed(alloc: Global, lines: &[Declared]) -> Result<Result<Binding, BindFault>, Fail>
+fn closed(
+    alloc: Global,
+    system: &System,
+    lines: &[Declared],
+) -> Result<Result<Binding, BindFault>, Fail>
     requires { length lines.now < 100 }
 {
-    let mut binder = Binder::open(alloc, KEYS, &system(alloc)?)?;
+    let mut binder = Binder::open(alloc, KEYS, system)?;
     for line in lines {
-        binder.declare(line.depth, line.kind, line.size, line.code, line.reference)?;
+        let (depth, kind, size, code, reference) = *line;
+        binder.declare(
+            depth,
+            kind.as_bytes(),
+            size,
+            code.as_bytes(),
+            reference.as_bytes(),
+        )?;
     }
     Ok(binder.close())
 }
 
-/// The numbers of the clocks' codes.
-fn codes(binding: &Binding) -> [Option<u32>; 3] {
-    [binding.code_of(0), binding.code_of(1), binding.code_of(2)]
+// The number of each clock's code, with an `e` where it is an event; how many codes there are; and the number of the code `!`.
+fn text_of(alloc: Global, binding: &Binding) -> Result<String, AllocError> {
+    let mut out = String::new(alloc);
+    for clock in 0..3 {
+        match binding.code_of(clock) {
+            Some(code) if binding.is_event(clock) => write!(out, "{code}e ")?,
+            Some(code) => write!(out, "{code} ")?,
+            None => out.push_str("- ")?,
+        }
+    }
+    write!(out, "of {}, {:?}", binding.codes(), binding.find(b"!"))?;
+    Ok(out)
+}
+// The binding of a header as a text, or its first fault.
+fn answer(alloc: Global, lines: &[Declared]) -> Result<String, Fail>
+    requires { length lines.now < 100 }
+{
+    let system = system(alloc)?;
+    match closed(alloc, &system, lines)? {
+        Ok(binding) => Ok(text_of(alloc, &binding)?),
+        Err(fault) => Ok(format!(in alloc; "{fault:?}")?),
+    }
 }
 
+const OUTER_SCOPES_WIN: [Declared; 4] = [
+    (2, "event", 1, "x", "a"),
+    (1, "wire", 1, "!", "a"),
+    (3, "event", 1, "x", "a"),
+    (1, "event", 32, "x", "b"),
+];
+
+const NUMBERS_AND_WORDS_DO_NOT_QUALIFY: [Declared; 5] = [
+    (0, "real", 1, "r", "a"),
+    (0, "reg", 2, "v", "a"),
+    (1, "reg", 1, "!", "a"),
+    (1, "wire", 1, "!", "b"),
+    (1, "string", 1, "s", "c"),
+];
+
 #[test]
-fn outer_scopes_win(rt: HostRuntime) -> Result<(), Fail> {
-    let lines = [
-        line(2, "event", 1, "x", "a"),
-        line(1, "wire", 1, "!", "a"),
-        line(3, "event", 1, "x", "a"),
-        line(1, "event", 32, "x", "b"),
-    ];
-    let binding = closed(rt.alloc(), &lines)??;
-    assert_eq!(rt; codes(&binding), [Some(1), Some(0), None]);
-    assert!(rt; !binding.is_event(0) && binding.is_event(1) && !binding.is_event(2));
-    assert!(rt; binding.bound().has(0) && binding.bound().has(1) && !binding.bound().has(2));
-    assert_eq!(rt; binding.find(b"!"), Some(1));
-    assert_eq!(rt; binding.codes(), 2);
+fn clocks_are_bound(rt: HostRuntime) -> Result<(), Fail> {
+    let found = answer(rt.alloc(), &OUTER_SCOPES_WIN)?;
+    assert_eq!(rt; found.as_str(), "1 0e - of 2, Some(1)");
+    let found = answer(rt.alloc(), &NUMBERS_AND_WORDS_DO_NOT_QUALIFY)?;
+    assert_eq!(rt; found.as_str(), "2 2 - of 4, Some(2)");
     Ok(())
 }
 
-#[test]
-fn numbers_and_words_do_not_qualify(rt: HostRuntime) -> Result<(), Fail> {
-    let lines = [
-        line(0, "real", 1, "r", "a"),
-        line(0, "reg", 2, "v", "a"),
-        line(1, "reg", 1, "!", "a"),
-        line(1, "wire", 1, "!", "b"),
-        line(1, "string", 1, "s", "c"),
-    ];
-    let binding = closed(rt.alloc(), &lines)??;
-    assert_eq!(rt; codes(&binding), [Some(2), Some(2), None]);
-    Ok(())
-}
+const TWO_CODES_SIDE_BY_SIDE: [Declared; 4] = [
+    (1, "wire", 1, "!", "a"),
+    (1, "wire", 1, "!", "b"),
+    (1, "event", 1, "!", "c"),
+    (1, "wire", 1, "x", "c"),
+];
 
-#[test]
-fn two_codes_side_by_side_are_ambiguous(rt: HostRuntime) -> Result<(), Fail> {
-    let lines = [
-        line(1, "wire", 1, "!", "a"),
-        line(1, "wire", 1, "!", "b"),
-        line(1, "event", 1, "!", "c"),
-        line(1, "wire", 1, "x", "c"),
-    ];
-    let fault = closed(rt.alloc(), &lines)?.err();
-    assert_eq!(rt; fault, Some(BindFault::Ambiguous(2)));
-    Ok(())
-}
+const TWO_FAULTS: [Declared; 3] = [
+    (1, "wire", 1, "!", "c"),
+    (1, "wire", 1, "x", "c"),
+    (1, "wire", 1, "!", "a"),
+];
 
 #[test]
 fn the_first_fault_is_answered(rt: HostRuntime) -> Result<(), Fail> {
-    let lines = [
-        line(1, "wire", 1, "!", "c"),
-        line(1, "wire", 1, "x", "c"),
-        line(1, "wire", 1, "!", "a"),
-    ];
-    let fault = closed(rt.alloc(), &lines)?.err();
-    assert_eq!(rt; fault, Some(BindFault::Unbound(1)));
+    let found = answer(rt.alloc(), &TWO_CODES_SIDE_BY_SIDE)?;
+    assert_eq!(rt; found.as_str(), "Ambiguous(2)");
+    let found = answer(rt.alloc(), &TWO_FAULTS)?;
+    assert_eq!(rt; found.as_str(), "Unbound(1)");
     Ok(())
 }
 

@@ -13,19 +13,27 @@ fn sample(alloc: Global) -> Result<Formula, Memory> {
     or(alloc, left, iff(alloc, Formula::Var(1), Formula::Var(2))?)
 }
 
-#[test]
-fn truth_under_each_set_of_three_clocks(rt: HostRuntime) -> Result<(), Fail> {
-    let formula = sample(rt.alloc())?;
-    let expected = [true, true, false, false, false, true, true, true];
-    for (number, value) in (0..8u32).zip(expected) {
+/// The truth values under the sets of the clocks 0, 1 and 2, bit by bit: a set has the number of the sum of 1, 2 and 4 for these.
+fn truths(formula: &Formula) -> u32 {
+    let mut values = 0;
+    for number in 0..8u32 {
         let mut set = ClockSet::empty();
         for clock in 0..3 {
             if (number >> clock) & 1 == 1 {
                 set.insert(clock);
             }
         }
-        assert_eq!(rt; formula.eval(&set), value, "set {number}");
+        if formula.eval(&set) {
+            values |= 1 << number;
+        }
     }
+    values
+}
+
+#[test]
+fn truth_under_each_set_of_three_clocks(rt: HostRuntime) -> Result<(), Fail> {
+    let formula = sample(rt.alloc())?;
+    assert_eq!(rt; truths(&formula), 0b1110_0011);
     Ok(())
 }
 
@@ -42,48 +50,76 @@ fn pair(left: Truth3, right: Truth3) -> Partial {
     part
 }
 
+/// The values of `0 and 1`, `0 or 1` and `0 iff 1`.
+fn values(alloc: Global, part: &Partial) -> Result<(Truth3, Truth3, Truth3), Memory> {
+    let both = and(alloc, Formula::Var(0), Formula::Var(1))?.kleene(part);
+    let either = or(alloc, Formula::Var(0), Formula::Var(1))?.kleene(part);
+    let same = iff(alloc, Formula::Var(0), Formula::Var(1))?.kleene(part);
+    Ok((both, either, same))
+}
+
+const YES: Truth3 = Truth3::Yes;
+
+const NO: Truth3 = Truth3::No;
+
+const OPEN: Truth3 = Truth3::Open;
+
+const KLEENE: &[(Truth3, Truth3, (Truth3, Truth3, Truth3))] = &[
+    (YES, YES, (YES, YES, YES)),
+    (YES, NO, (NO, YES, NO)),
+    (YES, OPEN, (OPEN, YES, OPEN)),
+    (NO, YES, (NO, YES, NO)),
+    (NO, NO, (NO, NO, YES)),
+    (NO, OPEN, (NO, OPEN, OPEN)),
+    (OPEN, YES, (OPEN, YES, OPEN)),
+    (OPEN, NO, (NO, OPEN, OPEN)),
+    (OPEN, OPEN, (OPEN, OPEN, OPEN)),
+];
+
 #[test]
 fn kleene_tables(rt: HostRuntime) -> Result<(), Fail> {
-    let alloc = rt.alloc();
-    let both = and(alloc, Formula::Var(0), Formula::Var(1))?;
-    let either = or(alloc, Formula::Var(0), Formula::Var(1))?;
-    let same = iff(alloc, Formula::Var(0), Formula::Var(1))?;
-    let (yes, no, open) = (Truth3::Yes, Truth3::No, Truth3::Open);
-    let table = [
-        (yes, yes, (yes, yes, yes)),
-        (yes, no, (no, yes, no)),
-        (yes, open, (open, yes, open)),
-        (no, yes, (no, yes, no)),
-        (no, no, (no, no, yes)),
-        (no, open, (no, open, open)),
-        (open, yes, (open, yes, open)),
-        (open, no, (no, open, open)),
-        (open, open, (open, open, open)),
-    ];
-    for (left, right, expected) in table {
-        let part = pair(left, right);
-        let values = (both.kleene(&part), either.kleene(&part), same.kleene(&part));
-        assert_eq!(rt; values, expected, "at {left:?} and {right:?}");
+    for (left, right, want) in KLEENE {
+        let found = values(rt.alloc(), &pair(*left, *right))?;
+        assert_eq!(rt; found, *want, "at {left:?} and {right:?}");
     }
     Ok(())
 }
 
+/// `0 and not 0`
+fn contradiction(alloc: Global) -> Result<Formula, Memory> {
+    let negated = not(alloc, Formula::Var(0))?;
+    and(alloc, Formula::Var(0), negated)
+}
+
+/// `(0 and not 0) and false`
+fn folded(alloc: Global) -> Result<Formula, Memory> {
+    let left = contradiction(alloc)?;
+    and(alloc, left, Formula::False)
+}
+
+fn unknown(formula: &Formula) -> (Truth3, bool) {
+    (formula.kleene(&Partial::empty()), formula.reads(0))
+}
+
 #[test]
 fn the_shape_of_a_formula_counts(rt: HostRuntime) -> Result<(), Fail> {
-    let alloc = rt.alloc();
-    let contradiction = and(alloc, Formula::Var(0), not(alloc, Formula::Var(0))?)?;
-    assert_eq!(rt; contradiction.kleene(&Partial::empty()), Truth3::Open);
-    let folded = and(alloc, contradiction, Formula::False)?;
-    assert_eq!(rt; folded.kleene(&Partial::empty()), Truth3::No);
-    assert!(rt; !folded.reads(0));
-    let formula = sample(alloc)?;
-    let reads = (
+    assert_eq!(rt; unknown(&contradiction(rt.alloc())?), (OPEN, true));
+    assert_eq!(rt; unknown(&folded(rt.alloc())?), (NO, false));
+    Ok(())
+}
+
+fn reads(formula: &Formula) -> (bool, bool, bool, bool) {
+    (
         formula.reads(0),
         formula.reads(1),
         formula.reads(2),
         formula.reads(3),
-    );
-    assert_eq!(rt; reads, (true, true, true, false));
+    )
+}
+
+#[test]
+fn a_formula_reads_its_clocks(rt: HostRuntime) -> Result<(), Fail> {
+    assert_eq!(rt; reads(&sample(rt.alloc())?), (true, true, true, false));
     Ok(())
 }
 

@@ -1,8 +1,7 @@
 //! Traces of three blocks of rows.
 
-use crate::judged::{Answer, answer_by, run, system_of, trace_of, violated};
+use crate::judged::{answers, system_of, trace_of};
 use ccsl_base::BLOCK_ROWS;
-use ccsl_pool::NoGate;
 use std::alloc::Global;
 use std::process::Abort;
 use std::test::*;
@@ -23,21 +22,17 @@ pub(crate) fn long_trace(alloc: Global, from: u64) -> Result<String, Fail> {
     trace_of(alloc, "a b", body.as_str())
 }
 
-// Asserts what is answered by one worker and by two where b ticks in the rows from a number on.
+// Asserts what is answered where b ticks in the rows from a number on.
 fn judges_from<R: Threads + Sync + Abort>(
     rt: &R,
     alloc: Global,
     lines: &str,
     from: u64,
-    answer: Answer,
+    want: &str,
 ) -> Result<(), Fail> {
-    let system = system_of(alloc, lines)?;
     let trace = long_trace(alloc, from)?;
-    for workers in [1, 2] {
-        let found = answer_by(rt, alloc, &system, trace.as_str(), 4096, workers, &NoGate)?;
-        assert_eq!(rt; found, answer);
-    }
-    Ok(())
+    let system = system_of(alloc, lines)?;
+    answers(rt, alloc, &system, trace.as_str(), 4096, want)
 }
 
 // The first and the last row of each block, where item 1 is violated from there on.
@@ -49,19 +44,16 @@ fn judges_each_block<R: Threads + Sync + Abort>(
     let room = BLOCK_ROWS as u64;
     for from in [2, room - 1, room, 2 * room - 1, 2 * room, ROWS - 1] {
         let time = from.saturating_mul(3);
-        judges_from(rt, alloc, lines, from, violated(from, time, 1))?;
+        let want = format!(in alloc; "step {from} at {time} by 1")?;
+        judges_from(rt, alloc, lines, from, want.as_str())?;
     }
-    judges_from(rt, alloc, lines, ROWS, run(ROWS))
+    judges_from(rt, alloc, lines, ROWS, "run 9000")
 }
 
 #[test]
 fn the_block_of_a_violation(rt: HostRuntime) -> Result<(), Fail> {
     let lines = "clock a, b; b subclock a; a excludes b;";
-    judges_each_block(&rt, rt.alloc(), lines)
-}
-
-#[test]
-fn the_block_of_a_violation_by_a_defined_clock(rt: HostRuntime) -> Result<(), Fail> {
-    let lines = "clock a, b; define late = a delay 2; late excludes b;";
-    judges_each_block(&rt, rt.alloc(), lines)
+    judges_each_block(&rt, rt.alloc(), lines)?;
+    let by_a_defined_clock = "clock a, b; define late = a delay 2; late excludes b;";
+    judges_each_block(&rt, rt.alloc(), by_a_defined_clock)
 }

@@ -1,40 +1,49 @@
 //! Traces that do not read.
 
-use crate::judged::{Answer, KEYS, WIDE, judges, system_of, trace_of, world};
+use crate::judged::{Answer, KEYS, Row, WIDE, judges_all, system_of, trace_of, world};
 use ccsl_edge::{CallKind, Slot};
 use ccsl_judge::{JudgeFault, judge};
 use ccsl_kernel::System;
 use ccsl_pool::NoGate;
-use ccsl_vcd::VcdFault;
 use std::alloc::Global;
+use std::process::Abort;
 use std::test::*;
 use std::thread::Threads;
 
 const LINES: &str = "clock a, b; a precedes b;";
 
-#[test]
-fn a_fault_behind_a_violation_is_told(rt: HostRuntime) -> Result<(), Fail> {
-    let back = VcdFault::TimeBack {
-        at: 71,
-        present: 7,
-        time: 5,
-    };
-    for (body, fault) in [
-        ("#0 1! #1 $dumpoff $end", VcdFault::Gap { at: 74 }),
-        ("#0 1\" #1 $dumpoff $end", VcdFault::Gap { at: 74 }),
-        ("#7 1\" #5 1!", back),
-        ("#0 1\" #5 1! #7 b1", VcdFault::Truncated { at: 83 }),
-    ] {
-        let answer = Err(JudgeFault::Refused(fault));
-        judges(&rt, rt.alloc(), LINES, "a b", body, answer)?;
-    }
-    Ok(())
-}
+// A fault behind a violation is told.
+const ROWS: &[Row] = &[
+    (
+        LINES,
+        "a b",
+        "#0 1! #1 $dumpoff $end",
+        "Refused(Gap { at: 74 })",
+    ),
+    (
+        LINES,
+        "a b",
+        "#0 1\" #1 $dumpoff $end",
+        "Refused(Gap { at: 74 })",
+    ),
+    (
+        LINES,
+        "a b",
+        "#7 1\" #5 1!",
+        "Refused(TimeBack { at: 71, present: 7, time: 5 })",
+    ),
+    (
+        LINES,
+        "a b",
+        "#0 1\" #5 1! #7 b1",
+        "Refused(Truncated { at: 83 })",
+    ),
+    (LINES, "a", "#0 1!", "Refused(Unbound { clock: 1 })"),
+];
 
 #[test]
-fn a_clock_that_is_not_there(rt: HostRuntime) -> Result<(), Fail> {
-    let answer = Err(JudgeFault::Refused(VcdFault::Unbound { clock: 1 }));
-    judges(&rt, rt.alloc(), LINES, "a", "#0 1!", answer)
+fn faults_are_told(rt: HostRuntime) -> Result<(), Fail> {
+    judges_all(&rt, rt.alloc(), ROWS)
 }
 
 // What is answered where the read of some number fails, and how often the trace's slot has failed.
@@ -52,13 +61,22 @@ fn with_failing<R: Threads + Sync>(
 }
 
 // Each byte is read by one call, and the end by one more.
-#[test]
-fn each_read_that_fails_is_told(rt: HostRuntime) -> Result<(), Fail> {
-    let system = system_of(rt.alloc(), LINES)?;
-    let trace = trace_of(rt.alloc(), "a b", "#0 1\" #5 1!")?;
+fn each_read_fails<R: Threads + Sync + Abort>(
+    rt: &R,
+    alloc: Global,
+    system: &System,
+    trace: &str,
+) -> Result<(), Fail> {
     for number in 1..79 {
-        let found = with_failing(&rt, rt.alloc(), &system, trace.as_str(), number)?;
+        let found = with_failing(rt, alloc, system, trace, number)?;
         assert_eq!(rt; found, (Err(JudgeFault::Fault), 1));
     }
     Ok(())
+}
+
+#[test]
+fn each_read_that_fails_is_told(rt: HostRuntime) -> Result<(), Fail> {
+    let trace = trace_of(rt.alloc(), "a b", "#0 1\" #5 1!")?;
+    let system = system_of(rt.alloc(), LINES)?;
+    each_read_fails(&rt, rt.alloc(), &system, trace.as_str())
 }

@@ -3,7 +3,8 @@
 ghost use Rattle.std.specs.Prelude.{◌≤◌};
 
 use crate::blocks::{ROWS, long_trace};
-use crate::judged::{Answer, answer_on, run, trace_of};
+use crate::judged::{Answer, answer_on, trace_of};
+use ccsl_judge::Verdict;
 use ccsl_pool::Gate;
 use std::alloc::Global;
 use std::process::Abort;
@@ -74,7 +75,7 @@ fn enters<R: Threads + Sync + Abort>(
 {
     let gate = Counted::new();
     let found = answer_on(rt, alloc, PAIR, trace, workers, &gate)?;
-    assert_eq!(rt; (found, gate.seen()), (run(ROWS), seen));
+    assert_eq!(rt; (found, gate.seen()), (Ok(Verdict::Run(ROWS)), seen));
     Ok(())
 }
 
@@ -99,7 +100,7 @@ fn two_shares_are_judged_side_by_side(rt: HostRuntime) -> Result<(), Fail> {
         gave_up: AtomicU64::new(0),
     };
     let found = answer_through(&rt, rt.alloc(), &gate)?;
-    assert_eq!(rt; found, run(2));
+    assert_eq!(rt; found, Ok(Verdict::Run(2)));
     assert_eq!(rt; gate.gave_up.load(Ordering::SeqCst), 0);
     Ok(())
 }

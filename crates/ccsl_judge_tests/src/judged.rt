@@ -9,7 +9,7 @@ use ccsl_kernel::System;
 use ccsl_pool::{Gate, NoGate};
 use ccsl_spec::{Specification, read};
 use ccsl_vcd::Limits;
-use std::alloc::Global;
+use std::alloc::{AllocError, Global};
 use std::process::Abort;
 use std::test::*;
 use std::thread::Threads;
@@ -29,14 +29,15 @@ pub(crate) const WIDE: Limits = Limits {
     scopes: 100,
 };
 
-/// A run of so many rows.
-pub(crate) fn run(rows: u64) -> Answer {
-    Ok(Verdict::Run(rows))
-}
-
-/// The first row that violates an item, its time, and the item.
-pub(crate) fn violated(step: u64, time: u64, item: u32) -> Answer {
-    Ok(Verdict::Violated { step, time, item })
+/// An answer as a text: `run 2` of two rows, or `step 2 at 6 by 0` for the first row that violates an item, its time, and the item.
+pub(crate) fn text_of(alloc: Global, answer: Answer) -> Result<String, AllocError> {
+    match answer {
+        Ok(Verdict::Run(rows)) => format!(in alloc; "run {rows}"),
+        Ok(Verdict::Violated { step, time, item }) => {
+            format!(in alloc; "step {step} at {time} by {item}")
+        }
+        Err(fault) => format!(in alloc; "{fault:?}"),
+    }
 }
 
 // The system of a text.
@@ -124,35 +125,60 @@ pub(crate) fn answer_on<R: Threads + Sync, G: Gate>(
     answer_by(rt, alloc, &system, trace, 4096, workers, gate)
 }
 
-// Asserts what is answered by one worker, two and sixteen.
-fn answers<R: Threads + Sync + Abort>(
+/// Asserts what is answered by one worker, two and sixteen, by reads of so many bytes.
+pub(crate) fn answers<R: Threads + Sync + Abort>(
     rt: &R,
     alloc: Global,
     system: &System,
     trace: &str,
     piece: usize,
-    answer: Answer,
+    want: &str,
 ) -> Result<(), Fail>
     requires { 1 ≤ piece }
 {
     for workers in [1, 2, 16] {
-        let found = answer_by(rt, alloc, system, trace, piece, workers, &NoGate)?;
-        assert_eq!(rt; found, answer);
+        let answer = answer_by(rt, alloc, system, trace, piece, workers, &NoGate)?;
+        let found = text_of(alloc, answer)?;
+        assert_eq!(rt; found.as_str(), want, "{trace}");
     }
     Ok(())
 }
 
-/// Asserts what is answered on a trace of event variables, by reads of one byte and of many, and by one worker, two and sixteen.
-pub(crate) fn judges<R: Threads + Sync + Abort>(
+// Asserts what is answered by reads of one byte and of many.
+fn answers_by_pieces<R: Threads + Sync + Abort>(
+    rt: &R,
+    alloc: Global,
+    system: &System,
+    trace: &str,
+    want: &str,
+) -> Result<(), Fail> {
+    answers(rt, alloc, system, trace, 1, want)?;
+    answers(rt, alloc, system, trace, 4096, want)
+}
+
+fn judges<R: Threads + Sync + Abort>(
     rt: &R,
     alloc: Global,
     lines: &str,
-    names: &str,
-    body: &str,
-    answer: Answer,
+    trace: &str,
+    want: &str,
 ) -> Result<(), Fail> {
     let system = system_of(alloc, lines)?;
-    let trace = trace_of(alloc, names, body)?;
-    answers(rt, alloc, &system, trace.as_str(), 1, answer)?;
-    answers(rt, alloc, &system, trace.as_str(), 4096, answer)
+    answers_by_pieces(rt, alloc, &system, trace, want)
+}
+
+/// The lines of a system, the names of a trace's variables, the trace's body, and what is answered.
+pub(crate) type Row = (&'static str, &'static str, &'static str, &'static str);
+
+/// Asserts each row, by reads of one byte and of many, and by one worker, two and sixteen.
+pub(crate) fn judges_all<R: Threads + Sync + Abort>(
+    rt: &R,
+    alloc: Global,
+    rows: &[Row],
+) -> Result<(), Fail> {
+    for (lines, names, body, want) in rows {
+        let trace = trace_of(alloc, names, body)?;
+        judges(rt, alloc, lines, trace.as_str(), want)?;
+    }
+    Ok(())
 }

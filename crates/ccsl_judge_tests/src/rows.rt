@@ -1,115 +1,144 @@
 //! Worked rows: runs, and traces that are none.
 
-use crate::judged::{judges, run, violated};
+use crate::judged::{Row, judges_all};
 use std::test::*;
 
-#[test]
-fn precedence(rt: HostRuntime) -> Result<(), Fail> {
-    for (body, answer) in [
-        ("", run(0)),
-        ("#0 1! #5 1\"", run(2)),
-        ("#0 1! #5 1\" #6 1\"", violated(2, 6, 0)),
-        ("#0 1! 1\"", violated(0, 0, 0)),
-    ] {
-        let lines = "clock a, b; a precedes b;";
-        judges(&rt, rt.alloc(), lines, "a b", body, answer)?;
-    }
-    Ok(())
-}
+const RELATIONS: &[Row] = &[
+    ("clock a, b; a precedes b;", "a b", "", "run 0"),
+    ("clock a, b; a precedes b;", "a b", "#0 1! #5 1\"", "run 2"),
+    (
+        "clock a, b; a precedes b;",
+        "a b",
+        "#0 1! #5 1\" #6 1\"",
+        "step 2 at 6 by 0",
+    ),
+    (
+        "clock a, b; a precedes b;",
+        "a b",
+        "#0 1! 1\"",
+        "step 0 at 0 by 0",
+    ),
+    (
+        "clock a, b; a precedes weakly b;",
+        "a b",
+        "#0 1! 1\" #2 1!",
+        "run 2",
+    ),
+    (
+        "clock a, b; a precedes weakly b;",
+        "a b",
+        "#0 1! 1\" #2 1\"",
+        "step 1 at 2 by 0",
+    ),
+    (
+        "clock a, b; a precedes within 1 b;",
+        "a b",
+        "#0 1! #1 1! 1\" #2 1\"",
+        "run 3",
+    ),
+    (
+        "clock a, b; a precedes within 1 b;",
+        "a b",
+        "#0 1! #1 1! 1\" #2 1!",
+        "step 2 at 2 by 0",
+    ),
+    (
+        "clock a, b; a precedes within 1 b;",
+        "a b",
+        "#0 1! #1 1\" #2 1\"",
+        "step 2 at 2 by 0",
+    ),
+    (
+        "clock a, b; a subclock b;",
+        "a b",
+        "#0 1! 1\" #1 1\"",
+        "run 2",
+    ),
+    (
+        "clock a, b; a subclock b;",
+        "a b",
+        "#0 1\" #4 1! #5 1!",
+        "step 1 at 4 by 0",
+    ),
+    (
+        "clock a, b; a coincides b;",
+        "a b",
+        "#3 1! 1\" #4 1\"",
+        "step 1 at 4 by 0",
+    ),
+    (
+        "clock a, b; a excludes b;",
+        "a b",
+        "#3 1! 1\" #4 1\"",
+        "step 0 at 3 by 0",
+    ),
+    (
+        "clock a, b; alternates(a, b);",
+        "a b",
+        "#0 1! #1 1!",
+        "step 1 at 1 by 2",
+    ),
+];
 
 #[test]
-fn weak_precedence(rt: HostRuntime) -> Result<(), Fail> {
-    for (body, answer) in [
-        ("#0 1! 1\" #2 1!", run(2)),
-        ("#0 1! 1\" #2 1\"", violated(1, 2, 0)),
-    ] {
-        let lines = "clock a, b; a precedes weakly b;";
-        judges(&rt, rt.alloc(), lines, "a b", body, answer)?;
-    }
-    Ok(())
+fn relations(rt: HostRuntime) -> Result<(), Fail> {
+    judges_all(&rt, rt.alloc(), RELATIONS)
 }
 
-#[test]
-fn precedence_within_a_bound(rt: HostRuntime) -> Result<(), Fail> {
-    for (body, answer) in [
-        ("#0 1! #1 1! 1\" #2 1\"", run(3)),
-        ("#0 1! #1 1! 1\" #2 1!", violated(2, 2, 0)),
-        ("#0 1! #1 1\" #2 1\"", violated(2, 2, 0)),
-    ] {
-        let lines = "clock a, b; a precedes within 1 b;";
-        judges(&rt, rt.alloc(), lines, "a b", body, answer)?;
-    }
-    Ok(())
-}
+const RECORDED: &str = "clock a, b; define y = (a await 2) then (b await 1);";
+
+const LATE: &str = "clock a, b; define late = a delay 2; late excludes b;";
+
+const DEAD: &str = "clock a, b; define y = (a await 0) then b;";
+
+// Recorded or not, constrained or not; a definition comes before a constraint. Some die at birth, or with an operand.
+const DEFINITIONS: &[Row] = &[
+    (RECORDED, "a b y", "#0 1! #1 1! 1\" 1# #2 1\" 1#", "run 3"),
+    (
+        RECORDED,
+        "a b y",
+        "#0 1! #1 1! 1\" 1# #2 1\"",
+        "step 2 at 2 by 0",
+    ),
+    (
+        RECORDED,
+        "a b y",
+        "#0 1! 1# #1 1! 1\" 1#",
+        "step 0 at 0 by 0",
+    ),
+    (RECORDED, "a b", "#0 1! #1 1! 1\" #2 1\"", "run 3"),
+    (LATE, "a b", "#0 1! #1 1! 1\" #2 1\"", "run 3"),
+    (LATE, "a b", "#0 1! #1 1! 1\" #2 1!", "run 3"),
+    (LATE, "a b", "#0 1! #1 1! #2 1! 1\"", "step 2 at 2 by 1"),
+    (
+        LATE,
+        "a b late",
+        "#0 1! #1 1! #2 1! 1\"",
+        "step 2 at 2 by 0",
+    ),
+    (
+        LATE,
+        "a b late",
+        "#0 1! #1 1! #2 1! 1\" 1#",
+        "step 2 at 2 by 1",
+    ),
+    (
+        LATE,
+        "a b late",
+        "#0 1! #1 1! 1# #2 1! 1\"",
+        "step 1 at 1 by 0",
+    ),
+    (DEAD, "a b y", "#0 1\" #1 1\" 1#", "run 2"),
+    (DEAD, "a b y", "#0 1\" 1# #1 1\" 1#", "step 0 at 0 by 0"),
+    (
+        "clock a, b, c; define x = (a await 1) sup b; define y = x then c;",
+        "a b c x y",
+        "#0 1! #1 1\" 1$ 1% #2 1# 1%",
+        "run 3",
+    ),
+];
 
 #[test]
-fn a_subclock(rt: HostRuntime) -> Result<(), Fail> {
-    for (body, answer) in [
-        ("#0 1! 1\" #1 1\"", run(2)),
-        ("#0 1\" #4 1! #5 1!", violated(1, 4, 0)),
-    ] {
-        let lines = "clock a, b; a subclock b;";
-        judges(&rt, rt.alloc(), lines, "a b", body, answer)?;
-    }
-    Ok(())
-}
-
-#[test]
-fn coincidence_and_exclusion(rt: HostRuntime) -> Result<(), Fail> {
-    for (lines, answer) in [
-        ("clock a, b; a coincides b;", violated(1, 4, 0)),
-        ("clock a, b; a excludes b;", violated(0, 3, 0)),
-    ] {
-        let body = "#3 1! 1\" #4 1\"";
-        judges(&rt, rt.alloc(), lines, "a b", body, answer)?;
-    }
-    Ok(())
-}
-
-#[test]
-fn a_constraint_of_a_relation(rt: HostRuntime) -> Result<(), Fail> {
-    let lines = "clock a, b; alternates(a, b);";
-    let answer = violated(1, 1, 2);
-    judges(&rt, rt.alloc(), lines, "a b", "#0 1! #1 1!", answer)
-}
-
-#[test]
-fn a_recorded_definition(rt: HostRuntime) -> Result<(), Fail> {
-    for (names, body, answer) in [
-        ("a b y", "#0 1! #1 1! 1\" 1# #2 1\" 1#", run(3)),
-        ("a b y", "#0 1! #1 1! 1\" 1# #2 1\"", violated(2, 2, 0)),
-        ("a b y", "#0 1! 1# #1 1! 1\" 1#", violated(0, 0, 0)),
-        ("a b", "#0 1! #1 1! 1\" #2 1\"", run(3)),
-    ] {
-        let lines = "clock a, b; define y = (a await 2) then (b await 1);";
-        judges(&rt, rt.alloc(), lines, names, body, answer)?;
-    }
-    Ok(())
-}
-
-#[test]
-fn a_constraint_on_a_definition(rt: HostRuntime) -> Result<(), Fail> {
-    for (body, answer) in [
-        ("#0 1! #1 1! 1\" #2 1\"", run(3)),
-        ("#0 1! #1 1! 1\" #2 1!", run(3)),
-        ("#0 1! #1 1! #2 1! 1\"", violated(2, 2, 1)),
-    ] {
-        let lines = "clock a, b; define late = a delay 2; late excludes b;";
-        judges(&rt, rt.alloc(), lines, "a b", body, answer)?;
-    }
-    Ok(())
-}
-
-#[test]
-fn definitions_that_die(rt: HostRuntime) -> Result<(), Fail> {
-    let at_birth = "clock a, b; define y = (a await 0) then b;";
-    for (body, answer) in [
-        ("#0 1\" #1 1\" 1#", run(2)),
-        ("#0 1\" 1# #1 1\" 1#", violated(0, 0, 0)),
-    ] {
-        judges(&rt, rt.alloc(), at_birth, "a b y", body, answer)?;
-    }
-    let with_an_operand = "clock a, b, c; define x = (a await 1) sup b; define y = x then c;";
-    let body = "#0 1! #1 1\" 1$ 1% #2 1# 1%";
-    judges(&rt, rt.alloc(), with_an_operand, "a b c x y", body, run(3))
+fn definitions(rt: HostRuntime) -> Result<(), Fail> {
+    judges_all(&rt, rt.alloc(), DEFINITIONS)
 }

@@ -1,53 +1,41 @@
-//! Items that are violated in one trace, and lie in one share or in two.
+//! Items that are violated in one trace, and lie in one share or in two: the least step is told, and there the least item.
 
-use crate::judged::{judges, violated};
+use crate::judged::{Row, judges_all};
 use std::test::*;
 
 const PAIR: &str = "clock a, b, c; a excludes b; a excludes c;";
 
-#[test]
-fn of_two_items_at_one_step_the_lower_is_told(rt: HostRuntime) -> Result<(), Fail> {
-    let answer = violated(1, 4, 0);
-    judges(&rt, rt.alloc(), PAIR, "a b c", "#0 1! #4 1! 1\" 1#", answer)
-}
+const FIVE: &str =
+    "clock a, b, c, d; a excludes b; a excludes c; b excludes c; a excludes d; d subclock a;";
+
+const ROWS: &[Row] = &[
+    (PAIR, "a b c", "#0 1! #4 1! 1\" 1#", "step 1 at 4 by 0"),
+    (PAIR, "a b c", "#2 1! 1\" #4 1! 1#", "step 0 at 2 by 0"),
+    (PAIR, "a b c", "#2 1! 1# #4 1! 1\"", "step 0 at 2 by 1"),
+    (
+        PAIR,
+        "a b c",
+        "#2 1! #3 1! 1# #4 1! 1\" 1#",
+        "step 1 at 3 by 1",
+    ),
+    (FIVE, "a b c d", "#0 1\" #3 1\" 1#", "step 1 at 3 by 2"),
+    (
+        FIVE,
+        "a b c d",
+        "#0 1\" #3 1! 1# #4 1! 1\"",
+        "step 1 at 3 by 1",
+    ),
+    (
+        FIVE,
+        "a b c d",
+        "#0 1# #3 1! 1\" #4 1\" 1#",
+        "step 1 at 3 by 0",
+    ),
+    (FIVE, "a b c d", "#0 1# #3 1! 1\" 1#", "step 1 at 3 by 0"),
+    (FIVE, "a b c d", "#0 1# #3 1! #4 1$", "step 2 at 4 by 4"),
+];
 
 #[test]
-fn of_two_steps_the_lower_is_told(rt: HostRuntime) -> Result<(), Fail> {
-    for (body, answer) in [
-        ("#2 1! 1\" #4 1! 1#", violated(0, 2, 0)),
-        ("#2 1! 1# #4 1! 1\"", violated(0, 2, 1)),
-        ("#2 1! #3 1! 1# #4 1! 1\" 1#", violated(1, 3, 1)),
-    ] {
-        judges(&rt, rt.alloc(), PAIR, "a b c", body, answer)?;
-    }
-    Ok(())
-}
-
-#[test]
-fn shares_of_several_items(rt: HostRuntime) -> Result<(), Fail> {
-    for (body, answer) in [
-        ("#0 1\" #3 1\" 1#", violated(1, 3, 2)),
-        ("#0 1\" #3 1! 1# #4 1! 1\"", violated(1, 3, 1)),
-        ("#0 1# #3 1! 1\" #4 1\" 1#", violated(1, 3, 0)),
-        ("#0 1# #3 1! 1\" 1#", violated(1, 3, 0)),
-        ("#0 1# #3 1! #4 1$", violated(2, 4, 4)),
-    ] {
-        let lines =
-            "clock a, b, c, d; a excludes b; a excludes c; b excludes c; a excludes d; d subclock a;";
-        judges(&rt, rt.alloc(), lines, "a b c d", body, answer)?;
-    }
-    Ok(())
-}
-
-#[test]
-fn a_definition_comes_before_a_constraint(rt: HostRuntime) -> Result<(), Fail> {
-    for (body, answer) in [
-        ("#0 1! #1 1! #2 1! 1\"", violated(2, 2, 0)),
-        ("#0 1! #1 1! #2 1! 1\" 1#", violated(2, 2, 1)),
-        ("#0 1! #1 1! 1# #2 1! 1\"", violated(1, 1, 0)),
-    ] {
-        let lines = "clock a, b; define late = a delay 2; late excludes b;";
-        judges(&rt, rt.alloc(), lines, "a b late", body, answer)?;
-    }
-    Ok(())
+fn the_least_step_and_item(rt: HostRuntime) -> Result<(), Fail> {
+    judges_all(&rt, rt.alloc(), ROWS)
 }

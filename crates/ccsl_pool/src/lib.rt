@@ -4,8 +4,6 @@
 pub mod gate;
 pub mod piece;
 pub mod pool;
-#[cfg(test)]
-mod tests;
 
 pub use gate::{Gate, NoGate};
 pub use piece::Piece;

@@ -1,4 +1,4 @@
-//! How many parts there are: no more than workers.
+//! How many parts there are: no more than workers or pieces.
 
 use ccsl_base::Block;
 use ccsl_pool::{Gate, Piece, check_all};
@@ -55,13 +55,21 @@ impl Gate for Entries {
 }
 
 #[test]
-fn three_pieces_make_as_many_parts_as_workers(rt: HostRuntime) -> Result<(), Fail> {
+fn there_are_as_many_parts_as_workers_and_pieces(rt: HostRuntime) -> Result<(), Fail> {
     let block = Block::with_room(rt.alloc(), 1)?;
     let mut pieces = [Idle, Idle, Idle];
-    for (workers, counts) in [(1, (1, 0, 0)), (2, (1, 1, 0)), (3, (1, 1, 1))] {
+    for (workers, counts) in [
+        (1, (1, 0, 0)),
+        (2, (1, 1, 0)),
+        (3, (1, 1, 1)),
+        (16, (1, 1, 1)),
+    ] {
         let gate = Entries::none();
         check_all(&rt, &mut pieces, &block, workers, &gate);
         assert_eq!(rt; gate.counts(), counts, "{workers} workers");
     }
+    let gate = Entries::none();
+    check_all(&rt, &mut pieces[..0], &block, 2, &gate);
+    assert_eq!(rt; gate.counts(), (0, 0, 0));
     Ok(())
 }

@@ -33,10 +33,49 @@ pub fn reads(rt: &impl Abort, alloc: Global, text: &str, canonical: &str) -> Res
 }
 
 /// A fault of syntax stands where the second text begins.
-pub fn stops(rt: &impl Abort, alloc: Global, front: &str, rest: &str) -> Result<(), Fail> {
+fn stops(rt: &impl Abort, alloc: Global, front: &str, rest: &str) -> Result<(), Fail> {
     let text = format!(in alloc; "{front}{rest}")?;
     let want = format!(in alloc; "Syntax({})", front.len())?;
     let found = answer(alloc, text.as_str())?;
     assert_eq!(rt; found.as_str(), want.as_str(), "{text}");
+    Ok(())
+}
+
+/// Each text is answered so.
+pub fn all_answered(rt: &impl Abort, alloc: Global, rows: &[(&str, &str)]) -> Result<(), Fail> {
+    for (text, want) in rows {
+        let found = answer(alloc, text)?;
+        assert_eq!(rt; found.as_str(), *want, "{text}");
+    }
+    Ok(())
+}
+
+/// Each part has, between what stands around it, a canonical text, given with what stands around that.
+pub fn all_read(
+    rt: &impl Abort,
+    alloc: Global,
+    around: (&str, &str),
+    canonical: (&str, &str),
+    rows: &[(&str, &str)],
+) -> Result<(), Fail> {
+    for (part, want) in rows {
+        let text = format!(in alloc; "{}{part}{}", around.0, around.1)?;
+        let want = format!(in alloc; "{}{want}{}", canonical.0, canonical.1)?;
+        reads(rt, alloc, text.as_str(), want.as_str())?;
+    }
+    Ok(())
+}
+
+/// Behind a head and the first text of a row, a fault of syntax stands where the second text begins.
+pub fn all_stop(
+    rt: &impl Abort,
+    alloc: Global,
+    head: &str,
+    rows: &[(&str, &str)],
+) -> Result<(), Fail> {
+    for (front, rest) in rows {
+        let front = format!(in alloc; "{head}{front}")?;
+        stops(rt, alloc, front.as_str(), rest)?;
+    }
     Ok(())
 }

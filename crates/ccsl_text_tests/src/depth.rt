@@ -5,64 +5,62 @@ use ccsl_base::Memory;
 use std::alloc::Global;
 use std::test::Fail;
 
-/// So many copies of a part.
-fn copies(alloc: Global, part: &str, count: usize) -> Result<String, Memory> {
-    let mut out = String::new(alloc);
+const HEAD: &str = "ccsl 1; system { define x = ";
+
+const BRANCH: &str = "if a = b use c else ";
+
+/// A text with so many copies of a part in the middle.
+fn nested(
+    alloc: Global,
+    before: &str,
+    part: &str,
+    count: usize,
+    behind: &str,
+) -> Result<String, Memory> {
+    let mut out = String::from_str(alloc, before)?;
     for _ in 0..count {
         out.push_str(part)?;
     }
+    out.push_str(behind)?;
     Ok(out)
 }
 
+const ROWS: &[(usize, &str, &str, &str)] = &[
+    (128, "(", "a", "TooDeep(156)"),
+    (129, "(", "a", "TooDeep(156)"),
+    (128, "(", "never", "TooDeep(156)"),
+    (128, "(", "if", "TooDeep(156)"),
+    (127, "(", ")", "Syntax(155)"),
+    (128, "(", ")", "Syntax(156)"),
+    (128, "(", "1", "Syntax(156)"),
+    (128, "(", "", "Syntax(156)"),
+    (129, "(", ")", "TooDeep(156)"),
+    (1_000_000, "(", "", "TooDeep(156)"),
+    (128, BRANCH, "d; }", "TooDeep(2581)"),
+];
+
 #[test]
-fn parentheses(rt: HostRuntime) -> Result<(), Fail> {
-    let cases = [
-        (128, "a", "TooDeep(156)"),
-        (129, "a", "TooDeep(156)"),
-        (128, "never", "TooDeep(156)"),
-        (128, "if", "TooDeep(156)"),
-        (127, ")", "Syntax(155)"),
-        (128, ")", "Syntax(156)"),
-        (128, "1", "Syntax(156)"),
-        (128, "", "Syntax(156)"),
-        (129, ")", "TooDeep(156)"),
-        (1_000_000, "", "TooDeep(156)"),
-    ];
-    for (count, inner, want) in cases {
-        let opened = copies(rt.alloc(), "(", count)?;
-        let text = format!(in rt.alloc(); "ccsl 1; system {{ define x = {opened}{inner}")?;
+fn level_129_is_too_deep(rt: HostRuntime) -> Result<(), Fail> {
+    for (count, part, behind, want) in ROWS {
+        let text = nested(rt.alloc(), HEAD, part, *count, behind)?;
         let found = answer(rt.alloc(), text.as_str())?;
-        assert_eq!(rt; found.as_str(), want, "{count} before {inner}");
+        assert_eq!(rt; found.as_str(), *want, "{count} before {behind}");
     }
     Ok(())
 }
 
 #[test]
 fn level_128_in_parentheses(rt: HostRuntime) -> Result<(), Fail> {
-    let opened = copies(rt.alloc(), "(", 127)?;
-    let closed = copies(rt.alloc(), ")", 127)?;
-    let text = format!(in rt.alloc(); "ccsl 1; system {{ define x = {opened}a{closed}; }}")?;
-    reads(
-        &rt,
-        rt.alloc(),
-        text.as_str(),
-        "ccsl 1;\nsystem {\n  define x = a;\n}\n",
-    )
+    let opened = nested(rt.alloc(), HEAD, "(", 127, "a")?;
+    let text = nested(rt.alloc(), opened.as_str(), ")", 127, "; }")?;
+    let canonical = "ccsl 1;\nsystem {\n  define x = a;\n}\n";
+    reads(&rt, rt.alloc(), text.as_str(), canonical)
 }
 
 #[test]
 fn level_128_in_branches(rt: HostRuntime) -> Result<(), Fail> {
-    let tests = copies(rt.alloc(), "if a = b use c else ", 127)?;
-    let text = format!(in rt.alloc(); "ccsl 1; system {{ define x = {tests}d; }}")?;
-    let canonical = format!(in rt.alloc(); "ccsl 1;\nsystem {{\n  define x = {tests}d;\n}}\n")?;
+    let text = nested(rt.alloc(), HEAD, BRANCH, 127, "d; }")?;
+    let before = "ccsl 1;\nsystem {\n  define x = ";
+    let canonical = nested(rt.alloc(), before, BRANCH, 127, "d;\n}\n")?;
     reads(&rt, rt.alloc(), text.as_str(), canonical.as_str())
-}
-
-#[test]
-fn level_129_in_branches(rt: HostRuntime) -> Result<(), Fail> {
-    let tests = copies(rt.alloc(), "if a = b use c else ", 128)?;
-    let text = format!(in rt.alloc(); "ccsl 1; system {{ define x = {tests}d; }}")?;
-    let found = answer(rt.alloc(), text.as_str())?;
-    assert_eq!(rt; found.as_str(), "TooDeep(2581)");
-    Ok(())
 }

@@ -4,8 +4,6 @@
 #[cfg(test)]
 mod body;
 #[cfg(test)]
-mod counts;
-#[cfg(test)]
 mod header;
 #[cfg(test)]
 mod listing;

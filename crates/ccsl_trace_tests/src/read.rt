@@ -6,12 +6,12 @@ ghost use Rattle.ccsl_edge.specs.World.{State};
 ghost use Rattle.ccsl_vcd.specs.Binding.{Wanted};
 ghost use Rattle.ccsl_trace.specs.Feeding.{Feeds};
 
-use crate::listing::{keep, lines};
-use ccsl_base::{HashKeys, Memory, Names, Row, Seq};
-use ccsl_edge::{HeldFile, MemoryWorld, Slot, World};
+use crate::listing::put_rows;
+use ccsl_base::{HashKeys, Names, Seq};
+use ccsl_edge::{CallKind, HeldFile, MemoryWorld, Slot, World};
 use ccsl_kernel::{Parts, System};
-use ccsl_trace::{Feed, Next, TraceFault};
-use ccsl_vcd::{Limits, VcdFault};
+use ccsl_trace::{Feed, Next};
+use ccsl_vcd::Limits;
 use std::alloc::Global;
 use std::process::Abort;
 use std::test::Fail;
@@ -62,13 +62,15 @@ fn system(alloc: Global, clocks: &[&str]) -> Result<System, Fail> {
     Ok(System::assemble(parts, count))
 }
 
-fn world(alloc: Global, text: &str, piece: usize) -> Result<MemoryWorld, Fail>
+// A world in which a text is open and the read of some number fails; none has the number 0.
+fn world(alloc: Global, text: &str, failing: u64, piece: usize) -> Result<MemoryWorld, Fail>
     requires { 1 ≤ piece }
 {
     let name = String::from_str(alloc, "t")?;
     let content = Vec::from_slice(alloc, text.as_bytes())?;
     let files = vec![in alloc; HeldFile::new(name, content)]?;
-    let mut world = MemoryWorld::new(alloc, files, Vec::new(alloc), piece);
+    let failing = vec![in alloc; (CallKind::Read, failing)]?;
+    let mut world = MemoryWorld::new(alloc, files, failing, piece);
     if world.open_in(Slot::Trace, "t").is_err() {
         return Err(Fail::from("the trace opens"));
     }
@@ -76,24 +78,20 @@ fn world(alloc: Global, text: &str, piece: usize) -> Result<MemoryWorld, Fail>
 }
 
 // The rows that a feed has left, or why the trace was not read.
-fn all_rows<W: World>(
-    alloc: Global,
-    feed: &mut Feed,
-    world: &mut W,
-) -> Result<Result<Vec<Row>, TraceFault>, Memory>
+fn all_rows<W: World>(alloc: Global, feed: &mut Feed, world: &mut W) -> Result<String, Fail>
     requires feeds { (wanted : Wanted) × (limits : Limits) × (start : State) × (rows : List Row)
         × Feeds W.told wanted limits start (W.state world.old) feed.old rows }
 {
-    let mut rows = Vec::new(alloc);
+    let mut rows = String::new(alloc);
     loop {
         match feed.next(world) {
             Ok(Next::Bound) => {}
-            Ok(Next::Rows) => keep(&mut rows, feed.block())?,
+            Ok(Next::Rows) => put_rows(&mut rows, feed.block())?,
             Ok(Next::Ended(_)) => {
-                keep(&mut rows, feed.block())?;
-                return Ok(Ok(rows));
+                put_rows(&mut rows, feed.block())?;
+                return Ok(rows);
             }
-            Err(fault) => return Ok(Err(fault)),
+            Err(fault) => return Ok(format!(in alloc; "{fault:?}")?),
         }
     }
 }
@@ -104,7 +102,7 @@ fn rows_in(
     system: &System,
     world: &mut MemoryWorld,
     limits: &Limits,
-) -> Result<Result<Vec<Row>, TraceFault>, Memory> {
+) -> Result<String, Fail> {
     let mut feed = Feed::open(alloc, KEYS, system, limits)?;
     all_rows(alloc, &mut feed, world)
 }
@@ -114,70 +112,57 @@ fn rows_of(
     system: &System,
     text: &str,
     limits: &Limits,
+    failing: u64,
     piece: usize,
-) -> Result<Result<Vec<Row>, TraceFault>, Fail>
+) -> Result<String, Fail>
     requires { 1 ≤ piece }
 {
-    let mut world = world(alloc, text, piece)?;
-    Ok(rows_in(alloc, system, &mut world, limits)?)
+    let mut world = world(alloc, text, failing, piece)?;
+    rows_in(alloc, system, &mut world, limits)
 }
 
-fn listed(
-    alloc: Global,
-    rows: Result<Vec<Row>, TraceFault>,
-) -> Result<Result<String, TraceFault>, Fail> {
-    match rows {
-        Ok(rows) => Ok(Ok(lines(alloc, rows.as_slice())?)),
-        Err(fault) => Ok(Err(fault)),
-    }
-}
-
-// The rows of a text, or why it was not read.
-fn read(
+/// The rows of a text that is read in pieces of a size, or why it was not read, where the read of some number fails.
+pub fn read(
     alloc: Global,
     clocks: &[&str],
     text: &str,
     limits: &Limits,
+    failing: u64,
     piece: usize,
-) -> Result<Result<String, TraceFault>, Fail>
+) -> Result<String, Fail>
     requires { 1 ≤ piece }
 {
     let system = system(alloc, clocks)?;
-    let rows = rows_of(alloc, &system, text, limits, piece)?;
-    listed(alloc, rows)
+    rows_of(alloc, &system, text, limits, failing, piece)
 }
 
-/// The text has these rows, whatever the pieces that it is read in.
-pub fn has_rows(
+/// The text is answered so, whatever the pieces that it is read in.
+pub fn answers(
     rt: &impl Abort,
     alloc: Global,
     clocks: &[&str],
     text: &str,
-    rows: &str,
+    limits: &Limits,
+    want: &str,
 ) -> Result<(), Fail> {
     for piece in [1, 7, 4096, 65536] {
-        match read(alloc, clocks, text, &WIDE, piece)? {
-            Ok(found) => assert_eq!(rt; found.as_str(), rows),
-            Err(fault) => panic!(rt; "{fault:?}"),
-        }
+        let found = read(alloc, clocks, text, limits, 0, piece)?;
+        assert_eq!(rt; found.as_str(), want);
     }
     Ok(())
 }
 
-/// The text is refused so under these limits, whatever the pieces that it is read in.
-pub fn has_fault(
+/// Each text behind a head is answered so.
+pub fn all_answer(
     rt: &impl Abort,
     alloc: Global,
     clocks: &[&str],
-    text: &str,
-    limits: &Limits,
-    fault: VcdFault,
+    head: &str,
+    rows: &[(&str, &str)],
 ) -> Result<(), Fail> {
-    for piece in [1, 7, 4096, 65536] {
-        match read(alloc, clocks, text, limits, piece)? {
-            Ok(_) => panic!(rt; "read"),
-            Err(found) => assert_eq!(rt; found, TraceFault::Refused(fault)),
-        }
+    for (text, want) in rows {
+        let text = format!(in alloc; "{head}{text}")?;
+        answers(rt, alloc, clocks, text.as_str(), &WIDE, want)?;
     }
     Ok(())
 }

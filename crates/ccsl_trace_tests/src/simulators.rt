@@ -1,6 +1,6 @@
 //! Traces as simulators write them. `data/README.md` says how they were made.
 
-use crate::read::has_rows;
+use crate::read::all_answer;
 use std::test::*;
 
 // Icarus Verilog 11.0, of data/handshake.v.
@@ -149,14 +149,13 @@ b111 &
 b000 &
 "##;
 
+const ROWS: &[(&str, &str)] = &[
+    (ICARUS, "#10 0 #15 1 #30 0 #35 1 "),
+    (GHDL, "#10000000 0 #15000000 1 #30000000 0 #35000000 1 "),
+    (VERILATOR, "#15 0 #25 1 #55 0 #65 1 "),
+];
+
 #[test]
 fn simulators(rt: HostRuntime) -> Result<(), Fail> {
-    for (text, rows) in [
-        (ICARUS, "#10 0 #15 1 #30 0 #35 1 "),
-        (GHDL, "#10000000 0 #15000000 1 #30000000 0 #35000000 1 "),
-        (VERILATOR, "#15 0 #25 1 #55 0 #65 1 "),
-    ] {
-        has_rows(&rt, rt.alloc(), &["req", "ack"], text, rows)?;
-    }
-    Ok(())
+    all_answer(&rt, rt.alloc(), &["req", "ack"], "", ROWS)
 }

@@ -8,7 +8,7 @@ ghost use Rattle.ccsl_vcd_read.specs.Reading.{StandsFor};
 use ccsl_base::{Block, HashKeys, Memory, Names, Seq};
 use ccsl_kernel::{Parts, System};
 use ccsl_vcd_read::{Counts, Limits, Reader, VcdFault};
-use std::alloc::Global;
+use std::alloc::{AllocError, Global};
 use std::test::Fail;
 
 /// Any keys: no answer depends on them.
@@ -106,7 +106,7 @@ fn read_with(
     system: &System,
     text: &[u8],
     size: usize,
-) -> Result<Result<Counts, VcdFault>, Memory>
+) -> Result<Result<Counts, VcdFault>, Fail>
     requires { 0 < size }
 {
     let mut desk = open(alloc, system, 4)?;
@@ -118,60 +118,55 @@ pub fn read(alloc: Global, text: &[u8], size: usize) -> Result<Result<Counts, Vc
     requires { 0 < size }
 {
     let system = system(alloc)?;
-    Ok(read_with(alloc, &system, text, size)?)
+    read_with(alloc, &system, text, size)
 }
 
-/// How many bytes a call took, how many rows the block then had, and the time of the last.
-#[derive(Clone, Copy, Debug, PartialEq, Eq)]
-pub struct Stop {
-    pub bytes: usize,
-    pub rows: usize,
-    pub last: u64,
-}
-
-fn stop_behind(bytes: usize, block: &Block) -> Stop {
+// How many bytes a call took and how many rows the block then had, with the time of the last.
+fn put_stop(out: &mut String, bytes: usize, block: &Block) -> Result<(), AllocError> {
     let rows = block.len();
-    Stop {
-        bytes,
-        rows,
-        last: if rows == 0 {
-            0
-        } else {
-            block.row(rows - 1).time
-        },
+    if rows == 0 {
+        write!(out, "{bytes}:0 ")
+    } else {
+        write!(out, "{bytes}:{rows}#{} ", block.row(rows - 1).time)
     }
 }
 
 fn stops_of(
+    alloc: Global,
     reader: &mut Reader,
     block: &mut Block,
     text: &[u8],
-    stops: &mut Vec<Stop>,
-) -> Result<(), Fail>
+) -> Result<String, Fail>
     requires room { length block.old.rows < block.old.room }
     requires stands { (wanted : Wanted) × (bytes : List ℕ) × StandsFor wanted reader.old bytes }
 {
+    let mut stops = String::new(alloc);
     let mut rest = text;
     while !rest.is_empty() {
         let Ok(taken) = reader.feed(rest, block) else {
             return Err(Fail::from("the text is read"));
         };
-        stops.push(stop_behind(taken.bytes, block))?;
+        put_stop(&mut stops, taken.bytes, block)?;
         if block.is_full() {
             block.clear();
         }
         rest = rest.split_at(taken.bytes).1;
     }
-    Ok(())
+    Ok(stops)
 }
 
-/// Where the calls stop that are given the text of a clock `a`, and then what is left of it, with room for so many rows.
-pub fn stops(alloc: Global, text: &[u8], room: usize) -> Result<Vec<Stop>, Fail>
+fn stops_with(alloc: Global, system: &System, text: &[u8], room: usize) -> Result<String, Fail>
+    requires { 0 < room }
+{
+    let mut desk = open(alloc, system, room)?;
+    stops_of(alloc, &mut desk.reader, &mut desk.block, text)
+}
+
+/// Where the calls stop that are given the text of a clock `a`, and then what is left of it, with room for so many rows: of each
+/// the bytes it took, the rows that the block then had, and the time of the last, as `9:1#1`.
+pub fn stops(alloc: Global, text: &[u8], room: usize) -> Result<String, Fail>
     requires { 0 < room }
 {
     let system = system(alloc)?;
-    let mut desk = open(alloc, &system, room)?;
-    let mut stops = Vec::new(alloc);
-    stops_of(&mut desk.reader, &mut desk.block, text, &mut stops)?;
-    Ok(stops)
+    stops_with(alloc, &system, text, room)
 }

@@ -8,6 +8,3 @@ pub mod writer;
 
 pub use laws::{read_back, texts_fit};
 pub use writer::{header, step};
-
-#[cfg(test)]
-mod tests;

@@ -1,125 +1,108 @@
 //! Words against worked texts.
 
-use ccsl_words::{Word, WordFault};
-use std::alloc::Global;
+use ccsl_words::Word;
+use std::alloc::{AllocError, Global};
 use std::test::Fail;
 
-/// The letters from an offset on, as a text.
-fn letters(alloc: Global, word: &Word, count: u64) -> Result<String, Fail> {
-    let mut text = String::new(alloc);
-    for k in 0..count {
-        text.push(if word.letter(k) { '1' } else { '0' })?;
+/// The length, the first eight letters and the first six offsets.
+fn put_word(out: &mut String, word: &Word) -> Result<(), AllocError> {
+    let kind = if word.is_finite() {
+        "finite"
+    } else {
+        "periodic"
+    };
+    write!(out, "{kind} {}: ", word.len())?;
+    for k in 0..8 {
+        out.push(if word.letter(k) { '1' } else { '0' })?;
     }
-    Ok(text)
-}
-
-#[test]
-fn words_have_their_letters(rt: HostRuntime) -> Result<(), Fail> {
-    let table = [
-        ("0(10)", false, 3, "01010101"),
-        ("(1)", false, 1, "11111111"),
-        ("(0)", false, 1, "00000000"),
-        ("0", true, 1, "00000000"),
-        ("1", true, 1, "10000000"),
-        ("0110", true, 4, "01100000"),
-        ("11(001)", false, 5, "11001001"),
-    ];
-    for (text, finite, len, want) in table {
-        let word = Word::read(rt.alloc(), text.as_bytes())?;
-        assert_eq!(rt; word.is_finite(), finite, "{text}");
-        assert_eq!(rt; word.len(), len, "{text}");
-        let got = letters(rt.alloc(), &word, 8)?;
-        assert_eq!(rt; got.as_str(), want, "{text}");
-    }
-    Ok(())
-}
-
-#[test]
-fn texts_have_their_first_fault(rt: HostRuntime) -> Result<(), Fail> {
-    let table = [
-        ("", WordFault::Empty),
-        ("()", WordFault::Empty),
-        ("01()", WordFault::Empty),
-        ("()x", WordFault::Empty),
-        ("(", WordFault::BadLetter(1)),
-        ("01(2)", WordFault::BadLetter(3)),
-        ("2", WordFault::BadLetter(0)),
-        ("0 1", WordFault::BadLetter(1)),
-        ("01)", WordFault::BadLetter(2)),
-        ("01(10", WordFault::BadLetter(5)),
-        ("(0(1))", WordFault::BadLetter(2)),
-        ("(10)1", WordFault::BadLetter(4)),
-        ("(10))", WordFault::BadLetter(4)),
-    ];
-    for (text, want) in table {
-        let fault = Word::read(rt.alloc(), text.as_bytes()).err();
-        assert_eq!(rt; fault, Some(want), "{text}");
-    }
-    Ok(())
-}
-
-/// A text of so many ones and then some bytes.
-fn ones(alloc: Global, count: usize, behind: &[u8]) -> Result<Vec<u8>, Fail> {
-    let mut text = Vec::new(alloc);
-    for _ in 0..count {
-        text.push(b'1')?;
-    }
-    text.extend_from_slice(behind)?;
-    Ok(text)
-}
-
-#[test]
-fn at_most_4096_letters(rt: HostRuntime) -> Result<(), Fail> {
-    let read = [(4096, "", 4096), (4095, "(0)", 4096), (0, "(01)", 2)];
-    for (count, behind, len) in read {
-        let text = ones(rt.alloc(), count, behind.as_bytes())?;
-        assert_eq!(rt;
-            Word::read(rt.alloc(), text.as_slice())?.len(),
-            len,
-            "{count}{behind}"
-        );
-    }
-    let refused = [
-        (4097, "", WordFault::TooLong),
-        (4096, "(0)", WordFault::TooLong),
-        (4095, "(01)", WordFault::TooLong),
-        (4097, "x", WordFault::TooLong),
-        (4096, "x1", WordFault::BadLetter(4096)),
-        (4096, "(", WordFault::BadLetter(4097)),
-        (4096, "()", WordFault::Empty),
-    ];
-    for (count, behind, want) in refused {
-        let text = ones(rt.alloc(), count, behind.as_bytes())?;
-        let fault = Word::read(rt.alloc(), text.as_slice()).err();
-        assert_eq!(rt; fault, Some(want), "{count}{behind}");
-    }
-    Ok(())
-}
-
-#[test]
-fn offsets_go_on(rt: HostRuntime) -> Result<(), Fail> {
-    let table = [
-        ("0(10)", [0, 1, 2, 1, 2, 1]),
-        ("(1)", [0, 0, 0, 0, 0, 0]),
-        ("011", [0, 1, 2, 3, 3, 3]),
-        ("11(001)", [0, 1, 2, 3, 4, 2]),
-    ];
-    for (text, offsets) in table {
-        let word = Word::read(rt.alloc(), text.as_bytes())?;
-        for pair in offsets.windows(2) {
-            assert_eq!(rt; pair.len(), 2);
-            assert!(rt; pair[0] < u64::MAX);
-            assert_eq!(rt; word.rest(pair[0]), pair[1], "{text}");
+    let mut at = 0;
+    for _ in 0..6 {
+        write!(out, " {at}")?;
+        if at < u64::MAX {
+            at = word.rest(at);
         }
     }
     Ok(())
 }
 
-fn cross_threads<T: Send + Sync>(_value: &T) {}
+/// The word of a text, or its first fault.
+fn answer(alloc: Global, text: &[u8]) -> Result<String, AllocError> {
+    let mut out = String::new(alloc);
+    match Word::read(alloc, text) {
+        Ok(word) => put_word(&mut out, &word)?,
+        Err(fault) => write!(out, "{fault:?}")?,
+    }
+    Ok(out)
+}
+
+const TEXTS: &[(&str, &str)] = &[
+    ("0(10)", "periodic 3: 01010101 0 1 2 1 2 1"),
+    ("(1)", "periodic 1: 11111111 0 0 0 0 0 0"),
+    ("(0)", "periodic 1: 00000000 0 0 0 0 0 0"),
+    ("0", "finite 1: 00000000 0 1 1 1 1 1"),
+    ("1", "finite 1: 10000000 0 1 1 1 1 1"),
+    ("011", "finite 3: 01100000 0 1 2 3 3 3"),
+    ("0110", "finite 4: 01100000 0 1 2 3 4 4"),
+    ("11(001)", "periodic 5: 11001001 0 1 2 3 4 2"),
+    ("", "Empty"),
+    ("()", "Empty"),
+    ("01()", "Empty"),
+    ("()x", "Empty"),
+    ("(", "BadLetter(1)"),
+    ("01(2)", "BadLetter(3)"),
+    ("2", "BadLetter(0)"),
+    ("0 1", "BadLetter(1)"),
+    ("01)", "BadLetter(2)"),
+    ("01(10", "BadLetter(5)"),
+    ("(0(1))", "BadLetter(2)"),
+    ("(10)1", "BadLetter(4)"),
+    ("(10))", "BadLetter(4)"),
+];
 
 #[test]
-fn words_cross_threads(rt: HostRuntime) -> Result<(), Fail> {
-    let word = Word::read(rt.alloc(), b"01(1)")?;
-    cross_threads(&word);
+fn texts_have_words_or_a_first_fault(rt: HostRuntime) -> Result<(), Fail> {
+    for (text, want) in TEXTS {
+        let found = answer(rt.alloc(), text.as_bytes())?;
+        assert_eq!(rt; found.as_str(), *want, "{text}");
+    }
     Ok(())
+}
+
+/// A text of so many ones and what stands behind them.
+fn ones(alloc: Global, count: usize, behind: &str) -> Result<String, AllocError> {
+    let mut text = String::new(alloc);
+    for _ in 0..count {
+        text.push('1')?;
+    }
+    text.push_str(behind)?;
+    Ok(text)
+}
+
+const LONG: &[(usize, &str, &str)] = &[
+    (4096, "", "finite 4096: 11111111 0 1 2 3 4 5"),
+    (4095, "(0)", "periodic 4096: 11111111 0 1 2 3 4 5"),
+    (4097, "", "TooLong"),
+    (4096, "(0)", "TooLong"),
+    (4095, "(01)", "TooLong"),
+    (4097, "x", "TooLong"),
+    (4096, "x1", "BadLetter(4096)"),
+    (4096, "(", "BadLetter(4097)"),
+    (4096, "()", "Empty"),
+];
+
+#[test]
+fn at_most_4096_letters(rt: HostRuntime) -> Result<(), Fail> {
+    for (count, behind, want) in LONG {
+        let text = ones(rt.alloc(), *count, behind)?;
+        let found = answer(rt.alloc(), text.as_str().as_bytes())?;
+        assert_eq!(rt; found.as_str(), *want, "{count}{behind}");
+    }
+    Ok(())
+}
+
+fn cross_threads<T: Send + Sync>() {}
+
+#[test]
+fn words_cross_threads() {
+    cross_threads::<Word>();
 }

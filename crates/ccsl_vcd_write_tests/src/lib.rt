@@ -1,0 +1,5 @@
+//! Written traces: their text, and the room that they take.
+#![tactic(auto)]
+
+#[cfg(test)]
+mod traces;
