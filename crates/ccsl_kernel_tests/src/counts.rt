@@ -88,7 +88,7 @@ fn clocks_up_to_the_limit(rt: HostRuntime) -> Result<(), Fail> {
         (MAX_CLOCKS + 1, false),
     ];
     for (count, accepted) in table {
-        let names = names(rt.alloc(), count)?;
+        let names = names(rt.alloc(), count as usize)?;
         let found = accepts(rt.alloc(), names, (count, count), "")?;
         assert_eq!(rt; found, accepted, "{count} clocks");
     }

@@ -14,28 +14,28 @@ pub fn add_name(names: &mut Names, name: &[u8]) -> Result<(), Memory> {
     Ok(())
 }
 
-fn letter(i: u32) -> u8 {
+fn letter(i: usize) -> u8 {
     b"abcdefghijklmnopqrstuvwxyz"
-        .get((i % 26) as usize)
+        .get(i % 26)
         .copied()
         .unwrap_or(b'a')
 }
 
-fn add_numbered(names: &mut Names, number: u32) -> Result<(), Memory> {
+fn add_numbered(names: &mut Names, number: usize) -> Result<(), Memory> {
     let name = [
         b'n',
         letter(number / 676),
         letter(number / 26),
         letter(number),
     ];
-    match CLOCKS.as_bytes().get(number as usize) {
+    match CLOCKS.as_bytes().get(number) {
         Some(letter) => add_name(names, &[*letter]),
         None => add_name(names, &name),
     }
 }
 
 /// The names of so many clocks: their letters, and an n and three letters for each further one.
-pub fn names(alloc: Global, count: u32) -> Result<Names, Memory> {
+pub fn names(alloc: Global, count: usize) -> Result<Names, Memory> {
     let mut names = Names::new(alloc);
     for number in 0..count {
         add_numbered(&mut names, number)?;
@@ -111,8 +111,8 @@ fn one_group(alloc: Global, members: &[(&str, &str)]) -> Result<Vec<Group>, Memo
 fn without_groups(alloc: Global, defined: &str) -> Result<Parts, Memory> {
     let words = Seq::new(words(alloc)?);
     let definitions = expressions(alloc, defined)?;
-    let written = (definitions.len() as u32).saturating_add(3);
-    let names = names(alloc, written)?;
+    let names = names(alloc, definitions.len().saturating_add(3))?;
+    let written = names.len();
     Ok(Parts {
         names,
         declared: 3,
