@@ -85,8 +85,8 @@ fn item_agrees(
     item: u32,
     step: &ClockSet,
 ) -> Result<bool, Memory>
-    requires { states.now.system ≡ system.now }
-    requires { item < item_count system.now }
+    requires system { states.now.system ≡ system.now }
+    requires item { item < item_count system.now }
 {
     let slow = plain_formula(alloc, system, item, list)?;
     let fits = is_met(system, item, &slow, step) && death_agrees(system, states, list, item, &slow);
