@@ -1,21 +1,13 @@
-//! Small systems, written as texts, and when their clocks tick over lists of steps.
+//! Which parts make a system, and how many cells it has: on small systems, written as texts, and at the limits.
 #![tactic(auto)]
 
 #[cfg(test)]
-mod counts;
+mod asked;
 #[cfg(test)]
-mod library;
+mod counts;
 #[cfg(test)]
 mod limits;
 #[cfg(test)]
 mod refused;
 #[cfg(test)]
-mod relations;
-#[cfg(test)]
-mod run;
-#[cfg(test)]
 mod shared;
-#[cfg(test)]
-mod ticks;
-#[cfg(test)]
-mod variants;

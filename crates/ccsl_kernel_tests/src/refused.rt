@@ -1,7 +1,7 @@
 //! Members of groups, definitions and constraints that are accepted, and such that are not.
 
+use crate::asked::{accepts, relates};
 use ccsl_kernel::RelationKind;
-use ccsl_small_systems::parts::{constraints, parts};
 use std::test::*;
 
 #[test]
@@ -26,8 +26,8 @@ fn members_of_groups(rt: HostRuntime) -> Result<(), Fail> {
     ];
     for (params, root, accepted) in table {
         let groups = [("", "never"), (params, root), ("", "never")];
-        let parts = parts(rt.alloc(), &groups, &[])?;
-        assert_eq!(rt; parts.accepted(rt.alloc())?, accepted, "{params}: {root}");
+        let found = accepts(rt.alloc(), &groups, "")?;
+        assert_eq!(rt; found, accepted, "{params}: {root}");
     }
     Ok(())
 }
@@ -59,29 +59,26 @@ fn definitions(rt: HostRuntime) -> Result<(), Fail> {
         ("x clock-arg 1 number-arg 0 0 call", false),
     ];
     for (x, accepted) in table {
-        let parts = parts(rt.alloc(), &[("cn", "0 param")], &[x])?;
-        assert_eq!(rt; parts.accepted(rt.alloc())?, accepted, "{x}");
+        let found = accepts(rt.alloc(), &[("cn", "0 param")], x)?;
+        assert_eq!(rt; found, accepted, "{x}");
     }
     Ok(())
 }
 
 #[test]
 fn constraints_between_clocks(rt: HostRuntime) -> Result<(), Fail> {
-    for (left, right, accepted) in [(0, 2, true), (2, 0, true), (3, 0, false), (0, 3, false)] {
-        let mut parts = parts(rt.alloc(), &[], &[])?;
-        parts.constraints = constraints(rt.alloc(), 1, RelationKind::Precedes, (left, right))?;
-        assert_eq!(rt; parts.accepted(rt.alloc())?, accepted, "{left} and {right}");
-    }
-    Ok(())
-}
-
-#[test]
-fn precedence_within_at_least_1(rt: HostRuntime) -> Result<(), Fail> {
-    for (most, accepted) in [(0, false), (1, true), (u32::MAX, true)] {
-        let mut parts = parts(rt.alloc(), &[], &[])?;
-        let kind = RelationKind::PrecedesWithin(most);
-        parts.constraints = constraints(rt.alloc(), 1, kind, (0, 1))?;
-        assert_eq!(rt; parts.accepted(rt.alloc())?, accepted, "within {most}");
+    let table = [
+        (RelationKind::Precedes, 0, 2, true),
+        (RelationKind::Precedes, 2, 0, true),
+        (RelationKind::Precedes, 3, 0, false),
+        (RelationKind::Precedes, 0, 3, false),
+        (RelationKind::PrecedesWithin(0), 0, 1, false),
+        (RelationKind::PrecedesWithin(1), 0, 1, true),
+        (RelationKind::PrecedesWithin(u32::MAX), 0, 1, true),
+    ];
+    for (kind, left, right, accepted) in table {
+        let found = relates(rt.alloc(), 1, kind, (left, right))?;
+        assert_eq!(rt; found, accepted, "{left} {kind:?} {right}");
     }
     Ok(())
 }

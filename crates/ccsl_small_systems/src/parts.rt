@@ -1,8 +1,8 @@
 //! The parts of small systems: the declared clocks a, b and c, the words 101 and (10), groups of one member, and definitions.
 
-use crate::postfix::{CLOCKS, expression};
+use crate::postfix::{CLOCKS, expression, expressions};
 use ccsl_base::{Memory, Names, Seq, Text};
-use ccsl_kernel::{Body, Constraint, Expr, Group, ParamKind, Parts, RelationKind};
+use ccsl_kernel::{Body, Constraint, Group, ParamKind, Parts, RelationKind, System};
 use ccsl_words::Word;
 use std::alloc::Global;
 
@@ -14,11 +14,31 @@ pub fn add_name(names: &mut Names, name: &[u8]) -> Result<(), Memory> {
     Ok(())
 }
 
-/// The first letters of clocks as their names.
-fn letters(alloc: Global, count: usize) -> Result<Names, Memory> {
+fn letter(i: usize) -> u8 {
+    b"abcdefghijklmnopqrstuvwxyz"
+        .get(i % 26)
+        .copied()
+        .unwrap_or(b'a')
+}
+
+fn add_numbered(names: &mut Names, number: usize) -> Result<(), Memory> {
+    let name = [
+        b'n',
+        letter(number / 676),
+        letter(number / 26),
+        letter(number),
+    ];
+    match CLOCKS.as_bytes().get(number) {
+        Some(letter) => add_name(names, &[*letter]),
+        None => add_name(names, &name),
+    }
+}
+
+/// The names of so many clocks: their letters, and an n and three letters for each further one.
+pub fn names(alloc: Global, count: usize) -> Result<Names, Memory> {
     let mut names = Names::new(alloc);
-    for letter in CLOCKS.as_bytes().iter().take(count) {
-        add_name(&mut names, &[*letter])?;
+    for number in 0..count {
+        add_numbered(&mut names, number)?;
     }
     Ok(names)
 }
@@ -81,42 +101,76 @@ fn groups(alloc: Global, list: &[(&str, &str)]) -> Result<Vec<Group>, Memory> {
     Ok(groups)
 }
 
-fn definitions(alloc: Global, list: &[&str]) -> Result<Vec<Expr>, Memory> {
-    let mut definitions = Vec::new(alloc);
-    for text in list {
-        definitions.push(expression(alloc, text)?)?;
-    }
-    Ok(definitions)
+fn one_group(alloc: Global, members: &[(&str, &str)]) -> Result<Vec<Group>, Memory> {
+    let mut groups = Vec::new(alloc);
+    groups.push(group(alloc, members)?)?;
+    Ok(groups)
 }
 
-/// The parts with groups, and with definitions of x, y and further clocks.
-pub fn parts(alloc: Global, groups: &[(&str, &str)], defined: &[&str]) -> Result<Parts, Memory> {
-    let names = letters(alloc, defined.len().saturating_add(3))?;
-    let written = names.len();
-    let groups = Seq::new(self::groups(alloc, groups)?);
+/// The parts without groups, with definitions of x, y and further clocks.
+fn without_groups(alloc: Global, defined: &str) -> Result<Parts, Memory> {
     let words = Seq::new(words(alloc)?);
-    let definitions = Seq::new(definitions(alloc, defined)?);
+    let definitions = expressions(alloc, defined)?;
+    let names = names(alloc, definitions.len().saturating_add(3))?;
+    let written = names.len();
     Ok(Parts {
         names,
         declared: 3,
         written,
-        groups,
+        groups: Seq::new(Vec::new(alloc)),
         words,
-        definitions,
+        definitions: Seq::new(definitions),
         constraints: Seq::new(Vec::new(alloc)),
     })
 }
 
-/// The parts with one group, and with definitions of x, y and further clocks.
-pub fn parts_of_group(
+/// The parts with groups, and with definitions of x, y and further clocks.
+pub fn parts(alloc: Global, groups: &[(&str, &str)], defined: &str) -> Result<Parts, Memory> {
+    let groups = self::groups(alloc, groups)?;
+    let mut parts = without_groups(alloc, defined)?;
+    parts.groups = Seq::new(groups);
+    Ok(parts)
+}
+
+/// The system of some parts, and none where they are not accepted.
+pub fn assembled(alloc: Global, parts: Parts) -> Result<Option<System>, Memory> {
+    if !parts.accepted(alloc)? {
+        return Ok(None);
+    }
+    let count = parts.cells(alloc)?;
+    Ok(Some(System::assemble(parts, count)))
+}
+
+/// The system with groups of one member each, and with definitions of x, y and further clocks.
+pub fn system(
+    alloc: Global,
+    groups: &[(&str, &str)],
+    defined: &str,
+) -> Result<Option<System>, Memory> {
+    assembled(alloc, parts(alloc, groups, defined)?)
+}
+
+/// The same with one group.
+pub fn system_of_group(
     alloc: Global,
     members: &[(&str, &str)],
-    defined: &[&str],
-) -> Result<Parts, Memory> {
-    let mut parts = parts(alloc, &[], defined)?;
-    let mut groups = Vec::new(alloc);
-    groups.push(group(alloc, members)?)?;
+    defined: &str,
+) -> Result<Option<System>, Memory> {
+    let groups = one_group(alloc, members)?;
+    let mut parts = without_groups(alloc, defined)?;
     parts.groups = Seq::new(groups);
+    assembled(alloc, parts)
+}
+
+/// The parts with constraints, and with groups and definitions.
+pub fn related(
+    alloc: Global,
+    constraints: Seq<Constraint>,
+    groups: &[(&str, &str)],
+    defined: &str,
+) -> Result<Parts, Memory> {
+    let mut parts = parts(alloc, groups, defined)?;
+    parts.constraints = constraints;
     Ok(parts)
 }
 

@@ -1,6 +1,6 @@
 //! Expressions from texts in postfix order: `a b sampled` is `a sampled on b`, and `a 2 await` is `a await 2`.
 
-use ccsl_base::{Memory, Seq};
+use ccsl_base::{ClockSet, MAX_CLOCKS, Memory, Seq};
 use ccsl_kernel::{Expr, ExprOp, ExprTest, NumPrim, NumSign, NumTerm, Place, Value, WordPlace};
 use std::alloc::Global;
 
@@ -18,9 +18,21 @@ struct Reading {
 }
 
 /// The number of the clock with a letter.
-pub fn clock_number(letter: u8) -> Option<u32> {
+fn clock_number(letter: u8) -> Option<u32> {
     let place = CLOCKS.as_bytes().iter().position(|b| *b == letter)?;
     Some(place as u32)
+}
+
+/// The set of the clocks that a text names by their letters.
+pub fn set_of(text: &str) -> ClockSet {
+    let mut set = ClockSet::empty();
+    for letter in text.as_bytes() {
+        match clock_number(*letter) {
+            Some(clock) if clock < MAX_CLOCKS => set.insert(clock),
+            _ => {}
+        }
+    }
+    set
 }
 
 fn operator(word: &str) -> Option<ExprOp> {
@@ -87,15 +99,20 @@ impl Reading {
         })
     }
 
-    fn over_two(&mut self, op: ExprOp) -> Result<Expr, Memory> {
+    /// The last two expressions.
+    fn two(&mut self) -> Result<(Box<Expr>, Box<Expr>), Memory> {
         let d = self.boxed()?;
         let a = self.boxed()?;
+        Ok((a, d))
+    }
+
+    fn over_two(&mut self, op: ExprOp) -> Result<Expr, Memory> {
+        let (a, d) = self.two()?;
         Ok(Expr::Binary(op, a, d))
     }
 
     fn delayed(&mut self) -> Result<Expr, Memory> {
-        let d = self.boxed()?;
-        let a = self.boxed()?;
+        let (a, d) = self.two()?;
         Ok(Expr::Delayed(a, self.numbers.1, d))
     }
 
@@ -121,8 +138,7 @@ impl Reading {
 
     /// The first of two where the test holds; where there is none, that 0 is less than the last number.
     fn choice(&mut self) -> Result<Expr, Memory> {
-        let d = self.boxed()?;
-        let a = self.boxed()?;
+        let (a, d) = self.two()?;
         let test = match std::mem::replace(&mut self.test, None) {
             Some(test) => test,
             None => ExprTest::Less(self.term(NumPrim::Num(0)), self.number()),
@@ -178,6 +194,7 @@ impl Reading {
         let (first, last) = self.numbers;
         match word {
             "never" => Ok(Expr::Never),
+            "clock" => Ok(Expr::Name(Place::Clock(last))),
             "param" => Ok(Expr::Name(Place::Param(last))),
             "delay" => self.delay(),
             "await" => self.awaited(),
@@ -233,8 +250,8 @@ impl Reading {
     }
 }
 
-/// The expression of a text.
-pub fn expression(alloc: Global, text: &str) -> Result<Expr, Memory> {
+/// The expressions of a text, in order. A semicolon between two of them says nothing.
+pub fn expressions(alloc: Global, text: &str) -> Result<Vec<Expr>, Memory> {
     let mut reading = Reading {
         alloc,
         waiting: Vec::new(alloc),
@@ -243,7 +260,17 @@ pub fn expression(alloc: Global, text: &str) -> Result<Expr, Memory> {
         numbers: (0, 0),
     };
     for word in text.split_ascii_whitespace() {
-        reading.read(word)?;
+        if word != ";" {
+            reading.read(word)?;
+        }
     }
-    Ok(reading.pop())
+    Ok(std::mem::replace(&mut reading.waiting, Vec::new(alloc)))
+}
+
+/// The last expression of a text.
+pub fn expression(alloc: Global, text: &str) -> Result<Expr, Memory> {
+    match expressions(alloc, text)?.pop() {
+        Some(e) => Ok(e),
+        None => Ok(Expr::Never),
+    }
 }

@@ -2,11 +2,13 @@
 //!
 //! In the systems here each second definition is `x then c` over the one before it, x. Its formula is that of c once x is dead.
 
-ghost use Rattle.std.specs.Prelude.{◌≡◌};
+ghost use Rattle.std.specs.Prelude.{◌≡◌, ◌<◌};
+ghost use Rattle.ccsl_kernel.specs.Syntax.{item_count};
 
 use ccsl_base::{ClockSet, Memory};
 use ccsl_formula::Formula;
 use ccsl_kernel::{System, plain_formula};
+use ccsl_small_systems::postfix::set_of;
 use ccsl_state::States;
 use std::alloc::Global;
 
@@ -37,54 +39,71 @@ fn is_after(f: &Formula) -> bool {
     }
 }
 
-/// Whether each item has the formula that the slow evaluation gives after some steps.
-fn formulas_agree(
+/// Whether a full step satisfies a definition by its slow formula.
+fn is_met(system: &System, item: u32, slow: &Formula, step: &ClockSet) -> bool {
+    item >= system.definitions() || slow.eval(step)
+}
+
+/// Whether the first definition of a pair is dead where the second one, an item, ticks with c. A death before the first step shows
+/// there only after it.
+fn death_agrees(
+    system: &System,
+    states: &States<'_>,
+    list: &[ClockSet],
+    item: u32,
+    slow: &Formula,
+) -> bool
+    requires { states.now.system ≡ system.now }
+{
+    if item % 2 == 1 && item < system.definitions() && !list.is_empty() {
+        states.dead(item - 1) == is_after(slow)
+    } else {
+        true
+    }
+}
+
+/// Whether states tell an item's slow formula, if nothing else is amiss.
+fn is_told(
+    alloc: Global,
+    states: &States<'_>,
+    item: u32,
+    slow: &Formula,
+    fits: bool,
+) -> Result<bool, Memory>
+    requires { item < item_count states.now.system }
+{
+    let quick = states.formula_of(alloc, item)?;
+    Ok(fits && is_same(&quick, slow))
+}
+
+/// Whether states tell an item's formula and the death before it as the slow evaluation does, and derive a step that meets it.
+fn item_agrees(
     alloc: Global,
     system: &System,
     states: &States<'_>,
     list: &[ClockSet],
+    item: u32,
+    step: &ClockSet,
+) -> Result<bool, Memory>
+    requires system { states.now.system ≡ system.now }
+    requires item { item < item_count system.now }
+{
+    let slow = plain_formula(alloc, system, item, list)?;
+    let fits = is_met(system, item, &slow, step) && death_agrees(system, states, list, item, &slow);
+    is_told(alloc, states, item, &slow, fits)
+}
+
+fn items_agree(
+    alloc: Global,
+    system: &System,
+    states: &States<'_>,
+    list: &[ClockSet],
+    step: &ClockSet,
 ) -> Result<bool, Memory>
     requires { states.now.system ≡ system.now }
 {
     for item in 0..system.items() {
-        let quick = states.formula_of(alloc, item)?;
-        if !is_same(&quick, &plain_formula(alloc, system, item, list)?) {
-            return Ok(false);
-        }
-    }
-    Ok(true)
-}
-
-/// Whether each first definition of a pair is dead where the second one ticks with c. A death before the first step shows there
-/// only after it.
-fn deaths_agree(
-    alloc: Global,
-    system: &System,
-    states: &States<'_>,
-    list: &[ClockSet],
-) -> Result<bool, Memory>
-    requires { states.now.system ≡ system.now }
-{
-    for second in 1..system.definitions() {
-        if second % 2 == 1 && !list.is_empty() {
-            let formula = plain_formula(alloc, system, second, list)?;
-            if states.dead(second - 1) != is_after(&formula) {
-                return Ok(false);
-            }
-        }
-    }
-    Ok(true)
-}
-
-/// Whether a full step satisfies each definition by the slow evaluation.
-fn is_full(
-    alloc: Global,
-    system: &System,
-    list: &[ClockSet],
-    step: &ClockSet,
-) -> Result<bool, Memory> {
-    for item in 0..system.definitions() {
-        if !plain_formula(alloc, system, item, list)?.eval(step) {
+        if !item_agrees(alloc, system, states, list, item, step)? {
             return Ok(false);
         }
     }
@@ -92,50 +111,47 @@ fn is_full(
 }
 
 /// Whether two sets have the same members.
-fn same_members(s: &ClockSet, t: &ClockSet) -> bool {
+pub fn same_members(s: &ClockSet, t: &ClockSet) -> bool {
     s.members().all(|x| t.has(x)) && t.members().all(|x| s.has(x))
 }
 
-/// Whether states and a copy of them derive a full step, and go on by it.
-fn step_agrees(
+/// Whether states agree with the slow evaluation before a step, and go on by it, as a copy of them does.
+fn go_on(
     alloc: Global,
     system: &System,
     states: &mut States<'_>,
-    list: &[ClockSet],
+    list: &mut Vec<ClockSet>,
     declared: &ClockSet,
-) -> Result<Option<ClockSet>, Memory>
+) -> Result<bool, Memory>
+    requires { states.old.system ≡ system.now }
     ensures { states.new.system ≡ states.old.system }
 {
     let derived = states.derive(declared);
+    let agree = items_agree(alloc, system, states, list, &derived)?;
     let copied = states.copy(alloc)?.advance(declared);
     let step = states.advance(declared);
-    if same_members(&derived, &step)
-        && same_members(&copied, &step)
-        && is_full(alloc, system, list, &step)?
-    {
-        Ok(Some(step))
-    } else {
-        Ok(None)
-    }
+    let alike = same_members(&copied, &step) && same_members(&derived, &step);
+    list.push(step)?;
+    Ok(agree && alike)
 }
 
-/// Whether the states of a system agree with the slow evaluation before and after each step.
-pub fn agree(alloc: Global, system: &System, sets: &[ClockSet]) -> Result<bool, Memory> {
+/// The full steps of a text, and `None` where the states of a system and the slow evaluation do not agree before each.
+pub fn followed(
+    alloc: Global,
+    system: &System,
+    steps: &str,
+) -> Result<Option<Vec<ClockSet>>, Memory> {
     let mut states = States::open(alloc, system)?;
     let mut list = Vec::new(alloc);
-    for declared in sets {
-        if !formulas_agree(alloc, system, &states, &list)?
-            || !deaths_agree(alloc, system, &states, &list)?
-        {
-            return Ok(false);
-        }
-        match step_agrees(alloc, system, &mut states, &list, declared)? {
-            Some(step) => list.push(step)?,
-            None => return Ok(false),
+    for text in steps.split_ascii_whitespace() {
+        if !go_on(alloc, system, &mut states, &mut list, &set_of(text))? {
+            return Ok(None);
         }
     }
-    Ok(
-        formulas_agree(alloc, system, &states, &list)?
-            && deaths_agree(alloc, system, &states, &list)?,
-    )
+    Ok(Some(list))
+}
+
+/// Whether the states of a system agree with the slow evaluation before each step of a text.
+pub fn agree(alloc: Global, system: &System, steps: &str) -> Result<bool, Memory> {
+    Ok(followed(alloc, system, steps)?.is_some())
 }

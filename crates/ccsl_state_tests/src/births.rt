@@ -1,6 +1,8 @@
 //! Each operator under `then`, in both places.
 
-use crate::rows::found;
+use crate::alike::agree;
+use ccsl_base::Memory;
+use ccsl_small_systems::parts::system;
 use std::alloc::Global;
 use std::test::*;
 
@@ -21,28 +23,21 @@ const OPERATORS: [&str; 14] = [
     "a b 1 2 less if",
 ];
 
-const STEPS: &str = "ab a b bc ab a ab b abc";
-
-/// Whether the states agree with the slow evaluation.
-fn agrees(alloc: Global, x: &str) -> Result<bool, Fail> {
-    let ticks = found(alloc, &[], x, STEPS)?;
-    Ok(ticks.as_str().as_bytes().get(9).copied() == Some(b' '))
-}
-
-#[test]
-fn operators_on_the_left(rt: HostRuntime) -> Result<(), Fail> {
-    for operator in OPERATORS {
-        let x = format!(in rt.alloc(); "{operator} b then")?;
-        assert!(rt; agrees(rt.alloc(), x.as_str())?, "{x}");
+/// Whether the states of a system agree with the slow evaluation.
+fn agrees(alloc: Global, defined: &str) -> Result<bool, Memory> {
+    match system(alloc, &[], defined)? {
+        Some(system) => agree(alloc, &system, "ab a b bc ab a ab b abc"),
+        None => Ok(false),
     }
-    Ok(())
 }
 
 #[test]
-fn operators_on_the_right(rt: HostRuntime) -> Result<(), Fail> {
+fn operators_on_both_sides(rt: HostRuntime) -> Result<(), Fail> {
     for operator in OPERATORS {
-        let x = format!(in rt.alloc(); "a 1 await {operator} then")?;
-        assert!(rt; agrees(rt.alloc(), x.as_str())?, "{x}");
+        let left = format!(in rt.alloc(); "{operator} b then ; x c then")?;
+        assert!(rt; agrees(rt.alloc(), left.as_str())?, "{left}");
+        let right = format!(in rt.alloc(); "a 1 await {operator} then ; x c then")?;
+        assert!(rt; agrees(rt.alloc(), right.as_str())?, "{right}");
     }
     Ok(())
 }
@@ -50,15 +45,15 @@ fn operators_on_the_right(rt: HostRuntime) -> Result<(), Fail> {
 #[test]
 fn a_then_in_operators(rt: HostRuntime) -> Result<(), Fail> {
     let table = [
-        "a 1 await b then a union",
-        "b a 1 await b then inf",
-        "a 1 await b then a sampled",
-        "a b 1 await a then upto",
-        "a 2 await b 1 await then a then",
-        "a 1 await b then 1 delay",
+        "a 1 await b then a union ; x c then",
+        "b a 1 await b then inf ; x c then",
+        "a 1 await b then a sampled ; x c then",
+        "a b 1 await a then upto ; x c then",
+        "a 2 await b 1 await then a then ; x c then",
+        "a 1 await b then 1 delay ; x c then",
     ];
-    for x in table {
-        assert!(rt; agrees(rt.alloc(), x)?, "{x}");
+    for defined in table {
+        assert!(rt; agrees(rt.alloc(), defined)?, "{defined}");
     }
     Ok(())
 }

@@ -1,82 +1,71 @@
 //! Systems at the limits: many definitions, each over the one before, and a row of just as many cells as are allowed.
 
-use crate::steps::{assembled, sets_of};
-use ccsl_base::{MAX_CELLS, Memory, Names, Seq};
-use ccsl_kernel::{Expr, ExprOp, Parts, Place};
-use ccsl_small_systems::parts::{add_name, parts};
+use ccsl_base::{MAX_CELLS, Memory};
+use ccsl_kernel::System;
+use ccsl_small_systems::parts::system;
+use ccsl_small_systems::postfix::set_of;
 use ccsl_state::States;
 use std::alloc::Global;
 use std::test::*;
 
-/// The parts with these definitions behind the clocks a, b and c.
-fn defined(alloc: Global, definitions: Vec<Expr>) -> Result<Parts, Fail> {
-    let mut parts = parts(alloc, &[], &[])?;
-    let mut names = Names::new(alloc);
-    for name in ["a", "b", "c"] {
-        add_name(&mut names, name.as_bytes())?;
+/// Whether with a all clocks that are defined tick, and without it none.
+fn follow_a(alloc: Global, system: &System) -> Result<bool, Memory> {
+    let mut states = States::open(alloc, system)?;
+    let mut follow = true;
+    for declared in ["a", "b", "a", "ab", "c", "a", "a", "b", "b", "a"] {
+        let declared = set_of(declared);
+        let want = if declared.has(0) { 63 } else { 0 };
+        follow = follow && states.advance(&declared).len() == declared.len().saturating_add(want);
     }
-    for number in 0..definitions.len() {
-        let name = format!(in alloc; "x{number}")?;
-        add_name(&mut names, name.as_str().as_bytes())?;
-    }
-    parts.written = names.len();
-    parts.names = names;
-    parts.definitions = Seq::new(definitions);
-    Ok(parts)
+    Ok(follow)
 }
 
-fn named(alloc: Global, clock: u32) -> Result<Box<Expr>, Memory> {
-    Ok(Box::new(alloc, Expr::Name(Place::Clock(clock)))?)
+fn definitions_follow_a(alloc: Global, defined: &str) -> Result<bool, Memory> {
+    match system(alloc, &[], defined)? {
+        Some(system) => follow_a(alloc, &system),
+        None => Ok(false),
+    }
 }
 
-// x0 is a inter a, and each other one x inter x over the clock before
+// x is a inter a, and each other one w inter w over the clock w before
 #[test]
 fn sixty_three_definitions(rt: HostRuntime) -> Result<(), Fail> {
-    let mut definitions = Vec::new(rt.alloc());
-    for number in 0..63u32 {
-        let below = if number == 0 { 0 } else { number + 2 };
-        let (x, y) = (named(rt.alloc(), below)?, named(rt.alloc(), below)?);
-        definitions.push(Expr::Binary(ExprOp::Inter, x, y))?;
+    let mut defined = String::from_str(rt.alloc(), "a a inter")?;
+    for number in 3..65u32 {
+        write!(defined, " ; {number} clock {number} clock inter")?;
     }
-    match assembled(rt.alloc(), defined(rt.alloc(), definitions)?)? {
-        Some(system) => {
-            let mut states = States::open(rt.alloc(), &system)?;
-            for declared in sets_of(rt.alloc(), "a b a ab c a a b b a")? {
-                let step = states.advance(&declared);
-                let want = if declared.has(0) { 63 } else { 0 };
-                assert_eq!(rt; step.len(), declared.len().saturating_add(want));
-            }
-        }
-        None => assert!(rt; false, "refused"),
-    }
+    assert!(rt; definitions_follow_a(rt.alloc(), defined.as_str())?);
     Ok(())
+}
+
+/// Whether 61 clocks tick with a at each step, and 542 from step 4,096 on.
+fn tick_late(alloc: Global, system: &System) -> Result<bool, Memory> {
+    let mut states = States::open(alloc, system)?;
+    let mut late = true;
+    for n in 0..4100u32 {
+        let want = if n < 4096 { 61 } else { 542 };
+        late = late && states.advance(&set_of("a")).len() == want;
+    }
+    Ok(late)
+}
+
+fn fills_the_cells(alloc: Global, defined: &str) -> Result<bool, Memory> {
+    match system(alloc, &[], defined)? {
+        Some(system) if system.cells() == MAX_CELLS => tick_late(alloc, &system),
+        _ => Ok(false),
+    }
 }
 
 // 481 times a 4,096 delayed on a, with 68 cells each, and 60 names
 #[test]
 fn a_row_of_as_many_cells_as_are_allowed(rt: HostRuntime) -> Result<(), Fail> {
-    let mut definitions = Vec::new(rt.alloc());
+    let mut defined = String::new(rt.alloc());
     for _ in 0..481 {
-        let (x, y) = (named(rt.alloc(), 0)?, named(rt.alloc(), 0)?);
-        definitions.push(Expr::Delayed(x, 4096, y))?;
+        defined.push_str(" a a 4096 delayed ;")?;
     }
     for _ in 0..60 {
-        definitions.push(Expr::Name(Place::Clock(0)))?;
+        defined.push_str(" a ;")?;
     }
-    match assembled(rt.alloc(), defined(rt.alloc(), definitions)?)? {
-        Some(system) => {
-            assert_eq!(rt; system.cells(), MAX_CELLS);
-            let mut states = States::open(rt.alloc(), &system)?;
-            for n in 0..4100u32 {
-                let declared = sets_of(rt.alloc(), "a")?;
-                let ticks = match declared.get(0) {
-                    Some(declared) => states.advance(declared).len(),
-                    None => 0,
-                };
-                assert_eq!(rt; ticks, if n < 4096 { 61 } else { 542 }, "step {n}");
-            }
-        }
-        None => assert!(rt; false, "refused"),
-    }
+    assert!(rt; fills_the_cells(rt.alloc(), defined.as_str())?);
     Ok(())
 }

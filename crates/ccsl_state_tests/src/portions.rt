@@ -3,11 +3,12 @@
 ghost use Rattle.std.specs.Prelude.{◌≡◌, ◌<◌, ◌≤◌, true};
 ghost use Rattle.ccsl_base.specs.Clocks.{are_below};
 
-use crate::random::{below, system};
-use crate::steps::{assembled, set_of};
+use crate::alike::same_members;
+use crate::random::below;
 use ccsl_base::{ClockSet, MAX_CLOCKS, Memory};
 use ccsl_kernel::System;
-use ccsl_small_systems::parts::parts;
+use ccsl_small_systems::parts::system;
+use ccsl_small_systems::postfix::set_of;
 use ccsl_state::{Part, States};
 use rand_pcg::Pcg32;
 use std::alloc::Global;
@@ -57,43 +58,38 @@ fn agrees(
     Ok(true)
 }
 
-/// Whether a random system is accepted, and four random sets of its clocks can be followed alone.
-fn trial(alloc: Global, generator: &mut Pcg32) -> Result<bool, Fail> {
-    let parts = system(alloc, generator)?;
-    match assembled(alloc, parts)? {
-        Some(system) => {
-            for _ in 0..4 {
-                let clocks = drawn(generator, system.scope().named);
-                if !agrees(alloc, &system, &clocks, generator)? {
-                    return Ok(false);
-                }
-            }
-            Ok(true)
+/// Whether each of four random sets of clocks can be followed alone.
+pub fn portions_agree(
+    alloc: Global,
+    generator: &mut Pcg32,
+    system: &System,
+) -> Result<bool, Memory> {
+    for _ in 0..4 {
+        let clocks = drawn(generator, system.scope().named);
+        if !agrees(alloc, system, &clocks, generator)? {
+            return Ok(false);
         }
+    }
+    Ok(true)
+}
+
+/// Whether just the wanted clocks are followed.
+fn leads_to(alloc: Global, system: &System, clocks: &str, want: &str) -> Result<bool, Memory> {
+    let part = Part::open(alloc, system, &set_of(clocks))?;
+    Ok(same_members(part.followed(), &set_of(want)))
+}
+
+// x over a, y over b, z over x, v over an argument of a call, w over z and v
+fn leads(alloc: Global, clocks: &str, want: &str) -> Result<bool, Memory> {
+    let defined = "a 1 delay ; b ; x b union ; y clock-arg 0 0 call ; z v inter";
+    match system(alloc, &[("c", "0 param 1 delay")], defined)? {
+        Some(system) => leads_to(alloc, &system, clocks, want),
         None => Ok(false),
     }
 }
 
 #[test]
-fn three_hundred_random_systems_in_part(rt: HostRuntime) -> Result<(), Fail> {
-    let mut generator = Pcg32::new(43, 54);
-    for number in 0..300 {
-        assert!(rt; trial(rt.alloc(), &mut generator)?, "system {number}");
-    }
-    Ok(())
-}
-
-// x over a, y over b, z over x, v over an argument of a call, w over z and v
-#[test]
 fn what_clocks_lead_to(rt: HostRuntime) -> Result<(), Fail> {
-    let groups = [("c", "0 param 1 delay")];
-    let defined = [
-        "a 1 delay",
-        "b",
-        "x b union",
-        "y clock-arg 0 0 call",
-        "z v inter",
-    ];
     let rows = [
         ("", ""),
         ("a", "a"),
@@ -103,17 +99,8 @@ fn what_clocks_lead_to(rt: HostRuntime) -> Result<(), Fail> {
         ("w", "abxyzvw"),
         ("cy", "bcy"),
     ];
-    match assembled(rt.alloc(), parts(rt.alloc(), &groups, &defined)?)? {
-        Some(system) => {
-            for (clocks, want) in rows {
-                let part = Part::open(rt.alloc(), &system, &set_of(clocks))?;
-                let want = set_of(want);
-                let found = part.followed();
-                assert!(rt; found.members().all(|x| want.has(x)), "{clocks}");
-                assert!(rt; want.members().all(|x| found.has(x)), "{clocks}");
-            }
-        }
-        None => assert!(rt; false, "refused"),
+    for (clocks, want) in rows {
+        assert!(rt; leads(rt.alloc(), clocks, want)?, "{clocks}");
     }
     Ok(())
 }

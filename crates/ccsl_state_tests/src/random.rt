@@ -1,17 +1,13 @@
 //! Random systems, with two pairs of definitions and four constraints, and random lists of declared ticks.
 
-ghost use Rattle.std.specs.Prelude.{◌<◌, ◌≤◌};
+ghost use Rattle.std.specs.Prelude.{◌<◌};
 
-use ccsl_base::{ClockSet, Memory, Seq, Text};
-use ccsl_kernel::{
-    Constraint, Expr, ExprOp, ExprTest, NumPrim, NumTerm, Parts, Place, RelationKind, Value,
-    WordPlace,
-};
-use ccsl_small_systems::parts::parts;
+use ccsl_base::{Memory, Seq, Text};
+use ccsl_kernel::{Constraint, RelationKind, System};
+use ccsl_small_systems::parts::{assembled, related};
 use rand_core::utils::NextWord;
 use rand_pcg::Pcg32;
 use std::alloc::Global;
-use std::test::Fail;
 
 /// Members that name a clock, and a number or a word: a period that grows, a word's letters one by one, and a call of the first.
 const GROUPS: [(&str, &str); 3] = [
@@ -29,17 +25,63 @@ const GROUPS: [(&str, &str); 3] = [
     ),
 ];
 
-const OPERATORS: [ExprOp; 10] = [
-    ExprOp::Union,
-    ExprOp::Inter,
-    ExprOp::Minus,
-    ExprOp::Inf,
-    ExprOp::Sup,
-    ExprOp::Upto,
-    ExprOp::UptoWeakly,
-    ExprOp::Then,
-    ExprOp::Sampled,
-    ExprOp::SampledWeakly,
+/// What makes a call of a clock.
+const CALLS: [&str; 14] = [
+    "clock-arg 0 number-arg 0 0 call",
+    "clock-arg 1 number-arg 0 0 call",
+    "clock-arg 2 number-arg 0 0 call",
+    "clock-arg 3 number-arg 0 0 call",
+    "clock-arg 0 number-arg 2 0 call",
+    "clock-arg 1 number-arg 2 0 call",
+    "clock-arg 2 number-arg 2 0 call",
+    "clock-arg 3 number-arg 2 0 call",
+    "clock-arg 0 0 word-arg 1 0 call",
+    "clock-arg 0 1 word-arg 1 0 call",
+    "clock-arg 0 2 word-arg 1 0 call",
+    "clock-arg 0 3 word-arg 1 0 call",
+    "clock-arg 1 0 word-arg 1 0 call",
+    "clock-arg 1 1 word-arg 1 0 call",
+];
+
+/// Operators over one expression. The words are 101 and (10).
+const OVER_ONE: [&str; 14] = [
+    "0 delay",
+    "1 delay",
+    "2 delay",
+    "3 delay",
+    "0 await",
+    "1 await",
+    "2 await",
+    "3 await",
+    "0 0 filter",
+    "0 1 filter",
+    "0 2 filter",
+    "0 3 filter",
+    "1 0 filter",
+    "1 1 filter",
+];
+
+/// Operators and choices over two expressions.
+const OVER_TWO: [&str; 19] = [
+    "union",
+    "inter",
+    "minus",
+    "inf",
+    "sup",
+    "upto",
+    "upto-weakly",
+    "then",
+    "then",
+    "then",
+    "sampled",
+    "weakly",
+    "1 delayed",
+    "2 delayed",
+    "3 delayed",
+    "0 0 head if",
+    "0 1 head if",
+    "0 3 head if",
+    "1 1 head if",
 ];
 
 /// A number below a bound.
@@ -50,112 +92,66 @@ pub fn below(generator: &mut Pcg32, bound: u32) -> u32
     generator.next_word() % bound
 }
 
-/// The clock a or b, or one that is defined: x and y in turn, without c.
-fn clock(generator: &mut Pcg32, clocks: u32) -> u32
-    requires { 0 < clocks }
-{
-    let place = below(generator, clocks);
-    if place < 2 {
-        place
-    } else {
-        place.saturating_add(1)
+/// Writes one of some words.
+fn write_any(text: &mut String, generator: &mut Pcg32, words: &[&str]) -> Result<(), Memory> {
+    let count = words.len() as u32;
+    if count == 0 {
+        return Ok(());
     }
-}
-
-fn term(alloc: Global, number: u32) -> NumTerm {
-    NumTerm {
-        first: NumPrim::Num(number),
-        rest: Seq::new(Vec::new(alloc)),
-    }
-}
-
-/// A word of the table with an offset: the words are 101 and (10).
-fn word(generator: &mut Pcg32) -> WordPlace {
-    if below(generator, 2) == 0 {
-        WordPlace::Word(0, u64::from(below(generator, 4)))
-    } else {
-        WordPlace::Word(1, u64::from(below(generator, 2)))
-    }
-}
-
-fn call(alloc: Global, generator: &mut Pcg32, clocks: u32) -> Result<Expr, Memory>
-    requires { 0 < clocks }
-{
-    let group = below(generator, 3);
-    let mut args = Vec::new(alloc);
-    args.push(Value::Clock(Place::Clock(clock(generator, clocks))))?;
-    if group == 1 {
-        args.push(Value::Word(word(generator)))?;
-    } else {
-        args.push(Value::Number(term(alloc, below(generator, 4))))?;
-    }
-    Ok(Expr::Call {
-        group,
-        member: 0,
-        args: Seq::new(args),
-    })
-}
-
-fn leaf(alloc: Global, generator: &mut Pcg32, clocks: u32) -> Result<Expr, Memory>
-    requires { 0 < clocks }
-{
-    match below(generator, 8) {
-        0 => Ok(Expr::Never),
-        1 | 2 => call(alloc, generator, clocks),
-        _ => Ok(Expr::Name(Place::Clock(clock(generator, clocks)))),
-    }
-}
-
-/// An operator over one expression.
-fn over_one(alloc: Global, generator: &mut Pcg32, a: Expr) -> Result<Expr, Memory> {
-    let a = Box::new(alloc, a)?;
-    match below(generator, 3) {
-        0 => Ok(Expr::Delay(a, term(alloc, below(generator, 4)))),
-        1 => Ok(Expr::Await(a, term(alloc, below(generator, 4)))),
-        _ => Ok(Expr::Filter(a, word(generator))),
-    }
-}
-
-/// An operator or a choice over two expressions.
-fn over_two(alloc: Global, generator: &mut Pcg32, a: Expr, d: Expr) -> Result<Expr, Memory> {
-    let a = Box::new(alloc, a)?;
-    let d = Box::new(alloc, d)?;
-    match below(generator, 14) {
-        0 => Ok(Expr::Delayed(a, 1 + below(generator, 3), d)),
-        1 => Ok(Expr::If(ExprTest::Head(word(generator)), a, d)),
-        choice => match OPERATORS.get(choice as usize - 2) {
-            Some(op) => Ok(Expr::Binary(*op, a, d)),
-            None => Ok(Expr::Binary(ExprOp::Then, a, d)),
-        },
-    }
-}
-
-fn expression(alloc: Global, generator: &mut Pcg32, clocks: u32, depth: u32) -> Result<Expr, Memory>
-    requires { 0 < clocks }
-{
-    if depth == 0 {
-        return leaf(alloc, generator, clocks);
-    }
-    let a = expression(alloc, generator, clocks, depth - 1)?;
-    if below(generator, 3) == 0 {
-        return over_one(alloc, generator, a);
-    }
-    let d = expression(alloc, generator, clocks, depth - 1)?;
-    over_two(alloc, generator, a, d)
-}
-
-/// A definition, and one that follows it: x, and `x then c`.
-fn push_pair(
-    alloc: Global,
-    definitions: &mut Vec<Expr>,
-    x: Expr,
-    number: u32,
-) -> Result<(), Memory> {
-    let name = Box::new(alloc, Expr::Name(Place::Clock(number)))?;
-    let c = Box::new(alloc, Expr::Name(Place::Clock(2)))?;
-    definitions.push(x)?;
-    definitions.push(Expr::Binary(ExprOp::Then, name, c))?;
+    let word = words.get(below(generator, count) as usize);
+    text.push(' ')?;
+    text.push_str(word.copied().unwrap_or("never"))?;
     Ok(())
+}
+
+fn write_leaf(text: &mut String, generator: &mut Pcg32, clocks: &[&str]) -> Result<(), Memory> {
+    let choice = below(generator, 8);
+    if choice == 0 {
+        return write_any(text, generator, &["never"]);
+    }
+    write_any(text, generator, clocks)?;
+    if choice < 3 {
+        write_any(text, generator, &CALLS)?;
+    }
+    Ok(())
+}
+
+/// Writes an operator over one leaf, or over two.
+fn write_operation(
+    text: &mut String,
+    generator: &mut Pcg32,
+    clocks: &[&str],
+) -> Result<(), Memory> {
+    write_leaf(text, generator, clocks)?;
+    if below(generator, 3) == 0 {
+        return write_any(text, generator, &OVER_ONE);
+    }
+    write_leaf(text, generator, clocks)?;
+    write_any(text, generator, &OVER_TWO)
+}
+
+/// Writes an operator over one such operation, or over two.
+fn write_expression(
+    text: &mut String,
+    generator: &mut Pcg32,
+    clocks: &[&str],
+) -> Result<(), Memory> {
+    write_operation(text, generator, clocks)?;
+    if below(generator, 3) == 0 {
+        return write_any(text, generator, &OVER_ONE);
+    }
+    write_operation(text, generator, clocks)?;
+    write_any(text, generator, &OVER_TWO)
+}
+
+/// Two pairs of a definition and one that follows it: x, and `x then c`.
+fn definitions(alloc: Global, generator: &mut Pcg32) -> Result<String, Memory> {
+    let mut text = String::new(alloc);
+    write_expression(&mut text, generator, &["a", "b"])?;
+    text.push_str(" ; x c then ;")?;
+    write_expression(&mut text, generator, &["a", "b", "x", "y"])?;
+    text.push_str(" ; z c then")?;
+    Ok(text)
 }
 
 fn kind(generator: &mut Pcg32) -> RelationKind {
@@ -182,29 +178,24 @@ fn constraints(alloc: Global, generator: &mut Pcg32) -> Result<Seq<Constraint>, 
     Ok(Seq::new(constraints))
 }
 
-pub fn system(alloc: Global, generator: &mut Pcg32) -> Result<Parts, Fail> {
-    let mut parts = parts(alloc, &GROUPS, &["a", "a", "a", "a"])?;
-    let mut definitions = Vec::new(alloc);
-    let x = expression(alloc, generator, 2, 2)?;
-    push_pair(alloc, &mut definitions, x, 3)?;
-    let x = expression(alloc, generator, 4, 2)?;
-    push_pair(alloc, &mut definitions, x, 5)?;
-    parts.definitions = Seq::new(definitions);
-    parts.constraints = constraints(alloc, generator)?;
-    Ok(parts)
+/// A random system, which is always accepted.
+pub fn system(alloc: Global, generator: &mut Pcg32) -> Result<Option<System>, Memory> {
+    let defined = definitions(alloc, generator)?;
+    let constraints = constraints(alloc, generator)?;
+    assembled(
+        alloc,
+        related(alloc, constraints, &GROUPS, defined.as_str())?,
+    )
 }
 
-/// So many sets of the clocks a, b and c.
-pub fn sets(alloc: Global, generator: &mut Pcg32, count: u32) -> Result<Vec<ClockSet>, Memory> {
-    let mut sets = Vec::new(alloc);
+/// So many sets of the clocks a, b and c, as a text. A stroke stands for a clock that does not tick.
+pub fn steps(alloc: Global, generator: &mut Pcg32, count: u32) -> Result<String, Memory> {
+    let mut text = String::new(alloc);
     for _ in 0..count {
-        let mut set = ClockSet::empty();
-        for clock in 0..3u32 {
-            if below(generator, 2) == 0 {
-                set.insert(clock);
-            }
+        text.push(' ')?;
+        for clock in ['a', 'b', 'c'] {
+            text.push(if below(generator, 2) == 0 { clock } else { '-' })?;
         }
-        sets.push(set)?;
     }
-    Ok(sets)
+    Ok(text)
 }
