@@ -55,7 +55,7 @@ fn death_agrees(
 ) -> bool
     requires { states.now.system ≡ system.now }
 {
-    if item % 2 == 1 && item < system.definitions() && !list.is_empty() {
+    if 0 < item && item % 2 == 1 && item < system.definitions() && !list.is_empty() {
         states.dead(item - 1) == is_after(slow)
     } else {
         true

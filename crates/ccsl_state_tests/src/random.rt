@@ -94,11 +94,11 @@ pub fn below(generator: &mut Pcg32, bound: u32) -> u32
 
 /// Writes one of some words.
 fn write_any(text: &mut String, generator: &mut Pcg32, words: &[&str]) -> Result<(), Memory> {
-    let count = words.len() as u32;
+    let count = words.len();
     if count == 0 {
         return Ok(());
     }
-    let word = words.get(below(generator, count) as usize);
+    let word = words.get(generator.next_word() as usize % count);
     text.push(' ')?;
     text.push_str(word.copied().unwrap_or("never"))?;
     Ok(())

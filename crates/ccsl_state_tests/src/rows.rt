@@ -80,10 +80,13 @@ fn operators_tick_and_die(rt: HostRuntime) -> Result<(), Fail> {
 
 /// Whether x ticks at the steps 70, 102 and 134 of 150 alone.
 fn is_late(ticks: &[u8]) -> bool {
-    (0..150usize).all(|n| {
+    for n in 0..150usize {
         let want = n >= 70 && (n - 70) % 32 == 0;
-        (ticks.get(n).copied() == Some(b'1')) == want
-    })
+        if (ticks.get(n).copied() == Some(b'1')) != want {
+            return false;
+        }
+    }
+    true
 }
 
 // a delayed of more than 64 places, whose row of bits goes round: each tick of a is seen at the 70th tick of b after it
