@@ -31,11 +31,8 @@ pub(crate) fn meets_failure<R: Threads + Sync + Abort>(
     let looked = Looked::Written(Slot::Report);
     let found = answer_in(rt, alloc, line, texts, failing, piece, looked, &NoGate)?;
     assert!(rt; report.starts_with(found.text.as_str()));
-    if found.status == 5 {
-        return Ok(true);
-    }
-    assert_eq!(rt; (found.status, found.text.as_str()), (0, report));
-    Ok(false)
+    assert!(rt; found.status == 5 || found.status == 0 && found.text.as_str() == report);
+    Ok(found.status == 5)
 }
 
 // Lets each call of each kind fail, until one does not.

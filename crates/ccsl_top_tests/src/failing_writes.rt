@@ -2,7 +2,7 @@
 
 ghost use Rattle.std.specs.Prelude.{◌≤◌};
 
-use crate::answered::{Looked, answer_in};
+use crate::answered::{Answer, Looked, answer_in};
 use crate::failing::meets_failure;
 use ccsl_edge::{CallKind, Slot};
 use ccsl_pool::NoGate;
@@ -30,11 +30,10 @@ fn seen<R: Threads + Sync>(
     failing: (CallKind, u64),
     piece: usize,
     looked: Looked<'_>,
-) -> Result<String, Fail>
+) -> Result<Answer, Fail>
     requires { 1 ≤ piece }
 {
-    let found = answer_in(rt, alloc, LINE, TEXTS, failing, piece, looked, &NoGate)?;
-    Ok(found.text)
+    answer_in(rt, alloc, LINE, TEXTS, failing, piece, looked, &NoGate)
 }
 
 // Asserts that what was put out are fronts, that each file is whole or not there, and whole where no call failed.
@@ -48,12 +47,12 @@ fn leaves_fronts<R: Threads + Sync + Abort>(
     requires { 1 ≤ piece }
 {
     let put = seen(rt, alloc, failing, piece, Looked::Written(Slot::TraceOut))?;
-    assert!(rt; TRACE.starts_with(put.as_str()));
+    assert!(rt; TRACE.starts_with(put.text.as_str()));
     let file = seen(rt, alloc, failing, piece, Looked::File("x"))?;
-    let whole = file.as_str() == TRACE;
-    assert!(rt; whole || failed && file.as_str() == "no file");
+    let whole = file.text.as_str() == TRACE;
+    assert!(rt; whole || failed && file.text.as_str() == "no file");
     let cert = seen(rt, alloc, failing, piece, Looked::Written(Slot::CertOut))?;
-    assert!(rt; cert.is_empty());
+    assert!(rt; cert.text.is_empty());
     Ok(())
 }
 
