@@ -1,6 +1,6 @@
 //! Explanations of why no step is left, behind their traces.
 
-use crate::answered::{Looked, answer_over, answers, spec_of, trace_of};
+use crate::answered::{Answer, Looked, answer_over, answers, spec_of, trace_of};
 use std::alloc::Global;
 use std::process::Abort;
 use std::test::*;
@@ -12,17 +12,10 @@ fn certificate_of<R: Threads + Sync>(
     alloc: Global,
     spec: &str,
     trace: &str,
-) -> Result<String, Fail> {
+) -> Result<Answer, Fail> {
     let line = "explain spec=s trace=t cert=d";
-    let found = answer_over(
-        rt,
-        alloc,
-        line,
-        [spec, trace, "", ""],
-        4096,
-        Looked::File("d"),
-    )?;
-    Ok(found.text)
+    let left = Looked::File("d");
+    answer_over(rt, alloc, line, [spec, trace, "", ""], 4096, left)
 }
 
 // Asserts what `explain` answers, and that a certificate is there, and is valid, exactly where items block.
@@ -41,7 +34,7 @@ fn explains<R: Threads + Sync + Abort>(
     answers(rt, alloc, line, [spec, trace, "", ""], answer)?;
     let cert = certificate_of(rt, alloc, spec, trace)?;
     if answer.0 != 0 {
-        assert_eq!(rt; cert.as_str(), "no file");
+        assert_eq!(rt; cert.text.as_str(), "no file");
         return Ok(());
     }
     let line = "certify spec=s trace=t cert=c";
@@ -49,7 +42,7 @@ fn explains<R: Threads + Sync + Abort>(
         rt,
         alloc,
         line,
-        [spec, trace, cert.as_str(), ""],
+        [spec, trace, cert.text.as_str(), ""],
         (0, steps),
     )
 }
