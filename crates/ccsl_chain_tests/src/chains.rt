@@ -42,7 +42,7 @@ fn text(alloc: Global, clocks: u32) -> Result<String, Memory> {
 fn elaborated(rt: &impl Abort, alloc: Global, clocks: u32) -> Result<System, Fail> {
     let text = text(alloc, clocks)?;
     let found = tokens(alloc, text.as_bytes())?;
-    let file = parse(alloc, found.as_slice())?;
+    let file = Box::new(alloc, parse(alloc, found.as_slice())?)?;
     let library = library(alloc)?;
     match elaborate(alloc, &file, &library) {
         Ok(system) => Ok(system),
@@ -58,41 +58,21 @@ fn are_same(a: &System, b: &System) -> bool {
         && same_constraints(a, b)
 }
 
-fn is_its_text(rt: &impl Abort, alloc: Global, clocks: u32) -> Result<(), Fail> {
-    if !(2..=512).contains(&clocks) {
+// Whether a chain is the system that the text of a chain, of so many clocks too or of others, is elaborated to.
+fn are_alike(rt: &impl Abort, alloc: Global, made: u32, read: u32) -> Result<bool, Fail> {
+    if !(2..=512).contains(&made) {
         return Err(Fail::from("a chain has 2 to 512 clocks"));
     }
-    let made = chain(alloc, clocks)?;
-    let read = elaborated(rt, alloc, clocks)?;
-    assert!(rt; are_same(&made, &read));
-    Ok(())
+    let made = Box::new(alloc, chain(alloc, made)?)?;
+    let read = elaborated(rt, alloc, read)?;
+    Ok(are_same(&made, &read))
 }
 
 #[test]
-fn shortest(rt: HostRuntime) -> Result<(), Fail> {
-    is_its_text(&rt, rt.alloc(), 2)
-}
-
-#[test]
-fn of_three_clocks(rt: HostRuntime) -> Result<(), Fail> {
-    is_its_text(&rt, rt.alloc(), 3)
-}
-
-#[test]
-fn of_24_clocks(rt: HostRuntime) -> Result<(), Fail> {
-    is_its_text(&rt, rt.alloc(), 24)
-}
-
-#[test]
-fn longest(rt: HostRuntime) -> Result<(), Fail> {
-    is_its_text(&rt, rt.alloc(), 512)
-}
-
-#[test]
-fn other_lengths_differ(rt: HostRuntime) -> Result<(), Fail> {
-    let alloc = rt.alloc();
-    let made = chain(alloc, 3)?;
-    let read = elaborated(&rt, alloc, 4)?;
-    assert!(rt; !are_same(&made, &read));
+fn each_chain_is_its_text(rt: HostRuntime) -> Result<(), Fail> {
+    for (made, read) in [(2, 2), (3, 3), (24, 24), (512, 512), (3, 4)] {
+        let alike = are_alike(&rt, rt.alloc(), made, read)?;
+        assert_eq!(rt; alike, made == read, "{made} and {read} clocks");
+    }
     Ok(())
 }

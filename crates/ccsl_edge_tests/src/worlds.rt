@@ -21,6 +21,14 @@ fn three_files(alloc: Global) -> Result<Vec<HeldFile>, AllocError> {
     Ok(vec![in alloc; first, second, third]?)
 }
 
+// Whether these bytes were read.
+fn is(read: Result<Vec<u8>, ReadFault>, wanted: &[u8]) -> bool {
+    match read {
+        Ok(bytes) => bytes.as_slice() == wanted,
+        Err(_fault) => false,
+    }
+}
+
 #[test]
 fn reads_all_in_pieces(rt: HostRuntime) -> Result<(), Fail> {
     for piece in [1, 4, 4096] {
@@ -30,8 +38,8 @@ fn reads_all_in_pieces(rt: HostRuntime) -> Result<(), Fail> {
             (5, Err(ReadFault::TooLong)),
             (0, Err(ReadFault::TooLong)),
         ] {
-            let failing = vec![in rt.alloc()]?;
-            let mut world = MemoryWorld::new(rt.alloc(), three_files(rt.alloc())?, failing, piece);
+            let files = three_files(rt.alloc())?;
+            let mut world = MemoryWorld::new(rt.alloc(), files, Vec::new(rt.alloc()), piece);
             assert_eq!(rt; world.open_in(Slot::Trace, "twice"), Ok(()));
             let got = read_all(rt.alloc(), &mut world, Slot::Trace, limit);
             assert_eq!(rt;
@@ -47,17 +55,15 @@ fn reads_all_in_pieces(rt: HostRuntime) -> Result<(), Fail> {
 #[test]
 fn reads_input_and_fails_as_listed(rt: HostRuntime) -> Result<(), Fail> {
     let failing = vec![in rt.alloc(); (CallKind::Read, 4)]?;
-    let world = MemoryWorld::new(rt.alloc(), vec![in rt.alloc()]?, failing, 2);
-    let mut world = world.with_input(Vec::from_slice(rt.alloc(), b"abcd")?);
-    assert_eq!(rt;
-        read_all(rt.alloc(), &mut world, Slot::Input, 4)?.as_slice(),
-        b"abcd".as_slice()
-    );
+    let input = Vec::from_slice(rt.alloc(), b"abcd")?;
+    let world = MemoryWorld::new(rt.alloc(), Vec::new(rt.alloc()), failing, 2);
+    let mut world = world.with_input(input);
+    assert!(rt; is(read_all(rt.alloc(), &mut world, Slot::Input, 4), b"abcd"));
     assert_eq!(rt;
         read_all(rt.alloc(), &mut world, Slot::Input, 4).err(),
         Some(ReadFault::Fault)
     );
-    assert_eq!(rt; read_all(rt.alloc(), &mut world, Slot::Spec, 4)?.len(), 0);
+    assert!(rt; is(read_all(rt.alloc(), &mut world, Slot::Spec, 4), b""));
     assert_eq!(rt;
         (
             world.faults(Slot::Input),
@@ -72,7 +78,7 @@ fn reads_input_and_fails_as_listed(rt: HostRuntime) -> Result<(), Fail> {
 #[test]
 fn third_write_fails(rt: HostRuntime) -> Result<(), Fail> {
     let failing = vec![in rt.alloc(); (CallKind::Write, 3)]?;
-    let mut world = MemoryWorld::new(rt.alloc(), vec![in rt.alloc()]?, failing, 2);
+    let mut world = MemoryWorld::new(rt.alloc(), Vec::new(rt.alloc()), failing, 2);
     assert_eq!(rt;
         write_all(&mut world, Slot::Report, b"abcdefgh"),
         Err(Failed)
@@ -82,21 +88,25 @@ fn third_write_fails(rt: HostRuntime) -> Result<(), Fail> {
     Ok(())
 }
 
+// Whether a file holds the text that is written to it.
+fn keeps(world: &mut MemoryWorld, name: &str, text: &str) -> Result<bool, Failed> {
+    world.open_out(Slot::TraceOut, name)?;
+    write_all(world, Slot::TraceOut, text.as_bytes())?;
+    let is_written = world.written(Slot::TraceOut) == text.as_bytes();
+    world.close_out(Slot::TraceOut)?;
+    Ok(is_written && world.file(name) == Some(text.as_bytes()))
+}
+
 #[test]
 fn holds_files_by_name(rt: HostRuntime) -> Result<(), Fail> {
-    let failing = vec![in rt.alloc()]?;
-    let mut world = MemoryWorld::new(rt.alloc(), three_files(rt.alloc())?, failing, 4096);
+    let files = three_files(rt.alloc())?;
+    let mut world = MemoryWorld::new(rt.alloc(), files, Vec::new(rt.alloc()), 4096);
     assert_eq!(rt; world.open_in(Slot::Spec, "absent"), Err(Failed));
     assert_eq!(rt; (world.faults(Slot::Spec), world.starved()), (1, 0));
     assert_eq!(rt; world.file("absent"), None);
     assert_eq!(rt; world.file("twice"), Some(b"abcdef".as_slice()));
-    for (name, text) in [("twice", "one"), ("new", "two")] {
-        world.open_out(Slot::TraceOut, name)?;
-        write_all(&mut world, Slot::TraceOut, text.as_bytes())?;
-        assert_eq!(rt; world.written(Slot::TraceOut), text.as_bytes());
-        world.close_out(Slot::TraceOut)?;
-        assert_eq!(rt; world.file(name), Some(text.as_bytes()));
-    }
+    assert_eq!(rt; keeps(&mut world, "twice", "one"), Ok(true));
+    assert_eq!(rt; keeps(&mut world, "new", "two"), Ok(true));
     assert_eq!(rt; world.file("once"), Some(b"xyz".as_slice()));
     assert_eq!(rt; world.written(Slot::Spec).len(), 0);
     Ok(())
@@ -106,22 +116,24 @@ fn holds_files_by_name(rt: HostRuntime) -> Result<(), Fail> {
 fn steady_files_are_read_again(rt: HostRuntime) -> Result<(), Fail> {
     let mut world = SteadyWorld::new(three_files(rt.alloc())?, 4);
     for _ in 0..2 {
-        world.open_in(Slot::Trace, "twice")?;
-        let all = read_all(rt.alloc(), &mut world, Slot::Trace, 9)?;
-        assert_eq!(rt; all.as_slice(), b"abcdef".as_slice());
+        assert_eq!(rt; world.open_in(Slot::Trace, "twice"), Ok(()));
+        assert!(rt; is(read_all(rt.alloc(), &mut world, Slot::Trace, 9), b"abcdef"));
     }
-    world.open_in(Slot::Cert, "absent")?;
-    assert_eq!(rt; read_all(rt.alloc(), &mut world, Slot::Cert, 9)?.len(), 0);
+    assert_eq!(rt; world.open_in(Slot::Cert, "absent"), Ok(()));
+    assert!(rt; is(read_all(rt.alloc(), &mut world, Slot::Cert, 9), b""));
     Ok(())
 }
 
 #[test]
 fn steady_output_is_taken(rt: HostRuntime) -> Result<(), Fail> {
     let mut world = SteadyWorld::new(three_files(rt.alloc())?, 4);
-    write_all(&mut world, Slot::Report, b"some bytes")?;
-    world.open_out(Slot::TraceOut, "once")?;
-    write_all(&mut world, Slot::TraceOut, b"some bytes")?;
-    world.close_out(Slot::TraceOut)?;
+    assert_eq!(rt; write_all(&mut world, Slot::Report, b"some bytes"), Ok(()));
+    assert_eq!(rt; world.open_out(Slot::TraceOut, "once"), Ok(()));
+    assert_eq!(rt;
+        write_all(&mut world, Slot::TraceOut, b"some bytes"),
+        Ok(())
+    );
+    assert_eq!(rt; world.close_out(Slot::TraceOut), Ok(()));
     Ok(())
 }
 
@@ -129,9 +141,8 @@ fn may_be_shared<T: Send + Sync>(_value: &T) {}
 
 #[test]
 fn worlds_may_be_shared_by_threads(rt: HostRuntime) -> Result<(), Fail> {
-    let files = vec![in rt.alloc()]?;
-    may_be_shared(&SteadyWorld::new(files, 1));
-    let (files, failing) = (vec![in rt.alloc()]?, vec![in rt.alloc()]?);
+    may_be_shared(&SteadyWorld::new(Vec::new(rt.alloc()), 1));
+    let (files, failing) = (Vec::new(rt.alloc()), Vec::new(rt.alloc()));
     may_be_shared(&MemoryWorld::new(rt.alloc(), files, failing, 1));
     may_be_shared(&FileWorld::new(&rt));
     Ok(())
@@ -143,15 +154,18 @@ fn real_files_hold_what_was_written(rt: HostRuntime) -> Result<(), Fail> {
     let missing = env::temp_dir(&rt)?.join(rt.alloc(), "ccsl_edge_missing")?;
     let mut world = FileWorld::new(&rt);
     assert_eq!(rt; world.open_in(Slot::Spec, missing.as_str()), Err(Failed));
-    world.open_out(Slot::TraceOut, path.as_str())?;
-    write_all(&mut world, Slot::TraceOut, b"some bytes")?;
-    world.close_out(Slot::TraceOut)?;
+    assert_eq!(rt; world.open_out(Slot::TraceOut, path.as_str()), Ok(()));
+    assert_eq!(rt;
+        write_all(&mut world, Slot::TraceOut, b"some bytes"),
+        Ok(())
+    );
+    assert_eq!(rt; world.close_out(Slot::TraceOut), Ok(()));
     for (limit, want) in [(10, Ok(10)), (9, Err(ReadFault::TooLong))] {
-        world.open_in(Slot::Trace, path.as_str())?;
+        assert_eq!(rt; world.open_in(Slot::Trace, path.as_str()), Ok(()));
         let got = read_all(rt.alloc(), &mut world, Slot::Trace, limit);
         assert_eq!(rt; got.map(|all| all.len()), want);
     }
-    fs::remove_file(&rt, path.as_str())?;
+    assert!(rt; fs::remove_file(&rt, path.as_str()).is_ok());
     Ok(())
 }
 
@@ -160,13 +174,16 @@ fn a_real_file_is_written_anew(rt: HostRuntime) -> Result<(), Fail> {
     let path = env::temp_dir(&rt)?.join(rt.alloc(), "ccsl_edge_rewritten")?;
     let mut world = FileWorld::new(&rt);
     for text in ["a long text that is written first", "a shorter one"] {
-        world.open_out(Slot::TraceOut, path.as_str())?;
-        write_all(&mut world, Slot::TraceOut, text.as_bytes())?;
-        world.close_out(Slot::TraceOut)?;
-        world.open_in(Slot::Trace, path.as_str())?;
-        let all = read_all(rt.alloc(), &mut world, Slot::Trace, 100)?;
-        assert_eq!(rt; all.as_slice(), text.as_bytes());
+        assert_eq!(rt; world.open_out(Slot::TraceOut, path.as_str()), Ok(()));
+        assert_eq!(rt;
+            write_all(&mut world, Slot::TraceOut, text.as_bytes()),
+            Ok(())
+        );
+        assert_eq!(rt; world.close_out(Slot::TraceOut), Ok(()));
+        assert_eq!(rt; world.open_in(Slot::Trace, path.as_str()), Ok(()));
+        let read = read_all(rt.alloc(), &mut world, Slot::Trace, 100);
+        assert!(rt; is(read, text.as_bytes()));
     }
-    fs::remove_file(&rt, path.as_str())?;
+    assert!(rt; fs::remove_file(&rt, path.as_str()).is_ok());
     Ok(())
 }

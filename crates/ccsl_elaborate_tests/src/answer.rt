@@ -6,9 +6,9 @@ ghost use Rattle.ccsl_rules.specs.Elaborated.{refusal};
 ghost use Rattle.ccsl_accepts.specs.Acceptance.{empty};
 
 use ccsl_ast::File;
-use ccsl_base::{Memory, Seq};
+use ccsl_base::{ClockSet, Memory, Seq};
 use ccsl_elaborate::elaborate;
-use ccsl_kernel::System;
+use ccsl_kernel::{System, plain_formula};
 use ccsl_lex::tokens;
 use ccsl_parse::parse;
 use ccsl_rules::Refusal;
@@ -33,7 +33,7 @@ fn empty_library(alloc: Global) -> File
 
 /// The system of a text, or its refusal.
 pub fn answer(alloc: Global, text: &str) -> Result<Result<System, Refusal>, Fail> {
-    let own = file(alloc, text)?;
+    let own = Box::new(alloc, file(alloc, text)?)?;
     let library = empty_library(alloc);
     Ok(elaborate(alloc, &own, &library))
 }
@@ -53,6 +53,34 @@ pub fn refused(rt: &impl Abort, alloc: Global, text: &str, refusal: Refusal) -> 
         Err(found) => assert_eq!(rt; found, refusal),
     }
     Ok(())
+}
+
+fn item_holds(
+    alloc: Global,
+    system: &System,
+    item: u32,
+    steps: &[ClockSet],
+    set: &ClockSet,
+) -> Result<bool, Fail> {
+    if item >= system.items() {
+        return Err(Fail::from("the text has no such item"));
+    }
+    let formula = plain_formula(alloc, system, item, steps)?;
+    Ok(formula.eval(set))
+}
+
+/// Whether an item of a text's system holds in a set of clocks after these steps.
+pub fn holds(
+    alloc: Global,
+    text: &str,
+    item: u32,
+    steps: &[ClockSet],
+    set: &ClockSet,
+) -> Result<bool, Fail> {
+    match answer(alloc, text)? {
+        Ok(system) => item_holds(alloc, &system, item, steps, set),
+        Err(_refusal) => Err(Fail::from("the text is refused")),
+    }
 }
 
 /// So many copies of a part.

@@ -1,8 +1,7 @@
 //! The members of the library, each used once.
 
-use crate::answer::system;
+use crate::answer::{holds, system};
 use ccsl_base::ClockSet;
-use ccsl_kernel::plain_formula;
 use std::test::Fail;
 
 const TEXT: &str = "ccsl 1;
@@ -25,17 +24,13 @@ fn cells(rt: HostRuntime) -> Result<(), Fail> {
 #[test]
 fn first_steps(rt: HostRuntime) -> Result<(), Fail> {
     let alloc = rt.alloc();
-    let system = system(&rt, alloc, TEXT)?;
-    assert!(rt; system.items() == 3);
     let mut alone = ClockSet::empty();
     alone.insert(0);
     let mut with_periodic = ClockSet::empty();
     with_periodic.insert(0);
     with_periodic.insert(1);
-    let first = plain_formula(alloc, &system, 0, &[])?;
-    assert!(rt; first.eval(&alone) && !first.eval(&with_periodic));
-    let steps = Vec::from_array(alloc, [alone])?;
-    let second = plain_formula(alloc, &system, 0, steps.as_slice())?;
-    assert!(rt; second.eval(&with_periodic));
+    assert!(rt; holds(alloc, TEXT, 0, &[], &alone)?);
+    assert!(rt; !holds(alloc, TEXT, 0, &[], &with_periodic)?);
+    assert!(rt; holds(alloc, TEXT, 0, &[alone], &with_periodic)?);
     Ok(())
 }

@@ -1,14 +1,22 @@
 //! Calls of relations: paths, labels, arguments, words.
 
-use crate::answer::{refused, system};
+use crate::answer::{answer, holds, refused, system};
 use ccsl_base::{ClockSet, Memory};
-use ccsl_kernel::{Expr, NumPrim, System, WordPlace, plain_formula};
+use ccsl_kernel::{Expr, NumPrim, System, WordPlace};
 use ccsl_rules::Refusal;
 use std::alloc::Global;
 use std::test::Fail;
 
 const ALTERNATES: &str = "ccsl 1; relation alternates(clock a, clock b)
     { define next = a delay 1; a precedes b; b precedes next; }";
+
+// The declared clocks, those that stand in the text, and the cells.
+fn counts(alloc: Global, text: &str) -> Result<(u32, u32, u32), Fail> {
+    match answer(alloc, text)? {
+        Ok(system) => Ok((system.scope().declared, system.written(), system.cells())),
+        Err(_refusal) => Err(Fail::from("the text is refused")),
+    }
+}
 
 // The names, one behind another, each before a semicolon.
 fn names(alloc: Global, system: &System) -> Result<Vec<u8>, Memory> {
@@ -33,45 +41,47 @@ fn constraints(alloc: Global, system: &System) -> Result<Vec<u8>, Memory> {
     Ok(out)
 }
 
-#[test]
-fn alternation(rt: HostRuntime) -> Result<(), Fail> {
-    let alloc = rt.alloc();
-    let text = format!(in alloc; "{ALTERNATES} system {{ clock a, b; alternates(a, b); }}")?;
-    let system = system(&rt, alloc, text.as_str())?;
-    assert_eq!(rt; system.scope().declared, 2);
-    assert_eq!(rt; system.written(), 2);
-    assert_eq!(rt; system.cells(), 6);
-    let names = names(alloc, &system)?;
-    assert_eq!(rt; names.as_slice(), b"a;b;alternates@1.next;".as_slice());
-    let constraints = constraints(alloc, &system)?;
-    assert_eq!(rt;
-        constraints.as_slice(),
-        b"alternates@1 0 1;alternates@1 1 2;".as_slice()
-    );
-    Ok(())
+// The names of a text's system.
+fn names_of(alloc: Global, text: &str) -> Result<Vec<u8>, Fail> {
+    match answer(alloc, text)? {
+        Ok(system) => Ok(names(alloc, &system)?),
+        Err(_refusal) => Err(Fail::from("the text is refused")),
+    }
+}
+
+// The constraints of a text's system.
+fn constraints_of(alloc: Global, text: &str) -> Result<Vec<u8>, Fail> {
+    match answer(alloc, text)? {
+        Ok(system) => Ok(constraints(alloc, &system)?),
+        Err(_refusal) => Err(Fail::from("the text is refused")),
+    }
 }
 
 #[test]
-fn nested_calls(rt: HostRuntime) -> Result<(), Fail> {
+fn paths_and_labels(rt: HostRuntime) -> Result<(), Fail> {
     let alloc = rt.alloc();
-    let text = format!(in alloc;
-        "{ALTERNATES} relation twice(clock x, clock y)
-        {{ x coincides y; alternates(x, y); }}
-        system {{ clock a, b; define c = a union b; twice(b, c); alternates(c, a); }}"
-    )?;
-    let system = system(&rt, alloc, text.as_str())?;
-    assert_eq!(rt; system.written(), 3);
-    assert_eq!(rt; system.cells(), 17);
-    let names = names(alloc, &system)?;
-    assert_eq!(rt;
-        names.as_slice(),
-        b"a;b;c;twice@2.alternates@1.next;alternates@3.next;".as_slice()
-    );
-    let constraints = constraints(alloc, &system)?;
-    assert_eq!(rt;
-        constraints.as_slice(),
-        b"twice@2 1 2;twice@2.alternates@1 1 2;twice@2.alternates@1 2 3;alternates@3 2 0;alternates@3 0 4;".as_slice()
-    );
+    for (lines, numbers, names, constraints) in [
+        (
+            "system { clock a, b; alternates(a, b); }",
+            (2, 2, 6),
+            "a;b;alternates@1.next;",
+            "alternates@1 0 1;alternates@1 1 2;",
+        ),
+        (
+            "relation twice(clock x, clock y) { x coincides y; alternates(x, y); }
+            system { clock a, b; define c = a union b; twice(b, c); alternates(c, a); }",
+            (2, 3, 17),
+            "a;b;c;twice@2.alternates@1.next;alternates@3.next;",
+            "twice@2 1 2;twice@2.alternates@1 1 2;twice@2.alternates@1 2 3;alternates@3 2 0;alternates@3 0 4;",
+        ),
+    ] {
+        let text = format!(in alloc; "{ALTERNATES} {lines}")?;
+        assert_eq!(rt; counts(alloc, text.as_str())?, numbers);
+        let found = names_of(alloc, text.as_str())?;
+        assert_eq!(rt; found.as_slice(), names.as_bytes());
+        let found = constraints_of(alloc, text.as_str())?;
+        assert_eq!(rt; found.as_slice(), constraints.as_bytes());
+    }
     Ok(())
 }
 
@@ -129,17 +139,14 @@ fn numbers(rt: HostRuntime) -> Result<(), Fail> {
 fn formulas(rt: HostRuntime) -> Result<(), Fail> {
     let alloc = rt.alloc();
     let text = format!(in alloc; "{ALTERNATES} system {{ clock a, b; alternates(a, b); }}")?;
-    let system = system(&rt, alloc, text.as_str())?;
-    assert!(rt; system.items() == 3);
+    let text = text.as_str();
     let mut left = ClockSet::empty();
     left.insert(0);
     let mut right = ClockSet::empty();
     right.insert(1);
-    let first = plain_formula(alloc, &system, 1, &[])?;
-    assert!(rt; first.eval(&left) && !first.eval(&right));
-    let steps = Vec::from_array(alloc, [left])?;
-    let second = plain_formula(alloc, &system, 1, steps.as_slice())?;
-    assert!(rt; second.eval(&right));
+    assert!(rt; holds(alloc, text, 1, &[], &left)?);
+    assert!(rt; !holds(alloc, text, 1, &[], &right)?);
+    assert!(rt; holds(alloc, text, 1, &[left], &right)?);
     Ok(())
 }
 

@@ -21,8 +21,8 @@ fn file(alloc: Global, text: &str) -> Result<File, Fail> {
 
 /// The fault of a text behind a library.
 pub fn fault_behind(alloc: Global, library: &str, text: &str) -> Result<Option<Fault>, Fail> {
-    let library = file(alloc, library)?;
-    let own = file(alloc, text)?;
+    let library = Box::new(alloc, file(alloc, library)?)?;
+    let own = Box::new(alloc, file(alloc, text)?)?;
     Ok(first_fault(alloc, &own, &library)?)
 }
 

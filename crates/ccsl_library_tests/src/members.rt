@@ -30,7 +30,7 @@ const STEPS: [&[u32]; 8] = [
 
 fn behind_library(rt: &impl Abort, alloc: Global, text: &str) -> Result<System, Fail> {
     let found = tokens(alloc, text.as_bytes())?;
-    let file = parse(alloc, found.as_slice())?;
+    let file = Box::new(alloc, parse(alloc, found.as_slice())?)?;
     let library = library(alloc)?;
     match elaborate(alloc, &file, &library) {
         Ok(system) => Ok(system),
@@ -94,7 +94,7 @@ fn is_full_step(
 #[test]
 fn members(rt: HostRuntime) -> Result<(), Fail> {
     let alloc = rt.alloc();
-    let system = behind_library(&rt, alloc, TEXT)?;
+    let system = Box::new(alloc, behind_library(&rt, alloc, TEXT)?)?;
     assert_eq!(rt; system.scope().declared, 2);
     assert_eq!(rt; system.written(), 6);
     assert_eq!(rt; system.definitions(), 5);

@@ -1,4 +1,4 @@
-//! The program, run over a world that holds a specification `s` and a trace `t`.
+//! The program, run over a world that holds a specification `s`, a trace `t` and a certificate `c`.
 
 ghost use Rattle.std.specs.Prelude.{◌≤◌};
 
@@ -17,38 +17,83 @@ const KEYS: HashKeys = HashKeys {
     second: 2,
 };
 
-/// What the program answered and reported.
+/// No call: they are counted from 1.
+pub(crate) const NO_CALL: (CallKind, u64) = (CallKind::Read, 0);
+
+/// What is looked at behind a run.
+#[derive(Clone, Copy)]
+pub(crate) enum Looked<'a> {
+    /// What was written to a slot.
+    Written(Slot),
+    /// The file of a name.
+    File(&'a str),
+}
+
+/// The program's status, and what was looked at.
 #[derive(Drop)]
 pub(crate) struct Answer {
     pub status: u8,
-    pub report: String,
+    pub text: String,
 }
 
-/// A file of a name.
-pub(crate) fn held(alloc: Global, name: &str, content: &str) -> Result<HeldFile, Fail> {
+// The bytes that are looked at, or `no file`.
+fn bytes_of<'a>(world: &'a MemoryWorld, looked: Looked<'_>) -> &'a [u8] {
+    match looked {
+        Looked::Written(slot) => world.written(slot),
+        Looked::File(name) => match world.file(name) {
+            Some(bytes) => bytes,
+            None => "no file".as_bytes(),
+        },
+    }
+}
+
+// The status, and what is looked at in a world.
+fn seen(
+    alloc: Global,
+    status: u8,
+    world: &MemoryWorld,
+    looked: Looked<'_>,
+) -> Result<Answer, Fail> {
+    let bytes = Vec::from_slice(alloc, bytes_of(world, looked))?;
+    Ok(Answer {
+        status,
+        text: String::from_utf8(bytes)?,
+    })
+}
+
+// A file of a name.
+fn held(alloc: Global, name: &str, content: &str) -> Result<HeldFile, Fail> {
     let name = String::from_str(alloc, name)?;
     let content = Vec::from_slice(alloc, content.as_bytes())?;
     Ok(HeldFile::new(name, content))
 }
 
-/// A world that moves at most so many bytes at once, and in which some calls fail.
-pub(crate) fn world(
+// The files `s`, `t` and `c` with these texts.
+fn files_of(alloc: Global, texts: [&str; 4]) -> Result<Vec<HeldFile>, Fail> {
+    let mut files = Vec::new(alloc);
+    for (name, content) in [("s", texts[0]), ("t", texts[1]), ("c", texts[2])] {
+        files.push(held(alloc, name, content)?)?;
+    }
+    Ok(files)
+}
+
+// A world of these files and this input, in which one call fails, and each moves at most so many bytes.
+fn world_of(
     alloc: Global,
-    spec: &str,
-    trace: &str,
-    failing: Vec<(CallKind, u64)>,
+    texts: [&str; 4],
+    failing: (CallKind, u64),
     piece: usize,
 ) -> Result<MemoryWorld, Fail>
     requires { 1 ≤ piece }
 {
-    let mut files = Vec::new(alloc);
-    files.push(held(alloc, "s", spec)?)?;
-    files.push(held(alloc, "t", trace)?)?;
-    Ok(MemoryWorld::new(alloc, files, failing, piece))
+    let failing = vec![in alloc; failing]?;
+    let input = Vec::from_slice(alloc, texts[3].as_bytes())?;
+    let files = files_of(alloc, texts)?;
+    Ok(MemoryWorld::new(alloc, files, failing, piece).with_input(input))
 }
 
-/// The words of a command line that are written with blanks between them.
-pub(crate) fn words_of(alloc: Global, line: &str) -> Result<Vec<CommandWord>, Fail> {
+// The words of a command line that are written with blanks between them.
+fn words_of(alloc: Global, line: &str) -> Result<Vec<CommandWord>, Fail> {
     let mut words = Vec::new(alloc);
     for word in line.split(' ') {
         if !word.is_empty() {
@@ -58,36 +103,52 @@ pub(crate) fn words_of(alloc: Global, line: &str) -> Result<Vec<CommandWord>, Fa
     Ok(words)
 }
 
-/// The program's answer in a world, through a gate.
+/// The program's answer over `s`, `t`, `c` and standard input with these texts, where one call fails, through a gate.
 pub(crate) fn answer_in<R: Threads + Sync, G: Gate>(
     rt: &R,
     alloc: Global,
     line: &str,
-    world: &mut MemoryWorld,
+    texts: [&str; 4],
+    failing: (CallKind, u64),
+    piece: usize,
+    looked: Looked<'_>,
     gate: &G,
-) -> Result<Answer, Fail> {
+) -> Result<Answer, Fail>
+    requires { 1 ≤ piece }
+{
     let words = words_of(alloc, line)?;
-    let status = run(rt, alloc, KEYS, words.as_slice(), world, gate);
-    let report = Vec::from_slice(alloc, world.written(Slot::Report))?;
-    Ok(Answer {
-        status,
-        report: String::from_utf8(report)?,
-    })
+    let mut world = world_of(alloc, texts, failing, piece)?;
+    let status = run(rt, alloc, KEYS, words.as_slice(), &mut world, gate);
+    seen(alloc, status, &world, looked)
 }
 
-/// The program's answer over two files.
+/// The program's status, and what is looked at behind a run in which no call fails.
 pub(crate) fn answer_over<R: Threads + Sync>(
     rt: &R,
     alloc: Global,
     line: &str,
-    spec: &str,
-    trace: &str,
+    texts: [&str; 4],
     piece: usize,
+    looked: Looked<'_>,
 ) -> Result<Answer, Fail>
     requires { 1 ≤ piece }
 {
-    let mut world = world(alloc, spec, trace, Vec::new(alloc), piece)?;
-    answer_in(rt, alloc, line, &mut world, &NoGate)
+    answer_in(rt, alloc, line, texts, NO_CALL, piece, looked, &NoGate)
+}
+
+/// Asserts the program's status and report, with reads and writes of one byte and of many.
+pub(crate) fn answers<R: Threads + Sync + Abort>(
+    rt: &R,
+    alloc: Global,
+    line: &str,
+    texts: [&str; 4],
+    answer: (u8, &str),
+) -> Result<(), Fail> {
+    for piece in [1, 4096] {
+        let found = answer_over(rt, alloc, line, texts, piece, Looked::Written(Slot::Report))?;
+        assert_eq!(rt; (found.status, found.text.as_str()), answer);
+    }
+    Ok(())
 }
 
 /// A specification of version 1 with these lines in its system.
@@ -111,25 +172,20 @@ pub(crate) fn trace_of(alloc: Global, names: &str, body: &str) -> Result<String,
     Ok(text)
 }
 
-/// Asserts what `judge` reports of a trace, with one worker, two and sixteen, and with reads of one byte and of many.
+/// Asserts what `judge` reports of a trace, with one worker, two and sixteen.
 pub(crate) fn judges<R: Threads + Sync + Abort>(
     rt: &R,
     alloc: Global,
     spec: &str,
     trace: &str,
-    status: u8,
-    report: &str,
+    answer: (u8, &str),
 ) -> Result<(), Fail> {
     for line in [
         "judge spec=s trace=t",
         "judge workers=2 spec=s trace=t",
         "judge spec=s trace=t workers=16",
     ] {
-        for piece in [1, 4096] {
-            let found = answer_over(rt, alloc, line, spec, trace, piece)?;
-            assert_eq!(rt; found.report.as_str(), report);
-            assert_eq!(rt; found.status, status);
-        }
+        answers(rt, alloc, line, [spec, trace, "", ""], answer)?;
     }
     Ok(())
 }
@@ -141,12 +197,11 @@ pub(crate) fn judges_events<R: Threads + Sync + Abort>(
     lines: &str,
     names: &str,
     body: &str,
-    status: u8,
-    report: &str,
+    answer: (u8, &str),
 ) -> Result<(), Fail> {
     let spec = spec_of(alloc, lines)?;
     let trace = trace_of(alloc, names, body)?;
-    judges(rt, alloc, spec.as_str(), trace.as_str(), status, report)
+    judges(rt, alloc, spec.as_str(), trace.as_str(), answer)
 }
 
 /// Asserts what `check` reports of a text.
@@ -154,11 +209,10 @@ pub(crate) fn checks<R: Threads + Sync + Abort>(
     rt: &R,
     alloc: Global,
     text: &str,
-    status: u8,
-    report: &str,
+    answer: (u8, &str),
 ) -> Result<(), Fail> {
-    let found = answer_over(rt, alloc, "check spec=s", text, "", 4096)?;
-    assert_eq!(rt; found.report.as_str(), report);
-    assert_eq!(rt; found.status, status);
+    let report = Looked::Written(Slot::Report);
+    let found = answer_over(rt, alloc, "check spec=s", [text, "", "", ""], 4096, report)?;
+    assert_eq!(rt; (found.status, found.text.as_str()), answer);
     Ok(())
 }

@@ -1,43 +1,48 @@
-//! Calls of the world that fail, one at a time.
+//! Calls of the world that fail, one at a time, and files that are not there.
 
 ghost use Rattle.std.specs.Prelude.{◌≤◌};
 
-use crate::answered::{answer_in, spec_of, trace_of, world};
-use ccsl_edge::CallKind;
+use crate::answered::{Looked, answer_in, answers};
+use ccsl_edge::{CallKind, Slot};
 use ccsl_pool::NoGate;
 use std::alloc::Global;
 use std::process::Abort;
 use std::test::*;
 use std::thread::Threads;
 
-const REPORT: &str = "run: yes, 2 steps\n";
+const TWO_CLOCKS: &str = "ccsl 1; system { clock a, b; a precedes b; }";
 
-// Whether the program answers 5, and has reported a front of the line, where one call fails; or answers the line.
-fn meets_failure<R: Threads + Sync + Abort>(
+const DEADLOCK: &str = "ccsl 1; system { clock a; a precedes a; }";
+
+const CERTIFICATE: &str = "n\ni 0 -a\nr from 1 2\n";
+
+/// Whether the program answers 5 where one call fails, behind a front of its report; or answers the report.
+pub(crate) fn meets_failure<R: Threads + Sync + Abort>(
     rt: &R,
     alloc: Global,
-    kind: CallKind,
-    number: u64,
+    line: &str,
+    texts: [&str; 4],
+    report: &str,
+    failing: (CallKind, u64),
     piece: usize,
 ) -> Result<bool, Fail>
     requires { 1 ≤ piece }
 {
-    let spec = spec_of(alloc, "clock a, b; a precedes b;")?;
-    let trace = trace_of(alloc, "a b", "#0 1! #5 1\"")?;
-    let failing = vec![in alloc; (kind, number)]?;
-    let mut world = world(alloc, spec.as_str(), trace.as_str(), failing, piece)?;
-    let found = answer_in(rt, alloc, "judge spec=s trace=t", &mut world, &NoGate)?;
-    assert!(rt; REPORT.starts_with(found.report.as_str()));
-    if found.status == 5 {
-        return Ok(true);
-    }
-    assert_eq!(rt; found.status, 0);
-    assert_eq!(rt; found.report.as_str(), REPORT);
-    Ok(false)
+    let looked = Looked::Written(Slot::Report);
+    let found = answer_in(rt, alloc, line, texts, failing, piece, looked, &NoGate)?;
+    assert!(rt; report.starts_with(found.text.as_str()));
+    assert!(rt; found.status == 5 || found.status == 0 && found.text.as_str() == report);
+    Ok(found.status == 5)
 }
 
-#[test]
-fn each_call_that_fails_is_told(rt: HostRuntime) -> Result<(), Fail> {
+// Lets each call of each kind fail, until one does not.
+fn each_call<R: Threads + Sync + Abort>(
+    rt: &R,
+    alloc: Global,
+    line: &str,
+    texts: [&str; 4],
+    report: &str,
+) -> Result<(), Fail> {
     for kind in [
         CallKind::OpenIn,
         CallKind::OpenOut,
@@ -46,8 +51,8 @@ fn each_call_that_fails_is_told(rt: HostRuntime) -> Result<(), Fail> {
         CallKind::CloseOut,
     ] {
         for piece in [1, 4096] {
-            for number in 1..200 {
-                if !meets_failure(&rt, rt.alloc(), kind, number, piece)? {
+            for number in 1..300 {
+                if !meets_failure(rt, alloc, line, texts, report, (kind, number), piece)? {
                     break;
                 }
             }
@@ -57,23 +62,62 @@ fn each_call_that_fails_is_told(rt: HostRuntime) -> Result<(), Fail> {
 }
 
 #[test]
-fn a_missing_trace(rt: HostRuntime) -> Result<(), Fail> {
-    let alloc = rt.alloc();
-    let spec = spec_of(alloc, "clock a, b; a precedes b;")?;
-    let mut world = world(alloc, spec.as_str(), "", Vec::new(alloc), 4096)?;
-    let found = answer_in(&rt, rt.alloc(), "judge spec=s trace=u", &mut world, &NoGate)?;
-    assert_eq!(rt; (found.status, found.report.as_str()), (5, ""));
+fn each_call_that_fails_is_told(rt: HostRuntime) -> Result<(), Fail> {
+    let blocked = "$var event 1 ! a $end\n$enddefinitions $end\n";
+    for (line, texts, report) in [
+        (
+            "judge spec=s trace=t",
+            [
+                TWO_CLOCKS,
+                "$var event 1 ! a $end\n$var event 1 \" b $end\n$enddefinitions $end\n#0 1! #5 1\"\n",
+                "",
+                "",
+            ],
+            "run: yes, 2 steps\n",
+        ),
+        (
+            "certify spec=s trace=t cert=c",
+            [DEADLOCK, blocked, CERTIFICATE, ""],
+            "certificate: valid, 0 steps\n",
+        ),
+        (
+            "explain spec=s trace=t cert=c",
+            [DEADLOCK, blocked, "", ""],
+            "explain: blocked after 0 steps by 1 items\nconstraint 0: a\n",
+        ),
+        (
+            "session spec=s seed=42 policy=min",
+            [
+                "ccsl 1; system { clock a, b; alternates(a, b); }",
+                "",
+                "",
+                "step\nfire b\nback\nquit\n",
+            ],
+            "step 1: a\nok 2\nok 1\nbye\n",
+        ),
+    ] {
+        each_call(&rt, rt.alloc(), line, texts, report)?;
+    }
     Ok(())
 }
 
+// A refused specification comes before a missing trace.
 #[test]
-fn a_refused_specification_comes_before_a_missing_trace(rt: HostRuntime) -> Result<(), Fail> {
-    let alloc = rt.alloc();
-    let mut world = world(alloc, "ccsl 3;", "", Vec::new(alloc), 4096)?;
-    let found = answer_in(&rt, rt.alloc(), "judge spec=s trace=u", &mut world, &NoGate)?;
-    assert_eq!(rt;
-        (found.status, found.report.as_str()),
-        (3, "spec: syntax at byte 5\n")
-    );
+fn missing_files(rt: HostRuntime) -> Result<(), Fail> {
+    for (line, spec, answer) in [
+        ("judge spec=s trace=u", TWO_CLOCKS, (5, "")),
+        (
+            "judge spec=s trace=u",
+            "ccsl 3;",
+            (3, "spec: syntax at byte 5\n"),
+        ),
+        (
+            "certify spec=s trace=t cert=nowhere",
+            "ccsl 1; system { }",
+            (5, ""),
+        ),
+    ] {
+        answers(&rt, rt.alloc(), line, [spec, "x", "", ""], answer)?;
+    }
     Ok(())
 }

@@ -2,64 +2,79 @@
 
 ghost use Rattle.std.specs.Prelude.{◌≤◌};
 
-use crate::answered::{answer_in, spec_of, world};
-use ccsl_edge::{CallKind, MemoryWorld, Slot};
+use crate::answered::{Answer, Looked, answer_in};
+use crate::failing::meets_failure;
+use ccsl_edge::{CallKind, Slot};
 use ccsl_pool::NoGate;
 use std::alloc::Global;
 use std::process::Abort;
 use std::test::*;
 use std::thread::Threads;
 
-const HEADER: &str =
-    "$version ccsl $end\n$timescale 1 ns $end\n$scope module ccsl $end\n$var event 1 ! a $end\n$var event 1 \" b $end\n$upscope $end\n$enddefinitions $end\n";
+const LINE: &str = "simulate spec=s trace=x cert=y policy=min seed=42 steps=2";
 
-const BODY: &str = "#0\n1!\n#1\n1\"\n";
+const TEXTS: [&str; 4] = [
+    "ccsl 1; system { clock a, b; alternates(a, b); }",
+    "",
+    "",
+    "",
+];
 
-// The bytes of a slot as text.
-fn written(alloc: Global, world: &MemoryWorld, slot: Slot) -> Result<String, Fail> {
-    Ok(String::from_utf8(Vec::from_slice(alloc, world.written(slot))?)?)
+const TRACE: &str =
+    "$version ccsl $end\n$timescale 1 ns $end\n$scope module ccsl $end\n$var event 1 ! a $end\n$var event 1 \" b $end\n$upscope $end\n$enddefinitions $end\n#0\n1!\n#1\n1\"\n";
+
+// What is looked at where one call fails.
+fn seen<R: Threads + Sync>(
+    rt: &R,
+    alloc: Global,
+    failing: (CallKind, u64),
+    piece: usize,
+    looked: Looked<'_>,
+) -> Result<Answer, Fail>
+    requires { 1 ≤ piece }
+{
+    answer_in(rt, alloc, LINE, TEXTS, failing, piece, looked, &NoGate)
 }
 
-// A file's text, and nothing where there is no such file.
-fn content(alloc: Global, world: &MemoryWorld, name: &str) -> Result<String, Fail> {
-    match world.file(name) {
-        Some(bytes) => Ok(String::from_utf8(Vec::from_slice(alloc, bytes)?)?),
-        None => Ok(String::new(alloc)),
-    }
+// Asserts that what was put out are fronts, that each file is whole or not there, and whole where no call failed.
+fn leaves_fronts<R: Threads + Sync + Abort>(
+    rt: &R,
+    alloc: Global,
+    failing: (CallKind, u64),
+    piece: usize,
+    failed: bool,
+) -> Result<(), Fail>
+    requires { 1 ≤ piece }
+{
+    let put = seen(rt, alloc, failing, piece, Looked::Written(Slot::TraceOut))?;
+    assert!(rt; TRACE.starts_with(put.text.as_str()));
+    let file = seen(rt, alloc, failing, piece, Looked::File("x"))?;
+    let whole = file.text.as_str() == TRACE;
+    assert!(rt; whole || failed && file.text.as_str() == "no file");
+    let cert = seen(rt, alloc, failing, piece, Looked::Written(Slot::CertOut))?;
+    assert!(rt; cert.text.is_empty());
+    Ok(())
 }
 
-// Whether the program answers 5 where one call fails: what it put out are fronts, and each file is whole or not there.
-fn meets_failure<R: Threads + Sync + Abort>(
+// Lets each call of a kind fail, until one does not.
+fn each_call<R: Threads + Sync + Abort>(
     rt: &R,
     alloc: Global,
     kind: CallKind,
-    number: u64,
     piece: usize,
-) -> Result<bool, Fail>
+) -> Result<(), Fail>
     requires { 1 ≤ piece }
 {
-    let spec = spec_of(alloc, "clock a, b; alternates(a, b);")?;
-    let failing = vec![in alloc; (kind, number)]?;
-    let mut world = world(alloc, spec.as_str(), "", failing, piece)?;
-    let line = "simulate spec=s trace=x cert=y policy=min seed=42 steps=2";
-    let found = answer_in(rt, alloc, line, &mut world, &NoGate)?;
-    let mut whole = String::from_str(alloc, HEADER)?;
-    whole.push_str(BODY)?;
-    let put = written(alloc, &world, Slot::TraceOut)?;
-    assert!(rt; whole.as_str().starts_with(put.as_str()));
-    let trace = content(alloc, &world, "x")?;
-    assert!(rt; trace.is_empty() || trace.as_str() == whole.as_str());
-    assert!(rt; written(alloc, &world, Slot::CertOut)?.is_empty());
-    assert!(rt; "simulate: done, 2 steps\n".starts_with(found.report.as_str()));
-    if found.status == 5 {
-        return Ok(true);
+    let report = "simulate: done, 2 steps\n";
+    for number in 1..400 {
+        let failing = (kind, number);
+        let failed = meets_failure(rt, alloc, LINE, TEXTS, report, failing, piece)?;
+        leaves_fronts(rt, alloc, failing, piece, failed)?;
+        if !failed {
+            break;
+        }
     }
-    assert_eq!(rt;
-        (found.status, found.report.as_str()),
-        (0, "simulate: done, 2 steps\n")
-    );
-    assert_eq!(rt; trace.as_str(), whole.as_str());
-    Ok(false)
+    Ok(())
 }
 
 #[test]
@@ -72,11 +87,7 @@ fn each_call_that_fails_is_told(rt: HostRuntime) -> Result<(), Fail> {
         CallKind::CloseOut,
     ] {
         for piece in [1, 4096] {
-            for number in 1..400 {
-                if !meets_failure(&rt, rt.alloc(), kind, number, piece)? {
-                    break;
-                }
-            }
+            each_call(&rt, rt.alloc(), kind, piece)?;
         }
     }
     Ok(())
@@ -84,16 +95,17 @@ fn each_call_that_fails_is_told(rt: HostRuntime) -> Result<(), Fail> {
 
 #[test]
 fn the_third_write_fails(rt: HostRuntime) -> Result<(), Fail> {
-    let alloc = rt.alloc();
-    let spec = spec_of(alloc, "clock a, b; alternates(a, b);")?;
-    let failing = vec![in alloc; (CallKind::Write, 3)]?;
-    let mut world = world(alloc, spec.as_str(), "", failing, 4096)?;
     let line = "simulate spec=s trace=x cert=y policy=min seed=42 steps=4";
-    let found = answer_in(&rt, rt.alloc(), line, &mut world, &NoGate)?;
-    assert_eq!(rt; (found.status, found.report.as_str()), (5, ""));
-    let mut front = String::from_str(alloc, HEADER)?;
-    front.push_str("#0\n1!\n")?;
-    let put = written(alloc, &world, Slot::TraceOut)?;
-    assert_eq!(rt; put.as_str(), front.as_str());
+    for (looked, text) in [
+        (Looked::Written(Slot::Report), ""),
+        (
+            Looked::Written(Slot::TraceOut),
+            "$version ccsl $end\n$timescale 1 ns $end\n$scope module ccsl $end\n$var event 1 ! a $end\n$var event 1 \" b $end\n$upscope $end\n$enddefinitions $end\n#0\n1!\n",
+        ),
+    ] {
+        let failing = (CallKind::Write, 3);
+        let found = answer_in(&rt, rt.alloc(), line, TEXTS, failing, 4096, looked, &NoGate)?;
+        assert_eq!(rt; (found.status, found.text.as_str()), (5, text));
+    }
     Ok(())
 }

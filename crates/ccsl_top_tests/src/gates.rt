@@ -1,6 +1,7 @@
 //! That two parts of the work run side by side, through the whole program.
 
-use crate::answered::{answer_in, spec_of, trace_of, world};
+use crate::answered::{Looked, NO_CALL, answer_in};
+use ccsl_edge::Slot;
 use ccsl_pool::Gate;
 use std::sync::atomic::{AtomicU64, Ordering};
 use std::test::*;
@@ -27,10 +28,8 @@ impl Gate for Held {
 
 #[test]
 fn two_workers_run_side_by_side(rt: HostRuntime) -> Result<(), Fail> {
-    let alloc = rt.alloc();
-    let spec = spec_of(alloc, "clock a, b; a precedes b; a excludes b;")?;
-    let trace = trace_of(alloc, "a b", "#0 1! #5 1\"")?;
-    let mut world = world(alloc, spec.as_str(), trace.as_str(), Vec::new(alloc), 4096)?;
+    let spec = "ccsl 1; system { clock a, b; a precedes b; a excludes b; }";
+    let trace = "$var event 1 ! a $end $var event 1 \" b $end $enddefinitions $end #0 1! #5 1\"\n";
     let gate = Held {
         entered: [AtomicU64::new(0), AtomicU64::new(0)],
         gave_up: AtomicU64::new(0),
@@ -39,11 +38,14 @@ fn two_workers_run_side_by_side(rt: HostRuntime) -> Result<(), Fail> {
         &rt,
         rt.alloc(),
         "judge spec=s trace=t workers=2",
-        &mut world,
+        [spec, trace, "", ""],
+        NO_CALL,
+        4096,
+        Looked::Written(Slot::Report),
         &gate,
     )?;
     assert_eq!(rt;
-        (found.status, found.report.as_str()),
+        (found.status, found.text.as_str()),
         (0, "run: yes, 2 steps\n")
     );
     assert_eq!(rt; gate.entered[1].load(Ordering::SeqCst), 1);

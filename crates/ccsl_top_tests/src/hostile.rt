@@ -5,13 +5,13 @@ use std::test::*;
 
 #[test]
 fn nothing_but_blanks(rt: HostRuntime) -> Result<(), Fail> {
-    checks(&rt, rt.alloc(), "", 3, "spec: syntax at byte 0\n")?;
     for (count, report) in [
+        (0, "spec: syntax at byte 0\n"),
         (1_048_576, "spec: syntax at byte 0\n"),
         (1_048_577, "spec: more than 1048576 bytes\n"),
     ] {
         let blanks = String::from_utf8(vec![in rt.alloc(); b' '; count]?)?;
-        checks(&rt, rt.alloc(), blanks.as_str(), 3, report)?;
+        checks(&rt, rt.alloc(), blanks.as_str(), (3, report))?;
     }
     Ok(())
 }
@@ -26,14 +26,13 @@ fn a_million_parentheses(rt: HostRuntime) -> Result<(), Fail> {
         &rt,
         rt.alloc(),
         text.as_str(),
-        3,
-        "spec: too deep at byte 156\n",
+        (3, "spec: too deep at byte 156\n"),
     )
 }
 
 #[test]
 fn broken_texts(rt: HostRuntime) -> Result<(), Fail> {
-    let cases = [
+    for (text, report) in [
         (
             "ccsl 1; system { clock a; a precedes ; }",
             "spec: syntax at byte 37\n",
@@ -52,9 +51,8 @@ fn broken_texts(rt: HostRuntime) -> Result<(), Fail> {
             "ccsl 1; system { clock a, b; a precedes within 1 b; }",
             "spec: syntax at byte 40\n",
         ),
-    ];
-    for (text, report) in cases {
-        checks(&rt, rt.alloc(), text, 3, report)?;
+    ] {
+        checks(&rt, rt.alloc(), text, (3, report))?;
     }
     Ok(())
 }

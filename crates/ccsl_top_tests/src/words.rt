@@ -1,11 +1,11 @@
 //! Words that are refused, in a world whose files are not even looked at.
 
-use crate::answered::answer_over;
+use crate::answered::answers;
 use std::test::*;
 
 #[test]
 fn refused_words(rt: HostRuntime) -> Result<(), Fail> {
-    let cases = [
+    for (line, report) in [
         ("", "words: no command\n"),
         ("--help", "words: unknown command\n"),
         (
@@ -20,11 +20,33 @@ fn refused_words(rt: HostRuntime) -> Result<(), Fail> {
         ("judge spec=s trace=s", "words: same name\n"),
         ("check spec=s trace=t", "words: unknown key in word 2\n"),
         ("check spec", "words: word 1 is no pair\n"),
-    ];
-    for (line, report) in cases {
-        let found = answer_over(&rt, rt.alloc(), line, "", "", 1)?;
-        assert_eq!(rt; found.report.as_str(), report);
-        assert_eq!(rt; found.status, 2);
+        (
+            "periodic left=10 right=(01) relation=precedes",
+            "words: bad value in word 1\n",
+        ),
+        (
+            "periodic left=(10) right=(2) relation=precedes",
+            "words: bad value in word 2\n",
+        ),
+        (
+            "periodic left=(10) right=(01) relation=before",
+            "words: bad value in word 3\n",
+        ),
+        ("periodic left=(10) right=(01)", "words: missing relation\n"),
+        (
+            "trial clocks=1 steps=1 seed=1 workers=1",
+            "words: bad value in word 1\n",
+        ),
+        (
+            "trial clocks=513 steps=1 seed=1 workers=1",
+            "words: bad value in word 1\n",
+        ),
+        (
+            "trial clocks=2 steps=100001 seed=1 workers=1",
+            "words: bad value in word 2\n",
+        ),
+    ] {
+        answers(&rt, rt.alloc(), line, ["", "", "", ""], (2, report))?;
     }
     Ok(())
 }
