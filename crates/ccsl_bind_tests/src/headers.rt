@@ -1,12 +1,14 @@
 //! Headers of a system whose clocks a and b are declared and whose clock c is defined.
 
-ghost use Rattle.std.specs.Prelude.{◌<◌, length};
+ghost use Rattle.std.specs.Prelude.{◌<◌, [], length, IfOk};
+ghost use Rattle.ccsl_bind.specs.Collected.{StandsFor};
+ghost use Rattle.ccsl_vcd.specs.Binding.{Wanted};
 
-use ccsl_base::{HashKeys, Names, Seq};
+use ccsl_base::{HashKeys, Memory, Names, Seq};
 use ccsl_bind::{BindFault, Binder, Binding};
 use ccsl_kernel::{Expr, Parts, System};
-use std::alloc::{AllocError, Global};
-use std::test::Fail;
+use std::alloc::Global;
+use std::test::*;
 
 /// Any keys: no answer depends on them.
 const KEYS: HashKeys = HashKeys {
@@ -17,24 +19,28 @@ const KEYS: HashKeys = HashKeys {
 /// Depth, kind, size, code and reference of a declaration.
 type Declared = (u32, &'static str, u32, &'static str, &'static str);
 
-fn parts(alloc: Global) -> Result<Parts, Fail> {
+fn names(alloc: Global) -> Result<Names, Memory> {
     let mut names = Names::new(alloc);
     for name in ["a", "b", "c"] {
         if names.len() < u32::MAX {
             names.add(name.as_bytes())?;
         }
     }
-    let mut definitions = Vec::new(alloc);
-    definitions.push(Expr::Never)?;
-    Ok(Parts {
-        names,
+    Ok(names)
+}
+
+fn parts(alloc: Global) -> Result<Box<Parts>, Memory> {
+    let definitions = Seq::new(vec![in alloc; Expr::Never]?);
+    let parts = Parts {
+        names: names(alloc)?,
         declared: 2,
         written: 3,
         groups: Seq::new(Vec::new(alloc)),
         words: Seq::new(Vec::new(alloc)),
-        definitions: Seq::new(definitions),
+        definitions,
         constraints: Seq::new(Vec::new(alloc)),
-    })
+    };
+    Ok(Box::new(alloc, parts)?)
 }
 
 fn system(alloc: Global) -> Result<System, Fail> {
@@ -43,51 +49,35 @@ fn system(alloc: Global) -> Result<System, Fail> {
         return Err(Fail::from("the parts are accepted"));
     }
     let count = parts.cells(alloc)?;
-    Ok(System::assemble(parts, count))
+    Ok(System::assemble(Box::into_inner(parts), count))
 }
 
-fn closed(
-    alloc: Global,
-    system: &System,
-    lines: &[Declared],
-) -> Result<Result<Binding, BindFault>, Fail>
+fn binder(alloc: Global) -> Result<Binder, Fail>
+    ensures { IfOk result (λ b. (wanted : Wanted) × StandsFor wanted b []) }
+{
+    let system = system(alloc)?;
+    Ok(Binder::open(alloc, KEYS, &system)?)
+}
+
+fn closed(alloc: Global, lines: &[Declared]) -> Result<Result<Binding, BindFault>, Fail>
     requires { length lines.now < 100 }
 {
-    let mut binder = Binder::open(alloc, KEYS, system)?;
+    let mut binder = binder(alloc)?;
     for line in lines {
         let (depth, kind, size, code, reference) = *line;
-        binder.declare(
-            depth,
-            kind.as_bytes(),
-            size,
-            code.as_bytes(),
-            reference.as_bytes(),
-        )?;
+        let (kind, code, reference) = (kind.as_bytes(), code.as_bytes(), reference.as_bytes());
+        binder.declare(depth, kind, size, code, reference)?;
     }
     Ok(binder.close())
 }
 
-// The number of each clock's code, with an `e` where it is an event; how many codes there are; and the number of the code `!`.
-fn text_of(alloc: Global, binding: &Binding) -> Result<String, AllocError> {
-    let mut out = String::new(alloc);
-    for clock in 0..3 {
-        match binding.code_of(clock) {
-            Some(code) if binding.is_event(clock) => write!(out, "{code}e ")?,
-            Some(code) => write!(out, "{code} ")?,
-            None => out.push_str("- ")?,
-        }
-    }
-    write!(out, "of {}, {:?}", binding.codes(), binding.find(b"!"))?;
-    Ok(out)
-}
-// The binding of a header as a text, or its first fault.
-fn answer(alloc: Global, lines: &[Declared]) -> Result<String, Fail>
+/// The number of each clock's code, or the first fault.
+fn codes(alloc: Global, lines: &[Declared]) -> Result<Result<[Option<u32>; 3], BindFault>, Fail>
     requires { length lines.now < 100 }
 {
-    let system = system(alloc)?;
-    match closed(alloc, &system, lines)? {
-        Ok(binding) => Ok(text_of(alloc, &binding)?),
-        Err(fault) => Ok(format!(in alloc; "{fault:?}")?),
+    match closed(alloc, lines)? {
+        Ok(binding) => Ok(Ok([binding.code_of(0), binding.code_of(1), binding.code_of(2)])),
+        Err(fault) => Ok(Err(fault)),
     }
 }
 
@@ -98,30 +88,6 @@ const OUTER_SCOPES_WIN: [Declared; 4] = [
     (1, "event", 32, "x", "b"),
 ];
 
-const NUMBERS_AND_WORDS_DO_NOT_QUALIFY: [Declared; 5] = [
-    (0, "real", 1, "r", "a"),
-    (0, "reg", 2, "v", "a"),
-    (1, "reg", 1, "!", "a"),
-    (1, "wire", 1, "!", "b"),
-    (1, "string", 1, "s", "c"),
-];
-
-#[test]
-fn clocks_are_bound(rt: HostRuntime) -> Result<(), Fail> {
-    let found = answer(rt.alloc(), &OUTER_SCOPES_WIN)?;
-    assert_eq!(rt; found.as_str(), "1 0e - of 2, Some(1)");
-    let found = answer(rt.alloc(), &NUMBERS_AND_WORDS_DO_NOT_QUALIFY)?;
-    assert_eq!(rt; found.as_str(), "2 2 - of 4, Some(2)");
-    Ok(())
-}
-
-const TWO_CODES_SIDE_BY_SIDE: [Declared; 4] = [
-    (1, "wire", 1, "!", "a"),
-    (1, "wire", 1, "!", "b"),
-    (1, "event", 1, "!", "c"),
-    (1, "wire", 1, "x", "c"),
-];
-
 const TWO_FAULTS: [Declared; 3] = [
     (1, "wire", 1, "!", "c"),
     (1, "wire", 1, "x", "c"),
@@ -129,11 +95,11 @@ const TWO_FAULTS: [Declared; 3] = [
 ];
 
 #[test]
-fn the_first_fault_is_answered(rt: HostRuntime) -> Result<(), Fail> {
-    let found = answer(rt.alloc(), &TWO_CODES_SIDE_BY_SIDE)?;
-    assert_eq!(rt; found.as_str(), "Ambiguous(2)");
-    let found = answer(rt.alloc(), &TWO_FAULTS)?;
-    assert_eq!(rt; found.as_str(), "Unbound(1)");
+fn outer_scopes_win_and_the_first_fault_is_answered(rt: HostRuntime) -> Result<(), Fail> {
+    let bound = codes(rt.alloc(), &OUTER_SCOPES_WIN)?;
+    assert!(rt; bound == Ok([Some(1), Some(0), None]));
+    let refused = codes(rt.alloc(), &TWO_FAULTS)?;
+    assert!(rt; refused == Err(BindFault::Unbound(1)));
     Ok(())
 }
 
