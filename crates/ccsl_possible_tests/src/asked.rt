@@ -1,6 +1,6 @@
-//! The questions, asked of a system's text after some steps. The declared clocks are a, b, c and d, as many as there are.
+//! The questions, asked of a system's text after some steps. The declared clocks are a, b and c, as many as there are.
 
-ghost use Rattle.std.specs.Prelude.{◌≡◌, IfOk};
+ghost use Rattle.std.specs.Prelude.{◌≡◌};
 
 use ccsl_base::{ClockSet, MAX_CLOCKS, MAX_SPEC_BYTES};
 use ccsl_kernel::System;
@@ -10,8 +10,8 @@ use ccsl_state::States;
 use std::alloc::Global;
 use std::test::Fail;
 
-/// The system of a text.
-pub(crate) fn system_of(alloc: Global, text: &str) -> Result<System, Fail> {
+// The system of a text.
+fn system_of(alloc: Global, text: &str) -> Result<System, Fail> {
     if text.len() as u64 > MAX_SPEC_BYTES {
         return Err(Fail::from("the text is long"));
     }
@@ -21,8 +21,8 @@ pub(crate) fn system_of(alloc: Global, text: &str) -> Result<System, Fail> {
     }
 }
 
-/// The clocks of some letters.
-pub(crate) fn set_of(letters: &str) -> ClockSet {
+// The clocks of some letters.
+fn set_of(letters: &str) -> ClockSet {
     let mut set = ClockSet::empty();
     for letter in letters.as_bytes() {
         let clock = u32::from(letter.saturating_sub(b'a'));
@@ -33,8 +33,8 @@ pub(crate) fn set_of(letters: &str) -> ClockSet {
     set
 }
 
-/// The letters of the clocks of a set.
-pub(crate) fn letters(alloc: Global, set: &ClockSet) -> Result<String, Fail> {
+// The letters of the clocks of a set.
+fn letters(alloc: Global, set: &ClockSet) -> Result<String, Fail> {
     let mut text = String::new(alloc);
     for (clock, letter) in ['a', 'b', 'c', 'd', 'e'].iter().enumerate() {
         if set.has(clock as u32) {
@@ -44,22 +44,31 @@ pub(crate) fn letters(alloc: Global, set: &ClockSet) -> Result<String, Fail> {
     Ok(text)
 }
 
-/// The states after steps, given by their declared clocks.
-fn states_after<'s>(alloc: Global, system: &'s System, steps: &str) -> Result<States<'s>, Fail>
-    ensures { IfOk result (λ states. states.system ≡ system.now) }
+// Goes on by steps, given by their declared clocks.
+fn go_on(states: &mut States<'_>, steps: &str)
+    ensures { states.new.system ≡ states.old.system }
 {
-    let mut states = States::open(alloc, system)?;
     for step in steps.split_ascii_whitespace() {
         states.advance(&set_of(step));
     }
-    Ok(states)
+}
+
+fn allowed_in(alloc: Global, system: &System, steps: &str) -> Result<String, Fail> {
+    let mut states = States::open(alloc, system)?;
+    go_on(&mut states, steps);
+    letters(alloc, &allowed(alloc, system, &states)?)
 }
 
 /// The clocks that may tick after some steps.
 pub(crate) fn allowed_after(alloc: Global, text: &str, steps: &str) -> Result<String, Fail> {
     let system = system_of(alloc, text)?;
-    let states = states_after(alloc, &system, steps)?;
-    letters(alloc, &allowed(alloc, &system, &states)?)
+    allowed_in(alloc, &system, steps)
+}
+
+fn failing_in(alloc: Global, system: &System, steps: &str, set: &str) -> Result<Option<u32>, Fail> {
+    let mut states = States::open(alloc, system)?;
+    go_on(&mut states, steps);
+    Ok(first_failing(alloc, system, &states, &set_of(set))?)
 }
 
 /// The first constraint that fails where some steps go on by a set.
@@ -70,6 +79,5 @@ pub(crate) fn failing_after(
     set: &str,
 ) -> Result<Option<u32>, Fail> {
     let system = system_of(alloc, text)?;
-    let states = states_after(alloc, &system, steps)?;
-    Ok(first_failing(alloc, &system, &states, &set_of(set))?)
+    failing_in(alloc, &system, steps, set)
 }

@@ -1,11 +1,7 @@
-//! What is possible after some steps of small systems, and of random ones against a plain loop over all sets.
+//! What is possible after some steps of small systems.
 #![tactic(auto)]
 
 #[cfg(test)]
 mod answers;
 #[cfg(test)]
 mod asked;
-#[cfg(test)]
-mod random;
-#[cfg(test)]
-mod trials;

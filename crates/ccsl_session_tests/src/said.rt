@@ -9,25 +9,12 @@ use ccsl_policy::Policy;
 use ccsl_session::{Ended, SessionFault, session};
 use ccsl_spec::{Specification, read};
 use std::alloc::Global;
-use std::process::Abort;
-use std::test::*;
+use std::test::Fail;
 
-/// Clocks without constraints.
-pub(crate) const FREE: &str = "ccsl 1; system { clock a, b; }";
+/// No call: they are counted from 1.
+pub(crate) const NO_CALL: (CallKind, u64) = (CallKind::Read, 0);
 
-/// Two clocks that tick in turn.
-pub(crate) const IN_TURN: &str = "ccsl 1; system { clock a, b; alternates(a, b); }";
-
-/// What was reported, how the session ended, and how often calls failed.
-#[derive(Drop)]
-pub(crate) struct Outcome {
-    pub report: Vec<u8>,
-    pub end: Result<Ended, SessionFault>,
-    pub faults: u64,
-}
-
-/// The system of a text.
-pub(crate) fn system_of(alloc: Global, text: &str) -> Result<System, Fail> {
+fn system_of(alloc: Global, text: &str) -> Result<System, Fail> {
     if text.len() as u64 > MAX_SPEC_BYTES {
         return Err(Fail::from("the text is long"));
     }
@@ -37,83 +24,56 @@ pub(crate) fn system_of(alloc: Global, text: &str) -> Result<System, Fail> {
     }
 }
 
+// A world with this input, in which one call fails and each moves at most so many bytes.
 fn world(
     alloc: Global,
-    input: &[u8],
-    failing: Vec<(CallKind, u64)>,
+    input: &str,
+    failing: (CallKind, u64),
     piece: usize,
 ) -> Result<MemoryWorld, Fail>
     requires { 1 ≤ piece }
 {
-    let world = MemoryWorld::new(alloc, Vec::new(alloc), failing, piece);
-    Ok(world.with_input(Vec::from_slice(alloc, input)?))
+    let input = Vec::from_slice(alloc, input.as_bytes())?;
+    let failing = vec![in alloc; failing]?;
+    Ok(MemoryWorld::new(alloc, Vec::new(alloc), failing, piece).with_input(input))
 }
 
-/// What is said in a world in which some calls fail and one moves at most so many bytes.
-pub(crate) fn said(
+// What was reported, and then how the session ended.
+fn told(
     alloc: Global,
-    system: &System,
-    policy: Policy,
-    input: &[u8],
-    limit: u64,
-    failing: Vec<(CallKind, u64)>,
-    piece: usize,
-) -> Result<Outcome, Fail>
-    requires { 1 ≤ piece }
-{
-    let mut world = world(alloc, input, failing, piece)?;
-    let end = session(alloc, &mut world, system, policy, 42, limit);
+    world: &MemoryWorld,
+    end: Result<Ended, SessionFault>,
+) -> Result<String, Fail> {
     let report = Vec::from_slice(alloc, world.written(Slot::Report))?;
-    let faults = world
-        .faults(Slot::Input)
-        .saturating_add(world.faults(Slot::Report));
-    Ok(Outcome {
-        report,
-        end,
-        faults,
-    })
+    let mut text = String::from_utf8(report)?;
+    write!(text, "{end:?}")?;
+    Ok(text)
 }
 
-fn says_in_pieces(
-    rt: &impl Abort,
+fn said_in(
     alloc: Global,
-    system: &System,
+    world: &mut MemoryWorld,
+    spec: &str,
     policy: Policy,
-    input: &[u8],
-    piece: usize,
-    report: &[u8],
-    end: Ended,
-) -> Result<(), Fail>
-    requires { 1 ≤ piece }
-{
-    let found = said(
-        alloc,
-        system,
-        policy,
-        input,
-        u64::MAX,
-        Vec::new(alloc),
-        piece,
-    )?;
-    assert_eq!(rt; found.report.as_slice(), report);
-    assert_eq!(rt; found.end, Ok(end));
-    assert_eq!(rt; found.faults, 0);
-    Ok(())
+    limit: u64,
+) -> Result<String, Fail> {
+    let system = system_of(alloc, spec)?;
+    let end = session(alloc, world, &system, policy, 42, limit);
+    told(alloc, world, end)
 }
 
-/// Asserts what is reported, by calls of one byte and of many.
-pub(crate) fn says(
-    rt: &impl Abort,
+/// What is reported, and how the session ends, in a world in which one call fails and each moves at most so many bytes.
+pub(crate) fn said(
     alloc: Global,
     spec: &str,
     policy: Policy,
     input: &str,
-    report: &str,
-    end: Ended,
-) -> Result<(), Fail> {
-    let system = system_of(alloc, spec)?;
-    let input = input.as_bytes();
-    let report = report.as_bytes();
-    says_in_pieces(rt, alloc, &system, policy, input, 1, report, end)?;
-    says_in_pieces(rt, alloc, &system, policy, input, 4096, report, end)
+    limit: u64,
+    failing: (CallKind, u64),
+    piece: usize,
+) -> Result<String, Fail>
+    requires { 1 ≤ piece }
+{
+    let mut world = world(alloc, input, failing, piece)?;
+    said_in(alloc, &mut world, spec, policy, limit)
 }
