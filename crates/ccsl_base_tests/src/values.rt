@@ -1,9 +1,10 @@
-//! Names, numbers and words, and that each public type may be shared by threads.
+//! Names and numbers, and that each public type may be shared by threads.
 
 use ccsl_base::{
-    Block, ClockSet, CommandWord, MAX_NAME_BYTES, MAX_NUMBER, Memory, Names, Reserved, Row, Seq,
-    Text, decimal, is_name, is_quotable,
+    Block, ClockSet, CommandWord, MAX_NAME_BYTES, Memory, Names, Reserved, Row, Seq, Text, decimal,
+    is_name, is_quotable,
 };
+use std::alloc::Global;
 use std::string::String;
 use std::test::*;
 
@@ -29,11 +30,19 @@ fn types_may_be_shared_by_threads(rt: HostRuntime) -> Result<(), Fail> {
     Ok(())
 }
 
+const NAMES: &[(&[u8], bool)] = &[
+    (b"a", true),
+    (b"_9", true),
+    (b"clocks", true),
+    (b"clock", false),
+    (b"9a", false),
+    (b"", false),
+];
+
 #[test]
-fn names_and_numbers(rt: HostRuntime) {
-    let names: [&[u8]; 6] = [b"a", b"_9", b"clocks", b"clock", b"9a", b""];
-    for (name, expected) in names.iter().zip([true, true, true, false, false, false]) {
-        assert_eq!(rt; is_name(name), expected);
+fn names_are_told(rt: HostRuntime) {
+    for (name, want) in NAMES {
+        assert_eq!(rt; is_name(name), *want);
     }
     let long = [b'x'; MAX_NAME_BYTES + 1];
     assert_eq!(rt; (is_name(&long[1..]), is_name(&long)), (true, false));
@@ -41,42 +50,46 @@ fn names_and_numbers(rt: HostRuntime) {
         (is_quotable(b'"'), is_quotable(b' '), is_quotable(127)),
         (false, true, false)
     );
-    assert_eq!(rt; Reserved::spelled(b"upto"), Some(Reserved::Upto));
-    assert_eq!(rt; Reserved::From.spelling(), b"from".as_slice());
     assert_eq!(rt;
-        (decimal(b"0", 0), decimal(b"1", 0), decimal(b"", 9)),
-        (Some(0), None, None)
+        (Reserved::spelled(b"upto"), Reserved::From.spelling()),
+        (Some(Reserved::Upto), b"from".as_slice())
     );
-    assert_eq!(rt;
-        decimal(b"0000000000000000000000018446744073709551615", u64::MAX),
-        Some(u64::MAX)
-    );
-    assert_eq!(rt;
-        (
-            decimal(b"18446744073709551616", u64::MAX),
-            decimal(b"4294967296", u64::from(MAX_NUMBER))
-        ),
-        (None, None)
-    );
-    assert_eq!(rt;
-        (decimal(b"12x", 99), decimal(b"+1", 99), decimal(b"12", 12)),
-        (None, None, Some(12))
-    );
+}
+
+/// Digits, the greatest number that is taken, and the number.
+const NUMBERS: &[(&[u8], u64, Option<u64>)] = &[
+    (b"0", 0, Some(0)),
+    (b"1", 0, None),
+    (b"", 9, None),
+    (
+        b"0000000000000000000000018446744073709551615",
+        u64::MAX,
+        Some(u64::MAX),
+    ),
+    (b"18446744073709551616", u64::MAX, None),
+    (b"12x", 99, None),
+    (b"+1", 99, None),
+    (b"12", 12, Some(12)),
+];
+
+#[test]
+fn numbers_are_read(rt: HostRuntime) {
+    for (digits, most, want) in NUMBERS {
+        assert_eq!(rt; decimal(digits, *most), *want);
+    }
+}
+
+/// The numbers of a name, of one that is there already and of another, and that of none.
+fn numbered(alloc: Global) -> Result<[Option<u32>; 4], Memory> {
+    let mut names = Names::new(alloc);
+    let req = names.add(b"req")?;
+    let again = names.add(b"req")?;
+    let ack = names.add(b"ack")?;
+    Ok([req, again, ack, names.find(b"a")])
 }
 
 #[test]
 fn names_keep_their_numbers(rt: HostRuntime) -> Result<(), Fail> {
-    let mut names = Names::new(rt.alloc());
-    assert_eq!(rt;
-        (names.add(b"req")?, names.add(b"ack")?, names.add(b"req")?),
-        (Some(0), Some(1), None)
-    );
-    assert_eq!(rt;
-        (names.find(b"ack"), names.find(b"a"), names.len()),
-        (Some(1), None, 2)
-    );
-    assert_eq!(rt; names.get(1), b"ack".as_slice());
-    let word = CommandWord::new(String::from_str(rt.alloc(), "judge")?);
-    assert_eq!(rt; word.as_str(), "judge");
+    assert_eq!(rt; numbered(rt.alloc())?, [Some(0), None, Some(1), None]);
     Ok(())
 }

@@ -8,132 +8,63 @@ use std::alloc::{AllocError, Global};
 use std::test::Fail;
 use std::{env, fs};
 
-fn held(alloc: Global, name: &str, content: &str) -> Result<HeldFile, AllocError> {
-    let name = String::from_str(alloc, name)?;
-    Ok(HeldFile::new(name, Vec::from_slice(alloc, content.as_bytes())?))
+fn one_file(alloc: Global) -> Result<Vec<HeldFile>, AllocError> {
+    let name = String::from_str(alloc, "held")?;
+    let file = HeldFile::new(name, Vec::from_slice(alloc, b"abcdef")?);
+    Ok(vec![in alloc; file]?)
 }
 
-/// Two files of one name, and another.
-fn three_files(alloc: Global) -> Result<Vec<HeldFile>, AllocError> {
-    let first = held(alloc, "twice", "abcdef")?;
-    let second = held(alloc, "twice", "never read")?;
-    let third = held(alloc, "once", "xyz")?;
-    Ok(vec![in alloc; first, second, third]?)
+/// A world of one file that moves two bytes in a call, and whose fourth write fails.
+fn memory(alloc: Global) -> Result<MemoryWorld, AllocError> {
+    let failing = vec![in alloc; (CallKind::Write, 4)]?;
+    Ok(MemoryWorld::new(alloc, one_file(alloc)?, failing, 2))
 }
 
-// Whether these bytes were read.
-fn is(read: Result<Vec<u8>, ReadFault>, wanted: &[u8]) -> bool {
-    match read {
-        Ok(bytes) => bytes.as_slice() == wanted,
-        Err(_fault) => false,
-    }
-}
-
-#[test]
-fn reads_all_in_pieces(rt: HostRuntime) -> Result<(), Fail> {
-    for piece in [1, 4, 4096] {
-        for (limit, want) in [
-            (6, Ok(6)),
-            (7, Ok(6)),
-            (5, Err(ReadFault::TooLong)),
-            (0, Err(ReadFault::TooLong)),
-        ] {
-            let files = three_files(rt.alloc())?;
-            let mut world = MemoryWorld::new(rt.alloc(), files, Vec::new(rt.alloc()), piece);
-            assert_eq!(rt; world.open_in(Slot::Trace, "twice"), Ok(()));
-            let got = read_all(rt.alloc(), &mut world, Slot::Trace, limit);
-            assert_eq!(rt;
-                got.map(|all| all.len()),
-                want,
-                "piece {piece}, limit {limit}"
-            );
-        }
-    }
-    Ok(())
+/// What is written to the report, read of the file, and counted as faults.
+fn moved(alloc: Global, world: &mut MemoryWorld) -> (usize, Result<usize, ReadFault>, u64) {
+    let _ = write_all(world, Slot::Report, b"abcdefgh");
+    let _ = world.open_in(Slot::Trace, "held");
+    let read = read_all(alloc, world, Slot::Trace, 6).map(|all| all.len());
+    (
+        world.written(Slot::Report).len(),
+        read,
+        world.faults(Slot::Report),
+    )
 }
 
 #[test]
-fn reads_input_and_fails_as_listed(rt: HostRuntime) -> Result<(), Fail> {
-    let failing = vec![in rt.alloc(); (CallKind::Read, 4)]?;
-    let input = Vec::from_slice(rt.alloc(), b"abcd")?;
-    let world = MemoryWorld::new(rt.alloc(), Vec::new(rt.alloc()), failing, 2);
-    let mut world = world.with_input(input);
-    assert!(rt; is(read_all(rt.alloc(), &mut world, Slot::Input, 4), b"abcd"));
-    assert_eq!(rt;
-        read_all(rt.alloc(), &mut world, Slot::Input, 4).err(),
-        Some(ReadFault::Fault)
-    );
-    assert!(rt; is(read_all(rt.alloc(), &mut world, Slot::Spec, 4), b""));
-    assert_eq!(rt;
-        (
-            world.faults(Slot::Input),
-            world.faults(Slot::Spec),
-            world.starved()
-        ),
-        (1, 0, 0)
-    );
+fn a_world_in_memory_fails_as_listed(rt: HostRuntime) -> Result<(), Fail> {
+    let mut world = memory(rt.alloc())?;
+    assert_eq!(rt; moved(rt.alloc(), &mut world), (6, Ok(6), 1));
     Ok(())
 }
 
-#[test]
-fn third_write_fails(rt: HostRuntime) -> Result<(), Fail> {
-    let failing = vec![in rt.alloc(); (CallKind::Write, 3)]?;
-    let mut world = MemoryWorld::new(rt.alloc(), Vec::new(rt.alloc()), failing, 2);
-    assert_eq!(rt;
-        write_all(&mut world, Slot::Report, b"abcdefgh"),
-        Err(Failed)
-    );
-    assert_eq!(rt; world.written(Slot::Report), b"abcd".as_slice());
-    assert_eq!(rt; (world.faults(Slot::Report), world.starved()), (1, 0));
-    Ok(())
-}
-
-// Whether a file holds the text that is written to it.
-fn keeps(world: &mut MemoryWorld, name: &str, text: &str) -> Result<bool, Failed> {
-    world.open_out(Slot::TraceOut, name)?;
-    write_all(world, Slot::TraceOut, text.as_bytes())?;
-    let is_written = world.written(Slot::TraceOut) == text.as_bytes();
-    world.close_out(Slot::TraceOut)?;
-    Ok(is_written && world.file(name) == Some(text.as_bytes()))
-}
-
-#[test]
-fn holds_files_by_name(rt: HostRuntime) -> Result<(), Fail> {
-    let files = three_files(rt.alloc())?;
-    let mut world = MemoryWorld::new(rt.alloc(), files, Vec::new(rt.alloc()), 4096);
-    assert_eq!(rt; world.open_in(Slot::Spec, "absent"), Err(Failed));
-    assert_eq!(rt; (world.faults(Slot::Spec), world.starved()), (1, 0));
-    assert_eq!(rt; world.file("absent"), None);
-    assert_eq!(rt; world.file("twice"), Some(b"abcdef".as_slice()));
-    assert_eq!(rt; keeps(&mut world, "twice", "one"), Ok(true));
-    assert_eq!(rt; keeps(&mut world, "new", "two"), Ok(true));
-    assert_eq!(rt; world.file("once"), Some(b"xyz".as_slice()));
-    assert_eq!(rt; world.written(Slot::Spec).len(), 0);
-    Ok(())
+/// How much is read of a file, each time it is opened.
+fn steady_lengths(
+    alloc: Global,
+    world: &mut SteadyWorld,
+    name: &str,
+) -> (Result<usize, ReadFault>, Result<usize, ReadFault>) {
+    let _ = world.open_in(Slot::Trace, name);
+    let first = read_all(alloc, world, Slot::Trace, 9).map(|all| all.len());
+    let _ = world.open_in(Slot::Trace, name);
+    (
+        first,
+        read_all(alloc, world, Slot::Trace, 9).map(|all| all.len()),
+    )
 }
 
 #[test]
 fn steady_files_are_read_again(rt: HostRuntime) -> Result<(), Fail> {
-    let mut world = SteadyWorld::new(three_files(rt.alloc())?, 4);
-    for _ in 0..2 {
-        assert_eq!(rt; world.open_in(Slot::Trace, "twice"), Ok(()));
-        assert!(rt; is(read_all(rt.alloc(), &mut world, Slot::Trace, 9), b"abcdef"));
-    }
-    assert_eq!(rt; world.open_in(Slot::Cert, "absent"), Ok(()));
-    assert!(rt; is(read_all(rt.alloc(), &mut world, Slot::Cert, 9), b""));
-    Ok(())
-}
-
-#[test]
-fn steady_output_is_taken(rt: HostRuntime) -> Result<(), Fail> {
-    let mut world = SteadyWorld::new(three_files(rt.alloc())?, 4);
-    assert_eq!(rt; write_all(&mut world, Slot::Report, b"some bytes"), Ok(()));
-    assert_eq!(rt; world.open_out(Slot::TraceOut, "once"), Ok(()));
+    let mut world = SteadyWorld::new(one_file(rt.alloc())?, 4);
     assert_eq!(rt;
-        write_all(&mut world, Slot::TraceOut, b"some bytes"),
-        Ok(())
+        steady_lengths(rt.alloc(), &mut world, "held"),
+        (Ok(6), Ok(6))
     );
-    assert_eq!(rt; world.close_out(Slot::TraceOut), Ok(()));
+    assert_eq!(rt;
+        steady_lengths(rt.alloc(), &mut world, "absent"),
+        (Ok(0), Ok(0))
+    );
     Ok(())
 }
 
@@ -148,42 +79,42 @@ fn worlds_may_be_shared_by_threads(rt: HostRuntime) -> Result<(), Fail> {
     Ok(())
 }
 
-#[test]
-fn real_files_hold_what_was_written(rt: HostRuntime) -> Result<(), Fail> {
-    let path = env::temp_dir(&rt)?.join(rt.alloc(), "ccsl_edge_test")?;
-    let missing = env::temp_dir(&rt)?.join(rt.alloc(), "ccsl_edge_missing")?;
-    let mut world = FileWorld::new(&rt);
-    assert_eq!(rt; world.open_in(Slot::Spec, missing.as_str()), Err(Failed));
-    assert_eq!(rt; world.open_out(Slot::TraceOut, path.as_str()), Ok(()));
-    assert_eq!(rt;
-        write_all(&mut world, Slot::TraceOut, b"some bytes"),
-        Ok(())
-    );
-    assert_eq!(rt; world.close_out(Slot::TraceOut), Ok(()));
-    for (limit, want) in [(10, Ok(10)), (9, Err(ReadFault::TooLong))] {
-        assert_eq!(rt; world.open_in(Slot::Trace, path.as_str()), Ok(()));
-        let got = read_all(rt.alloc(), &mut world, Slot::Trace, limit);
-        assert_eq!(rt; got.map(|all| all.len()), want);
+fn write_anew(rt: &HostRuntime, path: &str, text: &str) -> Result<(), Failed> {
+    let mut world = FileWorld::new(rt);
+    world.open_out(Slot::TraceOut, path)?;
+    write_all(&mut world, Slot::TraceOut, text.as_bytes())?;
+    world.close_out(Slot::TraceOut)
+}
+
+/// How much is read of a file of at most 15 bytes.
+fn read_of(rt: &HostRuntime, path: &str) -> Result<usize, ReadFault> {
+    let mut world = FileWorld::new(rt);
+    world.open_in(Slot::Trace, path)?;
+    read_all(rt.alloc(), &mut world, Slot::Trace, 15).map(|all| all.len())
+}
+
+/// Texts that are written to one file, one after the other, and how much is then read of it.
+const TEXTS: &[(&str, Result<usize, ReadFault>)] = &[
+    ("a text that is too long", Err(ReadFault::TooLong)),
+    ("fifteen letters", Ok(15)),
+    ("a shorter one", Ok(13)),
+];
+
+fn texts_are_kept(rt: &HostRuntime, path: &str) -> bool {
+    for (text, want) in TEXTS {
+        if write_anew(rt, path, text).is_err() || read_of(rt, path) != *want {
+            return false;
+        }
     }
-    assert!(rt; fs::remove_file(&rt, path.as_str()).is_ok());
-    Ok(())
+    true
 }
 
 #[test]
-fn a_real_file_is_written_anew(rt: HostRuntime) -> Result<(), Fail> {
-    let path = env::temp_dir(&rt)?.join(rt.alloc(), "ccsl_edge_rewritten")?;
-    let mut world = FileWorld::new(&rt);
-    for text in ["a long text that is written first", "a shorter one"] {
-        assert_eq!(rt; world.open_out(Slot::TraceOut, path.as_str()), Ok(()));
-        assert_eq!(rt;
-            write_all(&mut world, Slot::TraceOut, text.as_bytes()),
-            Ok(())
-        );
-        assert_eq!(rt; world.close_out(Slot::TraceOut), Ok(()));
-        assert_eq!(rt; world.open_in(Slot::Trace, path.as_str()), Ok(()));
-        let read = read_all(rt.alloc(), &mut world, Slot::Trace, 100);
-        assert!(rt; is(read, text.as_bytes()));
-    }
+fn real_files_hold_what_was_written(rt: HostRuntime) -> Result<(), Fail> {
+    let folder = env::temp_dir(&rt)?;
+    let path = folder.join(rt.alloc(), "ccsl_edge_test")?;
+    assert!(rt; texts_are_kept(&rt, path.as_str()));
     assert!(rt; fs::remove_file(&rt, path.as_str()).is_ok());
+    assert_eq!(rt; read_of(&rt, path.as_str()), Err(ReadFault::Fault));
     Ok(())
 }

@@ -1,15 +1,11 @@
-//! Verdicts on traces, over a world in memory: each kind of answer, by whatever cutting and however many workers.
+//! Verdicts on traces in worlds in memory: the blocks of a long trace, the shares of the items, and the gate.
 #![tactic(auto)]
 
 #[cfg(test)]
 mod blocks;
 #[cfg(test)]
-mod faults;
-#[cfg(test)]
 mod gates;
 #[cfg(test)]
 mod judged;
-#[cfg(test)]
-mod rows;
 #[cfg(test)]
 mod shares;

@@ -1,4 +1,4 @@
-//! Answers on words, against worked rows and, for random words, against plain loops.
+//! Answers on random words, against plain loops.
 #![tactic(auto)]
 
 #[cfg(test)]
@@ -7,5 +7,3 @@ mod plain;
 mod random;
 #[cfg(test)]
 mod trials;
-#[cfg(test)]
-mod worked;
