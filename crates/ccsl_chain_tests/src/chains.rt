@@ -1,77 +1,54 @@
 //! Chains of some lengths.
 
-use crate::system::{same_constraints, same_counts, same_definitions, same_groups, same_names};
-use ccsl_base::Memory;
+use crate::system::are_same;
+use ccsl_base::{MAX_SPEC_BYTES, Memory};
 use ccsl_chain::chain;
-use ccsl_elaborate::elaborate;
 use ccsl_kernel::System;
-use ccsl_lex::tokens;
-use ccsl_library::library;
-use ccsl_parse::parse;
+use ccsl_spec::{Specification, read};
 use std::alloc::Global;
-use std::process::Abort;
 use std::test::*;
 
-fn add_clocks(alloc: Global, out: &mut String, clocks: u32) -> Result<(), Memory> {
-    out.push_str("clock c0")?;
-    for i in 1..clocks {
-        out.push_str(format!(in alloc; ", c{i}")?.as_str())?;
-    }
-    out.push_str(";\n")?;
-    Ok(())
-}
-
-fn add_calls(alloc: Global, out: &mut String, clocks: u32) -> Result<(), Memory> {
+fn text(alloc: Global, clocks: u32) -> Result<String, Memory> {
+    let mut names = String::from_str(alloc, "c0")?;
+    let mut calls = String::new(alloc);
     let mut left = 0;
     for right in 1..clocks {
-        out.push_str(format!(in alloc; "alternates(c{left}, c{right});\n")?.as_str())?;
+        write!(names, ", c{right}")?;
+        write!(calls, "alternates(c{left}, c{right});\n")?;
         left = right;
     }
-    Ok(())
+    let (names, calls) = (names.as_str(), calls.as_str());
+    Ok(format!(in alloc; "ccsl 1; system {{ clock {names}; {calls} }}")?)
 }
 
-fn text(alloc: Global, clocks: u32) -> Result<String, Memory> {
-    let mut out = String::new(alloc);
-    out.push_str("ccsl 1;\nsystem {\n")?;
-    add_clocks(alloc, &mut out, clocks)?;
-    add_calls(alloc, &mut out, clocks)?;
-    out.push_str("}\n")?;
-    Ok(out)
-}
-
-fn elaborated(rt: &impl Abort, alloc: Global, clocks: u32) -> Result<System, Fail> {
+/// The system of the text of a chain.
+fn of_text(alloc: Global, clocks: u32) -> Result<System, Fail> {
     let text = text(alloc, clocks)?;
-    let found = tokens(alloc, text.as_bytes())?;
-    let file = Box::new(alloc, parse(alloc, found.as_slice())?)?;
-    let library = library(alloc)?;
-    match elaborate(alloc, &file, &library) {
-        Ok(system) => Ok(system),
-        Err(refusal) => panic!(rt; "{refusal:?}"),
+    if text.len() as u64 > MAX_SPEC_BYTES {
+        return Err(Fail::from("the text is short"));
+    }
+    match read(alloc, text.as_str().as_bytes())? {
+        Specification::Accepted(system) => Ok(system),
+        Specification::Refused(_line) => Err(Fail::from("the text is accepted")),
     }
 }
 
-fn are_same(a: &System, b: &System) -> bool {
-    same_counts(a, b)
-        && same_names(a.names(), b.names())
-        && same_groups(a.groups(), b.groups())
-        && same_definitions(a, b)
-        && same_constraints(a, b)
-}
-
-// Whether a chain is the system that the text of a chain, of so many clocks too or of others, is elaborated to.
-fn are_alike(rt: &impl Abort, alloc: Global, made: u32, read: u32) -> Result<bool, Fail> {
+/// Whether a chain is the system that the text of a chain, of so many clocks too or of others, is elaborated to.
+fn are_alike(alloc: Global, made: u32, read: u32) -> Result<bool, Fail> {
     if !(2..=512).contains(&made) {
         return Err(Fail::from("a chain has 2 to 512 clocks"));
     }
     let made = Box::new(alloc, chain(alloc, made)?)?;
-    let read = elaborated(rt, alloc, read)?;
+    let read = of_text(alloc, read)?;
     Ok(are_same(&made, &read))
 }
 
+const LENGTHS: &[(u32, u32)] = &[(2, 2), (3, 3), (24, 24), (512, 512), (3, 4)];
+
 #[test]
 fn each_chain_is_its_text(rt: HostRuntime) -> Result<(), Fail> {
-    for (made, read) in [(2, 2), (3, 3), (24, 24), (512, 512), (3, 4)] {
-        let alike = are_alike(&rt, rt.alloc(), made, read)?;
+    for (made, read) in LENGTHS {
+        let alike = are_alike(rt.alloc(), *made, *read)?;
         assert_eq!(rt; alike, made == read, "{made} and {read} clocks");
     }
     Ok(())

@@ -4,6 +4,4 @@
 #[cfg(test)]
 mod chains;
 #[cfg(test)]
-mod expression;
-#[cfg(test)]
 mod system;

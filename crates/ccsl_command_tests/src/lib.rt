@@ -1,4 +1,4 @@
-//! Command lines: every kind of fault, and the values of accepted words.
+//! Command lines: every kind of fault, and the ranges of values.
 #![tactic(auto)]
 
 #[cfg(test)]

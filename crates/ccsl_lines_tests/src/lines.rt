@@ -2,7 +2,7 @@
 
 ghost use Rattle.std.specs.Prelude.{◌≤◌};
 
-use ccsl_edge::{CallKind, MemoryWorld, Slot, World};
+use ccsl_edge::{CallKind, MemoryWorld, World};
 use ccsl_lines::{LineReader, Next};
 use std::alloc::{AllocError, Global};
 use std::test::*;
@@ -35,149 +35,93 @@ fn told<W: World>(
     }
 }
 
-fn world(
-    alloc: Global,
-    input: &[u8],
-    failing: Vec<(CallKind, u64)>,
-    piece: usize,
-) -> Result<MemoryWorld, AllocError>
-    requires { 1 ≤ piece }
-{
-    let world = MemoryWorld::new(alloc, Vec::new(alloc), failing, piece);
-    Ok(world.with_input(Vec::from_slice(alloc, input)?))
+/// So many times the letter x, and what follows.
+fn letters(alloc: Global, count: usize, behind: &str) -> Result<Vec<u8>, AllocError> {
+    let mut text = vec![in alloc; b'x'; count]?;
+    text.extend_from_slice(behind.as_bytes())?;
+    Ok(text)
 }
 
-/// What the calls give of a whole input, in pieces of that size.
-fn told_of(alloc: Global, input: &[u8], limit: u64, piece: usize) -> Result<Vec<u8>, Fail>
+/// A world with that input, whose reads take that many bytes, and of which one fails.
+fn world(alloc: Global, input: Vec<u8>, failing: u64, piece: usize) -> Result<MemoryWorld, Fail>
     requires { 1 ≤ piece }
 {
-    let mut world = world(alloc, input, Vec::new(alloc), piece)?;
+    let failing = vec![in alloc; (CallKind::Read, failing)]?;
+    Ok(MemoryWorld::new(alloc, Vec::new(alloc), failing, piece).with_input(input))
+}
+
+/// What the calls give of a whole input, where that read fails and not more than so many bytes are taken.
+fn told_of(
+    alloc: Global,
+    input: Vec<u8>,
+    failing: u64,
+    limit: u64,
+    piece: usize,
+) -> Result<Vec<u8>, Fail>
+    requires { 1 ≤ piece }
+{
+    let mut world = world(alloc, input, failing, piece)?;
     let mut reader = LineReader::open(alloc, limit)?;
     Ok(told(alloc, &mut reader, &mut world)?)
 }
 
-#[test]
-fn lines_end_at_line_feeds_and_at_the_end(rt: HostRuntime) -> Result<(), Fail> {
-    for piece in [1, 2, 4096] {
-        for (input, rows) in [
-            ("", "<ended>"),
-            ("\n", "\n<ended>"),
-            ("a\nbc\n", "a\nbc\n<ended>"),
-            ("a\nbc", "a\nbc\n<ended>"),
-            ("a\r\nbc\r\n", "a\nbc\n<ended>"),
-            ("a\r\nbc\r", "a\nbc\n<ended>"),
-            ("a\n\n\r\nb\n\n", "a\n\n\nb\n\n<ended>"),
-            ("a\n\r", "a\n\n<ended>"),
-            ("a\rb\r\r\n\r\rc", "a\rb\r\n\r\rc\n<ended>"),
-        ] {
-            let got = told_of(rt.alloc(), input.as_bytes(), 1000, piece)?;
-            assert_eq!(rt; got.as_slice(), rows.as_bytes(), "{input:?}, piece {piece}");
-        }
-    }
-    Ok(())
-}
+// Calls are counted from 1.
+const NO_CALL: u64 = 0;
+
+// The letters x before the input, the input, its limit, the letters x before the rows, and the rows.
+const ROWS: &[(usize, &str, u64, usize, &str)] = &[
+    (0, "", 0, 0, "<ended>"),
+    (0, "\n", 1000, 0, "\n<ended>"),
+    (0, "a\nbc", 1000, 0, "a\nbc\n<ended>"),
+    (0, "a\r\nbc\r\n", 1000, 0, "a\nbc\n<ended>"),
+    (0, "a\r\nbc\r", 1000, 0, "a\nbc\n<ended>"),
+    (0, "a\n\n\r\nb\n\n", 1000, 0, "a\n\n\nb\n\n<ended>"),
+    (0, "a\n\r", 1000, 0, "a\n\n<ended>"),
+    (0, "a\rb\r\r\n\r\rc", 1000, 0, "a\rb\r\n\r\rc\n<ended>"),
+    (0, "back\nback\n", 0, 0, "<too long>"),
+    (0, "back\nback\n", 4, 0, "<too long>"),
+    (0, "back\nback\n", 5, 0, "back\n<too long>"),
+    (0, "back\nback\n", 9, 0, "back\n<too long>"),
+    (0, "back\nback\n", 10, 0, "back\nback\n<ended>"),
+    (0, "back\nback\n", u64::MAX, 0, "back\nback\n<ended>"),
+    (65_536, "\nb", u64::MAX, 65_536, "\nb\n<ended>"),
+    (65_536, "", u64::MAX, 65_536, "\n<ended>"),
+    (65_535, "\r\nb", u64::MAX, 65_535, "\nb\n<ended>"),
+    (65_535, "\r", u64::MAX, 65_535, "\n<ended>"),
+    (65_537, "\nb", u64::MAX, 0, "<long>\nb\n<ended>"),
+    (65_537, "", u64::MAX, 0, "<long>\n<ended>"),
+    (65_536, "\r\nb", u64::MAX, 0, "<long>\nb\n<ended>"),
+    (65_536, "\r", u64::MAX, 0, "<long>\n<ended>"),
+    (200_000, "\nb\r\n", u64::MAX, 0, "<long>\nb\n<ended>"),
+];
 
 #[test]
-fn only_lines_within_the_limit_are_taken(rt: HostRuntime) -> Result<(), Fail> {
-    for piece in [1, 4096] {
-        for (limit, rows) in [
-            (0, "<too long>"),
-            (4, "<too long>"),
-            (5, "back\n<too long>"),
-            (9, "back\n<too long>"),
-            (10, "back\nback\n<ended>"),
-            (11, "back\nback\n<ended>"),
-            (u64::MAX, "back\nback\n<ended>"),
-        ] {
-            let got = told_of(rt.alloc(), b"back\nback\n", limit, piece)?;
-            assert_eq!(rt;
-                got.as_slice(),
-                rows.as_bytes(),
-                "limit {limit}, piece {piece}"
-            );
-        }
-        let got = told_of(rt.alloc(), b"", 0, piece)?;
-        assert_eq!(rt; got.as_slice(), b"<ended>".as_slice());
-    }
-    Ok(())
-}
-
-/// So many times the letter x, and what follows.
-fn letters(alloc: Global, count: usize, behind: &str) -> Result<Vec<u8>, AllocError> {
-    let mut input = vec![in alloc; b'x'; count]?;
-    input.extend_from_slice(behind.as_bytes())?;
-    Ok(input)
-}
-
-#[test]
-fn a_line_has_65536_bytes_at_most(rt: HostRuntime) -> Result<(), Fail> {
-    for piece in [4093, 65_536] {
-        for (count, behind, rows) in [
-            (65_536, "\nb", "\nb\n<ended>"),
-            (65_536, "", "\n<ended>"),
-            (65_535, "\r\nb", "\nb\n<ended>"),
-            (65_535, "\r", "\n<ended>"),
-        ] {
-            let input = letters(rt.alloc(), count, behind)?;
-            let got = told_of(rt.alloc(), input.as_slice(), 1_000_000, piece)?;
-            let want = letters(rt.alloc(), count, rows)?;
+fn lines_within_their_limits(rt: HostRuntime) -> Result<(), Fail> {
+    for (count, text, limit, kept, rows) in ROWS {
+        let wanted = letters(rt.alloc(), *kept, rows)?;
+        for piece in [1, 4093] {
+            let input = letters(rt.alloc(), *count, text)?;
+            let got = told_of(rt.alloc(), input, NO_CALL, *limit, piece)?;
             assert!(rt;
-                got == want,
-                "{count} letters and {behind:?}, piece {piece}"
-            );
-        }
-        for (count, behind, rows) in [
-            (65_537, "\nb", "<long>\nb\n<ended>"),
-            (65_537, "", "<long>\n<ended>"),
-            (65_536, "\r\nb", "<long>\nb\n<ended>"),
-            (65_536, "\r", "<long>\n<ended>"),
-            (200_000, "\nb\r\n", "<long>\nb\n<ended>"),
-        ] {
-            let input = letters(rt.alloc(), count, behind)?;
-            let got = told_of(rt.alloc(), input.as_slice(), 1_000_000, piece)?;
-            assert_eq!(rt;
-                got.as_slice(),
-                rows.as_bytes(),
-                "{count} letters and {behind:?}, piece {piece}"
+                got == wanted,
+                "{count} letters and {text:?}, limit {limit}, piece {piece}"
             );
         }
     }
     Ok(())
 }
 
+// A call that finds a line feed needs no read.
 #[test]
-fn a_read_that_fails_is_told(rt: HostRuntime) -> Result<(), Fail> {
-    let alloc = rt.alloc();
-    let failing = vec![in alloc; (CallKind::Read, 2)]?;
-    let mut world = world(alloc, b"ab\ncdef\n", failing, 4)?;
-    let mut reader = LineReader::open(alloc, 1000)?;
-    let got = told(alloc, &mut reader, &mut world)?;
-    assert_eq!(rt; got.as_slice(), b"ab\n<failed>".as_slice());
-    assert_eq!(rt; world.faults(Slot::Input), 1);
-    Ok(())
-}
-
-#[test]
-fn lines_that_were_read_need_no_read(rt: HostRuntime) -> Result<(), Fail> {
-    let alloc = rt.alloc();
-    let failing = vec![in alloc; (CallKind::Read, 2)]?;
-    let mut world = world(alloc, b"a\nb\nc\nd", failing, 4096)?;
-    let mut reader = LineReader::open(alloc, 1000)?;
-    let got = told(alloc, &mut reader, &mut world)?;
-    assert_eq!(rt; got.as_slice(), b"a\nb\nc\n<failed>".as_slice());
-    Ok(())
-}
-
-#[test]
-fn the_last_answer_is_given_again(rt: HostRuntime) -> Result<(), Fail> {
-    let alloc = rt.alloc();
-    for (limit, last) in [(5, Next::TooLong), (7, Next::Ended)] {
-        let mut world = world(alloc, b"back\nba", Vec::new(alloc), 3)?;
-        let mut reader = LineReader::open(alloc, limit)?;
-        told(alloc, &mut reader, &mut world)?;
-        for _ in 0..2 {
-            assert_eq!(rt; reader.next(&mut world), Ok(last));
-        }
+fn the_second_read_fails(rt: HostRuntime) -> Result<(), Fail> {
+    for (piece, rows) in [
+        (1, "<failed>"),
+        (4, "ab\n<failed>"),
+        (4096, "ab\nc\n<failed>"),
+    ] {
+        let input = letters(rt.alloc(), 0, "ab\nc\nd")?;
+        let got = told_of(rt.alloc(), input, 2, 1000, piece)?;
+        assert_eq!(rt; got.as_slice(), rows.as_bytes());
     }
     Ok(())
 }
