@@ -6,20 +6,25 @@ use ccsl_base::{MAX_CALL_LEVELS, MAX_LEVELS, Memory, Seq};
 use ccsl_kernel::{Body, Expr, ExprOp, Group, ParamKind, Parts, Place, Value};
 use std::alloc::Global;
 
+/// The union of a place and an expression.
+fn union(alloc: Global, place: Place, e: Expr) -> Result<Expr, Memory> {
+    let e = Box::new(alloc, e)?;
+    let name = Box::new(alloc, Expr::Name(place))?;
+    Ok(Expr::Binary(ExprOp::Union, name, e))
+}
+
 /// An expression under so many unions with a place.
 fn under(alloc: Global, inner: Expr, place: Place, levels: u32) -> Result<Expr, Memory> {
     let mut e = inner;
     for _ in 0..levels {
-        let name = Box::new(alloc, Expr::Name(place))?;
-        e = Expr::Binary(ExprOp::Union, name, Box::new(alloc, e)?);
+        e = union(alloc, place, e)?;
     }
     Ok(e)
 }
 
 /// A call of a group's one member with a place.
 fn call(alloc: Global, group: u32, place: Place) -> Result<Expr, Memory> {
-    let mut args = Vec::new(alloc);
-    args.push(Value::Clock(place))?;
+    let args = vec![in alloc; Value::Clock(place)]?;
     Ok(Expr::Call {
         group,
         member: 0,
@@ -27,46 +32,52 @@ fn call(alloc: Global, group: u32, place: Place) -> Result<Expr, Memory> {
     })
 }
 
-fn group(alloc: Global, root: Expr) -> Result<Group, Memory> {
-    let mut params = Vec::new(alloc);
-    params.push(ParamKind::Clock)?;
-    let mut members = Vec::new(alloc);
-    members.push(Body {
+/// The root of the one member of a group.
+fn root(alloc: Global, number: u32) -> Result<Expr, Memory> {
+    let param = Place::Param(0);
+    if number == 0 {
+        return under(alloc, Expr::Name(param), param, MAX_LEVELS);
+    }
+    under(alloc, call(alloc, number - 1, param)?, param, MAX_LEVELS)
+}
+
+fn group(alloc: Global, number: u32) -> Result<Group, Memory> {
+    let params = vec![in alloc; ParamKind::Clock]?;
+    let root = root(alloc, number)?;
+    let body = Body {
         params: Seq::new(params),
         root,
-    })?;
+    };
     Ok(Group {
-        members: Seq::new(members),
+        members: Seq::new(vec![in alloc; body]?),
     })
 }
 
 fn groups(alloc: Global) -> Result<Vec<Group>, Memory> {
-    let param = Place::Param(0);
     let mut groups = Vec::new(alloc);
     for number in 0..MAX_CALL_LEVELS {
-        let inner = if number == 0 {
-            Expr::Name(param)
-        } else {
-            call(alloc, number - 1, param)?
-        };
-        let root = under(alloc, inner, param, MAX_LEVELS)?;
-        groups.push(group(alloc, root)?)?;
+        groups.push(group(alloc, number)?)?;
     }
     Ok(groups)
 }
 
-/// The parts of the deepest system.
-pub fn parts(alloc: Global) -> Result<Parts, Memory> {
+fn definitions(alloc: Global) -> Result<Vec<Expr>, Memory> {
     let clock = Place::Clock(0);
     let inner = call(alloc, MAX_CALL_LEVELS - 1, clock)?;
-    let mut definitions = Vec::new(alloc);
-    definitions.push(under(alloc, inner, clock, MAX_LEVELS)?)?;
+    let root = under(alloc, inner, clock, MAX_LEVELS)?;
+    Ok(vec![in alloc; root]?)
+}
+
+/// The parts of the deepest system.
+pub fn parts(alloc: Global) -> Result<Parts, Memory> {
+    let groups = groups(alloc)?;
+    let definitions = definitions(alloc)?;
     let names = names(alloc, 2)?;
     Ok(Parts {
         declared: 1,
         written: names.len(),
         names,
-        groups: Seq::new(groups(alloc)?),
+        groups: Seq::new(groups),
         words: Seq::new(Vec::new(alloc)),
         definitions: Seq::new(definitions),
         constraints: Seq::new(Vec::new(alloc)),

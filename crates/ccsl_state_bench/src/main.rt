@@ -42,36 +42,54 @@ fn assembled(alloc: Global, parts: Parts) -> Result<Option<System>, Memory> {
     Ok(Some(System::assemble(parts, count)))
 }
 
-/// The number that a command asks for, and none where its system is not accepted.
-fn answer(alloc: Global, command: Command) -> Result<Option<u64>, Memory> {
-    let parts = match command {
-        Command::Chain(clocks, _) | Command::Formulas(clocks, _) => chain::parts(alloc, clocks)?,
-        Command::Deep(_) => deep::parts(alloc)?,
-    };
-    let Some(system) = assembled(alloc, parts)? else {
-        return Ok(None);
-    };
-    let number = match command {
-        Command::Chain(_, steps) => run::ticks(alloc, &system, steps)?,
-        Command::Formulas(_, steps) => run::holding(alloc, &system, steps)?,
-        Command::Deep(steps) => run::ticks(alloc, &system, steps)?,
-    };
-    Ok(Some(number))
+fn parts(alloc: Global, command: Command) -> Result<Parts, Memory> {
+    match command {
+        Command::Chain(clocks, _) | Command::Formulas(clocks, _) => chain::parts(alloc, clocks),
+        Command::Deep(_) => deep::parts(alloc),
+    }
 }
 
-fn main(rt: HostRuntime) -> io::Result<()> {
+fn measured(alloc: Global, command: Command, system: &System) -> Result<u64, Memory> {
+    match command {
+        Command::Chain(_, steps) | Command::Deep(steps) => run::ticks(alloc, system, steps),
+        Command::Formulas(_, steps) => run::holding(alloc, system, steps),
+    }
+}
+
+/// The system of a command, and none where it is not accepted.
+fn system(alloc: Global, command: Command) -> Result<Option<System>, Memory> {
+    assembled(alloc, parts(alloc, command)?)
+}
+
+fn print_measured(rt: &HostRuntime, command: Command, system: &System) -> io::Result<()> {
+    match measured(rt.alloc(), command, system) {
+        Ok(number) => println!(rt; "{number}"),
+        Err(_memory) => println!(rt; "no memory"),
+    }
+}
+
+fn answer(rt: &HostRuntime, command: Command) -> io::Result<()> {
+    match system(rt.alloc(), command) {
+        Ok(Some(system)) => print_measured(rt, command, &system),
+        Ok(None) => println!(rt; "refused"),
+        Err(_memory) => println!(rt; "no memory"),
+    }
+}
+
+fn words(rt: &HostRuntime) -> io::Result<Vec<String>> {
     let mut words = Vec::new(rt.alloc());
-    for word in env::args(&rt)?.skip(1) {
+    for word in env::args(rt)?.skip(1) {
         if words.push(word).is_err() {
             return Err(io::Error::from(std::alloc::AllocError));
         }
     }
+    Ok(words)
+}
+
+fn main(rt: HostRuntime) -> io::Result<()> {
+    let words = words(&rt)?;
     match asked(&words) {
         None => println!(rt; "chain C N | formulas C N | deep N"),
-        Some(command) => match answer(rt.alloc(), command) {
-            Ok(Some(number)) => println!(rt; "{number}"),
-            Ok(None) => println!(rt; "refused"),
-            Err(_memory) => println!(rt; "no memory"),
-        },
+        Some(command) => answer(&rt, command),
     }
 }

@@ -12,8 +12,8 @@ use std::{env, io};
 /// The bytes that are written at once.
 const BUFFER: usize = 65_536;
 
-/// The system of clocks c0, c1 and so on, or `None` where it is not accepted.
-fn system(alloc: Global, clocks: u32) -> Result<Option<System>, Memory> {
+/// The names c0, c1 and so on.
+fn named(alloc: Global, clocks: u32) -> Result<Names, Memory> {
     let mut names = Names::new(alloc);
     for i in 0..clocks {
         if names.len() < u32::MAX {
@@ -21,8 +21,22 @@ fn system(alloc: Global, clocks: u32) -> Result<Option<System>, Memory> {
             let _ = names.add(name.as_str().as_bytes())?;
         }
     }
+    Ok(names)
+}
+
+/// The system of some parts, or `None` where they are not accepted.
+fn assembled(alloc: Global, parts: Parts) -> Result<Option<System>, Memory> {
+    if !parts.accepted(alloc)? {
+        return Ok(None);
+    }
+    let count = parts.cells(alloc)?;
+    Ok(Some(System::assemble(parts, count)))
+}
+
+/// The system of clocks c0, c1 and so on, or `None` where it is not accepted.
+fn system(alloc: Global, clocks: u32) -> Result<Option<System>, Memory> {
     let parts = Parts {
-        names,
+        names: named(alloc, clocks)?,
         declared: clocks,
         written: clocks,
         groups: Seq::new(Vec::new(alloc)),
@@ -30,11 +44,7 @@ fn system(alloc: Global, clocks: u32) -> Result<Option<System>, Memory> {
         definitions: Seq::new(Vec::new(alloc)),
         constraints: Seq::new(Vec::new(alloc)),
     };
-    if !parts.accepted(alloc)? {
-        return Ok(None);
-    }
-    let count = parts.cells(alloc)?;
-    Ok(Some(System::assemble(parts, count)))
+    assembled(alloc, parts)
 }
 
 fn insert(set: &mut ClockSet, clock: u32) {
@@ -84,27 +94,30 @@ fn asked(words: &[String]) -> Option<(u32, u64)> {
     Some((clocks, steps))
 }
 
-fn main(rt: HostRuntime) -> io::Result<()> {
+fn words(rt: &HostRuntime) -> io::Result<Vec<String>> {
     let mut words = Vec::new(rt.alloc());
-    for word in env::args(&rt)?.skip(1) {
+    for word in env::args(rt)?.skip(1) {
         if words.push(word).is_err() {
             return Err(io::Error::from(AllocError));
         }
     }
+    Ok(words)
+}
+
+fn write_steps(rt: &HostRuntime, system: &System, clocks: u32, steps: u64) -> io::Result<()> {
+    let sets = pattern(rt.alloc(), clocks).map_err(no_memory)?;
+    let mut to = io::writer(rt);
+    write_trace(rt.alloc(), system, sets.as_slice(), steps, &mut to)
+}
+
+fn main(rt: HostRuntime) -> io::Result<()> {
+    let words = words(&rt)?;
     let Some((clocks, steps)) = asked(&words) else {
         return println!(rt; "CLOCKS STEPS");
     };
-    match system(rt.alloc(), clocks).map_err(no_memory)? {
-        None => println!(rt; "at most 1024 clocks"),
-        Some(system) => {
-            let sets = pattern(rt.alloc(), clocks).map_err(no_memory)?;
-            write_trace(
-                rt.alloc(),
-                &system,
-                sets.as_slice(),
-                steps,
-                &mut io::writer(&rt),
-            )
-        }
+    match system(rt.alloc(), clocks) {
+        Ok(Some(system)) => write_steps(&rt, &system, clocks, steps),
+        Ok(None) => println!(rt; "at most 1024 clocks"),
+        Err(memory) => Err(no_memory(memory)),
     }
 }
