@@ -6,14 +6,13 @@ ghost use Rattle.ccsl_rules.specs.Elaborated.{refusal};
 ghost use Rattle.ccsl_accepts.specs.Acceptance.{empty};
 
 use ccsl_ast::File;
-use ccsl_base::{ClockSet, Memory, Seq};
+use ccsl_base::{Memory, Seq};
 use ccsl_elaborate::elaborate;
-use ccsl_kernel::{System, plain_formula};
+use ccsl_kernel::System;
 use ccsl_lex::tokens;
 use ccsl_parse::parse;
 use ccsl_rules::Refusal;
 use std::alloc::Global;
-use std::process::Abort;
 use std::test::Fail;
 
 fn file(alloc: Global, text: &str) -> Result<File, Fail> {
@@ -31,55 +30,30 @@ fn empty_library(alloc: Global) -> File
     }
 }
 
-/// The system of a text, or its refusal.
-pub fn answer(alloc: Global, text: &str) -> Result<Result<System, Refusal>, Fail> {
-    let own = Box::new(alloc, file(alloc, text)?)?;
+fn elaborated(alloc: Global, own: &File) -> Result<System, Refusal> {
     let library = empty_library(alloc);
-    Ok(elaborate(alloc, &own, &library))
+    elaborate(alloc, own, &library)
+}
+
+/// The system of a text, or its refusal.
+fn answer(alloc: Global, text: &str) -> Result<Result<System, Refusal>, Fail> {
+    let own = file(alloc, text)?;
+    Ok(elaborated(alloc, &own))
 }
 
 /// The system of a text that is accepted.
-pub fn system(rt: &impl Abort, alloc: Global, text: &str) -> Result<System, Fail> {
+pub fn system_of(alloc: Global, text: &str) -> Result<System, Fail> {
     match answer(alloc, text)? {
         Ok(system) => Ok(system),
-        Err(refusal) => panic!(rt; "{refusal:?}"),
-    }
-}
-
-/// The text is refused so.
-pub fn refused(rt: &impl Abort, alloc: Global, text: &str, refusal: Refusal) -> Result<(), Fail> {
-    match answer(alloc, text)? {
-        Ok(_) => panic!(rt; "accepted"),
-        Err(found) => assert_eq!(rt; found, refusal),
-    }
-    Ok(())
-}
-
-fn item_holds(
-    alloc: Global,
-    system: &System,
-    item: u32,
-    steps: &[ClockSet],
-    set: &ClockSet,
-) -> Result<bool, Fail> {
-    if item >= system.items() {
-        return Err(Fail::from("the text has no such item"));
-    }
-    let formula = plain_formula(alloc, system, item, steps)?;
-    Ok(formula.eval(set))
-}
-
-/// Whether an item of a text's system holds in a set of clocks after these steps.
-pub fn holds(
-    alloc: Global,
-    text: &str,
-    item: u32,
-    steps: &[ClockSet],
-    set: &ClockSet,
-) -> Result<bool, Fail> {
-    match answer(alloc, text)? {
-        Ok(system) => item_holds(alloc, &system, item, steps, set),
         Err(_refusal) => Err(Fail::from("the text is refused")),
+    }
+}
+
+/// The refusal of a text, if it is refused.
+pub fn refusal_of(alloc: Global, text: &str) -> Result<Option<Refusal>, Fail> {
+    match answer(alloc, text)? {
+        Ok(_system) => Ok(None),
+        Err(refusal) => Ok(Some(refusal)),
     }
 }
 
