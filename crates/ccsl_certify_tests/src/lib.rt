@@ -6,8 +6,4 @@ mod answers;
 #[cfg(test)]
 mod certified;
 #[cfg(test)]
-mod failing;
-#[cfg(test)]
-mod refused;
-#[cfg(test)]
 mod replays;

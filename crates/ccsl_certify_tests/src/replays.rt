@@ -1,19 +1,14 @@
 //! Traces that are replayed, and the states behind them.
 
-use crate::certified::{WIDE, system_of, trace_of, world};
-use ccsl_base::{ClockSet, HashKeys};
+use crate::certified::{KEYS, LIMITS, NO_CALL, open_both, system_of, world};
+use ccsl_base::ClockSet;
 use ccsl_certify::{ReplayFault, Replayed, replay};
-use ccsl_kernel::System;
+use ccsl_edge::MemoryWorld;
 use ccsl_vcd::VcdFault;
 use std::alloc::Global;
-use std::process::Abort;
 use std::test::*;
 
-/// Any keys: no answer depends on them.
-const KEYS: HashKeys = HashKeys {
-    first: 1,
-    second: 2,
-};
+const SECOND: &str = "ccsl 1; system { clock a, b; define second = a await 2; a precedes b; }";
 
 /// What a replay answers: a run of so many steps, after which so many clocks tick where the first one does; or
 /// no run.
@@ -34,44 +29,36 @@ fn what_is(replayed: &Replayed<'_>) -> Seen {
     }
 }
 
-fn replayed(alloc: Global, system: &System, body: &str) -> Result<Result<Seen, ReplayFault>, Fail> {
-    let trace = trace_of(alloc, body)?;
-    let mut world = world(alloc, trace.as_str(), "", Vec::new(alloc), 4096)?;
-    match replay(alloc, KEYS, &mut world, system, &WIDE) {
+fn replayed_in(alloc: Global, world: &mut MemoryWorld) -> Result<Result<Seen, ReplayFault>, Fail> {
+    let system = system_of(alloc, SECOND)?;
+    match replay(alloc, KEYS, world, &system, &LIMITS) {
         Ok(replayed) => Ok(Ok(what_is(&replayed))),
         Err(fault) => Ok(Err(fault)),
     }
 }
 
-fn replays(
-    rt: &impl Abort,
-    alloc: Global,
-    body: &str,
-    wanted: Result<Seen, ReplayFault>,
-) -> Result<(), Fail> {
-    let system = system_of(
-        alloc,
-        "ccsl 1; system { clock a, b; define second = a await 2; a precedes b; }",
-    )?;
-    assert_eq!(rt; replayed(alloc, &system, body)?, wanted);
-    Ok(())
+fn replayed(alloc: Global, body: &str) -> Result<Result<Seen, ReplayFault>, Fail> {
+    let mut world = world(alloc, body, "", NO_CALL, 4096)?;
+    open_both(&mut world)?;
+    replayed_in(alloc, &mut world)
 }
+
+const REPLAYS: &[(&str, Result<Seen, ReplayFault>)] = &[
+    ("", Ok(Seen::Run(0, 1))),
+    ("#0 1! #5 1\"", Ok(Seen::Run(2, 2))),
+    ("#0 1! #5 1! 1\"", Ok(Seen::Run(2, 1))),
+    ("#0 1! #5 1\" #6 1\" #7 1!", Ok(Seen::NotRun(2, 6, 1))),
+    (
+        "1\" #1 $dumpoff $end",
+        Err(ReplayFault::Refused(VcdFault::Gap { at: 71 })),
+    ),
+];
 
 #[test]
 fn the_states_after_a_run(rt: HostRuntime) -> Result<(), Fail> {
-    for (body, seen) in [
-        ("", Seen::Run(0, 1)),
-        ("#0 1! #5 1\"", Seen::Run(2, 2)),
-        ("#0 1! #5 1! 1\"", Seen::Run(2, 1)),
-        ("#0 1! #5 1\" #6 1\" #7 1!", Seen::NotRun(2, 6, 1)),
-    ] {
-        replays(&rt, rt.alloc(), body, Ok(seen))?;
+    for (body, wanted) in REPLAYS {
+        let found = replayed(rt.alloc(), body)?;
+        assert_eq!(rt; found, *wanted);
     }
     Ok(())
-}
-
-#[test]
-fn a_trace_that_does_not_read(rt: HostRuntime) -> Result<(), Fail> {
-    let gap = ReplayFault::Refused(VcdFault::Gap { at: 71 });
-    replays(&rt, rt.alloc(), "1\" #1 $dumpoff $end", Err(gap))
 }
