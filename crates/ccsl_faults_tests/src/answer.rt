@@ -5,11 +5,10 @@ use ccsl_faults::{Cause, Fault, first_fault};
 use ccsl_lex::tokens;
 use ccsl_parse::parse;
 use std::alloc::Global;
-use std::process::Abort;
 use std::test::Fail;
 
 /// A library with one relation and one group.
-pub const LIBRARY: &str = "ccsl 1;
+const LIBRARY: &str = "ccsl 1;
     relation alternates(clock a, clock b) { define next = a delay 1; a precedes b; b precedes next; }
     expression periodic(clock c, number n) = (c await n) then periodic(c, n);
     system { }";
@@ -19,31 +18,29 @@ fn file(alloc: Global, text: &str) -> Result<File, Fail> {
     Ok(parse(alloc, found.as_slice())?)
 }
 
-/// The fault of a text behind a library.
-pub fn fault_behind(alloc: Global, library: &str, text: &str) -> Result<Option<Fault>, Fail> {
-    let library = Box::new(alloc, file(alloc, library)?)?;
-    let own = Box::new(alloc, file(alloc, text)?)?;
-    Ok(first_fault(alloc, &own, &library)?)
+fn fault_in(alloc: Global, library: &File, text: &str) -> Result<Option<Fault>, Fail> {
+    let own = file(alloc, text)?;
+    Ok(first_fault(alloc, &own, library)?)
 }
 
-/// The text has a fault where the second part begins.
-pub fn stops(
-    rt: &impl Abort,
+/// The fault of a text behind a library.
+pub(crate) fn fault_behind(
     alloc: Global,
-    front: &str,
-    rest: &str,
-    cause: Cause,
-) -> Result<(), Fail> {
+    library: &str,
+    text: &str,
+) -> Result<Option<Fault>, Fail> {
+    let library = file(alloc, library)?;
+    fault_in(alloc, &library, text)
+}
+
+/// The fault of a text behind the small library.
+pub(crate) fn fault_of(alloc: Global, text: &str) -> Result<Option<Fault>, Fail> {
+    fault_behind(alloc, LIBRARY, text)
+}
+
+/// Whether a text has its fault where the second part begins.
+pub(crate) fn stops(alloc: Global, front: &str, rest: &str, cause: Cause) -> Result<bool, Fail> {
     let text = format!(in alloc; "{front}{rest}")?;
     let at = front.len();
-    let found = fault_behind(alloc, LIBRARY, text.as_str())?;
-    assert_eq!(rt; found, Some(Fault { cause, at }), "{text}");
-    Ok(())
-}
-
-/// The text has no fault.
-pub fn stands(rt: &impl Abort, alloc: Global, text: &str) -> Result<(), Fail> {
-    let found = fault_behind(alloc, LIBRARY, text)?;
-    assert_eq!(rt; found, None, "{text}");
-    Ok(())
+    Ok(fault_of(alloc, text.as_str())? == Some(Fault { cause, at }))
 }

@@ -1,79 +1,80 @@
 //! Levels of groups and of relations.
 
-use crate::answer::{stands, stops};
+use crate::answer::{fault_of, stops};
 use ccsl_faults::Cause;
 use std::alloc::{AllocError, Global};
-use std::string::String;
-use std::test::Fail;
+use std::test::*;
 
-/// So many groups, each of which calls the one before it: `e0` has level 1, `e1` level 2.
-fn groups(alloc: Global, count: u32) -> Result<String, AllocError> {
-    let mut text = String::new(alloc);
-    text.push_str("ccsl 1; expression e0(clock c) = c; ")?;
-    for i in 1..count {
-        let member = format!(in alloc; "expression e{i}(clock c) = c union e{}(c); ", i - 1)?;
-        text.push_str(member.as_str())?;
+/// Eight groups, each of which calls the one before it: `e0` has level 1, `e1` level 2.
+fn groups(alloc: Global) -> Result<String, AllocError> {
+    let mut text = String::from_str(alloc, "ccsl 1; expression e0(clock c) = c; ")?;
+    for i in 1..8u32 {
+        let below = i.saturating_sub(1);
+        write!(text, "expression e{i}(clock c) = c union e{below}(c); ")?;
     }
     Ok(text)
 }
 
 /// The same of relations.
-fn relations(alloc: Global, count: u32) -> Result<String, AllocError> {
-    let mut text = String::new(alloc);
-    text.push_str("ccsl 1; relation r0(clock c) { c excludes c; } ")?;
-    for i in 1..count {
-        let relation = format!(in alloc; "relation r{i}(clock c) {{ r{}(c); }} ", i - 1)?;
-        text.push_str(relation.as_str())?;
+fn relations(alloc: Global) -> Result<String, AllocError> {
+    let mut text = String::from_str(alloc, "ccsl 1; relation r0(clock c) { c excludes c; } ")?;
+    for i in 1..8u32 {
+        let below = i.saturating_sub(1);
+        write!(text, "relation r{i}(clock c) {{ r{below}(c); }} ")?;
     }
     Ok(text)
 }
 
+// Whether a line behind these has a ninth level, and another one none too many.
+fn have_a_ninth_level(
+    alloc: Global,
+    below: &str,
+    front: &str,
+    rest: &str,
+    line: &str,
+) -> Result<bool, Fail> {
+    let front = format!(in alloc; "{below}{front}")?;
+    let text = format!(in alloc; "{below}{line}")?;
+    let is_free = fault_of(alloc, text.as_str())?.is_none();
+    Ok(stops(alloc, front.as_str(), rest, Cause::TooTall)? && is_free)
+}
+
+// The system and the own group have no level.
 #[test]
 fn a_ninth_level_of_groups(rt: HostRuntime) -> Result<(), Fail> {
-    let below = groups(rt.alloc(), 8)?;
-    let front = format!(in rt.alloc(); "{below}expression f(clock c) = c then ")?;
-    stops(
-        &rt,
+    let below = groups(rt.alloc())?;
+    let holds = have_a_ninth_level(
         rt.alloc(),
-        front.as_str(),
+        below.as_str(),
+        "expression f(clock c) = c then ",
         "e7(c); system { }",
-        Cause::TooTall,
+        "expression f(clock c) = e6(c) then (c then f(c)); system { clock a; define x = f(a); }",
     )?;
-    let text = format!(in rt.alloc();
-        "{below}expression f(clock c) = e6(c) then f(c); system {{ }}"
-    )?;
-    stands(&rt, rt.alloc(), text.as_str())
+    assert!(rt; holds);
+    Ok(())
 }
 
 #[test]
 fn a_ninth_level_of_relations(rt: HostRuntime) -> Result<(), Fail> {
-    let below = relations(rt.alloc(), 8)?;
-    let front = format!(in rt.alloc(); "{below}relation s(clock c) {{ ")?;
-    stops(
-        &rt,
+    let below = relations(rt.alloc())?;
+    let holds = have_a_ninth_level(
         rt.alloc(),
-        front.as_str(),
+        below.as_str(),
+        "relation s(clock c) { ",
         "r7(c); } system { }",
-        Cause::TooTall,
+        "system { clock a; r7(a); }",
     )?;
-    let text = format!(in rt.alloc(); "{below}system {{ clock a; r7(a); }}")?;
-    stands(&rt, rt.alloc(), text.as_str())
+    assert!(rt; holds);
+    Ok(())
 }
 
+// Calls of expressions add no level to a relation.
 #[test]
-fn calls_of_expressions_add_no_level_to_relations(rt: HostRuntime) -> Result<(), Fail> {
-    let below = groups(rt.alloc(), 8)?;
-    let text = format!(in rt.alloc();
-        "{below}relation s(clock c) {{ define x = e7(c); x excludes c; }} system {{ clock a; s(a); }}"
+fn a_relation_above_eight_groups(rt: HostRuntime) -> Result<(), Fail> {
+    let mut text = groups(rt.alloc())?;
+    text.push_str(
+        "relation s(clock c) { define x = e7(c); x excludes c; } system { clock a; s(a); }",
     )?;
-    stands(&rt, rt.alloc(), text.as_str())
-}
-
-#[test]
-fn the_system_and_the_own_group_have_no_level(rt: HostRuntime) -> Result<(), Fail> {
-    let below = groups(rt.alloc(), 7)?;
-    let text = format!(in rt.alloc();
-        "{below}expression f(clock c) = e6(c) then (c then f(c)); system {{ clock a; define x = f(a); }}"
-    )?;
-    stands(&rt, rt.alloc(), text.as_str())
+    assert_eq!(rt; fault_of(rt.alloc(), text.as_str())?, None);
+    Ok(())
 }

@@ -14,4 +14,4 @@ mod numbers;
 #[cfg(test)]
 mod order;
 #[cfg(test)]
-mod worked;
+mod texts;

@@ -1,67 +1,58 @@
 //! Numbers of parameters and of operators, and words.
 
-use crate::answer::{stands, stops};
 use ccsl_faults::Cause;
-use std::test::Fail;
+use ccsl_faults::Cause::{Arguments, BadWord};
 
-#[test]
-fn numbers_out_of_range(rt: HostRuntime) -> Result<(), Fail> {
-    let cases = [
-        (
-            "ccsl 1; system { clock a; define x = a delayed ",
-            "0 on a; }",
-        ),
-        (
-            "ccsl 1; system { clock a; define x = a delayed ",
-            "4097 on a; }",
-        ),
-        (
-            "ccsl 2; relation r(clock a) { a precedes within ",
-            "0 a; } system { }",
-        ),
-        (
-            "ccsl 1; expression f(clock a, clock b, clock c, clock d, clock e, clock g, clock h, clock i, clock ",
-            "j) = a; system { }",
-        ),
-        (
-            "ccsl 1; relation r(word a, word b, word c, word d, word e, word g, word h, word i, clock ",
-            "j, clock k) { j excludes k; } system { }",
-        ),
-    ];
-    for (front, rest) in cases {
-        stops(&rt, rt.alloc(), front, rest, Cause::Arguments)?;
-    }
-    Ok(())
-}
+/// Fronts of texts, what stands at the fault, and its cause.
+pub(crate) const REFUSED: &[(&str, &str, Cause)] = &[
+    (
+        "ccsl 1; system { clock a; define x = a delayed ",
+        "0 on a; }",
+        Arguments,
+    ),
+    (
+        "ccsl 1; system { clock a; define x = a delayed ",
+        "4097 on a; }",
+        Arguments,
+    ),
+    (
+        "ccsl 2; relation r(clock a) { a precedes within ",
+        "0 a; } system { }",
+        Arguments,
+    ),
+    (
+        "ccsl 1; expression f(clock a, clock b, clock c, clock d, clock e, clock g, clock h, clock i, clock ",
+        "j) = a; system { }",
+        Arguments,
+    ),
+    (
+        "ccsl 1; relation r(word a, word b, word c, word d, word e, word g, word h, word i, clock ",
+        "j, clock k) { j excludes k; } system { }",
+        Arguments,
+    ),
+    (
+        "ccsl 1; system { clock a; define x = a filter ",
+        "\"\"; }",
+        BadWord,
+    ),
+    (
+        "ccsl 1; system { clock a; define x = a filter ",
+        "\"01()\"; }",
+        BadWord,
+    ),
+    (
+        "ccsl 1; expression f(clock c, word w) = c; system { clock a; define x = f(a, ",
+        "\"2\"); }",
+        BadWord,
+    ),
+];
 
-#[test]
-fn numbers_at_their_limits(rt: HostRuntime) -> Result<(), Fail> {
-    let cases = [
-        "ccsl 1; system { clock a; define x = a delayed 1 on a; define y = a delayed 4096 on a; }",
-        "ccsl 1; expression f(clock a, clock b, clock c, clock d, clock e, clock g, clock h, clock i) = i; system { }",
-        "ccsl 1; system { clock a; define x = a delay 4294967295; define y = a await 0; }",
-    ];
-    for text in cases {
-        stands(&rt, rt.alloc(), text)?;
-    }
-    Ok(())
-}
-
-#[test]
-fn texts_that_are_no_words(rt: HostRuntime) -> Result<(), Fail> {
-    let cases = [
-        ("ccsl 1; system { clock a; define x = a filter ", "\"\"; }"),
-        (
-            "ccsl 1; system { clock a; define x = a filter ",
-            "\"01()\"; }",
-        ),
-        (
-            "ccsl 1; expression f(clock c, word w) = c; system { clock a; define x = f(a, ",
-            "\"2\"); }",
-        ),
-    ];
-    for (front, rest) in cases {
-        stops(&rt, rt.alloc(), front, rest, Cause::BadWord)?;
-    }
-    Ok(())
-}
+/// Texts without a fault.
+pub(crate) const FREE: &[&str] = &[
+    "ccsl 1; system { clock a; define x = a delayed 1 on a; define y = a delayed 4096 on a; }",
+    "ccsl 1; expression f(clock a, clock b, clock c, clock d, clock e, clock g, clock h, clock i) = i; system { }",
+    "ccsl 1; system { clock a; define x = a delay 4294967295; define y = a await 0; }",
+    "ccsl 1; system { }",
+    "ccsl 1; system { clock a, b; alternates(a, b); define x = periodic(a, 3); x subclock a; }",
+    "ccsl 2; system { clock a, b; a precedes within 1 b; define x = a upto weakly b; }",
+];
