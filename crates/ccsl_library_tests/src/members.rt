@@ -1,5 +1,6 @@
 //! Each member of the library in a system, over some steps.
 
+use ccsl_ast::File;
 use ccsl_base::{ClockSet, MAX_CLOCKS};
 use ccsl_elaborate::elaborate;
 use ccsl_kernel::{System, plain_formula};
@@ -7,7 +8,6 @@ use ccsl_lex::tokens;
 use ccsl_library::library;
 use ccsl_parse::parse;
 use std::alloc::Global;
-use std::process::Abort;
 use std::test::*;
 
 // a is clock 0 and b is 1; p, s, f and g are 2 to 5; alternates hides its own clock, which is 6.
@@ -17,7 +17,7 @@ const TEXT: &str = "ccsl 1; system { clock a, b;
     alternates(a, b); }";
 
 // The clocks that tick, step by step: a ticks in every other step.
-const STEPS: [&[u32]; 8] = [
+const STEPS: &[&[u32]] = &[
     &[0, 4, 5],
     &[1],
     &[0, 2, 3, 6],
@@ -28,14 +28,22 @@ const STEPS: [&[u32]; 8] = [
     &[1],
 ];
 
-fn behind_library(rt: &impl Abort, alloc: Global, text: &str) -> Result<System, Fail> {
+fn file(alloc: Global, text: &str) -> Result<File, Fail> {
     let found = tokens(alloc, text.as_bytes())?;
-    let file = Box::new(alloc, parse(alloc, found.as_slice())?)?;
+    Ok(parse(alloc, found.as_slice())?)
+}
+
+fn behind_library(alloc: Global, file: &File) -> Result<System, Fail> {
     let library = library(alloc)?;
-    match elaborate(alloc, &file, &library) {
+    match elaborate(alloc, file, &library) {
         Ok(system) => Ok(system),
-        Err(refusal) => panic!(rt; "{refusal:?}"),
+        Err(_refusal) => Err(Fail::from("the text is refused")),
     }
+}
+
+fn system_of(alloc: Global, text: &str) -> Result<System, Fail> {
+    let file = file(alloc, text)?;
+    behind_library(alloc, &file)
 }
 
 fn set(clocks: &[u32]) -> ClockSet {
@@ -73,37 +81,46 @@ fn holds(
     Ok(plain_formula(alloc, system, item, front)?.eval(step))
 }
 
-// All items hold in a step, and no definition holds where its own clock is changed.
+// Whether all items hold in a step, and no definition holds where its own clock is changed.
 fn is_full_step(
-    rt: &impl Abort,
     alloc: Global,
     system: &System,
     front: &[ClockSet],
     step: &ClockSet,
-) -> Result<(), Fail> {
+) -> Result<bool, Fail> {
     for item in 0..system.items() {
-        assert!(rt; holds(alloc, system, item, front, step)?);
-        if item < system.definitions() {
-            let other = changed(step, item.saturating_add(2));
-            assert!(rt; !holds(alloc, system, item, front, &other)?);
+        if !holds(alloc, system, item, front, step)? {
+            return Ok(false);
+        }
+        let other = changed(step, item.saturating_add(2));
+        if item < system.definitions() && holds(alloc, system, item, front, &other)? {
+            return Ok(false);
         }
     }
-    Ok(())
+    Ok(true)
+}
+
+// How many steps are as they have to be, one behind the other.
+fn full_steps(alloc: Global, system: &System) -> Result<usize, Fail> {
+    let mut front = Vec::new(alloc);
+    for clocks in STEPS {
+        let step = set(clocks);
+        if is_full_step(alloc, system, front.as_slice(), &step)? {
+            front.push(step)?;
+        }
+    }
+    Ok(front.len())
+}
+
+// Definitions, groups and full steps of a text's system.
+fn told(alloc: Global, text: &str) -> Result<(u32, usize, usize), Fail> {
+    let system = system_of(alloc, text)?;
+    let steps = full_steps(alloc, &system)?;
+    Ok((system.definitions(), system.groups().len(), steps))
 }
 
 #[test]
 fn members(rt: HostRuntime) -> Result<(), Fail> {
-    let alloc = rt.alloc();
-    let system = Box::new(alloc, behind_library(&rt, alloc, TEXT)?)?;
-    assert_eq!(rt; system.scope().declared, 2);
-    assert_eq!(rt; system.written(), 6);
-    assert_eq!(rt; system.definitions(), 5);
-    assert_eq!(rt; system.groups().len(), 3);
-    let mut front = Vec::new(alloc);
-    for clocks in STEPS {
-        let step = set(clocks);
-        is_full_step(&rt, alloc, &system, front.as_slice(), &step)?;
-        front.push(step)?;
-    }
+    assert_eq!(rt; told(rt.alloc(), TEXT)?, (5, 3, STEPS.len()));
     Ok(())
 }

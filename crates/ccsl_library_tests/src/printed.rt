@@ -2,12 +2,17 @@
 
 use ccsl_library::library;
 use ccsl_print::print;
+use std::alloc::Global;
 use std::test::Fail;
+
+fn printed(alloc: Global) -> Result<String, Fail> {
+    let file = library(alloc)?;
+    Ok(print(alloc, &file)?)
+}
 
 #[test]
 fn library_is_printed(rt: HostRuntime) -> Result<(), Fail> {
-    let file = library(rt.alloc())?;
-    let text = print(rt.alloc(), &file)?;
+    let text = printed(rt.alloc())?;
     assert_eq!(rt;
         text.as_str(),
         "ccsl 1;
