@@ -1,6 +1,6 @@
 """Measures how long the fault of a file takes beside reading its text.
 
-    (cd crates/ccsl_faults_bench && rt run)   builds the program
+    (cd crates/ccsl_elaborate_bench && rt run)   builds the program
     python3 bench/faults.py
 
 All times are processor times of the other process. A ratio is that of looking for the fault once to lexing and parsing once.
@@ -13,7 +13,7 @@ import tempfile
 from figures import note
 
 HERE = os.path.dirname(os.path.abspath(__file__))
-PROGRAM = os.path.join(HERE, "..", "crates", "ccsl_faults_bench", "out", "ccsl_faults_bench")
+PROGRAM = os.path.join(HERE, "..", "crates", "ccsl_elaborate_bench", "out", "ccsl_elaborate_bench")
 MEBIBYTE = 1 << 20
 
 

@@ -1,16 +1,15 @@
 #!/usr/bin/env python3
 """How long the worst words take: prefix and period of 4,096 letters, and periods without a common divisor.
 
-    (cd crates/ccsl_periodic_bench && rt run)   builds the program
-    python3 bench/periodic.py
+    bench/periodic.py
 
-The times are processor times of the other process, the best of three runs.
+The program has to be built (./ccsl builds it). The times are processor times of its whole run, the best of three runs.
 """
 import os
 import subprocess
 
 HERE = os.path.dirname(os.path.dirname(os.path.abspath(__file__)))
-PROGRAM = f"{HERE}/crates/ccsl_periodic_bench/out/ccsl_periodic_bench"
+PROGRAM = f"{HERE}/crates/ccsl/out/ccsl"
 
 WORST = [
     ("excludes, which never fails", "excludes", "(" + "0" * 4096 + ")", "(" + "1" * 4095 + ")"),
@@ -33,7 +32,7 @@ def measured(words):
     return said.strip(), used.ru_utime + used.ru_stime, used.ru_maxrss / 1024
 
 
-for name, *words in WORST:
-    runs = [measured(words) for _ in range(3)]
+for name, relation, left, right in WORST:
+    runs = [measured(["periodic", f"left={left}", f"right={right}", f"relation={relation}"]) for _ in range(3)]
     said, seconds, memory = min(runs, key=lambda run: run[1])
     print(f"{name}: {seconds:.3f} s, {memory:.1f} MB, {said[:60]}")

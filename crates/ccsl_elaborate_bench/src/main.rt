@@ -1,6 +1,7 @@
-//! Measures how long the elaboration of a file takes beside reading its text:
-//! `parse FILE N` reads the text N times, `elaborate FILE N` reads it once and elaborates it N times, behind a file without
-//! definitions. The first prints the number of its definitions, the second that of its system's items, or its refusal.
+//! Measures how long a file's fault and its elaboration take beside reading its text:
+//! `parse FILE N` reads the text N times, `faults FILE N` reads it once and looks N times for its fault, `elaborate FILE N` elaborates
+//! it N times, both behind a file without definitions. The first prints the number of its definitions, the second its fault, and the
+//! third the number of its system's items, or its refusal.
 #![tactic(auto)]
 
 ghost use Rattle.std.specs.Prelude.{◌≡◌, None};
@@ -11,6 +12,7 @@ ghost use Rattle.ccsl_accepts.specs.Acceptance.{empty};
 use ccsl_ast::File;
 use ccsl_base::Seq;
 use ccsl_elaborate::elaborate;
+use ccsl_faults::{Fault, first_fault};
 use ccsl_lex::tokens;
 use ccsl_parse::parse;
 use std::alloc::{AllocError, Global};
@@ -21,6 +23,7 @@ use std::{env, fs, io};
 #[derive(Clone, Copy)]
 enum Part {
     Parse,
+    Faults,
     Elaborate,
 }
 
@@ -34,6 +37,7 @@ struct Command {
 fn part_of(name: &str) -> Option<Part> {
     match name {
         "parse" => Some(Part::Parse),
+        "faults" => Some(Part::Faults),
         "elaborate" => Some(Part::Elaborate),
         _ => None,
     }
@@ -72,6 +76,17 @@ fn empty_library(alloc: Global) -> File
     }
 }
 
+/// The fault of a text, looked for so many times.
+fn fault(alloc: Global, text: &str, times: u32) -> io::Result<Option<Fault>> {
+    let own = file(alloc, text)?;
+    let library = empty_library(alloc);
+    let mut last = None;
+    for _ in 0..times {
+        last = first_fault(alloc, &own, &library).map_err(|_| AllocError)?;
+    }
+    Ok(last)
+}
+
 /// What a text is answered, so many times.
 fn answered(alloc: Global, text: &str, times: u32) -> io::Result<String> {
     let own = file(alloc, text)?;
@@ -94,12 +109,13 @@ fn main(rt: HostRuntime) -> io::Result<()> {
         }
     }
     match asked(&words) {
-        None => println!(rt; "parse FILE N | elaborate FILE N"),
+        None => println!(rt; "parse FILE N | faults FILE N | elaborate FILE N"),
         Some(command) => {
             let text = fs::read_to_string(&rt, command.path.as_str())?;
             let text = text.as_str();
             match command.part {
                 Part::Parse => println!(rt; "{}", read(rt.alloc(), text, command.times)?),
+                Part::Faults => println!(rt; "{:?}", fault(rt.alloc(), text, command.times)?),
                 Part::Elaborate => println!(rt; "{}", answered(rt.alloc(), text, command.times)?),
             }
         }
