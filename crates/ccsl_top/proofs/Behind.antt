@@ -13,7 +13,7 @@ use Rattle.ccsl_spec.specs.Specifications.{IsSystemOf, IsRefusedWith}
 use Rattle.ccsl_top.specs.declared.files.Stop.{Stop}
 use Rattle.ccsl_top.specs.declared.files.Stop.TheVariants.{Fault, Memory}
 use Rattle.ccsl_top.specs.declared.reply.Reply.{Reply}
-use Rattle.ccsl_top.specs.declared.reply.Status.TheVariants.{Done, SpecRefused}
+use Rattle.ccsl_top.specs.declared.reply.Status.TheVariants.{SpecRefused}
 use Rattle.ccsl_top.specs.Outcome.{Outcome, outcome}
 use Rattle.ccsl_top.specs.Program.{IsSpecOutcome, refused, accepted, IsOutcome, IsOutcomeOf}
 use Rattle.ccsl_top.specs.Opening.{opens, is_slot}
@@ -31,10 +31,6 @@ with_spec spec behind = record { slot = Spec; name = spec } ∷ behind
 pub first-opens : (a b : Bool) → a ≡ true → (a || b) ≡ true
 first-opens true b e = refl
 first-opens false b e = both-ways false e refl
-
--- a reply that all is done does not say that the words are refused
-pub done-opens : code_of Done ≢ 2
-done-opens e = omega (arith, e)
 
 -- the words mean a command that opens a specification and these files behind it, and answers so on its system
 module _ (told : Told) (words : List (List ℕ)) (c : Command) (means : meaning words ≡ Ok c)
@@ -75,7 +71,7 @@ module _ (told : Told) (words : List (List ℕ)) (c : Command) (means : meaning 
       cause = by_spec (opened-slot Spec (spec-within Spec (is_slot-self Spec))) b.rose;
     }
 
-    pub spec-starved : Reads (only Spec) s t → Starved told words s t
+    spec-starved : Reads (only Spec) s t → Starved told words s t
     spec-starved reads = record {
       used = only Spec;
       leaves = leaves-reads (only Spec) spec-within s t reads.uses;

@@ -10,6 +10,7 @@ pub mod Opened
 pub mod Judging
 pub mod Commands
 pub mod Behind
+pub mod Checking
 pub mod Verdicts
 pub mod Certifying
 pub mod Certified

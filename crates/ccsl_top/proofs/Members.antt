@@ -7,6 +7,8 @@ use Rattle.ccsl_formula.specs.declared.scope.Scope.{Scope}
 use Rattle.ccsl_formula.specs.Formula.{Formula}
 use Rattle.ccsl_kernel.specs.Syntax.{System, item_count}
 use Rattle.ccsl_kernel.specs.Accepted.{IsAccepted}
+use Rattle.ccsl_refute.specs.declared.line.Line.{Line}
+use Rattle.ccsl_refute.specs.Validity.{are_valid, ends_empty, is_certificate}
 use Rattle.ccsl_items.specs.Formulas.{scope_of}
 use Rattle.ccsl_explain.specs.Core.{IsCore}
 use Rattle.ccsl_explain.specs.Explained.{AreLeast}
@@ -17,6 +19,10 @@ use Rattle.ccsl_top.proofs.Slots.{both-ways}
 both-hold : (a b : Bool) → (a && b) ≡ true → (a ≡ true) × (b ≡ true)
 both-hold true b e = (refl, e)
 both-hold false b e = both-ways false e refl
+
+-- the lines of a certificate are valid
+pub valid-lines : (scope : Scope) (formulas : List Formula) (lines : List Line) → is_certificate scope formulas lines ≡ true → are_valid scope formulas lines ≡ true
+valid-lines scope formulas lines e = (both-hold (are_valid scope formulas lines) (ends_empty scope.declared lines) e).0
 
 -- every number is at least low and below n
 abbrev AreBetween : ℕ → ℕ → List ℕ → Type 0

@@ -4,7 +4,6 @@ use Rattle.ccsl_base.specs.declared.rows.Row.{Row}
 use Rattle.ccsl_edge.specs.declared.slot.Slot.TheVariants.{Trace}
 use Rattle.ccsl_edge.specs.World.{State, Told, held}
 use Rattle.ccsl_edge.specs.Calls.{OpensIn}
-use Rattle.ccsl_formula.specs.declared.scope.Scope.{Scope}
 use Rattle.ccsl_formula.specs.Formula.{Formula}
 use Rattle.ccsl_kernel.specs.Syntax.{System}
 use Rattle.ccsl_kernel.specs.Lives.{Step}
@@ -13,13 +12,15 @@ use Rattle.ccsl_kernel.specs.Verdict as kernel
 use Rattle.ccsl_refute.specs.declared.line.Line.{Line}
 use Rattle.ccsl_state.specs.Held.{Held, StandsFor}
 use Rattle.ccsl_items.specs.Formulas.{item_formulas, scope_of}
-use Rattle.ccsl_explain.specs.Explained.{IsPossible, IsExplained}
+use Rattle.ccsl_explain.specs.declared.explanation.Explained.{Explained}
+use Rattle.ccsl_explain.specs.declared.explanation.Explained.TheVariants.{Blocked}
+use Rattle.ccsl_explain.specs.Explained.{IsExplained, Explains}
 use Rattle.ccsl_vcd.specs.declared.fault.VcdFault.{VcdFault}
 use Rattle.ccsl_bind.specs.Collected.{wanted_of}
 use Rattle.ccsl_trace.specs.Traces.{IsRefused, IsNearHeader}
 use Rattle.ccsl_trace.specs.Traces as traces
 use Rattle.ccsl_certify.specs.Replaying.{IsTrace, AreAfter}
-use Rattle.ccsl_report.specs.Texts.{trace_text, explain_no_run_text, explain_open_text, explain_blocked_text}
+use Rattle.ccsl_report.specs.Texts.{trace_text, explain_no_run_text, explain_blocked_text}
 use Rattle.ccsl_top.specs.declared.files.Stop.{Stop}
 use Rattle.ccsl_top.specs.declared.files.Stop.TheVariants as stop
 use Rattle.ccsl_top.specs.declared.reply.Reply.{Reply}
@@ -30,28 +31,60 @@ use Rattle.ccsl_top.specs.Explain as explain
 use Rattle.ccsl_top.specs.Effects.{Reads}
 use Rattle.ccsl_top.specs.Reading.{only}
 use Rattle.ccsl_top.specs.Answered.{plain_reply}
-use Rattle.ccsl_top.specs.Explaining.{BlockedAnswers, RunAnswers, possible, blocked, IsRunStop, TraceAnswers, unwritten, written, IsTraceStop}
+use Rattle.ccsl_top.specs.Explaining.{BlockedAnswers, WritesBreak, IsWriteStop, RunAnswers, possible, blocked, IsRunStop, TraceAnswers, unwritten, written, IsTraceStop}
 use Rattle.ccsl_top.proofs.Opened.{opened-reads, opened-breaks}
 
--- BEHIND A RUN: what is explained on some formulas is explained on those of the items
-module _ (told : Told) (K : System) (cert : List ℕ) (steps : ℕ) (scope : Scope) (scope_is : scope ≡ scope_of K) (F : List Formula)
-    (Stand : List Step → Type 0) (same : (T : List Step) → Stand T → F ≡ item_formulas K T) (now : State) where
-  pub run-open : (set : List ℕ) → IsPossible scope F set → (reply : Reply) → plain_reply reply ≡ outcome 1 (explain_open_text steps) →
-      (T : List Step) → Stand T → RunAnswers told K cert steps (item_formulas K T) now now reply
-  run-open set one reply is T t =
-      possible set (subst (λ (fs : List Formula). IsPossible (scope_of K) fs set) (same T t) (subst (λ (s : Scope). IsPossible s F set) scope_is one)) is refl
-
+-- BEHIND A RUN: what is answered on an explanation
+module _ (told : Told) (K : System) (cert : List ℕ) (steps : ℕ) (now : State) where
   module _ (core core' : List ℕ) (lines lines' : List Line) (without without' : List (List ℕ)) (core_is : core' ≡ core) (lines_are : lines' ≡ lines)
-      (without_is : without' ≡ without) (why : IsExplained scope F core lines without) (report : List ℕ)
-      (report_is : report ≡ explain_blocked_text steps (length core') ++ member_lines K core' without') (next : State) where
-    pub run-blocked : (r : Result Reply Stop) → IfOk r (λ reply. BlockedAnswers told (cert_output K cert lines') report reply now next) →
-        IfOk r (λ reply. (T : List Step) → Stand T → RunAnswers told K cert steps (item_formulas K T) now next reply)
-    run-blocked (Ok reply) a = λ T t.
+      (without_is : without' ≡ without) (explained : Explained) (is : explained ≡ Blocked core lines without) (report : List ℕ) (next : State) where
+    pub run-blocked : report ≡ explain_blocked_text steps (length core') ++ member_lines K core' without' →
+        (r : Result Reply Stop) → IfOk r (λ reply. BlockedAnswers told (cert_output K cert lines') report reply now next) →
+        IfOk r (λ reply. (F : List Formula) → Explains (scope_of K) F explained → RunAnswers told K cert steps F now next reply)
+    run-blocked report_is (Ok reply) a = λ F x.
+        let why : IsExplained (scope_of K) F core lines without = subst (λ (e : Explained). Explains (scope_of K) F e) is x in
         let b = subst (λ (ls : List Line). BlockedAnswers told (cert_output K cert ls) report reply now next) lines_are a in
-        blocked core lines without
-        (subst (λ (fs : List Formula). IsExplained (scope_of K) fs core lines without) (same T t) (subst (λ (s : Scope). IsExplained s F core lines without) scope_is why))
+        blocked core lines without why
         b.status (b.report_is ∙ report_is ∙ ap₂ (λ c w. explain_blocked_text steps (length c) ++ member_lines K c w) core_is without_is) b.writes
-    run-blocked (Err reason) a = a
+    run-blocked report_is (Err reason) a = a
+
+    pub run-breaks : (r : Result Reply Stop) → IfErr r (λ reason. IsWriteStop told (cert_output K cert lines') now next reason) →
+        IfErr r (λ reason. (F : List Formula) → Explains (scope_of K) F explained → IsRunStop told K cert F now next reason)
+    run-breaks (Ok reply) a = a
+    run-breaks (Err stop.Fault) a = λ F x. record {
+      core = core;
+      lines = lines;
+      without = without;
+      why = subst (λ (e : Explained). Explains (scope_of K) F e) is x;
+      writes = subst (λ (ls : List Line). WritesBreak told (cert_output K cert ls) now next) lines_are a;
+    }
+    run-breaks (Err stop.Memory) a = λ F x. a
+
+  -- what is answered on whichever formulas are explained so is answered on these
+  module _ (F : List Formula) (explained : Explained) (is : Explains (scope_of K) F explained) (next : State) where
+    pub explained-answers : (r : Result Reply Stop) →
+        IfOk r (λ reply. (fs : List Formula) → Explains (scope_of K) fs explained → RunAnswers told K cert steps fs now next reply) →
+        IfOk r (λ reply. RunAnswers told K cert steps F now next reply)
+    explained-answers (Ok reply) a = a F is
+    explained-answers (Err reason) a = a
+
+    pub explained-stops : (r : Result Reply Stop) →
+        IfErr r (λ reason. (fs : List Formula) → Explains (scope_of K) fs explained → IsRunStop told K cert fs now next reason) →
+        IfErr r (λ reason. IsRunStop told K cert F now next reason)
+    explained-stops (Ok reply) a = a
+    explained-stops (Err reason) a = a F is
+
+  -- what is answered on some formulas is answered on those of the items
+  module _ (F : List Formula) (Stand : List Step → Type 0) (same : (T : List Step) → Stand T → F ≡ item_formulas K T) (next : State) where
+    pub run-answered : (r : Result Reply Stop) → IfOk r (λ reply. RunAnswers told K cert steps F now next reply) →
+        IfOk r (λ reply. (T : List Step) → Stand T → RunAnswers told K cert steps (item_formulas K T) now next reply)
+    run-answered (Ok reply) a = λ T t. subst (λ (fs : List Formula). RunAnswers told K cert steps fs now next reply) (same T t) a
+    run-answered (Err reason) a = a
+
+    pub run-stopped : (r : Result Reply Stop) → IfErr r (λ reason. IsRunStop told K cert F now next reason) →
+        IfErr r (λ reason. (T : List Step) → Stand T → IsRunStop told K cert (item_formulas K T) now next reason)
+    run-stopped (Ok reply) a = a
+    run-stopped (Err reason) a = λ T t. subst (λ (fs : List Formula). IsRunStop told K cert fs now next reason) (same T t) a
 
 -- BEHIND A TRACE that was opened and read
 module _ (told : Told) (K : System) (cert trace : List ℕ) (s t : State) (opens : OpensIn told Trace trace s t) (u : State) where

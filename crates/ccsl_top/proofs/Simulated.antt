@@ -1,5 +1,5 @@
 -- The command `simulate`, as an answer to words that mean it.
-use Rattle.std.proofs.Common.{◌≡◌, ◌≢◌, ℕ, ◌<◌, List, [], ◌∷◌, length, Bool, true, false, ◌||◌, nat_lt, cond, Result, Ok, IsTrue, ⊎_elim, inl, refl, sym, ap, ◌∙◌, subst, arith, lt-ltb, le-ltb, bytes_eq}
+use Rattle.std.proofs.Common.{◌≡◌, ◌≢◌, ℕ, ◌<◌, List, [], ◌∷◌, length, Bool, true, false, ◌||◌, nat_lt, cond, Result, Ok, Err, IfOk, IfErr, IsTrue, ⊎_elim, inl, refl, sym, ap, ◌∙◌, subst, arith, lt-ltb, le-ltb, bytes_eq}
 use Rattle.std.proofs.lemmas.Slice.Eq.{bytes_eq-Decides}
 use Rattle.ccsl_edge.specs.declared.slot.Slot.{Slot}
 use Rattle.ccsl_edge.specs.declared.slot.Slot.TheVariants.{Spec, TraceOut, CertOut}
@@ -26,7 +26,7 @@ use Rattle.ccsl_top.specs.Simulate.{named_policy, run, IsSimulated, IsOutput, si
 use Rattle.ccsl_top.specs.Effects.{RoseAt, Reads, Stays}
 use Rattle.ccsl_top.specs.Reading.{only}
 use Rattle.ccsl_top.specs.Headline.{input_of, FaultCause, IsDefinedOutput, by_file}
-use Rattle.ccsl_top.specs.Answered.{code_of, Leaves, Stands, Answered, Faulted, Starved, IsUnanswered}
+use Rattle.ccsl_top.specs.Answered.{code_of, Leaves, Stands, Answered, Faulted, Starved, IsUnanswered, AnswersTo, StopsAt}
 use Rattle.ccsl_top.specs.Simulating.{IsDoneReply, WritesSome, WritesBoth, WriteBreaks, WriteStarves, IsWriteStop}
 use Rattle.ccsl_top.proofs.Slots.{both-ways}
 use Rattle.ccsl_top.proofs.Effects.{either-false, other-false, uses-changed, uses-rises}
@@ -185,7 +185,7 @@ module _ (told : Told) (words : List (List ℕ)) (spec : List ℕ) (policy : Pol
       refused = λ fault e. absurd (not-refused told words c means spec behind refl IsAnswer (λ content input o x. x) fault e);
     }
 
-  pub simulate-answered : (done : Done) (reply : Reply) → IsDoneReply done steps reply → WritesBoth told K (named_policy policy) seed steps trace cert t u done →
+  simulate-answered : (done : Done) (reply : Reply) → IsDoneReply done steps reply → WritesBoth told K (named_policy policy) seed steps trace cert t u done →
       Answered told words reply s u
   simulate-answered Full reply is both =
       let n = length (run K p seed steps) in
@@ -221,10 +221,25 @@ module _ (told : Told) (words : List (List ℕ)) (spec : List ℕ) (policy : Pol
     barely = λ f l name file workers e. absurd (no-trace-read name file workers e);
   }
 
-  pub simulate-stopped : (reason : Stop) → IsWriteStop told K (named_policy policy) seed steps trace cert t u reason → IsUnanswered reason told words s u
+  simulate-stopped : (reason : Stop) → IsWriteStop told K (named_policy policy) seed steps trace cert t u reason → IsUnanswered reason told words s u
   simulate-stopped stop.Fault b = write-faulted b
   simulate-stopped stop.Memory b = write-starved b
 
-  -- no memory for the line of report
-  pub simulate-unreported : (done : Done) → WritesBoth told K (named_policy policy) seed steps trace cert t u done → Starved told words s u
-  simulate-unreported done both = write-starved (record { some = both.some; counts = both.counts })
+-- THE WHOLE COMMAND behind an accepted specification
+module _ (told : Told) (spec : List ℕ) (policy : PolicyName) (seed steps : ℕ) (trace cert : List ℕ)
+    (s t u : State) (reads : Reads (only Spec) s t) (K : System) (system : IsTrue told.files → IsTrue told.left → IsSystemOf (held s.files spec) K)
+    (chosen : Policy) (chosen_is : chosen ≡ named_policy policy) where
+  pub simulate-answers : (r : Result Reply Stop) →
+      IfOk r (λ reply. (done : Done) × IsDoneReply done steps reply × WritesBoth told K chosen seed steps trace cert t u done) →
+      IfOk r (λ reply. AnswersTo told (command.Simulate spec policy seed steps trace cert) reply s u)
+  simulate-answers (Ok reply) a = λ words means.
+      simulate-answered told words spec policy seed steps trace cert means s t u reads K system a.0 reply a.1
+      (subst (λ q. WritesBoth told K q seed steps trace cert t u a.0) chosen_is a.2)
+  simulate-answers (Err reason) a = a
+
+  pub simulate-stops : (r : Result Reply Stop) → IfErr r (λ reason. IsWriteStop told K chosen seed steps trace cert t u reason) →
+      IfErr r (λ reason. StopsAt told (command.Simulate spec policy seed steps trace cert) reason s u)
+  simulate-stops (Ok reply) a = a
+  simulate-stops (Err reason) a = λ words means.
+      simulate-stopped told words spec policy seed steps trace cert means s t u reads K system reason
+      (subst (λ q. IsWriteStop told K q seed steps trace cert t u reason) chosen_is a)

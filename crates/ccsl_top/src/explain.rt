@@ -1,14 +1,20 @@
 //! The command `explain`.
 
-ghost use Rattle.std.specs.Prelude.{◌≡◌, ◌++◌, ◌<◌, ◌^◌, List, All, IfOk, IfErr, OnOk, OnErr, length};
+ghost use Rattle.std.specs.Prelude.{◌≡◌, ◌++◌, ◌<◌, ◌^◌, ℕ, List, true, map, All, IfOk, IfErr, OnOk, OnErr, length};
+ghost use Rattle.ccsl_base.specs.Clocks.{ticks_in};
 ghost use Rattle.ccsl_edge.specs.declared.slot.Slot.TheVariants.{Spec, Trace, CertOut};
 ghost use Rattle.ccsl_command.specs.declared.command.Command.TheVariants as command;
+ghost use Rattle.ccsl_kernel.specs.Syntax.{item_count};
+ghost use Rattle.ccsl_kernel.specs.Accepted.{IsAccepted};
 ghost use Rattle.ccsl_kernel.specs.Lives.{Step};
+ghost use Rattle.ccsl_formula.specs.Formula.{Formula as Plain, ReadsBelow};
+ghost use Rattle.ccsl_formula.specs.Plain.{plain};
 ghost use Rattle.ccsl_refute.specs.Below.{AreBelow};
 ghost use Rattle.ccsl_refute.specs.Writing.{lines_text, literals};
 ghost use Rattle.ccsl_state.specs.Held.{StandsFor};
-ghost use Rattle.ccsl_items.specs.Formulas.{item_formulas};
-ghost use Rattle.ccsl_report.specs.Texts.{explain_blocked_text};
+ghost use Rattle.ccsl_items.specs.Formulas.{item_formulas, scope_of};
+ghost use Rattle.ccsl_explain.specs.Explained.{Explains};
+ghost use Rattle.ccsl_report.specs.Texts.{explain_blocked_text, explain_member_text};
 ghost use Rattle.ccsl_top.specs.Explain.{member_lines, cert_output};
 ghost use Rattle.ccsl_top.specs.Explaining.{AreMembers, file_of, WritesWhole, WritesBreak, IsWriteStop, BlockedAnswers, RunAnswers, IsRunStop, TraceAnswers, IsTraceStop};
 ghost use Rattle.ccsl_top.specs.Answered.{AnswersTo, StopsAt};
@@ -20,6 +26,7 @@ use ccsl_base::{ClockSet, HashKeys, Memory};
 use ccsl_certify::{ReplayFault, Replayed, replay};
 use ccsl_edge::{Failed, Slot, World, write_all};
 use ccsl_explain::Explained;
+use ccsl_formula::Formula;
 use ccsl_items::put_formulas;
 use ccsl_kernel::System;
 use ccsl_refute::laws::valid_lines_name_clocks;
@@ -28,6 +35,40 @@ use ccsl_report::{explain_blocked, explain_member, explain_no_run, explain_open,
 use ccsl_spec::Specification;
 use ccsl_state::States;
 use std::alloc::Global;
+
+// Puts the line for an item that blocks, with the least set without it.
+fn put_member(
+    alloc: Global,
+    system: &System,
+    item: u32,
+    set: &ClockSet,
+    report: &mut Vec<u8>,
+) -> Result<(), Memory>
+    requires item { item < item_count system.now }
+    requires named { (x : ℕ) → ticks_in x set.now ≡ true → x < length system.now.names }
+    ensures { IfOk result (λ _. report.new.items ≡ report.old.items ++ explain_member_text item set.now system.now) }
+{
+    let line = explain_member(alloc, item, set, system)?;
+    report.extend_from_slice(&line)?;
+    Ok(())
+}
+
+// Puts a line for each item that blocks, with the least set without it.
+fn put_members(
+    alloc: Global,
+    system: &System,
+    core: &[u32],
+    without: &[ClockSet],
+    report: &mut Vec<u8>,
+) -> Result<(), Memory>
+    requires { AreMembers system.now core.now without.now }
+    ensures { IfOk result (λ _. report.new.items ≡ report.old.items ++ member_lines system.now core.now without.now) }
+{
+    for (item, set) in core.iter().zip(without) {
+        put_member(alloc, system, *item, set, report)?;
+    }
+    Ok(())
+}
 
 // The report on items that block, and the least set without each of them.
 fn blocked_report(
@@ -43,9 +84,7 @@ fn blocked_report(
         explain_blocked_text steps (length core.now) ++ member_lines system.now core.now without.now) }
 {
     let mut report = explain_blocked(alloc, steps, core.len() as u32)?;
-    for (item, set) in core.iter().zip(without) {
-        report.extend_from_slice(&explain_member(alloc, *item, set, system)?)?;
-    }
+    put_members(alloc, system, core, without, &mut report)?;
     Ok(report)
 }
 
@@ -84,6 +123,62 @@ fn answer_blocked<W: World>(
     })
 }
 
+// The reply on an explanation of what follows a run of so many steps.
+fn answer_explained<W: World>(
+    alloc: Global,
+    world: &mut W,
+    system: &System,
+    cert: &str,
+    steps: u64,
+    explained: &Explained,
+) -> Result<Reply, Stop>
+    requires allowed { W.allows CertOut cert.now }
+    requires accepted { IsAccepted system.now }
+    requires explained { (formulas : List Plain) × (length formulas ≡ item_count system.now)
+        × Explains (scope_of system.now) formulas explained.now }
+    ensures answers { IfOk result (λ reply. (formulas : List Plain) → Explains (scope_of system.now) formulas explained.now →
+        RunAnswers W.told system.now cert.now steps formulas (W.state world.old) (W.state world.new) reply) }
+    ensures stop { IfErr result (λ stop. (formulas : List Plain) → Explains (scope_of system.now) formulas explained.now →
+        IsRunStop W.told system.now cert.now formulas (W.state world.old) (W.state world.new) stop) }
+{
+    match explained {
+        Explained::Open(_set) => Ok(Reply {
+            status: Status::No,
+            line: explain_open(alloc, steps)?,
+        }),
+        Explained::Blocked {
+            core,
+            lines,
+            without,
+        } => {
+            valid_lines_name_clocks();
+            let report = blocked_report(alloc, system, steps, core.members(), without.members())?;
+            answer_blocked(alloc, world, system, cert, report, lines.members())
+        }
+    }
+}
+
+// Explains what follows a run of so many steps, where the items have these formulas.
+fn explain_formulas<W: World>(
+    alloc: Global,
+    world: &mut W,
+    system: &System,
+    cert: &str,
+    steps: u64,
+    formulas: &[Formula],
+) -> Result<Reply, Stop>
+    requires allowed { W.allows CertOut cert.now }
+    requires below { All (ReadsBelow (length system.now.names)) (map plain formulas.now) }
+    requires count { length formulas.now ≡ item_count system.now }
+    ensures answers { IfOk result (λ reply. RunAnswers W.told system.now cert.now steps (map plain formulas.now)
+        (W.state world.old) (W.state world.new) reply) }
+    ensures stop { IfErr result (λ stop. IsRunStop W.told system.now cert.now (map plain formulas.now)
+        (W.state world.old) (W.state world.new) stop) }
+{
+    let explained = ccsl_explain::explain(alloc, formulas, &system.scope())?;
+    answer_explained(alloc, world, system, cert, steps, &explained)
+}
+
 // Explains what follows a run of so many steps.
 fn explain_run<W: World>(
     alloc: Global,
@@ -100,23 +195,9 @@ fn explain_run<W: World>(
     ensures stop { IfErr result (λ stop. (T : List Step) → StandsFor states.now T →
         IsRunStop W.told system.now cert.now (item_formulas system.now T) (W.state world.old) (W.state world.new) stop) }
 {
-    valid_lines_name_clocks();
     let mut formulas = Vec::new(alloc);
     put_formulas(alloc, system, states, &mut formulas)?;
-    match ccsl_explain::explain(alloc, &formulas, &system.scope())? {
-        Explained::Open(_set) => Ok(Reply {
-            status: Status::No,
-            line: explain_open(alloc, steps)?,
-        }),
-        Explained::Blocked {
-            core,
-            lines,
-            without,
-        } => {
-            let report = blocked_report(alloc, system, steps, core.members(), without.members())?;
-            answer_blocked(alloc, world, system, cert, report, lines.members())
-        }
-    }
+    explain_formulas(alloc, world, system, cert, steps, &formulas)
 }
 
 // Explains what follows the trace of a name, against a system.

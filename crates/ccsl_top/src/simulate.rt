@@ -3,6 +3,7 @@
 ghost use Rattle.std.specs.Prelude.{◌≡◌, IfOk, IfErr};
 ghost use Rattle.ccsl_edge.specs.declared.slot.Slot.TheVariants.{Spec, TraceOut, CertOut};
 ghost use Rattle.ccsl_command.specs.declared.command.Command.TheVariants as command;
+ghost use Rattle.ccsl_simulate.specs.declared.answer.Done.{Done as Ended};
 ghost use Rattle.ccsl_top.specs.Simulate.{named_policy};
 ghost use Rattle.ccsl_top.specs.Simulating.{IsDoneReply, WritesBoth, IsWriteStop};
 ghost use Rattle.ccsl_top.specs.Answered.{AnswersTo, StopsAt};
@@ -73,6 +74,28 @@ fn reply_on(alloc: Global, done: Done, steps: u64) -> Result<Reply, Memory>
     }
 }
 
+// Simulates a system to the files of two names, and replies.
+fn simulate_system<W: World>(
+    alloc: Global,
+    world: &mut W,
+    system: &System,
+    policy: Policy,
+    seed: u64,
+    steps: u64,
+    trace: &str,
+    cert: &str,
+) -> Result<Reply, Stop>
+    requires trace { W.allows TraceOut trace.now }
+    requires cert { W.allows CertOut cert.now }
+    ensures answers { IfOk result (λ reply. (done : Ended) × IsDoneReply done steps reply
+        × WritesBoth W.told system.now policy seed steps trace.now cert.now (W.state world.old) (W.state world.new) done) }
+    ensures stop { IfErr result (λ stop. IsWriteStop W.told system.now policy seed steps trace.now cert.now
+        (W.state world.old) (W.state world.new) stop) }
+{
+    let done = write_run(alloc, world, system, policy, seed, steps, trace, cert)?;
+    Ok(reply_on(alloc, done, steps)?)
+}
+
 /// Simulates the specification of a name, and writes the trace and the certificate under two more.
 pub(crate) fn simulate<W: World>(
     alloc: Global,
@@ -95,8 +118,7 @@ pub(crate) fn simulate<W: World>(
     match read_specification(alloc, world, spec)? {
         Specification::Accepted(system) => {
             let policy = policy_named(policy);
-            let done = write_run(alloc, world, &system, policy, seed, steps, trace, cert)?;
-            Ok(reply_on(alloc, done, steps)?)
+            simulate_system(alloc, world, &system, policy, seed, steps, trace, cert)
         }
         Specification::Refused(line) => Ok(Reply {
             status: Status::SpecRefused,

@@ -1,10 +1,11 @@
 //! The command `trial`.
 
-ghost use Rattle.std.specs.Prelude.{◌≡◌, ◌≤◌, ℕ, IfOk, IfErr, length};
+ghost use Rattle.std.specs.Prelude.{◌≡◌, ◌≤◌, ℕ, IfOk, IfErr, IsOk, length};
 ghost use Rattle.ccsl_base.specs.declared.limits.TheConstants.{MAX_STEPS};
 ghost use Rattle.ccsl_command.specs.declared.TheConstants.{MAX_TRIAL_STEPS, MIN_TRIAL_CLOCKS, MAX_TRIAL_CLOCKS};
 ghost use Rattle.ccsl_roundtrip.specs.Ticks.{ticks_written};
-ghost use Rattle.ccsl_top.specs.Trial.{trial_outcome};
+ghost use Rattle.ccsl_top.specs.Trial.{trial_run, trial_outcome};
+ghost use Rattle.ccsl_chain.specs.Chain.{chain};
 ghost use Rattle.ccsl_top.specs.Trying.{drawn_run, HoldsTrace, KeepsTrace};
 ghost use Rattle.ccsl_top.specs.declared.files.Stop.TheVariants as stop;
 ghost use Rattle.ccsl_top.specs.Answered.{plain_reply};
@@ -33,21 +34,42 @@ const CERT: &str = "certificate";
 /// The most bytes that one read or write of this world moves.
 const PIECE: usize = 65_536;
 
-// Simulates into a world in memory, and opens the trace that was written.
-fn written(alloc: Global, system: &System, seed: u64, steps: u64) -> Result<MemoryWorld, Memory>
-    ensures { IfOk result (λ world. HoldsTrace system.now seed steps world) }
+// The value, where this was done. For any type: the drop of a world is dear to check.
+fn kept<T: Drop>(value: T, done: Result<(), Memory>) -> Result<T, Memory>
+    ensures { IfOk result (λ same. (same ≡ value) × IsOk done) }
 {
-    let mut world = MemoryWorld::new(alloc, Vec::new(alloc), Vec::new(alloc), PIECE);
+    done?;
+    Ok(value)
+}
+
+// Simulates into a world in memory, and opens the trace that was written.
+fn write_trace(
+    alloc: Global,
+    world: &mut MemoryWorld,
+    system: &System,
+    seed: u64,
+    steps: u64,
+) -> Result<(), Memory>
+    ensures { IfOk result (λ _. HoldsTrace system.now seed steps world.new) }
+{
     let policy = Policy::Seeded;
-    match write_run(alloc, &mut world, system, policy, seed, steps, TRACE, CERT) {
+    match write_run(alloc, world, system, policy, seed, steps, TRACE, CERT) {
         Ok(_done) => {}
         Err(_stop) => return Err(Memory),
     }
     match world.open_in(Slot::Trace, TRACE) {
-        Ok(()) => {}
-        Err(_failed) => return Err(Memory),
+        Ok(()) => Ok(()),
+        Err(_failed) => Err(Memory),
     }
-    Ok(world)
+}
+
+// A world in memory, with the trace that was written.
+fn written(alloc: Global, system: &System, seed: u64, steps: u64) -> Result<MemoryWorld, Memory>
+    ensures { IfOk result (λ world. HoldsTrace system.now seed steps world) }
+{
+    let mut world = MemoryWorld::new(alloc, Vec::new(alloc), Vec::new(alloc), PIECE);
+    let opened = write_trace(alloc, &mut world, system, seed, steps);
+    kept(world, opened)
 }
 
 // How many steps the trace of a world is judged to have. That it is a run is a law.
@@ -97,6 +119,66 @@ fn ticks_of(alloc: Global, world: &MemoryWorld, system: &System, made: u64) -> R
     }
 }
 
+// How many steps and ticks the trace of a world has.
+fn counted<R: Threads + Sync, G: Gate>(
+    rt: &R,
+    alloc: Global,
+    keys: HashKeys,
+    world: &mut MemoryWorld,
+    system: &System,
+    workers: u32,
+    gate: &G,
+) -> Result<(u64, u64), Memory>
+    requires { (seed : ℕ) × (steps : ℕ) × HoldsTrace system.now seed steps world.old × (steps ≤ MAX_STEPS) }
+    ensures { IfOk result (λ counts. (seed steps : ℕ) → HoldsTrace system.now seed steps world.old → steps ≤ MAX_STEPS →
+        (counts.0 ≡ length (drawn_run system.now seed steps))
+        × (counts.1 ≡ ticks_written system.now (drawn_run system.now seed steps))) }
+{
+    let made = judged_steps(rt, alloc, keys, world, system, workers, gate)?;
+    let ticks = ticks_of(alloc, world, system, made)?;
+    Ok((made, ticks))
+}
+
+// How many steps and ticks a run of a system has that is simulated by drawn words and judged.
+fn tried<R: Threads + Sync, G: Gate>(
+    rt: &R,
+    alloc: Global,
+    keys: HashKeys,
+    system: &System,
+    steps: u64,
+    seed: u64,
+    workers: u32,
+    gate: &G,
+) -> Result<(u64, u64), Memory>
+    requires { steps ≤ MAX_STEPS }
+    ensures { IfOk result (λ counts. (counts.0 ≡ length (drawn_run system.now seed steps))
+        × (counts.1 ≡ ticks_written system.now (drawn_run system.now seed steps))) }
+{
+    let mut world = written(alloc, system, seed, steps)?;
+    counted(rt, alloc, keys, &mut world, system, workers, gate)
+}
+
+// The same of a chain of so many clocks.
+fn tried_chain<R: Threads + Sync, G: Gate>(
+    rt: &R,
+    alloc: Global,
+    keys: HashKeys,
+    clocks: u32,
+    steps: u64,
+    seed: u64,
+    workers: u32,
+    gate: &G,
+) -> Result<(u64, u64), Memory>
+    requires least { MIN_TRIAL_CLOCKS ≤ clocks }
+    requires most { clocks ≤ MAX_TRIAL_CLOCKS }
+    requires few { steps ≤ MAX_TRIAL_STEPS }
+    ensures { IfOk result (λ counts. (counts.0 ≡ length (trial_run clocks steps seed))
+        × (counts.1 ≡ ticks_written (chain clocks) (trial_run clocks steps seed))) }
+{
+    let system = chain(alloc, clocks)?;
+    tried(rt, alloc, keys, &system, steps, seed, workers, gate)
+}
+
 /// Simulates a chain of so many clocks by drawn words into a world in memory, judges what was written, and counts its ticks. A fault of
 /// this world is a want of memory of its own.
 pub(crate) fn trial<R: Threads + Sync, G: Gate>(
@@ -115,10 +197,7 @@ pub(crate) fn trial<R: Threads + Sync, G: Gate>(
     ensures reply { IfOk result (λ reply. plain_reply reply ≡ trial_outcome clocks steps seed) }
     ensures stop { IfErr result (λ reason. reason ≡ stop.Memory) }
 {
-    let system = chain(alloc, clocks)?;
-    let mut world = written(alloc, &system, seed, steps)?;
-    let made = judged_steps(rt, alloc, keys, &mut world, &system, workers, gate)?;
-    let ticks = ticks_of(alloc, &world, &system, made)?;
+    let (made, ticks) = tried_chain(rt, alloc, keys, clocks, steps, seed, workers, gate)?;
     Ok(Reply {
         status: Status::Done,
         line: trial_done(alloc, clocks, made, ticks)?,

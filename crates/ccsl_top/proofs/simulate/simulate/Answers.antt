@@ -4,9 +4,8 @@ use Rattle.ccsl_edge.specs.declared.slot.Slot.TheVariants.{TraceOut, CertOut}
 use Rattle.ccsl_command.specs.declared.command.Command.TheVariants as command
 use Rattle.ccsl_top.specs.Simulate.{named_policy, IsSimulated}
 use Rattle.ccsl_top.specs.Reading.{IsSpecOf}
-use Rattle.ccsl_top.specs.Simulating.{WritesBoth, IsWriteStop}
 use Rattle.ccsl_top.proofs.Behind.{spec-refused, reading-stops}
-use Rattle.ccsl_top.proofs.Simulated.{simulate-answered, simulate-stopped, simulate-unreported}
+use Rattle.ccsl_top.proofs.Simulated.{simulate-answers, simulate-stops}
 use Rattle.ccsl_top.proofs.simulate.simulate.Goals as goal
 
 pub returns-in_err-system-clause-stop : goal.returns-in_err-system-clause-stop
@@ -27,48 +26,16 @@ returns-in-Refused-clause-answers g c =
     (λ content input K o. IsSimulated K (named_policy c.args.policy) c.args.seed c.args.steps c.args.trace.now c.args.cert.now o) (λ content input o is. is)
     (g.W.World.state c.args.world.now) (g.W.World.state c.read_specification.new.world) c.in_ok-system.ensures.reads _ refl spec
 
-pub returns-in_err-done-in-Accepted-clause-stop : goal.returns-in_err-done-in-Accepted-clause-stop
-returns-in_err-done-in-Accepted-clause-stop g c =
-    let told = g.W.World.told in
-    let spec = subst (IsSpecOf told (g.W.World.state c.args.world.now).files c.args.spec.now) c.in-Accepted.is c.in_ok-system.ensures.spec in
-    let after = g.W.World.state c.write_run.new.world in
-    let before = g.W.World.state c.read_specification.new.world in
-    let r = c.from_residual-in_err-done-in-Accepted in
-    let p = err_from_is_err_and r.result r.ensures.1 in
-    let reason = c.in_err-done-in-Accepted.field-0.0 in
-    let stop = subst (λ q. IsWriteStop told c.in-Accepted.system q c.args.seed c.args.steps c.args.trace.now c.args.cert.now before after reason)
-    c.policy_named-policy.ensures c.in_err-done-in-Accepted.ensures.stop in
-    rw (p.1, p.2)
-    (λ words means.
-    simulate-stopped told words c.args.spec.now c.args.policy c.args.seed c.args.steps c.args.trace.now c.args.cert.now means
-    (g.W.World.state c.args.world.now) before after c.in_ok-system.ensures.reads c.in-Accepted.system spec reason stop)
+pub returns-in-Accepted-clause-answers : goal.returns-in-Accepted-clause-answers
+returns-in-Accepted-clause-answers g c =
+    let spec = subst (IsSpecOf g.W.World.told (g.W.World.state c.args.world.now).files c.args.spec.now) c.in-Accepted.is c.in_ok-system.ensures.spec in
+    simulate-answers g.W.World.told c.args.spec.now c.args.policy c.args.seed c.args.steps c.args.trace.now c.args.cert.now (g.W.World.state c.args.world.now)
+    (g.W.World.state c.read_specification.new.world) (g.W.World.state c.simulate_system.new.world) c.in_ok-system.ensures.reads c.in-Accepted.system spec
+    c.policy_named-policy.result c.policy_named-policy.ensures c.simulate_system.result c.simulate_system.ensures.answers
 
-pub returns-in_err-reply_on-in-Accepted-clause-stop : goal.returns-in_err-reply_on-in-Accepted-clause-stop
-returns-in_err-reply_on-in-Accepted-clause-stop g c =
-    let told = g.W.World.told in
-    let spec = subst (IsSpecOf told (g.W.World.state c.args.world.now).files c.args.spec.now) c.in-Accepted.is c.in_ok-system.ensures.spec in
-    let after = g.W.World.state c.write_run.new.world in
-    let before = g.W.World.state c.read_specification.new.world in
-    let done = c.in_ok-done-in-Accepted.done in
-    let both = subst (λ q. WritesBoth told c.in-Accepted.system q c.args.seed c.args.steps c.args.trace.now c.args.cert.now before after done)
-    c.policy_named-policy.ensures c.in_ok-done-in-Accepted.ensures.done in
-    let r = c.from_residual-in_err-reply_on-in-Accepted in
-    let p = err_from_is_err_and r.result r.ensures.1 in
-    rw (p.1, p.2)
-    (λ words means.
-    simulate-unreported told words c.args.spec.now c.args.policy c.args.seed c.args.steps c.args.trace.now c.args.cert.now means
-    (g.W.World.state c.args.world.now) before after c.in_ok-system.ensures.reads c.in-Accepted.system spec done both)
-
-pub returns-in_ok-reply_on-in-Accepted-clause-answers : goal.returns-in_ok-reply_on-in-Accepted-clause-answers
-returns-in_ok-reply_on-in-Accepted-clause-answers g c =
-    let told = g.W.World.told in
-    let spec = subst (IsSpecOf told (g.W.World.state c.args.world.now).files c.args.spec.now) c.in-Accepted.is c.in_ok-system.ensures.spec in
-    let after = g.W.World.state c.write_run.new.world in
-    let before = g.W.World.state c.read_specification.new.world in
-    let done = c.in_ok-done-in-Accepted.done in
-    let both = subst (λ q. WritesBoth told c.in-Accepted.system q c.args.seed c.args.steps c.args.trace.now c.args.cert.now before after done)
-    c.policy_named-policy.ensures c.in_ok-done-in-Accepted.ensures.done in
-    λ words means.
-    simulate-answered told words c.args.spec.now c.args.policy c.args.seed c.args.steps c.args.trace.now c.args.cert.now means
-    (g.W.World.state c.args.world.now) before after c.in_ok-system.ensures.reads c.in-Accepted.system spec done
-    c.in_ok-reply_on-in-Accepted.field-0 c.in_ok-reply_on-in-Accepted.ensures both
+pub returns-in-Accepted-clause-stop : goal.returns-in-Accepted-clause-stop
+returns-in-Accepted-clause-stop g c =
+    let spec = subst (IsSpecOf g.W.World.told (g.W.World.state c.args.world.now).files c.args.spec.now) c.in-Accepted.is c.in_ok-system.ensures.spec in
+    simulate-stops g.W.World.told c.args.spec.now c.args.policy c.args.seed c.args.steps c.args.trace.now c.args.cert.now (g.W.World.state c.args.world.now)
+    (g.W.World.state c.read_specification.new.world) (g.W.World.state c.simulate_system.new.world) c.in_ok-system.ensures.reads c.in-Accepted.system spec
+    c.policy_named-policy.result c.policy_named-policy.ensures c.simulate_system.result c.simulate_system.ensures.stop

@@ -1,6 +1,6 @@
 use Rattle.std.proofs.Common.{inl, inr}
 use Rattle.ccsl_top.proofs.Members.{members-end}
-use Rattle.ccsl_top.proofs.explain.blocked_report.Goals as goal
+use Rattle.ccsl_top.proofs.explain.put_members.Goals as goal
 
 pub returns : goal.returns
 returns c =

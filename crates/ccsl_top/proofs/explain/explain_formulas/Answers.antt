@@ -1,0 +1,34 @@
+use Rattle.std.proofs.Common.{length, map, sym, ◌∙◌, subst}
+use Rattle.std.proofs.lemmas.List.{length-map}
+use Rattle.ccsl_formula.specs.declared.scope.Scope.{Scope}
+use Rattle.ccsl_formula.specs.Plain.{plain}
+use Rattle.ccsl_solve.specs.Posed.{AllBelow}
+use Rattle.ccsl_explain.specs.Explained.{Explains}
+use Rattle.ccsl_simulate.proofs.Asking.{all-below}
+use Rattle.ccsl_top.proofs.Running.{explained-answers, explained-stops}
+use Rattle.ccsl_top.proofs.explain.explain_formulas.Goals as goal
+
+pub explain-requires-clause-reads : goal.explain-requires-clause-reads
+explain-requires-clause-reads g c =
+    let fs = map plain c.args.formulas.now in
+    subst (λ (s : Scope). AllBelow s.named fs) (sym c.scope.ensures.scope) (all-below (length c.args.system.now.names) fs c.requires.below)
+
+pub answer_explained-requires-clause-explained : goal.answer_explained-requires-clause-explained
+answer_explained-requires-clause-explained g c =
+    let fs = map plain c.args.formulas.now in
+    let is = subst (λ (s : Scope). Explains s fs c.in_ok-explained.explained) c.scope.ensures.scope c.in_ok-explained.ensures in
+    (fs, length-map c.args.formulas.now plain ∙ c.requires.count, is)
+
+pub returns-clause-answers : goal.returns-clause-answers
+returns-clause-answers g c =
+    let fs = map plain c.args.formulas.now in
+    let is = subst (λ (s : Scope). Explains s fs c.in_ok-explained.explained) c.scope.ensures.scope c.in_ok-explained.ensures in
+    explained-answers g.W.World.told c.args.system.now c.args.cert.now c.args.steps (g.W.World.state c.args.world.now) fs c.in_ok-explained.explained is
+    (g.W.World.state c.answer_explained.new.world) c.answer_explained.result c.answer_explained.ensures.answers
+
+pub returns-clause-stop : goal.returns-clause-stop
+returns-clause-stop g c =
+    let fs = map plain c.args.formulas.now in
+    let is = subst (λ (s : Scope). Explains s fs c.in_ok-explained.explained) c.scope.ensures.scope c.in_ok-explained.ensures in
+    explained-stops g.W.World.told c.args.system.now c.args.cert.now c.args.steps (g.W.World.state c.args.world.now) fs c.in_ok-explained.explained is
+    (g.W.World.state c.answer_explained.new.world) c.answer_explained.result c.answer_explained.ensures.stop
