@@ -10,6 +10,7 @@ ghost use Rattle.ccsl_state.specs.Held as states;
 ghost use Rattle.ccsl_certify.specs.Replaying.{AreAfter, Follows, Answers};
 
 use crate::answer::Replayed;
+use crate::both::both;
 use ccsl_base::{Block, ClockSet, MAX_CLOCKS, Memory, Row};
 use ccsl_kernel::System;
 use ccsl_kernel::laws::verdict_is_first;
@@ -48,7 +49,7 @@ impl<'s> Follower<'s> {
         ensures { IfOk result (λ f. Follows system.now bound.now [] f) }
     {
         let monitor = Monitor::open(alloc, system, 0, system.items(), bound)?;
-        let states = States::open(alloc, system)?;
+        let (monitor, states) = both(monitor, States::open(alloc, system))?;
         Ok(Follower {
             system,
             monitor,

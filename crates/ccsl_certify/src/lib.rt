@@ -3,6 +3,7 @@
 #![tactic(auto)]
 
 pub mod answer;
+mod both;
 pub mod certificate;
 mod follower;
 pub mod laws;

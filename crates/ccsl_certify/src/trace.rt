@@ -1,15 +1,16 @@
 //! Replaying a trace.
 
-ghost use Rattle.std.specs.Prelude.{◌≡◌, ℕ, ◌<◌, List, [], IfOk, IfErr, IfNone, Some};
+ghost use Rattle.std.specs.Prelude.{◌≡◌, ℕ, ◌<◌, List, [], IfOk, IfErr, IfNone, None, Some};
 ghost use Rattle.ccsl_edge.specs.World.{State};
 ghost use Rattle.ccsl_kernel.specs.Syntax.{System};
 ghost use Rattle.ccsl_bind.specs.Collected.{wanted_of};
 ghost use Rattle.ccsl_vcd.specs.declared.limits.Limits.{Limits};
-ghost use Rattle.ccsl_trace.specs.Feeding.{bound_of, calls_left};
+ghost use Rattle.ccsl_trace.specs.Feeding.{bound_of, calls_left, Feeds};
 ghost use Rattle.ccsl_trace.specs.Traces.{IsUnread};
 ghost use Rattle.ccsl_certify.specs.Replaying.{Follows, IsReplayed, Goes, HasEnded, Stands};
 
 use crate::answer::Replayed;
+use crate::both::both;
 use crate::follower::Follower;
 use ccsl_base::{HashKeys, Memory};
 use ccsl_edge::World;
@@ -38,6 +39,33 @@ fn follower_for<'s>(alloc: Global, system: &'s System, feed: &Feed) -> Result<Fo
     }
 }
 
+// Reads the header, and opens what follows the trace from there on.
+fn follow_header<'s, W: World>(
+    alloc: Global,
+    world: &mut W,
+    system: &'s System,
+    feed: &mut Feed,
+) -> Result<Follower<'s>, ReplayFault>
+    requires unbound { bound_of feed.old ≡ None }
+    requires feeds { (limits : Limits) ×
+        Feeds W.told (wanted_of system.now) limits (W.state world.old) (W.state world.old) feed.old [] }
+    ensures goes { IfOk result (λ f. (limits : Limits) →
+        Feeds W.told (wanted_of system.now) limits (W.state world.old) (W.state world.old) feed.old [] →
+        Goes W.told system.now limits (W.state world.old) (W.state world.new) feed.new f) }
+    ensures unread { IfErr result (λ fault. (limits : Limits) →
+        Feeds W.told (wanted_of system.now) limits (W.state world.old) (W.state world.old) feed.old [] →
+        IsUnread W.told (wanted_of system.now) limits (W.state world.old) (W.state world.new) fault) }
+{
+    match feed.next(world) {
+        Ok(_header) => {}
+        Err(fault) => return Err(fault),
+    }
+    match follower_for(alloc, system, feed) {
+        Ok(follower) => Ok(follower),
+        Err(Memory) => Err(ReplayFault::Memory),
+    }
+}
+
 impl<'s> Replaying<'s> {
     // Reads the header, and follows the trace from there on.
     fn begin<W: World>(
@@ -56,13 +84,10 @@ impl<'s> Replaying<'s> {
             Ok(feed) => feed,
             Err(Memory) => return Err(ReplayFault::Memory),
         };
-        match feed.next(world) {
-            Ok(_header) => {}
-            Err(fault) => return Err(fault),
-        }
-        match follower_for(alloc, system, &feed) {
-            Ok(follower) => Ok(Replaying { feed, follower }),
-            Err(Memory) => Err(ReplayFault::Memory),
+        let follower = follow_header(alloc, world, system, &mut feed);
+        match both(feed, follower) {
+            Ok((feed, follower)) => Ok(Replaying { feed, follower }),
+            Err(fault) => Err(fault),
         }
     }
 
@@ -129,8 +154,16 @@ pub fn replay<'s, W: World>(
         Ok(replaying) => replaying,
         Err(fault) => return Err(fault),
     };
+    // What is large goes by calls of `drop`, which are cheap to check.
     match replaying.take_all(world) {
-        Ok(rows) => Ok(replaying.follower.answer(rows)),
-        Err(fault) => Err(fault),
+        Ok(rows) => {
+            let Replaying { feed, follower } = replaying;
+            drop(feed);
+            Ok(follower.answer(rows))
+        }
+        Err(fault) => {
+            drop(replaying);
+            Err(fault)
+        }
     }
 }

@@ -1,33 +1,17 @@
-use Rattle.std.proofs.Common.{[], subst}
-use Rattle.ccsl_bind.specs.Collected.{wanted_of}
-use Rattle.ccsl_trace.specs.Feeding.{Gives}
-use Rattle.ccsl_certify.proofs.Taking.{first-given}
+use Rattle.std.proofs.Common.{sym, subst}
+use Rattle.std.proofs.lemmas.Result.{IfOk-at_ok}
+use Rattle.ccsl_certify.specs.Replaying.{Goes}
 use Rattle.ccsl_certify.proofs.trace.Replaying.begin.Goals as goal
 
-pub next-requires : goal.next-requires
-next-requires g c =
-    let now = g.W.World.state c.args.world.now in record { feeds = (wanted_of c.args.system.now, c.args.limits.now, now, [], c.in-Ok.ensures.feeds g.W.World.told now) }
+pub follow_header-follower-requires : goal.follow_header-follower-requires
+follow_header-follower-requires g c = record {
+  unbound = c.in-Ok.ensures.unbound;
+  feeds = (c.args.limits.now, c.in-Ok.ensures.feeds g.W.World.told (g.W.World.state c.args.world.now));
+}
 
-pub returns-in-Err-next-clause-unread : goal.returns-in-Err-next-clause-unread
-returns-in-Err-next-clause-unread g c =
+pub returns-in-Ok-both-clause-goes : goal.returns-in-Ok-both-clause-goes
+returns-in-Ok-both-clause-goes g c =
     let start = g.W.World.state c.args.world.now in
-    c.in-Err-next.ensures.unread (wanted_of c.args.system.now) c.args.limits.now start [] (c.in-Ok.ensures.feeds g.W.World.told start)
-
-pub returns-in-Ok-follower_for-clause-goes : goal.returns-in-Ok-follower_for-clause-goes
-returns-in-Ok-follower_for-clause-goes g c =
-    let K = c.args.system.now in
-    let start = g.W.World.state c.args.world.now in
-    let now = g.W.World.state c.next.new.world in
-    let given = subst (λ b. Gives g.W.World.told (wanted_of K) c.args.limits.now start now c.in-Ok-next._header b c.next.new.self []) c.in-Ok.ensures.unbound
-    (c.in-Ok-next.ensures.gives (wanted_of K) c.args.limits.now start [] (c.in-Ok.ensures.feeds g.W.World.told start)) in
-    let first = first-given g.W.World.told K c.args.limits.now start now c.in-Ok-next._header c.next.new.self [] given in
-    record { bound = first.bound; rows = []; shows = first.shows; feeds = first.feeds; follows = c.in-Ok-follower_for.ensures first.bound first.shows }
-
-pub returns-clause-unread : goal.returns-clause-unread
-returns-clause-unread g c =
-    let K = c.args.system.now in
-    let start = g.W.World.state c.args.world.now in
-    let now = g.W.World.state c.next.new.world in
-    let given = subst (λ b. Gives g.W.World.told (wanted_of K) c.args.limits.now start now c.in-Ok-next._header b c.next.new.self []) c.in-Ok.ensures.unbound
-    (c.in-Ok-next.ensures.gives (wanted_of K) c.args.limits.now start [] (c.in-Ok.ensures.feeds g.W.World.told start)) in
-    (first-given g.W.World.told K c.args.limits.now start now c.in-Ok-next._header c.next.new.self [] given).near
+    let now = g.W.World.state c.follow_header-follower.new.world in
+    subst (λ feed. Goes g.W.World.told c.args.system.now c.args.limits.now start now feed c.in-Ok-both.follower) (sym c.in-Ok-both.ensures.pair.0)
+    (IfOk-at_ok _ c.in-Ok-both.ensures.pair.1 c.follow_header-follower.ensures.goes c.args.limits.now (c.in-Ok.ensures.feeds g.W.World.told start))
