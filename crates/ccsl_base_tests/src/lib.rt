@@ -1,11 +1,19 @@
-//! The small types that every layer shares, tried beside plain loops.
+//! The small crates below all others: sets and blocks, worlds, lines, formulas, words, command lines, pieces in a pool, certificates.
 #![tactic(auto)]
 
 #[cfg(test)]
-mod blocks;
+mod base;
 #[cfg(test)]
-mod edges;
+mod command;
 #[cfg(test)]
-mod sets;
+mod edge;
 #[cfg(test)]
-mod values;
+mod formula;
+#[cfg(test)]
+mod lines;
+#[cfg(test)]
+mod pool;
+#[cfg(test)]
+mod refute;
+#[cfg(test)]
+mod words;

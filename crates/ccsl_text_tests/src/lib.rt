@@ -1,17 +1,13 @@
-//! What the lexer, the parser and the printer make of texts together.
+//! From texts to systems, and from answers to lines of report.
 #![tactic(auto)]
 
 #[cfg(test)]
-mod answer;
+mod elaborate;
 #[cfg(test)]
-mod depth;
+mod faults;
 #[cfg(test)]
-mod expressions;
+mod library;
 #[cfg(test)]
-mod files;
+mod report;
 #[cfg(test)]
-mod lines;
-#[cfg(test)]
-mod tokens;
-#[cfg(test)]
-mod versions;
+mod text;

@@ -1,0 +1,3 @@
+//! Formulas and partial assignments against tables.
+
+mod tables;

@@ -1,0 +1,3 @@
+//! Lines pulled from inputs in memory.
+
+mod lines;

@@ -1,0 +1,3 @@
+//! Certificates: checked, read and written.
+
+mod certificates;

@@ -1,0 +1,3 @@
+//! Binary words and their texts.
+
+mod words;

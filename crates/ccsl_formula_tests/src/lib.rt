@@ -1,5 +1,0 @@
-//! Formulas and partial assignments against tables.
-#![tactic(auto)]
-
-#[cfg(test)]
-mod tables;

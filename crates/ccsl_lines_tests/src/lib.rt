@@ -1,5 +1,0 @@
-//! Lines pulled from inputs in memory.
-#![tactic(auto)]
-
-#[cfg(test)]
-mod lines;

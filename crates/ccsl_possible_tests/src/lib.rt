@@ -1,7 +1,0 @@
-//! What is possible after some steps of small systems.
-#![tactic(auto)]
-
-#[cfg(test)]
-mod answers;
-#[cfg(test)]
-mod asked;

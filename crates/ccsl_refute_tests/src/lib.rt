@@ -1,5 +1,0 @@
-//! Certificates: checked, read and written.
-#![tactic(auto)]
-
-#[cfg(test)]
-mod certificates;

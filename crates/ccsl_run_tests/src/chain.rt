@@ -1,0 +1,4 @@
+//! Chains against the systems that their texts are elaborated to.
+
+mod chains;
+mod system;

@@ -1,0 +1,4 @@
+//! Specifications behind the library.
+
+mod members;
+mod printed;

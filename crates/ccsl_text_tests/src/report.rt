@@ -1,0 +1,3 @@
+//! Every line of report, as users read it.
+
+mod texts;

@@ -1,5 +1,0 @@
-//! Tokens of texts, over several cuttings.
-#![tactic(auto)]
-
-#[cfg(test)]
-mod cuttings;

@@ -1,0 +1,3 @@
+//! Headers and the bindings that they give.
+
+mod headers;

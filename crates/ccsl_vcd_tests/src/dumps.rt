@@ -1,0 +1,3 @@
+//! Written traces: their text, and the room that they take.
+
+mod traces;

@@ -1,0 +1,3 @@
+//! Tokens of texts, over several cuttings.
+
+mod cuttings;

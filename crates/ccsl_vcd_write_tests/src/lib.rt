@@ -1,5 +1,0 @@
-//! Written traces: their text, and the room that they take.
-#![tactic(auto)]
-
-#[cfg(test)]
-mod traces;

@@ -1,5 +1,0 @@
-//! Binary words and their texts.
-#![tactic(auto)]
-
-#[cfg(test)]
-mod words;
