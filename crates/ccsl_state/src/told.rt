@@ -15,14 +15,13 @@ ghost use Rattle.ccsl_state.specs.Standing.{is_then, Stands, IsEnough};
 ghost use Rattle.ccsl_state.specs.Nodes.{one_at, node_formula};
 ghost use Rattle.ccsl_state.specs.Regions.{tree, call_tree, size, HasTable, MayStand, WordsFit, ParamsFit, HasRoom};
 
-use crate::cells::{count_at, is_next, is_then, own_cells, size_of, suffix_at};
+use crate::cells::{count_at, is_then, own_cells, size_of};
 use crate::lag::{lag_cells, lag_ticks};
 use crate::lay::Lay;
 use crate::node::{Unary, filter_from};
 use crate::params::actuals_at;
 use ccsl_base::{MAX_CELLS, MAX_LEVELS, Memory};
 use ccsl_formula::Formula;
-use ccsl_kernel::actual::letter_at;
 use ccsl_kernel::{Actual, Expr, ExprOp};
 use ccsl_words::Word;
 use std::alloc::Global;
@@ -47,11 +46,7 @@ fn name_formula(actual: Actual) -> Formula
 fn is_open(unary: Unary, words: &[Word], cell: u64) -> bool
     ensures { (f : Plain) → one_formula (one_at words.now unary cell) f ≡ (if result then f else FFalse) }
 {
-    match unary {
-        Unary::Delay(m) => u64::from(m) <= count_at(cell),
-        Unary::Await(m) => is_next(count_at(cell), m),
-        Unary::Filter(word) => letter_at(words, word, suffix_at(words, word, cell).offset),
-    }
+    unary.ticks(words, cell, true)
 }
 
 fn through(lets: bool, f: Formula) -> Formula
