@@ -51,7 +51,7 @@ fn shares_for<'s>(
 }
 
 impl<'s> Judging<'s> {
-    // Reads the header, and opens the shares for the clocks that it binds.
+    // Reads the header, and opens the shares for the clocks that it binds. A feed goes by calls of `drop`, which are cheap to check.
     fn begin<W: World>(
         alloc: Global,
         keys: HashKeys,
@@ -72,11 +72,17 @@ impl<'s> Judging<'s> {
         };
         match feed.next(world) {
             Ok(_header) => {}
-            Err(fault) => return Err(fault),
+            Err(unread) => {
+                drop(feed);
+                return Err(unread);
+            }
         }
         match shares_for(alloc, system, workers, &feed) {
             Ok(shares) => Ok(Judging { feed, shares }),
-            Err(Memory) => Err(JudgeFault::Memory),
+            Err(Memory) => {
+                drop(feed);
+                Err(JudgeFault::Memory)
+            }
         }
     }
 
@@ -165,7 +171,14 @@ pub fn judge<R: Threads + Sync, W: World, G: Gate>(
         Err(fault) => return Err(fault),
     };
     match judging.check_all(rt, world, workers, gate) {
-        Ok(rows) => Ok(verdict_on(first_of(judging.shares.as_slice()), rows)),
-        Err(fault) => Err(fault),
+        Ok(rows) => {
+            let first = first_of(judging.shares.as_slice());
+            drop(judging);
+            Ok(verdict_on(first, rows))
+        }
+        Err(fault) => {
+            drop(judging);
+            Err(fault)
+        }
     }
 }

@@ -16,6 +16,32 @@ use ccsl_relate::Violation;
 use std::alloc::Global;
 use std::thread::Threads;
 
+// Opens so many shares where there are none. The caller holds them: here they are held across no `?`, where their drop is dear to
+// check.
+fn open_into<'s>(
+    shares: &mut Vec<Share<'s>>,
+    alloc: Global,
+    system: &'s System,
+    count: u32,
+    bound: &ClockSet,
+) -> Result<(), Memory>
+    requires none { shares.old.items ≡ [] }
+    requires few { count ≤ item_count system.now }
+    requires some { 1 ≤ item_count system.now → 1 ≤ count }
+    ensures follow { IfOk result (λ _. FollowAll system.now bound.now [] shares.new.items) }
+    ensures count { IfOk result (λ _. length shares.new.items ≡ count) }
+{
+    let all = weight_of_all(system, bound);
+    let mut cut = Cut { item: 0, weight: 0 };
+    for done in 0..count {
+        let next = next_cut(system, bound, cut, count - done, all);
+        let size = next.item - cut.item;
+        shares.push(Share::open(alloc, system, cut.item, size, bound)?)?;
+        cut = next;
+    }
+    Ok(())
+}
+
 /// Opens as many shares as the lesser of `workers` and the number of items. Each has neighbouring items, one at least, and weighs
 /// about as much as another.
 pub(crate) fn open_shares<'s>(
@@ -29,16 +55,14 @@ pub(crate) fn open_shares<'s>(
     ensures count { IfOk result (λ v. length v.items ≡ min workers (item_count system.now)) }
 {
     let count = workers.min(system.items());
-    let all = weight_of_all(system, bound);
     let mut shares = Vec::with_capacity(alloc, count as usize)?;
-    let mut cut = Cut { item: 0, weight: 0 };
-    for done in 0..count {
-        let next = next_cut(system, bound, cut, count - done, all);
-        let size = next.item - cut.item;
-        shares.push(Share::open(alloc, system, cut.item, size, bound)?)?;
-        cut = next;
+    match open_into(&mut shares, alloc, system, count, bound) {
+        Ok(()) => Ok(shares),
+        Err(Memory) => {
+            drop(shares);
+            Err(Memory)
+        }
     }
-    Ok(shares)
 }
 
 // The one at the lower step, and of two at one step the first.

@@ -4,4 +4,4 @@ pub returns-in-Ok-check_all-clause-item : goal.returns-in-Ok-check_all-clause-it
 returns-in-Ok-check_all-clause-item g c =
     let K = c.args.system.now in
     let ended = c.in-Ok-check_all.ensures.ended K c.args.limits.now (g.W.World.state c.args.world.now) c.in-Ok.ensures.goes in
-    c.verdict_on.ensures.item K ended.bound ended.rows (c.first_of.ensures K ended.bound ended.rows (rw c.as_slice.ensures.value ended.follow))
+    c.verdict_on.ensures.item K ended.bound ended.rows (c.first_of-first.ensures K ended.bound ended.rows (rw c.as_slice.ensures.value ended.follow))

@@ -23,8 +23,8 @@ returns-in-Ok-shares_for-clause-goes g c =
     let first = first-given g.W.World.told K c.args.limits.now start now c.in-Ok-next._header c.next.new.self [] given in
     record { bound = first.bound; rows = []; shows = first.shows; feeds = first.feeds; follow = c.in-Ok-shares_for.ensures first.bound first.shows }
 
-pub returns-clause-unread : goal.returns-clause-unread
-returns-clause-unread g c =
+pub returns-in-Err-shares_for-clause-unread : goal.returns-in-Err-shares_for-clause-unread
+returns-in-Err-shares_for-clause-unread g c =
     let K = c.args.system.now in
     let start = g.W.World.state c.args.world.now in
     let now = g.W.World.state c.next.new.world in

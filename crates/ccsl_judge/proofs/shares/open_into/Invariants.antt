@@ -2,7 +2,7 @@ use Rattle.std.proofs.Common.{◌≡◌, ◌+◌, ◌-◌, ◌*◌, ◌≤◌, [
 use Rattle.ccsl_kernel.specs.Syntax.{item_count}
 use Rattle.ccsl_judge.specs.Divided.{Follow}
 use Rattle.ccsl_judge.specs.Weights.{weight_before}
-use Rattle.ccsl_judge.proofs.shares.open_shares.Given as goal
+use Rattle.ccsl_judge.proofs.shares.open_into.Given as goal
 
 -- one share was opened a turn: the shares so far have the items up to the cut, each share that is left has an item, and the last one has the last item
 abbrev pub invariant-loop-done : goal.invariant-loop-done

@@ -2,7 +2,7 @@ use Rattle.std.proofs.Common.{◌≡◌, ◌+◌, ◌-◌, [], ◌∷◌, ◌++�
 use Rattle.ccsl_judge.specs.Shares.{IsAt}
 use Rattle.ccsl_judge.specs.Divided.{Follow}
 use Rattle.ccsl_judge.proofs.Sharing.{follow-more}
-use Rattle.ccsl_judge.proofs.shares.open_shares.Goals as goal
+use Rattle.ccsl_judge.proofs.shares.open_into.Goals as goal
 
 pub loop-done-preserved : goal.loop-done-preserved
 loop-done-preserved c =
