@@ -108,6 +108,10 @@ def main():
         with open(f"{folder}/sampled.ccsl", "w") as out:
             lines = " ".join(f"define s{i} = w{i} sampled on w{(i + 1) % 64}; s{i} subclock w{(i + 1) % 64};" for i in range(64))
             out.write(f"ccsl 1; system {{ clock {names}; {lines} }}\n")
+        with open(f"{folder}/thrice.ccsl", "w") as out:
+            on = lambda i, n: f" sampled on w{(i + n) % 64}"
+            lines = " ".join(f"define s{i} = ((w{i}{on(i, 1)}){on(i, 2)}){on(i, 3)}; s{i} subclock w{(i + 3) % 64};" for i in range(64))
+            out.write(f"ccsl 1; system {{ clock {names}; {lines} }}\n")
         with open(f"{folder}/free.ccsl", "w") as out:
             out.write("ccsl 1; system { clock a, b; a subclock a; }\n")
         compare("two event variables, one constraint that holds", f"{folder}/events.vcd", f"{folder}/free.ccsl", folder, 1)
@@ -117,6 +121,7 @@ def main():
         for workers in (1, 4):
             compare("64 wires, 64 sampled clocks, 64 constraints", f"{folder}/wires.vcd", f"{folder}/sampled.ccsl", folder, workers)
         divided("64 wires, 64 sampled clocks, 64 constraints", f"{folder}/wires.vcd", f"{folder}/sampled.ccsl")
+        divided("64 wires, 64 clocks sampled thrice, 64 constraints", f"{folder}/wires.vcd", f"{folder}/thrice.ccsl")
 
 
 main()
