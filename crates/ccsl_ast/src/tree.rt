@@ -23,7 +23,6 @@ pub enum BinaryOp {
 }
 
 /// An expression. Parentheses leave no trace in it: `(a)` has the tree of `a`.
-#[derive(Drop)]
 pub enum Tree {
     Name(Spot),
     Call(Spot, Seq<Argument>),
@@ -35,6 +34,24 @@ pub enum Tree {
     /// The operand, the offset of the number's first digit, the number, the base.
     Delayed(Box<Tree>, usize, u32, Box<Tree>),
     If(Test, Box<Tree>, Box<Tree>),
+}
+
+// By hand and not derived: to the prover, an early return then drops one by a single call.
+impl Drop for Tree {
+    #[cycle(trees)]
+    fn drop(self) {
+        match self {
+            Tree::Name(_name) => {}
+            Tree::Call(_name, _args) => {}
+            Tree::Never => {}
+            Tree::Binary(_, _left, _right) => {}
+            Tree::Delay(_operand, _number) => {}
+            Tree::Await(_operand, _number) => {}
+            Tree::Filter(_operand, _word) => {}
+            Tree::Delayed(_operand, _, _, _base) => {}
+            Tree::If(_test, _yes, _no) => {}
+        }
+    }
 }
 
 impl Tree {

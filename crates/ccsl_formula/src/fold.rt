@@ -16,10 +16,10 @@ pub fn not(alloc: Global, f: Formula) -> Result<Formula, Memory>
     ensures shape { IfOk result (λ r. plain r ≡ negation (plain f)) }
     ensures folded { IfOk result (λ r. is_folded (plain f) ≡ true → is_folded (plain r) ≡ true) }
 {
-    match f {
+    match &f {
         Formula::True => Ok(Formula::False),
         Formula::False => Ok(Formula::True),
-        f => Ok(Formula::Not(Box::new(alloc, f)?)),
+        _ => Ok(Formula::Not(Box::new(alloc, f)?)),
     }
 }
 
@@ -36,14 +36,11 @@ pub fn and(alloc: Global, f: Formula, g: Formula) -> Result<Formula, Memory>
     ensures folded { IfOk result (λ r. is_folded (plain f) ≡ true → is_folded (plain g) ≡ true →
         is_folded (plain r) ≡ true) }
 {
-    match f {
-        Formula::True => Ok(g),
-        Formula::False => Ok(Formula::False),
-        f => match g {
-            Formula::True => Ok(f),
-            Formula::False => Ok(Formula::False),
-            g => Ok(Formula::And(Box::new(alloc, f)?, Box::new(alloc, g)?)),
-        },
+    match (&f, &g) {
+        (Formula::True, _) => Ok(g),
+        (Formula::False, _) | (_, Formula::False) => Ok(Formula::False),
+        (_, Formula::True) => Ok(f),
+        _ => Ok(Formula::And(Box::new(alloc, f)?, Box::new(alloc, g)?)),
     }
 }
 
@@ -60,14 +57,11 @@ pub fn or(alloc: Global, f: Formula, g: Formula) -> Result<Formula, Memory>
     ensures folded { IfOk result (λ r. is_folded (plain f) ≡ true → is_folded (plain g) ≡ true →
         is_folded (plain r) ≡ true) }
 {
-    match f {
-        Formula::True => Ok(Formula::True),
-        Formula::False => Ok(g),
-        f => match g {
-            Formula::True => Ok(Formula::True),
-            Formula::False => Ok(f),
-            g => Ok(Formula::Or(Box::new(alloc, f)?, Box::new(alloc, g)?)),
-        },
+    match (&f, &g) {
+        (Formula::False, _) => Ok(g),
+        (Formula::True, _) | (_, Formula::True) => Ok(Formula::True),
+        (_, Formula::False) => Ok(f),
+        _ => Ok(Formula::Or(Box::new(alloc, f)?, Box::new(alloc, g)?)),
     }
 }
 
@@ -84,13 +78,11 @@ pub fn iff(alloc: Global, f: Formula, g: Formula) -> Result<Formula, Memory>
     ensures folded { IfOk result (λ r. is_folded (plain f) ≡ true → is_folded (plain g) ≡ true →
         is_folded (plain r) ≡ true) }
 {
-    match f {
-        Formula::True => Ok(g),
-        Formula::False => not(alloc, g),
-        f => match g {
-            Formula::True => Ok(f),
-            Formula::False => not(alloc, f),
-            g => Ok(Formula::Iff(Box::new(alloc, f)?, Box::new(alloc, g)?)),
-        },
+    match (&f, &g) {
+        (Formula::True, _) => Ok(g),
+        (Formula::False, _) => not(alloc, g),
+        (_, Formula::True) => Ok(f),
+        (_, Formula::False) => not(alloc, f),
+        _ => Ok(Formula::Iff(Box::new(alloc, f)?, Box::new(alloc, g)?)),
     }
 }

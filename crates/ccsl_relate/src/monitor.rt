@@ -23,7 +23,6 @@ use std::marker::Model;
 /// Follows some neighbouring items of a system over the rows of a trace, up to the first row that violates one of them. The states
 /// of the definitions that its items reach go on once a row, and no others: a definition whose clock was not recorded and a
 /// constraint between declared clocks touch no cell.
-#[derive(Drop)]
 pub struct Monitor<'s> {
     system: &'s System,
     start: u32,
@@ -35,6 +34,22 @@ pub struct Monitor<'s> {
     states: Option<Part<'s>>,
     steps: u64,
     first: Option<Violation>,
+}
+
+// By hand and not derived: to the prover, an early return then drops one by a single call.
+impl<'s> Drop for Monitor<'s> {
+    fn drop(self) {
+        let Monitor {
+            system: _,
+            start: _,
+            undeclared: _,
+            kept: _kept,
+            readers: _readers,
+            states: _states,
+            steps: _,
+            first: _,
+        } = self;
+    }
 }
 
 impl<'s> Model for Monitor<'s> {
