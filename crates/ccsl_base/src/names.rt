@@ -11,19 +11,10 @@ use std::marker::Model;
 
 /// A list of distinct byte texts, each with its number in the order of addition. A look-up takes constant expected time: where a
 /// stranger chooses the texts, by a hasher that he does not know.
+#[derive(Drop)]
 pub struct Names<S: BuildHasher = BuildHasherDefault<FoldHasher>> {
     alloc: Global,
     texts: IndexSet<Vec<u8>, S>,
-}
-
-// By hand and not derived: to the prover, an early return then drops one by a single call.
-impl<S: BuildHasher> Drop for Names<S> {
-    fn drop(self) {
-        let Names {
-            alloc: _,
-            texts: _texts,
-        } = self;
-    }
 }
 
 impl<S: BuildHasher> Model for Names<S> {
