@@ -31,7 +31,6 @@ pub struct Forced {
 }
 
 /// What is still to be looked at.
-#[derive(Drop)]
 pub struct Guide {
     readers: Readers,
     watches: Watches,
@@ -47,28 +46,39 @@ pub struct Guide {
     noted: Vec<Operands>,
 }
 
+// Written out, a drop is one call, which is cheap to check.
+impl Drop for Guide {
+    fn drop(self) {
+        let Guide {
+            readers: _,
+            watches: _,
+            order: _,
+            items: _,
+            is_waiting: _,
+            falsified: _,
+            forced: _,
+            lines: _,
+            noted: _,
+        } = self;
+    }
+}
+
 impl Guide {
     /// A guide that has looked at nothing yet.
     pub fn open(problem: &Problem, lines: &[Line], part: &Partial) -> Result<Guide, Memory> {
         let alloc = problem.alloc;
+        let count = problem.formulas.len();
         let mut guide = Guide {
             readers: Readers::open(problem)?,
             watches: Watches::open(problem)?,
             order: Order::open(problem)?,
-            items: Vec::with_capacity(alloc, problem.formulas.len())?,
-            is_waiting: Vec::with_capacity(alloc, problem.formulas.len())?,
+            items: all_items(problem)?,
+            is_waiting: vec![in alloc; true; count]?,
+            lines: vec![in alloc; 0u64; count]?,
             falsified: Vec::new(alloc),
             forced: Vec::new(alloc),
-            lines: Vec::with_capacity(alloc, problem.formulas.len())?,
             noted: Vec::new(alloc),
         };
-        let mut item = 0u32;
-        for _ in problem.formulas {
-            guide.items.push(item)?;
-            guide.is_waiting.push(true)?;
-            guide.lines.push(0)?;
-            item = item.wrapping_add(1);
-        }
         guide.watch(problem, lines, part, 1)?;
         Ok(guide)
     }
@@ -182,6 +192,17 @@ impl Guide {
             }
         }
     }
+}
+
+/// The items of all formulas.
+fn all_items(problem: &Problem) -> Result<Vec<u32>, Memory> {
+    let mut items = Vec::with_capacity(problem.alloc, problem.formulas.len())?;
+    let mut item = 0u32;
+    for _ in problem.formulas {
+        items.push(item)?;
+        item = item.wrapping_add(1);
+    }
+    Ok(items)
 }
 
 /// The next literal that is forced and not yet true.

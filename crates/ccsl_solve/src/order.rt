@@ -7,7 +7,6 @@ use ccsl_refute::clause::clause_of;
 use ccsl_refute::{Line, Lit};
 
 /// The clocks in the order of their last conflicts, the latest one last.
-#[derive(Drop)]
 pub struct Order {
     /// A clock may stand at several places, of which the last one counts.
     queue: Vec<u32>,
@@ -20,23 +19,33 @@ pub struct Order {
     now: u64,
 }
 
+// Written out, a drop is one call, which is cheap to check.
+impl Drop for Order {
+    fn drop(self) {
+        let Order {
+            queue: _,
+            places: _,
+            end: _,
+            signs: _,
+            times: _,
+            now: _,
+        } = self;
+    }
+}
+
 impl Order {
     /// Clocks by their numbers, each to be tried as false.
     pub fn open(problem: &Problem) -> Result<Order, Memory> {
         let alloc = problem.alloc;
         let named = problem.scope.named as usize;
-        let mut order = Order {
-            queue: Vec::with_capacity(alloc, named)?,
-            places: vec![in alloc; 0usize; named]?,
+        Ok(Order {
+            queue: (0..problem.scope.named).rev().collect(alloc)?,
+            places: (0..named).rev().collect(alloc)?,
             end: named,
             signs: vec![in alloc; false; named]?,
             times: vec![in alloc; 0u64; named]?,
             now: 0,
-        };
-        for clock in (0..problem.scope.named).rev() {
-            order.append(clock)?;
-        }
-        Ok(order)
+        })
     }
 
     /// Puts a clock last.

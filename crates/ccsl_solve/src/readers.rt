@@ -5,11 +5,20 @@ use ccsl_base::Memory;
 use ccsl_formula::Formula;
 
 /// For each clock the items that read it, once for each place.
-#[derive(Drop)]
 pub struct Readers {
     /// Where the items of a clock begin, and those of the next one.
     starts: Vec<usize>,
     items: Vec<u32>,
+}
+
+// Written out, a drop is one call, which is cheap to check.
+impl Drop for Readers {
+    fn drop(self) {
+        let Readers {
+            starts: _,
+            items: _,
+        } = self;
+    }
 }
 
 impl Readers {

@@ -1,15 +1,19 @@
 //! The answer for some formulas.
 
-ghost use Rattle.std.specs.Prelude.{◌≡◌, ◌<◌, ◌≤◌, ◌^◌, ◌&&◌, ◌||◌, ℕ, List, map, length, nat_eq, IfOk, true, false, []};
+ghost use Rattle.std.specs.Prelude.{◌≡◌, ◌<◌, ◌≤◌, ◌^◌, ◌&&◌, ◌||◌, ◌∷◌, ℕ, List, map, length, reverse, nat_eq, IfOk, OnOk, true, false, []};
 ghost use Rattle.ccsl_base.specs.Clocks.{ticks_in};
 ghost use Rattle.ccsl_formula.specs.Known.{known};
 ghost use Rattle.ccsl_formula.specs.Plain.{plain};
+ghost use Rattle.ccsl_formula.specs.Truth.{Part};
 ghost use Rattle.ccsl_refute.specs.Below.{AreBelow};
-ghost use Rattle.ccsl_solve.specs.Under.{IsInside, is_yes};
-ghost use Rattle.ccsl_solve.specs.Posed.{AllBelow};
-ghost use Rattle.ccsl_solve.specs.Answers.{Answers, AnswersBest};
+ghost use Rattle.ccsl_refute.specs.declared.line.Line.TheVariants.{Nonempty};
+ghost use Rattle.ccsl_solve.specs.Under.{Under, IsInside, is_yes};
+ghost use Rattle.ccsl_solve.specs.Posed.{AllBelow, IsPosed, AreValid, asked};
+ghost use Rattle.ccsl_solve.specs.Conflict.{IsConflict};
+ghost use Rattle.ccsl_solve.specs.Finds.{Finds};
+ghost use Rattle.ccsl_solve.specs.Answers.{Answers, AnswersBest, IsRefuted};
 
-use crate::conflict::derived;
+use crate::conflict::{Conflict, derived};
 use crate::guide::Guide;
 use crate::problem::Problem;
 use crate::search::search;
@@ -94,15 +98,62 @@ pub fn solve_by(
         nonempty: &nonempty,
         wishes,
     };
-    let mut lines = Vec::new(alloc);
-    lines.push(Line::Nonempty)?;
-    let mut guide = Guide::open(&problem, &lines, fixed)?;
+    answered(&problem, fixed)
+}
+
+/// The answer to a problem where some values are fixed.
+fn answered(problem: &Problem, fixed: &Partial) -> Result<Answer, Memory>
+    requires posed { IsPosed problem.now }
+    requires fixed { IsInside problem.now.scope.named (known fixed.now) }
+    ensures { IfOk result (λ answer. AnswersBest problem.now.scope (asked problem.now) problem.now.wishes.now (known fixed.now) answer) }
+{
+    let mut lines = first_lines(problem.alloc)?;
     let mut part = fixed.copy();
-    match search(&problem, &mut lines, &mut guide, &mut part, 0)? {
-        None => Ok(Answer::Step(ticking(&part, scope.named))),
+    match searched(problem, &mut lines, &mut part)? {
+        None => Ok(Answer::Step(ticking(&part, problem.scope.named))),
         Some(conflict) => {
-            derived(&problem, &mut lines, &conflict)?;
-            Ok(Answer::Refuted(Seq::new(lines)))
+            let lines = refutation(problem, lines, conflict)?;
+            Ok(Answer::Refuted(lines))
         }
     }
+}
+
+/// What holds of itself: that some declared clock ticks.
+fn first_lines(alloc: Global) -> Result<Vec<Line>, Memory>
+    ensures { IfOk result (λ lines. lines.items ≡ Nonempty ∷ []) }
+{
+    let mut lines = Vec::new(alloc);
+    lines.push(Line::Nonempty)?;
+    Ok(lines)
+}
+
+/// Searches under a new guide.
+fn searched(
+    problem: &Problem,
+    lines: &mut Vec<Line>,
+    part: &mut Partial,
+) -> Result<Option<Conflict>, Memory>
+    requires posed { IsPosed problem.now }
+    requires valid { AreValid problem.now lines.old.items }
+    requires inside { IsInside problem.now.scope.named (known part.old) }
+    ensures valid { OnOk result (AreValid problem.now lines.new.items) }
+    ensures finds { IfOk result (λ found. Finds problem.now.scope (asked problem.now) problem.now.wishes.now lines.new.items (known part.old) (known part.new) found) }
+{
+    let mut guide = Guide::open(problem, lines, part)?;
+    search(problem, lines, &mut guide, part, 0)
+}
+
+/// The lines, with a last one that refutes the values of a conflict.
+fn refutation(
+    problem: &Problem,
+    mut lines: Vec<Line>,
+    conflict: Conflict,
+) -> Result<Seq<Line>, Memory>
+    requires valid { AreValid problem.now lines.items }
+    requires inside { IsInside problem.now.scope.named (known conflict.part.value) }
+    requires conflict { (p : Part) × IsConflict problem.now.scope lines.items p (known conflict.part.value) (reverse conflict.hints.items) }
+    ensures { (p : Part) → Under (known conflict.part.value) p → IfOk result (λ lines. IsRefuted problem.now.scope (asked problem.now) p lines) }
+{
+    derived(problem, &mut lines, &conflict)?;
+    Ok(Seq::new(lines))
 }

@@ -28,32 +28,39 @@ enum Move {
     Force(Lit),
 }
 
-#[derive(Drop)]
 pub struct Watches {
-    watches: Vec<Watch>,
     /// For each clock the watches of its negative literal and of its positive one.
     of_negative: Vec<Vec<usize>>,
     of_positive: Vec<Vec<usize>>,
+    watches: Vec<Watch>,
     /// Clauses of one literal.
     units: Vec<Forced>,
     /// The last line that is watched.
     last: u64,
 }
 
+// Written out, a drop is one call, which is cheap to check.
+impl Drop for Watches {
+    fn drop(self) {
+        let Watches {
+            of_negative: _,
+            of_positive: _,
+            watches: _,
+            units: _,
+            last: _,
+        } = self;
+    }
+}
+
 impl Watches {
     pub fn open(problem: &Problem) -> Result<Watches, Memory> {
-        let mut watches = Watches {
+        Ok(Watches {
+            of_negative: empty_lists(problem)?,
+            of_positive: empty_lists(problem)?,
             watches: Vec::new(problem.alloc),
-            of_negative: Vec::with_capacity(problem.alloc, problem.scope.named as usize)?,
-            of_positive: Vec::with_capacity(problem.alloc, problem.scope.named as usize)?,
             units: Vec::new(problem.alloc),
             last: 0,
-        };
-        for _ in 0..problem.scope.named {
-            watches.of_negative.push(Vec::new(problem.alloc))?;
-            watches.of_positive.push(Vec::new(problem.alloc))?;
-        }
-        Ok(watches)
+        })
     }
 
     /// Forces the clauses of one literal again, after clocks lost their values.
@@ -198,6 +205,15 @@ impl Watches {
             }
         }
     }
+}
+
+/// For each clock an empty list.
+fn empty_lists(problem: &Problem) -> Result<Vec<Vec<usize>>, Memory> {
+    let mut lists = Vec::with_capacity(problem.alloc, problem.scope.named as usize)?;
+    for _ in 0..problem.scope.named {
+        lists.push(Vec::new(problem.alloc))?;
+    }
+    Ok(lists)
 }
 
 /// The literals of a line's clause.
