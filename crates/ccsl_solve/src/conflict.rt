@@ -15,10 +15,27 @@ use ccsl_refute::{Line, Lit};
 use std::alloc::Global;
 
 /// Some values that can't all hold, and the numbers of the lines that show it, the last one first.
-#[derive(Drop)]
 pub struct Conflict {
     pub part: Box<Partial>,
     pub hints: Vec<u64>,
+}
+
+// Written out, a drop is one call, which is cheap to check.
+impl Drop for Conflict {
+    fn drop(self) {
+        let Conflict { part: _, hints: _ } = self;
+    }
+}
+
+impl Conflict {
+    /// The clash with a line that shows the conflict.
+    pub fn into_clash(self, line: u64) -> Clash
+        ensures line { result.line ≡ line }
+        ensures part { known result.part.value ≡ known self.part.value }
+    {
+        let Conflict { part, hints: _ } = self;
+        Clash { line, part }
+    }
 }
 
 /// A line whose clause says that not all values of `part` hold.
@@ -106,9 +123,8 @@ pub fn resolved(
     requires free { known before.now lit.clock ≡ Open }
     ensures { IfOk result (λ c. IsConflict problem.now.scope lines.now (known before.now) (known c.part.value) (reverse c.hints.items)) }
 {
-    let mut part = second.part;
-    let mut hints = second.hints;
-    join_without(&mut part, &first.part, lit.clock);
-    hints.push(first.line)?;
-    Ok(Conflict { part, hints })
+    let mut conflict = second;
+    join_without(&mut conflict.part, &first.part, lit.clock);
+    conflict.hints.push(first.line)?;
+    Ok(conflict)
 }

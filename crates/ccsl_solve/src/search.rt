@@ -214,10 +214,7 @@ pub fn search(
     if is_free_of(&second.part, lit.clock) {
         return Ok(Some(second));
     }
-    let clash = Clash {
-        line,
-        part: first.part,
-    };
+    let clash = first.into_clash(line);
     let conflict = resolved(problem, lines, part, lit, clash, second)?;
     Ok(Some(conflict))
 }

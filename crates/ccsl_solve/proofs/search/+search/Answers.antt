@@ -1,4 +1,4 @@
-use Rattle.std.proofs.Common.{◌≡◌, ◌<◌, ◌∙◌, ℕ, List, not, reverse, true, Option, sym, ap, subst, arith}
+use Rattle.std.proofs.Common.{◌≡◌, ◌≢◌, ◌<◌, ◌∙◌, ℕ, List, not, reverse, true, Option, sym, ap, subst, arith}
 use Rattle.ccsl_formula.specs.declared.truth3.Truth3.TheVariants.{Open}
 use Rattle.ccsl_formula.specs.Truth.{Part}
 use Rattle.ccsl_formula.specs.Known.{known, with_value}
@@ -9,7 +9,7 @@ use Rattle.ccsl_solve.specs.Posed.{asked}
 use Rattle.ccsl_solve.specs.Reasons.{refutes}
 use Rattle.ccsl_solve.specs.Conflict.{IsConflict, IsClause}
 use Rattle.ccsl_solve.specs.Plan.{IsCause}
-use Rattle.ccsl_solve.proofs.Tests.{open-test}
+use Rattle.ccsl_solve.proofs.Tests.{open-test, not-open-test}
 use Rattle.ccsl_solve.proofs.Parts.{inside-with, inside-under}
 use Rattle.ccsl_solve.proofs.Clauses.{clause-more}
 use Rattle.ccsl_solve.proofs.Conflicts.{without-value}
@@ -316,14 +316,25 @@ pub resolved-requires-clause-first : goal.resolved-requires-clause-first
 resolved-requires-clause-first t c =
     let l = c.in-Try.lit in
     let both = halves t c in
-    subst (λ (w : Part). Under (known c.in-Some.first.part.value) (with_value w l.clock l.positive)) (sym both.0) both.2.within
+    subst (λ (q : Part). Under q (with_value (known c.forget-2.new.self) l.clock l.positive)) (sym c.into_clash-clash.ensures.part)
+    (subst (λ (w : Part). Under (known c.in-Some.first.part.value) (with_value w l.clock l.positive)) (sym both.0) both.2.within)
+
+pub resolved-requires-clause-first_has : goal.resolved-requires-clause-first_has
+resolved-requires-clause-first_has t c =
+    let x = c.in-Try.lit.clock in
+    subst (λ (q : Part). q x ≢ Open) (sym c.into_clash-clash.ensures.part)
+    (not-open-test (known c.in-Some.first.part.value x) (sym c.if-is_free_of.ensures))
 
 pub resolved-requires-clause-clause : goal.resolved-requires-clause-clause
 resolved-requires-clause-clause t c =
     let scope = c.args.problem.now.scope in
     let q = known c.in-Some.first.part.value in
-    subst (λ (ls : List Line). IsClause scope ls c.in_ok-line.line q) (sym c.deref-3.ensures.value)
-    (clause-more scope c.learned.new.lines.items c.search-2.new.lines.items c.in_ok-line.line q c.in_ok-second.ensures.extends c.in_ok-line.ensures.clause)
+    let j = c.in_ok-line.line in
+    let clash = c.into_clash-clash.result in
+    subst (λ (r : Part). IsClause scope c.deref-3.result.now clash.line r) (sym c.into_clash-clash.ensures.part)
+    (subst (λ (k : ℕ). IsClause scope c.deref-3.result.now k q) (sym c.into_clash-clash.ensures.line)
+    (subst (λ (ls : List Line). IsClause scope ls j q) (sym c.deref-3.ensures.value)
+    (clause-more scope c.learned.new.lines.items c.search-2.new.lines.items j q c.in_ok-second.ensures.extends c.in_ok-line.ensures.clause)))
 
 pub resolved-requires-clause-second : goal.resolved-requires-clause-second
 resolved-requires-clause-second t c =
