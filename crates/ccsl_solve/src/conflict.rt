@@ -20,7 +20,7 @@ pub struct Conflict {
     pub hints: Vec<u64>,
 }
 
-// Written out, a drop is one call, which is cheap to check.
+// By hand and not derived: to the prover, an early return then drops one by a single call.
 impl Drop for Conflict {
     fn drop(self) {
         let Conflict { part: _, hints: _ } = self;

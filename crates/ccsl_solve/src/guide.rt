@@ -46,7 +46,7 @@ pub struct Guide {
     noted: Vec<Operands>,
 }
 
-// Written out, a drop is one call, which is cheap to check.
+// By hand and not derived: to the prover, an early return then drops one by a single call.
 impl Drop for Guide {
     fn drop(self) {
         let Guide {

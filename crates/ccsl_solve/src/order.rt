@@ -19,7 +19,7 @@ pub struct Order {
     now: u64,
 }
 
-// Written out, a drop is one call, which is cheap to check.
+// By hand and not derived: to the prover, an early return then drops one by a single call.
 impl Drop for Order {
     fn drop(self) {
         let Order {

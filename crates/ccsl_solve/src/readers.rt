@@ -11,7 +11,7 @@ pub struct Readers {
     items: Vec<u32>,
 }
 
-// Written out, a drop is one call, which is cheap to check.
+// By hand and not derived: to the prover, an early return then drops one by a single call.
 impl Drop for Readers {
     fn drop(self) {
         let Readers {

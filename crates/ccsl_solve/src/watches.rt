@@ -39,7 +39,7 @@ pub struct Watches {
     last: u64,
 }
 
-// Written out, a drop is one call, which is cheap to check.
+// By hand and not derived: to the prover, an early return then drops one by a single call.
 impl Drop for Watches {
     fn drop(self) {
         let Watches {
