@@ -12,6 +12,7 @@ ghost use Rattle.ccsl_state.specs.Whole.{held_at, IsWhole};
 ghost use Rattle.ccsl_state.specs.Regions.{trees_from, HasTable};
 
 use crate::cells::{count_at, size_of};
+use crate::connective::iff;
 use crate::lay::Lay;
 use crate::relation::relation_formula;
 use crate::told::told;
@@ -75,8 +76,8 @@ fn definition_item(
     ensures { IfOk result (λ f. plain f ≡ formula_in (held_at lay.now row.now) i) }
 {
     let asked = definition_formula(alloc, lay, i, place, row)?;
-    let clock = Box::new(alloc, Formula::Var(lay.system.scope().declared + i))?;
-    Ok(Formula::Iff(clock, Box::new(alloc, asked)?))
+    let clock = Formula::Var(lay.system.scope().declared + i);
+    iff(alloc, clock, asked)
 }
 
 /// The formula of a constraint.

@@ -3,6 +3,7 @@
 
 mod advance;
 mod cells;
+mod connective;
 mod counts;
 mod definitions;
 mod follow;

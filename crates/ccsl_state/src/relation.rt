@@ -5,6 +5,7 @@ ghost use Rattle.ccsl_formula.specs.Formula.{FTrue, FVar, FNot, FOr};
 ghost use Rattle.ccsl_formula.specs.Plain.{plain};
 ghost use Rattle.ccsl_kernel.specs.Items.{relation_formula};
 
+use crate::connective::{and, iff, not, or};
 use ccsl_base::Memory;
 use ccsl_formula::Formula;
 use ccsl_kernel::RelationKind;
@@ -23,21 +24,19 @@ pub fn relation_formula(
 {
     match kind {
         RelationKind::Subclock => implies(alloc, a, b),
-        RelationKind::Coincides => {
-            let left = Box::new(alloc, Formula::Var(a))?;
-            Ok(Formula::Iff(left, Box::new(alloc, Formula::Var(b))?))
-        }
-        RelationKind::Excludes => {
-            let left = Box::new(alloc, Formula::Var(a))?;
-            let both = Formula::And(left, Box::new(alloc, Formula::Var(b))?);
-            Ok(Formula::Not(Box::new(alloc, both)?))
-        }
+        RelationKind::Coincides => iff(alloc, Formula::Var(a), Formula::Var(b)),
+        RelationKind::Excludes => not(alloc, and(alloc, Formula::Var(a), Formula::Var(b))?),
         RelationKind::Precedes => not_if(alloc, m == n, b),
         RelationKind::PrecedesWeakly => implies_if(alloc, m == n, b, a),
         RelationKind::PrecedesWithin(most) => {
-            let waits = Box::new(alloc, not_if(alloc, m == n, b)?)?;
-            let follows = implies_if(alloc, is_ahead(m, n, most), a, b)?;
-            Ok(Formula::And(waits, Box::new(alloc, follows)?))
+            let waits = not_if(alloc, m == n, b)?;
+            match implies_if(alloc, is_ahead(m, n, most), a, b) {
+                Ok(follows) => and(alloc, waits, follows),
+                Err(fault) => {
+                    drop(waits);
+                    Err(fault)
+                }
+            }
         }
     }
 }
@@ -54,7 +53,7 @@ fn not_if(alloc: Global, test: bool, clock: u32) -> Result<Formula, Memory>
     ensures { IfOk result (λ f. plain f ≡ (if test then FNot (FVar clock) else FTrue)) }
 {
     if test {
-        Ok(Formula::Not(Box::new(alloc, Formula::Var(clock))?))
+        not(alloc, Formula::Var(clock))
     } else {
         Ok(Formula::True)
     }
@@ -64,9 +63,7 @@ fn not_if(alloc: Global, test: bool, clock: u32) -> Result<Formula, Memory>
 fn implies(alloc: Global, a: u32, b: u32) -> Result<Formula, Memory>
     ensures { IfOk result (λ f. plain f ≡ FOr (FNot (FVar a)) (FVar b)) }
 {
-    let without = Formula::Not(Box::new(alloc, Formula::Var(a))?);
-    let left = Box::new(alloc, without)?;
-    Ok(Formula::Or(left, Box::new(alloc, Formula::Var(b))?))
+    or(alloc, not(alloc, Formula::Var(a))?, Formula::Var(b))
 }
 
 // That a ticks with b alone, where a test is met.
