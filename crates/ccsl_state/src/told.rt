@@ -1,7 +1,7 @@
 //! The formula of an expression, from its region.
 
 ghost use Rattle.std.specs.Prelude.{suc, ◌≡◌, ◌<◌, ◌≤◌, ◌+◌, ◌*◌, ◌^◌, ◌%◌, ℕ, false, true, drop, length, max, slice_index, Some, IfOk, if◌then◌else◌};
-ghost use Rattle.ccsl_formula.specs.Formula.{Formula as Plain, FFalse, FNot, FAnd, FOr};
+ghost use Rattle.ccsl_formula.specs.Formula.{Formula as Plain, FFalse, FNot, FAnd};
 ghost use Rattle.ccsl_formula.specs.Plain.{plain};
 ghost use Rattle.ccsl_kernel.specs.Syntax.{Body, body_of};
 ghost use Rattle.ccsl_kernel.specs.Plain.{plain_expr};
@@ -9,18 +9,19 @@ ghost use Rattle.ccsl_kernel.specs.Deep.{deep};
 ghost use Rattle.ccsl_kernel.specs.Cells.{cells_in};
 ghost use Rattle.ccsl_kernel.specs.Fit.{ActualsFit, TestFits};
 ghost use Rattle.ccsl_kernel.specs.Fitting.{ExprFits};
-ghost use Rattle.ccsl_state.specs.Tree.{leaf, formula_of, one_formula};
-ghost use Rattle.ccsl_state.specs.Layout.{own_cells, two_at, read, region_of};
+ghost use Rattle.ccsl_state.specs.Tree.{leaf, formula_of, one_formula, two_formula};
+ghost use Rattle.ccsl_state.specs.Layout.{words_of, lag_at, own_cells, two_at, read, region_of};
 ghost use Rattle.ccsl_state.specs.Standing.{is_then, Stands, IsEnough};
 ghost use Rattle.ccsl_state.specs.Nodes.{one_at, node_formula};
-ghost use Rattle.ccsl_state.specs.Regions.{tree, call_tree, size, HasTable, MayStand, WordsFit, ParamsFit, HasRoom};
+ghost use Rattle.ccsl_state.specs.Regions.{tree, call_tree, left_tree, right_tree, size, HasTable, MayStand, WordsFit, ParamsFit, HasRoom};
 
 use crate::cells::{count_at, is_then, own_cells, size_of};
+use crate::connective::{and, not, or};
 use crate::lag::{lag_cells, lag_ticks};
 use crate::lay::Lay;
 use crate::node::{Unary, filter_from};
 use crate::params::actuals_at;
-use ccsl_base::{MAX_CELLS, MAX_LEVELS, Memory};
+use ccsl_base::{MAX_CELLS, MAX_DELAY, MAX_LEVELS, Memory};
 use ccsl_formula::Formula;
 use ccsl_kernel::{Actual, Expr, ExprOp};
 use ccsl_words::Word;
@@ -52,25 +53,47 @@ fn is_open(unary: Unary, words: &[Word], cell: u64) -> bool
 fn through(lets: bool, f: Formula) -> Formula
     ensures { plain result ≡ (if lets then plain f else FFalse) }
 {
-    if lets { f } else { Formula::False }
+    if lets {
+        f
+    } else {
+        drop(f);
+        Formula::False
+    }
 }
 
-fn or(alloc: Global, f: Formula, g: Formula) -> Result<Formula, Memory>
-    ensures { IfOk result (λ r. plain r ≡ FOr (plain f) (plain g)) }
+fn first(f: Formula, g: Formula) -> Formula
+    ensures { plain result ≡ plain f }
 {
-    Ok(Formula::Or(Box::new(alloc, f)?, Box::new(alloc, g)?))
+    drop(g);
+    f
 }
 
-fn and(alloc: Global, f: Formula, g: Formula) -> Result<Formula, Memory>
-    ensures { IfOk result (λ r. plain r ≡ FAnd (plain f) (plain g)) }
+fn second(f: Formula, g: Formula) -> Formula
+    ensures { plain result ≡ plain g }
 {
-    Ok(Formula::And(Box::new(alloc, f)?, Box::new(alloc, g)?))
+    drop(f);
+    g
 }
 
-fn not(alloc: Global, f: Formula) -> Result<Formula, Memory>
-    ensures { IfOk result (λ r. plain r ≡ FNot (plain f)) }
+fn never(f: Formula, g: Formula) -> Formula
+    ensures { plain result ≡ FFalse }
 {
-    Ok(Formula::Not(Box::new(alloc, f)?))
+    drop(f);
+    drop(g);
+    Formula::False
+}
+
+/// The first without the second.
+fn minus(alloc: Global, f: Formula, g: Formula) -> Result<Formula, Memory>
+    ensures { IfOk result (λ r. plain r ≡ FAnd (plain f) (FNot (plain g))) }
+{
+    match not(alloc, g) {
+        Ok(other) => and(alloc, f, other),
+        Err(fault) => {
+            drop(f);
+            Err(fault)
+        }
+    }
 }
 
 /// The formula of an operator, from its cells and its operands' formulas.
@@ -87,13 +110,13 @@ fn joined(
     match op {
         ExprOp::Union => or(alloc, f, g),
         ExprOp::Inter => and(alloc, f, g),
-        ExprOp::Minus => and(alloc, f, not(alloc, g)?),
+        ExprOp::Minus => minus(alloc, f, g),
         ExprOp::Inf => {
             let (a, d) = (count_at(head[0]), count_at(head[1]));
             if d < a {
-                Ok(f)
+                Ok(first(f, g))
             } else if a < d {
-                Ok(g)
+                Ok(second(f, g))
             } else {
                 or(alloc, f, g)
             }
@@ -101,32 +124,26 @@ fn joined(
         ExprOp::Sup => {
             let (a, d) = (count_at(head[0]), count_at(head[1]));
             if a < d {
-                Ok(f)
+                Ok(first(f, g))
             } else if d < a {
-                Ok(g)
+                Ok(second(f, g))
             } else {
                 and(alloc, f, g)
             }
         }
         ExprOp::Upto => {
             if head[0] != 0 {
-                Ok(Formula::False)
+                Ok(never(f, g))
             } else {
-                and(alloc, f, not(alloc, g)?)
+                minus(alloc, f, g)
             }
         }
-        ExprOp::UptoWeakly => {
-            if head[0] != 0 {
-                Ok(Formula::False)
-            } else {
-                Ok(f)
-            }
-        }
-        ExprOp::Then => Ok(Formula::False),
-        ExprOp::Sampled => Ok(through(head[0] != 0, g)),
+        ExprOp::UptoWeakly => Ok(through(head[0] == 0, first(f, g))),
+        ExprOp::Then => Ok(never(f, g)),
+        ExprOp::Sampled => Ok(through(head[0] != 0, second(f, g))),
         ExprOp::SampledWeakly => {
             if head[0] != 0 {
-                Ok(g)
+                Ok(second(f, g))
             } else {
                 and(alloc, g, f)
             }
@@ -136,7 +153,7 @@ fn joined(
 
 /// The formula of an expression.
 #[cycle(tell)]
-#[tactic(auto, using(crate::proofs::Places::inner_stands, crate::proofs::Evals::pair_formula, crate::proofs::Evals::open_formula))]
+#[tactic(auto, using(crate::proofs::Places::inner_stands))]
 pub fn told(
     alloc: Global,
     lay: &Lay<'_>,
@@ -180,81 +197,175 @@ pub fn told(
             size: 1,
         }),
         Expr::Binary(op, a, d) => {
-            if is_then(*op) {
-                if row[0] == 0 {
-                    let left = told(alloc, lay, a, actuals, &row[1..])?;
-                    Ok(Part {
-                        formula: left.formula,
-                        size: 1 + left.size.max(size_of(d, lay.earlier)),
-                    })
-                } else {
-                    let right = told(alloc, lay, d, actuals, &row[1..])?;
-                    Ok(Part {
-                        formula: right.formula,
-                        size: 1 + right.size.max(size_of(a, lay.earlier)),
-                    })
-                }
+            if !is_then(*op) {
+                two_told(alloc, lay, *op, a, d, actuals, row)
+            } else if row[0] == 0 {
+                one_of_told(alloc, lay, a, d, actuals, row)
             } else {
-                let own = own_cells(*op);
-                let left = told(alloc, lay, a, actuals, &row[own..])?;
-                let right = told(alloc, lay, d, actuals, &row[own + left.size..])?;
-                let size = own + left.size + right.size;
-                Ok(Part {
-                    formula: joined(alloc, *op, row, left.formula, right.formula)?,
-                    size,
-                })
+                one_of_told(alloc, lay, d, a, actuals, row)
             }
         }
         Expr::Delay(a, m) => {
             let unary = Unary::Delay(m.number(actuals));
-            let inner = told(alloc, lay, a, actuals, &row[1..])?;
-            Ok(Part {
-                formula: through(is_open(unary, lay.system.words(), row[0]), inner.formula),
-                size: 1 + inner.size,
-            })
+            one_told(alloc, lay, unary, a, actuals, row)
         }
         Expr::Await(a, m) => {
             let unary = Unary::Await(m.number(actuals));
-            let inner = told(alloc, lay, a, actuals, &row[1..])?;
-            Ok(Part {
-                formula: through(is_open(unary, lay.system.words(), row[0]), inner.formula),
-                size: 1 + inner.size,
-            })
+            one_told(alloc, lay, unary, a, actuals, row)
         }
         Expr::Filter(a, word) => {
             let words = lay.system.words();
             let unary = filter_from(words, word.suffix(words, actuals));
-            let inner = told(alloc, lay, a, actuals, &row[1..])?;
-            Ok(Part {
-                formula: through(is_open(unary, words, row[0]), inner.formula),
-                size: 1 + inner.size,
-            })
+            one_told(alloc, lay, unary, a, actuals, row)
         }
-        Expr::Delayed(a, m, d) => {
-            let own = lag_cells(*m);
-            let left = told(alloc, lay, a, actuals, &row[own..])?;
-            let right = told(alloc, lay, d, actuals, &row[own + left.size..])?;
-            Ok(Part {
-                formula: through(lag_ticks(*m, row, true), right.formula),
-                size: own + left.size + right.size,
-            })
-        }
+        Expr::Delayed(a, m, d) => lag_told(alloc, lay, a, *m, d, actuals, row),
         Expr::If(test, a, d) => {
             if test.holds(lay.system.words(), actuals) {
-                let inner = told(alloc, lay, a, actuals, &row[1..])?;
-                Ok(Part {
-                    formula: inner.formula,
-                    size: 1 + inner.size.max(size_of(d, lay.earlier)),
-                })
+                one_of_told(alloc, lay, a, d, actuals, row)
             } else {
-                let inner = told(alloc, lay, d, actuals, &row[1..])?;
-                Ok(Part {
-                    formula: inner.formula,
-                    size: 1 + inner.size.max(size_of(a, lay.earlier)),
-                })
+                one_of_told(alloc, lay, d, a, actuals, row)
             }
         }
     }
+}
+
+/// An operator of one operand.
+#[cycle(tell)]
+#[tactic(auto, using(crate::proofs::Places::inner_stands))]
+fn one_told(
+    alloc: Global,
+    lay: &Lay<'_>,
+    unary: Unary,
+    a: &Expr,
+    actuals: &[Actual],
+    row: &[u64],
+) -> Result<Part, Memory>
+    requires table { HasTable lay.now }
+    requires groups { length lay.now.earlier.now ≤ length lay.now.system.now.groups }
+    requires shallow { deep (plain_expr a.now) ≤ MAX_LEVELS }
+    requires offsets { WordsFit lay.now a.now }
+    requires stands { MayStand lay.now true a.now }
+    requires actuals { ParamsFit lay.now actuals.now }
+    requires room { 1 + size lay.now a.now ≤ length row.now }
+    requires few { length row.now ≤ MAX_CELLS }
+    ensures formula { IfOk result (λ t. plain t.formula ≡
+        one_formula (one_at lay.now.system.now.words unary (slice_index row.now 0))
+        (formula_of (left_tree lay.now a.now actuals.now 1 row.now))) }
+    ensures size { IfOk result (λ t. t.size ≡ 1 + size lay.now a.now) }
+{
+    let inner = told(alloc, lay, a, actuals, &row[1..])?;
+    Ok(Part {
+        formula: through(is_open(unary, lay.system.words(), row[0]), inner.formula),
+        size: 1 + inner.size,
+    })
+}
+
+/// An operator of two operands.
+#[cycle(tell)]
+#[tactic(auto, using(crate::proofs::Places::inner_stands))]
+fn two_told(
+    alloc: Global,
+    lay: &Lay<'_>,
+    op: ExprOp,
+    a: &Expr,
+    d: &Expr,
+    actuals: &[Actual],
+    row: &[u64],
+) -> Result<Part, Memory>
+    requires table { HasTable lay.now }
+    requires groups { length lay.now.earlier.now ≤ length lay.now.system.now.groups }
+    requires shallow_left { deep (plain_expr a.now) ≤ MAX_LEVELS }
+    requires shallow_right { deep (plain_expr d.now) ≤ MAX_LEVELS }
+    requires offsets_left { WordsFit lay.now a.now }
+    requires offsets_right { WordsFit lay.now d.now }
+    requires stands_left { MayStand lay.now true a.now }
+    requires stands_right { MayStand lay.now true d.now }
+    requires actuals { ParamsFit lay.now actuals.now }
+    requires room { own_cells op + size lay.now a.now + size lay.now d.now ≤ length row.now }
+    requires few { length row.now ≤ MAX_CELLS }
+    ensures formula { IfOk result (λ t. plain t.formula ≡ node_formula (two_at op row.now)
+        (formula_of (left_tree lay.now a.now actuals.now (own_cells op) row.now))
+        (formula_of (right_tree lay.now a.now d.now actuals.now (own_cells op) row.now))) }
+    ensures size { IfOk result (λ t. t.size ≡ own_cells op + size lay.now a.now + size lay.now d.now) }
+{
+    let own = own_cells(op);
+    let left = told(alloc, lay, a, actuals, &row[own..])?;
+    let size = own + left.size;
+    match told(alloc, lay, d, actuals, &row[size..]) {
+        Ok(right) => Ok(Part {
+            formula: joined(alloc, op, row, left.formula, right.formula)?,
+            size: size + right.size,
+        }),
+        Err(fault) => {
+            drop(left);
+            Err(fault)
+        }
+    }
+}
+
+/// A delayed.
+#[cycle(tell)]
+#[tactic(auto, using(crate::proofs::Places::inner_stands, crate::proofs::Evals::open_formula))]
+fn lag_told(
+    alloc: Global,
+    lay: &Lay<'_>,
+    a: &Expr,
+    m: u32,
+    d: &Expr,
+    actuals: &[Actual],
+    row: &[u64],
+) -> Result<Part, Memory>
+    requires table { HasTable lay.now }
+    requires groups { length lay.now.earlier.now ≤ length lay.now.system.now.groups }
+    requires some { 1 ≤ m }
+    requires short { m ≤ MAX_DELAY }
+    requires shallow { deep (plain_expr d.now) ≤ MAX_LEVELS }
+    requires offsets { WordsFit lay.now d.now }
+    requires stands { MayStand lay.now true d.now }
+    requires actuals { ParamsFit lay.now actuals.now }
+    requires room { 2 + words_of m + size lay.now a.now + size lay.now d.now ≤ length row.now }
+    requires few { length row.now ≤ MAX_CELLS }
+    ensures formula { IfOk result (λ t. plain t.formula ≡ two_formula (lag_at m row.now)
+        (formula_of (left_tree lay.now a.now actuals.now (2 + words_of m) row.now))
+        (formula_of (right_tree lay.now a.now d.now actuals.now (2 + words_of m) row.now))) }
+    ensures size { IfOk result (λ t. t.size ≡ 2 + words_of m + size lay.now a.now + size lay.now d.now) }
+{
+    let own = lag_cells(m) + size_of(a, lay.earlier);
+    let right = told(alloc, lay, d, actuals, &row[own..])?;
+    Ok(Part {
+        formula: through(lag_ticks(m, row, true), right.formula),
+        size: own + right.size,
+    })
+}
+
+/// The operand that lives, where two share the cells behind the first one.
+#[cycle(tell)]
+#[tactic(auto, using(crate::proofs::Places::inner_stands))]
+fn one_of_told(
+    alloc: Global,
+    lay: &Lay<'_>,
+    e: &Expr,
+    other: &Expr,
+    actuals: &[Actual],
+    row: &[u64],
+) -> Result<Part, Memory>
+    requires table { HasTable lay.now }
+    requires groups { length lay.now.earlier.now ≤ length lay.now.system.now.groups }
+    requires shallow { deep (plain_expr e.now) ≤ MAX_LEVELS }
+    requires offsets { WordsFit lay.now e.now }
+    requires stands { MayStand lay.now false e.now }
+    requires actuals { ParamsFit lay.now actuals.now }
+    requires room { 1 + max (size lay.now e.now) (size lay.now other.now) ≤ length row.now }
+    requires few { length row.now ≤ MAX_CELLS }
+    ensures formula { IfOk result (λ t. plain t.formula ≡
+        formula_of (left_tree lay.now e.now actuals.now 1 row.now)) }
+    ensures size { IfOk result (λ t. t.size ≡ 1 + max (size lay.now e.now) (size lay.now other.now)) }
+{
+    let part = told(alloc, lay, e, actuals, &row[1..])?;
+    Ok(Part {
+        formula: part.formula,
+        size: 1 + part.size.max(size_of(other, lay.earlier)),
+    })
 }
 
 /// The formula of a call to the group behind all that `lay` has.
