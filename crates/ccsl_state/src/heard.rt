@@ -8,10 +8,11 @@ ghost use Rattle.ccsl_kernel.specs.Deep.{deep};
 ghost use Rattle.ccsl_kernel.specs.Cells.{cells_in};
 ghost use Rattle.ccsl_kernel.specs.Fit.{ActualsFit, TestFits};
 ghost use Rattle.ccsl_kernel.specs.Fitting.{ExprFits};
-ghost use Rattle.ccsl_state.specs.Tree.{formula_of};
-ghost use Rattle.ccsl_state.specs.Layout.{own_cells, two_at, read, region_of};
+ghost use Rattle.ccsl_state.specs.Tree.{formula_of, one_ticks, two_ticks};
+ghost use Rattle.ccsl_state.specs.Layout.{words_of, lag_at, own_cells, two_at, read, region_of};
 ghost use Rattle.ccsl_state.specs.Standing.{is_then, Stands, IsEnough};
-ghost use Rattle.ccsl_state.specs.Regions.{tree, call_tree, size, ticks, HasTable, MayStand, WordsFit, ParamsFit, HasRoom};
+ghost use Rattle.ccsl_state.specs.Nodes.{one_at, node_ticks};
+ghost use Rattle.ccsl_state.specs.Regions.{tree, call_tree, left_tree, right_tree, size, ticks, HasTable, MayStand, WordsFit, ParamsFit, HasRoom};
 
 use crate::cells::{is_then, own_cells, size_of};
 use crate::lag::{lag_cells, lag_ticks};
@@ -20,8 +21,8 @@ use crate::moved::Heard;
 use crate::name::name_ticks;
 use crate::node::{Unary, filter_from, two_ticks};
 use crate::params::actuals_at;
-use ccsl_base::{ClockSet, MAX_CELLS, MAX_LEVELS};
-use ccsl_kernel::{Actual, Expr};
+use ccsl_base::{ClockSet, MAX_CELLS, MAX_DELAY, MAX_LEVELS};
+use ccsl_kernel::{Actual, Expr, ExprOp};
 
 /// Whether an expression ticks, and how many cells its region has.
 #[cycle(hear)]
@@ -62,79 +63,166 @@ pub fn heard(lay: &Lay<'_>, e: &Expr, actuals: &[Actual], row: &[u64], step: &Cl
             size: 1,
         },
         Expr::Binary(op, a, d) => {
-            if is_then(*op) {
-                if row[0] == 0 {
-                    let left = heard(lay, a, actuals, &row[1..], step);
-                    Heard {
-                        tick: left.tick,
-                        size: 1 + left.size.max(size_of(d, lay.earlier)),
-                    }
-                } else {
-                    let right = heard(lay, d, actuals, &row[1..], step);
-                    Heard {
-                        tick: right.tick,
-                        size: 1 + right.size.max(size_of(a, lay.earlier)),
-                    }
-                }
+            if !is_then(*op) {
+                two_heard(lay, *op, a, d, actuals, row, step)
+            } else if row[0] == 0 {
+                one_of_heard(lay, a, d, actuals, row, step)
             } else {
-                let own = own_cells(*op);
-                let left = heard(lay, a, actuals, &row[own..], step);
-                let right = heard(lay, d, actuals, &row[own + left.size..], step);
-                Heard {
-                    tick: two_ticks(*op, row, left.tick, right.tick),
-                    size: own + left.size + right.size,
-                }
+                one_of_heard(lay, d, a, actuals, row, step)
             }
         }
         Expr::Delay(a, m) => {
             let unary = Unary::Delay(m.number(actuals));
-            let inner = heard(lay, a, actuals, &row[1..], step);
-            Heard {
-                tick: unary.ticks(lay.system.words(), row[0], inner.tick),
-                size: 1 + inner.size,
-            }
+            one_heard(lay, unary, a, actuals, row, step)
         }
         Expr::Await(a, m) => {
             let unary = Unary::Await(m.number(actuals));
-            let inner = heard(lay, a, actuals, &row[1..], step);
-            Heard {
-                tick: unary.ticks(lay.system.words(), row[0], inner.tick),
-                size: 1 + inner.size,
-            }
+            one_heard(lay, unary, a, actuals, row, step)
         }
         Expr::Filter(a, word) => {
             let words = lay.system.words();
             let unary = filter_from(words, word.suffix(words, actuals));
-            let inner = heard(lay, a, actuals, &row[1..], step);
-            Heard {
-                tick: unary.ticks(words, row[0], inner.tick),
-                size: 1 + inner.size,
-            }
+            one_heard(lay, unary, a, actuals, row, step)
         }
-        Expr::Delayed(a, m, d) => {
-            let own = lag_cells(*m);
-            let left = heard(lay, a, actuals, &row[own..], step);
-            let right = heard(lay, d, actuals, &row[own + left.size..], step);
-            Heard {
-                tick: lag_ticks(*m, row, right.tick),
-                size: own + left.size + right.size,
-            }
-        }
+        Expr::Delayed(a, m, d) => lag_heard(lay, a, *m, d, actuals, row, step),
         Expr::If(test, a, d) => {
             if test.holds(lay.system.words(), actuals) {
-                let inner = heard(lay, a, actuals, &row[1..], step);
-                Heard {
-                    tick: inner.tick,
-                    size: 1 + inner.size.max(size_of(d, lay.earlier)),
-                }
+                one_of_heard(lay, a, d, actuals, row, step)
             } else {
-                let inner = heard(lay, d, actuals, &row[1..], step);
-                Heard {
-                    tick: inner.tick,
-                    size: 1 + inner.size.max(size_of(a, lay.earlier)),
-                }
+                one_of_heard(lay, d, a, actuals, row, step)
             }
         }
+    }
+}
+
+/// An operator of one operand.
+#[cycle(hear)]
+#[tactic(auto, using(crate::proofs::Places::inner_stands))]
+fn one_heard(
+    lay: &Lay<'_>,
+    unary: Unary,
+    a: &Expr,
+    actuals: &[Actual],
+    row: &[u64],
+    step: &ClockSet,
+) -> Heard
+    requires table { HasTable lay.now }
+    requires groups { length lay.now.earlier.now ≤ length lay.now.system.now.groups }
+    requires shallow { deep (plain_expr a.now) ≤ MAX_LEVELS }
+    requires offsets { WordsFit lay.now a.now }
+    requires stands { MayStand lay.now true a.now }
+    requires actuals { ParamsFit lay.now actuals.now }
+    requires room { 1 + size lay.now a.now ≤ length row.now }
+    requires few { length row.now ≤ MAX_CELLS }
+    ensures tick { result.tick ≡ one_ticks (one_at lay.now.system.now.words unary
+        (slice_index row.now 0)) (ticks (left_tree lay.now a.now actuals.now 1 row.now) step.now) }
+    ensures size { result.size ≡ 1 + size lay.now a.now }
+{
+    let inner = heard(lay, a, actuals, &row[1..], step);
+    Heard {
+        tick: unary.ticks(lay.system.words(), row[0], inner.tick),
+        size: 1 + inner.size,
+    }
+}
+
+/// An operator of two operands.
+#[cycle(hear)]
+#[tactic(auto, using(crate::proofs::Places::inner_stands))]
+fn two_heard(
+    lay: &Lay<'_>,
+    op: ExprOp,
+    a: &Expr,
+    d: &Expr,
+    actuals: &[Actual],
+    row: &[u64],
+    step: &ClockSet,
+) -> Heard
+    requires table { HasTable lay.now }
+    requires groups { length lay.now.earlier.now ≤ length lay.now.system.now.groups }
+    requires shallow_left { deep (plain_expr a.now) ≤ MAX_LEVELS }
+    requires shallow_right { deep (plain_expr d.now) ≤ MAX_LEVELS }
+    requires offsets_left { WordsFit lay.now a.now }
+    requires offsets_right { WordsFit lay.now d.now }
+    requires stands_left { MayStand lay.now true a.now }
+    requires stands_right { MayStand lay.now true d.now }
+    requires actuals { ParamsFit lay.now actuals.now }
+    requires room { own_cells op + size lay.now a.now + size lay.now d.now ≤ length row.now }
+    requires few { length row.now ≤ MAX_CELLS }
+    ensures tick { result.tick ≡ node_ticks (two_at op row.now)
+        (ticks (left_tree lay.now a.now actuals.now (own_cells op) row.now) step.now)
+        (ticks (right_tree lay.now a.now d.now actuals.now (own_cells op) row.now) step.now) }
+    ensures size { result.size ≡ own_cells op + size lay.now a.now + size lay.now d.now }
+{
+    let own = own_cells(op);
+    let left = heard(lay, a, actuals, &row[own..], step);
+    let right = heard(lay, d, actuals, &row[own + left.size..], step);
+    Heard {
+        tick: two_ticks(op, row, left.tick, right.tick),
+        size: own + left.size + right.size,
+    }
+}
+
+/// A delayed.
+#[cycle(hear)]
+#[tactic(auto, using(crate::proofs::Places::inner_stands))]
+fn lag_heard(
+    lay: &Lay<'_>,
+    a: &Expr,
+    m: u32,
+    d: &Expr,
+    actuals: &[Actual],
+    row: &[u64],
+    step: &ClockSet,
+) -> Heard
+    requires table { HasTable lay.now }
+    requires groups { length lay.now.earlier.now ≤ length lay.now.system.now.groups }
+    requires some { 1 ≤ m }
+    requires short { m ≤ MAX_DELAY }
+    requires shallow { deep (plain_expr d.now) ≤ MAX_LEVELS }
+    requires offsets { WordsFit lay.now d.now }
+    requires stands { MayStand lay.now true d.now }
+    requires actuals { ParamsFit lay.now actuals.now }
+    requires room { 2 + words_of m + size lay.now a.now + size lay.now d.now ≤ length row.now }
+    requires few { length row.now ≤ MAX_CELLS }
+    ensures tick { result.tick ≡ two_ticks (lag_at m row.now)
+        (ticks (left_tree lay.now a.now actuals.now (2 + words_of m) row.now) step.now)
+        (ticks (right_tree lay.now a.now d.now actuals.now (2 + words_of m) row.now) step.now) }
+    ensures size { result.size ≡ 2 + words_of m + size lay.now a.now + size lay.now d.now }
+{
+    let own = lag_cells(m) + size_of(a, lay.earlier);
+    let right = heard(lay, d, actuals, &row[own..], step);
+    Heard {
+        tick: lag_ticks(m, row, right.tick),
+        size: own + right.size,
+    }
+}
+
+/// The operand that lives, where two share the cells behind the first one.
+#[cycle(hear)]
+#[tactic(auto, using(crate::proofs::Places::inner_stands))]
+fn one_of_heard(
+    lay: &Lay<'_>,
+    e: &Expr,
+    other: &Expr,
+    actuals: &[Actual],
+    row: &[u64],
+    step: &ClockSet,
+) -> Heard
+    requires table { HasTable lay.now }
+    requires groups { length lay.now.earlier.now ≤ length lay.now.system.now.groups }
+    requires shallow { deep (plain_expr e.now) ≤ MAX_LEVELS }
+    requires offsets { WordsFit lay.now e.now }
+    requires stands { MayStand lay.now false e.now }
+    requires actuals { ParamsFit lay.now actuals.now }
+    requires room { 1 + max (size lay.now e.now) (size lay.now other.now) ≤ length row.now }
+    requires few { length row.now ≤ MAX_CELLS }
+    ensures tick { result.tick ≡ ticks (left_tree lay.now e.now actuals.now 1 row.now) step.now }
+    ensures size { result.size ≡ 1 + max (size lay.now e.now) (size lay.now other.now) }
+{
+    let part = heard(lay, e, actuals, &row[1..], step);
+    Heard {
+        tick: part.tick,
+        size: 1 + part.size.max(size_of(other, lay.earlier)),
     }
 }
 
