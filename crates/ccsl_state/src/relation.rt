@@ -30,13 +30,8 @@ pub fn relation_formula(
         RelationKind::PrecedesWeakly => implies_if(alloc, m == n, b, a),
         RelationKind::PrecedesWithin(most) => {
             let waits = not_if(alloc, m == n, b)?;
-            match implies_if(alloc, is_ahead(m, n, most), a, b) {
-                Ok(follows) => and(alloc, waits, follows),
-                Err(fault) => {
-                    drop(waits);
-                    Err(fault)
-                }
-            }
+            let follows = implies_if(alloc, is_ahead(m, n, most), a, b)?;
+            and(alloc, waits, follows)
         }
     }
 }

@@ -53,47 +53,7 @@ fn is_open(unary: Unary, words: &[Word], cell: u64) -> bool
 fn through(lets: bool, f: Formula) -> Formula
     ensures { plain result ≡ (if lets then plain f else FFalse) }
 {
-    if lets {
-        f
-    } else {
-        drop(f);
-        Formula::False
-    }
-}
-
-fn first(f: Formula, g: Formula) -> Formula
-    ensures { plain result ≡ plain f }
-{
-    drop(g);
-    f
-}
-
-fn second(f: Formula, g: Formula) -> Formula
-    ensures { plain result ≡ plain g }
-{
-    drop(f);
-    g
-}
-
-fn never(f: Formula, g: Formula) -> Formula
-    ensures { plain result ≡ FFalse }
-{
-    drop(f);
-    drop(g);
-    Formula::False
-}
-
-/// The first without the second.
-fn minus(alloc: Global, f: Formula, g: Formula) -> Result<Formula, Memory>
-    ensures { IfOk result (λ r. plain r ≡ FAnd (plain f) (FNot (plain g))) }
-{
-    match not(alloc, g) {
-        Ok(other) => and(alloc, f, other),
-        Err(fault) => {
-            drop(f);
-            Err(fault)
-        }
-    }
+    if lets { f } else { Formula::False }
 }
 
 /// The formula of an operator, from its cells and its operands' formulas.
@@ -110,13 +70,13 @@ fn joined(
     match op {
         ExprOp::Union => or(alloc, f, g),
         ExprOp::Inter => and(alloc, f, g),
-        ExprOp::Minus => minus(alloc, f, g),
+        ExprOp::Minus => and(alloc, f, not(alloc, g)?),
         ExprOp::Inf => {
             let (a, d) = (count_at(head[0]), count_at(head[1]));
             if d < a {
-                Ok(first(f, g))
+                Ok(f)
             } else if a < d {
-                Ok(second(f, g))
+                Ok(g)
             } else {
                 or(alloc, f, g)
             }
@@ -124,26 +84,32 @@ fn joined(
         ExprOp::Sup => {
             let (a, d) = (count_at(head[0]), count_at(head[1]));
             if a < d {
-                Ok(first(f, g))
+                Ok(f)
             } else if d < a {
-                Ok(second(f, g))
+                Ok(g)
             } else {
                 and(alloc, f, g)
             }
         }
         ExprOp::Upto => {
             if head[0] != 0 {
-                Ok(never(f, g))
+                Ok(Formula::False)
             } else {
-                minus(alloc, f, g)
+                and(alloc, f, not(alloc, g)?)
             }
         }
-        ExprOp::UptoWeakly => Ok(through(head[0] == 0, first(f, g))),
-        ExprOp::Then => Ok(never(f, g)),
-        ExprOp::Sampled => Ok(through(head[0] != 0, second(f, g))),
+        ExprOp::UptoWeakly => {
+            if head[0] != 0 {
+                Ok(Formula::False)
+            } else {
+                Ok(f)
+            }
+        }
+        ExprOp::Then => Ok(Formula::False),
+        ExprOp::Sampled => Ok(through(head[0] != 0, g)),
         ExprOp::SampledWeakly => {
             if head[0] != 0 {
-                Ok(second(f, g))
+                Ok(g)
             } else {
                 and(alloc, g, f)
             }
@@ -291,16 +257,11 @@ fn two_told(
     let own = own_cells(op);
     let left = told(alloc, lay, a, actuals, &row[own..])?;
     let size = own + left.size;
-    match told(alloc, lay, d, actuals, &row[size..]) {
-        Ok(right) => Ok(Part {
-            formula: joined(alloc, op, row, left.formula, right.formula)?,
-            size: size + right.size,
-        }),
-        Err(fault) => {
-            drop(left);
-            Err(fault)
-        }
-    }
+    let right = told(alloc, lay, d, actuals, &row[size..])?;
+    Ok(Part {
+        formula: joined(alloc, op, row, left.formula, right.formula)?,
+        size: size + right.size,
+    })
 }
 
 /// A delayed.
