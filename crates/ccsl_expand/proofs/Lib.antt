@@ -1,3 +1,4 @@
+pub mod Height
 pub mod Lookups
 pub mod Callees
 pub mod Walks

@@ -5,10 +5,19 @@ use ccsl_base::Text;
 
 /// What a name of a body stands for: a clock of the system by its whole name, a number, a word of the table with an offset,
 /// or, in the body of an expression, its own parameter with its kind.
-#[derive(Drop)]
 pub enum Atom {
     Clock(Text),
     Number(u32),
     Word(u32, u64),
     Param(u32, Kind),
+}
+
+// One call wherever an atom goes, as for a setting.
+impl Drop for Atom {
+    fn drop(self) {
+        match self {
+            Atom::Clock(_whole) => {}
+            Atom::Number(_) | Atom::Word(_, _) | Atom::Param(_, _) => {}
+        }
+    }
 }

@@ -7,7 +7,7 @@ ghost use Rattle.ccsl_ast.specs.Files.{plain_file};
 ghost use Rattle.ccsl_kernel.specs.Plain.{plain_expr, plain_group, plain_system};
 ghost use Rattle.ccsl_rules.specs.Texts.{block_texts, sheet_texts};
 ghost use Rattle.ccsl_rules.specs.Unfolded.{own_clocks, unfold_body};
-ghost use Rattle.ccsl_rules.specs.Expansion.{declared_names, written_item, hidden_item, item_definition, names_of, words_of, expand};
+ghost use Rattle.ccsl_rules.specs.Expansion.{declared_names, written_item, hidden_item, item_definition, constraint_of, names_of, words_of, expand};
 ghost use Rattle.ccsl_spaces.specs.Callees.{seen_call};
 ghost use Rattle.ccsl_expand.specs.Numbered.{word_in, numbered, numbered_groups};
 ghost use Rattle.ccsl_expand.specs.Seen.{seen_tables, seen_block};
@@ -25,7 +25,7 @@ use crate::texts::{Block, read_definitions, read_system};
 use crate::unfold::{Sources, unfold_system};
 use ccsl_ast::{File, SystemLine};
 use ccsl_base::{Memory, Seq, Text};
-use ccsl_kernel::{Expr, Parts};
+use ccsl_kernel::{Constraint, Expr, Group, Parts};
 use ccsl_spaces::{Callee, Space, calls_space};
 use ccsl_words::Word;
 use std::alloc::Global;
@@ -144,6 +144,38 @@ fn definitions(
     Ok(out)
 }
 
+/// What the tables are needed for: the groups, the definitions and the constraints.
+#[derive(Drop)]
+struct Contents {
+    groups: Seq<Group>,
+    definitions: Seq<Expr>,
+    constraints: Seq<Constraint>,
+}
+
+fn contents_of(
+    alloc: Global,
+    tables: &Tables<'_, '_>,
+    blocks: &[Block<'_>],
+    items: &[Item<'_>],
+) -> Result<Contents, Memory>
+    ensures groups { IfOk result (λ made. map plain_group made.groups ≡
+        numbered_groups (seen_tables tables.now) (map seen_block blocks.now)) }
+    ensures definitions { IfOk result (λ made. map plain_expr made.definitions ≡
+        map (item_definition (seen_tables tables.now))
+        (filter_map written_item (map seen_item items.now) ++ filter_map hidden_item (map seen_item items.now))) }
+    ensures constraints { IfOk result (λ made. made.constraints ≡
+        filter_map (constraint_of tables.now.names.now) (map seen_item items.now)) }
+{
+    let constraints = constraints(alloc, tables.names, items)?;
+    let groups = groups(alloc, tables, blocks)?;
+    let definitions = definitions(alloc, tables, items)?;
+    Ok(Contents {
+        groups: Seq::new(groups),
+        definitions: Seq::new(definitions),
+        constraints: Seq::new(constraints),
+    })
+}
+
 fn parts<'a>(
     alloc: Global,
     calls: &Space<'a, Callee<'a>>,
@@ -161,22 +193,20 @@ fn parts<'a>(
 {
     let named = named(alloc, lines, items)?;
     let names = table(alloc, &named.names)?;
-    let constraints = constraints(alloc, &names, items)?;
     let tables = Tables {
         names: &names,
         words: &words,
         calls,
     };
-    let groups = groups(alloc, &tables, blocks)?;
-    let definitions = definitions(alloc, &tables, items)?;
+    let contents = contents_of(alloc, &tables, blocks, items)?;
     Ok(Parts {
         names,
         declared: named.declared,
         written: named.written,
-        groups: Seq::new(groups),
+        groups: contents.groups,
         words: Seq::new(words),
-        definitions: Seq::new(definitions),
-        constraints: Seq::new(constraints),
+        definitions: contents.definitions,
+        constraints: contents.constraints,
     })
 }
 

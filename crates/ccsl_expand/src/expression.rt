@@ -2,14 +2,14 @@
 
 ghost use Rattle.std.specs.Prelude.{◌≡◌, ◌+◌, length, flat_map, IfOk, OnOk};
 ghost use Rattle.std.specs.Option.{option_map};
-ghost use Rattle.ccsl_ast.specs.Trees.{plain};
+ghost use Rattle.ccsl_ast.specs.Trees.{plain, EFilter, EIf};
 ghost use Rattle.ccsl_kernel.specs.Syntax.{ECall};
 ghost use Rattle.ccsl_kernel.specs.Plain.{plain_expr};
 ghost use Rattle.ccsl_rules.specs.Spaces.{look};
 ghost use Rattle.ccsl_rules.specs.Texts.{texts, argument_texts};
 ghost use Rattle.ccsl_rules.specs.Settings.{atom_of};
 ghost use Rattle.ccsl_rules.specs.Uses.{single};
-ghost use Rattle.ccsl_rules.specs.Resolved.{alone, param_value, atom_value, resolve_op, resolve, resolve_call};
+ghost use Rattle.ccsl_rules.specs.Resolved.{alone, param_value, atom_value, resolve_op, resolve_term, resolve, resolve_call};
 ghost use Rattle.ccsl_rules.specs.Resolved.{resolve_argument, resolve_arguments};
 ghost use Rattle.ccsl_expand.specs.Seen.{seen_tables};
 
@@ -18,7 +18,7 @@ use crate::callee::callee;
 use crate::setting::Setting;
 use crate::tables::{Tables, clock_number};
 use crate::term::{place, tail, take_text, term, test, word};
-use ccsl_ast::{Argument, BinaryOp, Kind, Primary, Spot, Term, Tree};
+use ccsl_ast::{Argument, BinaryOp, Kind, Primary, Spot, Term, Test, Tree, WordTerm};
 use ccsl_base::{Memory, Seq};
 use ccsl_kernel::{Expr, ExprOp, NumPrim, NumTerm, Place, Value, WordPlace};
 use ccsl_spaces::Role;
@@ -151,7 +151,122 @@ fn member_call(group: usize, number: usize, args: Seq<Value>) -> Result<Expr, Me
     })
 }
 
+// Two operands on the heap, the left one first; the left one goes by a call where the right one is not made.
+#[cycle(resolving)]
+fn operands(
+    alloc: Global,
+    tables: &Tables<'_, '_>,
+    setting: &Setting,
+    next: &mut u32,
+    left: &Tree,
+    right: &Tree,
+) -> Result<(Box<Expr>, Box<Expr>), Memory>
+    ensures left { IfOk result (λ both.
+        plain_expr both.0.value ≡ resolve (seen_tables tables.now) setting.now next.old (plain left.now)) }
+    ensures right { IfOk result (λ both. plain_expr both.1.value ≡
+        resolve (seen_tables tables.now) setting.now (next.old + length (texts (plain left.now))) (plain right.now)) }
+    ensures next { OnOk result (next.new ≡
+        next.old + (length (texts (plain left.now)) + length (texts (plain right.now)))) }
+{
+    let left = operand(alloc, tables, setting, next, left)?;
+    match operand(alloc, tables, setting, next, right) {
+        Ok(right) => Ok((left, right)),
+        Err(fault) => {
+            drop(left);
+            Err(fault)
+        }
+    }
+}
+
+// An operand on the heap.
+#[cycle(resolving)]
+fn operand(
+    alloc: Global,
+    tables: &Tables<'_, '_>,
+    setting: &Setting,
+    next: &mut u32,
+    tree: &Tree,
+) -> Result<Box<Expr>, Memory>
+    ensures expression { IfOk result (λ e.
+        plain_expr e.value ≡ resolve (seen_tables tables.now) setting.now next.old (plain tree.now)) }
+    ensures next { OnOk result (next.new ≡ next.old + length (texts (plain tree.now))) }
+{
+    let expression = resolve(alloc, tables, setting, next, tree)?;
+    Ok(Box::new(alloc, expression)?)
+}
+
+// An operand filtered by a word. The word's text comes behind those of the operand.
+#[cycle(resolving)]
+fn filtered(
+    alloc: Global,
+    tables: &Tables<'_, '_>,
+    setting: &Setting,
+    next: &mut u32,
+    tree: &Tree,
+    by: &WordTerm,
+) -> Result<Expr, Memory>
+    ensures expression { IfOk result (λ e. plain_expr e ≡
+        resolve (seen_tables tables.now) setting.now next.old (EFilter (plain tree.now) by.now)) }
+    ensures next { OnOk result (next.new ≡
+        next.old + length (texts (EFilter (plain tree.now) by.now))) }
+{
+    let operand = operand(alloc, tables, setting, next, tree)?;
+    match word(tables, setting, next, by) {
+        Ok(word) => Ok(Expr::Filter(operand, word)),
+        Err(fault) => {
+            drop(operand);
+            Err(fault)
+        }
+    }
+}
+
+// An operand with the number behind its operator.
+#[cycle(resolving)]
+fn counted(
+    alloc: Global,
+    tables: &Tables<'_, '_>,
+    setting: &Setting,
+    next: &mut u32,
+    tree: &Tree,
+    count: &Term,
+) -> Result<(Box<Expr>, NumTerm), Memory>
+    ensures expression { IfOk result (λ both. plain_expr both.0.value ≡
+        resolve (seen_tables tables.now) setting.now next.old (plain tree.now)) }
+    ensures count { IfOk result (λ both. both.1 ≡ resolve_term setting.now count.now) }
+    ensures next { OnOk result (next.new ≡ next.old + length (texts (plain tree.now))) }
+{
+    let count = term(alloc, setting, count)?;
+    Ok((operand(alloc, tables, setting, next, tree)?, count))
+}
+
+#[cycle(resolving)]
+fn choice(
+    alloc: Global,
+    tables: &Tables<'_, '_>,
+    setting: &Setting,
+    next: &mut u32,
+    asked: &Test,
+    first: &Tree,
+    second: &Tree,
+) -> Result<Expr, Memory>
+    ensures expression { IfOk result (λ e. plain_expr e ≡
+        resolve (seen_tables tables.now) setting.now next.old (EIf asked.now (plain first.now) (plain second.now))) }
+    ensures next { OnOk result (next.new ≡
+        next.old + length (texts (EIf asked.now (plain first.now) (plain second.now)))) }
+{
+    let (first, second) = operands(alloc, tables, setting, next, first, second)?;
+    match test(alloc, setting, asked) {
+        Ok(asked) => Ok(Expr::If(asked, first, second)),
+        Err(fault) => {
+            drop(first);
+            drop(second);
+            Err(fault)
+        }
+    }
+}
+
 /// An expression under a setting. `next` is the number of its first text before, and of the text behind it after.
+#[cycle(resolving)]
 pub fn resolve(
     alloc: Global,
     tables: &Tables<'_, '_>,
@@ -171,31 +286,22 @@ pub fn resolve(
         }
         Tree::Never => Ok(Expr::Never),
         Tree::Binary(op, a, d) => {
-            let a = Box::new(alloc, resolve(alloc, tables, setting, next, a)?)?;
-            let d = Box::new(alloc, resolve(alloc, tables, setting, next, d)?)?;
+            let (a, d) = operands(alloc, tables, setting, next, a, d)?;
             Ok(Expr::Binary(operator(*op), a, d))
         }
         Tree::Delay(a, m) => {
-            let a = Box::new(alloc, resolve(alloc, tables, setting, next, a)?)?;
-            Ok(Expr::Delay(a, term(alloc, setting, m)?))
+            let (a, m) = counted(alloc, tables, setting, next, a, m)?;
+            Ok(Expr::Delay(a, m))
         }
         Tree::Await(a, m) => {
-            let a = Box::new(alloc, resolve(alloc, tables, setting, next, a)?)?;
-            Ok(Expr::Await(a, term(alloc, setting, m)?))
+            let (a, m) = counted(alloc, tables, setting, next, a, m)?;
+            Ok(Expr::Await(a, m))
         }
-        Tree::Filter(a, w) => {
-            let a = Box::new(alloc, resolve(alloc, tables, setting, next, a)?)?;
-            Ok(Expr::Filter(a, word(tables, setting, next, w)?))
-        }
+        Tree::Filter(a, w) => filtered(alloc, tables, setting, next, a, w),
         Tree::Delayed(a, _, m, d) => {
-            let a = Box::new(alloc, resolve(alloc, tables, setting, next, a)?)?;
-            let d = Box::new(alloc, resolve(alloc, tables, setting, next, d)?)?;
+            let (a, d) = operands(alloc, tables, setting, next, a, d)?;
             Ok(Expr::Delayed(a, *m, d))
         }
-        Tree::If(q, a, d) => {
-            let a = Box::new(alloc, resolve(alloc, tables, setting, next, a)?)?;
-            let d = Box::new(alloc, resolve(alloc, tables, setting, next, d)?)?;
-            Ok(Expr::If(test(alloc, setting, q)?, a, d))
-        }
+        Tree::If(q, a, d) => choice(alloc, tables, setting, next, q, a, d),
     }
 }

@@ -19,10 +19,19 @@ use std::alloc::Global;
 use std::rc::Rc;
 
 /// The path of a body, and what its names stand for.
-#[derive(Drop)]
 pub struct Frame {
     pub path: Text,
     pub setting: Rc<Setting>,
+}
+
+// One call wherever a frame goes, as for a setting.
+impl Drop for Frame {
+    fn drop(self) {
+        let Frame {
+            path: _path,
+            setting: _setting,
+        } = self;
+    }
 }
 
 // A name of a body stands for the clock with the path before the name.

@@ -13,7 +13,6 @@ use std::marker::Model;
 
 /// What the names of a body stand for, in the order of their declarations; of two entries for a name the first counts. A
 /// look-up takes constant time.
-#[derive(Drop)]
 pub struct Setting {
     alloc: Global,
     names: Vec<Text>,
@@ -34,6 +33,18 @@ impl Model for Setting {
     ghost invariant = { λ s. HasEntries s.first s.names.items s.atoms.items };
 }
 
+// One call wherever a setting goes, and not a step for each of its parts.
+impl Drop for Setting {
+    fn drop(self) {
+        let Setting {
+            alloc: _,
+            names: _names,
+            atoms: _atoms,
+            first: _first,
+        } = self;
+    }
+}
+
 impl Setting {
     /// A setting without names.
     pub fn new(alloc: Global) -> Setting
@@ -48,14 +59,26 @@ impl Setting {
     }
 
     /// The setting with one more entry.
-    pub fn with(mut self, name: &[u8], atom: Atom) -> Result<Setting, Memory>
+    pub fn with(self, name: &[u8], atom: Atom) -> Result<Setting, Memory>
         ensures { IfOk result (λ s. s ≡ self ++ (name.now, seen_atom atom) ∷ []) }
     {
-        let text = Text::new(Vec::from_slice(self.alloc, name)?);
-        self.first.add(name, self.names.len())?;
-        self.names.push(text)?;
-        self.atoms.push(atom)?;
-        Ok(self)
+        // taken apart, since it is no setting while its lists differ in length
+        let Setting {
+            alloc,
+            mut names,
+            mut atoms,
+            mut first,
+        } = self;
+        let text = Text::new(Vec::from_slice(alloc, name)?);
+        first.add(name, names.len())?;
+        names.push(text)?;
+        atoms.push(atom)?;
+        Ok(Setting {
+            alloc,
+            names,
+            atoms,
+            first,
+        })
     }
 
     /// What a name stands for.

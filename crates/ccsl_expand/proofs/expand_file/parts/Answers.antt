@@ -22,10 +22,8 @@ returns c =
     let blocks = map seen_block c.args.blocks.now in
     let declared = flat_map declared_names (map plain_sline c.args.lines.now) in
     let items = map seen_item c.args.items.now in
-    parts-whole c.deref-2.result.now calls blocks declared items c.new-2.result c.in_ok-names.names c.in_ok-named.named.declared c.in_ok-named.named.written
-    (map plain_group c.new.result) (map plain_expr c.new-3.result) c.new-4.result
-    (c.new-2.ensures ∙ sym c.deref-2.ensures.value) (c.in_ok-names.ensures ∙ (c.deref.ensures.value ∙ c.in_ok-named.ensures.names)) c.in_ok-named.ensures.declared c.in_ok-named.ensures.written
-    (ap (map plain_group) c.new.ensures ∙ c.in_ok-groups.ensures)
-    (ap (map plain_expr) c.new-3.ensures ∙ c.in_ok-definitions.ensures)
-    (c.new-4.ensures ∙ c.in_ok-constraints.ensures)
+    parts-whole c.deref-2.result.now calls blocks declared items c.new.result c.in_ok-names.names c.in_ok-named.named.declared c.in_ok-named.named.written
+    (map plain_group c.in_ok-contents.contents.groups) (map plain_expr c.in_ok-contents.contents.definitions) c.in_ok-contents.contents.constraints
+    (c.new.ensures ∙ sym c.deref-2.ensures.value) (c.in_ok-names.ensures ∙ (c.deref.ensures.value ∙ c.in_ok-named.ensures.names)) c.in_ok-named.ensures.declared c.in_ok-named.ensures.written
+    c.in_ok-contents.ensures.groups c.in_ok-contents.ensures.definitions c.in_ok-contents.ensures.constraints
     ∙ ap (λ w. expanded w calls blocks declared items) c.deref-2.ensures.value

@@ -19,8 +19,8 @@ returns c =
     ∙ zip-append s.names.items atoms c.args.name.now (seen_atom c.args.atom) whole
     ∙ ap (λ σ. σ ++ (c.args.name.now, seen_atom c.args.atom) ∷ []) c.self.view_is
 
-pub invariant_of-self : goal.invariant_of-self
-invariant_of-self c =
+pub invariant_of-result : goal.invariant_of-result
+invariant_of-result c =
     let s = c.self.inside in
     let names : c.push.new.self.items ≡ s.names.items ++ c.args.name.now ∷ [] = grind (arith, common_steps) in
     let items : c.push-2.new.self.items ≡ s.atoms.items ++ c.args.atom ∷ [] = grind (arith, common_steps) in
