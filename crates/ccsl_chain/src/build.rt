@@ -25,7 +25,10 @@ fn groups(alloc: Global) -> Result<Seq<Group>, Memory>
         definitions: Seq::new(Vec::new(alloc)),
         lines: Seq::new(Vec::new(alloc)),
     };
-    Ok(expand(alloc, &library, &file)?.groups)
+    let expanded = expand(alloc, &library, &file);
+    drop(library);
+    drop(file);
+    Ok(expanded?.groups)
 }
 
 fn parts(alloc: Global, clocks: u32) -> Result<Parts, Memory>
@@ -33,14 +36,15 @@ fn parts(alloc: Global, clocks: u32) -> Result<Parts, Memory>
     requires most { clocks ≤ MAX_TRIAL_CLOCKS }
     ensures { IfOk result (λ parts. plain_system parts ≡ chain clocks) }
 {
+    // the names last, so that nothing fails while they are held
     Ok(Parts {
-        names: names(alloc, clocks)?,
         declared: clocks,
         written: clocks,
         groups: groups(alloc)?,
-        words: Seq::new(Vec::new(alloc)),
         definitions: Seq::new(definitions(alloc, clocks - 1)?),
         constraints: Seq::new(constraints(alloc, clocks)?),
+        names: names(alloc, clocks)?,
+        words: Seq::new(Vec::new(alloc)),
     })
 }
 
