@@ -12,7 +12,7 @@ pub enum Atom {
     Param(u32, Kind),
 }
 
-// One call wherever an atom goes, as for a setting.
+// By hand and not derived: to the prover, an early return then drops one by a single call.
 impl Drop for Atom {
     fn drop(self) {
         match self {

@@ -151,7 +151,7 @@ fn member_call(group: usize, number: usize, args: Seq<Value>) -> Result<Expr, Me
     })
 }
 
-// Two operands on the heap, the left one first; the left one goes by a call where the right one is not made.
+// Two operands on the heap, the left one first.
 #[cycle(resolving)]
 fn operands(
     alloc: Global,
@@ -169,13 +169,8 @@ fn operands(
         next.old + (length (texts (plain left.now)) + length (texts (plain right.now)))) }
 {
     let left = operand(alloc, tables, setting, next, left)?;
-    match operand(alloc, tables, setting, next, right) {
-        Ok(right) => Ok((left, right)),
-        Err(fault) => {
-            drop(left);
-            Err(fault)
-        }
-    }
+    let right = operand(alloc, tables, setting, next, right)?;
+    Ok((left, right))
 }
 
 // An operand on the heap.
@@ -211,13 +206,8 @@ fn filtered(
         next.old + length (texts (EFilter (plain tree.now) by.now))) }
 {
     let operand = operand(alloc, tables, setting, next, tree)?;
-    match word(tables, setting, next, by) {
-        Ok(word) => Ok(Expr::Filter(operand, word)),
-        Err(fault) => {
-            drop(operand);
-            Err(fault)
-        }
-    }
+    let word = word(tables, setting, next, by)?;
+    Ok(Expr::Filter(operand, word))
 }
 
 // An operand with the number behind its operator.
@@ -239,6 +229,7 @@ fn counted(
     Ok((operand(alloc, tables, setting, next, tree)?, count))
 }
 
+// A choice between two operands by a test.
 #[cycle(resolving)]
 fn choice(
     alloc: Global,
@@ -255,14 +246,8 @@ fn choice(
         next.old + length (texts (EIf asked.now (plain first.now) (plain second.now)))) }
 {
     let (first, second) = operands(alloc, tables, setting, next, first, second)?;
-    match test(alloc, setting, asked) {
-        Ok(asked) => Ok(Expr::If(asked, first, second)),
-        Err(fault) => {
-            drop(first);
-            drop(second);
-            Err(fault)
-        }
-    }
+    let asked = test(alloc, setting, asked)?;
+    Ok(Expr::If(asked, first, second))
 }
 
 /// An expression under a setting. `next` is the number of its first text before, and of the text behind it after.

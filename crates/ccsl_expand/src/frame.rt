@@ -24,7 +24,7 @@ pub struct Frame {
     pub setting: Rc<Setting>,
 }
 
-// One call wherever a frame goes, as for a setting.
+// By hand and not derived: to the prover, an early return then drops one by a single call.
 impl Drop for Frame {
     fn drop(self) {
         let Frame {

@@ -33,7 +33,7 @@ impl Model for Setting {
     ghost invariant = { λ s. HasEntries s.first s.names.items s.atoms.items };
 }
 
-// One call wherever a setting goes, and not a step for each of its parts.
+// By hand and not derived: to the prover, an early return then drops one by a single call.
 impl Drop for Setting {
     fn drop(self) {
         let Setting {
@@ -62,7 +62,7 @@ impl Setting {
     pub fn with(self, name: &[u8], atom: Atom) -> Result<Setting, Memory>
         ensures { IfOk result (λ s. s ≡ self ++ (name.now, seen_atom atom) ∷ []) }
     {
-        // taken apart, since it is no setting while its lists differ in length
+        // Taken apart, since it is no setting while its lists differ in length.
         let Setting {
             alloc,
             mut names,
