@@ -11,6 +11,7 @@ use Rattle.ccsl_solve.specs.Conflict.{IsConflict, IsClause}
 use Rattle.ccsl_solve.specs.Plan.{IsCause}
 use Rattle.ccsl_solve.proofs.Tests.{open-test, not-open-test}
 use Rattle.ccsl_solve.proofs.Parts.{inside-with, inside-under}
+use Rattle.ccsl_solve.proofs.Lines.{extends-trans}
 use Rattle.ccsl_solve.proofs.Clauses.{clause-more}
 use Rattle.ccsl_solve.proofs.Conflicts.{without-value}
 use Rattle.ccsl_solve.proofs.Best.{first-best, second-best}
@@ -376,3 +377,18 @@ returns-clause-finds t c =
       subst (λ (ls : List Line). IsConflict q.scope ls p (known conflict.part.value) (reverse conflict.hints.items)) c.deref-3.ensures.value
           (subst (λ (w : Part). IsConflict q.scope c.deref-3.result.now w (known conflict.part.value) (reverse conflict.hints.items)) two.0 c.in_ok-conflict-2.ensures),
     )
+
+pub returns-in-Some-by-clause-extends : goal.returns-in-Some-by-clause-extends
+returns-in-Some-by-clause-extends t c = extends-trans _ _ _ c.in_ok-first.ensures.extends c.in_ok-conflict.ensures.extends
+
+pub returns-in_default-2-clause-extends : goal.returns-in_default-2-clause-extends
+returns-in_default-2-clause-extends t c =
+    extends-trans _ _ _ c.in_ok-first.ensures.extends (extends-trans _ _ _ c.in_ok-line.ensures.extends c.in_ok-second.ensures.extends)
+
+pub returns-then-is_free_of-2-clause-extends : goal.returns-then-is_free_of-2-clause-extends
+returns-then-is_free_of-2-clause-extends t c =
+    extends-trans _ _ _ c.in_ok-first.ensures.extends (extends-trans _ _ _ c.in_ok-line.ensures.extends c.in_ok-second.ensures.extends)
+
+pub returns-clause-extends : goal.returns-clause-extends
+returns-clause-extends t c =
+    extends-trans _ _ _ c.in_ok-first.ensures.extends (extends-trans _ _ _ c.in_ok-line.ensures.extends c.in_ok-second.ensures.extends)
