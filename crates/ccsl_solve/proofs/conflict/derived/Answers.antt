@@ -8,6 +8,7 @@ use Rattle.ccsl_solve.specs.Conflict.{IsConflict, IsClause, IsDenial}
 use Rattle.ccsl_solve.specs.Under.{IsInside}
 use Rattle.ccsl_solve.specs.Posed.{asked}
 use Rattle.ccsl_solve.proofs.Conflicts.{added-derived}
+use Rattle.ccsl_solve.proofs.Lines.{extends-snoc}
 use Rattle.ccsl_solve.proofs.conflict.derived.Goals as goal
 
 added : (c : goal.After-len) →
@@ -33,3 +34,6 @@ returns-clause-valid c = (added c).0
 
 pub returns-clause-clause : goal.returns-clause-clause
 returns-clause-clause c = (added c).1
+
+pub returns-clause-extends : goal.returns-clause-extends
+returns-clause-extends c = extends-snoc _ _ _ c.in_ok-push.ensures.items

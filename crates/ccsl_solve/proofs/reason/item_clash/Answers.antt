@@ -11,6 +11,7 @@ use Rattle.ccsl_solve.specs.Conflict.{IsClause, IsDenial}
 use Rattle.ccsl_solve.specs.Posed.{asked}
 use Rattle.ccsl_solve.proofs.Parts.{inside-under}
 use Rattle.ccsl_solve.proofs.Clauses.{added-item, refuted-inside, read-map}
+use Rattle.ccsl_solve.proofs.Lines.{extends-snoc}
 use Rattle.ccsl_solve.proofs.reason.item_clash.Goals as goal
 
 added : (c : goal.In_ok-new) →
@@ -43,3 +44,6 @@ returns-clause-clause c =
 pub returns-clause-within : goal.returns-clause-within
 returns-clause-within c =
     subst (λ (q : List (ℕ × Bool)). Under (known q) (known c.args.part.now)) (sym c.in_ok-new.ensures.ok) c.in_ok-part.ensures.within
+
+pub returns-clause-extends : goal.returns-clause-extends
+returns-clause-extends c = extends-snoc _ _ _ c.in_ok-push.ensures.items
