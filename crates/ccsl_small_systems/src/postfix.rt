@@ -182,8 +182,8 @@ impl Reading {
     }
 
     fn clock_arg(&mut self) -> Result<(), Memory> {
-        let place = match self.pop() {
-            Expr::Name(place) => place,
+        let place = match &self.pop() {
+            Expr::Name(place) => *place,
             _ => Place::Clock(0),
         };
         self.arg(Value::Clock(place))
