@@ -1,5 +1,5 @@
 use Rattle.std.proofs.Common.{◌≡◌}
-use Rattle.ccsl_run_tests.proofs.possible.asked.go_on.Given as goal
+use Rattle.ccsl_top_tests.proofs.possible.asked.go_on.Given as goal
 
 -- the states are those of the same system
 abbrev pub invariant-loop-step : goal.invariant-loop-step
