@@ -21,7 +21,7 @@ pub(crate) struct Cut {
 fn weight_of(system: &System, bound: &ClockSet, item: u32) -> u64
     requires { item < item_count system.now }
     ensures weight { result ≡ spec.weight_of system.now bound.now item }
-    ensures most { result ≤ 16 }
+    ensures most { result ≤ WITH_STATES }
 {
     let declared = system.scope().declared;
     let definitions = system.definitions();
@@ -56,12 +56,12 @@ pub(crate) fn weight_of_all(system: &System, bound: &ClockSet) -> u64
 pub(crate) fn next_cut(system: &System, bound: &ClockSet, cut: Cut, left: u32, all: u64) -> Cut
     requires left { 1 ≤ left }
     requires room { cut.item + left ≤ item_count system.now }
-    requires weight { cut.weight ≤ cut.item * 16 }
+    requires weight { cut.weight ≤ cut.item * WITH_STATES }
     requires weighed { cut.weight ≡ spec.weight_before system.now bound.now cut.item }
     ensures behind { cut.item < result.item }
     ensures room { result.item + left ≤ item_count system.now + 1 }
     ensures last { left ≡ 1 → result.item ≡ item_count system.now }
-    ensures weight { result.weight ≤ result.item * 16 }
+    ensures weight { result.weight ≤ result.item * WITH_STATES }
     ensures weighed { result.weight ≡ spec.weight_before system.now bound.now result.item }
     ensures reaches { (spec.aim cut.weight left all ≤ result.weight) ⊎ (result.item + left ≡ item_count system.now + 1) }
     ensures below { (n : ℕ) → 2 ≤ left → cut.item < n → n < result.item →

@@ -2,9 +2,10 @@
 #![tactic(auto)]
 
 pub mod laws;
-mod scan;
+pub mod scan;
 pub mod span;
 pub mod tokenizer;
 
+pub use scan::{is_space, run_end};
 pub use span::{Fed, Span, TokenTooLong};
 pub use tokenizer::Tokenizer;

@@ -10,9 +10,10 @@ use std::simd::prelude::*;
 
 pub(crate) const LANES: usize = 16;
 
+/// Whether a byte is white space.
 #[inline(always)]
 #[tactic(auto, unfolding(crate::specs::Tokens::is_white))]
-pub(crate) fn is_space(b: u8) -> bool
+pub fn is_space(b: u8) -> bool
     ensures { result ≡ is_white b }
 {
     (b >= 9 && b <= 13) || b == 32
@@ -53,9 +54,9 @@ fn run_end_slowly(bytes: &[u8], from: usize) -> usize
     i
 }
 
-// Where the run of bytes ends that are not white and begin at a place.
+/// Where the run of bytes ends that are not white and begin at a place.
 #[inline(always)]
-pub(crate) fn run_end(bytes: &[u8], from: usize) -> usize
+pub fn run_end(bytes: &[u8], from: usize) -> usize
     requires { from ≤ length bytes.now }
     ensures within { result ≤ length bytes.now }
     ensures value { result ≡ from + prefix_len is_dark (drop from bytes.now) }

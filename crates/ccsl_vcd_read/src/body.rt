@@ -10,10 +10,11 @@ ghost use Rattle.ccsl_vcd_read.specs.Meant.{meant, rest_of};
 use crate::amid::Amid;
 use crate::codes::{Codes, code_at_front};
 use crate::marks::Marks;
-use crate::scan::{bits_at_front, digits_at_front, is_bit, is_space, run_end};
+use crate::scan::{bits_at_front, digits_at_front, is_bit};
 use crate::word::{Word, is_text, last_of, word_of};
 use ccsl_base::{Block, MAX_TOKEN_BYTES};
 use ccsl_vcd::VcdFault;
+use ccsl_vcd_lex::{is_space, run_end};
 
 /// What is kept of a body that is being read.
 #[derive(Drop)]

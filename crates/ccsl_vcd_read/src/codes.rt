@@ -5,9 +5,9 @@ ghost use Rattle.ccsl_bind.specs.Codes.{number_of};
 ghost use Rattle.ccsl_vcd_lex.specs.Tokens.{is_white};
 ghost use Rattle.ccsl_vcd_read.specs.Places.{is_visible, place_of, IsCode};
 
-use crate::scan::is_space;
 use ccsl_base::{ClockSet, Memory};
 use ccsl_bind::Binding;
+use ccsl_vcd_lex::is_space;
 use std::alloc::Global;
 use std::marker::Model;
 
@@ -26,13 +26,13 @@ pub(crate) struct Codes {
 impl Model for Codes {
     ghost use Rattle.std.specs.Prelude.{◌≤◌, vec_len, vec_capacity};
     ghost use Rattle.ccsl_bind.specs.Bindings.{Bindings};
-    ghost use Rattle.ccsl_vcd_read.specs.Places.{AreFound};
+    ghost use Rattle.ccsl_vcd_read.specs.Places.{SHORT, AreFound};
 
     ghost Value = { Bindings };
 
     ghost view = { λ c. c.binding };
 
-    ghost invariant = { λ c. (vec_len c.table ≤ 839514) × (839514 ≤ vec_capacity c.table) × AreFound c.table.items c.binding.codes };
+    ghost invariant = { λ c. (vec_len c.table ≤ SHORT) × (SHORT ≤ vec_capacity c.table) × AreFound c.table.items c.binding.codes };
 }
 
 #[inline(always)]
@@ -77,7 +77,7 @@ fn place_of_three(a: u8, b: u8, c: u8) -> usize
     requires second { is_visible b ≡ true }
     requires third { is_visible c ≡ true }
     ensures value { result ≡ place_of (a ∷ b ∷ c ∷ []) }
-    ensures within { result < 839514 }
+    ensures within { result < SHORT }
 {
     place_of_two(a, b) + 8836 * (c as usize - 32)
 }
@@ -86,7 +86,7 @@ fn place_of_three(a: u8, b: u8, c: u8) -> usize
 #[inline(always)]
 fn place(code: &[u8]) -> usize
     ensures value { result ≡ place_of code.now }
-    ensures within { result ≤ 839514 }
+    ensures within { result ≤ SHORT }
 {
     match code {
         [a] if is_visible(*a) => place_of_one(*a),
@@ -102,7 +102,7 @@ fn place(code: &[u8]) -> usize
 /// the table.
 #[inline(always)]
 pub(crate) fn code_at_front(bytes: &[u8]) -> Placed
-    ensures { result.place < 839514 → (0 < result.len) × IsCode result.len result.place bytes.now }
+    ensures { result.place < SHORT → (0 < result.len) × IsCode result.len result.place bytes.now }
 {
     match bytes {
         [a, b, ..] if is_visible(*a) && is_space(*b) => Placed {
@@ -130,7 +130,7 @@ pub(crate) fn code_at_front(bytes: &[u8]) -> Placed
 fn reach(table: &mut Vec<u32>, place: usize)
     requires { place < vec_capacity table.old }
     ensures reaches { place < vec_len table.new }
-    ensures most { place < 839514 → vec_len table.old ≤ 839514 → vec_len table.new ≤ 839514 }
+    ensures most { place < SHORT → vec_len table.old ≤ SHORT → vec_len table.new ≤ SHORT }
     ensures room { vec_capacity table.old ≤ vec_capacity table.new }
     ensures same { (i : ℕ) → get_or table.new.items i 0 ≡ get_or table.old.items i 0 }
 {
@@ -152,7 +152,7 @@ impl Codes {
     #[inline(always)]
     pub(crate) fn known(&self, place: usize) -> Option<u32>
         ensures number { IfSome result (λ n. (code : List ℕ) → place ≡ place_of code → number_of code self.now.codes ≡ Some n) }
-        ensures below { OnSome result (place < 839514) }
+        ensures below { OnSome result (place < SHORT) }
     {
         if place >= SHORT || place >= self.table.len() {
             return None;

@@ -15,12 +15,12 @@ use crate::buffer::Buffer;
 use crate::command::Command;
 use crate::heading::Heading;
 use crate::lexer::Lexer;
-use crate::scan::is_space;
 use crate::stage::{Stage, bound, give_left, hear, is_body, may_end, run};
 use ccsl_base::{Block, ClockSet, HashKeys, Memory};
 use ccsl_bind::Binder;
 use ccsl_kernel::System;
 use ccsl_vcd::{Limits, VcdFault};
+use ccsl_vcd_lex::is_space;
 use std::alloc::Global;
 use std::marker::Model;
 

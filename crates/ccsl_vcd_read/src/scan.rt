@@ -1,64 +1,14 @@
-//! Where a run of bytes ends, found many bytes at a time.
+//! Letters and digits at the front of some bytes, found many bytes at a time.
 
-ghost use Rattle.std.specs.Prelude.{◌≡◌, ◌+◌, ◌^◌, ◌≤◌, ◌<◌, length, take, drop, map, true};
-ghost use Rattle.std.specs.List.{prefix_len, list_all};
+ghost use Rattle.std.specs.Prelude.{◌≡◌, ◌^◌, ◌≤◌, ◌<◌, length, take, map, true};
+ghost use Rattle.std.specs.List.{list_all};
 ghost use Rattle.std.specs.Simd.Lanes.{mask_l};
-ghost use Rattle.ccsl_vcd_lex.specs.Tokens.{is_white};
-ghost use Rattle.ccsl_vcd_lex.specs.Lexing.{is_dark};
 ghost use Rattle.ccsl_vcd_read.specs.Letters.{is_bit, is_other, AreDigits};
 
 use core::dec2flt::read_digits;
 use std::simd::prelude::*;
 
 const LANES: usize = 16;
-
-#[inline(always)]
-#[tactic(auto, unfolding(ccsl_vcd_lex::specs::Tokens::is_white))]
-pub(crate) fn is_space(b: u8) -> bool
-    ensures { result ≡ is_white b }
-{
-    (b >= 9 && b <= 13) || b == 32
-}
-
-// Bit k says whether byte k is white.
-#[inline(always)]
-fn white_bits(v: u8x16) -> u64
-    ensures { result ≡ mask_l (map is_white v) }
-{
-    let low = (v - u8x16::splat(9)).simd_lt(u8x16::splat(5));
-    (low | v.simd_eq(u8x16::splat(32))).to_bitmask()
-}
-
-// The same as below, byte by byte.
-fn run_end_slowly(bytes: &[u8], from: usize) -> usize
-    requires { from ≤ length bytes.now }
-    ensures within { result ≤ length bytes.now }
-    ensures value { result ≡ from + prefix_len is_dark (drop from bytes.now) }
-{
-    let mut i = from;
-    while i < bytes.len() && !is_space(bytes[i]) {
-        i += 1;
-    }
-    i
-}
-
-/// Where the run of bytes ends that are not white and begin at a place.
-#[inline(always)]
-pub(crate) fn run_end(bytes: &[u8], from: usize) -> usize
-    requires { from ≤ length bytes.now }
-    ensures within { result ≤ length bytes.now }
-    ensures value { result ≡ from + prefix_len is_dark (drop from bytes.now) }
-{
-    let mut i = from;
-    while bytes.len() - i >= LANES {
-        let found = white_bits(u8x16::from_slice(&bytes[i..]));
-        if found != 0 {
-            return i + found.trailing_zeros() as usize;
-        }
-        i += LANES;
-    }
-    run_end_slowly(bytes, i)
-}
 
 // Bit k says whether byte k is neither 0 nor 1.
 #[inline(always)]

@@ -1,5 +1,6 @@
 use Rattle.std.proofs.Common.{◌≡◌, ◌+◌, ◌-◌, ◌*◌, ◌≤◌, [], length}
 use Rattle.ccsl_kernel.specs.Syntax.{item_count}
+use Rattle.ccsl_judge.specs.declared.weights.TheConstants.{WITH_STATES}
 use Rattle.ccsl_judge.specs.Divided.{Follow}
 use Rattle.ccsl_judge.specs.Weights.{weight_before}
 use Rattle.ccsl_judge.proofs.shares.open_into.Given as goal
@@ -11,6 +12,6 @@ invariant-loop-done l = record {
   room : l.cut.item + (l.count - l.done) ≤ item_count l.system;
   last : l.done ≡ l.count → l.cut.item ≡ item_count l.system;
   opened : length l.shares.items ≡ l.done;
-  weight : l.cut.weight ≤ l.cut.item * 16;
+  weight : l.cut.weight ≤ l.cut.item * WITH_STATES;
   weighed : l.cut.weight ≡ weight_before l.system l.bound l.cut.item;
 }
