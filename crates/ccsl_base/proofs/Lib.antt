@@ -5,3 +5,5 @@ pub mod Tables
 pub mod ReservedWords
 pub mod Digits
 pub mod Sets
+pub mod Ascending
+mod Taking

@@ -1,6 +1,6 @@
 //! Sets of clocks.
 
-ghost use Rattle.std.specs.Prelude.{◌≡◌, ◌≢◌, ◌<◌, ◌↔◌, ℕ, ◌||◌, ◌&&◌, not, [], IsTrue, length};
+ghost use Rattle.std.specs.Prelude.{◌≡◌, ◌≢◌, ◌<◌, ◌↔◌, ℕ, ◌||◌, ◌&&◌, not, [], IsTrue, filter, length, nat_lt};
 ghost use Rattle.ccsl_base.specs.Clocks.{ticks_in, with_clock, without_clock, put_clock, difference, is_ascending, are_below};
 ghost use Rattle.ccsl_base.specs.Bits.{is_set, size_of_word};
 
@@ -213,6 +213,20 @@ impl ClockSet {
             used: self.used,
             words: self.words,
         }
+    }
+
+    /// The members below a bound.
+    pub fn below(&self, bound: u32) -> ClockSet
+        ensures members { result ≡ filter (λ x. nat_lt x bound) self.now }
+        ensures ascending { IsTrue (is_ascending self.now) }
+    {
+        let mut set = ClockSet::empty();
+        for clock in self.members() {
+            if clock < bound {
+                set.insert(clock);
+            }
+        }
+        set
     }
 
     /// The members, in ascending order.

@@ -1,4 +1,3 @@
-pub mod Declared
 pub mod Following
 pub mod Taking
 pub mod Verdicts

@@ -11,7 +11,7 @@ ghost use Rattle.ccsl_certify.specs.Replaying.{AreAfter, Follows, Answers};
 
 use crate::answer::Replayed;
 use crate::both::both;
-use ccsl_base::{Block, ClockSet, MAX_CLOCKS, Memory, Row};
+use ccsl_base::{Block, ClockSet, Memory, Row};
 use ccsl_kernel::System;
 use ccsl_kernel::laws::verdict_is_first;
 use ccsl_relate::{Monitor, Violation};
@@ -24,20 +24,6 @@ pub(crate) struct Follower<'s> {
     system: &'s System,
     pub(crate) monitor: Monitor<'s>,
     pub(crate) states: States<'s>,
-}
-
-// The declared clocks among some.
-fn declared_ticks(ticks: &ClockSet, declared: u32) -> ClockSet
-    requires { declared ≤ MAX_CLOCKS }
-    ensures { (K : System) → K.declared ≡ declared → result ≡ declared_part K ticks.now }
-{
-    let mut set = ClockSet::empty();
-    for clock in ticks.members() {
-        if clock < declared {
-            set.insert(clock);
-        }
-    }
-    set
 }
 
 impl<'s> Follower<'s> {
@@ -64,7 +50,7 @@ impl<'s> Follower<'s> {
         ensures after { (rows : List Row) → AreAfter self.old.system.now rows self.old.states → length rows + 1 < 2 ^ 64 →
             AreAfter self.old.system.now (rows ++ row.now ∷ []) self.new.states }
     {
-        let declared = declared_ticks(&row.ticks, self.system.scope().declared);
+        let declared = row.ticks.below(self.system.scope().declared);
         self.states.advance(&declared);
     }
 

@@ -13,7 +13,8 @@ use Rattle.ccsl_explain.specs.Deletion.{IsLeft}
 use Rattle.ccsl_explain.specs.Laws.{CoresBlock, CoresAreMinimal, CoresAreOne}
 use Rattle.ccsl_explain.specs.Least.{IsOther}
 use Rattle.ccsl_explain.proofs.Items.{fewer-open, more-block, blocks-all}
-use Rattle.ccsl_explain.proofs.Members.{contains-ticks, ticks-contains, same-members}
+use Rattle.ccsl_base.proofs.Ascending.{same-members}
+use Rattle.ccsl_explain.proofs.Members.{contains-ticks, ticks-contains}
 
 -- a number is in a list or not
 pub is-in : (xs : List ℕ) (x : ℕ) → Contains xs x ⊎ (Contains xs x → ⊥)

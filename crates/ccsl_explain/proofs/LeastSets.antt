@@ -16,7 +16,7 @@ use Rattle.ccsl_explain.specs.Least.{IsLesser, IsOther, IsLeastWithout}
 use Rattle.ccsl_explain.specs.LeastSteps.{negatives, IsLeastStep}
 use Rattle.ccsl_explain.specs.Masked.{IsMasked}
 use Rattle.ccsl_explain.proofs.Masks.{solves-masked, satisfies-masked}
-use Rattle.ccsl_explain.proofs.Members.{same-members}
+use Rattle.ccsl_base.proofs.Ascending.{same-members}
 
 -- of two least sets none has a first clock that the other has not
 module _ (scope : Scope) (fs : List Formula) (core : List ℕ) (i : ℕ) (s t : List ℕ) (h : IsLeastWithout scope fs core i s) (k : IsLeastWithout scope fs core i t) where

@@ -5,61 +5,6 @@ use Rattle.std.proofs.lemmas.Bool.{and_parts, and_from, or_left, or_right, eq-eq
 use Rattle.std.proofs.lemmas.List.Elements.{All-head, All-tail, Contains-append_right}
 use Rattle.ccsl_base.specs.Clocks.{ticks_in, is_ascending}
 
--- a member is above what is below all
-above : (x : ℕ) (ys : List ℕ) (y : ℕ) → list_all (nat_lt x) ys ≡ true → ticks_in y ys ≡ true → x < y
-above x [] y h t = absurd (cc)
-above x (z ∷ ys) y h t = by-first (nat_eq y z) refl (λ r. above x ys y (and_parts (nat_lt x z) (list_all (nat_lt x) ys) h).1 r)
-  where
-    by-first : (b : Bool) → nat_eq y z ≡ b → (ticks_in y ys ≡ true → x < y) → x < y
-    by-first true e k = let s : y ≡ z = eqb-true y z e in let l : x < z = ltb-true x z (and_parts (nat_lt x z) (list_all (nat_lt x) ys) h).0 in omega (arith, s, l)
-    by-first false e k = k (sym (ap (λ b. b || ticks_in y ys) e) ∙ t)
-
--- what is not above all is no member
-no-member : (x : ℕ) (ys : List ℕ) → list_all (nat_lt x) ys ≡ true → ticks_in x ys ≡ false
-no-member x ys h = by-value (ticks_in x ys) refl
-  where
-    by-value : (b : Bool) → ticks_in x ys ≡ b → ticks_in x ys ≡ false
-    by-value true e = let l : x < x = above x ys x h e in absurd (omega arith)
-    by-value false e = e
-
-pub same-members : (xs ys : List ℕ) → is_ascending xs ≡ true → is_ascending ys ≡ true → ((x : ℕ) → ticks_in x xs ≡ ticks_in x ys) → xs ≡ ys
-same-members [] [] a b h = refl
-same-members [] (y ∷ ys) a b h = absurd (let e : false ≡ true = h y ∙ ap (λ t. t || ticks_in y ys) (eq-eqb y y refl) in cc)
-same-members (x ∷ xs) [] a b h = absurd (let e : true ≡ false = sym (ap (λ t. t || ticks_in x xs) (eq-eqb x x refl)) ∙ h x in cc)
-same-members (x ∷ xs) (y ∷ ys) a b h = ap₂ (λ z zs. z ∷ zs) first (same-members xs ys p.1 q.1 rest)
-  where
-    p : (list_all (nat_lt x) xs ≡ true) × (is_ascending xs ≡ true)
-    p = and_parts (list_all (nat_lt x) xs) (is_ascending xs) a
-
-    q : (list_all (nat_lt y) ys ≡ true) × (is_ascending ys ≡ true)
-    q = and_parts (list_all (nat_lt y) ys) (is_ascending ys) b
-
-    x-there : ticks_in x (y ∷ ys) ≡ true
-    x-there = sym (h x) ∙ ap (λ t. t || ticks_in x xs) (eq-eqb x x refl)
-
-    y-there : ticks_in y (x ∷ xs) ≡ true
-    y-there = h y ∙ ap (λ t. t || ticks_in y ys) (eq-eqb y y refl)
-
-    by-eq : (t : Bool) → nat_eq x y ≡ t → x ≡ y
-    by-eq true e = eqb-true x y e
-    by-eq false e =
-        let l : y < x = above y ys x q.0 (sym (ap (λ t. t || ticks_in x ys) e) ∙ x-there) in
-        let f : nat_eq y x ≡ false = ne_eqb y x (λ s. omega (arith, l, s)) in
-        let m : x < y = above x xs y p.0 (sym (ap (λ t. t || ticks_in y xs) f) ∙ y-there) in
-        absurd (omega (arith, l, m))
-
-    first : x ≡ y
-    first = by-eq (nat_eq x y) refl
-
-    rest : (z : ℕ) → ticks_in z xs ≡ ticks_in z ys
-    rest z = by-first (nat_eq z x) refl
-      where
-        by-first : (t : Bool) → nat_eq z x ≡ t → ticks_in z xs ≡ ticks_in z ys
-        by-first true e =
-            let s : z ≡ x = eqb-true z x e in
-            ap (λ k. ticks_in k xs) s ∙ no-member x xs p.0 ∙ sym (ap (λ k. ticks_in k ys) (s ∙ first) ∙ no-member y ys q.0)
-        by-first false e = sym (ap (λ t. t || ticks_in z xs) e) ∙ h z ∙ ap (λ t. t || ticks_in z ys) (ap (nat_eq z) (sym first) ∙ e)
-
 list_all-push : (p : ℕ → Bool) (xs : List ℕ) (n : ℕ) → list_all p xs ≡ true → p n ≡ true → list_all p (xs ++ n ∷ []) ≡ true
 list_all-push p [] n h k = and_from (p n) true k refl
 list_all-push p (x ∷ xs) n h k =

@@ -16,7 +16,8 @@ use Rattle.ccsl_kernel.specs.Items.{item_or_constraint}
 use Rattle.ccsl_kernel.specs.Runs.{IsRun, ObeysDefinitions, derived_from, full_step, completed_after, completed, declared_part, is_declared, is_named}
 use Rattle.ccsl_kernel.proofs.Scoped.{IsScoped}
 use Rattle.ccsl_kernel.proofs.GuardedCalls.{IsGuarded}
-use Rattle.ccsl_kernel.proofs.Sets.{NoneFrom, NoneFrom-are_below, below, ticks_in-with_clock, with_clock-last, below-with_clock, below-all, below-suc, ticks_in-below, ascending-last, are_below-last, are_below-more}
+use Rattle.ccsl_base.proofs.Ascending.{with_clock-last}
+use Rattle.ccsl_kernel.proofs.Sets.{NoneFrom, NoneFrom-are_below, below, ticks_in-with_clock, below-with_clock, below-all, below-suc, ticks_in-below, ascending-last, are_below-last, are_below-more}
 use Rattle.ccsl_kernel.proofs.Scope.{ReadsOnly, eval_same, reads_below}
 use Rattle.ccsl_kernel.proofs.TableHolds.{first_steps_matter}
 use Rattle.ccsl_kernel.proofs.Definitions.{step_at-front, step_at-last, definitions-are, definition_allowed, dead_below-same}

@@ -3,6 +3,7 @@ use Rattle.std.proofs.Common.{◌≡◌, ℕ, suc, ◌<◌, ◌≤◌, ⊎_elim,
 use Rattle.std.specs.List.{list_all, filter}
 use Rattle.std.proofs.lemmas.Bool.{cases_lt, cases_eq, ne_eqb, and_parts, and_from}
 use Rattle.ccsl_base.specs.Clocks.{ticks_in, with_clock, is_ascending, are_below}
+use Rattle.ccsl_base.proofs.Ascending.{part-ascends}
 
 -- the members below a bound
 abbrev pub below : ℕ → List ℕ → List ℕ
@@ -52,17 +53,6 @@ ticks_in-with_clock y x (z ∷ s) =
     swap true true c = refl
     swap true false c = refl
     swap false b c = refl
-
--- above all members, one more is the last
-pub with_clock-last : (x : ℕ) (s : List ℕ) → are_below x s ≡ true → with_clock x s ≡ s ++ x ∷ []
-with_clock-last x [] h = refl
-with_clock-last x (y ∷ s) h =
-    let w = and_parts (nat_lt y x) (are_below x s) h in
-    let y_below = ltb-true y x w.0 in
-    at_first x y s (λ r. r ≡ y ∷ (s ++ x ∷ []))
-    (λ l. let z : ⊥ = omega (arith, y_below) in absurd z)
-    (λ e. let z : ⊥ = omega (arith, y_below) in absurd z)
-    (λ l. ap (λ r. y ∷ r) (with_clock-last x s w.1))
 
 below-first : (x y : ℕ) (s : List ℕ) → y < x → below x (y ∷ s) ≡ y ∷ below x s
 below-first x y s l = ap (λ t. if t then y ∷ below x s else below x s) (lt-ltb y x l)
@@ -161,22 +151,8 @@ are_below-more x y (z ∷ s) l b =
     and_from (nat_lt z y) (are_below y s) (lt-ltb z y (omega (arith, z_below, l))) (are_below-more x y s l v.1)
 
 -- the members below a number are a set, too
-list_all-below : (p : ℕ → Bool) (x : ℕ) (s : List ℕ) → list_all p s ≡ true → list_all p (below x s) ≡ true
-list_all-below p x [] h = refl
-list_all-below p x (y ∷ s) h =
-    let w = and_parts (p y) (list_all p s) h in
-    let rest = list_all-below p x s w.1 in
-    elim (nat_lt y x) as (λ t. list_all p (if t then y ∷ below x s else below x s) ≡ true) [ true ↦ and_from (p y) (list_all p (below x s)) w.0 rest | false ↦ rest ]
-
 pub below-ascending : (x : ℕ) (s : List ℕ) → is_ascending s ≡ true → is_ascending (below x s) ≡ true
-below-ascending x [] h = refl
-below-ascending x (y ∷ s) h =
-    let w = and_parts (list_all (nat_lt y) s) (is_ascending s) h in
-    let rest = below-ascending x s w.1 in
-    elim (nat_lt y x) as (λ t. is_ascending (if t then y ∷ below x s else below x s) ≡ true) [
-      | true ↦ and_from (list_all (nat_lt y) (below x s)) (is_ascending (below x s)) (list_all-below (nat_lt y) x s w.0) rest
-      | false ↦ rest
-    ]
+below-ascending x s h = part-ascends (λ y. nat_lt y x) s h
 
 pub below-below : (x : ℕ) (s : List ℕ) → are_below x (below x s) ≡ true
 below-below x [] = refl

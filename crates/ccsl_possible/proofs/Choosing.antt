@@ -14,7 +14,8 @@ use Rattle.ccsl_kernel.specs.Lives.{Step, steps}
 use Rattle.ccsl_kernel.specs.Accepted.{IsAccepted}
 use Rattle.ccsl_kernel.specs.Runs.{IsAdmissible, declared_part}
 use Rattle.ccsl_kernel.proofs.Steps.{steps-suc}
-use Rattle.ccsl_kernel.proofs.Sets.{below, below-all, below-suc, below-below, ticks_in-below, with_clock-last}
+use Rattle.ccsl_base.proofs.Ascending.{with_clock-last}
+use Rattle.ccsl_kernel.proofs.Sets.{below, below-all, below-suc, below-below, ticks_in-below}
 use Rattle.ccsl_items.specs.Formulas.{item_formulas, scope_of}
 use Rattle.ccsl_items.specs.Laws.{IsNamedRun, IsSolution}
 use Rattle.ccsl_items.proofs.Sets.{below-members}

@@ -1,4 +1,4 @@
-pub mod Ascending
+pub mod DeclaredTicks
 pub mod Within
 pub mod History
 pub mod Judging

@@ -10,7 +10,7 @@ use Rattle.ccsl_relate.specs.declared.watched.Watched.{Watched}
 use Rattle.ccsl_relate.specs.declared.watched.Watched.TheVariants.{Nothing}
 use Rattle.ccsl_relate.specs.Watching.{fails_in, next_in}
 use Rattle.ccsl_relate.specs.Reading.{IsQuiet, Touches, FailsFrom, GoesOn}
-use Rattle.ccsl_relate.proofs.Ascending.{above}
+use Rattle.ccsl_base.proofs.Ascending.{above}
 use Rattle.ccsl_relate.proofs.Ranges.{on-none, on-skip, on-more, fails-here}
 
 -- the items before place `next` are behind the walk, and the places that are left are all that follow

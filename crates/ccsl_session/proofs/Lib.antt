@@ -1,5 +1,4 @@
 pub mod Words
-pub mod Declared
 pub mod Found
 pub mod Sets
 pub mod NamedSets

@@ -18,7 +18,7 @@ use crate::asked::Asked;
 use crate::stack::Stack;
 use crate::text::{put_allowed, put_line, put_numbered, put_step};
 use crate::trace::trace;
-use ccsl_base::{ClockSet, MAX_CLOCKS, Memory};
+use ccsl_base::{ClockSet, Memory};
 use ccsl_formula::Formula;
 use ccsl_items::put_formulas;
 use ccsl_kernel::System;
@@ -35,21 +35,6 @@ pub(crate) struct Session<'s> {
     pub(crate) stack: Stack<'s>,
     formulas: Vec<Formula>,
     pub(crate) text: Vec<u8>,
-}
-
-// The declared clocks among some.
-fn declared_ticks(ticks: &ClockSet, declared: u32) -> ClockSet
-    requires { declared ≤ MAX_CLOCKS }
-    ensures declared { (K : Plain) → K.declared ≡ declared → result ≡ declared_part K ticks.now }
-    ensures ascending { IsTrue (is_ascending ticks.now) }
-{
-    let mut set = ClockSet::empty();
-    for clock in ticks.members() {
-        if clock < declared {
-            set.insert(clock);
-        }
-    }
-    set
 }
 
 impl<'s> Session<'s> {
@@ -106,7 +91,7 @@ impl<'s> Session<'s> {
     {
         let declared = self.stack.system.scope().declared;
         match self.choice()? {
-            Choice::Step(set) => Ok(Some(declared_ticks(&set, declared))),
+            Choice::Step(set) => Ok(Some(set.below(declared))),
             Choice::Deadlock(_lines) => Ok(None),
         }
     }

@@ -2,7 +2,8 @@
 use Rattle.std.proofs.Common.{⊎_elim, ◌≡◌, ℕ, zero, suc, ◌<◌, List, [], ◌∷◌, ◌++◌, map, Bool, true, false, if◌then◌else◌, inl, refl, sym, ap, ap₂, ◌∙◌, subst, arith, le-ltb}
 use Rattle.ccsl_base.specs.Clocks.{ticks_in, with_clock, is_ascending, are_below}
 use Rattle.ccsl_kernel.specs.Lives.{Step}
-use Rattle.ccsl_kernel.proofs.Sets.{below, below-all, below-suc, below-below, with_clock-last, ascending-last, are_below-last, are_below-more}
+use Rattle.ccsl_base.proofs.Ascending.{with_clock-last}
+use Rattle.ccsl_kernel.proofs.Sets.{below, below-all, below-suc, below-below, ascending-last, are_below-last, are_below-more}
 use Rattle.ccsl_simulate.specs.Chosen.{sets_below}
 use Rattle.ccsl_simulate.proofs.Among.{Among, among-left, among-right, among-parts, among-map, map-among}
 

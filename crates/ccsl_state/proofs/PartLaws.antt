@@ -12,7 +12,8 @@ use Rattle.ccsl_kernel.specs.Accepted.{IsAccepted}
 use Rattle.ccsl_kernel.proofs.Scoped.{NamesBelow}
 use Rattle.ccsl_kernel.proofs.AcceptedParts.{accepted_guarded, accepted_scoped}
 use Rattle.ccsl_kernel.proofs.Definitions.{choice}
-use Rattle.ccsl_kernel.proofs.Sets.{NoneFrom, with_clock-last, are_below-last, are_below-more}
+use Rattle.ccsl_base.proofs.Ascending.{with_clock-last}
+use Rattle.ccsl_kernel.proofs.Sets.{NoneFrom, are_below-last, are_below-more}
 use Rattle.ccsl_state.specs.Tree.{most, Tree, TNever, opening, next, formula_of, dead_of}
 use Rattle.ccsl_state.specs.Moves.{gone_in}
 use Rattle.ccsl_state.specs.States.{put, derived_in, tree_after, trees_from}

@@ -14,7 +14,7 @@ use Rattle.ccsl_vcd_read.specs.declared.users.User.TheVariants.{Nobody, One, Man
 use Rattle.ccsl_vcd_read.specs.Marks.{put, aged, is_ticking, ticking}
 use Rattle.ccsl_vcd_read.specs.Users.{with_slot, user_of, user_in, IsMore}
 use Rattle.ccsl_vcd_read.specs.Kept.{mark_in, clocks_of, put_in, put_each, put_all, AreKept}
-use Rattle.ccsl_vcd_read.proofs.Ascending.{part-ascends, same-members}
+use Rattle.ccsl_base.proofs.Ascending.{part-ascends, same-members}
 
 or-true : (b : Bool) → (b || true) ≡ true
 or-true true = refl

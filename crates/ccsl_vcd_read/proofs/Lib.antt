@@ -3,7 +3,6 @@ pub mod Letters
 pub mod InPlace
 pub mod Passing
 pub mod Places
-pub mod Ascending
 pub mod RowOrder
 pub mod Kept
 pub mod Ticking

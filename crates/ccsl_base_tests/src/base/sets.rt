@@ -59,3 +59,21 @@ fn sets_are_as_clock_by_clock(rt: HostRuntime) {
         assert!(rt; are_made(&edges(bits % 16), &edges(bits / 16), bits % 16));
     }
 }
+
+/// Whether a set's members below a bound are as clock by clock.
+fn is_below(set: &ClockSet, bound: u32) -> bool {
+    let part = set.below(bound);
+    for clock in 0..MAX_CLOCKS {
+        if part.has(clock) != (clock < bound && set.has(clock)) {
+            return false;
+        }
+    }
+    true
+}
+
+#[test]
+fn members_below_a_bound(rt: HostRuntime) {
+    for bound in [0, 1, 63, 64, 65, 1023, 1024, 2000] {
+        assert!(rt; is_below(&edges(15), bound));
+    }
+}

@@ -1,6 +1,6 @@
 use Rattle.std.proofs.Common.{◌≡◌, ◌&&◌, not, subst}
 use Rattle.ccsl_base.specs.Clocks.{ticks_in}
-use Rattle.ccsl_relate.proofs.Ascending.{declared-are}
+use Rattle.ccsl_relate.proofs.DeclaredTicks.{declared-are}
 use Rattle.ccsl_relate.proofs.steps.declared_ticks.Goals as goal
 
 pub returns : goal.returns

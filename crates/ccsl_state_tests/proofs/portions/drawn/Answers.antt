@@ -1,7 +1,8 @@
 -- One clock more, which is a member or not.
 use Rattle.std.proofs.Common.{◌≡◌, suc, ◌+◌, [], ◌∷◌, ◌++◌, ap, ◌∙◌, arith}
 use Rattle.ccsl_base.specs.Clocks.{are_below}
-use Rattle.ccsl_kernel.proofs.Sets.{with_clock-last, are_below-last, are_below-more}
+use Rattle.ccsl_base.proofs.Ascending.{with_clock-last}
+use Rattle.ccsl_kernel.proofs.Sets.{are_below-last, are_below-more}
 use Rattle.ccsl_state_tests.proofs.portions.drawn.Goals as goal
 use Rattle.ccsl_state_tests.proofs.portions.drawn.Goals.{then-below-eq0, else-below-eq0}
 

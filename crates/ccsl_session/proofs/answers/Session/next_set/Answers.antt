@@ -1,4 +1,4 @@
-use Rattle.std.proofs.Common.{length, sym, ap, subst}
+use Rattle.std.proofs.Common.{ap, filter, length, nat_lt, subst, ◌∙◌}
 use Rattle.ccsl_formula.specs.declared.scope.Scope.{Scope}
 use Rattle.ccsl_kernel.specs.Runs.{completed}
 use Rattle.ccsl_items.specs.Formulas.{item_formulas, scope_of}
@@ -16,7 +16,7 @@ returns-in-Step-clause-next c =
     let T = completed K R in
     let chosen = subst (λ (x : Choice). Chooses (scope_of K) (item_formulas K T) session.policy (words_of_step K session.seed (length T)) x) c.in-Step.is c.in_ok-set.ensures.choice in
     let declared = ap (λ (s : Scope). s.declared) c.scope-declared.ensures.scope in
-    step-next K c.requires.stands.accepted session.policy session.seed R c.requires.stack c.in-Step.set c.declared_ticks.result c.declared_ticks.ensures.ascending chosen (c.declared_ticks.ensures.declared K (sym declared))
+    step-next K c.requires.stands.accepted session.policy session.seed R c.requires.stack c.in-Step.set c.below.result c.below.ensures.ascending chosen (c.below.ensures.members ∙ ap (λ n. filter (λ x. nat_lt x n) c.in-Step.set) declared)
 
 pub returns-in-Deadlock-clause-next : goal.returns-in-Deadlock-clause-next
 returns-in-Deadlock-clause-next c =

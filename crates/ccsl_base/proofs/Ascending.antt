@@ -1,11 +1,19 @@
--- Ascending lists: a part of one ascends, and sets with the same members are the same list.
-use Rattle.std.proofs.Common.{◌≡◌, ℕ, ◌<◌, List, [], ◌∷◌, Bool, true, false, ◌||◌, cond, filter, nat_eq, nat_lt, refl, sym, ap, ap₂, ◌∙◌, arith, eq-eqb}
+-- Ascending lists: one more member behind all, a part of one, and that sets with the same members are the same list.
+use Rattle.std.proofs.Common.{◌≡◌, ℕ, ◌<◌, List, [], ◌∷◌, ◌++◌, Bool, true, false, ◌||◌, cond, filter, nat_eq, nat_lt, refl, sym, ap, ap₂, ◌∙◌, arith, eq-eqb, le-ltb}
 use Rattle.std.specs.List.{list_all}
 use Rattle.std.proofs.lemmas.Bool.{and_parts, ne_eqb, ltb-true, eqb-true}
-use Rattle.ccsl_base.specs.Clocks.{ticks_in, is_ascending}
+use Rattle.ccsl_base.specs.Clocks.{ticks_in, with_clock, is_ascending, are_below}
+
+-- above all members, one more is the last
+pub with_clock-last : (x : ℕ) (s : List ℕ) → are_below x s ≡ true → with_clock x s ≡ s ++ x ∷ []
+with_clock-last x [] h = refl
+with_clock-last x (y ∷ s) h =
+    let parts = and_parts (nat_lt y x) (are_below x s) h in
+    let l : y < x = ltb-true y x parts.0 in
+    rw (le-ltb x y (omega (arith, l)), ne_eqb x y (λ e. omega (arith, e, l))) (ap (λ r. y ∷ r) (with_clock-last x s parts.1))
 
 -- a member is above what is below all
-above : (x : ℕ) (ys : List ℕ) (y : ℕ) → list_all (nat_lt x) ys ≡ true → ticks_in y ys ≡ true → x < y
+pub above : (x : ℕ) (ys : List ℕ) (y : ℕ) → list_all (nat_lt x) ys ≡ true → ticks_in y ys ≡ true → x < y
 above x [] y h t = absurd (cc)
 above x (z ∷ ys) y h t = by-first (nat_eq y z) refl (λ r. above x ys y (and_parts (nat_lt x z) (list_all (nat_lt x) ys) h).1 r)
   where

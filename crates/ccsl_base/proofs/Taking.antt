@@ -1,14 +1,14 @@
--- The declared clocks of a set, taken in order.
+-- The members of a set below a bound, taken in order.
 use Rattle.std.proofs.Common.{◌≡◌, ℕ, ◌<◌, ◌≤◌, List, [], ◌∷◌, ◌++◌, filter, true, nat_lt, cond, refl, sym, ap, ◌∙◌, append_assoc, append-nil, lt-ltb, le-ltb}
 use Rattle.std.specs.List.{list_all}
 use Rattle.std.proofs.lemmas.Bool.{and_parts, and_from}
 use Rattle.std.proofs.lemmas.List.Folds.{list_all-append}
 use Rattle.ccsl_base.specs.Clocks.{with_clock, is_ascending, are_below}
-use Rattle.ccsl_kernel.proofs.Sets.{with_clock-last}
+use Rattle.ccsl_base.proofs.Ascending.{with_clock-last}
 
--- how far the clocks were taken: the taken ones and those of the rest are all of them, and the rest stands behind them
-pub record IsTaking (declared : ℕ) (ticks set rest : List ℕ) : Type 0 where
-  pub whole : set ++ filter (λ x. nat_lt x declared) rest ≡ filter (λ x. nat_lt x declared) ticks
+-- how far they were taken: the taken ones and those of the rest are all of them, and the rest stands behind them
+pub record IsTaking (bound : ℕ) (ticks set rest : List ℕ) : Type 0 where
+  pub whole : set ++ filter (λ x. nat_lt x bound) rest ≡ filter (λ x. nat_lt x bound) ticks
   pub order : is_ascending (set ++ rest) ≡ true
 
 -- all members before one that stands behind them are below it
@@ -29,28 +29,28 @@ without-one (y ∷ set) rest x h =
     (list_all-append (nat_lt y) set rest ∙ and_from (list_all (nat_lt y) set) (list_all (nat_lt y) rest) parts.0 (and_parts (nat_lt y x) (list_all (nat_lt y) rest) parts.1).1)
     (without-one set rest x w.1)
 
-pub taking-first : (declared : ℕ) (ticks : List ℕ) → is_ascending ticks ≡ true → IsTaking declared ticks [] ticks
-taking-first declared ticks h = record { whole = refl; order = h }
+pub taking-first : (bound : ℕ) (ticks : List ℕ) → is_ascending ticks ≡ true → IsTaking bound ticks [] ticks
+taking-first bound ticks h = record { whole = refl; order = h }
 
--- a declared clock is taken
-pub taking-in : (declared : ℕ) (ticks set rest : List ℕ) (x : ℕ) → x < declared → IsTaking declared ticks set (x ∷ rest) → IsTaking declared ticks (with_clock x set) rest
-taking-in declared ticks set rest x l t =
+-- one below the bound is taken
+pub taking-in : (bound : ℕ) (ticks set rest : List ℕ) (x : ℕ) → x < bound → IsTaking bound ticks set (x ∷ rest) → IsTaking bound ticks (with_clock x set) rest
+taking-in bound ticks set rest x l t =
     let last : with_clock x set ≡ set ++ x ∷ [] = with_clock-last x set (front-below set rest x t.order) in
     record {
       whole =
-          ap (λ s. s ++ filter (λ y. nat_lt y declared) rest) last
-          ∙ append_assoc set (x ∷ []) (filter (λ y. nat_lt y declared) rest)
-          ∙ ap (λ b. set ++ cond b (x ∷ filter (λ y. nat_lt y declared) rest) (filter (λ y. nat_lt y declared) rest)) (sym (lt-ltb x declared l))
+          ap (λ s. s ++ filter (λ y. nat_lt y bound) rest) last
+          ∙ append_assoc set (x ∷ []) (filter (λ y. nat_lt y bound) rest)
+          ∙ ap (λ b. set ++ cond b (x ∷ filter (λ y. nat_lt y bound) rest) (filter (λ y. nat_lt y bound) rest)) (sym (lt-ltb x bound l))
           ∙ t.whole;
       order = ap (λ s. is_ascending (s ++ rest)) last ∙ ap is_ascending (append_assoc set (x ∷ []) rest) ∙ t.order;
     }
 
 -- another one is not
-pub taking-out : (declared : ℕ) (ticks set rest : List ℕ) (x : ℕ) → declared ≤ x → IsTaking declared ticks set (x ∷ rest) → IsTaking declared ticks set rest
-taking-out declared ticks set rest x l t = record {
-  whole = ap (λ b. set ++ cond b (x ∷ filter (λ y. nat_lt y declared) rest) (filter (λ y. nat_lt y declared) rest)) (sym (le-ltb x declared l)) ∙ t.whole;
+pub taking-out : (bound : ℕ) (ticks set rest : List ℕ) (x : ℕ) → bound ≤ x → IsTaking bound ticks set (x ∷ rest) → IsTaking bound ticks set rest
+taking-out bound ticks set rest x l t = record {
+  whole = ap (λ b. set ++ cond b (x ∷ filter (λ y. nat_lt y bound) rest) (filter (λ y. nat_lt y bound) rest)) (sym (le-ltb x bound l)) ∙ t.whole;
   order = without-one set rest x t.order;
 }
 
-pub taken : (declared : ℕ) (ticks set : List ℕ) → IsTaking declared ticks set [] → set ≡ filter (λ x. nat_lt x declared) ticks
-taken declared ticks set t = sym (append-nil set) ∙ t.whole
+pub taken : (bound : ℕ) (ticks set : List ℕ) → IsTaking bound ticks set [] → set ≡ filter (λ x. nat_lt x bound) ticks
+taken bound ticks set t = sym (append-nil set) ∙ t.whole
