@@ -1,5 +1,5 @@
 -- Each line that declares no clock expands to an item at least, so that a body has no more such lines than items.
-use Rattle.std.proofs.Common.{◌≡◌, ℕ, zero, suc, ◌+◌, ◌<◌, ◌≤◌, List, [], ◌∷◌, ◌++◌, Option, Some, None, Bool, true, false, not, ◌&&◌, length, length-append, map, flat_map, take, slice_get, bytes_eq, nat_lt, nat_eq, refl, sym, ap, ◌∙◌, subst, arith, ⊎_elim}
+use Rattle.std.proofs.Common.{◌≡◌, ℕ, ◌+◌, ◌<◌, ◌≤◌, List, [], ◌∷◌, ◌++◌, Option, Some, None, Bool, true, false, not, ◌&&◌, length, length-append, map, flat_map, take, slice_get, bytes_eq, nat_lt, nat_eq, refl, sym, ap, ◌∙◌, subst, arith, ⊎_elim}
 use Rattle.std.specs.List.{list_all}
 use Rattle.std.proofs.lemmas.Bool.{and_parts, cases_lt}
 use Rattle.std.proofs.lemmas.Bool.Decides.{nat_tests}
@@ -19,18 +19,10 @@ use Rattle.ccsl_rules.specs.Texts.{entry_texts, block_texts}
 use Rattle.ccsl_rules.specs.Resolved.{Tables}
 use Rattle.ccsl_rules.specs.Unfolded.{Unfolding, Unfoldings, unfolding_at, unfold_line, unfold_entry, unfold_body, unfold_block, unfoldings, call_path, arguments, own_clocks}
 use Rattle.ccsl_rules.specs.Expansion.{declared_names}
+use Rattle.ccsl_rules.proofs.Lookups.{get-front, get-last}
 use Rattle.ccsl_rules.proofs.Guarded.{left-empty, right-empty, no-fault}
 use Rattle.ccsl_rules.proofs.Ordered.{groups_in, Good, space-good, found-all}
 use Rattle.ccsl_rules.proofs.Ready.{IsRelation, AreThere}
-
-get-front : {X : Type 0} (xs ys : List X) (i : ℕ) → i < length xs → slice_get (xs ++ ys) i ≡ slice_get xs i
-get-front [] ys i h = absurd (omega arith)
-get-front (x ∷ xs) ys zero h = refl
-get-front (x ∷ xs) ys (suc i) h = get-front xs ys i (omega arith)
-
-get-last : {X : Type 0} (xs : List X) (y : X) → slice_get (xs ++ y ∷ []) (length xs) ≡ Some y
-get-last [] y = refl
-get-last (x ∷ xs) y = get-last xs y
 
 no-relation : (g m : ℕ) → not (has_role (member g m) true) ≡ false → ⊥
 no-relation g m e = cc

@@ -2,9 +2,9 @@
 use Rattle.std.proofs.Common.{◌≡◌, ℕ, zero, suc, ◌+◌, ◌<◌, ◌≤◌, List, [], ◌∷◌, ◌++◌, Bool, true, false, not, cond, nat_lt, Option, Some, None, is_none, if◌then◌else◌, map, length, slice_get, bytes_eq, refl, sym, ap, ◌∙◌, arith}
 use Rattle.std.specs.List.{zip, position_or_len}
 use Rattle.std.specs.Option.{option_map}
-use Rattle.std.proofs.lemmas.Grind.{common_steps}
 use Rattle.std.proofs.lemmas.Bool.Decides.{nat_tests}
 use Rattle.std.proofs.lemmas.Slice.Eq.{bytes_eq-Decides}
+use Rattle.std.proofs.lemmas.Option.{slice_get_past}
 use Rattle.ccsl_base.specs.Names.{find_name}
 use Rattle.ccsl_rules.specs.Settings.{Atom, ANumber, snd_of, atom_of}
 use Rattle.ccsl_ast.specs.declared.spot.Spot.{Spot}
@@ -47,11 +47,6 @@ place-some false n i e = absurd (cc)
 place-none : (m n : ℕ) → cond (nat_lt m n) (Some m) None ≡ None → n ≤ m
 place-none m n e = grind (arith, nat_tests)
 
-pub get-past : {X : Type 0} (xs : List X) (i : ℕ) → length xs ≤ i → slice_get xs i ≡ None
-get-past [] i h = refl
-get-past (x ∷ xs) zero h = absurd (omega arith)
-get-past (x ∷ xs) (suc i) h = get-past xs i (omega arith)
-
 -- what stands at the number of a name
 pub atom_of-there : (ns : List (List ℕ)) (as' : List Atom) (name : List ℕ) (i : ℕ) (a : Atom) → length ns ≡ length as' → find_name name ns ≡ Some i → slice_get as' i ≡ Some a →
     a ≡ atom_of (zip ns as') name
@@ -63,7 +58,7 @@ atom_of-there ns as' name i a h found at =
 pub atom_of-missing : (ns : List (List ℕ)) (as' : List Atom) (name : List ℕ) → length ns ≡ length as' → find_name name ns ≡ None → ANumber 0 ≡ atom_of (zip ns as') name
 atom_of-missing ns as' name h missing =
     let past = place-none (position_or_len (bytes_eq name) ns) (length ns) missing in
-    sym (atom_of-zip ns as' name h ∙ ap atom_or_zero (get-past as' (position_or_len (bytes_eq name) ns) (omega arith)))
+    sym (atom_of-zip ns as' name h ∙ ap atom_or_zero (slice_get_past as' (position_or_len (bytes_eq name) ns) (omega arith)))
 
 place-turned : (ns : List (List ℕ)) (name : List ℕ) → position_or_len (bytes_eq name) ns ≡ position_or_len (λ x. bytes_eq x name) ns
 place-turned [] name = refl
@@ -107,23 +102,10 @@ place-less m n i e = by (nat_lt m n) refl e where
 pub place-below : (ns : List (List ℕ)) (name : List ℕ) (i : ℕ) → find_name name ns ≡ Some i → i < length ns
 place-below ns name i e = place-less (position_or_len (bytes_eq name) ns) (length ns) i e
 
-pub get-below : {X : Type 0} (xs : List X) (i : ℕ) (x : X) → slice_get xs i ≡ Some x → i < length xs
-get-below [] i x e = absurd (cc)
-get-below (y ∷ xs) zero x e = omega arith
-get-below (y ∷ xs) (suc i) x e = omega (arith, get-below xs i x e)
-
 pub get-map : {X Y : Type 0} (f : X → Y) (xs : List X) (i : ℕ) (x : X) → slice_get xs i ≡ Some x → slice_get (map f xs) i ≡ Some (f x)
 get-map f [] i x e = absurd (cc)
 get-map f (y ∷ xs) zero x e = ap (λ z. Some (f z)) (the-some y x e)
 get-map f (y ∷ xs) (suc i) x e = get-map f xs i x e
-
-pub length-map' : {X Y : Type 0} (f : X → Y) (xs : List X) → length (map f xs) ≡ length xs
-length-map' f [] = refl
-length-map' f (x ∷ xs) = grind (arith, common_steps, length-map' f xs)
-
-pub map-last : {X Y : Type 0} (f : X → Y) (xs : List X) (y : X) → map f (xs ++ y ∷ []) ≡ map f xs ++ f y ∷ []
-map-last f [] y = refl
-map-last f (x ∷ xs) y = ap (λ l. f x ∷ l) (map-last f xs y)
 
 look-step : {X Y : Type 0} (f : X → Y) (b : Bool) (x : X) (found : Option X) (others : Option Y) → others ≡ option_map f found → cond b (Some (f x)) others ≡ option_map f (cond b (Some x) found)
 look-step f true x found others e = refl

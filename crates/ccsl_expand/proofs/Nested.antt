@@ -2,21 +2,13 @@
 use Rattle.std.proofs.Common.{◌≡◌, ℕ, zero, suc, ◌+◌, ◌<◌, ◌≤◌, List, [], ◌∷◌, ◌++◌, take, length, length-append, Option, Some, None, slice_get, refl, ap, ◌∙◌, arith}
 use Rattle.std.specs.Option.{option_map}
 use Rattle.std.proofs.lemmas.Grind.{common_steps}
+use Rattle.std.proofs.lemmas.Option.{slice_get_past}
 use Rattle.ccsl_words.specs.Word.{BinaryWord}
 use Rattle.ccsl_rules.specs.Spaces.{Known, Callee, look}
 use Rattle.ccsl_rules.specs.Settings.{Atom}
 use Rattle.ccsl_rules.specs.Unfolded.{Item, Unfolding, Unfoldings, unfolding_at, unfolding_of, unfold_block}
+use Rattle.ccsl_rules.proofs.Lookups.{get-front, get-last}
 use Rattle.ccsl_expand.specs.Numbered.{NumberedDefinition, unfold_all}
-use Rattle.ccsl_expand.proofs.Lookups.{get-past}
-
-get-front : {X : Type 0} (xs ys : List X) (i : ℕ) → i < length xs → slice_get (xs ++ ys) i ≡ slice_get xs i
-get-front [] ys i h = absurd (omega arith)
-get-front (x ∷ xs) ys zero h = refl
-get-front (x ∷ xs) ys (suc i) h = get-front xs ys i (omega arith)
-
-get-last : {X : Type 0} (xs : List X) (y : X) → slice_get (xs ++ y ∷ []) (length xs) ≡ Some y
-get-last [] y = refl
-get-last (x ∷ xs) y = get-last xs y
 
 get-take : {X : Type 0} (xs : List X) (n i : ℕ) (x : X) → i < n → slice_get xs i ≡ Some x → slice_get (take n xs) i ≡ Some x
 get-take [] n i x h e = absurd (cc)
@@ -79,7 +71,7 @@ module _ (words : List BinaryWord) (calls : List (Known Callee)) where
       unfolding_at (slice_get (unfold_all words calls [] (take home blocks)) b) path args ≡ []
   call-later blocks home b path args h =
       let short : length (take home blocks) ≤ home = grind (arith, common_steps) in
-      ap (λ u. unfolding_at u path args) (get-past (unfold_all words calls [] (take home blocks)) b (omega (arith, many [] (take home blocks))))
+      ap (λ u. unfolding_at u path args) (slice_get_past (unfold_all words calls [] (take home blocks)) b (omega (arith, many [] (take home blocks))))
 
 -- the unfolding of what a name stands for
 abbrev pub unfolding_found : Unfoldings → Option Callee → List ℕ → List Atom → List Item

@@ -1,13 +1,13 @@
 -- One step of a walk over a list: what stands so far, and what the rest adds, stays the whole.
 use Rattle.std.proofs.Common.{◌≡◌, ℕ, zero, suc, ◌+◌, ◌<◌, ◌≤◌, List, [], ◌∷◌, ◌++◌, append_assoc, append-nil, length, length-append, drop, drop-cons, get_or, add-one, map, flat_map, slice_get, refl, sym, ap, ◌∙◌, arith}
 use Rattle.std.proofs.lemmas.List.{map-append}
+use Rattle.std.proofs.lemmas.Option.{slice_get_past}
 use Rattle.std.proofs.lemmas.Grind.{common_steps}
 use Rattle.ccsl_ast.specs.declared.definition.Param.{Param}
 use Rattle.ccsl_ast.specs.Trees.{SLine}
 use Rattle.ccsl_rules.specs.Settings.{Atom, AClock, Setting}
 use Rattle.ccsl_rules.specs.Unfolded.{inside, declares, arguments, own_clocks}
 use Rattle.ccsl_expand.specs.Numbered.{bound}
-use Rattle.ccsl_expand.proofs.Lookups.{get-past}
 
 pub drop-at : {X : Type 0} (xs : List X) (i : ℕ) (x : X) → i < length xs → x ≡ get_or xs i x → drop i xs ≡ x ∷ drop (i + 1) xs
 drop-at xs i x h e = drop-cons xs i x h ∙ (ap (λ y. y ∷ drop (suc i) xs) (sym e) ∙ ap (λ n. x ∷ drop n xs) (sym (add-one i)))
@@ -51,4 +51,4 @@ pub drop-past : {X : Type 0} (xs : List X) (i : ℕ) → length xs ≤ i → dro
 drop-past xs i h = grind (arith, common_steps)
 
 pub past-the-last : (ps : List Param) (i : ℕ) (a : Atom) (σ : Setting) → length ps ≤ i → σ ≡ σ ++ bound (slice_get ps i) a
-past-the-last ps i a σ h = sym (ap (λ b. σ ++ bound b a) (get-past ps i h) ∙ append-nil σ)
+past-the-last ps i a σ h = sym (ap (λ b. σ ++ bound b a) (slice_get_past ps i h) ∙ append-nil σ)

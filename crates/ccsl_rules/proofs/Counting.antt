@@ -1,6 +1,7 @@
 -- The count is the length of the expansion.
 use Rattle.std.proofs.Common.{◌≡◌, ℕ, zero, suc, ◌+◌, List, [], ◌∷◌, ◌++◌, length, map, flat_map, slice_get, filter_map, Option, Some, None, length-append, refl, ap, ◌∙◌, arith}
 use Rattle.std.proofs.lemmas.Grind.{common_steps}
+use Rattle.std.proofs.lemmas.List.{length-map}
 use Rattle.ccsl_ast.specs.Trees.{Line, LDefine, LConstraint, LCall, SLine, SClocks, SLineOf, PlainDefinition, DRelation, DGroup, PlainFile}
 use Rattle.ccsl_words.specs.Word.{BinaryWord}
 use Rattle.ccsl_rules.specs.Settings.{Atom, Setting, argument_atoms}
@@ -88,16 +89,12 @@ clocks-weight (Defines [] name σ k e ∷ xs) = grind (arith, common_steps, cloc
 clocks-weight (Defines (b ∷ bs) name σ k e ∷ xs) = grind (arith, common_steps, clocks-weight xs)
 clocks-weight (Binds path σ a r b ∷ xs) = omega (arith, clocks-weight xs)
 
-length-map' : {X Y : Type 0} (f : X → Y) (xs : List X) → length (map f xs) ≡ length xs
-length-map' f [] = refl
-length-map' f (x ∷ xs) = grind (arith, common_steps, length-map' f xs)
-
 names-length : (declared : List (List ℕ)) (xs : List Item) → length (names_of declared xs) ≡ length declared + weight clock_weights xs
 names-length declared xs =
     let a = length-append (declared ++ map item_name (filter_map written_item xs)) (map item_name (filter_map hidden_item xs)) in
     let b = length-append declared (map item_name (filter_map written_item xs)) in
-    let p : length (map item_name (filter_map written_item xs)) ≡ length (filter_map written_item xs) = length-map' item_name (filter_map written_item xs) in
-    let q : length (map item_name (filter_map hidden_item xs)) ≡ length (filter_map hidden_item xs) = length-map' item_name (filter_map hidden_item xs) in
+    let p : length (map item_name (filter_map written_item xs)) ≡ length (filter_map written_item xs) = length-map (filter_map written_item xs) item_name in
+    let q : length (map item_name (filter_map hidden_item xs)) ≡ length (filter_map hidden_item xs) = length-map (filter_map hidden_item xs) item_name in
     let r = clocks-weight xs in
     omega arith
 

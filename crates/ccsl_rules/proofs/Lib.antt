@@ -1,4 +1,5 @@
 pub mod Making
+pub mod Lookups
 pub mod Examples
 pub mod Refusals
 pub mod Random

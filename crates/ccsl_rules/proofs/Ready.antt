@@ -1,5 +1,6 @@
 -- All relations of a list of definitions without a fault keep the order of clocks.
-use Rattle.std.proofs.Common.{◌≡◌, ℕ, zero, suc, ◌+◌, ◌<◌, ◌≤◌, List, [], ◌∷◌, ◌++◌, Some, None, length, length-append, map, flat_map, take, slice_get, refl, sym, ap, ◌∙◌, subst, ◌⊎◌, inl, inr, arith}
+use Rattle.std.proofs.Common.{◌≡◌, ℕ, zero, suc, ◌+◌, ◌<◌, List, [], ◌∷◌, ◌++◌, Some, length, length-append, map, flat_map, take, slice_get, refl, sym, ap, ◌∙◌, subst, ◌⊎◌, inl, inr, arith}
+use Rattle.std.proofs.lemmas.Option.{slice_get_past}
 use Rattle.ccsl_ast.specs.declared.definition.Param.{Param}
 use Rattle.ccsl_ast.specs.Trees.{Line, SLineOf, PlainDefinition, DRelation, DGroup}
 use Rattle.ccsl_kernel.specs.Syntax.{Body, body_of}
@@ -9,23 +10,10 @@ use Rattle.ccsl_rules.specs.Resolved.{Tables}
 use Rattle.ccsl_rules.specs.Unfolded.{Unfolding, Unfoldings, unfolding_at, unfold_block, unfoldings}
 use Rattle.ccsl_rules.specs.Blocks.{Heights, params_faults, block_faults, blocks_faults}
 use Rattle.ccsl_rules.specs.Expansion.{kind_in}
+use Rattle.ccsl_rules.proofs.Lookups.{get-front, get-last}
 use Rattle.ccsl_rules.proofs.Guarded.{left-empty, right-empty}
 use Rattle.ccsl_rules.proofs.Known.{AreAt, at-left, at-right}
 use Rattle.ccsl_rules.proofs.Rising.{nowhere, Keeps, Ready, relation-keeps}
-
-get-front : {X : Type 0} (xs ys : List X) (i : ℕ) → i < length xs → slice_get (xs ++ ys) i ≡ slice_get xs i
-get-front [] ys i h = absurd (omega arith)
-get-front (x ∷ xs) ys zero h = refl
-get-front (x ∷ xs) ys (suc i) h = get-front xs ys i (omega arith)
-
-get-last : {X : Type 0} (xs : List X) (y : X) → slice_get (xs ++ y ∷ []) (length xs) ≡ Some y
-get-last [] y = refl
-get-last (x ∷ xs) y = get-last xs y
-
-get-past : {X : Type 0} (xs : List X) (i : ℕ) → length xs ≤ i → slice_get xs i ≡ None
-get-past [] i h = refl
-get-past (x ∷ xs) zero h = absurd (omega arith)
-get-past (x ∷ xs) (suc i) h = get-past xs i (omega arith)
 
 by-order : (a b : ℕ) → (a < b) ⊎ ((a ≡ b) ⊎ (b < a))
 by-order zero zero = inr (inl refl)
@@ -79,7 +67,7 @@ module _ (groups : List (List Body)) (K : Tables) where
           subst (λ x. Keeps groups K c.what.params (unfolding_at x)) (sym (ap (slice_get (R ++ u ∷ [])) e ∙ get-last R u)) (this name c l r e)
       by_place name c l r (inr (inr h)) =
           subst (λ x. Keeps groups K c.what.params (unfolding_at x))
-          (sym (get-past (R ++ u ∷ []) c.what.block (omega (arith, length-append R (u ∷ [])))))
+          (sym (slice_get_past (R ++ u ∷ []) c.what.block (omega (arith, length-append R (u ∷ [])))))
           (λ X path args fit placed. tt)
 
   -- ALL DEFINITIONS without a fault
