@@ -1,4 +1,3 @@
-pub mod Height
 pub mod Lookups
 pub mod Callees
 pub mod Walks

@@ -1,6 +1,5 @@
 pub mod Steps
 pub mod Turns
-pub mod Height
 pub mod PageText
 pub mod Pieces
 pub mod Cut

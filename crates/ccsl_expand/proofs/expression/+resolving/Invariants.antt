@@ -1,7 +1,7 @@
 -- An operator goes to its operands.
 use Rattle.std.proofs.Common.{◌+◌, ◌*◌}
 use Rattle.ccsl_ast.specs.Trees.{plain}
-use Rattle.ccsl_expand.proofs.Height.{height}
+use Rattle.ccsl_ast.proofs.Height.{height}
 use Rattle.ccsl_expand.proofs.expression.+resolving.Given as goal
 
 abbrev pub decreases-resolve : goal.decreases-resolve

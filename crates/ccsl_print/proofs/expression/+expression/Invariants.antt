@@ -1,6 +1,6 @@
 use Rattle.std.proofs.Common.{◌+◌, ◌*◌}
 use Rattle.ccsl_ast.specs.Trees.{plain}
-use Rattle.ccsl_print.proofs.Height.{height}
+use Rattle.ccsl_ast.proofs.Height.{height}
 use Rattle.ccsl_print.proofs.expression.+expression.Given as goal
 
 abbrev pub decreases-put_expression : goal.decreases-put_expression

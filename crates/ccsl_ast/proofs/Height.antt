@@ -1,4 +1,4 @@
--- How high a tree is: what a printer of trees goes down by.
+-- How high a tree is: its operands are less high.
 use Rattle.std.proofs.Common.{ℕ, ◌+◌}
 use Rattle.ccsl_ast.specs.Trees.{Expression, EName, ECall, ENever, EBinary, EDelay, EAwait, EFilter, EDelayed, EIf}
 
