@@ -8,10 +8,11 @@ use Rattle.ccsl_rules.specs.Texts.{sheet_texts}
 use Rattle.ccsl_rules.specs.Resolved.{Tables}
 use Rattle.ccsl_rules.specs.Unfolded.{Item, Defines, Binds}
 use Rattle.ccsl_rules.specs.Expansion.{written_item, hidden_item, item_definition, constraint_of, groups_of, items_of, expand, words_of}
+use Rattle.ccsl_rules.specs.Counts.{Weights, weight, file_count}
+use Rattle.ccsl_rules.proofs.Counting.{file-weight}
 use Rattle.ccsl_elaborate.specs.TreeCells.{tree_cells, groups_before}
-use Rattle.ccsl_elaborate.specs.Weighed.{Weights, weight, file_weight, calls_of}
+use Rattle.ccsl_elaborate.specs.Weighed.{calls_of}
 use Rattle.ccsl_elaborate.proofs.TreeCells.{tree-cells, capped-tree, all-groups, groups_cells-append}
-use Rattle.ccsl_elaborate.proofs.Weighing.{file-agrees}
 
 module _ (K : Tables) (G : List ℕ) where
   -- the weights by exact counts of calls, and by counts that are cut
@@ -63,7 +64,7 @@ file_groups library file =
 
 -- THE CELLS are what the trees weigh
 pub cells-agree : (library file : PlainFile) →
-    saturated (cells (expand library file)) ≡ file_weight (record { definition = tree_cells (calls_of library file) (file_groups library file); constraint = 2 }) (calls_of library file) library file
+    saturated (cells (expand library file)) ≡ file_count (record { definition = tree_cells (calls_of library file) (file_groups library file); constraint = 2 }) library file
 cells-agree library file =
     let calls = calls_of library file in
     let items = items_of library file in
@@ -77,5 +78,5 @@ cells-agree library file =
     ∙ ap (map saturated) (sym (groups_cells-append [] first second))) in
     ap saturated (all-weight K G (expand library file).names items)
     ∙ (sym (capped-weight K G items)
-    ∙ (file-agrees (capped K G) library file
-    ∙ ap (λ H. file_weight (record { definition = tree_cells calls H; constraint = 2 }) calls library file) (sym groups)))
+    ∙ (file-weight (capped K G) library file
+    ∙ ap (λ H. file_count (record { definition = tree_cells calls H; constraint = 2 }) library file) (sym groups)))

@@ -6,11 +6,11 @@ ghost use Rattle.ccsl_ast.specs.Trees.{SLineOf, plain, plain_line, plain_sline, 
 ghost use Rattle.ccsl_ast.specs.Files.{plain_file};
 ghost use Rattle.ccsl_kernel.specs.Cells.{saturated, cells};
 ghost use Rattle.ccsl_rules.specs.Expansion.{declared_names, expand};
-ghost use Rattle.ccsl_rules.specs.Counts.{cut};
+ghost use Rattle.ccsl_rules.specs.Counts.{cut, count_of, line_count, entry_count, body_count, block_count, counts};
+ghost use Rattle.ccsl_rules.specs.Counts.{count_behind};
 ghost use Rattle.ccsl_spaces.specs.Callees.{seen_call};
 ghost use Rattle.ccsl_elaborate.specs.TreeCells.{groups_before};
-ghost use Rattle.ccsl_elaborate.specs.Weighed.{definition_weight, constraint_weight, weights_of, calls_of, file_weight};
-ghost use Rattle.ccsl_elaborate.specs.Weighed.{call_weight, line_weight, entry_weight, body_weight, block_weight, weights};
+ghost use Rattle.ccsl_elaborate.specs.Weighed.{definition_weight, constraint_weight, weights_of, calls_of};
 
 use crate::cells::{add_groups, tree_cells};
 use ccsl_ast::{Definition, File, RelationLine, Spot, SystemLine, Tree};
@@ -49,7 +49,7 @@ fn constraint_weight(total: Total<'_>) -> u32
 
 // The weight of what a called name stands for, among those of the definitions before.
 fn call_weight(calls: &Space<'_, Callee<'_>>, weighed: &[u32], name: &Spot) -> u32
-    ensures { result ≡ call_weight (map seen_call calls.now) weighed.now name.now.name }
+    ensures { result ≡ count_of (map seen_call calls.now) weighed.now name.now.name }
 {
     match find_call(calls, name.name.bytes()) {
         None => 0,
@@ -64,7 +64,7 @@ fn line_weight(
     line: &RelationLine,
 ) -> u32
     ensures { let known = map seen_call calls.now in
-        result ≡ line_weight (weights_of known total.entry) known weighed.now (plain_line line.now) }
+        result ≡ line_count (weights_of known total.entry) known weighed.now (plain_line line.now) }
 {
     match line {
         RelationLine::Define(_, tree) => definition_weight(total, calls, tree),
@@ -80,7 +80,7 @@ fn body_weight(
     lines: &[RelationLine],
 ) -> u32
     ensures { let known = map seen_call calls.now in
-        result ≡ body_weight (weights_of known total.entry) known weighed.now (map SLineOf (map plain_line lines.now)) }
+        result ≡ body_count (weights_of known total.entry) known weighed.now (map SLineOf (map plain_line lines.now)) }
 {
     let mut sum: u32 = 0;
     for line in lines {
@@ -96,7 +96,7 @@ fn block_weight(
     definition: &Definition,
 ) -> u32
     ensures { let known = map seen_call calls.now in
-        result ≡ block_weight (weights_of known total.entry) known weighed.now (plain_definition definition.now) }
+        result ≡ block_count (weights_of known total.entry) known weighed.now (plain_definition definition.now) }
 {
     match definition {
         Definition::Relation { lines, .. } => body_weight(total, calls, weighed, lines.members()),
@@ -112,7 +112,7 @@ fn weigh_definitions(
 ) -> Result<(), Memory>
     ensures { let known = map seen_call calls.now in
         OnOk result (weighed.new.items ≡
-        weights (weights_of known total.entry) known weighed.old.items (map plain_definition definitions.now)) }
+        counts (weights_of known total.entry) known weighed.old.items (map plain_definition definitions.now)) }
 {
     for definition in definitions {
         let weight = block_weight(total, calls, weighed, definition);
@@ -128,7 +128,7 @@ fn entry_weight(
     line: &SystemLine,
 ) -> u32
     ensures { let known = map seen_call calls.now in
-        result ≡ entry_weight (weights_of known total.entry) known weighed.now (plain_sline line.now) }
+        result ≡ entry_count (weights_of known total.entry) known weighed.now (plain_sline line.now) }
 {
     match line {
         SystemLine::Clocks(_) => 0,
@@ -143,7 +143,7 @@ fn system_weight(
     lines: &[SystemLine],
 ) -> u32
     ensures { let known = map seen_call calls.now in
-        result ≡ body_weight (weights_of known total.entry) known weighed.now (map plain_sline lines.now) }
+        result ≡ body_count (weights_of known total.entry) known weighed.now (map plain_sline lines.now) }
 {
     let mut sum: u32 = 0;
     for line in lines {
@@ -162,7 +162,7 @@ fn file_weight(
 ) -> Result<u32, Memory>
     ensures { let known = map seen_call calls.now in
         IfOk result (λ n. n ≡
-        file_weight (weights_of known total.entry) known (plain_file library.now) (plain_file file.now)) }
+        count_behind (weights_of known total.entry) known (plain_file library.now) (plain_file file.now)) }
 {
     let mut weighed = Vec::new(alloc);
     weigh_definitions(total, calls, &mut weighed, library.definitions.members())?;

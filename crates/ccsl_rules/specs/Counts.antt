@@ -1,26 +1,26 @@
--- How many clocks and constraints a file expands to, counted without expanding it. Sums stop at 4,294,967,295.
+-- How many clocks and constraints a file expands to, or what they weigh, counted without expanding it. Sums stop at 4,294,967,295.
 use Rattle.std.specs.Prelude.{ℕ, ◌+◌, List, [], ◌∷◌, ◌++◌, map, min, slice_get, Option, Some, None}
-use Rattle.ccsl_ast.specs.Trees.{Line, LDefine, LConstraint, LCall, SLine, SClocks, SLineOf, PlainDefinition, DRelation, DGroup, PlainFile}
+use Rattle.ccsl_ast.specs.Trees.{Expression, Line, LDefine, LConstraint, LCall, SLine, SClocks, SLineOf, PlainDefinition, DRelation, DGroup, PlainFile}
 use Rattle.ccsl_rules.specs.Spaces.{Known, Callee, look, calls_space}
 use Rattle.ccsl_rules.specs.Unfolded.{Item, Defines, Binds}
 
 abbrev pub cut : ℕ → ℕ
 cut n = min n 4294967295
 
--- what a definition and what a constraint counts: 1 and 0 for clocks, 0 and 1 for constraints
+-- what a definition, by its expression, and what a constraint counts: 1 and 0 for clocks, 0 and 1 for constraints
 pub record Weights : Type 0 where
-  pub definition : ℕ
+  pub definition : Expression → ℕ
   pub constraint : ℕ
 
 abbrev pub clock_weights : Weights
-clock_weights = record { definition = 1; constraint = 0 }
+clock_weights = record { definition = λ e. 1; constraint = 0 }
 
 abbrev pub constraint_weights : Weights
-constraint_weights = record { definition = 0; constraint = 1 }
+constraint_weights = record { definition = λ e. 0; constraint = 1 }
 
 -- the weight of an expansion
 abbrev pub item_weight : Weights → Item → ℕ
-item_weight w (Defines path name σ k e) = w.definition
+item_weight w (Defines path name σ k e) = w.definition e
 item_weight w (Binds path σ a r b) = w.constraint
 
 abbrev pub weight : Weights → List Item → ℕ
@@ -32,14 +32,14 @@ abbrev pub count_at : Option ℕ → ℕ
 count_at None = 0
 count_at (Some n) = n
 
-module _ (w : Weights) (calls : List (Known Callee)) where
-  abbrev pub count_of : List ℕ → List ℕ → ℕ
-  count_of C name = elim (look name calls) [ None ↦ 0 | Some k ↦ count_at (slice_get C k.what.block) ]
+abbrev pub count_of : List (Known Callee) → List ℕ → List ℕ → ℕ
+count_of calls C name = elim (look name calls) [ None ↦ 0 | Some k ↦ count_at (slice_get C k.what.block) ]
 
+module _ (w : Weights) (calls : List (Known Callee)) where
   abbrev pub line_count : List ℕ → Line → ℕ
-  line_count C (LDefine s e) = cut w.definition
+  line_count C (LDefine s e) = cut (w.definition e)
   line_count C (LConstraint a r b) = cut w.constraint
-  line_count C (LCall s args) = count_of C s.name
+  line_count C (LCall s args) = count_of calls C s.name
 
   abbrev pub entry_count : List ℕ → SLine → ℕ
   entry_count C (SClocks names) = 0
@@ -58,8 +58,10 @@ module _ (w : Weights) (calls : List (Known Callee)) where
   counts C [] = C
   counts C (b ∷ bs) = counts (C ++ block_count C b ∷ []) bs
 
+  -- the count of a file behind a library, by what `calls` says of names
+  abbrev pub count_behind : PlainFile → PlainFile → ℕ
+  count_behind library file = body_count (counts (counts [] library.definitions) file.definitions) file.lines
+
 -- the count of a file behind a library
 abbrev pub file_count : Weights → PlainFile → PlainFile → ℕ
-file_count w library file =
-    let calls = calls_space 0 0 (library.definitions ++ file.definitions) in
-    body_count w calls (counts w calls (counts w calls [] library.definitions) file.definitions) file.lines
+file_count w library file = count_behind w (calls_space 0 0 (library.definitions ++ file.definitions)) library file
