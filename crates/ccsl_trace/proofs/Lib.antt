@@ -3,3 +3,4 @@ pub mod Refusing
 pub mod Running
 pub mod Ending
 pub mod Stepping
+pub mod Giving

@@ -1,7 +1,6 @@
-use Rattle.std.proofs.Common.{[], subst}
+use Rattle.std.proofs.Common.{[]}
 use Rattle.ccsl_bind.specs.Collected.{wanted_of}
-use Rattle.ccsl_trace.specs.Feeding.{Gives}
-use Rattle.ccsl_certify.proofs.Taking.{first-given}
+use Rattle.ccsl_trace.proofs.Giving.{first-given}
 use Rattle.ccsl_certify.proofs.trace.follow_header.Goals as goal
 
 pub next-requires : goal.next-requires
@@ -16,9 +15,7 @@ returns-in-Ok-follower_for-clause-goes g c = λ limits feeds.
     let K = c.args.system.now in
     let start = g.W.World.state c.args.world.now in
     let now = g.W.World.state c.next.new.world in
-    let given = subst (λ b. Gives g.W.World.told (wanted_of K) limits start now c.in-Ok._header b c.next.new.self []) c.requires.unbound
-    (c.in-Ok.ensures.gives (wanted_of K) limits start [] feeds) in
-    let first = first-given g.W.World.told K limits start now c.in-Ok._header c.next.new.self [] given in
+    let first = first-given g.W.World.told (wanted_of K) limits start now _ c.requires.unbound c.in-Ok._header c.next.new.self [] (c.in-Ok.ensures.gives (wanted_of K) limits start [] feeds) in
     record { bound = first.bound; rows = []; shows = first.shows; feeds = first.feeds; follows = c.in-Ok-follower_for.ensures first.bound first.shows }
 
 pub returns-in-Err-follower_for-clause-unread : goal.returns-in-Err-follower_for-clause-unread
@@ -26,6 +23,4 @@ returns-in-Err-follower_for-clause-unread g c = λ limits feeds.
     let K = c.args.system.now in
     let start = g.W.World.state c.args.world.now in
     let now = g.W.World.state c.next.new.world in
-    let given = subst (λ b. Gives g.W.World.told (wanted_of K) limits start now c.in-Ok._header b c.next.new.self []) c.requires.unbound
-    (c.in-Ok.ensures.gives (wanted_of K) limits start [] feeds) in
-    (first-given g.W.World.told K limits start now c.in-Ok._header c.next.new.self [] given).near
+    (first-given g.W.World.told (wanted_of K) limits start now _ c.requires.unbound c.in-Ok._header c.next.new.self [] (c.in-Ok.ensures.gives (wanted_of K) limits start [] feeds)).near

@@ -1,8 +1,8 @@
-use Rattle.std.proofs.Common.{◌+◌, ◌<◌, ◌++◌, ◌^◌, length, Some, sym, subst}
+use Rattle.std.proofs.Common.{◌+◌, ◌<◌, ◌++◌, ◌^◌, length, sym, subst}
 use Rattle.ccsl_bind.specs.Collected.{wanted_of}
-use Rattle.ccsl_trace.specs.Feeding.{Gives}
+use Rattle.ccsl_trace.proofs.Giving.{given-few, not-bound}
 use Rattle.ccsl_certify.specs.Replaying.{Follows}
-use Rattle.ccsl_certify.proofs.Taking.{given-few, not-bound, goes-on, has-ended}
+use Rattle.ccsl_certify.proofs.Taking.{goes-on, has-ended}
 use Rattle.ccsl_certify.proofs.trace.Replaying.take_next.Goals as goal
 
 pub returns-in-Err-clause-unread : goal.returns-in-Err-clause-unread
@@ -13,8 +13,8 @@ take-requires g c =
     let w = c.requires.goes in
     let s = w.3 in
     let now = g.W.World.state c.next.new.world in
-    let given = subst (λ b. Gives g.W.World.told (wanted_of w.0) w.1 w.2 now c.in-Ok.next b c.next.new.self s.rows) s.shows (c.in-Ok.ensures.gives (wanted_of w.0) w.1 w.2 s.rows s.feeds) in
-    let few = given-few g.W.World.told w.0 w.1 w.2 now s.bound c.next.new.self s.rows c.in-Ok.next given in
+    let given = c.in-Ok.ensures.gives (wanted_of w.0) w.1 w.2 s.rows s.feeds in
+    let few = given-few g.W.World.told (wanted_of w.0) w.1 w.2 now _ s.bound s.shows c.next.new.self s.rows c.in-Ok.next given in
     (w.0, s.bound, s.rows, s.follows, subst (λ b. length s.rows + length b.rows < 2 ^ 64) (sym c.block.ensures) few)
 
 pub returns-in-Bound : goal.returns-in-Bound
@@ -22,26 +22,23 @@ returns-in-Bound g c =
     let w = c.requires.goes in
     let s = w.3 in
     let now = g.W.World.state c.next.new.world in
-    let given = subst (λ b. Gives g.W.World.told (wanted_of w.0) w.1 w.2 now c.in-Ok.next b c.next.new.self s.rows) s.shows (c.in-Ok.ensures.gives (wanted_of w.0) w.1 w.2 s.rows s.feeds) in
-    not-bound g.W.World.told w.0 w.1 w.2 now s.bound c.next.new.self s.rows
-    (subst (λ n. Gives g.W.World.told (wanted_of w.0) w.1 w.2 now n (Some s.bound) c.next.new.self s.rows) c.in-Bound.is given)
+    let given = c.in-Ok.ensures.gives (wanted_of w.0) w.1 w.2 s.rows s.feeds in
+    not-bound g.W.World.told (wanted_of w.0) w.1 w.2 now _ s.bound s.shows c.next.new.self s.rows (rw c.in-Bound.is at given)
 
 pub returns-in-Rows-clause-stands : goal.returns-in-Rows-clause-stands
 returns-in-Rows-clause-stands g c = λ K limits start s.
     let now = g.W.World.state c.next.new.world in
-    let given = subst (λ b. Gives g.W.World.told (wanted_of K) limits start now c.in-Ok.next b c.next.new.self s.rows) s.shows (c.in-Ok.ensures.gives (wanted_of K) limits start s.rows s.feeds) in
-    let few = given-few g.W.World.told K limits start now s.bound c.next.new.self s.rows c.in-Ok.next given in
-    let rows = subst (λ n. Gives g.W.World.told (wanted_of K) limits start now n (Some s.bound) c.next.new.self s.rows) c.in-Rows.is given in
+    let given = c.in-Ok.ensures.gives (wanted_of K) limits start s.rows s.feeds in
+    let few = given-few g.W.World.told (wanted_of K) limits start now _ s.bound s.shows c.next.new.self s.rows c.in-Ok.next given in
     let took = subst (λ b. Follows K s.bound (s.rows ++ b.rows) c.take.new.self) c.block.ensures
     (c.take.ensures K s.bound s.rows s.follows (subst (λ b. length s.rows + length b.rows < 2 ^ 64) (sym c.block.ensures) few)) in
-    goes-on g.W.World.told K limits start now s.bound c.next.new.self s.rows c.take.new.self took rows
+    goes-on g.W.World.told K limits start now _ s.bound s.shows c.next.new.self s.rows c.take.new.self took (rw c.in-Rows.is at given)
 
 pub returns-in-Ended-clause-stands : goal.returns-in-Ended-clause-stands
 returns-in-Ended-clause-stands g c = λ K limits start s.
     let now = g.W.World.state c.next.new.world in
-    let given = subst (λ b. Gives g.W.World.told (wanted_of K) limits start now c.in-Ok.next b c.next.new.self s.rows) s.shows (c.in-Ok.ensures.gives (wanted_of K) limits start s.rows s.feeds) in
-    let few = given-few g.W.World.told K limits start now s.bound c.next.new.self s.rows c.in-Ok.next given in
-    let ended = subst (λ n. Gives g.W.World.told (wanted_of K) limits start now n (Some s.bound) c.next.new.self s.rows) c.in-Ended.is given in
+    let given = c.in-Ok.ensures.gives (wanted_of K) limits start s.rows s.feeds in
+    let few = given-few g.W.World.told (wanted_of K) limits start now _ s.bound s.shows c.next.new.self s.rows c.in-Ok.next given in
     let took = subst (λ b. Follows K s.bound (s.rows ++ b.rows) c.take.new.self) c.block.ensures
     (c.take.ensures K s.bound s.rows s.follows (subst (λ b. length s.rows + length b.rows < 2 ^ 64) (sym c.block.ensures) few)) in
-    has-ended g.W.World.told K limits start now s.bound c.next.new.self s.rows c.take.new.self took c.in-Ended.counts ended
+    has-ended g.W.World.told K limits start now _ s.bound s.shows c.next.new.self s.rows c.take.new.self took c.in-Ended.counts (rw c.in-Ended.is at given)

@@ -1,7 +1,6 @@
-use Rattle.std.proofs.Common.{[], subst}
+use Rattle.std.proofs.Common.{[]}
 use Rattle.ccsl_bind.specs.Collected.{wanted_of}
-use Rattle.ccsl_trace.specs.Feeding.{Gives}
-use Rattle.ccsl_judge.proofs.Taking.{first-given}
+use Rattle.ccsl_trace.proofs.Giving.{first-given}
 use Rattle.ccsl_judge.proofs.judging.Judging.begin.Goals as goal
 
 pub next-requires : goal.next-requires
@@ -18,9 +17,8 @@ returns-in-Ok-shares_for-clause-goes g c =
     let K = c.args.system.now in
     let start = g.W.World.state c.args.world.now in
     let now = g.W.World.state c.next.new.world in
-    let given = subst (λ b. Gives g.W.World.told (wanted_of K) c.args.limits.now start now c.in-Ok-next._header b c.next.new.self []) c.in-Ok.ensures.unbound
-    (c.in-Ok-next.ensures.gives (wanted_of K) c.args.limits.now start [] (c.in-Ok.ensures.feeds g.W.World.told start)) in
-    let first = first-given g.W.World.told K c.args.limits.now start now c.in-Ok-next._header c.next.new.self [] given in
+    let given = c.in-Ok-next.ensures.gives (wanted_of K) c.args.limits.now start [] (c.in-Ok.ensures.feeds g.W.World.told start) in
+    let first = first-given g.W.World.told (wanted_of K) c.args.limits.now start now _ c.in-Ok.ensures.unbound c.in-Ok-next._header c.next.new.self [] given in
     record { bound = first.bound; rows = []; shows = first.shows; feeds = first.feeds; follow = c.in-Ok-shares_for.ensures first.bound first.shows }
 
 pub returns-in-Err-shares_for-clause-unread : goal.returns-in-Err-shares_for-clause-unread
@@ -28,6 +26,5 @@ returns-in-Err-shares_for-clause-unread g c =
     let K = c.args.system.now in
     let start = g.W.World.state c.args.world.now in
     let now = g.W.World.state c.next.new.world in
-    let given = subst (λ b. Gives g.W.World.told (wanted_of K) c.args.limits.now start now c.in-Ok-next._header b c.next.new.self []) c.in-Ok.ensures.unbound
-    (c.in-Ok-next.ensures.gives (wanted_of K) c.args.limits.now start [] (c.in-Ok.ensures.feeds g.W.World.told start)) in
-    (first-given g.W.World.told K c.args.limits.now start now c.in-Ok-next._header c.next.new.self [] given).near
+    let given = c.in-Ok-next.ensures.gives (wanted_of K) c.args.limits.now start [] (c.in-Ok.ensures.feeds g.W.World.told start) in
+    (first-given g.W.World.told (wanted_of K) c.args.limits.now start now _ c.in-Ok.ensures.unbound c.in-Ok-next._header c.next.new.self [] given).near
