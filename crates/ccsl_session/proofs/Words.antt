@@ -2,8 +2,9 @@
 use Rattle.std.proofs.Common.{◌≡◌, ℕ, suc, ◌+◌, List, [], ◌∷◌, length, take, drop, map, filter, not, refl, sym, ap, ◌∙◌}
 use Rattle.std.specs.List.{slice_split, prefix_len}
 use Rattle.ccsl_refute.specs.Text as placed
+use Rattle.ccsl_refute.specs.Text.{is_blank}
 use Rattle.ccsl_refute.proofs.Tokens as placed_tokens
-use Rattle.ccsl_session.specs.Asked.{is_blank, has_bytes, tokens}
+use Rattle.ccsl_session.specs.Asked.{has_bytes, tokens}
 
 abbrev texts : List placed.Piece → List (List ℕ)
 texts ps = map (λ (p : placed.Piece). p.1) ps

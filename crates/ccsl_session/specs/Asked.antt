@@ -1,11 +1,12 @@
 -- WHAT A LINE ASKS of a session. This project's own.
-use Rattle.std.specs.Prelude.{ℕ, List, [], ◌∷◌, Bool, true, false, ◌&&◌, ◌||◌, Option, Some, None, codes, filter, take, nat_eq, if◌then◌else◌}
+use Rattle.std.specs.Prelude.{ℕ, List, [], ◌∷◌, Bool, true, false, ◌&&◌, Option, Some, None, codes, filter, take, if◌then◌else◌}
 use Rattle.std.specs.List.{list_all, slice_split}
 use Rattle.std.specs.Str.{bytes_eq}
 use Rattle.ccsl_base.specs.Clocks.{with_clock}
 use Rattle.ccsl_base.specs.Names.{is_among, find_name, are_distinct}
 use Rattle.ccsl_kernel.specs.Syntax.{System}
 use Rattle.ccsl_kernel.specs.Lives.{Step}
+use Rattle.ccsl_refute.specs.Text.{is_blank}
 use Rattle.ccsl_lines.specs.Lines as lines
 
 pub data Asked : Type 0 where
@@ -20,10 +21,6 @@ pub data Asked : Type 0 where
   Quit : Asked
   Long : Asked
   Unknown : Asked
-
--- a blank or a tab
-abbrev pub is_blank : ℕ → Bool
-is_blank b = nat_eq b 32 || nat_eq b 9
 
 abbrev pub has_bytes : List ℕ → Bool
 has_bytes [] = false

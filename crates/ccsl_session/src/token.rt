@@ -2,7 +2,8 @@
 
 ghost use Rattle.std.specs.Prelude.{◌≡◌, ◌≤◌, [], ◌∷◌, not, MatchOption, length};
 ghost use Rattle.std.specs.List.{prefix_len};
-ghost use Rattle.ccsl_session.specs.Asked.{is_blank, tokens};
+ghost use Rattle.ccsl_refute.specs.Text.{is_blank};
+ghost use Rattle.ccsl_session.specs.Asked.{tokens};
 
 use std::marker::Model;
 
