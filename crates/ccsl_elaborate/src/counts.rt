@@ -6,8 +6,7 @@ ghost use Rattle.ccsl_ast.specs.Trees.{SLineOf, plain, plain_line, plain_sline, 
 ghost use Rattle.ccsl_ast.specs.Files.{plain_file};
 ghost use Rattle.ccsl_kernel.specs.Cells.{saturated, cells};
 ghost use Rattle.ccsl_rules.specs.Expansion.{declared_names, expand};
-ghost use Rattle.ccsl_rules.specs.Counts.{cut, count_of, line_count, entry_count, body_count, block_count, counts};
-ghost use Rattle.ccsl_rules.specs.Counts.{count_behind};
+ghost use Rattle.ccsl_rules.specs.Counts.{cut, count_of, line_count, entry_count, body_count, block_count, counts, count_behind};
 ghost use Rattle.ccsl_spaces.specs.Callees.{seen_call};
 ghost use Rattle.ccsl_elaborate.specs.TreeCells.{groups_before};
 ghost use Rattle.ccsl_elaborate.specs.Weighed.{definition_weight, constraint_weight, weights_of, calls_of};

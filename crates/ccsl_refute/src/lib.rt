@@ -1,6 +1,7 @@
 //! Certificates that no set of clocks satisfies some formulas, and a checker that knows nothing of a solver.
 #![tactic(auto)]
 
+pub mod blanks;
 pub mod checker;
 pub mod clause;
 pub mod fault;

@@ -1,9 +1,9 @@
 //! The tokens of a line.
 
-ghost use Rattle.std.specs.Prelude.{◌≡◌, ◌+◌, ◌<◌, ◌≤◌, ◌^◌, [], ◌∷◌, not, MatchOption, length};
-ghost use Rattle.std.specs.List.{prefix_len};
-ghost use Rattle.ccsl_refute.specs.Text.{is_blank, tokens};
+ghost use Rattle.std.specs.Prelude.{◌≡◌, ◌+◌, ◌<◌, ◌^◌, [], ◌∷◌, MatchOption, length};
+ghost use Rattle.ccsl_refute.specs.Text.{tokens};
 
+use crate::blanks::{blanks, letters};
 use std::marker::Model;
 
 /// A token: the place of its first byte in the text, and its bytes.
@@ -68,26 +68,4 @@ impl<'a> Tokens<'a> {
         self.rest = &word[len..];
         Some(token)
     }
-}
-
-fn is_blank(byte: u8) -> bool
-    ensures { result ≡ is_blank byte }
-{
-    byte == b' ' || byte == b'\t'
-}
-
-/// How many blanks and tabs the bytes begin with.
-fn blanks(bytes: &[u8]) -> usize
-    ensures count { result ≡ prefix_len is_blank bytes.now }
-    ensures within { result ≤ length bytes.now }
-{
-    bytes.iter().take_while(|b| is_blank(**b)).count()
-}
-
-/// How many other bytes they begin with.
-fn letters(bytes: &[u8]) -> usize
-    ensures count { result ≡ prefix_len (λ b. not (is_blank b)) bytes.now }
-    ensures within { result ≤ length bytes.now }
-{
-    bytes.iter().take_while(|b| !is_blank(**b)).count()
 }
