@@ -1,4 +1,3 @@
 pub mod Following
 pub mod Taking
-pub mod Verdicts
 pub mod Deadlocks

@@ -13,7 +13,6 @@ use crate::answer::Replayed;
 use crate::both::both;
 use ccsl_base::{Block, ClockSet, Memory, Row};
 use ccsl_kernel::System;
-use ccsl_kernel::laws::verdict_is_first;
 use ccsl_relate::{Monitor, Violation};
 use ccsl_state::States;
 use std::alloc::Global;
@@ -83,7 +82,6 @@ impl<'s> Follower<'s> {
         ensures { (K : System) (bound : List ℕ) (rows : List Row) → Follows K bound rows self.entry → count ≡ length rows →
             Answers K bound rows result }
     {
-        verdict_is_first();
         match self.monitor.first() {
             Some(Violation { step, time, item }) => Replayed::NotRun { step, time, item },
             None => Replayed::Run {

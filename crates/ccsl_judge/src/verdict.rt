@@ -7,7 +7,6 @@ ghost use Rattle.ccsl_kernel.specs.Verdict.{verdict};
 ghost use Rattle.ccsl_relate.specs.Violations.{Finds};
 ghost use Rattle.ccsl_judge.specs.Judged.{plain, HasItem};
 
-use ccsl_kernel::laws::verdict_is_first;
 use ccsl_relate::Violation;
 
 /// The verdict on the rows of a trace.
@@ -25,7 +24,6 @@ pub(crate) fn verdict_on(first: Option<Violation>, rows: u64) -> Verdict
         Finds K bound taken 0 (item_count K) first → plain result ≡ verdict K bound taken }
     ensures item { (K : System) (bound : List ℕ) (taken : List Row) → Finds K bound taken 0 (item_count K) first → HasItem K result }
 {
-    verdict_is_first();
     match first {
         None => Verdict::Run(rows),
         Some(violation) => Verdict::Violated {

@@ -17,3 +17,4 @@ pub mod Told
 pub mod ByRows
 pub mod Earliest
 pub mod Through
+pub mod Verdicts

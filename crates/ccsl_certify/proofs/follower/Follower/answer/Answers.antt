@@ -2,7 +2,7 @@ use Rattle.std.proofs.Common.{length, sym, ap, ◌∙◌, subst}
 use Rattle.ccsl_kernel.specs.Syntax.{item_count}
 use Rattle.ccsl_kernel.specs.Verdict.{Run}
 use Rattle.ccsl_relate.specs.Violations.{Finds}
-use Rattle.ccsl_certify.proofs.Verdicts.{obeyed-run, first-violated, finds-all}
+use Rattle.ccsl_relate.proofs.Verdicts.{obeyed-run, first-violated, finds-all}
 use Rattle.ccsl_certify.proofs.follower.Follower.answer.Goals as goal
 
 pub returns-in-Some : goal.returns-in-Some
