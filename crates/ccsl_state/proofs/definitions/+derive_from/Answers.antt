@@ -10,46 +10,22 @@ use Rattle.ccsl_state.specs.States.{put, derived_in, trees_in}
 use Rattle.ccsl_state.proofs.Each.{part_at, trees_old}
 use Rattle.ccsl_state.proofs.definitions.+derive_from.Goals as goal
 
-pub heard-heard-requires-clause-shallow : goal.heard-heard-requires-clause-shallow
-heard-heard-requires-clause-shallow t c = (part_at _ _ c.args.i _ _ c.definition.ensures.accepted c.definition.ensures.definition c.requires.groups c.requires.room).shallow
-
-pub heard-heard-requires-clause-offsets : goal.heard-heard-requires-clause-offsets
-heard-heard-requires-clause-offsets t c = (part_at _ _ c.args.i _ _ c.definition.ensures.accepted c.definition.ensures.definition c.requires.groups c.requires.room).offsets
-
-pub heard-heard-requires-clause-stands : goal.heard-heard-requires-clause-stands
-heard-heard-requires-clause-stands t c = (part_at _ _ c.args.i _ _ c.definition.ensures.accepted c.definition.ensures.definition c.requires.groups c.requires.room).stands
-
-pub heard-heard-requires-clause-room : goal.heard-heard-requires-clause-room
-heard-heard-requires-clause-room t c = let room = (part_at _ _ c.args.i _ _ c.definition.ensures.accepted c.definition.ensures.definition c.requires.groups c.requires.room).room in omega arith
+pub heard-heard-requires : goal.heard-heard-requires
+heard-heard-requires t c =
+    let part = part_at _ _ c.args.i _ _ c.definition.ensures.accepted c.definition.ensures.definition c.requires.groups c.requires.room in
+    let room = part.room in
+    record { table = c.requires.table; groups = omega arith; shallow = part.shallow; offsets = part.offsets; stands = part.stands; actuals = search rules; room = omega arith; few = c.requires.few }
 
 pub split_at-requires : goal.split_at-requires
 split_at-requires t c =
-    let K = c.args.lay.now.system.now in
-    let earlier = c.args.lay.now.earlier.now in
-    let i = c.args.i in
-    let row = c.args.row.now in
-    let e = plain_expr c.definition.result.now in
-    let es = drop (i + 1) K.definitions in
-    let part = part_at K earlier i e (length row) c.definition.ensures.accepted c.definition.ensures.definition c.requires.groups c.requires.room in
-    let room = part.room in
-    let size : c.heard-heard.result.size ≡ cells_in earlier e = c.heard-heard.ensures.size in
+    let room = (part_at _ _ c.args.i _ _ c.definition.ensures.accepted c.definition.ensures.definition c.requires.groups c.requires.room).room in
     omega arith
 
 pub derive_from-requires : goal.derive_from-requires
 derive_from-requires t c =
-    let K = c.args.lay.now.system.now in
-    let earlier = c.args.lay.now.earlier.now in
-    let i = c.args.i in
-    let row = c.args.row.now in
-    let e = plain_expr c.definition.result.now in
-    let es = drop (i + 1) K.definitions in
-    let part = part_at K earlier i e (length row) c.definition.ensures.accepted c.definition.ensures.definition c.requires.groups c.requires.room in
-    let room = part.room in
-    let size : c.heard-heard.result.size ≡ cells_in earlier e = c.heard-heard.ensures.size in
-    let below : i < length K.definitions = let a = c.if-i-definitions.true in let b = c.definitions.ensures in omega arith in
-    let back = c.split_at.ensures.back_len in
-    let f = c.requires.few in
-    (search (rules, below), (c.requires.table, (c.requires.groups, ((omega (arith, below)), (omega arith, omega arith)))))
+    let room = (part_at _ _ c.args.i _ _ c.definition.ensures.accepted c.definition.ensures.definition c.requires.groups c.requires.room).room in
+    let below : c.args.i < length c.args.lay.now.system.now.definitions = let n = c.definitions.ensures in omega arith in
+    (search (rules, below), (c.requires.table, (c.requires.groups, (omega (arith, below), (omega arith, omega arith)))))
 
 pub returns-then-i-definitions : goal.returns-then-i-definitions
 returns-then-i-definitions t c =
