@@ -1,5 +1,5 @@
 -- A call of an earlier group, seen from outside of its region.
-use Rattle.std.proofs.Common.{◌≡◌, ℕ, ◌+◌, ◌<◌, ◌≤◌, List, length, take, slice_index, Some, if◌then◌else◌, sym, ap, subst, ◌∙◌, arith}
+use Rattle.std.proofs.Common.{◌≡◌, ℕ, ◌+◌, ◌<◌, ◌≤◌, List, length, take, slice_index, Some, if◌then◌else◌, sym, ap, ap₂, subst, ◌∙◌, arith}
 use Rattle.std.proofs.lemmas.Bool.{lt-ltb}
 use Rattle.std.proofs.lemmas.List.{length-take-le}
 use Rattle.ccsl_kernel.specs.declared.actual.Actual.{Actual}
@@ -39,6 +39,11 @@ module _ (K : System) (earlier : List ℕ) (group : ℕ) where
       ap (λ t. if t then read_call K earlier (length earlier) group row else TNever) (lt-ltb group (length earlier) below)
       ∙ read_call_is K earlier (length earlier) group row below (omega arith)
 
+  -- seen from its region
+  pub region_read : (K' : System) (earlier' : List ℕ) (member : ℕ) (args : List Value) (ρ : List Actual) (row : List ℕ) → K' ≡ K → earlier' ≡ take group earlier → group < length earlier →
+      region_of K' earlier' row ≡ read K earlier (ECall group member args) ρ row
+  region_read K' earlier' member args ρ row k ns below = ap₂ (λ K ns. region_of K ns row) k ns ∙ sym (call_read member args ρ row below)
+
 -- what a call's region owes in a step
 abbrev pub SiteOwes : System → List ℕ → ℕ → ℕ → Type 0
 SiteOwes K earlier group n =
@@ -65,3 +70,8 @@ module _ (K : System) (earlier : List ℕ) (group : ℕ) where
         (λ m b is. let p = r.1 m b is in omega (arith, p, room)),
         few,
       )
+
+  pub site_owes_inside : (K' : System) (earlier' : List ℕ) (n : ℕ) → K' ≡ K → earlier' ≡ take group earlier → IsEnough K earlier → length earlier ≤ length K.groups → group < length earlier → slice_index earlier group ≤ n → n ≤ 32768 →
+      SiteOwes K' earlier' group n
+  site_owes_inside K' earlier' n k ns enough groups below room few =
+      subst (λ K. SiteOwes K earlier' group n) (sym k) (subst (λ ns. SiteOwes K ns group n) (sym ns) (site_owes n enough groups below room few))

@@ -5,6 +5,7 @@ pub mod Pairs
 pub mod Frame
 pub mod Calls
 pub mod CallSites
+pub mod CallBodies
 pub mod Evals
 pub mod Bits
 pub mod Keeping
