@@ -1,5 +1,5 @@
 -- The body of a call in a region: behind the member's number lie the cells of its parameters, and then its own region.
-use Rattle.std.proofs.Common.{◌≡◌, ℕ, ◌+◌, ◌<◌, ◌≤◌, ◌%◌, ◌^◌, List, ◌++◌, length, map, false, Some, slice_index, refl, sym, ap, subst, ◌∙◌, arith}
+use Rattle.std.proofs.Common.{◌≡◌, ℕ, ◌+◌, ◌<◌, ◌≤◌, ◌%◌, ◌^◌, List, ◌++◌, length, drop, map, false, Some, slice_index, refl, sym, ap, subst, ◌∙◌, arith}
 use Rattle.ccsl_kernel.specs.declared.actual.Actual.{Actual}
 use Rattle.ccsl_kernel.specs.Syntax.{Body, System, body_of}
 use Rattle.ccsl_kernel.specs.Accepted.{IsAccepted}
@@ -11,6 +11,7 @@ use Rattle.ccsl_state.specs.Layout.{actual_of, read, region_of}
 use Rattle.ccsl_state.specs.Standing.{Stands, IsEnough}
 use Rattle.ccsl_state.proofs.Calls.{call_at}
 use Rattle.ccsl_state.proofs.Places.{ready_body, few_params}
+use Rattle.ccsl_state.proofs.Regions.{rest_one}
 
 -- what is owed for the body's region, of n cells
 abbrev pub BodyOwes : System → List ℕ → Body → List Actual → ℕ → Type 0
@@ -42,3 +43,10 @@ module _ (K : System) (earlier : List ℕ) (g : ℕ) (b : Body) (first cells reg
   pub body_at : (ρ : List Actual) → length earlier ≡ g → Some b ≡ body_of K.groups g (slice_index first 0 % 2 ^ 32) → ρ ≡ map (actual_of K.words) cells → region_of K earlier row ≡ read K earlier b.root ρ region
   body_at ρ at is actuals =
       call_at K earlier first cells region row (slice_index first 0 % 2 ^ 32) g b (row_is ∙ ap (λ rest. first ++ rest) rest_is) one refl at (sym is) count ∙ ap (λ vs. read K earlier b.root vs region) (sym actuals)
+
+  -- what lies behind it stays, where its own region is rewritten
+  pub behind_body : (region' : List ℕ) (n : ℕ) → drop (cells_in earlier b.root) region' ≡ drop (cells_in earlier b.root) region → 1 + length b.params + cells_in earlier b.root ≤ n → drop n (first ++ (cells ++ region')) ≡ drop n row
+  behind_body region' n kept u =
+      let p = length b.params in
+      let m = cells_in earlier b.root in
+      rest_one 1 n (p + m) first first rest (cells ++ region') row row_is one one (rest_one p (p + m) m cells cells region region' rest rest_is count count kept (omega arith)) (omega (arith, u))

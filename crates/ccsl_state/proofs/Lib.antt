@@ -6,6 +6,8 @@ pub mod Frame
 pub mod Calls
 pub mod CallSites
 pub mod CallBodies
+pub mod Moving
+pub mod TwoOperands
 pub mod Evals
 pub mod Bits
 pub mod Keeping
