@@ -2,8 +2,8 @@
 use Rattle.std.proofs.Common.{◌≡◌, ℕ, ◌-◌, ◌+◌, List, Bool, true, false, Option, Some, None, nat_eq, nat_lt, nat_le, slice_index_or, refl, if◌then◌else◌, ◌&&◌}
 use Rattle.ccsl_formula.specs.Formula.{Formula, FFalse, FNot, FAnd, FOr, eval}
 use Rattle.ccsl_words.specs.Word.{letter}
-use Rattle.ccsl_state.specs.Tree.{One, Delaying, Awaiting, Filtering, Two, Uniting, Meeting, Lessening, Leading, Trailing, Ending, EndingWeakly, Sampling, SamplingWeakly, Lagging, Tree, one_formula, one_ticks, two_formula, two_ticks, formula_of}
-use Rattle.ccsl_state.specs.Nodes.{pair_at, node_ticks, node_formula}
+use Rattle.ccsl_state.specs.Tree.{One, Delaying, Awaiting, Filtering, Two, Uniting, Meeting, Lessening, Leading, Trailing, Ending, EndingWeakly, Sampling, SamplingWeakly, Lagging, Tree, one_formula, one_ticks, two_formula, two_ticks, formula_of, dead_of}
+use Rattle.ccsl_state.specs.Nodes.{pair_at, node_ticks, node_formula, node_dead}
 
 module _ (s : List ℕ) where
   if_eval : (t : Bool) (f : Formula) → eval (if t then f else FFalse) s ≡ (t && eval f s)
@@ -44,6 +44,11 @@ module _ (s : List ℕ) where
 pub pair_formula : (o : Option Two) (a d : Tree) → formula_of (pair_at o a d) ≡ node_formula o (formula_of a) (formula_of d)
 pair_formula None a d = refl
 pair_formula (Some o) a d = refl
+
+-- and its death, from theirs
+pub pair_dead : (gone : ℕ → Bool) (o : Option Two) (a d : Tree) → node_dead o (dead_of gone a) (dead_of gone d) ≡ dead_of gone (pair_at o a d)
+pair_dead gone None a d = refl
+pair_dead gone (Some o) a d = refl
 
 pub open_formula : (x : Bool) (g : Formula) → (if (if x then true else false) then g else FFalse) ≡ (if x then g else FFalse)
 open_formula true g = refl

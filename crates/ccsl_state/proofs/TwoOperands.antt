@@ -6,7 +6,7 @@ use Rattle.ccsl_kernel.specs.declared.actual.Actual.{Actual}
 use Rattle.ccsl_kernel.specs.Syntax.{Expression, System}
 use Rattle.ccsl_kernel.specs.Cells.{cells_in}
 use Rattle.ccsl_kernel.specs.Lives.{Step}
-use Rattle.ccsl_state.specs.Tree.{formula_of, dead_of, next}
+use Rattle.ccsl_state.specs.Tree.{opening, formula_of, dead_of, next}
 use Rattle.ccsl_state.specs.Layout.{read}
 use Rattle.ccsl_state.specs.Standing.{IsEnough}
 use Rattle.ccsl_state.proofs.Frame.{read_same}
@@ -66,3 +66,27 @@ module _ (K : System) (earlier : List ℕ) (ρ : List Actual) (s : Step) (gone :
           dead = died ∙ ap (λ o. dies o x y) (sym new) ∙ ap₂ (dies (at row')) (first.dead ∙ ap (dead_of gone) (sym parts.first)) (second.dead ∙ ap (dead_of gone) (sym parts.second));
           rest = parts.behind;
         }
+
+-- AT THE BIRTH
+module _ (K : System) (earlier : List ℕ) (ρ : List Actual) (gone : ℕ → Bool) {N : Type 0} (at : List ℕ → N) (dies : N → Bool → Bool → Bool) (own : ℕ) (a d : Expression) where
+  pub record AreBorn (row row' : List ℕ) (born : N) (z : Bool) : Type 0 where
+    pub node : at row' ≡ born
+    pub left : read K earlier a ρ (drop own row') ≡ opening K a ρ
+    pub right : read K earlier d ρ (drop (own + cells_in earlier a) row') ≡ opening K d ρ
+    pub dead : z ≡ dies born (dead_of gone (opening K a ρ)) (dead_of gone (opening K d ρ))
+    pub rest : drop (own + cells_in earlier a + cells_in earlier d) row' ≡ drop (own + cells_in earlier a + cells_in earlier d) row
+
+  pub two_born : (head head' rest middle left right right' row : List ℕ) (born : N) (x y z : Bool) → ((head rest : List ℕ) → length head ≡ own → at (head ++ rest) ≡ at head) → IsEnough K earlier → cells_in earlier a ≤ 32768 →
+      row ≡ head ++ rest → length head ≡ own → length head' ≡ length head → middle ≡ left ++ right → length left ≡ cells_in earlier a →
+      read K earlier a ρ middle ≡ opening K a ρ → x ≡ dead_of gone (opening K a ρ) → drop (cells_in earlier a) middle ≡ drop (cells_in earlier a) rest →
+      read K earlier d ρ right' ≡ opening K d ρ → y ≡ dead_of gone (opening K d ρ) → drop (cells_in earlier d) right' ≡ drop (cells_in earlier d) right →
+      at head' ≡ born → z ≡ dies (at head') x y → AreBorn row (head' ++ (left ++ right')) born z
+  two_born head head' rest middle left right right' row born x y z front enough few row_is len same middle_is size opens dead kept opens' dead' kept' begins died =
+      let parts = rewritten K earlier ρ own a d head head' rest middle left right right' row enough few row_is len same middle_is size kept kept' in
+      record {
+        node = front head' (left ++ right') (same ∙ len) ∙ begins;
+        left = parts.first ∙ opens;
+        right = parts.second ∙ opens';
+        dead = died ∙ ap (λ o. dies o x y) begins ∙ ap₂ (dies born) dead dead';
+        rest = parts.behind;
+      }

@@ -6,120 +6,42 @@ use Rattle.ccsl_kernel.specs.Actuals.{value_of}
 use Rattle.ccsl_kernel.specs.Cells.{cells_in}
 use Rattle.ccsl_kernel.specs.Fit.{ActualsFit}
 use Rattle.ccsl_kernel.specs.Fitting.{ExprFits}
-use Rattle.ccsl_state.specs.Tree.{opening, dead_of}
-use Rattle.ccsl_state.specs.Layout.{actual_of, words_of, own_cells, read, region_of}
+use Rattle.ccsl_state.specs.Tree.{two_dead, two_opened, opening, dead_of}
+use Rattle.ccsl_state.specs.Layout.{actual_of, words_of, lag_at, own_cells, two_at, region_of}
 use Rattle.ccsl_state.specs.Moves.{gone_in}
+use Rattle.ccsl_state.specs.Nodes.{node_dead}
 use Rattle.ccsl_kernel.proofs.AcceptedParts.{accepted_guarded}
 use Rattle.ccsl_state.specs.Standing.{Stands, is_own}
 use Rattle.std.proofs.lemmas.Bool.{leb-false}
 use Rattle.std.proofs.lemmas.List.{length-take-le}
 use Rattle.ccsl_state.proofs.CallSites.{CallOwes, call_owes, call_read}
-use Rattle.ccsl_state.proofs.Frame.{read_same, call_room, lag_front}
+use Rattle.ccsl_state.proofs.Frame.{call_room, two_same, lag_front}
 use Rattle.ccsl_state.proofs.Calls.{call_born, call_opens}
 use Rattle.ccsl_state.proofs.Places.{call_params, ready_body}
-use Rattle.ccsl_state.proofs.Regions.{rest_one, two_regions, one_set, set_at}
+use Rattle.ccsl_state.proofs.Regions.{rest_one, one_set, set_at, take_own}
+use Rattle.ccsl_state.proofs.TwoOperands.{two_born}
+use Rattle.ccsl_state.proofs.Evals.{pair_dead}
 use Rattle.ccsl_state.proofs.open.+open.Goals as goal
 
-pub two_opened-returns-clause-left : goal.two_opened-returns-clause-left
-two_opened-returns-clause-left t c =
-    let own = own_cells c.args.op in
-    let m = cells_in c.args.lay.now.earlier.now (plain_expr c.args.a.now) in
-    let n = cells_in c.args.lay.now.earlier.now (plain_expr c.args.d.now) in
-    let left = c.split_at_mut-behind.result.0.now in
-    let right = c.split_at_mut-behind.result.1.now in
-    let right' = c.opened-right.new.row in
-    let len : length c.split_at_mut-head.result.0.now ≡ own = c.split_at_mut-head.ensures.front_len ∙ c.own_cells.ensures.own in
-    let parts = two_regions own m n c.split_at_mut-head.result.0.now c.two_born.new.head c.split_at_mut-head.result.1.now left right right' c.args.row.now
-    c.split_at_mut-head.ensures.value len (c.two_born.auto.head ∙ len) (ap (drop m) (sym c.split_at_mut-behind.ensures.value) ∙ c.opened-left.ensures.rest)
-    (c.split_at_mut-behind.ensures.front_len ∙ c.opened-left.ensures.size) c.opened-right.ensures.rest in
-    let K = c.args.lay.now.system.now in
-    let earlier = c.args.lay.now.earlier.now in
-    let e = plain_expr c.args.a.now in
-    ap (read K earlier e c.args.actuals.now) parts.new_left
-    ∙ read_same K earlier e c.args.actuals.now (left ++ right') (left ++ right) c.requires.table (let r = c.requires.room in let f = c.requires.few in omega arith) parts.kept
-    ∙ ap (read K earlier e c.args.actuals.now) (sym c.split_at_mut-behind.ensures.value)
-    ∙ c.opened-left.ensures.tree
+pub two_opened-returns : goal.two_opened-returns
+two_opened-returns t c =
+    let few : cells_in c.args.lay.now.earlier.now (plain_expr c.args.a.now) ≤ 32768 = let r = c.requires.room in let f = c.requires.few in omega arith in
+    let all = two_born c.args.lay.now.system.now c.args.lay.now.earlier.now c.args.actuals.now (gone_in c.args.gone.now) (two_at c.args.op) node_dead (own_cells c.args.op) (plain_expr c.args.a.now) (plain_expr c.args.d.now)
+    _ _ _ _ _ _ _ _ _ _ _ _ (λ head rest l. sym (two_same c.args.op head (head ++ rest) (take_own (own_cells c.args.op) head rest l))) c.requires.table few c.split_at_mut-head.ensures.value
+    (c.split_at_mut-head.ensures.front_len ∙ c.own_cells.ensures.own) c.two_born.auto.head c.split_at_mut-behind.ensures.value (c.split_at_mut-behind.ensures.front_len ∙ c.opened-left.ensures.size)
+    c.opened-left.ensures.tree c.opened-left.ensures.dead c.opened-left.ensures.rest c.opened-right.ensures.tree c.opened-right.ensures.dead c.opened-right.ensures.rest
+    c.two_born.ensures c.two_dead.ensures in
+    record { node = all.node; left = all.left; right = all.right; rest = all.rest; dead = all.dead ∙ pair_dead (gone_in c.args.gone.now) (two_opened c.args.op) (opening c.args.lay.now.system.now (plain_expr c.args.a.now) c.args.actuals.now) (opening c.args.lay.now.system.now (plain_expr c.args.d.now) c.args.actuals.now); size = search rules }
 
-pub two_opened-returns-clause-right : goal.two_opened-returns-clause-right
-two_opened-returns-clause-right t c =
-    let own = own_cells c.args.op in
-    let m = cells_in c.args.lay.now.earlier.now (plain_expr c.args.a.now) in
-    let n = cells_in c.args.lay.now.earlier.now (plain_expr c.args.d.now) in
-    let left = c.split_at_mut-behind.result.0.now in
-    let right = c.split_at_mut-behind.result.1.now in
-    let right' = c.opened-right.new.row in
-    let len : length c.split_at_mut-head.result.0.now ≡ own = c.split_at_mut-head.ensures.front_len ∙ c.own_cells.ensures.own in
-    let parts = two_regions own m n c.split_at_mut-head.result.0.now c.two_born.new.head c.split_at_mut-head.result.1.now left right right' c.args.row.now
-    c.split_at_mut-head.ensures.value len (c.two_born.auto.head ∙ len) (ap (drop m) (sym c.split_at_mut-behind.ensures.value) ∙ c.opened-left.ensures.rest)
-    (c.split_at_mut-behind.ensures.front_len ∙ c.opened-left.ensures.size) c.opened-right.ensures.rest in
-    ap (read c.args.lay.now.system.now c.args.lay.now.earlier.now (plain_expr c.args.d.now) c.args.actuals.now) parts.new_right ∙ c.opened-right.ensures.tree
-
-pub two_opened-returns-clause-rest : goal.two_opened-returns-clause-rest
-two_opened-returns-clause-rest t c =
-    let own = own_cells c.args.op in
-    let m = cells_in c.args.lay.now.earlier.now (plain_expr c.args.a.now) in
-    let n = cells_in c.args.lay.now.earlier.now (plain_expr c.args.d.now) in
-    let left = c.split_at_mut-behind.result.0.now in
-    let right = c.split_at_mut-behind.result.1.now in
-    let right' = c.opened-right.new.row in
-    let len : length c.split_at_mut-head.result.0.now ≡ own = c.split_at_mut-head.ensures.front_len ∙ c.own_cells.ensures.own in
-    let parts = two_regions own m n c.split_at_mut-head.result.0.now c.two_born.new.head c.split_at_mut-head.result.1.now left right right' c.args.row.now
-    c.split_at_mut-head.ensures.value len (c.two_born.auto.head ∙ len) (ap (drop m) (sym c.split_at_mut-behind.ensures.value) ∙ c.opened-left.ensures.rest)
-    (c.split_at_mut-behind.ensures.front_len ∙ c.opened-left.ensures.size) c.opened-right.ensures.rest in
-    parts.behind
-
-pub lag_opened-returns-clause-left : goal.lag_opened-returns-clause-left
-lag_opened-returns-clause-left t c =
-    let own = 2 + words_of c.args.m in
-    let m = cells_in c.args.lay.now.earlier.now (plain_expr c.args.a.now) in
-    let n = cells_in c.args.lay.now.earlier.now (plain_expr c.args.d.now) in
-    let left = c.split_at_mut-behind.result.0.now in
-    let right = c.split_at_mut-behind.result.1.now in
-    let right' = c.opened-right.new.row in
-    let len : length c.split_at_mut-head.result.0.now ≡ own = c.split_at_mut-head.ensures.front_len ∙ c.lag_cells.ensures.cells in
-    let parts = two_regions own m n c.split_at_mut-head.result.0.now c.lag_born.new.head c.split_at_mut-head.result.1.now left right right' c.args.row.now
-    c.split_at_mut-head.ensures.value len (c.lag_born.auto.head ∙ len) (ap (drop m) (sym c.split_at_mut-behind.ensures.value) ∙ c.opened-left.ensures.rest)
-    (c.split_at_mut-behind.ensures.front_len ∙ c.opened-left.ensures.size) c.opened-right.ensures.rest in
-    let K = c.args.lay.now.system.now in
-    let earlier = c.args.lay.now.earlier.now in
-    let e = plain_expr c.args.a.now in
-    ap (read K earlier e c.args.actuals.now) parts.new_left
-    ∙ read_same K earlier e c.args.actuals.now (left ++ right') (left ++ right) c.requires.table (let r = c.requires.room in let f = c.requires.few in omega arith) parts.kept
-    ∙ ap (read K earlier e c.args.actuals.now) (sym c.split_at_mut-behind.ensures.value)
-    ∙ c.opened-left.ensures.tree
-
-pub lag_opened-returns-clause-right : goal.lag_opened-returns-clause-right
-lag_opened-returns-clause-right t c =
-    let own = 2 + words_of c.args.m in
-    let m = cells_in c.args.lay.now.earlier.now (plain_expr c.args.a.now) in
-    let n = cells_in c.args.lay.now.earlier.now (plain_expr c.args.d.now) in
-    let left = c.split_at_mut-behind.result.0.now in
-    let right = c.split_at_mut-behind.result.1.now in
-    let right' = c.opened-right.new.row in
-    let len : length c.split_at_mut-head.result.0.now ≡ own = c.split_at_mut-head.ensures.front_len ∙ c.lag_cells.ensures.cells in
-    let parts = two_regions own m n c.split_at_mut-head.result.0.now c.lag_born.new.head c.split_at_mut-head.result.1.now left right right' c.args.row.now
-    c.split_at_mut-head.ensures.value len (c.lag_born.auto.head ∙ len) (ap (drop m) (sym c.split_at_mut-behind.ensures.value) ∙ c.opened-left.ensures.rest)
-    (c.split_at_mut-behind.ensures.front_len ∙ c.opened-left.ensures.size) c.opened-right.ensures.rest in
-    ap (read c.args.lay.now.system.now c.args.lay.now.earlier.now (plain_expr c.args.d.now) c.args.actuals.now) parts.new_right ∙ c.opened-right.ensures.tree
-
-pub lag_opened-returns-clause-rest : goal.lag_opened-returns-clause-rest
-lag_opened-returns-clause-rest t c =
-    let own = 2 + words_of c.args.m in
-    let m = cells_in c.args.lay.now.earlier.now (plain_expr c.args.a.now) in
-    let n = cells_in c.args.lay.now.earlier.now (plain_expr c.args.d.now) in
-    let left = c.split_at_mut-behind.result.0.now in
-    let right = c.split_at_mut-behind.result.1.now in
-    let right' = c.opened-right.new.row in
-    let len : length c.split_at_mut-head.result.0.now ≡ own = c.split_at_mut-head.ensures.front_len ∙ c.lag_cells.ensures.cells in
-    let parts = two_regions own m n c.split_at_mut-head.result.0.now c.lag_born.new.head c.split_at_mut-head.result.1.now left right right' c.args.row.now
-    c.split_at_mut-head.ensures.value len (c.lag_born.auto.head ∙ len) (ap (drop m) (sym c.split_at_mut-behind.ensures.value) ∙ c.opened-left.ensures.rest)
-    (c.split_at_mut-behind.ensures.front_len ∙ c.opened-left.ensures.size) c.opened-right.ensures.rest in
-    parts.behind
-
-pub lag_opened-returns-clause-node : goal.lag_opened-returns-clause-node
-lag_opened-returns-clause-node t c =
-    let len : length c.split_at_mut-head.result.0.now ≡ 2 + words_of c.args.m = c.split_at_mut-head.ensures.front_len ∙ c.lag_cells.ensures.cells in
-    lag_front c.args.m c.lag_born.new.head (c.split_at_mut-behind.result.0.now ++ c.opened-right.new.row) (c.lag_born.auto.head ∙ len) ∙ c.lag_born.ensures
+pub lag_opened-returns : goal.lag_opened-returns
+lag_opened-returns t c =
+    let few : cells_in c.args.lay.now.earlier.now (plain_expr c.args.a.now) ≤ 32768 = let r = c.requires.room in let f = c.requires.few in omega arith in
+    let all = two_born c.args.lay.now.system.now c.args.lay.now.earlier.now c.args.actuals.now (gone_in c.args.gone.now) (lag_at c.args.m) two_dead (2 + words_of c.args.m) (plain_expr c.args.a.now) (plain_expr c.args.d.now)
+    _ _ _ _ _ _ _ _ _ _ _ _ (lag_front c.args.m) c.requires.table few c.split_at_mut-head.ensures.value
+    (c.split_at_mut-head.ensures.front_len ∙ c.lag_cells.ensures.cells) c.lag_born.auto.head c.split_at_mut-behind.ensures.value (c.split_at_mut-behind.ensures.front_len ∙ c.opened-left.ensures.size)
+    c.opened-left.ensures.tree c.opened-left.ensures.dead c.opened-left.ensures.rest c.opened-right.ensures.tree c.opened-right.ensures.dead c.opened-right.ensures.rest
+    c.lag_born.ensures c.lag_dead.ensures in
+    record { node = all.node; left = all.left; right = all.right; rest = all.rest; dead = all.dead; size = search rules }
 
 pub opened-returns-else-holds-clause-rest : goal.opened-returns-else-holds-clause-rest
 opened-returns-else-holds-clause-rest t c = rw c.in-If.is
