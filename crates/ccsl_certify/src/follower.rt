@@ -1,11 +1,8 @@
 //! What follows the rows of a trace.
 
-ghost use Rattle.std.specs.Prelude.{◌≡◌, ◌<◌, ◌≤◌, ◌+◌, ◌^◌, ℕ, List, [], ◌∷◌, ◌++◌, length, IfOk, true, IsTrue};
+ghost use Rattle.std.specs.Prelude.{◌≡◌, ◌<◌, ◌+◌, ◌^◌, ℕ, List, [], ◌∷◌, ◌++◌, length, IfOk};
 ghost use Rattle.ccsl_base.specs.declared.rows.Row.{Row};
-ghost use Rattle.ccsl_base.specs.Clocks.{is_ascending};
 ghost use Rattle.ccsl_kernel.specs.Syntax.{System};
-ghost use Rattle.ccsl_kernel.specs.Lives.{Step};
-ghost use Rattle.ccsl_kernel.specs.Runs.{full_step, declared_part};
 ghost use Rattle.ccsl_state.specs.Held as states;
 ghost use Rattle.ccsl_certify.specs.Replaying.{AreAfter, Follows, Answers};
 

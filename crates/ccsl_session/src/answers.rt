@@ -1,9 +1,7 @@
 //! A session over its stack, answer by answer.
 
-ghost use Rattle.std.specs.Prelude.{◌≡◌, ◌≤◌, ◌++◌, [], List, length, true, IsTrue, IfOk, OnOk, codes, decimal};
-ghost use Rattle.ccsl_base.specs.Clocks.{is_ascending};
-ghost use Rattle.ccsl_kernel.specs.Syntax.{System as Plain};
-ghost use Rattle.ccsl_kernel.specs.Runs.{completed, declared_part};
+ghost use Rattle.std.specs.Prelude.{◌≡◌, ◌++◌, [], List, length, IfOk, OnOk, codes, decimal};
+ghost use Rattle.ccsl_kernel.specs.Runs.{completed};
 ghost use Rattle.ccsl_items.specs.Formulas.{item_formulas, scope_of};
 ghost use Rattle.ccsl_policy.specs.Chosen.{Chooses};
 ghost use Rattle.ccsl_simulate.specs.Simulation.{words_of_step};
