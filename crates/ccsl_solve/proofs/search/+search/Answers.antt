@@ -85,42 +85,8 @@ returns-then-is_free_of-clause-finds t c =
           (open-test (known first.part.value l.clock) (sym c.if-is_free_of.ensures)),
     )
 
-pub against-requires-clause-inside : goal.against-requires-clause-inside
-against-requires-clause-inside t c =
-    let q = c.args.problem.now in
-    let fs = asked q in
-    let ws = q.wishes.now in
-    let p = known c.args.part.now in
-    let l = c.in-Try.lit in
-    let n = c.in-Try.from in
-    let this =
-    tried q.scope fs ws c.deref.result.now c.args.lines.now.items p c.in_ok-reason.field-0 l c.in-Try.by n c.deref.ensures.value c.in-Try.is c.in_ok-reason.ensures.plan in
-    let lines = c.search.new.lines.items in
-    let first = c.in-Some.first in
-    let one =
-    half q.scope fs ws lines p (known c.planned.new.part) (known c.set.new.self) (known c.search.new.part) (known c.forget.new.self) l.clock l.positive
-    c.in_ok-first.field-0 first c.in_ok-reason.ensures.same c.set.ensures c.in-Some.is c.in_ok-first.ensures.finds c.forget.ensures this.free in
-    subst (λ (r : Part). IsInside q.scope.named r) (sym one.0) c.requires.inside
-
-pub against-requires-clause-free : goal.against-requires-clause-free
-against-requires-clause-free t c =
-    let q = c.args.problem.now in
-    let fs = asked q in
-    let ws = q.wishes.now in
-    let p = known c.args.part.now in
-    let l = c.in-Try.lit in
-    let n = c.in-Try.from in
-    let this =
-    tried q.scope fs ws c.deref.result.now c.args.lines.now.items p c.in_ok-reason.field-0 l c.in-Try.by n c.deref.ensures.value c.in-Try.is c.in_ok-reason.ensures.plan in
-    let lines = c.search.new.lines.items in
-    let first = c.in-Some.first in
-    let one =
-    half q.scope fs ws lines p (known c.planned.new.part) (known c.set.new.self) (known c.search.new.part) (known c.forget.new.self) l.clock l.positive
-    c.in_ok-first.field-0 first c.in_ok-reason.ensures.same c.set.ensures c.in-Some.is c.in_ok-first.ensures.finds c.forget.ensures this.free in
-    ap (λ (r : Part). r l.clock) one.0 ∙ this.free
-
-pub against-requires-clause-refuted : goal.against-requires-clause-refuted
-against-requires-clause-refuted t c =
+pub against-requires : goal.against-requires
+against-requires t c =
     let q = c.args.problem.now in
     let fs = asked q in
     let ws = q.wishes.now in
@@ -138,25 +104,19 @@ against-requires-clause-refuted t c =
     let r = c.in-Some-by.reason in
     let cause : refutes q.scope fs old (with_value p l.clock (not l.positive)) r ≡ true =
     subst (λ (o : Option Reason). IsCause q.scope fs ws old p l o n) c.in-Some-by.is this.cause in
-    ap (λ (w : Part). refutes q.scope fs lines (with_value w l.clock (not l.positive)) r) one.0
-    ∙ refutes-more q.scope fs old lines (with_value p l.clock (not l.positive)) r c.in_ok-first.ensures.extends cause
-
-pub against-requires-clause-conflict : goal.against-requires-clause-conflict
-against-requires-clause-conflict t c =
-    let q = c.args.problem.now in
-    let fs = asked q in
-    let ws = q.wishes.now in
-    let p = known c.args.part.now in
-    let l = c.in-Try.lit in
-    let n = c.in-Try.from in
-    let this =
-    tried q.scope fs ws c.deref.result.now c.args.lines.now.items p c.in_ok-reason.field-0 l c.in-Try.by n c.deref.ensures.value c.in-Try.is c.in_ok-reason.ensures.plan in
-    let lines = c.search.new.lines.items in
-    let first = c.in-Some.first in
-    let one =
-    half q.scope fs ws lines p (known c.planned.new.part) (known c.set.new.self) (known c.search.new.part) (known c.forget.new.self) l.clock l.positive
-    c.in_ok-first.field-0 first c.in_ok-reason.ensures.same c.set.ensures c.in-Some.is c.in_ok-first.ensures.finds c.forget.ensures this.free in
-    subst (λ (w : Part). IsConflict q.scope lines (with_value w l.clock l.positive) (known first.part.value) (reverse first.hints.items)) (sym one.0) one.1
+    record {
+      posed = c.requires.posed;
+      valid = c.in_ok-first.ensures.valid;
+      inside = subst (λ (r : Part). IsInside q.scope.named r) (sym one.0) c.requires.inside;
+      named = this.named;
+      free = ap (λ (r : Part). r l.clock) one.0 ∙ this.free;
+      refuted =
+          ap (λ (w : Part). refutes q.scope fs lines (with_value w l.clock (not l.positive)) r) one.0
+          ∙ refutes-more q.scope fs old lines (with_value p l.clock (not l.positive)) r c.in_ok-first.ensures.extends cause;
+      conflict =
+          subst (λ (w : Part). IsConflict q.scope lines (with_value w l.clock l.positive) (known first.part.value) (reverse first.hints.items)) (sym one.0) one.1;
+      has = not-open-test (known first.part.value l.clock) (sym c.if-is_free_of.ensures);
+    }
 
 pub returns-in-Some-by-clause-finds : goal.returns-in-Some-by-clause-finds
 returns-in-Some-by-clause-finds t c =
@@ -178,8 +138,8 @@ returns-in-Some-by-clause-finds t c =
       subst (λ (w : Part). IsConflict q.scope c.against.new.lines.items w (known conflict.part.value) (reverse conflict.hints.items)) one.0 c.in_ok-conflict.ensures.conflict,
     )
 
-pub learned-requires-clause-inside : goal.learned-requires-clause-inside
-learned-requires-clause-inside t c =
+pub learned-requires : goal.learned-requires
+learned-requires t c =
     let q = c.args.problem.now in
     let fs = asked q in
     let ws = q.wishes.now in
@@ -193,24 +153,11 @@ learned-requires-clause-inside t c =
     let one =
     half q.scope fs ws lines p (known c.planned.new.part) (known c.set.new.self) (known c.search.new.part) (known c.forget.new.self) l.clock l.positive
     c.in_ok-first.field-0 first c.in_ok-reason.ensures.same c.set.ensures c.in-Some.is c.in_ok-first.ensures.finds c.forget.ensures this.free in
-    inside-under q.scope.named (known first.part.value) (with_value p l.clock l.positive) one.1.within (inside-with q.scope.named l.clock l.positive p this.named c.requires.inside)
-
-pub learned-requires-clause-conflict : goal.learned-requires-clause-conflict
-learned-requires-clause-conflict t c =
-    let q = c.args.problem.now in
-    let fs = asked q in
-    let ws = q.wishes.now in
-    let p = known c.args.part.now in
-    let l = c.in-Try.lit in
-    let n = c.in-Try.from in
-    let this =
-    tried q.scope fs ws c.deref.result.now c.args.lines.now.items p c.in_ok-reason.field-0 l c.in-Try.by n c.deref.ensures.value c.in-Try.is c.in_ok-reason.ensures.plan in
-    let lines = c.search.new.lines.items in
-    let first = c.in-Some.first in
-    let one =
-    half q.scope fs ws lines p (known c.planned.new.part) (known c.set.new.self) (known c.search.new.part) (known c.forget.new.self) l.clock l.positive
-    c.in_ok-first.field-0 first c.in_ok-reason.ensures.same c.set.ensures c.in-Some.is c.in_ok-first.ensures.finds c.forget.ensures this.free in
-    (with_value p l.clock l.positive, one.1)
+    record {
+      valid = c.in_ok-first.ensures.valid;
+      inside = inside-under q.scope.named (known first.part.value) (with_value p l.clock l.positive) one.1.within (inside-with q.scope.named l.clock l.positive p this.named c.requires.inside);
+      conflict = (with_value p l.clock l.positive, one.1);
+    }
 
 pub search-requires-2 : goal.search-requires-2
 search-requires-2 t c =
