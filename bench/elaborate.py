@@ -1,49 +1,26 @@
-"""Measures how long the elaboration of a file takes beside reading its text.
+"""Measures how long the fault of a file and its elaboration take beside reading its text.
 
     (cd crates/ccsl_elaborate_bench && rt run)   builds the program
     python3 bench/elaborate.py
 
-All times are processor times of the other process. A ratio is that of elaborating once to lexing and parsing once.
+All times are processor times of the other process. A ratio is that of looking for the fault once, or of elaborating once, to
+lexing and parsing once.
 """
-import os
-import subprocess
 import tempfile
 
 from figures import note
+from measured import built, filled, measured
 
-HERE = os.path.dirname(os.path.abspath(__file__))
-PROGRAM = os.path.join(HERE, "..", "crates", "ccsl_elaborate_bench", "out", "ccsl_elaborate_bench")
+PROGRAM = built("ccsl_elaborate_bench")
 MEBIBYTE = 1 << 20
 
 
-def measured(part, path, times):
-    """The last answer, the processor time of a run in seconds, and the most memory that it held in mebibytes."""
-    run = subprocess.Popen([PROGRAM, part, path, str(times)], stdout=subprocess.PIPE, text=True)
-    out = run.stdout.read()
-    run.stdout.close()
-    _, status, used = os.wait4(run.pid, 0)
-    run.returncode = os.waitstatus_to_exitcode(status)
-    return out.strip(), used.ru_utime + used.ru_stime, used.ru_maxrss / 1024
-
-
-def filled(head, member, tail):
-    """A text of at most a mebibyte with as many members as fit."""
-    parts, size, number = [head], len(head) + len(tail), 0
-    while True:
-        part = member(number)
-        if size + len(part) > MEBIBYTE:
-            return "".join(parts) + tail
-        parts.append(part)
-        size += len(part)
-        number += 1
-
-
-def expressions():
-    """Definitions of expressions, none of which is called by the system."""
+def expressions(system):
+    """Definitions of expressions, each of which calls one before it; none has a level above 8."""
     return filled("ccsl 1;\n",
                   lambda i: f"expression e{i}(clock c, number n) = "
                   + (f"e{i - 1}(c, n)" if i % 8 else "c delay n") + ";\n",
-                  "system { clock a; }\n")
+                  system)
 
 
 def relations(calls):
@@ -73,8 +50,44 @@ def large(leaves, calls):
     return f"ccsl 1;\nrelation hide(clock a) {{ define b = {balanced(leaves)}; }}\nsystem {{ clock a;\n{lines}}}\n"
 
 
+def nest():
+    """A nest of relations of eight levels, each of which calls the one before it as often as fits."""
+    line = lambda level: f"  r{level - 1}(a, b);\n" if level else "  a precedes b;\n"
+    room = MEBIBYTE // 8 - 60
+    bodies = []
+    for level in range(8):
+        bodies.append(f"relation r{level}(clock a, clock b) {{\n" + line(level) * (room // len(line(level))) + "}\n")
+    return "ccsl 1;\n" + "".join(bodies) + "system { clock a, b; r7(a, b); }\n"
+
+
+def clocks():
+    """A system of clocks, each defined over the one before it."""
+    return filled("ccsl 1;\nsystem {\n  clock x0;\n",
+                  lambda i: f"  define x{i + 1} = x{i} delay 1;\n",
+                  "}\n")
+
+
+def nested():
+    """A system of expressions that nest as deep as an expression may."""
+    deep = "(" * 127 + "a" + " union b)" * 127
+    return filled("ccsl 1;\nsystem {\n  clock a, b;\n", lambda i: f"  define y{i} = {deep};\n", "}\n")
+
+
+def repeated():
+    """A system that declares one clock over and over."""
+    return filled("ccsl 1;\nsystem {\n", lambda i: "  clock a;\n", "}\n")
+
+
+# texts that are searched for a fault, and texts that are elaborated
+FAULTS = [
+    ("expressions", expressions("system { }\n")),
+    ("relations", nest()),
+    ("clocks", clocks()),
+    ("nested", nested()),
+    ("repeated", repeated()),
+]
 TEXTS = [
-    ("a mebibyte of expressions", expressions()),
+    ("a mebibyte of expressions", expressions("system { clock a; }\n")),
     ("a nest of relations that is refused", relations(8000)),
     ("a nest of relations that is expanded", relations(2)),
     ("a thousand hidden clocks", expanded()),
@@ -83,20 +96,40 @@ TEXTS = [
 ]
 
 
-def main():
+def seconds(part, text, times):
+    """A run of a part of the program, so many times on one text."""
+    with tempfile.NamedTemporaryFile("w", suffix=".ccsl") as file:
+        file.write(text)
+        file.flush()
+        return measured([PROGRAM, part, file.name, times])
+
+
+def look_for_faults():
+    for name, text in FAULTS:
+        times, start = 20, seconds("parse", text, 0).processor
+        read, looked = seconds("parse", text, times), seconds("faults", text, times)
+        parse = (read.processor - start) / times
+        fault = (looked.processor - parse - start) / times
+        print(f"{name}: {len(text)} bytes, read {read.said}, {looked.said}; parser {parse * 1000:.1f} ms, "
+              f"fault {fault * 1000:.1f} ms, ratio {fault / parse:.2f}", flush=True)
+        note("ccsl_faults", name, "parsing them", processor=parse / fault)
+
+
+def elaborate():
     for name, text in TEXTS:
-        with tempfile.NamedTemporaryFile("w", suffix=".ccsl") as file:
-            file.write(text)
-            file.flush()
-            once = measured("elaborate", file.name, 1)[1]
-            times = max(1, int(1 / max(once, 0.01)))
-            _, read, _ = measured("parse", file.name, times)
-            answer, both, memory = measured("elaborate", file.name, times)
-            parse = read / times
-            alone = (both - parse) / times
-            print(f"{name}: {len(text)} bytes, answer {answer}, parse {parse:.4f} s, "
-                  f"elaborate {alone:.4f} s, ratio {alone / parse:.2f}, at most {memory:.0f} MiB")
-            note("ccsl_elaborate", name, "parsing it", processor=parse / alone)
+        once = seconds("elaborate", text, 1).processor
+        times = max(1, int(1 / max(once, 0.01)))
+        both = seconds("elaborate", text, times)
+        parse = seconds("parse", text, times).processor / times
+        alone = (both.processor - parse) / times
+        print(f"{name}: {len(text)} bytes, answer {both.said}, parse {parse:.4f} s, "
+              f"elaborate {alone:.4f} s, ratio {alone / parse:.2f}, at most {both.memory:.0f} MB")
+        note("ccsl_elaborate", name, "parsing it", processor=parse / alone)
+
+
+def main():
+    look_for_faults()
+    elaborate()
 
 
 if __name__ == "__main__":

@@ -7,13 +7,12 @@ processes, parsing and elaboration included: of `check` on the same text, and of
 """
 import os
 import random
-import resource
-import subprocess
 import sys
 import tempfile
 
-HERE = os.path.dirname(os.path.dirname(os.path.abspath(__file__)))
-PROGRAM = os.path.abspath(sys.argv[1] if len(sys.argv) > 1 else f"{HERE}/crates/ccsl/out/ccsl")
+from measured import PROGRAM, measured
+
+PROGRAM = os.path.abspath(sys.argv[1]) if len(sys.argv) > 1 else PROGRAM
 
 
 def ring(clocks, others):
@@ -27,13 +26,6 @@ def ring(clocks, others):
     return names, f"ccsl 1; system {{ clock {', '.join(names)};\n" + "\n".join(lines) + " }\n"
 
 
-def seconds(words):
-    before = resource.getrusage(resource.RUSAGE_CHILDREN)
-    done = subprocess.run([PROGRAM, *words], capture_output=True, text=True)
-    after = resource.getrusage(resource.RUSAGE_CHILDREN)
-    return after.ru_utime + after.ru_stime - before.ru_utime - before.ru_stime, done.stdout
-
-
 def main():
     with tempfile.TemporaryDirectory() as folder:
         for clocks, others in [(64, 192), (256, 768), (1024, 3072)]:
@@ -42,9 +34,10 @@ def main():
                 file.write(text)
             with open(f"{folder}/trace", "w") as file:
                 file.write("".join(f"$var event 1 c{i} {name} $end\n" for i, name in enumerate(names)) + "$enddefinitions $end\n")
-            check, _ = seconds(["check", f"spec={folder}/spec"])
-            explain, report = seconds(["explain", f"spec={folder}/spec", f"trace={folder}/trace", f"cert={folder}/cert"])
-            print(f"{clocks} clocks, {clocks + others} constraints: check {check:.2f} s, explain {explain:.2f} s: {report.splitlines()[0]}")
+            check = measured([PROGRAM, "check", f"spec={folder}/spec"])
+            explain = measured([PROGRAM, "explain", f"spec={folder}/spec", f"trace={folder}/trace", f"cert={folder}/cert"])
+            print(f"{clocks} clocks, {clocks + others} constraints: check {check.processor:.2f} s, "
+                  f"explain {explain.processor:.2f} s: {explain.said.splitlines()[0]}")
 
 
 main()

@@ -5,69 +5,25 @@
 
 The program has to be built (./ccsl builds it). The traces are made in a folder of their own and removed.
 """
-import os, random, resource, subprocess, sys, tempfile, time
+import os, subprocess, sys, tempfile, time
 
 from figures import note
+from measured import PROGRAM, measured
+from traces import events, wires
 
-HERE = os.path.dirname(os.path.dirname(os.path.abspath(__file__)))
-PROGRAM = f"{HERE}/crates/ccsl/out/ccsl"
 SIZE = int(sys.argv[1]) * 1_000_000 if len(sys.argv) > 1 else 50_000_000
-
-
-def events(path):
-    """Two event variables, with short tokens."""
-    drawn = random.Random(7)
-    body = ["1!\n", '1"\n', '1!\n1"\n']
-    with open(path, "w", newline="\n") as out:
-        out.write('$var event 1 ! a $end\n$var event 1 " b $end\n$enddefinitions $end\n')
-        at = 0
-        while out.tell() < SIZE:
-            out.write("".join(f"#{at + i}\n{drawn.choice(body)}" for i in range(2000)))
-            at += 2000
-
-
-def wires(path):
-    """64 wires, each of which toggles at each time with a chance of one in four."""
-    drawn = random.Random(7)
-    codes = [chr(33 + i) for i in range(64)]
-    values = [0] * 64
-    with open(path, "w", newline="\n") as out:
-        for i, code in enumerate(codes):
-            out.write(f"$var wire 1 {code} w{i} $end\n")
-        out.write("$enddefinitions $end\n#0\n$dumpvars\n" + "".join(f"0{code}\n" for code in codes) + "$end\n")
-        at = 0
-        while out.tell() < SIZE:
-            part = []
-            for _ in range(200):
-                at += 10
-                part.append(f"#{at}\n")
-                mask = drawn.getrandbits(64) & drawn.getrandbits(64)
-                for i in range(64):
-                    if mask >> i & 1:
-                        values[i] ^= 1
-                        part.append(f"{values[i]}{codes[i]}\n")
-            out.write("".join(part))
-
-
-def ran(words):
-    """The seconds by the clock, the processor's seconds, the peak memory in MB, and what was printed."""
-    begin, before = time.time(), resource.getrusage(resource.RUSAGE_CHILDREN)
-    done = subprocess.Popen(words, stdout=subprocess.PIPE, stderr=subprocess.DEVNULL, text=True)
-    said = done.stdout.read()
-    _, _, used = os.wait4(done.pid, 0)
-    return time.time() - begin, used.ru_utime + used.ru_stime, used.ru_maxrss / 1000, said.strip()
 
 
 def compare(name, trace, spec, folder, workers):
     own, other = [], []
     for _ in range(3):
-        own.append(ran([PROGRAM, "judge", f"spec={spec}", f"trace={trace}", f"workers={workers}"]))
-        other.append(ran(["vcd2fst", trace, f"{folder}/out.fst"]))
-    clock, theirs = min(run[0] for run in own), min(run[0] for run in other)
-    busy, others = min(run[1] for run in own), min(run[1] for run in other)
+        own.append(measured([PROGRAM, "judge", f"spec={spec}", f"trace={trace}", f"workers={workers}"]))
+        other.append(measured(["vcd2fst", trace, f"{folder}/out.fst"]))
+    clock, theirs = min(run.clock for run in own), min(run.clock for run in other)
+    busy, others = min(run.processor for run in own), min(run.processor for run in other)
     print(f"{name}, {os.path.getsize(trace) / 1e6:.0f} MB, workers {workers}: {clock:.2f} s by the clock, {busy:.2f} s of the processor, "
-          f"{own[0][2]:.1f} MB at most; vcd2fst {theirs:.2f} and {others:.2f} s: "
-          f"{theirs / clock:.1f} and {others / busy:.1f} times as fast ({own[0][3]})")
+          f"{own[0].memory:.1f} MB at most; vcd2fst {theirs:.2f} and {others:.2f} s: "
+          f"{theirs / clock:.1f} and {others / busy:.1f} times as fast ({own[0].said})")
     note("ccsl_judge", f"{name}, workers {workers}", "vcd2fst", processor=others / busy, clock=theirs / clock)
 
 
@@ -86,7 +42,7 @@ def divided(name, trace, spec):
     one, four, runs = [], [], []
     for _ in range(5):
         one.append(together(1, trace, spec))
-        four.append(ran([PROGRAM, "judge", f"spec={spec}", f"trace={trace}", "workers=4"])[0])
+        four.append(measured([PROGRAM, "judge", f"spec={spec}", f"trace={trace}", "workers=4"]).clock)
         runs.append(together(4, trace, spec))
     one, four, runs = sorted(one)[2], sorted(four)[2], sorted(runs)[2]
     print(f"{name}: four workers {four:.2f} s, one {one:.2f} s, so {one / four:.1f} times as fast; four runs at once {runs:.2f} s, "
@@ -97,8 +53,8 @@ def divided(name, trace, spec):
 
 def main():
     with tempfile.TemporaryDirectory() as folder:
-        events(f"{folder}/events.vcd")
-        wires(f"{folder}/wires.vcd")
+        events(f"{folder}/events.vcd", SIZE)
+        wires(f"{folder}/wires.vcd", SIZE)
         with open(f"{folder}/events.ccsl", "w") as out:
             out.write("ccsl 1; system { clock a, b; a precedes weakly b; }\n")
         with open(f"{folder}/wires.ccsl", "w") as out:
@@ -124,4 +80,5 @@ def main():
         divided("64 wires, 64 clocks sampled thrice, 64 constraints", f"{folder}/wires.vcd", f"{folder}/thrice.ccsl")
 
 
-main()
+if __name__ == "__main__":
+    main()

@@ -5,11 +5,7 @@
 
 The program has to be built (./ccsl builds it). The times are processor times of its whole run, the best of three runs.
 """
-import os
-import subprocess
-
-HERE = os.path.dirname(os.path.dirname(os.path.abspath(__file__)))
-PROGRAM = f"{HERE}/crates/ccsl/out/ccsl"
+from measured import PROGRAM, best
 
 WORST = [
     ("excludes, which never fails", "excludes", "(" + "0" * 4096 + ")", "(" + "1" * 4095 + ")"),
@@ -22,17 +18,6 @@ WORST = [
 ]
 
 
-def measured(words):
-    """What was printed, the processor's seconds, and the most memory held in mebibytes."""
-    run = subprocess.Popen([PROGRAM, *words], stdout=subprocess.PIPE, stderr=subprocess.STDOUT, text=True)
-    said = run.stdout.read()
-    run.stdout.close()
-    _, status, used = os.wait4(run.pid, 0)
-    run.returncode = os.waitstatus_to_exitcode(status)
-    return said.strip(), used.ru_utime + used.ru_stime, used.ru_maxrss / 1024
-
-
 for name, relation, left, right in WORST:
-    runs = [measured(["periodic", f"left={left}", f"right={right}", f"relation={relation}"]) for _ in range(3)]
-    said, seconds, memory = min(runs, key=lambda run: run[1])
-    print(f"{name}: {seconds:.3f} s, {memory:.1f} MB, {said[:60]}")
+    run = best([PROGRAM, "periodic", f"left={left}", f"right={right}", f"relation={relation}"], 3)
+    print(f"{name}: {run.processor:.3f} s, {run.memory:.1f} MB, {run.said[:60]}")

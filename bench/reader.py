@@ -10,18 +10,16 @@ many times as long as the program vcd2fst takes, and wc -w.
 """
 import os
 import random
-import resource
 import subprocess
 import sys
 
 from figures import note
+from measured import built, measured
+from traces import HEAD, TAIL, code, events, made, wire, wires, write
 
-HERE = os.path.dirname(os.path.abspath(__file__))
-PROGRAM = os.path.join(HERE, "..", "crates", "ccsl_vcd_bench", "out", "ccsl_vcd_bench")
+PROGRAM = built("ccsl_vcd_bench")
 SIZE = 50_000_000
 ROUNDS = 5
-HEAD = "$timescale 1ns $end\n$scope module top $end\n"
-TAIL = "$upscope $end\n$enddefinitions $end\n"
 
 DESIGN = """
 module fifo(input clk, input rst, input push, input pop, input [7:0] din, output [7:0] dout, output full, output empty);
@@ -47,55 +45,7 @@ endmodule
 """
 
 
-def code(number):
-    """The code of a number, as simulators give them: base 94, the least digit first."""
-    number += 1
-    text = ""
-    while number:
-        number -= 1
-        text += chr(33 + number % 94)
-        number //= 94
-    return text
-
-
-def wire(code_of, name):
-    return f"$var wire 1 {code_of} {name} $end\n"
-
-
-def write(path, header, step):
-    with open(path, "w", newline="\n") as file:
-        file.write(header)
-        size, time = len(header), 0
-        while size < SIZE:
-            text = step(time)
-            file.write(text)
-            size += len(text)
-            time += 1
-
-
-def events(path):
-    pick = random.Random(7)
-    steps = ["1!\n", '1"\n', '1!\n1"\n']
-    header = HEAD + '$var event 1 ! a $end\n$var event 1 " b $end\n' + TAIL
-    write(path, header, lambda time: f"#{time}\n{steps[pick.randrange(3)]}")
-
-
-def toggles(path):
-    pick = random.Random(8)
-    codes, values = [code(i) for i in range(64)], [0] * 64
-
-    def step(time):
-        out, mask = [f"#{10 * time}\n"], pick.getrandbits(64) & pick.getrandbits(64)
-        for i in range(64):
-            if mask >> i & 1:
-                values[i] ^= 1
-                out.append(f"{values[i]}{codes[i]}\n")
-        return "".join(out)
-
-    write(path, HEAD + "".join(wire(codes[i], f"w{i}") for i in range(64)) + TAIL, step)
-
-
-def nets(path):
+def nets(path, size):
     pick = random.Random(9)
     codes, values = [code(6430 + i) for i in range(5000)], [0] * 5000
     width = [1] * 4500 + [pick.choice([8, 12, 16, 24, 32]) for _ in range(500)]
@@ -111,10 +61,10 @@ def nets(path):
         some = sorted(pick.sample(range(1, 5000), 60 if time & 1 else 6))
         return f"#{5000 * time}\n{time & 1}{codes[0]}\n" + "".join(change(i) for i in some)
 
-    write(path, HEAD + "".join(wire(codes[i], f"w{i}") for i in range(4500)) + buses + TAIL, step)
+    write(path, HEAD + "".join(wire(codes[i], f"w{i}") for i in range(4500)) + buses + TAIL, step, size)
 
 
-def vectors(path):
+def vectors(path, size):
     pick = random.Random(10)
     codes = [code(i) for i in range(33)]
     buses = "".join(f"$var reg 64 {codes[i]} v{i} [63:0] $end\n" for i in range(1, 33))
@@ -123,35 +73,28 @@ def vectors(path):
         some = pick.sample(range(1, 33), 8) if time & 1 else []
         return f"#{5000 * time}\n{time & 1}{codes[0]}\n" + "".join(f"b{pick.getrandbits(64):b} {codes[i]}\n" for i in some)
 
-    write(path, HEAD + wire(codes[0], "clk") + buses + TAIL, step)
+    write(path, HEAD + wire(codes[0], "clk") + buses + TAIL, step, size)
 
 
-def simulated(path):
+def simulated(path, size):
     source, program, time = path + ".v", path + ".vvp", 400_000
     for _ in range(2):
         with open(source, "w") as file:
             file.write(DESIGN % (path, time))
         subprocess.run(["iverilog", "-g2012", "-o", program, source], check=True)
         subprocess.run(["vvp", "-n", program], check=True, stdout=subprocess.DEVNULL)
-        time = time * SIZE // os.path.getsize(path)
+        time = time * size // os.path.getsize(path)
     os.remove(program)
 
 
 # the name of each trace, what makes it, the clocks, and how many times as fast as vcd2fst is wanted
 TRACES = [
     ("events", events, ["a", "b"], 5),
-    ("toggles", toggles, [f"w{i}" for i in range(64)], 15),
+    ("toggles", wires, [f"w{i}" for i in range(64)], 15),
     ("nets", nets, ["w0"] + [f"w{300 * i}" for i in range(1, 15)] + ["w1"], 15),
     ("vectors", vectors, ["clk"], 7),
     ("simulated", simulated, ["clk", "beat", "req", "ack"], 6),
 ]
-
-
-def seconds(command):
-    before = resource.getrusage(resource.RUSAGE_CHILDREN)
-    out = subprocess.run(command, stdout=subprocess.PIPE, stderr=subprocess.DEVNULL, text=True).stdout
-    after = resource.getrusage(resource.RUSAGE_CHILDREN)
-    return out.strip(), after.ru_utime + after.ru_stime - before.ru_utime - before.ru_stime
 
 
 def main():
@@ -159,15 +102,13 @@ def main():
     program = sys.argv[2] if len(sys.argv) > 2 else PROGRAM
     os.makedirs(folder, exist_ok=True)
     for name, make, clocks, wanted in TRACES:
-        path = os.path.join(folder, name + ".vcd")
-        if not os.path.exists(path):
-            make(path)
+        path = made(folder, name, make, SIZE)
         best = [float("inf")] * 3
         for _ in range(ROUNDS):
             for k, command in enumerate([[program, path, *clocks], ["vcd2fst", path, path + ".fst"], ["wc", "-w", path]]):
-                out, time = seconds(command)
-                best[k] = min(best[k], time)
-                said = out if k == 0 else said
+                run = measured(command)
+                best[k] = min(best[k], run.processor)
+                said = run.said if k == 0 else said
         print(f"{name}: {said}; {best[0]:.3f} s, {os.path.getsize(path) / best[0] / 1e6:.0f} MB/s; "
               f"vcd2fst {best[1] / best[0]:.1f} times (wanted {wanted}), wc {best[2] / best[0]:.1f} times")
         note("ccsl_vcd_read", name, "vcd2fst", processor=best[1] / best[0], wanted=wanted)

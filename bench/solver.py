@@ -6,41 +6,23 @@
 Needs Debian's z3 and picosat. All times are processor times of the other process, so a loaded machine counts little.
 """
 import os
-import resource
 import subprocess
 import sys
 import tempfile
 
 from figures import note
+from measured import TOP, built, measured
 
-HERE = os.path.dirname(os.path.abspath(__file__))
-PROGRAM = os.path.join(HERE, "..", "crates", "ccsl_bench", "out", "ccsl_bench")
-MASK = (1 << 64) - 1
-MULTIPLIER = 6364136223846793005
+sys.path.append(f"{TOP}/tests")
+from seeded_words import seeded_words
 
-
-def children():
-    used = resource.getrusage(resource.RUSAGE_CHILDREN)
-    return used.ru_utime + used.ru_stime
+PROGRAM = built("ccsl_bench")
 
 
 def run(words, times=1):
     """What a process writes, and the seconds of processor time of one of so many runs."""
-    before = children()
-    for _ in range(times):
-        out = subprocess.run([str(word) for word in words], stdout=subprocess.PIPE, text=True).stdout
-    return out.strip(), (children() - before) / times
-
-
-def drawn_words(seed):
-    """The words of PCG XSH RR 64/32 on stream 54."""
-    increment = (54 << 1) | 1
-    state = (((seed + increment) & MASK) * MULTIPLIER + increment) & MASK
-    while True:
-        mixed = (((state >> 18) ^ state) >> 27) & 0xFFFFFFFF
-        turn = state >> 59
-        yield ((mixed >> turn) | (mixed << (-turn & 31))) & 0xFFFFFFFF
-        state = (state * MULTIPLIER + increment) & MASK
+    runs = [measured(words) for _ in range(times)]
+    return runs[-1].said, sum(one.processor for one in runs) / times
 
 
 class Z3:
@@ -71,9 +53,12 @@ class Z3:
         return values
 
     def close(self):
+        """Ends it, and answers the seconds of processor time that it took."""
         self.tell("(exit)")
         self.process.stdin.close()
-        self.process.wait()
+        _, status, used = os.wait4(self.process.pid, 0)
+        self.process.returncode = os.waitstatus_to_exitcode(status)
+        return used.ru_utime + used.ru_stime
 
 
 def formulas(clocks, counts):
@@ -106,9 +91,8 @@ def best(z3, clocks, policy, words, ask_all):
 
 
 def z3_chain(clocks, steps, policy, ask_all):
-    before = children()
     z3 = Z3(clocks + clocks - 1)
-    words = drawn_words(42)
+    words = seeded_words(42)
     counts = [0] * z3.named
     for _ in range(steps):
         z3.tell("(push 1)")
@@ -118,8 +102,7 @@ def z3_chain(clocks, steps, policy, ask_all):
         model = best(z3, clocks, policy, [next(words) for _ in range(clocks)], ask_all)
         z3.tell("(pop 1)")
         counts = [count + tick for count, tick in zip(counts, model)]
-    z3.close()
-    return sum(counts), children() - before
+    return sum(counts), z3.close()
 
 
 def pigeons(holes):

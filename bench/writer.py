@@ -7,24 +7,14 @@ which reads and writes through buffers too but looks at each byte.
 A time is the processor time of a whole process that writes into a file, the least of five; the copies are made in turn.
 """
 import os
-import resource
-import subprocess
 import sys
 import tempfile
 
 from figures import note
+from measured import built, measured
 
-HERE = os.path.dirname(os.path.abspath(__file__))
-PROGRAM = os.path.join(HERE, "..", "crates", "ccsl_write_bench", "out", "ccsl_write_bench")
+PROGRAM = built("ccsl_write_bench")
 COPIES = {"cat": ["cat"], "dd by 64 KiB": ["dd", "bs=64k", "status=none"], "tr": ["tr", "a", "a"]}
-
-
-def seconds(words, source, target):
-    before = resource.getrusage(resource.RUSAGE_CHILDREN)
-    with open(source, "rb") as read, open(target, "wb") as written:
-        subprocess.run(words, stdin=read, stdout=written, check=True)
-    after = resource.getrusage(resource.RUSAGE_CHILDREN)
-    return after.ru_utime + after.ru_stime - before.ru_utime - before.ru_stime
 
 
 def main():
@@ -33,9 +23,9 @@ def main():
         trace, copy = f"{folder}/trace.vcd", f"{folder}/copy.vcd"
         own, copies = [], {name: [] for name in COPIES}
         for _ in range(5):
-            own.append(seconds([PROGRAM, "2", steps], os.devnull, trace))
+            own.append(measured([PROGRAM, "2", steps], target=trace).processor)
             for name, words in COPIES.items():
-                copies[name].append(seconds(words, trace, copy))
+                copies[name].append(measured(words, source=trace, target=copy).processor)
         size = os.path.getsize(trace) / 1e6
     told = ", ".join(f"{name} {min(times):.2f} s" for name, times in copies.items())
     print(f"{steps} steps of two clocks, {size:.0f} MB: {min(own):.2f} s; {told}")

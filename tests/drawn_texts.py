@@ -1,7 +1,8 @@
 """Draws specifications that use every form of the grammar. Each choice goes wrong with a given chance, and texts may be damaged."""
 import re
 
-from plain_text import BINARY, RESERVED
+from plain_system import System
+from plain_text import BINARY, RESERVED, Refused
 
 RELATIONS = ['subclock', 'coincides', 'excludes', 'precedes', 'precedes weakly']
 WORDS = ['"(10)"', '"01"', '"1(0)"', '"0(110)"', '"101"', '"(1)"', '"00(1)"', '"110(01)"']
@@ -12,8 +13,10 @@ BYTES = b'(){},;=<+-"/01 a_\n\r\t\x7f\x80\xff'
 
 
 class Text:
-    def __init__(self, draw, wrong):
-        self.draw, self.wrong, self.version = draw, wrong, draw.choice([1, 2])
+    """A specification with at most so many declared clocks, and so many lines behind them."""
+
+    def __init__(self, draw, wrong, clocks=3, lines=5):
+        self.draw, self.wrong, self.version, self.clocks, self.lines = draw, wrong, draw.choice([1, 2]), clocks, lines
         self.expressions = {'periodic': ['clock', 'number'], 'skip': ['clock', 'number'], 'filter_by': ['clock', 'word']}
         self.relations, self.own = {'alternates': ['clock', 'clock']}, {}
 
@@ -24,10 +27,17 @@ class Text:
         lines = [f'ccsl {self.version if not self.errs() else 3};']
         for number in range(self.draw.randint(0, 3)):
             lines.append(self.draw.choice([self.relation, self.group])(number))
-        names = {'clock': ['a', 'b', 'c'][:self.draw.randint(1, 3)], 'number': [], 'word': []}
+        names = {'clock': list('abcdefgh'[:self.draw.randint(1, self.clocks)]), 'number': [], 'word': []}
         clocks = names['clock'] + (['a'] if self.errs() else [])
-        lines += ['system {', f'clock {", ".join(clocks)};', *(self.line(names, f'q{place}') for place in range(self.draw.randint(0, 5))), '}']
-        return ' '.join(lines)
+        body = [self.line(names, f'q{place}') for place in range(self.draw.randint(0, self.lines))]
+        return ' '.join([*lines, 'system {', f'clock {", ".join(clocks)};', *body, '}'])
+
+    def many(self):
+        """A system of many definitions and no constraints."""
+        names = {'clock': list('abcdef'), 'number': [], 'word': []}
+        groups = [self.group(number) for number in range(self.draw.randint(0, 2))]
+        lines = [self.definition(names, f'q{place}') for place in range(self.draw.randint(6, 12))]
+        return ' '.join([f'ccsl {self.version};', *groups, 'system {', 'clock a, b, c, d, e, f;', *lines, '}'])
 
     def head(self, name):
         kinds = ['clock', *(self.draw.choice(['clock', 'number', 'word']) for _ in range(self.draw.randint(0, 2) if not self.errs() else 8))]
@@ -56,14 +66,17 @@ class Text:
     def line(self, names, name):
         form = self.draw.random()
         if form < 0.35:
-            text = f'define {name} = {self.expression(names, self.draw.randint(0, 2), False, False)};'
-            names['clock'].append(name)
-            return text
+            return self.definition(names, name)
         if form < 0.6:
             return f'{self.call(names, self.relations)};'
         within = ['precedes within 1', 'precedes within 2'] if self.version == 2 or self.errs() else []
         relation = self.draw.choice(RELATIONS + within) if not self.errs() else 'precedes within 0'
         return f'{self.name(names, "clock")} {relation} {self.name(names, "clock")};'
+
+    def definition(self, names, name):
+        text = f'define {name} = {self.expression(names, self.draw.randint(0, 2), False, False)};'
+        names['clock'].append(name)
+        return text
 
     def name(self, names, kind):
         every = NAMES + [name for of_kind in names.values() for name in of_kind]
@@ -135,6 +148,18 @@ class Text:
             own = self.own and (guarded and self.draw.random() < 0.7 or tail and self.wrong and self.draw.random() < 0.6 or self.errs())
             return self.call(names, self.own if own else self.expressions)
         return 'never' if form < 0.5 else self.name(names, 'clock')
+
+
+def accepted(draw, most, clocks=3, lines=5):
+    """A drawn specification that is accepted and has at most so many clocks, and its system."""
+    while True:
+        text = Text(draw, 0, clocks, lines).file()
+        try:
+            system = System(text.encode())
+        except Refused:
+            continue
+        if len(system.names) <= most:
+            return text, system
 
 
 def spaced(draw, text):

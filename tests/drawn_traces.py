@@ -84,14 +84,15 @@ def damaged(draw, tokens):
     return joined(draw, parts) if by_token else ''.join(parts).encode('latin-1')
 
 
-def dump(draw, history):
-    """The dump of a run that is drawn step by step, now and then with a step that is none, or with a tick that is not shown."""
+def dump(draw, history, lengths=(4, 8, 12), most=None):
+    """The dump of a run that is drawn step by step, now and then with a step that is none, or with a tick that is not shown. At a step
+    no more than so many declared clocks tick, where that is given."""
     system = history.system
     declared, written = range(len(system.declared)), range(len(system.declared) + len(system.defined))
     shown = [clock for clock in written if clock in declared or draw.random() < 0.8]
     lines, time = [f'$var event 1 {chr(33 + clock)} {system.names[clock]} $end' for clock in shown] + ['$enddefinitions $end'], 0
-    for _ in range(draw.choice([4, 8, 12])):
-        steps = [history.completed(draw.sample(declared, draw.randint(1, len(declared)))) for _ in range(8)]
+    for _ in range(draw.choice(lengths)):
+        steps = [history.completed(draw.sample(declared, draw.randint(1, most or len(declared)))) for _ in range(8 if most is None else 1)]
         fitting = [step for step in steps if history.first_failing(step) is None]
         step = draw.choice(fitting if fitting and draw.random() < 0.97 else steps)
         ticks = [clock for clock in shown if clock in step and draw.random() < 0.995]

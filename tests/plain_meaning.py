@@ -1,7 +1,8 @@
-"""What an expression asks of a step and when it is dead, each read off the whole history, and the verdict on rows."""
-import sys
+"""What an expression asks of a step and when it is dead, each read off the whole history; what may come next; and the verdict on rows."""
+import itertools, sys
 
 from plain_system import letter, number_value, word_value
+from seeded_words import words
 
 sys.setrecursionlimit(20000)
 
@@ -176,6 +177,50 @@ class History:
             if holds(self.formula(*definition, 0, len(self.steps)), step):
                 step.add(len(self.system.declared) + place)
         return step
+
+    def push(self, declared):
+        """Goes on by the step that these declared ticks give."""
+        self.steps.append(self.completed(declared))
+
+    def pop(self):
+        self.steps.pop()
+        self.told.clear()
+
+    def admissible(self):
+        """All sets of declared clocks that may tick next."""
+        declared = range(len(self.system.declared))
+        sets = [set(ticks) for size in declared for ticks in itertools.combinations(declared, size + 1)]
+        return [ticks for ticks in sets if self.first_failing(self.completed(ticks)) is None]
+
+    def chosen(self, policy, seed):
+        """The best of them by the policy and the words of the step's number, or None."""
+        declared = range(len(self.system.declared))
+        drawn = words(seed, len(self.steps) * len(declared), len(declared))
+        wanted = [{'min': False, 'max': True, 'seeded': word % 2 == 1}[policy] for word in drawn]
+        order = sorted(declared, key=lambda clock: (drawn[clock], clock))
+        return max(self.admissible(), key=lambda ticks: [(clock in ticks) == wanted[clock] for clock in order], default=None)
+
+    def core(self):
+        """The items that block every step, each with the least step without it; or None where a step is possible.
+
+        They are what is left where each item in turn, from the first, is dropped if the others still block. Of two steps the one
+        without the first clock at which they differ is the lesser.
+        """
+        clocks, declared = range(len(self.system.names)), len(self.system.declared)
+        every = itertools.product([False, True], repeat=len(clocks))
+        steps = [set(itertools.compress(clocks, ticks)) for ticks in every if any(ticks[:declared])]
+        fitting = [{place for place, step in enumerate(steps) if holds(formula, step)} for formula in self.items()]
+
+        def least(items):
+            return min(set(range(len(steps))).intersection(*(fitting[item] for item in items)), default=None)
+
+        core = list(range(len(fitting)))
+        if least(core) is not None:
+            return None
+        for item in range(len(fitting)):
+            others = [other for other in core if other != item]
+            core = others if least(others) is None else core
+        return [(item, steps[least([other for other in core if other != item])]) for item in core]
 
 
 def waits(own, other, weakly):

@@ -1,4 +1,6 @@
 """Specifications as systems: expanded with the library, numbered, and with the totals that are limited."""
+import collections
+
 from plain_refusals import ORDER, Definitions, Faults, word_of
 from plain_text import GREATEST, Parser, Refused, refuse
 
@@ -123,6 +125,29 @@ class System:
     def checked(self):
         return (f'check: accepted, declared {len(self.declared)}, defined {len(self.definitions)}, constraints {len(self.constraints)}, '
                 f'cells {self.cells}')
+
+
+def forms(system):
+    """How often each relation stands in the constraints, and each form of expression in the definitions and, once a body, in what they call."""
+    count, called = collections.Counter(kind for kind, *_ in system.constraints), set()
+    waiting = [(tree, None) for tree, _ in system.definitions]
+    while waiting:
+        tree, group = waiting.pop()
+        form = tree[1] if tree[0] == 'binary' else f'if {tree[1][0]}' if tree[0] == 'if' else tree[0]
+        waiting += [(part, group) for part in parts(tree)]
+        if form == 'call':
+            number, _, _, _, body = system.known.of[tree[1][1]]
+            form = 'call of itself' if number == group else tree[1][1] if tree[1][1] in LIBRARY.decode() else 'own call'
+            waiting += [(body, number)] if tree[1][1] not in called else []
+            called.add(tree[1][1])
+        count[form] += 1
+    return count
+
+
+def parts(tree):
+    """The expressions that an expression is made of."""
+    form = tree[0]
+    return tree[2:] if form in ('binary', 'if') else tree[1::2] if form == 'delayed' else tree[1:2] if form in ('delay', 'await', 'filter') else ()
 
 
 def number_value(term, values):

@@ -49,9 +49,10 @@ fn main(rt: HostRuntime) -> ExitCode {
         let _ = eprintln!(rt; "ccsl: no random numbers");
         return ExitCode::from(5);
     };
-    let mut world = FileWorld::new(&rt);
+    let mut world = FileWorld::new(&rt, rt.alloc());
     let status = run(&rt, rt.alloc(), keys, words.as_slice(), &mut world, &NoGate);
-    if status == 5 {
+    // A reader that has gone, as `head`, wants to hear no more.
+    if status == 5 && !world.has_lost_reader() {
         let _ = eprintln!(rt; "ccsl: a file failed");
     }
     if status == 6 {

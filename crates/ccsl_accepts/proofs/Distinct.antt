@@ -1,11 +1,12 @@
 -- Lists in which nothing stands twice.
-use Rattle.std.proofs.Common.{◌≡◌, ℕ, List, [], ◌∷◌, ◌++◌, map, flat_map, Bool, true, false, ◌||◌, refl, sym, ap, ◌∙◌, subst, ◌⊎◌, inl, inr, ⊎_elim, bytes_eq}
+use Rattle.std.proofs.Common.{◌≡◌, ℕ, List, [], ◌∷◌, ◌++◌, map, flat_map, Bool, true, false, ◌||◌, refl, ap, ◌∙◌, subst, ◌⊎◌, inl, inr, ⊎_elim, bytes_eq}
 use Rattle.std.proofs.lemmas.Bool.{and_from, false_from_ne_true, not_from_false}
 use Rattle.std.proofs.lemmas.Slice.Eq.{bytes_eq-Decides}
 use Rattle.ccsl_base.specs.Names as names
 use Rattle.ccsl_ast.specs.declared.spot.Spot.{Spot}
 use Rattle.ccsl_rules.specs.Faults.{Duplicate, where_so}
-use Rattle.ccsl_rules.specs.Spaces.{is_among, repeated}
+use Rattle.ccsl_rules.specs.Spaces.{repeated}
+use Rattle.ccsl_base.specs.Names.{is_among}
 use Rattle.ccsl_rules.proofs.Guarded.{left-empty, right-empty, no-fault}
 
 -- x is one of the list
@@ -98,10 +99,10 @@ new-behind front back name a = not-among name front (λ i. distinct-across front
 among-in : (x : List ℕ) (xs : List (List ℕ)) → is_among x xs ≡ false → In x xs → ⊥
 among-in x [] e i = i
 among-in x (y ∷ ys) e (inl same) =
-    let z : bytes_eq y x ≡ true = (bytes_eq-Decides y x).1 (sym same) in
+    let z : bytes_eq x y ≡ true = (bytes_eq-Decides x y).1 same in
     let w : (true || is_among x ys) ≡ false = subst (λ b. (b || is_among x ys) ≡ false) z e in
     absurd (cc)
-among-in x (y ∷ ys) e (inr i) = among-in x ys (right-false (bytes_eq y x) (is_among x ys) e) i where
+among-in x (y ∷ ys) e (inr i) = among-in x ys (right-false (bytes_eq x y) (is_among x ys) e) i where
   right-false : (a b : Bool) → (a || b) ≡ false → b ≡ false
   right-false true b e = absurd (cc)
   right-false false b e = e

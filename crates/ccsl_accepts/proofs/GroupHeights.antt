@@ -15,7 +15,8 @@ use Rattle.ccsl_kernel.specs.Cells as cells
 use Rattle.ccsl_kernel.specs.Accepted.{height, group_levels}
 use Rattle.ccsl_rules.specs.Faults.{Fault, where_so, Unknown, TooTall}
 use Rattle.ccsl_rules.specs.Spaces.{Known, Callee, Role, relation, member, look, calls_space, repeated, spots, params_space}
-use Rattle.ccsl_rules.specs.Levels.{groups, counted, called, level_in, level, levels, greatest}
+use Rattle.ccsl_rules.specs.Levels.{groups, counted, called, level_in, level, levels}
+use Rattle.ccsl_kernel.specs.Cells.{greatest}
 use Rattle.ccsl_rules.specs.Uses.{Scene, callee_faults, argument_faults, expr_faults, right_of, term_faults, word_faults, test_faults}
 use Rattle.ccsl_rules.specs.Blocks.{Heights, params_faults, part_faults, block_faults, blocks_faults}
 use Rattle.ccsl_rules.specs.Settings.{Setting}

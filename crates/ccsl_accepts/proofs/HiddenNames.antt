@@ -6,9 +6,10 @@ use Rattle.std.specs.List.{list_all, take_while, prefix_len}
 use Rattle.std.proofs.lemmas.Bool.{and_parts, and_from}
 use Rattle.std.proofs.lemmas.Bool.Decides.{nat_tests}
 use Rattle.std.proofs.lemmas.List.Folds.{list_all-append}
-use Rattle.ccsl_base.specs.Name.{is_letter, is_digit, is_inner, is_word, is_name, is_visible}
+use Rattle.ccsl_base.specs.Name.{is_word, is_name, is_visible}
+use Rattle.ccsl_base.specs.Letters.{is_letter, is_digit, is_inner}
 use Rattle.ccsl_base.specs.declared.limits.TheConstants.{MAX_NAME_BYTES}
-use Rattle.ccsl_base.specs.ReservedWords.{is_reserved}
+use Rattle.ccsl_base.specs.KeptWords.{is_reserved}
 use Rattle.ccsl_kernel.specs.Accepted.{is_hidden, is_path_rest}
 use Rattle.ccsl_rules.specs.Unfolded.{inside, call_path}
 

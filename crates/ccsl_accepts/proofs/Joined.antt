@@ -93,7 +93,7 @@ map-same f g e (s ∷ ss) = ap₂ (λ x xs. x ∷ xs) (e s) (map-same f g e ss)
 definition-level : (calls more : List (Known Callee)) (seen : List ℕ) (names : Option (List Spot)) → AllByRecursion (From (length seen)) more → level (calls ++ more) seen names ≡ level calls seen names
 definition-level calls more seen None a = refl
 definition-level calls more seen (Some names) a =
-    ap (λ ns. suc (Rattle.ccsl_rules.specs.Levels.greatest ns)) (map-same (λ s. level_in (calls ++ more) seen s.name) (λ s. level_in calls seen s.name) (λ s. level-more calls more seen s.name a) names)
+    ap (λ ns. suc (Rattle.ccsl_kernel.specs.Cells.greatest ns)) (map-same (λ s. level_in (calls ++ more) seen s.name) (λ s. level_in calls seen s.name) (λ s. level-more calls more seen s.name a) names)
 
 levels-more : (sort : Sort) (calls more : List (Known Callee)) (seen : List ℕ) (bs : List PlainDefinition) → AllByRecursion (From (length seen + length bs)) more →
     levels sort (calls ++ more) seen bs ≡ levels sort calls seen bs

@@ -2,7 +2,8 @@
 use Rattle.std.proofs.Common.{◌≡◌, ℕ, suc, ◌+◌, ◌<◌, ◌≤◌, ◌^◌, List, [], ◌∷◌, ◌++◌, Bool, true, false, cond, length, length-append, flat_map, take, drop, filter_map, refl, sym, ap, ap₂, ◌∙◌, subst, arith, inl, inr, ⊎_elim}
 use Rattle.std.specs.List.{AllByRecursion, list_all, prefix_len}
 use Rattle.std.proofs.lemmas.Bool.{and_parts}
-use Rattle.ccsl_base.specs.Name.{is_name, is_inner}
+use Rattle.ccsl_base.specs.Name.{is_name}
+use Rattle.ccsl_base.specs.Letters.{is_inner}
 use Rattle.ccsl_ast.specs.Trees.{PlainDefinition, PlainFile}
 use Rattle.ccsl_ast.specs.Kept.{is_two}
 use Rattle.ccsl_kernel.specs.Accepted.{is_hidden, is_path_rest}

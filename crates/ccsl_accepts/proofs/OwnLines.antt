@@ -11,13 +11,13 @@ use Rattle.ccsl_ast.specs.Trees.{LDefine, LConstraint, LCall, SLine, SClocks, SL
 use Rattle.ccsl_ast.specs.Kept.{arg_kept, sline_kept}
 use Rattle.ccsl_kernel.specs.Syntax.{Body}
 use Rattle.ccsl_kernel.specs.declared.position.Position.TheVariants.{Inner}
-use Rattle.ccsl_rules.specs.Spaces.{Known, Callee, look, clock_known, lines_space, calls_space}
+use Rattle.ccsl_rules.specs.Spaces.{Known, Callee, look, clock_known, lines_space, calls_space, declares}
 use Rattle.ccsl_rules.specs.Uses.{Scene, used_as}
 use Rattle.ccsl_rules.specs.Blocks.{relation_faults, entry_faults, entries_faults}
 use Rattle.ccsl_rules.specs.Texts.{entry_texts}
 use Rattle.ccsl_rules.specs.Settings.{Atom, AClock, Setting, atom_of, argument_atoms}
 use Rattle.ccsl_rules.specs.Resolved.{Tables, clock_number}
-use Rattle.ccsl_rules.specs.Unfolded.{Item, Defines, Binds, Unfolding, Unfoldings, unfolding_at, unfold_line, unfold_entry, unfold_body, call_path, inside, declares, own_clocks}
+use Rattle.ccsl_rules.specs.Unfolded.{Item, Defines, Binds, Unfolding, Unfoldings, unfolding_at, unfold_line, unfold_entry, unfold_body, call_path, inside, own_clocks}
 use Rattle.ccsl_rules.specs.Expansion.{written_item, hidden_item, declared_names}
 use Rattle.ccsl_rules.specs.Counts.{weight, clock_weights}
 use Rattle.ccsl_rules.proofs.Guarded.{left-empty, right-empty}

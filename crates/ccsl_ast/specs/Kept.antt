@@ -18,12 +18,10 @@ use Rattle.ccsl_ast.specs.declared.term.Test.{Test}
 use Rattle.ccsl_ast.specs.declared.term.Test.TheVariants.{Equal, Less, Head, Ended}
 use Rattle.ccsl_ast.specs.declared.term.Argument.{Argument}
 use Rattle.ccsl_ast.specs.declared.term.Argument.TheVariants as argument
-use Rattle.ccsl_ast.specs.declared.tree.BinaryOp.{BinaryOp}
-use Rattle.ccsl_ast.specs.declared.tree.BinaryOp.TheVariants.{UptoWeakly}
 use Rattle.ccsl_ast.specs.declared.line.Relation.{Relation}
 use Rattle.ccsl_ast.specs.declared.line.Relation.TheVariants.{PrecedesWithin}
 use Rattle.ccsl_ast.specs.declared.definition.Param.{Param}
-use Rattle.ccsl_ast.specs.Trees.{Expression, EName, ECall, ENever, EBinary, EDelay, EAwait, EFilter, EDelayed, EIf, Line, LDefine, LConstraint, LCall, SLine, SClocks, SLineOf, PlainMember, PlainDefinition, DRelation, DGroup, PlainFile}
+use Rattle.ccsl_ast.specs.Trees.{Expression, EName, ECall, ENever, EBinary, EDelay, EAwait, EFilter, EDelayed, EIf, Line, LDefine, LConstraint, LCall, SLine, SClocks, SLineOf, PlainMember, PlainDefinition, DRelation, DGroup, PlainFile, binop_in, relop_in}
 
 -- whether a list has a member
 abbrev pub has_member : {A : Type 0} → List A → Bool
@@ -64,15 +62,6 @@ abbrev pub arg_kept : Argument → Bool
 arg_kept (argument.Term t) = term_kept t
 arg_kept (argument.Text at bytes) = text_kept bytes
 arg_kept (argument.Tail x) = spot_kept x
-
--- whether it is a form of the version
-abbrev pub binop_in : Bool → BinaryOp → Bool
-binop_in two UptoWeakly = two
-binop_in two _ = true
-
-abbrev pub relop_in : Bool → Relation → Bool
-relop_in two (PrecedesWithin at m) = two
-relop_in two _ = true
 
 abbrev pub expression_kept : Bool → Expression → Bool
 expression_kept two (EName x) = spot_kept x

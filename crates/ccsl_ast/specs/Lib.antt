@@ -1,7 +1,9 @@
 pub mod Trees
+pub mod Plain
 pub mod Depth
 pub mod Kept
 pub mod Files
 pub mod Levels
 pub mod Worked
 pub use Rattle.ccsl_base.specs.Name
+pub use Rattle.ccsl_base.specs.Letters

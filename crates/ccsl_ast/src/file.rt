@@ -2,7 +2,7 @@
 
 ghost use Rattle.std.specs.Prelude.{◌≤◌, IsTrue};
 ghost use Rattle.ccsl_base.specs.declared.limits.TheConstants.{MAX_LEVELS};
-ghost use Rattle.ccsl_ast.specs.Trees.{plain_parts};
+ghost use Rattle.ccsl_ast.specs.Plain.{plain_parts};
 ghost use Rattle.ccsl_ast.specs.Kept.{file_kept};
 ghost use Rattle.ccsl_ast.specs.Depth.{file_depth};
 

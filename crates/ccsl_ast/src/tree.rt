@@ -55,7 +55,7 @@ impl Drop for Tree {
 }
 
 impl Tree {
-    ghost use Rattle.ccsl_ast.specs.Trees.{plain};
+    ghost use Rattle.ccsl_ast.specs.Plain.{plain};
     ghost use Rattle.ccsl_ast.specs.Depth.{stands_in_parens};
 
     /// Whether it stands in parentheses where it is an operand: an operator does, and an `if`.

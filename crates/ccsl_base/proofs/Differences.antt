@@ -6,7 +6,8 @@ use Rattle.std.proofs.lemmas.List.{get_or-set_same, get_or-set_other, length-set
 use Rattle.std.proofs.lemmas.Nat.Bits.{bit_at-trailing_zeros}
 use lib.Count.{count_trailing_zeros}
 use Rattle.ccsl_base.specs.Bits.{is_set, bit_of, members_where, members_of, EmptyFrom}
-use Rattle.ccsl_base.specs.Clocks.{ticks_in, difference}
+use Rattle.ccsl_base.specs.Clocks.{ticks_in}
+use Rattle.ccsl_base.specs.Changes.{difference}
 use Rattle.ccsl_base.proofs.Picked.{members-same, members-empty, members-filter}
 use Rattle.ccsl_base.proofs.Sets.{ticks_in-difference}
 use Rattle.ccsl_base.proofs.Words.{is_set-zero, clear-from, ticks_in-words}

@@ -4,7 +4,8 @@ use Rattle.std.specs.List.{list_all}
 use Rattle.std.proofs.Math.Bool.{and-false, and-true}
 use Rattle.std.proofs.lemmas.Bool.{cases_eq, eq-eqb, ne_eqb, lt-ltb, le-ltb}
 use Rattle.ccsl_base.specs.Bits.{members_where}
-use Rattle.ccsl_base.specs.Clocks.{ticks_in, with_clock, without_clock, is_ascending, are_below}
+use Rattle.ccsl_base.specs.Clocks.{ticks_in, with_clock, is_ascending, are_below}
+use Rattle.ccsl_base.specs.Changes.{without_clock}
 
 pub members-set : (p : ℕ → Bool) (first count : ℕ) → p first ≡ true → members_where p first (suc count) ≡ first ∷ members_where p (suc first) count
 unfolding members_where

@@ -7,7 +7,8 @@ use Rattle.std.proofs.lemmas.Slice.Eq.{bytes_eq-Decides}
 use Rattle.std.proofs.lemmas.List.{drop_all, drop_more}
 use Rattle.ccsl_base.specs.declared.reserved.Reserved.{Reserved}
 use Rattle.ccsl_base.specs.declared.reserved.Reserved.TheVariants as w
-use Rattle.ccsl_base.specs.ReservedWords.{spelling, reserved, all_words, is_reserved, WordsReadBack}
+use Rattle.ccsl_base.specs.ReservedWords.{spelling, reserved, all_words}
+use Rattle.ccsl_base.specs.KeptWords.{is_reserved, WordsReadBack}
 
 -- whether a text spells a word
 abbrev pub spells : List ℕ → Reserved → Bool

@@ -2,7 +2,8 @@
 use Rattle.std.proofs.Common.{◌≡◌, ◌≢◌, ℕ, List, [], ◌∷◌, filter, Bool, true, false, not, ◌||◌, ◌&&◌, refl, sym, ap, ◌∙◌, ⊎_elim, ◌<◌, subst, nat_eq, nat_lt}
 use Rattle.std.proofs.Math.Bool.{or-true, and-false, and-true}
 use Rattle.std.proofs.lemmas.Bool.{cases_eq, eq-eqb, ne_eqb, and_parts, ltb-true}
-use Rattle.ccsl_base.specs.Clocks.{ticks_in, with_clock, without_clock, put_clock, difference, are_below}
+use Rattle.ccsl_base.specs.Clocks.{ticks_in, with_clock, are_below}
+use Rattle.ccsl_base.specs.Changes.{without_clock, put_clock, difference}
 
 by_case : (b : Bool) (P : Type 0) → (b ≡ true → P) → (b ≡ false → P) → P
 by_case b P yes_ no_ = (elim b as (λ v. b ≡ v → P) [ true ↦ yes_ | false ↦ no_ ]) refl

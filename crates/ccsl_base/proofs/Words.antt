@@ -12,7 +12,8 @@ use Rattle.std.proofs.Math.Nat.{div-div-eq-div-mul}
 use Rattle.std.proofs.Math.Bool.{or-false}
 use Rattle.std.proofs.lemmas.Nat.Bits.{bit_at-lt, bit_at-zero, bit_at_or, bit_at_and, bit_at_not, bit_at_set_same, bit_at_set_other, bit_at_clear_same, bit_at_clear_other}
 use Rattle.ccsl_base.specs.Bits.{is_set, bit_of, members_where, members_of, members_left, EmptyFrom, size_of_word}
-use Rattle.ccsl_base.specs.Clocks.{ticks_in, with_clock, without_clock, put_clock, is_ascending, are_below}
+use Rattle.ccsl_base.specs.Clocks.{ticks_in, with_clock, is_ascending, are_below}
+use Rattle.ccsl_base.specs.Changes.{without_clock, put_clock}
 use Rattle.ccsl_base.proofs.Picked.{members-set, members-clear, members-none, by_test, ticks_in-members, ticks_in-past, with_clock-members, without_clock-members, members-ascending, members-below, members-same, members-empty, members-skip, members-cut, length-split, length-moved, length-most}
 
 pub is_set-zero : (x : ℕ) → is_set 0 x ≡ false

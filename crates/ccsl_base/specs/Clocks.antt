@@ -1,5 +1,5 @@
 -- Sets of clocks, as the ascending list of their members.
-use Rattle.std.specs.Prelude.{ℕ, List, [], ◌∷◌, Bool, true, false, not, filter, ◌||◌, ◌&&◌, nat_eq, nat_lt, if◌then◌else◌}
+use Rattle.std.specs.Prelude.{ℕ, List, [], ◌∷◌, Bool, true, false, ◌||◌, ◌&&◌, nat_eq, nat_lt, if◌then◌else◌}
 use Rattle.std.specs.List.{list_all}
 
 -- whether clock x is a member: whether it ticks in a step
@@ -11,18 +11,6 @@ ticks_in x (y ∷ ys) = nat_eq x y || ticks_in x ys
 abbrev pub with_clock : ℕ → List ℕ → List ℕ
 with_clock x [] = x ∷ []
 with_clock x (y ∷ ys) = if nat_lt x y then x ∷ (y ∷ ys) else if nat_eq x y then y ∷ ys else y ∷ with_clock x ys
-
--- the set without clock x
-abbrev pub without_clock : ℕ → List ℕ → List ℕ
-without_clock x ys = filter (λ y. not (nat_eq x y)) ys
-
--- the set with clock x as a member, or without it
-abbrev pub put_clock : ℕ → Bool → List ℕ → List ℕ
-put_clock x one ys = if one then with_clock x ys else without_clock x ys
-
--- the members of the one set that are not the other's
-abbrev pub difference : List ℕ → List ℕ → List ℕ
-difference xs ys = filter (λ x. not (ticks_in x ys)) xs
 
 -- each member is less than all behind it
 abbrev pub is_ascending : List ℕ → Bool

@@ -1,7 +1,7 @@
 -- Numbers that decimal digits write: one or more digits, and leading zeros count for nothing.
 use Rattle.std.specs.Prelude.{ℕ, ◌+◌, ◌-◌, ◌*◌, List, [], ◌∷◌, Bool, false, ◌&&◌, Option, Some, None, nat_le, if◌then◌else◌}
 use Rattle.std.specs.List.{list_all}
-use Rattle.ccsl_base.specs.Name.{is_digit}
+use Rattle.ccsl_base.specs.Letters.{is_digit}
 
 abbrev pub are_digits : List ℕ → Bool
 are_digits [] = false

@@ -1,8 +1,13 @@
+pub mod Empty
 pub mod Clocks
+pub mod Changes
 pub mod Bits
 pub mod Rows
 pub mod ReservedWords
+pub mod KeptWords
 pub mod Name
+pub mod Letters
 pub mod Decimal
 pub mod Names
+pub mod Added
 pub mod Quoted

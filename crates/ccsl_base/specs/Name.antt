@@ -1,19 +1,10 @@
 -- The names of the grammar: a letter or _, then letters, digits and _, at most 64 bytes, and no reserved word.
-use Rattle.std.specs.Prelude.{ℕ, Bool, false, ◌&&◌, ◌||◌, not, List, [], ◌∷◌, length, nat_le, nat_eq, codes}
+use Rattle.std.specs.Prelude.{ℕ, Bool, false, ◌&&◌, not, List, [], ◌∷◌, length, nat_le, nat_eq, codes}
 use Rattle.std.specs.List.{list_all}
 use Rattle.std.specs.Str.{bytes_eq}
 use Rattle.ccsl_base.specs.declared.limits.TheConstants.{MAX_NAME_BYTES}
-use Rattle.ccsl_base.specs.ReservedWords.{is_reserved}
-
-abbrev pub is_letter : ℕ → Bool
-is_letter b = (nat_le 65 b && nat_le b 90) || (nat_le 97 b && nat_le b 122) || nat_eq b 95
-
-abbrev pub is_digit : ℕ → Bool
-is_digit b = nat_le 48 b && nat_le b 57
-
--- what may stand behind a name's first letter
-abbrev pub is_inner : ℕ → Bool
-is_inner b = is_letter b || is_digit b
+use Rattle.ccsl_base.specs.KeptWords.{is_reserved}
+use Rattle.ccsl_base.specs.Letters.{is_letter, is_inner}
 
 -- a letter and what may stand behind it
 abbrev pub is_word : List ℕ → Bool

@@ -1,5 +1,5 @@
 -- Tables of names: lists of distinct texts.
-use Rattle.std.specs.Prelude.{◌≡◌, ℕ, List, [], ◌∷◌, ◌++◌, Bool, true, false, not, ◌&&◌, Option, Some, None, length, position}
+use Rattle.std.specs.Prelude.{ℕ, List, [], ◌∷◌, Bool, true, not, ◌&&◌, Option, position}
 use Rattle.std.specs.List.{list_any}
 use Rattle.std.specs.Str.{bytes_eq}
 
@@ -15,8 +15,3 @@ find_name name names = position (bytes_eq name) names
 abbrev pub are_distinct : List (List ℕ) → Bool
 are_distinct [] = true
 are_distinct (name ∷ names) = not (is_among name names) && are_distinct names
-
--- what the addition of a name does: none where it is there, and else it stands last and its number is answered
-abbrev pub IsAdded : List (List ℕ) → List (List ℕ) → List ℕ → Option ℕ → Type 0
-IsAdded old new name None = (is_among name old ≡ true) × (new ≡ old)
-IsAdded old new name (Some number) = (is_among name old ≡ false) × (number ≡ length old) × (new ≡ old ++ name ∷ [])

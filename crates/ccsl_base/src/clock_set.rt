@@ -1,7 +1,8 @@
 //! Sets of clocks.
 
 ghost use Rattle.std.specs.Prelude.{◌≡◌, ◌≢◌, ◌<◌, ◌↔◌, ℕ, ◌||◌, ◌&&◌, not, [], IsTrue, filter, length, nat_lt};
-ghost use Rattle.ccsl_base.specs.Clocks.{ticks_in, with_clock, without_clock, put_clock, difference, is_ascending, are_below};
+ghost use Rattle.ccsl_base.specs.Clocks.{ticks_in, with_clock, is_ascending, are_below};
+ghost use Rattle.ccsl_base.specs.Changes.{without_clock, put_clock, difference};
 ghost use Rattle.ccsl_base.specs.Bits.{is_set, size_of_word};
 
 use crate::MAX_CLOCKS;

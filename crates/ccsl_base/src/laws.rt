@@ -1,6 +1,6 @@
 //! What is true of the reserved words. Each function does nothing: its contract is the law.
 
-ghost use Rattle.ccsl_base.specs.ReservedWords.{WordsReadBack, WordsAreSpelled, OthersAreFree};
+ghost use Rattle.ccsl_base.specs.KeptWords.{WordsReadBack, WordsAreSpelled, OthersAreFree};
 
 /// Each word's letters are read as that word.
 pub fn words_read_back()

@@ -2,9 +2,10 @@
 
 ghost use Rattle.std.specs.Prelude.{◌≡◌};
 ghost use Rattle.std.specs.List.{list_all};
-ghost use Rattle.ccsl_base.specs.Name.{is_letter, is_digit, is_inner, is_word, is_name};
+ghost use Rattle.ccsl_base.specs.Name.{is_word, is_name};
+ghost use Rattle.ccsl_base.specs.Letters.{is_letter, is_digit, is_inner};
 ghost use Rattle.ccsl_base.specs.Quoted.{is_quotable};
-ghost use Rattle.ccsl_base.specs.ReservedWords.{is_reserved};
+ghost use Rattle.ccsl_base.specs.KeptWords.{is_reserved};
 
 use crate::{MAX_NAME_BYTES, Reserved};
 

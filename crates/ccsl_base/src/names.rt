@@ -1,7 +1,8 @@
 //! Tables of names.
 
 ghost use Rattle.std.specs.Prelude.{◌≡◌, ◌<◌, ◌≤◌, ◌↔◌, [], ◌∷◌, ◌++◌, IsTrue, IsNone, IfOk, IfSome, OnErr, length, slice_get, Some, None};
-ghost use Rattle.ccsl_base.specs.Names.{find_name, IsAdded, are_distinct};
+ghost use Rattle.ccsl_base.specs.Names.{find_name, are_distinct};
+ghost use Rattle.ccsl_base.specs.Added.{IsAdded};
 
 use crate::Memory;
 use indexmap::IndexSet;

@@ -1,7 +1,7 @@
 //! Numbers that decimal digits write.
 
 ghost use Rattle.std.specs.Prelude.{◌≡◌, ◌≤◌, ◌+◌, ◌*◌, ◌-◌, ◌&&◌, IsTrue, Some, None, nat_le, if◌then◌else◌};
-ghost use Rattle.ccsl_base.specs.Name.{is_digit};
+ghost use Rattle.ccsl_base.specs.Letters.{is_digit};
 ghost use Rattle.ccsl_base.specs.Decimal.{number_up_to};
 
 use crate::name::is_digit;

@@ -1,7 +1,7 @@
 //! Rows of a trace, and bounded lists of them.
 
 ghost use Rattle.std.specs.Prelude.{◌≡◌, ◌<◌, ◌≤◌, ◌↔◌, [], ◌∷◌, ◌++◌, IsTrue, IfOk, length, slice_get, Some};
-ghost use Rattle.ccsl_base.specs.Clocks.{difference};
+ghost use Rattle.ccsl_base.specs.Changes.{difference};
 
 use crate::{ClockSet, Memory};
 use std::alloc::Global;

@@ -1,6 +1,7 @@
 use Rattle.std.proofs.Common.{◌≡◌, ℕ, ◌<◌, List, [], ◌∷◌, ◌++◌, Bool, true, false, ◌||◌, nat_eq, refl, sym, ap, ◌∙◌, ⊎_elim, subst}
 use Rattle.std.proofs.lemmas.Bool.{cases_eq, ne_eqb}
-use Rattle.ccsl_formula.specs.Formula.{Formula, ReadsBelow, reads}
+use Rattle.ccsl_formula.specs.Formula.{Formula}
+use Rattle.ccsl_formula.specs.Variables.{ReadsBelow, reads}
 use Rattle.ccsl_solve.specs.Posed.{AllBelow}
 
 pub one-below : (v x n : ℕ) → x < n → nat_eq v x ≡ true → v < n

@@ -2,7 +2,7 @@
 
 ghost use Rattle.std.specs.Prelude.{◌≡◌, ◌<◌, ◌≤◌, ◌+◌, ◌*◌, map, length, IfOk, OnOk};
 ghost use Rattle.ccsl_formula.specs.Plain.{plain};
-ghost use Rattle.ccsl_formula.specs.Formula.{ReadsBelow};
+ghost use Rattle.ccsl_formula.specs.Variables.{ReadsBelow};
 ghost use Rattle.ccsl_solve.specs.Posed.{AllBelow};
 
 use crate::chain::add;

@@ -16,7 +16,7 @@ use Rattle.ccsl_bind.specs.declared.fault.BindFault.TheVariants.{Unbound, Ambigu
 use Rattle.ccsl_bind.specs.Codes.{number_of}
 use Rattle.ccsl_bind.specs.Bindings.{bound_to, code_number, is_bound_event}
 use Rattle.ccsl_bind.specs.Candidates.{Sums, SumsUp, AllSumUp}
-use Rattle.ccsl_bind.specs.Collected.{Refuses}
+use Rattle.ccsl_bind.specs.Gathered.{Refuses}
 use Rattle.ccsl_bind.specs.Slots.{text_at, bound_from, is_numbered, are_numbered, behind, clocks_from, slot_of}
 use Rattle.ccsl_bind.proofs.Codes.{among-found}
 

@@ -5,13 +5,14 @@ use Rattle.std.specs.List.{slice_get}
 use Rattle.std.proofs.Math.ListN.{set}
 use Rattle.std.proofs.lemmas.Option.{slice_get_within}
 use Rattle.ccsl_base.specs.declared.limits.TheConstants.{MAX_CLOCKS}
-use Rattle.ccsl_base.specs.Names.{is_among, find_name, are_distinct, IsAdded}
+use Rattle.ccsl_base.specs.Names.{is_among, find_name, are_distinct}
+use Rattle.ccsl_base.specs.Added.{IsAdded}
 use Rattle.ccsl_base.proofs.Tables.{bytes_eq-true, bytes_eq-refl, find_name-there}
 use Rattle.ccsl_vcd.specs.Binding.{Declaration, Wanted, is_event, qualifies}
 use Rattle.ccsl_bind.specs.declared.candidate.Candidates.{Candidates}
 use Rattle.ccsl_bind.specs.Codes.{put_code, codes_of, number_of}
 use Rattle.ccsl_bind.specs.Candidates.{noted, AllSumUp, may_bind}
-use Rattle.ccsl_bind.specs.Collected.{Collected, StandsFor}
+use Rattle.ccsl_bind.specs.Gathered.{Collected, StandsFor}
 use Rattle.ccsl_bind.proofs.Finding.{find-last, put-grow, codes-more, not-among}
 use Rattle.ccsl_bind.proofs.Gathering.{all-grow, all-pass, all-noted, same-length}
 

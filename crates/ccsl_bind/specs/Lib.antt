@@ -3,3 +3,4 @@ pub mod Candidates
 pub mod Slots
 pub mod Bindings
 pub mod Collected
+pub mod Gathered

@@ -3,7 +3,8 @@
 ghost use Rattle.std.specs.Prelude.{◌≡◌, ◌<◌, ◌≤◌, ℕ, List, [], ◌∷◌, ◌++◌, IfOk, IfErr, length, Ok, OnOk, Some, None, slice_get, slice_set, slice_index_or, bytes_eq};
 ghost use Rattle.ccsl_vcd.specs.Binding.{Declaration, Wanted, bind};
 ghost use Rattle.ccsl_bind.specs.Codes.{codes_of, put_code, number_of};
-ghost use Rattle.ccsl_bind.specs.Collected.{StandsFor, wanted_of, Refuses};
+ghost use Rattle.ccsl_bind.specs.Collected.{wanted_of};
+ghost use Rattle.ccsl_bind.specs.Gathered.{StandsFor, Refuses};
 ghost use Rattle.ccsl_bind.specs.Candidates.{may_bind, noted};
 ghost use Rattle.ccsl_bind.specs.Slots.{clocks_from};
 
@@ -25,7 +26,7 @@ pub struct Binder {
 }
 
 impl Model for Binder {
-    ghost use Rattle.ccsl_bind.specs.Collected.{Collected};
+    ghost use Rattle.ccsl_bind.specs.Gathered.{Collected};
 
     ghost Value = { Collected };
 

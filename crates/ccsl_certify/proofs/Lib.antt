@@ -1,3 +1,4 @@
 pub mod Following
 pub mod Taking
 pub mod Deadlocks
+pub mod Sets

@@ -13,11 +13,11 @@ use Rattle.ccsl_kernel.specs.declared.expr.Place.TheVariants as place
 use Rattle.ccsl_kernel.specs.declared.expr.NumPrim.TheVariants as num
 use Rattle.ccsl_kernel.specs.Actuals.{word_or_empty}
 use Rattle.ccsl_kernel.specs.Syntax as kernel
-use Rattle.ccsl_rules.specs.Spaces.{Known, Callee, calls_space}
+use Rattle.ccsl_rules.specs.Spaces.{Known, Callee, calls_space, declares}
 use Rattle.ccsl_rules.specs.Settings.{Atom, AClock, Setting, atom_of, snd_of}
 use Rattle.ccsl_rules.specs.Texts.{entry_texts}
 use Rattle.ccsl_rules.specs.Resolved.{Tables, clock_number}
-use Rattle.ccsl_rules.specs.Unfolded.{Item, Defines, Binds, unfoldings, unfold_body, own_clocks, declares, inside}
+use Rattle.ccsl_rules.specs.Unfolded.{Item, Defines, Binds, unfoldings, unfold_body, own_clocks, inside}
 use Rattle.ccsl_rules.specs.Expansion.{declared_names, written_item, hidden_item, item_name, item_definition, constraint_of, names_of, expand, words_of, items_of}
 use Rattle.ccsl_library.specs.Library.{the_library, name_at, clock_at, number_at}
 use Rattle.ccsl_chain.specs.Chain.{clock_name, call_path, hidden_name, all_but_first, precedes, alternation, chain}

@@ -14,10 +14,12 @@ use Rattle.ccsl_kernel.specs.Syntax.{System}
 use Rattle.ccsl_kernel.specs.Cells.{cells}
 use Rattle.ccsl_kernel.specs.Accepted.{IsAccepted}
 use Rattle.ccsl_rules.specs.Faults.{Fault, least, where_so, Duplicate, Unknown, Later, WrongKind}
-use Rattle.ccsl_rules.specs.Spaces.{Known, Callee, look, is_among, repeated, spots, clock_known, lines_space, calls_space}
+use Rattle.ccsl_rules.specs.Spaces.{Known, Callee, look, repeated, spots, clock_known, lines_space, calls_space}
+use Rattle.ccsl_base.specs.Names.{is_among}
 use Rattle.ccsl_rules.specs.Uses.{Scene, has_other_kind}
 use Rattle.ccsl_rules.specs.Blocks.{entries_faults, faults}
-use Rattle.ccsl_rules.specs.Elaborated.{totals_refusal, refusal_with, refusal, answer, elaborated}
+use Rattle.ccsl_rules.specs.Elaborated.{totals_refusal, refusal_with, refusal}
+use Rattle.ccsl_rules.specs.Answer.{answer, elaborated}
 use Rattle.ccsl_library.specs.Library.{the_library, name_at}
 use Rattle.ccsl_chain.specs.Chain.{clock_name, chain}
 use Rattle.ccsl_chain.specs.Text.{call_line, chain_file}
@@ -37,7 +39,7 @@ module _ (where_at : ℕ → ℕ → ℕ) where
 
   new-name : (x : List ℕ) (a m : ℕ) → ((j : ℕ) → a ≤ j → j < a + m → clock_name j ≡ x → ⊥) → is_among x (map clock_name (range_with_len a m)) ≡ false
   new-name x a zero h = refl
-  new-name x a (suc m) h = ap₂ ◌||◌ (other (clock_name a) x (h a (omega arith) (omega arith))) (new-name x (a + 1) m (λ j l u. h j (omega arith) (omega arith)))
+  new-name x a (suc m) h = ap₂ ◌||◌ (other x (clock_name a) (λ e. h a (omega arith) (omega arith) (sym e))) (new-name x (a + 1) m (λ j l u. h j (omega arith) (omega arith)))
 
   none-repeated : (a m : ℕ) → a + m < 2 ^ 62 → repeated (map clock_name (range_with_len 0 a)) (map spot (range_with_len a m)) ≡ []
   none-repeated a zero l = refl

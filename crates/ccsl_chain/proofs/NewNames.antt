@@ -8,7 +8,8 @@ use Rattle.std.proofs.lemmas.List.Folds.{list_any-append}
 use Rattle.std.proofs.lemmas.List.FromFn.{length-map-range_with_len, map-range_with_len_more}
 use Rattle.std.proofs.lemmas.Slice.Eq.{bytes_eq-Decides}
 use Rattle.std.proofs.lemmas.Fmt.{decimal_injective}
-use Rattle.ccsl_base.specs.Names.{is_among, IsAdded}
+use Rattle.ccsl_base.specs.Names.{is_among}
+use Rattle.ccsl_base.specs.Added.{IsAdded}
 use Rattle.ccsl_chain.specs.Chain.{clock_name, call_path, hidden_name}
 
 pub other : (a b : List ℕ) → (a ≡ b → ⊥) → bytes_eq a b ≡ false

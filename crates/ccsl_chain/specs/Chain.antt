@@ -7,8 +7,9 @@ use Rattle.ccsl_kernel.specs.declared.expr.Place.TheVariants.{Clock}
 use Rattle.ccsl_kernel.specs.declared.expr.NumPrim.TheVariants.{Num}
 use Rattle.ccsl_kernel.specs.declared.constraint.Constraint.{Constraint}
 use Rattle.ccsl_kernel.specs.declared.constraint.RelationKind.TheVariants.{Precedes}
-use Rattle.ccsl_kernel.specs.Syntax.{System, Expression, EName, EDelay}
-use Rattle.ccsl_library.specs.Members.{library_groups}
+use Rattle.ccsl_kernel.specs.Syntax.{Body, System, Expression, EName, EDelay}
+use Rattle.ccsl_rules.specs.Expansion.{expand}
+use Rattle.ccsl_library.specs.Library.{the_library}
 
 -- the name of clock i
 abbrev pub clock_name : ℕ → List ℕ
@@ -33,12 +34,16 @@ precedes i a b = record { kind = Precedes; left = a; right = b; label = call_pat
 abbrev pub alternation : ℕ → ℕ → List Constraint
 alternation n i = precedes i i (i + 1) ∷ precedes i (i + 1) (n + i) ∷ []
 
+-- the groups of the library, which every system has
+abbrev pub own_groups : List (List Body)
+own_groups = (expand the_library (record { version = 1; definitions = []; lines = [] })).groups
+
 unfoldable pub chain : ℕ → System
 chain n = let clocks = range_with_len 0 n in let calls = range_with_len 0 (n - 1) in record {
   names = map clock_name clocks ++ map hidden_name calls;
   declared = n;
   written = n;
-  groups = library_groups;
+  groups = own_groups;
   words = [];
   definitions = map all_but_first calls;
   constraints = flat_map (alternation n) calls;

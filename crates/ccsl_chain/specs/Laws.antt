@@ -7,7 +7,7 @@ use Rattle.ccsl_kernel.specs.Runs.{IsAdmissible}
 use Rattle.ccsl_items.specs.Laws.{IsNamedRun}
 use Rattle.ccsl_policy.specs.declared.policies.Policy.{Policy}
 use Rattle.ccsl_simulate.specs.Simulation.{simulation}
-use Rattle.ccsl_rules.specs.Elaborated.{elaborated}
+use Rattle.ccsl_rules.specs.Answer.{elaborated}
 use Rattle.ccsl_library.specs.Library.{the_library}
 use Rattle.ccsl_chain.specs.Chain.{chain}
 use Rattle.ccsl_chain.specs.Text.{chain_file}

@@ -1,5 +1,6 @@
 -- What a command line means: a command, or the first thing at fault.
 use Rattle.std.specs.Prelude.{ℕ, ◌+◌, List, [], ◌∷◌, ◌++◌, Bool, false, not, ◌&&◌, ◌||◌, Option, Some, None, unwrap_or, Result, Ok, Err, if◌then◌else◌}
+use Rattle.std.specs.Option.{option_or}
 use Rattle.std.specs.List.{find}
 use Rattle.std.specs.Str.{bytes_eq}
 use Rattle.ccsl_command.specs.declared.table.CommandName.{CommandName}
@@ -32,14 +33,10 @@ word_fault name earlier i word =
     if is_pair word then key_fault name earlier i word (key_of name word) else Some (usage.NotPair i)
 
 -- the first word at fault, of those from number i on, behind the earlier pairs
-abbrev pub first_or : Option Usage → Option Usage → Option Usage
-first_or (Some fault) later = Some fault
-first_or None later = later
-
 abbrev pub first_fault : CommandName → List (List ℕ) → ℕ → List (List ℕ) → Option Usage
 first_fault name earlier i [] = None
 first_fault name earlier i (word ∷ words) =
-    first_or (word_fault name earlier i word) (first_fault name (earlier ++ word ∷ []) (i + 1) words)
+    option_or (word_fault name earlier i word) (first_fault name (earlier ++ word ∷ []) (i + 1) words)
 
 -- the first required key that does not stand there
 abbrev pub first_missing : CommandName → List (List ℕ) → Option Key

@@ -12,25 +12,18 @@ pub record Opened : Type 0 where
   pub slot : Slot
   pub name : List ℕ
 
+abbrev pub under : Slot → List ℕ → Opened
+under slot name = record { slot = slot; name = name }
+
 abbrev pub files_of : Command → List Opened
-files_of (meant.Check spec) = record { slot = slot.Spec; name = spec } ∷ []
+files_of (meant.Check spec) = under slot.Spec spec ∷ []
 files_of (meant.Simulate spec policy seed steps trace cert) =
-    record { slot = slot.Spec; name = spec }
-    ∷ record { slot = slot.TraceOut; name = trace }
-    ∷ record { slot = slot.CertOut; name = cert } ∷ []
-files_of (meant.Judge spec trace workers) =
-    record { slot = slot.Spec; name = spec } ∷ record { slot = slot.Trace; name = trace } ∷ []
-files_of (meant.Certify spec trace cert) =
-    record { slot = slot.Spec; name = spec }
-    ∷ record { slot = slot.Trace; name = trace }
-    ∷ record { slot = slot.Cert; name = cert } ∷ []
-files_of (meant.Trial clocks steps seed workers) = []
-files_of (meant.Periodic left right relation) = []
-files_of (meant.Explain spec trace cert) =
-    record { slot = slot.Spec; name = spec }
-    ∷ record { slot = slot.Trace; name = trace }
-    ∷ record { slot = slot.CertOut; name = cert } ∷ []
-files_of (meant.Session spec policy seed) = record { slot = slot.Spec; name = spec } ∷ []
+    under slot.Spec spec ∷ under slot.TraceOut trace ∷ under slot.CertOut cert ∷ []
+files_of (meant.Judge spec trace workers) = under slot.Spec spec ∷ under slot.Trace trace ∷ []
+files_of (meant.Certify spec trace cert) = under slot.Spec spec ∷ under slot.Trace trace ∷ under slot.Cert cert ∷ []
+files_of (meant.Explain spec trace cert) = under slot.Spec spec ∷ under slot.Trace trace ∷ under slot.CertOut cert ∷ []
+files_of (meant.Session spec policy seed) = under slot.Spec spec ∷ []
+files_of _ = []
 
 abbrev pub files_meant : Result Command Usage → List Opened
 files_meant (Ok command) = files_of command

@@ -3,7 +3,8 @@ use Rattle.std.proofs.Common.{◌≡◌, ◌≢◌, ℕ, ◌≤◌, List, inl, i
 use Rattle.ccsl_edge.specs.declared.slot.Slot.{Slot}
 use Rattle.ccsl_edge.specs.declared.whole.ReadFault.{ReadFault}
 use Rattle.ccsl_edge.specs.declared.whole.ReadFault.TheVariants.{Fault, TooLong, Memory}
-use Rattle.ccsl_edge.specs.World.{State, SlotState, Told, SameCounts, NoCountFalls}
+use Rattle.ccsl_edge.specs.World.{State, SlotState, Told}
+use Rattle.ccsl_edge.specs.Counts.{SameCounts, NoCountFalls}
 use Rattle.ccsl_edge.specs.Calls.{ChangesOnly, Fails, OpensIn, Reads, ReadsThenFails, OpensOut, Adds, AddsFront, Closes, ReadsUntil}
 use Rattle.ccsl_edge.proofs.Slots.{slot_cases}
 

@@ -9,7 +9,7 @@ use Rattle.std.proofs.lemmas.List.Quantifiers.{position-Some}
 use Rattle.std.proofs.lemmas.List.Sums.{position_or_len_is}
 use Rattle.std.proofs.lemmas.Option.{slice_get_past}
 use Rattle.std.proofs.lemmas.Slice.Eq.{bytes_eq-Decides}
-use Rattle.ccsl_edge.specs.World.{Stores}
+use Rattle.ccsl_edge.specs.Stored.{Stores}
 
 -- whether a file has this name
 abbrev is_named : List ℕ → List ℕ × List ℕ → Bool

@@ -2,7 +2,7 @@
 use Rattle.std.proofs.Common.{◌≡◌, ℕ, ◌<◌, ◌≤◌, List, ◌++◌, false, length, take, drop, get_or, set, min, refl, sym, ap, ◌∙◌, get_or-set_same, get_or-set_other, take-append-drop, arith}
 use Rattle.std.proofs.lemmas.List.{get_or_default, nil_from_length}
 use Rattle.ccsl_edge.specs.declared.slot.Slot.{Slot}
-use Rattle.ccsl_edge.specs.Slots.{index_of}
+use Rattle.ccsl_edge.specs.Order.{index_of}
 use Rattle.ccsl_edge.specs.World.{SlotState, State, Told, Rose, risen}
 use Rattle.ccsl_edge.specs.Calls.{ChangesOnly, Fails, Takes, Adds}
 use Rattle.ccsl_edge.specs.SlotTable.{slot_in, unused}

@@ -3,7 +3,7 @@ use Rattle.std.proofs.Common.{◌≡◌, ◌≢◌, ◌⊎◌, ℕ, ◌<◌, zer
 use Rattle.std.proofs.lemmas.Bool.Decides.{eqb_tells}
 use Rattle.ccsl_edge.specs.declared.slot.Slot.{Slot}
 use Rattle.ccsl_edge.specs.declared.slot.Slot.TheVariants.{Spec, Trace, Cert, Input, Report, TraceOut, CertOut}
-use Rattle.ccsl_edge.specs.Slots.{index_of}
+use Rattle.ccsl_edge.specs.Order.{index_of}
 
 pub index_of-lt : (slot : Slot) → index_of slot < 7
 index_of-lt Spec = lit< tt

@@ -9,7 +9,7 @@ use Rattle.std.proofs.lemmas.List.Folds.{find_at}
 use Rattle.std.proofs.Math.ListN.{get_or-map}
 use Rattle.ccsl_edge.specs.declared.slot.Slot.{Slot}
 use Rattle.ccsl_edge.specs.declared.steady.Source.{Source}
-use Rattle.ccsl_edge.specs.Slots.{index_of}
+use Rattle.ccsl_edge.specs.Order.{index_of}
 use Rattle.ccsl_edge.specs.World.{SlotState, held}
 use Rattle.ccsl_edge.specs.Calls.{ChangesOnly, OpensIn, Takes, OpensOut, Closes}
 use Rattle.ccsl_edge.specs.SlotTable.{slot_in, unused}

@@ -1,7 +1,7 @@
 -- A world that tells no content, in which one slot has changed.
 use Rattle.std.proofs.Common.{◌≡◌, ℕ, ◌≤◌, List, [], true, false, length, get_or, set, IsTrue, refl}
 use Rattle.ccsl_edge.specs.declared.slot.Slot.{Slot}
-use Rattle.ccsl_edge.specs.Slots.{index_of}
+use Rattle.ccsl_edge.specs.Order.{index_of}
 use Rattle.ccsl_edge.specs.World.{SlotState}
 use Rattle.ccsl_edge.specs.Calls.{OpensIn, Takes, OpensOut, Adds, Closes}
 use Rattle.ccsl_edge.specs.FileSystem.{tells_nothing, file_state}

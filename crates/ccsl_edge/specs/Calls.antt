@@ -4,7 +4,8 @@ use Rattle.std.specs.Prelude.{◌≡◌, ◌≢◌, ℕ, ◌+◌, ◌<◌, ◌�
 use Rattle.ccsl_edge.specs.declared.slot.Slot.{Slot}
 use Rattle.ccsl_edge.specs.declared.whole.ReadFault.{ReadFault}
 use Rattle.ccsl_edge.specs.declared.whole.ReadFault.TheVariants.{Fault, TooLong, Memory}
-use Rattle.ccsl_edge.specs.World.{State, Told, Rose, held, Stores}
+use Rattle.ccsl_edge.specs.World.{State, Told, Rose, held}
+use Rattle.ccsl_edge.specs.Stored.{Stores}
 
 -- nothing but this slot has changed
 pub record ChangesOnly (slot : Slot) (old new : State) : Type 0 where

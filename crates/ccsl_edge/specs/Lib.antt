@@ -1,5 +1,8 @@
 pub mod Slots
+pub mod Order
 pub mod World
+pub mod Stored
+pub mod Counts
 pub mod Calls
 pub mod SlotTable
 pub mod Memory

@@ -5,7 +5,7 @@ use Rattle.ccsl_edge.specs.declared.slot.Slot.{Slot}
 use Rattle.ccsl_edge.specs.declared.slot.Slot.TheVariants.{Input}
 use Rattle.ccsl_edge.specs.declared.plan.CallKind.{CallKind}
 use Rattle.ccsl_edge.specs.declared.plan.CallKind.TheVariants.{OpenIn, OpenOut, Read, Write, CloseOut}
-use Rattle.ccsl_edge.specs.Slots.{index_of}
+use Rattle.ccsl_edge.specs.Order.{index_of}
 use Rattle.ccsl_edge.specs.World.{SlotState, State, Told, risen, file_at}
 use Rattle.ccsl_edge.specs.SlotTable.{slot_in, slots_at_start}
 

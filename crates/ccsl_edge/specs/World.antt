@@ -1,5 +1,5 @@
 -- What clauses know of a world: the files, and each slot's bytes, name and count of faults.
-use Rattle.std.specs.Prelude.{◌≡◌, ◌≢◌, Some, ℕ, ◌+◌, ◌-◌, ◌^◌, ◌≤◌, min, Bool, List, [], Option, unwrap_or}
+use Rattle.std.specs.Prelude.{ℕ, ◌+◌, ◌-◌, ◌^◌, ◌≤◌, min, Bool, List, [], Option, unwrap_or}
 use Rattle.std.specs.List.{find}
 use Rattle.std.specs.Option.{option_map}
 use Rattle.std.specs.Str.{bytes_eq}
@@ -35,11 +35,6 @@ file_at files name = option_map (λ file. file.1) (find (λ file. bytes_eq file.
 abbrev pub held : List (List ℕ × List ℕ) → List ℕ → List ℕ
 held files name = unwrap_or (file_at files name) []
 
--- A file of this name was made to hold this content, and every other is as it was.
-pub record Stores (name content : List ℕ) (old new : List (List ℕ × List ℕ)) : Type 0 where
-  pub file : file_at new name ≡ Some content
-  pub others : (other : List ℕ) → other ≢ name → file_at new other ≡ file_at old other
-
 -- the last value of a counter of 64 bits
 abbrev pub last_count : ℕ
 last_count = 2 ^ 64 - 1
@@ -51,11 +46,3 @@ risen count = min (count + 1) last_count
 -- the count did not fall, and it rose or stands at its last value
 abbrev pub Rose : ℕ → ℕ → Type 0
 Rose before now = (before ≤ now) × (risen before ≤ now)
-
--- every count of faults is as it was
-pub record SameCounts (old new : State) : Type 0 where
-  pub same : (slot : Slot) → (new.slot_of slot).faults ≡ (old.slot_of slot).faults
-
--- no count of faults fell
-pub record NoCountFalls (old new : State) : Type 0 where
-  pub rises : (slot : Slot) → (old.slot_of slot).faults ≤ (new.slot_of slot).faults

@@ -5,7 +5,8 @@ ghost use Rattle.std.specs.List.{find, position};
 ghost use Rattle.std.specs.Option.{option_copied};
 ghost use Rattle.std.specs.Str.{bytes_eq};
 ghost use Rattle.std.specs.String.{string_bytes};
-ghost use Rattle.ccsl_edge.specs.World.{file_at, Stores};
+ghost use Rattle.ccsl_edge.specs.World.{file_at};
+ghost use Rattle.ccsl_edge.specs.Stored.{Stores};
 
 use std::alloc::{AllocError, Global};
 use std::marker::Model;

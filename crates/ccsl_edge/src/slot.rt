@@ -1,7 +1,7 @@
 //! The places at which the program reads and writes.
 
 ghost use Rattle.std.specs.Prelude.{◌≡◌};
-ghost use Rattle.ccsl_edge.specs.Slots.{index_of};
+ghost use Rattle.ccsl_edge.specs.Order.{index_of};
 
 /// A place at which the program reads or writes: four are read, three are written.
 #[derive(Clone, Copy, Debug, PartialEq, Eq)]

@@ -2,7 +2,7 @@
 //! group, and `delayed` has its number in the text. Counts stop at 4,294,967,295.
 
 ghost use Rattle.std.specs.Prelude.{◌≡◌, length, map, OnOk};
-ghost use Rattle.ccsl_ast.specs.Trees.{plain, plain_member, plain_definition};
+ghost use Rattle.ccsl_ast.specs.Plain.{plain, plain_member, plain_definition};
 ghost use Rattle.ccsl_kernel.specs.Cells.{saturated, greatest, cells_of_two};
 ghost use Rattle.ccsl_rules.specs.Spaces.{look};
 ghost use Rattle.ccsl_rules.specs.Resolved.{resolve_op};

@@ -2,7 +2,8 @@
 //! for more than memory holds. Sums stop at 4,294,967,295.
 
 ghost use Rattle.std.specs.Prelude.{◌≡◌, [], length, map, flat_map, IfOk, OnOk};
-ghost use Rattle.ccsl_ast.specs.Trees.{SLineOf, plain, plain_line, plain_sline, plain_definition};
+ghost use Rattle.ccsl_ast.specs.Trees.{SLineOf};
+ghost use Rattle.ccsl_ast.specs.Plain.{plain, plain_line, plain_sline, plain_definition};
 ghost use Rattle.ccsl_ast.specs.Files.{plain_file};
 ghost use Rattle.ccsl_kernel.specs.Cells.{saturated, cells};
 ghost use Rattle.ccsl_rules.specs.Expansion.{declared_names, expand};

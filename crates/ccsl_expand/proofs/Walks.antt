@@ -6,7 +6,8 @@ use Rattle.std.proofs.lemmas.Grind.{common_steps}
 use Rattle.ccsl_ast.specs.declared.definition.Param.{Param}
 use Rattle.ccsl_ast.specs.Trees.{SLine}
 use Rattle.ccsl_rules.specs.Settings.{Atom, AClock, Setting}
-use Rattle.ccsl_rules.specs.Unfolded.{inside, declares, arguments, own_clocks}
+use Rattle.ccsl_rules.specs.Unfolded.{inside, arguments, own_clocks}
+use Rattle.ccsl_rules.specs.Spaces.{declares}
 use Rattle.ccsl_expand.specs.Numbered.{bound}
 
 pub drop-at : {X : Type 0} (xs : List X) (i : ℕ) (x : X) → i < length xs → x ≡ get_or xs i x → drop i xs ≡ x ∷ drop (i + 1) xs

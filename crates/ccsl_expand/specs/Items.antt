@@ -1,6 +1,7 @@
 -- What the items of the program stand for, and where they come from.
 use Rattle.std.specs.Prelude.{ℕ, [], take, map, Option, Some, None}
-use Rattle.ccsl_ast.specs.Trees.{plain, plain_line, SLineOf}
+use Rattle.ccsl_ast.specs.Trees.{SLineOf}
+use Rattle.ccsl_ast.specs.Plain.{plain, plain_line}
 use Rattle.ccsl_expand.specs.declared.item.Item.{Item as ProgramItem}
 use Rattle.ccsl_expand.specs.declared.item.Item.TheVariants as item
 use Rattle.ccsl_rules.specs.Unfolded.{Item, Defines, Binds, Unfolding, Unfoldings, unfold_relation}

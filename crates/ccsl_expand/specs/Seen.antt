@@ -4,7 +4,7 @@ use Rattle.ccsl_expand.specs.declared.atom.Atom.{Atom as ProgramAtom}
 use Rattle.ccsl_expand.specs.declared.atom.Atom.TheVariants as atom
 use Rattle.ccsl_expand.specs.declared.tables.Tables.{Tables as ProgramTables}
 use Rattle.ccsl_expand.specs.declared.texts.Block.{Block}
-use Rattle.ccsl_ast.specs.Trees.{plain_definition}
+use Rattle.ccsl_ast.specs.Plain.{plain_definition}
 use Rattle.ccsl_expand.specs.Numbered.{NumberedDefinition}
 use Rattle.ccsl_spaces.specs.Callees.{seen_call}
 use Rattle.ccsl_rules.specs.Settings.{Atom, AClock, ANumber, AWord, AParam}

@@ -3,7 +3,8 @@
 ghost use Rattle.std.specs.Prelude.{◌≡◌, ◌+◌, length, IfOk, OnOk};
 ghost use Rattle.std.specs.Option.{option_map};
 ghost use Rattle.ccsl_rules.specs.Texts.{argument_texts};
-ghost use Rattle.ccsl_rules.specs.Settings.{atom_of, number_in, prim_number, signed, sum_from, tail_of};
+ghost use Rattle.ccsl_rules.specs.Settings.{atom_of, number_in, prim_number, resolve_sign, sum_from, tail_of};
+ghost use Rattle.ccsl_kernel.specs.Actuals.{signed};
 ghost use Rattle.ccsl_rules.specs.Settings.{argument_atom};
 ghost use Rattle.ccsl_expand.specs.Seen.{seen_atom, atom_or_zero};
 
@@ -36,7 +37,7 @@ fn number(setting: &Setting, primary: &Primary) -> u32
 }
 
 fn signed(sign: Sign, left: u32, right: u32) -> u32
-    ensures { result ≡ signed sign left right }
+    ensures { result ≡ signed (resolve_sign sign) left right }
 {
     match sign {
         Sign::Plus => left.saturating_add(right),

@@ -2,7 +2,7 @@
 
 ghost use Rattle.std.specs.Prelude.{◌≡◌, ◌≤◌, ◌+◌, ◌++◌, [], length, map, flat_map, filter_map, IfOk, OnOk};
 ghost use Rattle.ccsl_base.specs.declared.limits.TheConstants.{MAX_CLOCKS};
-ghost use Rattle.ccsl_ast.specs.Trees.{plain_sline, plain_definition};
+ghost use Rattle.ccsl_ast.specs.Plain.{plain_sline, plain_definition};
 ghost use Rattle.ccsl_ast.specs.Files.{plain_file};
 ghost use Rattle.ccsl_kernel.specs.Plain.{plain_expr, plain_group, plain_system};
 ghost use Rattle.ccsl_rules.specs.Texts.{block_texts, sheet_texts};

@@ -2,7 +2,8 @@
 
 ghost use Rattle.std.specs.Prelude.{◌≡◌, ◌+◌, length, flat_map, IfOk, OnOk};
 ghost use Rattle.std.specs.Option.{option_map};
-ghost use Rattle.ccsl_ast.specs.Trees.{plain, EFilter, EIf};
+ghost use Rattle.ccsl_ast.specs.Trees.{EFilter, EIf};
+ghost use Rattle.ccsl_ast.specs.Plain.{plain};
 ghost use Rattle.ccsl_kernel.specs.Syntax.{ECall};
 ghost use Rattle.ccsl_kernel.specs.Plain.{plain_expr};
 ghost use Rattle.ccsl_rules.specs.Spaces.{look};

@@ -1,10 +1,12 @@
 //! A body under a path: what its names stand for.
 
 ghost use Rattle.std.specs.Prelude.{◌≡◌, ◌+◌, ◌∷◌, ◌++◌, [], length, map, flat_map, slice_get, IfOk, OnOk};
-ghost use Rattle.ccsl_ast.specs.Trees.{plain_line, plain_sline, SLineOf};
+ghost use Rattle.ccsl_ast.specs.Trees.{SLineOf};
+ghost use Rattle.ccsl_ast.specs.Plain.{plain_line, plain_sline};
 ghost use Rattle.ccsl_rules.specs.Texts.{argument_texts};
 ghost use Rattle.ccsl_rules.specs.Settings.{AClock, argument_atoms};
-ghost use Rattle.ccsl_rules.specs.Unfolded.{inside, declares, arguments, own_clocks};
+ghost use Rattle.ccsl_rules.specs.Unfolded.{inside, arguments, own_clocks};
+ghost use Rattle.ccsl_rules.specs.Spaces.{declares};
 ghost use Rattle.ccsl_expand.specs.Numbered.{bound};
 ghost use Rattle.ccsl_expand.specs.Seen.{seen_atom};
 

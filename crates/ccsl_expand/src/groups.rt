@@ -1,7 +1,7 @@
 //! The groups of expressions.
 
 ghost use Rattle.std.specs.Prelude.{◌≡◌, ◌+◌, ◌++◌, length, map, IfOk, OnOk};
-ghost use Rattle.ccsl_ast.specs.Trees.{plain_member};
+ghost use Rattle.ccsl_ast.specs.Plain.{plain_member};
 ghost use Rattle.ccsl_kernel.specs.Plain.{plain_body, plain_group};
 ghost use Rattle.ccsl_rules.specs.Texts.{texts};
 ghost use Rattle.ccsl_rules.specs.Expansion.{kind_in, own_params, part_body, part_bodies};

@@ -1,7 +1,7 @@
 //! What the lines of bodies become.
 
 ghost use Rattle.std.specs.Prelude.{◌≡◌, ◌+◌, ◌∷◌, ◌++◌, [], length, map, flat_map, IfOk, OnOk};
-ghost use Rattle.ccsl_ast.specs.Trees.{plain};
+ghost use Rattle.ccsl_ast.specs.Plain.{plain};
 ghost use Rattle.ccsl_rules.specs.Texts.{argument_texts, texts, word_texts};
 ghost use Rattle.ccsl_rules.specs.Unfolded.{Defines, Binds, inside};
 ghost use Rattle.ccsl_expand.specs.Items.{seen_item};

@@ -4,7 +4,8 @@ ghost use Rattle.std.specs.Prelude.{◌≡◌, ◌+◌, ◌++◌, length, map, I
 ghost use Rattle.ccsl_rules.specs.Texts.{word_texts};
 ghost use Rattle.ccsl_rules.specs.Settings.{atom_of};
 ghost use Rattle.ccsl_rules.specs.Resolved.{atom_place, atom_prim, atom_word, atom_tail};
-ghost use Rattle.ccsl_rules.specs.Resolved.{resolve_prim, resolve_sign, resolve_term, resolve_word, resolve_test};
+ghost use Rattle.ccsl_rules.specs.Resolved.{resolve_prim, resolve_term, resolve_word, resolve_test};
+ghost use Rattle.ccsl_rules.specs.Settings.{resolve_sign};
 ghost use Rattle.ccsl_expand.specs.Seen.{seen_tables};
 
 use crate::atom::Atom;

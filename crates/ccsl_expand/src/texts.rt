@@ -1,7 +1,7 @@
 //! The words of quoted texts, one each, in text order.
 
 ghost use Rattle.std.specs.Prelude.{◌≡◌, ◌+◌, ◌∷◌, ◌++◌, [], length, map, flat_map, OnOk};
-ghost use Rattle.ccsl_ast.specs.Trees.{plain, plain_line, plain_sline, plain_member, plain_definition};
+ghost use Rattle.ccsl_ast.specs.Plain.{plain, plain_line, plain_sline, plain_member, plain_definition};
 ghost use Rattle.ccsl_rules.specs.Texts.{word_texts, argument_texts, texts, line_texts, entry_texts, block_texts};
 ghost use Rattle.ccsl_expand.specs.Numbered.{word_in, numbered};
 ghost use Rattle.ccsl_expand.specs.Seen.{seen_block};

@@ -1,7 +1,8 @@
 //! Calls of relations replaced by bodies.
 
 ghost use Rattle.std.specs.Prelude.{◌≡◌, ◌≤◌, ◌<◌, ◌+◌, ◌++◌, [], ℕ, List, map, flat_map, length, IfOk, IfSome, OnOk};
-ghost use Rattle.ccsl_ast.specs.Trees.{plain_line, plain_sline, SLineOf};
+ghost use Rattle.ccsl_ast.specs.Trees.{SLineOf};
+ghost use Rattle.ccsl_ast.specs.Plain.{plain_line, plain_sline};
 ghost use Rattle.ccsl_rules.specs.Texts.{argument_texts, line_texts, entry_texts};
 ghost use Rattle.ccsl_rules.specs.Settings.{Atom, argument_atoms};
 ghost use Rattle.ccsl_rules.specs.Unfolded.{call_path, arguments, own_clocks, unfolding_of};

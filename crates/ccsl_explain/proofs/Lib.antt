@@ -7,3 +7,5 @@ pub mod Certificates
 pub mod Uses
 pub mod Deletions
 pub mod Explanations
+pub mod Searching
+pub mod Existing

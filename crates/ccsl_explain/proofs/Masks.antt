@@ -5,7 +5,8 @@ use Rattle.std.proofs.lemmas.List.{length-map, length-set}
 use Rattle.ccsl_formula.specs.declared.formula.Formula.{Formula as Boxed}
 use Rattle.ccsl_formula.specs.declared.scope.Scope.{Scope}
 use Rattle.ccsl_formula.specs.Truth.{Assignment}
-use Rattle.ccsl_formula.specs.Formula.{Formula, FTrue, truth, in_set, ReadsBelow}
+use Rattle.ccsl_formula.specs.Formula.{Formula, FTrue, truth, in_set}
+use Rattle.ccsl_formula.specs.Variables.{ReadsBelow}
 use Rattle.ccsl_formula.specs.Plain.{plain}
 use Rattle.ccsl_refute.specs.Meaning.{Solves, Blocks}
 use Rattle.ccsl_solve.specs.Posed.{AllBelow}

@@ -6,4 +6,5 @@ pub mod Deletion
 pub mod Least
 pub mod LeastSteps
 pub mod Explained
+pub mod Explains
 pub mod Laws

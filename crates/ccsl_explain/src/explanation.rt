@@ -5,7 +5,7 @@ ghost use Rattle.ccsl_formula.specs.Plain.{plain};
 ghost use Rattle.ccsl_refute.specs.Validity.{is_certificate};
 ghost use Rattle.ccsl_solve.specs.Posed.{AllBelow};
 ghost use Rattle.ccsl_explain.specs.Asked.{IsAsked};
-ghost use Rattle.ccsl_explain.specs.Explained.{Explains};
+ghost use Rattle.ccsl_explain.specs.Explains.{Explains};
 
 use crate::copied::copies;
 use crate::deletion::core_of;

@@ -3,7 +3,8 @@ use Rattle.std.proofs.Common.{◌≡◌, ℕ, zero, suc, ◌+◌, ◌≤◌, ◌
 use Rattle.ccsl_ast.specs.declared.spot.Spot.{Spot}
 use Rattle.ccsl_rules.specs.Spaces.{Known, Callee, look}
 use Rattle.ccsl_ast.specs.Trees.{PlainDefinition}
-use Rattle.ccsl_rules.specs.Levels.{Sort, greatest, level_in, level, levels, counted}
+use Rattle.ccsl_rules.specs.Levels.{Sort, level_in, level, levels, counted}
+use Rattle.ccsl_kernel.specs.Cells.{greatest}
 use Rattle.ccsl_faults.specs.Levels.{height_of}
 use Rattle.ccsl_faults.proofs.Walks.{drop-at}
 

@@ -5,7 +5,8 @@ use Rattle.std.proofs.lemmas.List.{length-map}
 use Rattle.std.proofs.Math.Seq.{take-suc}
 use Rattle.std.proofs.Math.ListN.{get_or-map}
 use Rattle.ccsl_rules.specs.Faults.{Fault, least, earlier, where_so, Duplicate}
-use Rattle.ccsl_rules.specs.Spaces.{Known, repeated, spots, is_among}
+use Rattle.ccsl_rules.specs.Spaces.{Known, repeated, spots}
+use Rattle.ccsl_base.specs.Names.{is_among}
 use Rattle.ccsl_spaces.specs.declared.declaration.Declaration.{Declaration}
 use Rattle.ccsl_spaces.specs.Knowns.{known, names, name_at}
 use Rattle.ccsl_faults.proofs.Least.{least-step}

@@ -4,7 +4,8 @@ use Rattle.ccsl_ast.specs.declared.spot.Spot.{Spot}
 use Rattle.ccsl_ast.specs.Trees.{PlainDefinition}
 use Rattle.ccsl_rules.specs.Spaces.{Known, Callee}
 use Rattle.ccsl_rules.specs.Levels as rules
-use Rattle.ccsl_rules.specs.Levels.{levels, level_in, greatest}
+use Rattle.ccsl_rules.specs.Levels.{levels, level_in}
+use Rattle.ccsl_kernel.specs.Cells.{greatest}
 use Rattle.ccsl_rules.specs.Blocks as blocks
 use Rattle.ccsl_faults.specs.declared.levels.Sort.{Sort}
 use Rattle.ccsl_faults.specs.declared.levels.Sort.TheVariants.{Groups, Relations}

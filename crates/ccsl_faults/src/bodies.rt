@@ -2,7 +2,8 @@
 #![tactic(auto, using(crate::proofs::Least::the_least))]
 
 ghost use Rattle.std.specs.Prelude.{◌≡◌, [], IfOk, map, flat_map};
-ghost use Rattle.ccsl_ast.specs.Trees.{SLineOf, plain_line, plain_sline, plain_member};
+ghost use Rattle.ccsl_ast.specs.Trees.{SLineOf};
+ghost use Rattle.ccsl_ast.specs.Plain.{plain_line, plain_sline, plain_member};
 ghost use Rattle.ccsl_rules.specs.Faults.{least};
 ghost use Rattle.ccsl_faults.specs.Homes.{body_faults, part_faults};
 

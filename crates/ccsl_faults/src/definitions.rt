@@ -2,7 +2,7 @@
 #![tactic(auto, using(crate::proofs::Least::the_least))]
 
 ghost use Rattle.std.specs.Prelude.{◌≡◌, ◌+◌, ◌^◌, ◌<◌, ◌≤◌, ◌++◌, IfOk, length, map, flat_map};
-ghost use Rattle.ccsl_ast.specs.Trees.{plain_definition, plain_sline};
+ghost use Rattle.ccsl_ast.specs.Plain.{plain_definition, plain_sline};
 ghost use Rattle.ccsl_ast.specs.Files.{plain_file};
 ghost use Rattle.ccsl_rules.specs.Faults.{least};
 ghost use Rattle.ccsl_rules.specs.Spaces.{calls_space};

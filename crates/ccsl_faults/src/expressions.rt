@@ -3,7 +3,7 @@
 
 ghost use Rattle.std.specs.Prelude.{◌≡◌, ◌||◌, nat_lt, IfOk};
 ghost use Rattle.ccsl_base.specs.declared.limits.TheConstants.{MAX_DELAY};
-ghost use Rattle.ccsl_ast.specs.Trees.{plain};
+ghost use Rattle.ccsl_ast.specs.Plain.{plain};
 ghost use Rattle.ccsl_rules.specs.Faults.{least, where_so};
 ghost use Rattle.ccsl_rules.specs.Faults as causes;
 ghost use Rattle.ccsl_rules.specs.Uses as rules;

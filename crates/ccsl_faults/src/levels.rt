@@ -2,9 +2,10 @@
 #![tactic(auto, using(crate::proofs::Heights::the_greatest))]
 
 ghost use Rattle.std.specs.Prelude.{◌≡◌, ◌+◌, ◌<◌, ◌≤◌, ◌^◌, [], ◌++◌, OnOk, IfOk, length, map, flat_map, slice_index, max};
-ghost use Rattle.ccsl_ast.specs.Trees.{plain, plain_member, plain_line, plain_definition};
+ghost use Rattle.ccsl_ast.specs.Plain.{plain, plain_member, plain_line, plain_definition};
 ghost use Rattle.ccsl_rules.specs.Levels as rules;
-ghost use Rattle.ccsl_rules.specs.Levels.{called, called_line, counted, greatest};
+ghost use Rattle.ccsl_rules.specs.Levels.{called, called_line, counted};
+ghost use Rattle.ccsl_kernel.specs.Cells.{greatest};
 ghost use Rattle.ccsl_spaces.specs.Callees.{seen_call};
 ghost use Rattle.ccsl_faults.specs.Levels.{seen_sort, seen_heights, heights_of, height_of};
 

@@ -2,7 +2,8 @@
 #![tactic(auto, using(crate::proofs::Least::the_least))]
 
 ghost use Rattle.std.specs.Prelude.{◌≡◌, IfOk, map};
-ghost use Rattle.ccsl_ast.specs.Trees.{SLineOf, plain_line, plain_sline};
+ghost use Rattle.ccsl_ast.specs.Trees.{SLineOf};
+ghost use Rattle.ccsl_ast.specs.Plain.{plain_line, plain_sline};
 ghost use Rattle.ccsl_rules.specs.Faults.{least};
 ghost use Rattle.ccsl_rules.specs.Blocks as rules;
 ghost use Rattle.ccsl_faults.specs.Scenes.{seen_scene};

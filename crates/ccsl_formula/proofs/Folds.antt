@@ -5,7 +5,8 @@ use Rattle.ccsl_formula.specs.declared.formula.Formula.TheVariants.{True, False,
 use Rattle.ccsl_formula.specs.declared.truth3.Truth3.{Truth3}
 use Rattle.ccsl_formula.specs.declared.truth3.Truth3.TheVariants.{Yes, No, Open}
 use Rattle.ccsl_formula.specs.Truth.{not3, iff3}
-use Rattle.ccsl_formula.specs.Formula.{Formula, FFalse, FNot, FIff, truth, kleene, same, Same}
+use Rattle.ccsl_formula.specs.Formula.{Formula, FFalse, FNot, FIff, truth, kleene, same}
+use Rattle.ccsl_formula.specs.Same.{Same}
 use Rattle.ccsl_formula.specs.Folded.{is_constant, is_folded}
 use Rattle.ccsl_formula.specs.Plain.{plain}
 

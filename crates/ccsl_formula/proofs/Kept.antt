@@ -2,12 +2,14 @@
 use Rattle.std.proofs.Common.{◌≡◌, ◌≢◌, ℕ, List, [], ◌∷◌, map, Bool, true, false, cond, not, ◌||◌, ◌&&◌, refl, sym, ap, ap₂, ◌∙◌, ⊎_elim, nat_eq}
 use Rattle.std.proofs.Math.Path.{fun_ext}
 use Rattle.std.proofs.lemmas.Bool.{cases_eq, eq-eqb, ne_eqb}
-use Rattle.ccsl_base.specs.Clocks.{ticks_in, with_clock, without_clock}
+use Rattle.ccsl_base.specs.Clocks.{ticks_in, with_clock}
+use Rattle.ccsl_base.specs.Changes.{without_clock}
 use Rattle.ccsl_base.proofs.Sets.{ticks_in-with_same, ticks_in-with_other, ticks_in-without_same, ticks_in-without_other}
 use Rattle.ccsl_formula.specs.declared.truth3.Truth3.{Truth3}
 use Rattle.ccsl_formula.specs.declared.truth3.Truth3.TheVariants.{Open}
-use Rattle.ccsl_formula.specs.Truth.{known_as, is_open}
-use Rattle.ccsl_formula.specs.Known.{known, clocks, with_value, with_truth, joined}
+use Rattle.ccsl_formula.specs.Truth.{known_as, with_value}
+use Rattle.ccsl_formula.specs.Agreement.{is_open}
+use Rattle.ccsl_formula.specs.Known.{known, clocks, with_truth, joined}
 use Rattle.ccsl_formula.specs.Kept.{pairs_of, IsWithin}
 
 test_same : {A : Type 0} (x y : ℕ) (a b : A) → x ≡ y → cond (nat_eq x y) a b ≡ a

@@ -1,7 +1,8 @@
 -- A Kleene value that is known is the truth value.
 use Rattle.std.proofs.Common.{◌≡◌, Bool, true, false, inr, refl, ⊎_elim}
 use Rattle.ccsl_formula.specs.declared.truth3.Truth3.TheVariants.{Yes, No}
-use Rattle.ccsl_formula.specs.Truth.{Fits, Part, Assignment, Agrees}
+use Rattle.ccsl_formula.specs.Truth.{Part, Assignment}
+use Rattle.ccsl_formula.specs.Agreement.{Fits, Agrees}
 use Rattle.ccsl_formula.specs.Formula.{Formula, FTrue, FFalse, FVar, FNot, FAnd, FOr, FIff, truth, kleene}
 use Rattle.ccsl_formula.proofs.Tables.{not-fits, and-fits, or-fits, iff-fits}
 

@@ -2,7 +2,8 @@
 use Rattle.std.proofs.Common.{Bool, true, false, not, ◌&&◌, ◌||◌, inl, inr, refl, ⊎_elim}
 use Rattle.ccsl_formula.specs.declared.truth3.Truth3.{Truth3}
 use Rattle.ccsl_formula.specs.declared.truth3.Truth3.TheVariants.{Yes, No, Open}
-use Rattle.ccsl_formula.specs.Truth.{not3, and3, or3, iff3, Fits}
+use Rattle.ccsl_formula.specs.Truth.{not3, and3, or3, iff3}
+use Rattle.ccsl_formula.specs.Agreement.{Fits}
 use Rattle.ccsl_formula.specs.Formula.{same}
 
 pub not-fits : (a : Truth3) (x : Bool) → Fits a x → Fits (not3 a) (not x)

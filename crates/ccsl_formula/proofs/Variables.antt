@@ -1,7 +1,8 @@
 -- What a formula says depends on its variables alone.
 use Rattle.std.proofs.Common.{◌≡◌, ℕ, Bool, true, false, not, ◌&&◌, ◌||◌, refl, ap, ap₂, ◌∙◌}
 use Rattle.ccsl_formula.specs.Truth.{known_as, not3, and3, or3, iff3, Part, Assignment}
-use Rattle.ccsl_formula.specs.Formula.{Formula, FTrue, FFalse, FVar, FNot, FAnd, FOr, FIff, truth, kleene, reads, same}
+use Rattle.ccsl_formula.specs.Formula.{Formula, FTrue, FFalse, FVar, FNot, FAnd, FOr, FIff, truth, kleene, same}
+use Rattle.ccsl_formula.specs.Variables.{reads}
 use Rattle.std.proofs.lemmas.Bool.{eq-eqb, or_left, or_right}
 
 pub truth-same : (f : Formula) (v w : Assignment) → ((x : ℕ) → reads f x ≡ true → v x ≡ w x) → truth f v ≡ truth f w

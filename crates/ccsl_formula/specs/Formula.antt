@@ -1,5 +1,5 @@
 -- Formulas over clocks: their truth under a set of clocks, and their Kleene value under a partial assignment.
-use Rattle.std.specs.Prelude.{ℕ, List, Bool, true, false, not, ◌&&◌, ◌||◌, ◌<◌, ◌≡◌, nat_eq}
+use Rattle.std.specs.Prelude.{ℕ, List, Bool, true, false, not, ◌&&◌, ◌||◌}
 use Rattle.ccsl_formula.specs.declared.truth3.Truth3.{Truth3}
 use Rattle.ccsl_formula.specs.declared.truth3.Truth3.TheVariants.{Yes, No}
 use Rattle.ccsl_formula.specs.Truth.{not3, and3, or3, iff3, Part, Assignment}
@@ -45,22 +45,3 @@ kleene (FNot f) p = not3 (kleene f p)
 kleene (FAnd f g) p = and3 (kleene f p) (kleene g p)
 kleene (FOr f g) p = or3 (kleene f p) (kleene g p)
 kleene (FIff f g) p = iff3 (kleene f p) (kleene g p)
-
--- whether a variable occurs
-abbrev pub reads : Formula → ℕ → Bool
-reads FTrue v = false
-reads FFalse v = false
-reads (FVar x) v = nat_eq v x
-reads (FNot f) v = reads f v
-reads (FAnd f g) v = reads f v || reads g v
-reads (FOr f g) v = reads f v || reads g v
-reads (FIff f g) v = reads f v || reads g v
-
--- each variable is below X
-abbrev pub ReadsBelow : ℕ → Formula → Type 0
-ReadsBelow X f = (v : ℕ) → reads f v ≡ true → v < X
-
--- the same truth value under all values, and the same Kleene value under all partial assignments
-pub record Same (f g : Formula) : Type 0 where
-  pub truth : (v : Assignment) → truth f v ≡ truth g v
-  pub kleene : (p : Part) → kleene f p ≡ kleene g p

@@ -2,7 +2,8 @@
 use Rattle.std.specs.Prelude.{ℕ, List, [], ◌∷◌, Bool, if◌then◌else◌, map, nat_eq}
 use Rattle.ccsl_formula.specs.declared.truth3.Truth3.{Truth3}
 use Rattle.ccsl_formula.specs.declared.truth3.Truth3.TheVariants.{Open}
-use Rattle.ccsl_formula.specs.Truth.{known_as, is_open, Part}
+use Rattle.ccsl_formula.specs.Truth.{known_as, Part}
+use Rattle.ccsl_formula.specs.Agreement.{is_open}
 
 -- what the pairs say of a clock
 abbrev pub known : List (ℕ × Bool) → Part
@@ -12,10 +13,6 @@ known ((y, b) ∷ ps) x = if nat_eq x y then known_as b else known ps x
 -- the clocks that have a value
 abbrev pub clocks : List (ℕ × Bool) → List ℕ
 clocks ps = map (λ p. p.0) ps
-
--- p, and b at y
-abbrev pub with_value : Part → ℕ → Bool → Part
-with_value p y b x = if nat_eq x y then known_as b else p x
 
 -- p, and t at y, where t may be open
 abbrev pub with_truth : Part → ℕ → Truth3 → Part

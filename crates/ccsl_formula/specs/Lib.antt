@@ -1,6 +1,9 @@
 pub mod Truth
+pub mod Agreement
 pub mod Known
 pub mod Kept
 pub mod Formula
+pub mod Same
+pub mod Variables
 pub mod Plain
 pub mod Folded

@@ -1,5 +1,5 @@
 -- Strong Kleene logic: a truth value that may be open (S. C. Kleene, Introduction to Metamathematics, 1952, section 64).
-use Rattle.std.specs.Prelude.{ℕ, Bool, true, false, ◌≡◌, ◌⊎◌}
+use Rattle.std.specs.Prelude.{ℕ, Bool, true, false, nat_eq, if◌then◌else◌}
 use Rattle.ccsl_formula.specs.declared.truth3.Truth3.{Truth3}
 use Rattle.ccsl_formula.specs.declared.truth3.Truth3.TheVariants.{Yes, No, Open}
 
@@ -32,10 +32,6 @@ iff3 Yes b = b
 iff3 No b = not3 b
 iff3 Open b = Open
 
-abbrev pub is_open : Truth3 → Bool
-is_open Open = true
-is_open _ = false
-
 -- the truth values of some clocks: open where nothing is known
 abbrev pub Part : Type 0
 Part = ℕ → Truth3
@@ -44,10 +40,6 @@ Part = ℕ → Truth3
 abbrev pub Assignment : Type 0
 Assignment = ℕ → Bool
 
--- b is not refused by t
-abbrev pub Fits : Truth3 → Bool → Type 0
-Fits t b = (t ≡ Open) ⊎ (t ≡ known_as b)
-
--- an assignment has each value that is known
-pub record Agrees (v : Assignment) (p : Part) : Type 0 where
-  pub fits : (x : ℕ) → Fits (p x) (v x)
+-- p, and b at y
+abbrev pub with_value : Part → ℕ → Bool → Part
+with_value p y b x = if nat_eq x y then known_as b else p x

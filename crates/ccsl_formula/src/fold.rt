@@ -1,7 +1,9 @@
 //! The connectives as functions, which fold constants and nothing else.
 
 ghost use Rattle.std.specs.Prelude.{◌≡◌, ◌||◌, ◌⊎◌, ℕ, Bool, false, true, IfOk};
-ghost use Rattle.ccsl_formula.specs.Formula.{FNot, FAnd, FOr, FIff, reads, Same};
+ghost use Rattle.ccsl_formula.specs.Formula.{FNot, FAnd, FOr, FIff};
+ghost use Rattle.ccsl_formula.specs.Variables.{reads};
+ghost use Rattle.ccsl_formula.specs.Same.{Same};
 ghost use Rattle.ccsl_formula.specs.Folded.{is_constant, is_folded, negation, IsEither};
 ghost use Rattle.ccsl_formula.specs.Plain.{plain};
 

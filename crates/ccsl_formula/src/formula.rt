@@ -1,7 +1,8 @@
 //! Formulas, their truth under a set of clocks, their Kleene value under a partial assignment, and what they read.
 
 ghost use Rattle.std.specs.Prelude.{◌≡◌};
-ghost use Rattle.ccsl_formula.specs.Formula.{eval, kleene, reads};
+ghost use Rattle.ccsl_formula.specs.Formula.{eval, kleene};
+ghost use Rattle.ccsl_formula.specs.Variables.{reads};
 ghost use Rattle.ccsl_formula.specs.Known.{known};
 ghost use Rattle.ccsl_formula.specs.Plain.{plain};
 

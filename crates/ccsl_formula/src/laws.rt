@@ -2,8 +2,10 @@
 
 ghost use Rattle.std.specs.Prelude.{◌≡◌, ℕ, Bool, false, true};
 ghost use Rattle.ccsl_formula.specs.declared.truth3.Truth3.TheVariants.{Yes, No};
-ghost use Rattle.ccsl_formula.specs.Truth.{Assignment, Part, Agrees, known_as};
-ghost use Rattle.ccsl_formula.specs.Formula.{Formula, kleene, truth, reads};
+ghost use Rattle.ccsl_formula.specs.Truth.{Assignment, Part, known_as};
+ghost use Rattle.ccsl_formula.specs.Agreement.{Agrees};
+ghost use Rattle.ccsl_formula.specs.Formula.{Formula, kleene, truth};
+ghost use Rattle.ccsl_formula.specs.Variables.{reads};
 
 /// A formula with the Kleene value No is false under all values that agree with the known ones.
 pub fn no_is_false()

@@ -2,7 +2,8 @@
 
 ghost use Rattle.std.specs.Prelude.{◌≡◌, ◌<◌, ◌≤◌, [], IsTrue, MatchOption};
 ghost use Rattle.ccsl_base.specs.Clocks.{is_ascending, are_below};
-ghost use Rattle.ccsl_formula.specs.Known.{known, clocks, with_value, with_truth, joined};
+ghost use Rattle.ccsl_formula.specs.Known.{known, clocks, with_truth, joined};
+ghost use Rattle.ccsl_formula.specs.Truth.{with_value};
 ghost use Rattle.ccsl_formula.specs.Truth.{known_as};
 ghost use Rattle.ccsl_formula.specs.declared.truth3.Truth3.TheVariants.{Open};
 

@@ -9,11 +9,13 @@ use Rattle.ccsl_ast.specs.declared.term.Argument.TheVariants as arg
 use Rattle.ccsl_ast.specs.declared.tree.BinaryOp.TheVariants as op
 use Rattle.ccsl_ast.specs.declared.line.Relation.TheVariants as rel
 use Rattle.ccsl_ast.specs.Trees.{Expression, EName, ECall, ENever, EBinary, EDelay, EAwait, EFilter, EDelayed, EIf, LDefine, LConstraint, LCall, SClocks, SLineOf, DRelation, DGroup, PlainFile}
-use Rattle.ccsl_grammar.specs.Terminals.{Terminal, word, symbol, name, number, quoted, is_word, is_symbol, is_name, is_quoted}
+use Rattle.ccsl_grammar.specs.Terminals.{Terminal, word, symbol, name, number, quoted}
+use Rattle.ccsl_grammar.specs.Kinds.{is_word, is_symbol, is_name, is_quoted}
 use Rattle.ccsl_grammar.specs.Grammar.{version}
 use Rattle.ccsl_grammar.specs.Reader.{no_syntax, too_deep, Reply, took, stopped, Reader, ◌>>=◌, given, many, ◌>>◌}
 use Rattle.ccsl_grammar.specs.Parser.{name_at, num_of, num_at, quoted_of, quoted_at, further_at, list_at, prim_of, prim_at, sign_of, sign_at, is_sign, signed_at, term_at, wterm_at, comparison_at, test_at, arg_at, kind_of, kind_at, param_at, relop_of, goes_on_by, within_at, precedes_at, relop_at, binop_of, sampled_at, upto_at, binop_at, is_binop, named_at, parens_at, operand_at, binary_at, second_at, delayed_at, delay_at, await_at, filter_at, rest_at, branches_at, choice_at, expr_with, is_expr, no_room, expr_at, define_at, call_at, constraint_at, rline_at, clocks_at, sline_at, no_brace, relation_at, member_at, further_member_at, group_at, definition_at, is_definition, version_of, version_at, system_at, ends, file_at, word_at}
-use Rattle.ccsl_grammar.specs.File.{Parses, Verdict}
+use Rattle.ccsl_grammar.specs.File.{Parses}
+use Rattle.ccsl_grammar.specs.Verdict.{Verdict}
 use Rattle.ccsl_grammar.specs.Bare.{bare_spot, bare, bares, bare_prim, bare_signed, bare_term, bare_wterm, bare_test, bare_arg, bare_param, bare_relop, bare_expression, bare_line, bare_sline, bare_member, bare_definition, bare_file}
 use Rattle.ccsl_grammar.specs.Canonical.{canonical_terminals}
 use Rattle.ccsl_grammar.specs.Laws.{CanonicalReadsBack}

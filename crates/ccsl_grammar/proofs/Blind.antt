@@ -3,7 +3,8 @@ use Rattle.std.proofs.Common.{◌≡◌, ℕ, zero, suc, Bool, true, false, List
 use Rattle.std.proofs.lemmas.List.{length-map}
 use Rattle.ccsl_base.specs.declared.reserved.Reserved.{Reserved}
 use Rattle.ccsl_base.specs.declared.reserved.Reserved.TheVariants as w
-use Rattle.ccsl_grammar.specs.Terminals.{Terminal, word, symbol, name, quoted, is_word, is_symbol, is_name, is_quoted}
+use Rattle.ccsl_grammar.specs.Terminals.{Terminal, word, symbol, name, quoted}
+use Rattle.ccsl_grammar.specs.Kinds.{is_word, is_symbol, is_name, is_quoted}
 use Rattle.ccsl_grammar.specs.Reader.{Fault, Reply, took, stopped, Reader, followed, ◌>>=◌, ◌>>◌, given, valued, accept, begins, picked, choose, many_within, many}
 use Rattle.ccsl_grammar.specs.Parser.{passed, word_at, symbol_at, name_of, name_at, goes_on_by, is_sign, is_binop, is_expr, no_brace, is_definition}
 use Rattle.ccsl_grammar.specs.Bare.{bare_spot, bare, bares}

@@ -8,10 +8,10 @@ use Rattle.std.proofs.lemmas.Grind.{flat_map-append}
 use Rattle.ccsl_base.specs.declared.reserved.Reserved.TheVariants as w
 use Rattle.ccsl_ast.specs.declared.spot.Spot.{Spot}
 use Rattle.ccsl_ast.specs.declared.definition.Param.{Param}
-use Rattle.ccsl_ast.specs.Trees.{Expression, EName, ECall, ENever, EBinary, EDelay, EAwait, EFilter, EDelayed, EIf, Line, LDefine, LConstraint, LCall, SLine, SClocks, SLineOf, PlainMember, PlainDefinition, DRelation, DGroup, PlainFile}
+use Rattle.ccsl_ast.specs.Trees.{Expression, EName, ECall, ENever, EBinary, EDelay, EAwait, EFilter, EDelayed, EIf, Line, LDefine, LConstraint, LCall, SLine, SClocks, SLineOf, PlainMember, PlainDefinition, DRelation, DGroup, PlainFile, binop_in, relop_in}
 use Rattle.ccsl_ast.specs.Depth as tree
 use Rattle.ccsl_ast.specs.Depth.{stands_in_parens, depth, greatest}
-use Rattle.ccsl_ast.specs.Kept.{spot_kept, number_kept, term_kept, wterm_kept, test_kept, binop_in, relop_in, relop_kept, expression_kept, rline_kept, sline_kept, param_kept, member_kept, definition_kept, is_two, file_kept}
+use Rattle.ccsl_ast.specs.Kept.{spot_kept, number_kept, term_kept, wterm_kept, test_kept, relop_kept, expression_kept, rline_kept, sline_kept, param_kept, member_kept, definition_kept, is_two, file_kept}
 use Rattle.ccsl_grammar.specs.Terminals.{Terminal, word, name, number}
 use Rattle.ccsl_grammar.specs.Grammar.{opening, closing, semicolon, left_brace, right_brace, params_spelled, alone, binary, delay, await, filter, delayed, choice, named, called, never, parens, expr_spelled, operand_spelled, expr_tree, operand_tree, define, constrain, call, rline_spelled, rline_tree, clocks, line, sline_spelled, sline_tree, member_spelled, further_member, member_tree, relation, group, definition_spelled, definition_tree, version, file_spelled, file_tree}
 use Rattle.ccsl_grammar.specs.Canonical.{operand_tokens, expr_tokens, rline_tokens, sline_tokens, member_tokens, further_tokens, TextLine, body_lines, definition_lines, system_lines, canonical_terminals}
@@ -210,4 +210,4 @@ file_canonical f k =
 pub canonical_parses : CanonicalParses
 canonical_parses room f k d =
     let c = file_canonical f k in
-    record { derivation = c.whole; spelled = c.spelled_is; tree = c.tree_is; none_deep = file_shallow room c.whole [] (rw c.depth_is d) }
+    record { is = record { derivation = c.whole; spelled = c.spelled_is; tree = c.tree_is }; none_deep = file_shallow room c.whole [] (rw c.depth_is d) }

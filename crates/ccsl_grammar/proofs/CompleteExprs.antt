@@ -8,11 +8,12 @@ use Rattle.ccsl_ast.specs.declared.term.Test.{Test}
 use Rattle.ccsl_ast.specs.declared.term.Argument.{Argument}
 use Rattle.ccsl_ast.specs.declared.tree.BinaryOp.{BinaryOp}
 use Rattle.ccsl_ast.specs.declared.tree.BinaryOp.TheVariants as op
-use Rattle.ccsl_ast.specs.Trees.{Expression, EName, ECall, ENever, EBinary, EDelay, EAwait, EFilter, EDelayed, EIf}
-use Rattle.ccsl_ast.specs.Kept.{binop_in}
-use Rattle.ccsl_grammar.specs.Terminals.{Terminal, word, name, number, is_word, is_symbol}
+use Rattle.ccsl_ast.specs.Trees.{Expression, EName, ECall, ENever, EBinary, EDelay, EAwait, EFilter, EDelayed, EIf, binop_in}
+use Rattle.ccsl_grammar.specs.Terminals.{Terminal, word, name, number}
+use Rattle.ccsl_grammar.specs.Kinds.{is_word, is_symbol}
 use Rattle.ccsl_grammar.specs.Reader.{too_deep, took, stopped, Reader, followed, ◌>>=◌, ◌>>◌, given, begins}
-use Rattle.ccsl_grammar.specs.Deep.{or_else, expr_deep, operand_deep}
+use Rattle.ccsl_grammar.specs.Deep.{expr_deep, operand_deep}
+use Rattle.std.specs.Option.{option_or}
 use Rattle.ccsl_grammar.specs.Grammar.{opening, closing, semicolon, arg_spelled, binop_spelled, term_spelled, wterm_spelled, test_spelled, Expr, alone, binary, delay, await, filter, delayed, choice, Operand, named, called, never, parens, expr_spelled, operand_spelled, expr_tree, operand_tree}
 use Rattle.ccsl_grammar.specs.Parser.{word_at, symbol_at, name_at, num_at, is_sign, sampled_at, goes_on_by, upto_at, binop_at, is_binop, named_at, parens_at, operand_at, binary_at, second_at, delayed_at, delay_at, await_at, filter_at, rest_at, branches_at, choice_at, expr_with, is_expr, no_room, expr_at}
 use Rattle.ccsl_grammar.proofs.Leaves.{closed_spelled}
@@ -145,7 +146,7 @@ expr_choice two room q z = choice_open two (expr_at two room) q z
 
 module _ (two : Bool) (room : ℕ) (a : Operand two) (z : List Terminal) (first : operand_at (expr_at two room) (operand_spelled a ++ z) ≡ outcome (operand_deep room a z) (operand_tree a) z) where
   operand_then : (o : Option (List Terminal)) (w : Expression) (rest : List Terminal) → rest_at (expr_at two room) two (operand_tree a) z ≡ outcome o w rest
-      → expr_at two (suc room) (operand_spelled a ++ z) ≡ outcome (or_else (operand_deep room a z) o) w rest
+      → expr_at two (suc room) (operand_spelled a ++ z) ≡ outcome (option_or (operand_deep room a z) o) w rest
   operand_then o w rest e = expr_operand two room a z ∙ rw first (outcome_then (operand_deep room a z) o (operand_tree a) z (λ v. rest_at (expr_at two room) two v) w rest e)
 
   operand_last : (w : Expression) (rest : List Terminal) → rest_at (expr_at two room) two (operand_tree a) z ≡ took w rest → expr_at two (suc room) (operand_spelled a ++ z) ≡ outcome (operand_deep room a z) w rest

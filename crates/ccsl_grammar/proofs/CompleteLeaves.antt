@@ -17,7 +17,8 @@ use Rattle.ccsl_ast.specs.declared.term.Argument.TheVariants as arg
 use Rattle.ccsl_ast.specs.declared.definition.Kind.TheVariants as kind
 use Rattle.ccsl_ast.specs.declared.definition.Kind.{Kind}
 use Rattle.ccsl_ast.specs.declared.definition.Param.{Param}
-use Rattle.ccsl_grammar.specs.Terminals.{Terminal, word, name, number, is_word, is_symbol, is_quoted}
+use Rattle.ccsl_grammar.specs.Terminals.{Terminal, word, name, number}
+use Rattle.ccsl_grammar.specs.Kinds.{is_word, is_symbol, is_quoted}
 use Rattle.ccsl_grammar.specs.Reader.{took, Reader, followed, ◌>>=◌, ◌>>◌, given, begins, many}
 use Rattle.ccsl_grammar.specs.Grammar.{comma, closing, equals, below, further_spelled, prim_spelled, signed_spelled, term_spelled, wterm_spelled, test_spelled, arg_spelled, kind_spelled, param_spelled, clock_spelled}
 use Rattle.ccsl_grammar.specs.Parser.{word_at, symbol_at, name_at, quoted_at, further_at, list_at, prim_at, sign_at, is_sign, signed_at, term_at, wterm_at, comparison_at, test_at, arg_at, kind_at, param_at}

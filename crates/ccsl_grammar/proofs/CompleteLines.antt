@@ -8,9 +8,9 @@ use Rattle.ccsl_ast.specs.declared.term.Argument.{Argument}
 use Rattle.ccsl_ast.specs.declared.line.Relation.{Relation}
 use Rattle.ccsl_ast.specs.declared.line.Relation.TheVariants as rel
 use Rattle.ccsl_ast.specs.declared.definition.Param.{Param}
-use Rattle.ccsl_ast.specs.Trees.{Expression, Line, LDefine, LConstraint, LCall, SLine, SClocks, SLineOf, PlainMember, PlainDefinition, DRelation, DGroup, PlainFile}
-use Rattle.ccsl_ast.specs.Kept.{relop_in}
-use Rattle.ccsl_grammar.specs.Terminals.{Terminal, word, name, number, is_word}
+use Rattle.ccsl_ast.specs.Trees.{Expression, Line, LDefine, LConstraint, LCall, SLine, SClocks, SLineOf, PlainMember, PlainDefinition, DRelation, DGroup, PlainFile, relop_in}
+use Rattle.ccsl_grammar.specs.Terminals.{Terminal, word, name, number}
+use Rattle.ccsl_grammar.specs.Kinds.{is_word}
 use Rattle.ccsl_grammar.specs.Reader.{took, Reader, followed, ◌>>=◌, ◌>>◌, given, begins, many}
 use Rattle.ccsl_grammar.specs.Deep.{all_deep, expr_deep, rline_deep, sline_deep, member_deep, definition_deep, file_deep}
 use Rattle.ccsl_grammar.specs.Grammar.{opening, closing, semicolon, equals, left_brace, right_brace, further_spelled, list_spelled, arg_spelled, param_spelled, relop_spelled, expr_spelled, expr_tree, Rline, define, constrain, call, rline_spelled, rline_tree, Sline, clocks, line, clock_spelled, sline_spelled, sline_tree, Member, member_spelled, further_member, member_tree, Definition, relation, group, definition_spelled, definition_tree, Derivation, system_spelled, version, file_spelled, file_tree}

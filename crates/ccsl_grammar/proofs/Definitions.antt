@@ -7,7 +7,8 @@ use Rattle.ccsl_ast.specs.declared.spot.Spot.{Spot}
 use Rattle.ccsl_ast.specs.declared.definition.Kind.TheVariants as kind
 use Rattle.ccsl_ast.specs.declared.definition.Param.{Param}
 use Rattle.ccsl_ast.specs.Trees.{DRelation, DGroup}
-use Rattle.ccsl_grammar.specs.Terminals.{Terminal, word, name, is_word}
+use Rattle.ccsl_grammar.specs.Terminals.{Terminal, word, name}
+use Rattle.ccsl_grammar.specs.Kinds.{is_word}
 use Rattle.ccsl_grammar.specs.Reader.{many, ◌>>◌}
 use Rattle.ccsl_grammar.specs.Deep.{all_deep, expr_deep, rline_deep, member_deep, definition_deep}
 use Rattle.ccsl_grammar.specs.Places.{Stops, Is, shallow}

@@ -8,7 +8,8 @@ use Rattle.ccsl_ast.specs.declared.term.Test.TheVariants.{Head}
 use Rattle.ccsl_ast.specs.declared.term.WordTerm.TheVariants as wterm
 use Rattle.ccsl_ast.specs.declared.term.Argument.TheVariants as arg
 use Rattle.ccsl_ast.specs.Trees.{Expression, EName, ECall, ENever, EBinary, EDelayed, EIf}
-use Rattle.ccsl_grammar.specs.Terminals.{Terminal, word, name, number, is_word, is_symbol, is_name}
+use Rattle.ccsl_grammar.specs.Terminals.{Terminal, word, name, number}
+use Rattle.ccsl_grammar.specs.Kinds.{is_word, is_symbol, is_name}
 use Rattle.ccsl_grammar.specs.Reader.{Fault, no_syntax, too_deep, stopped, Reader, ◌>>=◌, ◌>>◌, given, begins}
 use Rattle.ccsl_grammar.specs.Deep.{expr_deep, operand_deep}
 use Rattle.ccsl_grammar.specs.Places.{BeginsDeep, Stops, Is}

@@ -26,8 +26,8 @@ use Rattle.ccsl_ast.specs.declared.line.Relation.TheVariants as rel
 use Rattle.ccsl_ast.specs.declared.definition.Kind.{Kind}
 use Rattle.ccsl_ast.specs.declared.definition.Kind.TheVariants as kind
 use Rattle.ccsl_ast.specs.declared.definition.Param.{Param}
-use Rattle.ccsl_ast.specs.Trees.{PlainFile}
-use Rattle.ccsl_ast.specs.Kept.{text_kept, spot_kept, number_kept, prim_kept, signed_kept, term_kept, wterm_kept, test_kept, arg_kept, relop_in, relop_kept, expression_kept, rline_kept, sline_kept, param_kept, member_kept, definition_kept, file_kept}
+use Rattle.ccsl_ast.specs.Trees.{PlainFile, relop_in}
+use Rattle.ccsl_ast.specs.Kept.{text_kept, spot_kept, number_kept, prim_kept, signed_kept, term_kept, wterm_kept, test_kept, arg_kept, relop_kept, expression_kept, rline_kept, sline_kept, param_kept, member_kept, definition_kept, file_kept}
 use Rattle.ccsl_grammar.specs.Terminals.{Terminal, word, name, number, seen_as, terminals}
 use Rattle.ccsl_grammar.specs.Grammar.{closing, semicolon, equals, below, left_brace, right_brace, further_spelled, list_spelled, prim_spelled, signed_spelled, term_spelled, wterm_spelled, test_spelled, arg_spelled, kind_spelled, param_spelled, relop_spelled, binop_spelled, Expr, alone, binary, delay, await, filter, delayed, choice, Operand, named, called, never, parens, expr_spelled, operand_spelled, expr_tree, operand_tree, Rline, define, constrain, call, rline_spelled, rline_tree, Sline, clocks, line, clock_spelled, sline_spelled, sline_tree, Member, member_spelled, further_member, member_tree, Definition, relation, group, definition_spelled, definition_tree, Derivation, version, system_spelled, file_spelled, file_tree}
 use Rattle.ccsl_grammar.specs.Kept.{terminal_kept, kept}

@@ -7,10 +7,11 @@ use Rattle.ccsl_ast.specs.Depth as tree
 use Rattle.ccsl_ast.specs.Depth.{depth, greatest, file_depth}
 use Rattle.ccsl_grammar.specs.Terminals.{Terminal, word, number}
 use Rattle.ccsl_grammar.specs.Grammar.{closing, semicolon, right_brace, binop_spelled, term_spelled, wterm_spelled, Expr, alone, binary, delay, await, filter, delayed, choice, Operand, named, called, never, parens, expr_spelled, operand_spelled, expr_tree, operand_tree, Rline, define, constrain, call, rline_spelled, rline_tree, Sline, clocks, line, sline_spelled, sline_tree, Member, further_member, member_tree, Definition, relation, group, definition_spelled, definition_tree, Derivation, system_spelled, file_tree}
-use Rattle.ccsl_grammar.specs.Deep.{or_else, expr_deep, operand_deep, all_deep, rline_deep, sline_deep, member_deep, definition_deep, file_deep}
+use Rattle.ccsl_grammar.specs.Deep.{expr_deep, operand_deep, all_deep, rline_deep, sline_deep, member_deep, definition_deep, file_deep}
+use Rattle.std.specs.Option.{option_or}
 use Rattle.ccsl_grammar.specs.Laws.{LeastDepth}
 
-neither : {A : Type 0} (x y : Option A) → or_else x y ≡ None → (x ≡ None) × (y ≡ None)
+neither : {A : Type 0} (x y : Option A) → option_or x y ≡ None → (x ≡ None) × (y ≡ None)
 neither None y e = (refl, e)
 neither (Some a) y e = absurd cc
 
@@ -108,4 +109,4 @@ file_least room d h =
     omega arith
 
 pub least_depth : LeastDepth
-least_depth room ts f p = subst (λ (f : PlainFile). file_depth f ≤ room) p.tree (file_least room p.derivation p.none_deep)
+least_depth room ts f p = subst (λ (f : PlainFile). file_depth f ≤ room) p.is.tree (file_least room p.is.derivation p.none_deep)

@@ -22,8 +22,9 @@ use Rattle.ccsl_ast.specs.declared.line.Relation.{Relation}
 use Rattle.ccsl_ast.specs.declared.line.Relation.TheVariants as rel
 use Rattle.ccsl_ast.specs.declared.definition.Kind.{Kind}
 use Rattle.ccsl_ast.specs.declared.definition.Kind.TheVariants as kind
-use Rattle.ccsl_ast.specs.Kept.{binop_in, relop_in}
-use Rattle.ccsl_grammar.specs.Terminals.{Terminal, word, symbol, name, number, quoted, is_word, is_symbol, is_name, is_quoted}
+use Rattle.ccsl_ast.specs.Trees.{binop_in, relop_in}
+use Rattle.ccsl_grammar.specs.Terminals.{Terminal, word, symbol, name, number, quoted}
+use Rattle.ccsl_grammar.specs.Kinds.{is_word, is_symbol, is_name, is_quoted}
 use Rattle.ccsl_grammar.specs.Reader.{Fault, no_syntax, Reader, ◌>>=◌, ◌>>◌, given, begins, many}
 use Rattle.ccsl_grammar.specs.Places.{Stops, Is, shallow}
 use Rattle.ccsl_grammar.specs.Grammar.{comma, closing, equals, further_spelled, list_spelled, prim_spelled, sign_spelled, signed_spelled, term_spelled, wterm_spelled, test_spelled, arg_spelled, kind_spelled, param_spelled, relop_spelled, binop_spelled, clock_spelled}

@@ -6,7 +6,8 @@ use Rattle.ccsl_base.specs.declared.reserved.Reserved.TheVariants as w
 use Rattle.ccsl_ast.specs.declared.spot.Spot.{Spot}
 use Rattle.ccsl_ast.specs.declared.term.Argument.TheVariants as arg
 use Rattle.ccsl_ast.specs.Trees.{LDefine, LConstraint, LCall, SClocks, SLineOf}
-use Rattle.ccsl_grammar.specs.Terminals.{Terminal, word, name, is_word, is_symbol}
+use Rattle.ccsl_grammar.specs.Terminals.{Terminal, word, name}
+use Rattle.ccsl_grammar.specs.Kinds.{is_word, is_symbol}
 use Rattle.ccsl_grammar.specs.Deep.{expr_deep, rline_deep, sline_deep}
 use Rattle.ccsl_grammar.specs.Places.{Begins, Stops, Is}
 use Rattle.ccsl_grammar.specs.Grammar.{opening, closing, semicolon, equals, further_spelled, list_spelled, arg_spelled, relop_spelled, alone, never, expr_spelled, expr_tree, Rline, define, constrain, call, rline_spelled, rline_tree, Sline, clocks, line, clock_spelled, sline_spelled, sline_tree}

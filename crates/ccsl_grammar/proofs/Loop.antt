@@ -2,7 +2,8 @@
 use Rattle.std.proofs.Common.{◌≡◌, ℕ, ◌<◌, Bool, true, false, List, [], ◌∷◌, ◌++◌, length, Option, refl, sym, ap, ◌∙◌, append_assoc, arith}
 use Rattle.std.proofs.lemmas.List.{append-nil}
 use Rattle.ccsl_ast.specs.declared.term.Argument.TheVariants as arg
-use Rattle.ccsl_grammar.specs.Terminals.{Terminal, is_symbol}
+use Rattle.ccsl_grammar.specs.Terminals.{Terminal}
+use Rattle.ccsl_grammar.specs.Kinds.{is_symbol}
 use Rattle.ccsl_grammar.specs.Reader.{Fault, Reply, took, stopped, Reader, followed, given, begins, many}
 use Rattle.ccsl_grammar.specs.Loop.{prefixed}
 use Rattle.ccsl_grammar.specs.Deep.{rline_deep, sline_deep, member_deep, definition_deep}

@@ -4,7 +4,8 @@ use Rattle.std.specs.List.{flat_map}
 use Rattle.std.proofs.lemmas.List.{map-id}
 use Rattle.ccsl_grammar.specs.Terminals.{Terminal}
 use Rattle.ccsl_grammar.specs.Reader.{too_deep, Reply, took, stopped, Reader, followed, ◌>>=◌, given, begins, many}
-use Rattle.ccsl_grammar.specs.Deep.{or_else, all_deep}
+use Rattle.ccsl_grammar.specs.Deep.{all_deep}
+use Rattle.std.specs.Option.{option_or}
 use Rattle.ccsl_grammar.specs.Places.{shallow}
 use Rattle.ccsl_grammar.proofs.Parts.{Reads, Self}
 use Rattle.ccsl_grammar.proofs.Many.{step, item_falls, none_deep}
@@ -13,7 +14,7 @@ abbrev pub outcome : {A : Type 0} → Option (List Terminal) → A → List Term
 outcome None v rest = took v rest
 outcome (Some z) v rest = stopped too_deep z
 
-pub outcome_then : {A B : Type 0} (o o' : Option (List Terminal)) (v : A) (z : List Terminal) (g : A → Reader B) (w : B) (rest : List Terminal) → g v z ≡ outcome o' w rest → followed (outcome o v z) g ≡ outcome (or_else o o') w rest
+pub outcome_then : {A B : Type 0} (o o' : Option (List Terminal)) (v : A) (z : List Terminal) (g : A → Reader B) (w : B) (rest : List Terminal) → g v z ≡ outcome o' w rest → followed (outcome o v z) g ≡ outcome (option_or o o') w rest
 outcome_then None o' v z g w rest e = e
 outcome_then (Some y) o' v z g w rest e = refl
 

@@ -11,7 +11,7 @@ use Rattle.ccsl_grammar.proofs.Keeps.{file_keeps}
 use Rattle.ccsl_grammar.proofs.Least.{least_depth}
 
 pub parsed_keeps : (room : ℕ) (ts : List Token) (f : PlainFile) → Parses room (terminals ts) f → IsTrue (file_kept f)
-parsed_keeps room ts f p = file_keeps ts f (record { derivation = p.derivation; spelled = p.spelled; tree = p.tree })
+parsed_keeps room ts f p = file_keeps ts f p.is
 
 pub parsed_depth : (room : ℕ) (ts : List Terminal) (f : PlainFile) → Parses room ts f → file_depth f ≤ room
 parsed_depth = least_depth

@@ -5,7 +5,8 @@ use Rattle.ccsl_base.specs.declared.reserved.Reserved.{Reserved}
 use Rattle.ccsl_base.specs.declared.reserved.Reserved.TheVariants as w
 use Rattle.ccsl_base.specs.ReservedWords.{all_words}
 use Rattle.ccsl_ast.specs.declared.spot.Spot.{Spot}
-use Rattle.ccsl_grammar.specs.Terminals.{Terminal, word, symbol, name, number, quoted, is_word, is_symbol, same_word, number_of}
+use Rattle.ccsl_grammar.specs.Terminals.{Terminal, word, symbol, name, number, quoted}
+use Rattle.ccsl_grammar.specs.Kinds.{is_word, is_symbol, same_word, number_of}
 use Rattle.ccsl_grammar.specs.Reader.{Fault, no_syntax, Reader, ◌>>=◌, ◌>>◌, accept}
 use Rattle.ccsl_grammar.specs.Parser.{passed, word_at, symbol_at, name_of, name_at}
 use Rattle.ccsl_grammar.proofs.Good.{Good, bind, take_one}

@@ -8,7 +8,8 @@ use Rattle.ccsl_grammar.specs.Grammar.{Derivation, version, file_spelled, file_t
 use Rattle.ccsl_grammar.specs.Deep.{file_deep}
 use Rattle.ccsl_grammar.specs.Places.{Stops, Is, Begins}
 use Rattle.ccsl_grammar.specs.Parser.{is_definition, definition_at, version_at, system_at, ends, file_at}
-use Rattle.ccsl_grammar.specs.File.{IsFile, CanGoOn, DeepAt, FailsAt, Verdict}
+use Rattle.ccsl_grammar.specs.File.{IsFile, CanGoOn, DeepAt, FailsAt}
+use Rattle.ccsl_grammar.specs.Verdict.{Verdict}
 use Rattle.ccsl_grammar.specs.Laws.{OneTree, ReaderIsRight, OneVerdict}
 use Rattle.ccsl_grammar.proofs.Good.{GoodAs}
 use Rattle.ccsl_grammar.proofs.Files.{file_reads}
@@ -93,7 +94,7 @@ can_go_on front b = record { more = b.more; tree = file_tree b.whole; is = recor
 verdict_as : (room : ℕ) (ts : List Terminal) (r : Reply PlainFile) → file_at room ts ≡ r → GoodAs (Stops file_spelled (file_deep room)) (Is file_spelled (file_deep room) file_tree) (file_at room) ts r → Verdict room ts r
 verdict_as room ts (took f rest) e h =
     let z : rest ≡ [] = file_ends room ts f rest e in
-    (record { derivation = h.holds.whole; spelled = h.holds.is ∙ sym (append-nil h.front) ∙ ap (λ q. h.front ++ q) (sym z) ∙ sym h.whole; tree = h.holds.tree_is; none_deep = h.holds.deep_is [] }, z)
+    (record { is = record { derivation = h.holds.whole; spelled = h.holds.is ∙ sym (append-nil h.front) ∙ ap (λ q. h.front ++ q) (sym z) ∙ sym h.whole; tree = h.holds.tree_is }; none_deep = h.holds.deep_is [] }, z)
 verdict_as room ts (stopped too_deep rest) e h = (
   h.front,
   h.whole,
@@ -164,12 +165,12 @@ not_both room ts front [] f e h i = h.no_end f refl (record { derivation = i.der
 not_both room ts front (t ∷ us) f e h i = h.no_more t us refl (record { more = us; tree = f; is = record { derivation = i.derivation; spelled = i.spelled ∙ e ∙ sym (append_assoc front (t ∷ []) us); tree = i.tree } })
 
 syntax_as : (room : ℕ) (ts front rest : List Terminal) → ts ≡ front ++ rest → FailsAt room front rest → (r : Reply PlainFile) → Verdict room ts r → r ≡ stopped no_syntax rest
-syntax_as room ts front rest e h (took f z) v = absurd (not_both room ts front rest f e h (record { derivation = v.0.derivation; spelled = v.0.spelled; tree = v.0.tree }))
+syntax_as room ts front rest e h (took f z) v = absurd (not_both room ts front rest f e h v.0.is)
 syntax_as room ts front rest e h (stopped too_deep z) v = absurd (h.none_deep v.0 z (sym e ∙ v.1) v.2)
 syntax_as room ts front rest e h (stopped no_syntax z) v = ap (stopped no_syntax) (sym (fails_once room front rest v.0 z h v.2 (cuts front rest v.0 z (sym e ∙ v.1))))
 
 pub one_verdict : OneVerdict
 one_verdict room ts (took f rest) v =
-    spelled_reply room v.0.derivation ts v.0.spelled ∙ rw (v.0.none_deep, v.0.tree, v.1) refl
+    spelled_reply room v.0.is.derivation ts v.0.is.spelled ∙ rw (v.0.none_deep, v.0.is.tree, v.1) refl
 one_verdict room ts (stopped too_deep rest) v = ap (file_at room) v.1 ∙ deep_replies room v.0 rest v.2
 one_verdict room ts (stopped no_syntax rest) v = syntax_as room ts v.0 rest v.1 v.2 (file_at room ts) (reader_is_right room ts)

@@ -4,7 +4,6 @@ use Rattle.ccsl_ast.specs.Trees.{PlainFile}
 use Rattle.ccsl_grammar.specs.Terminals.{Terminal}
 use Rattle.ccsl_grammar.specs.Grammar.{Derivation, file_spelled, file_tree}
 use Rattle.ccsl_grammar.specs.Deep.{file_deep}
-use Rattle.ccsl_grammar.specs.Reader.{no_syntax, too_deep, Reply, took, stopped}
 
 -- THE GRAMMAR AS A RELATION: these terminals have this tree
 pub record IsFile (ts : List Terminal) (f : PlainFile) : Type 0 where
@@ -14,10 +13,8 @@ pub record IsFile (ts : List Terminal) (f : PlainFile) : Type 0 where
 
 -- these terminals have this tree, and none of their expressions has a level above room
 pub record Parses (room : ℕ) (ts : List Terminal) (f : PlainFile) : Type 0 where
-  pub derivation : Derivation
-  pub spelled : file_spelled derivation ≡ ts
-  pub tree : file_tree derivation ≡ f
-  pub none_deep : file_deep room derivation [] ≡ None
+  pub is : IsFile ts f
+  pub none_deep : file_deep room is.derivation [] ≡ None
 
 -- these terminals can be continued to a file
 pub record CanGoOn (front : List Terminal) : Type 0 where
@@ -41,9 +38,3 @@ pub record FailsAt (room : ℕ) (front rest : List Terminal) : Type 0 where
   pub no_more : (t : Terminal) (us : List Terminal) → rest ≡ t ∷ us → CanGoOn (front ++ t ∷ []) → ⊥
   pub no_end : (f : PlainFile) → rest ≡ [] → IsFile front f → ⊥
   pub none_deep : (x y : List Terminal) → front ++ rest ≡ x ++ y → DeepAt room x y → ⊥
-
--- what a reply says of the terminals ts: they have the tree; or the fault begins with rest
-abbrev pub Verdict : ℕ → List Terminal → Reply PlainFile → Type 0
-Verdict room ts (took f rest) = Parses room ts f × (rest ≡ [])
-Verdict room ts (stopped no_syntax rest) = (front : List Terminal) × (ts ≡ front ++ rest) × FailsAt room front rest
-Verdict room ts (stopped too_deep rest) = (front : List Terminal) × (ts ≡ front ++ rest) × DeepAt room front rest

@@ -7,7 +7,8 @@ use Rattle.ccsl_ast.specs.Kept.{file_kept}
 use Rattle.ccsl_grammar.specs.Terminals.{Terminal, terminals}
 use Rattle.ccsl_grammar.specs.Reader.{Reply}
 use Rattle.ccsl_grammar.specs.Parser.{file_at}
-use Rattle.ccsl_grammar.specs.File.{IsFile, Parses, Verdict}
+use Rattle.ccsl_grammar.specs.File.{IsFile, Parses}
+use Rattle.ccsl_grammar.specs.Verdict.{Verdict}
 use Rattle.ccsl_grammar.specs.Canonical.{canonical_terminals}
 use Rattle.ccsl_grammar.specs.Kept.{kept}
 use Rattle.ccsl_grammar.specs.Bare.{bares, bare_file}

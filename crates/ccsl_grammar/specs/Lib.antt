@@ -1,4 +1,5 @@
 pub mod Terminals
+pub mod Kinds
 pub mod Grammar
 pub mod Deep
 pub mod Reader
@@ -6,6 +7,7 @@ pub mod Parser
 pub mod Loop
 pub mod Places
 pub mod File
+pub mod Verdict
 pub mod Faults
 pub mod Canonical
 pub mod Bare

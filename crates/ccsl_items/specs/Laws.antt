@@ -1,8 +1,9 @@
 -- What the sets that solve the items' formulas are to the runs of a system: sets of named clocks with a declared member that satisfy
 -- every item's formula.
-use Rattle.std.specs.Prelude.{◌≡◌, ◌↔◌, List, true}
+use Rattle.std.specs.Prelude.{◌≡◌, ◌↔◌, List, true, All, length}
 use Rattle.std.specs.List.{list_all}
 use Rattle.ccsl_formula.specs.Formula.{in_set}
+use Rattle.ccsl_formula.specs.Variables.{ReadsBelow}
 use Rattle.ccsl_refute.specs.Meaning.{Solves, Blocks}
 use Rattle.ccsl_kernel.specs.Syntax.{System}
 use Rattle.ccsl_kernel.specs.Lives.{Step}
@@ -36,3 +37,7 @@ module _ (K : System) where
   -- WHERE NO SET SOLVES THE ITEMS' FORMULAS after a run, no set is admissible
   abbrev pub BlockedRunsEnd : Type 0
   BlockedRunsEnd = (T : List Step) → IsNamedRun T → Blocks (scope_of K) (item_formulas K T) → (s : Step) → IsAdmissible K T s → ⊥
+
+  -- THE ITEMS' FORMULAS READ NAMED CLOCKS ALONE
+  abbrev pub FormulasReadNamed : Type 0
+  FormulasReadNamed = (T : List Step) → All (ReadsBelow (length K.names)) (item_formulas K T)

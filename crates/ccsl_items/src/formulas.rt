@@ -1,7 +1,7 @@
 //! The list of the formulas of all items.
 
 ghost use Rattle.std.specs.Prelude.{◌≡◌, List, length, map, All, OnOk};
-ghost use Rattle.ccsl_formula.specs.Formula.{ReadsBelow};
+ghost use Rattle.ccsl_formula.specs.Variables.{ReadsBelow};
 ghost use Rattle.ccsl_formula.specs.Plain.{plain};
 ghost use Rattle.ccsl_kernel.specs.Syntax.{item_count};
 ghost use Rattle.ccsl_kernel.specs.Lives.{Step};

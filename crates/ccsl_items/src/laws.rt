@@ -2,7 +2,9 @@
 
 ghost use Rattle.ccsl_kernel.specs.Syntax.{System};
 ghost use Rattle.ccsl_kernel.specs.Accepted.{IsAccepted};
-ghost use Rattle.ccsl_items.specs.Laws.{AdmissibleSetsSolve, SolutionsAreFull, BlockedRunsEnd};
+ghost use Rattle.ccsl_items.specs.Laws.{AdmissibleSetsSolve, SolutionsAreFull, BlockedRunsEnd, FormulasReadNamed};
+
+use ccsl_kernel::laws::reads_lower;
 
 /// After a run, what is admissible are the declared members of the sets of named clocks that solve the items' formulas.
 pub fn admissible_sets_solve()
@@ -18,3 +20,10 @@ pub fn solutions_are_full()
 pub fn blocked_runs_end()
     ensures { (K : System) → IsAccepted K → BlockedRunsEnd K }
 {}
+
+/// The items' formulas read named clocks alone.
+pub fn formulas_read_named()
+    ensures { (K : System) → IsAccepted K → FormulasReadNamed K }
+{
+    reads_lower();
+}

@@ -22,6 +22,8 @@ use Rattle.ccsl_kernel.specs.contracts.group.Group as group
 use Rattle.ccsl_kernel.specs.contracts.parts.Parts as parts
 use Rattle.ccsl_kernel.specs.contracts.system.System as system
 use Rattle.ccsl_kernel.proofs.expr.Expr.TheLaws.TheKnot as knot
+use Rattle.ccsl_state.specs.contracts.readers.Readers as clock_readers
+use Rattle.ccsl_state.specs.contracts.follow.Passage as passage
 use Rattle.ccsl_state.specs.contracts.part.Part as part
 use Rattle.ccsl_relate.specs.contracts.violation.Violation as violation
 use Rattle.ccsl_relate.specs.contracts.watched.Watched as watched
@@ -107,10 +109,17 @@ places_send = let s = set_send in search (sendable, crosses) depth 40
 readers_send : IsSend (readers.the_field).row
 readers_send = let p = places_send in search (sendable, crosses) depth 40
 
+clock_readers_send : IsSend (clock_readers.the_field).row
+clock_readers_send = let s = set_send in search (sendable, crosses) depth 40
+
+passage_send : IsSend (passage.the_field).row
+passage_send = let s = set_send in search (sendable, crosses) depth 40
+
 part_send : (ℓ : NamedLft) → IsSend (part.the_field ℓ).row
 part_send ℓ =
     let y = system_sync in
-    let s = set_send in
+    let r = clock_readers_send in
+    let p = passage_send in
     search (sendable, crosses) depth 40
 
 monitor_send : (ℓ : NamedLft) → IsSend (monitor.the_field ℓ).row

@@ -15,7 +15,7 @@ use Rattle.ccsl_kernel.specs.declared.group.ParamKind.TheVariants as kind
 use Rattle.ccsl_kernel.specs.declared.constraint.RelationKind.TheVariants.{Precedes, PrecedesWeakly}
 use Rattle.ccsl_kernel.specs.Syntax.{Body, Expression, EName, ECall, ENever, EBinary, EDelay, EAwait, EFilter, EDelayed, System}
 use Rattle.ccsl_kernel.specs.Lives.{Step, steps}
-use Rattle.ccsl_kernel.specs.Meaning.{dead_at}
+use Rattle.ccsl_kernel.specs.Deaths.{dead_at}
 use Rattle.ccsl_kernel.specs.Items.{item_formula}
 use Rattle.ccsl_kernel.specs.Runs.{completed}
 use Rattle.ccsl_kernel.specs.Verdict.{Run, Violated, verdict}

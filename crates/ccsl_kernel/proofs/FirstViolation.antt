@@ -5,7 +5,8 @@ use Rattle.std.proofs.lemmas.Bool.{cases_lt}
 use Rattle.ccsl_base.specs.declared.rows.Row.{Row}
 use Rattle.ccsl_kernel.specs.Syntax.{System, item_count}
 use Rattle.ccsl_kernel.specs.Lives.{steps}
-use Rattle.ccsl_kernel.specs.Verdict.{Run, Violated, is_violated, first_item, verdict_at, verdict, IsFirstViolation}
+use Rattle.ccsl_kernel.specs.Verdict.{Run, Violated, is_violated, first_item, verdict_at, verdict}
+use Rattle.ccsl_kernel.specs.FirstViolation.{IsFirstViolation}
 use Rattle.ccsl_kernel.proofs.Steps.{find-steps-suc, or_else, if_at}
 
 pub find-nowhere : (f : ℕ → Bool) (n : ℕ) → ((i : ℕ) → i < n → f i ≡ false) → find f (steps 0 n) ≡ None

@@ -13,7 +13,8 @@ use Rattle.ccsl_kernel.specs.declared.actual.Actual.{Actual}
 use Rattle.ccsl_kernel.specs.declared.expr.ExprOp.TheVariants as op
 use Rattle.ccsl_kernel.specs.Syntax.{Expression, EName, ECall, ENever, EBinary, EDelay, EAwait, EFilter, EDelayed, EIf, System, root_of}
 use Rattle.ccsl_kernel.specs.Actuals.{value_of}
-use Rattle.ccsl_kernel.specs.Guarded.{Position, Inner, Tail, Guarded, guarded, right_of, Allowed}
+use Rattle.ccsl_kernel.specs.Guarded.{Position, Inner, Tail, Guarded, right_of, Allowed}
+use Rattle.ccsl_kernel.specs.Positions.{guarded}
 use Rattle.ccsl_kernel.proofs.GuardedCalls.{AreGuarded}
 
 pub record IsClosed (K : System) (N : ℕ) (R : ℕ → Expression → List Actual → Type 0) : Type 0 where

@@ -7,8 +7,9 @@ use Rattle.std.specs.List.{list_all, take_while, prefix_len}
 use Rattle.std.proofs.lemmas.List.{append-nil}
 use Rattle.std.specs.Str.{bytes_eq}
 use Rattle.ccsl_base.specs.declared.limits.TheConstants.{MAX_NAME_BYTES}
-use Rattle.ccsl_base.specs.ReservedWords.{is_reserved}
-use Rattle.ccsl_base.specs.Name.{is_letter, is_digit, is_inner, is_word, is_name, is_visible, is_cert_name, are_cert_names}
+use Rattle.ccsl_base.specs.KeptWords.{is_reserved}
+use Rattle.ccsl_base.specs.Name.{is_word, is_name, is_visible, is_cert_name, are_cert_names}
+use Rattle.ccsl_base.specs.Letters.{is_letter, is_digit, is_inner}
 use Rattle.ccsl_kernel.specs.Syntax.{System}
 use Rattle.ccsl_kernel.specs.Accepted.{is_path_rest, is_hidden, Each, IsAccepted}
 

@@ -2,7 +2,8 @@
 use Rattle.std.proofs.Common.{◌≡◌, ℕ, zero, suc, ◌+◌, ◌-◌, ◌<◌, ◌≤◌, nat_le, nat_lt, nat_eq, List, [], ◌∷◌, map, length, get_or, Bool, true, false, not, ◌&&◌, ◌||◌, Option, Some, None, refl, sym, ap, ap₂, subst, arith, if◌then◌else◌, ⊎_elim, eqb-true}
 use Rattle.std.proofs.lemmas.Bool.{or_cases}
 use Rattle.ccsl_base.specs.Clocks.{ticks_in}
-use Rattle.ccsl_formula.specs.Formula.{Formula, FTrue, FFalse, FVar, FNot, FAnd, FOr, FIff, eval, same, reads}
+use Rattle.ccsl_formula.specs.Formula.{Formula, FTrue, FFalse, FVar, FNot, FAnd, FOr, FIff, eval, same}
+use Rattle.ccsl_formula.specs.Variables.{reads}
 use Rattle.ccsl_words.specs.Word.{BinaryWord, letter}
 use Rattle.ccsl_kernel.specs.declared.expr.ExprOp.{ExprOp}
 use Rattle.ccsl_kernel.specs.declared.expr.Place.{Place}

@@ -2,7 +2,8 @@
 use Rattle.std.specs.Prelude.{◌≡◌, ℕ, ◌+◌, ◌<◌, ◌≤◌, suc, List, [], ◌∷◌, ◌++◌, length, map, max, All, Bool, false, ◌&&◌, IsTrue, Some, slice_get, slice_index, nat_eq, nat_lt, nat_le, take_while, drop, if◌then◌else◌}
 use Rattle.std.specs.List.{list_all, AllByRecursion}
 use Rattle.ccsl_base.specs.declared.limits.TheConstants.{MAX_CLOCKS, MAX_CONSTRAINTS, MAX_CELLS, MAX_LEVELS, MAX_CALL_LEVELS, MAX_PARAMS}
-use Rattle.ccsl_base.specs.Name.{is_name, is_inner}
+use Rattle.ccsl_base.specs.Name.{is_name}
+use Rattle.ccsl_base.specs.Letters.{is_inner}
 use Rattle.ccsl_words.specs.Word.{BinaryWord, is_finite, word_len}
 use Rattle.ccsl_kernel.specs.declared.expr.Place.TheVariants as place
 use Rattle.ccsl_kernel.specs.declared.expr.NumPrim.TheVariants as prim

@@ -1,7 +1,7 @@
 -- The cells of expressions and systems.
 use Rattle.std.specs.Prelude.{ℕ, ◌+◌, ◌*◌, ◌/◌, List, [], ◌∷◌, ◌++◌, length, map, max, min, sum, slice_index}
 use Rattle.ccsl_kernel.specs.declared.expr.ExprOp.TheVariants as op
-use Rattle.ccsl_kernel.specs.Syntax.{ExprOp, Expression, EName, ECall, ENever, EBinary, EDelay, EAwait, EFilter, EDelayed, EIf, Body, System}
+use Rattle.ccsl_kernel.specs.Syntax.{ExprOp, Expression, ECall, EBinary, EDelay, EAwait, EFilter, EDelayed, EIf, Body, System}
 
 -- a count as it is told, at most 4,294,967,295
 abbrev pub saturated : ℕ → ℕ
@@ -19,15 +19,14 @@ cells_of_two _ a d = 1 + a + d
 
 -- `earlier` has the cells of a call to each earlier group; a call to the own group has none
 abbrev pub cells_in : List ℕ → Expression → ℕ
-cells_in earlier (EName x) = 1
 cells_in earlier (ECall group member args) = slice_index earlier group
-cells_in earlier ENever = 1
 cells_in earlier (EBinary op a d) = cells_of_two op (cells_in earlier a) (cells_in earlier d)
 cells_in earlier (EDelay a m) = 1 + cells_in earlier a
 cells_in earlier (EAwait a m) = 1 + cells_in earlier a
 cells_in earlier (EFilter a w) = 1 + cells_in earlier a
 cells_in earlier (EDelayed a m d) = 2 + (m + 63) / 64 + cells_in earlier a + cells_in earlier d
 cells_in earlier (EIf q a d) = 1 + max (cells_in earlier a) (cells_in earlier d)
+cells_in earlier _ = 1
 
 -- the cells of a call to a group
 abbrev pub group_cells : List ℕ → List Body → ℕ

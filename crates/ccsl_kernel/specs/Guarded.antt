@@ -6,12 +6,7 @@ pub use Rattle.ccsl_kernel.specs.declared.position.Position.{Position}
 pub use Rattle.ccsl_kernel.specs.declared.position.Position.TheVariants.{Inner, Tail, Guarded}
 use Rattle.ccsl_kernel.specs.declared.expr.ExprOp.TheVariants as op
 use Rattle.ccsl_kernel.specs.Syntax.{ExprOp, Expression, EName, ECall, ENever, EBinary, EDelay, EAwait, EFilter, EDelayed, EIf, System}
-
--- the places in a body: inside an operator, in tail position, or in tail position within the right operand of a then in tail position
-abbrev pub guarded : Position → Position
-guarded Inner = Inner
-guarded Tail = Guarded
-guarded Guarded = Guarded
+use Rattle.ccsl_kernel.specs.Positions.{guarded}
 
 -- the place of an operator's right operand
 abbrev pub right_of : ExprOp → Position → Position

@@ -2,16 +2,19 @@
 use Rattle.std.specs.Prelude.{◌≡◌, ◌≢◌, ◌↔◌, ℕ, ◌+◌, ◌-◌, ◌<◌, ◌≤◌, List, [], true, false, Some, length, map, slice_index}
 use Rattle.std.specs.List.{list_all}
 use Rattle.ccsl_base.specs.declared.rows.Row.{Row}
-use Rattle.ccsl_formula.specs.Formula.{eval, ReadsBelow}
+use Rattle.ccsl_formula.specs.Formula.{eval}
+use Rattle.ccsl_formula.specs.Variables.{ReadsBelow}
 use Rattle.ccsl_kernel.specs.Syntax.{Expression, System, item_count, definition_of}
 use Rattle.ccsl_kernel.specs.Actuals.{Actual}
 use Rattle.ccsl_kernel.specs.Ticks.{count}
 use Rattle.ccsl_kernel.specs.Lives.{Step, Life, step_at, operand}
-use Rattle.ccsl_kernel.specs.Meaning.{dead_below, meaning, formula_at, dead_at}
+use Rattle.ccsl_kernel.specs.Meaning.{dead_below, meaning, formula_at}
+use Rattle.ccsl_kernel.specs.Deaths.{dead_at}
 use Rattle.ccsl_kernel.specs.Guarded.{IsAllowed}
 use Rattle.ccsl_kernel.specs.Items.{clock_count, item_formula}
 use Rattle.ccsl_kernel.specs.Runs.{IsRun, ObeysDefinitions, IsAdmissible, declared_part, is_declared, is_named, completed}
-use Rattle.ccsl_kernel.specs.Verdict.{Run, Violated, is_violated, verdict, IsFirstViolation}
+use Rattle.ccsl_kernel.specs.Verdict.{Run, Violated, is_violated, verdict}
+use Rattle.ccsl_kernel.specs.FirstViolation.{IsFirstViolation}
 use Rattle.ccsl_kernel.specs.Rows.{SameLife, IsTable, CallsAreBodies}
 
 -- COUNTS ARE AT MOST AS MANY AS THE STEPS, of a clock, and of an operand since its birth

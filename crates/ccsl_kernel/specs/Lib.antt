@@ -5,9 +5,11 @@ pub mod Ticks
 pub mod Table
 pub mod Lives
 pub mod Meaning
+pub mod Deaths
 pub mod Items
 pub mod Runs
 pub mod Guarded
+pub mod Positions
 pub mod Rows
 pub mod Laws
 pub mod Coded
@@ -16,6 +18,7 @@ pub mod Accepted
 pub mod Fit
 pub mod Fitting
 pub mod Verdict
+pub mod FirstViolation
 pub mod Course
 pub mod Since
 pub mod Operators

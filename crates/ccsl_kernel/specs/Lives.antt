@@ -1,7 +1,4 @@
 -- An expression from its birth on, over a list of steps.
---     Life      its formula and its death, for each birth b and each step n from b on
---     ticks_at      at which steps it ticks
---     joined      the life of an operator of two operands
 use Rattle.std.specs.Prelude.{ℕ, zero, suc, List, [], ◌∷◌, ◌++◌, Bool, false, Option, Some, None, slice_index_or, map, find, nat_le, if◌then◌else◌}
 use Rattle.ccsl_formula.specs.Formula.{eval}
 use Rattle.ccsl_kernel.specs.declared.expr.ExprOp.{ExprOp}
@@ -54,6 +51,7 @@ module _ (T : List Step) where
   abbrev pub over_two : (Operand → Operand → Now) → Life → Life → Life
   over_two row L M b n = row (operand L b n) (operand M b n)
 
+  -- the life of an operator of two operands
   abbrev pub joined : ExprOp → Life → Life → Life
   joined op.Union = over_two union_row
   joined op.Inter = over_two inter_row

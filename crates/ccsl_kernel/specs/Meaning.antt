@@ -1,7 +1,4 @@
 -- THE MEANING OF AN EXPRESSION: its formula and its death, read off all steps since its birth.
---     meaning      of an expression in the definition of a clock, under actual parameters
---     formula_at, dead_at      its two parts
---     dead_below      whether a clock is dead at a step
 use Rattle.std.specs.Prelude.{ℕ, zero, suc, ◌+◌, List, [], Bool, true, false, Option, Some, None, map, length, nat_eq, if◌then◌else◌}
 use Rattle.ccsl_formula.specs.Formula.{Formula, FVar}
 use Rattle.ccsl_kernel.specs.declared.actual.Actual.TheVariants as actual
@@ -59,7 +56,3 @@ meaning K T x = life_given K T (dead_below K T x)
 -- its formula at step n, where it was born at b
 abbrev pub formula_at : System → List Step → ℕ → Expression → List Actual → ℕ → ℕ → Formula
 formula_at K T x e ρ b n = (meaning K T x e ρ b n).formula
-
--- whether it is dead at n
-abbrev pub dead_at : System → List Step → ℕ → Expression → List Actual → ℕ → ℕ → Bool
-dead_at K T x e ρ b n = (meaning K T x e ρ b n).dead

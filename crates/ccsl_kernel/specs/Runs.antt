@@ -1,7 +1,4 @@
 -- RUNS, and what a list of declared ticks means.
---     IsRun      each item's formula holds at each step
---     completed      the declared ticks with the defined ticks that they give
---     IsAdmissible      a set of declared clocks by which a run goes on
 use Rattle.std.specs.Prelude.{◌≡◌, ℕ, suc, ◌+◌, ◌<◌, List, [], ◌∷◌, ◌++◌, Bool, true, ◌&&◌, Some, map, filter, length, nat_lt, if◌then◌else◌, ◌≢◌}
 use Rattle.ccsl_base.specs.Clocks.{ticks_in, with_clock, is_ascending, are_below}
 use Rattle.ccsl_formula.specs.Formula.{eval}

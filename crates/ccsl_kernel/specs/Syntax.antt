@@ -1,8 +1,4 @@
 -- Expressions and systems as contracts see them, without where their parts lie in memory.
---     Expression      an expression of clocks
---     Body, System      a member of a group of expressions; a system
---     body_of, root_of      the member of a group that a call names, and its expression
---     definition_of      the expression that defines a clock
 use Rattle.std.specs.Prelude.{ℕ, ◌+◌, ◌-◌, List, Option, Some, None, length, slice_get, nat_lt, if◌then◌else◌}
 use Rattle.ccsl_words.specs.Word.{BinaryWord}
 pub use Rattle.ccsl_kernel.specs.declared.expr.Place.{Place}

@@ -1,7 +1,5 @@
 -- THE TABLE OF EXPRESSIONS: from each operand's formula, death and ticks so far, the formula of an operator at a step and whether it is dead.
 -- The operators are those of CCSL (MARTE Annex C; in outline INRIA RR-6925), with `never`, `minus`, `delay`, `delayed` and the deaths of this project.
---     Operand      what a row reads of an operand at a step
---     Now      a formula and a death
 use Rattle.std.specs.Prelude.{ℕ, suc, ◌+◌, ◌-◌, List, Bool, false, not, ◌&&◌, ◌||◌, length, nat_eq, nat_lt, nat_le, if◌then◌else◌}
 use Rattle.ccsl_formula.specs.Formula.{Formula, FFalse, FNot, FAnd, FOr}
 use Rattle.ccsl_words.specs.Word.{BinaryWord, letter, is_finite}
@@ -33,8 +31,7 @@ minus_row a d = record { formula = FAnd a.formula (FNot d.formula); dead = a.dea
 -- the operand with more ticks
 abbrev pub inf_row : Operand → Operand → Now
 inf_row a d = record {
-  formula =
-      if nat_lt (count d.ticks) (count a.ticks) then a.formula
+  formula = if nat_lt (count d.ticks) (count a.ticks) then a.formula
       else if nat_lt (count a.ticks) (count d.ticks) then d.formula
       else FOr a.formula d.formula;
   dead = a.dead && d.dead;
@@ -43,8 +40,7 @@ inf_row a d = record {
 -- the operand with fewer ticks
 abbrev pub sup_row : Operand → Operand → Now
 sup_row a d = record {
-  formula =
-      if nat_lt (count a.ticks) (count d.ticks) then a.formula
+  formula = if nat_lt (count a.ticks) (count d.ticks) then a.formula
       else if nat_lt (count d.ticks) (count a.ticks) then d.formula
       else FAnd a.formula d.formula;
   dead = (a.dead && nat_le (count a.ticks) (count d.ticks)) || (d.dead && nat_le (count d.ticks) (count a.ticks));

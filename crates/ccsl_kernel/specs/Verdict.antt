@@ -1,6 +1,6 @@
 -- THE VERDICT ON A TRACE: where recorded rows break an item, and the first such place.
 -- The rows are judged against the completion of their declared ticks. `bound` is the set of recorded clocks.
-use Rattle.std.specs.Prelude.{◌≡◌, ℕ, ◌+◌, ◌<◌, List, Bool, true, false, not, ◌&&◌, ◌||◌, Option, Some, None, map, find, length, slice_index, nat_lt, is_some, unwrap_or}
+use Rattle.std.specs.Prelude.{ℕ, ◌+◌, List, Bool, not, ◌&&◌, ◌||◌, Option, Some, None, map, find, length, slice_index, nat_lt, is_some, unwrap_or}
 use Rattle.ccsl_base.specs.Clocks.{ticks_in}
 use Rattle.ccsl_base.specs.declared.rows.Row.{Row}
 use Rattle.ccsl_formula.specs.Formula.{same}
@@ -45,11 +45,3 @@ verdict_at K bound rows (Some n) = Violated n (slice_index (map (λ row. row.tim
 -- the least pair of a step and an item that is violated there, with the row's time; or a run
 abbrev pub verdict : System → List ℕ → List Row → Verdict
 verdict K bound rows = verdict_at K bound rows (first_step K bound rows)
-
--- the least step s at which an item is violated, and the least item i that is violated there
-pub record IsFirstViolation (K : System) (bound : List ℕ) (rows : List Row) (s i : ℕ) : Type 0 where
-  pub step : s < length rows
-  pub item : i < item_count K
-  pub violated : is_violated K bound rows s i ≡ true
-  pub earlier : (n j : ℕ) → n < s → j < item_count K → is_violated K bound rows n j ≡ false
-  pub lower : (j : ℕ) → j < i → is_violated K bound rows s j ≡ false

@@ -1,7 +1,8 @@
 //! The places of calls in a body.
 
 ghost use Rattle.std.specs.Prelude.{◌≡◌};
-ghost use Rattle.ccsl_kernel.specs.Guarded.{guarded, right_of};
+ghost use Rattle.ccsl_kernel.specs.Guarded.{right_of};
+ghost use Rattle.ccsl_kernel.specs.Positions.{guarded};
 
 use crate::expr::ExprOp;
 

@@ -6,7 +6,7 @@ use Rattle.std.proofs.lemmas.Bool.{leb-true, leb-false}
 use Rattle.std.proofs.lemmas.Bool.Decides.{eqb_tells}
 use Rattle.ccsl_base.specs.declared.limits.TheConstants.{MAX_NAME_BYTES, MAX_NUMBER}
 use Rattle.ccsl_base.specs.Decimal.{decimal_value}
-use Rattle.ccsl_base.specs.Name.{is_letter, is_digit, is_inner}
+use Rattle.ccsl_base.specs.Letters.{is_letter, is_digit, is_inner}
 use Rattle.ccsl_base.specs.declared.reserved.Reserved.{Reserved}
 use Rattle.ccsl_lex.specs.declared.token.TokenKind.{TokenKind}
 use Rattle.ccsl_lex.specs.declared.fault.LexFault.{LexFault}

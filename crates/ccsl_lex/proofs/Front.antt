@@ -9,7 +9,8 @@ use Rattle.std.proofs.lemmas.Bool.{le-leb, lt-leb}
 use Rattle.std.proofs.lemmas.Bool.Decides.{eqb_tells}
 use Rattle.ccsl_base.specs.declared.limits.TheConstants.{MAX_NAME_BYTES, MAX_NUMBER}
 use Rattle.ccsl_base.specs.Decimal.{are_digits, decimal_value}
-use Rattle.ccsl_base.specs.Name.{is_letter, is_digit, is_inner, is_name, is_word}
+use Rattle.ccsl_base.specs.Name.{is_name, is_word}
+use Rattle.ccsl_base.specs.Letters.{is_letter, is_digit, is_inner}
 use Rattle.ccsl_base.specs.declared.reserved.Reserved.{Reserved}
 use Rattle.ccsl_lex.specs.declared.token.TokenKind.{TokenKind}
 use Rattle.ccsl_lex.specs.declared.token.TokenKind.TheVariants.{Name, Num, Quoted, Word, Symbol}

@@ -4,7 +4,7 @@ use Rattle.std.specs.Prelude.{nat_eq, ◌⊎◌}
 use Rattle.std.specs.List.{list_all, flat_map}
 use Rattle.std.proofs.lemmas.List.{append-nil}
 use Rattle.std.proofs.lemmas.List.Folds.{list_all-append}
-use Rattle.ccsl_base.specs.Name.{is_letter, is_digit, is_inner}
+use Rattle.ccsl_base.specs.Letters.{is_letter, is_digit, is_inner}
 use Rattle.ccsl_lex.specs.declared.fault.LexFault.{LexFault}
 use Rattle.ccsl_lex.specs.declared.fault.LexFault.TheVariants.{BadByte, NameTooLong, NumberTooLarge, OpenText, Memory}
 use Rattle.ccsl_base.specs.Quoted.{is_quotable}

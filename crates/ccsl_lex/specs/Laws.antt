@@ -1,7 +1,7 @@
 -- What is true of the tokens and the faults of every text.
 use Rattle.std.specs.Prelude.{◌≡◌, ℕ, ◌+◌, ◌≤◌, ◌⊎◌, Bool, true, false, List, [], ◌∷◌, ◌++◌, length}
 use Rattle.std.specs.List.{list_all, flat_map}
-use Rattle.ccsl_base.specs.Name.{is_digit}
+use Rattle.ccsl_base.specs.Letters.{is_digit}
 use Rattle.ccsl_base.specs.Decimal.{decimal_value}
 use Rattle.ccsl_lex.specs.declared.token.TokenKind.{TokenKind}
 use Rattle.ccsl_lex.specs.declared.token.TokenKind.TheVariants.{Name, Num, Quoted, Word, Symbol}

@@ -4,3 +4,4 @@ pub mod Runs
 pub mod Laws
 pub mod Found
 pub use Rattle.ccsl_base.specs.Name
+pub use Rattle.ccsl_base.specs.Letters

@@ -1,6 +1,6 @@
 -- Runs of bytes of one kind.
 use Rattle.std.specs.Prelude.{ℕ, Bool}
-use Rattle.ccsl_base.specs.Name.{is_digit, is_inner}
+use Rattle.ccsl_base.specs.Letters.{is_digit, is_inner}
 use Rattle.ccsl_lex.specs.declared.run.Run.{Run}
 use Rattle.ccsl_lex.specs.declared.run.Run.TheVariants.{Inner, Digits, Remark, Quotable}
 use Rattle.ccsl_base.specs.Quoted.{is_quotable}

@@ -5,7 +5,7 @@
 use Rattle.std.specs.Prelude.{◌≡◌, ℕ, ◌+◌, Bool, true, false, ◌&&◌, ◌||◌, not, List, [], ◌∷◌, ◌++◌, length, Option, Some, None, nat_eq, nat_le, codes}
 use Rattle.std.specs.List.{list_all, list_any, flat_map}
 use Rattle.ccsl_base.specs.declared.limits.TheConstants.{MAX_NAME_BYTES, MAX_NUMBER}
-use Rattle.ccsl_base.specs.Name.{is_letter, is_digit, is_inner}
+use Rattle.ccsl_base.specs.Letters.{is_letter, is_digit, is_inner}
 use Rattle.ccsl_base.specs.Decimal.{decimal_value}
 use Rattle.ccsl_base.specs.declared.reserved.Reserved.{Reserved}
 use Rattle.ccsl_lex.specs.declared.token.TokenKind.{TokenKind}
@@ -60,12 +60,10 @@ is_piece (mark b) = is_mark b
 
 -- .. and which byte behind it would still belong to it
 abbrev pub goes_on : Piece → ℕ → Bool
-goes_on (blank b) = λ next. false
 goes_on (comment bytes) = is_remark
 goes_on (letters bytes) = is_inner
 goes_on (digits bytes) = is_digit
-goes_on (quoted bytes) = λ next. false
-goes_on (mark b) = λ next. false
+goes_on _ = λ next. false
 
 -- the piece p stands in front of rest, and is as long as possible
 pub record Stands (p : Piece) (rest : List ℕ) : Type 0 where

@@ -1,7 +1,7 @@
 //! The piece in front of a text: a token, a comment or a byte of white space.
 
 ghost use Rattle.std.specs.Prelude.{◌≡◌, ◌<◌, ◌∷◌, true, length, IfOk, IfErr};
-ghost use Rattle.ccsl_base.specs.Name.{is_digit, is_letter};
+ghost use Rattle.ccsl_base.specs.Letters.{is_digit, is_letter};
 ghost use Rattle.ccsl_lex.specs.Tokens.{starts};
 ghost use Rattle.ccsl_lex.specs.Found.{Found, BeginsFault};
 

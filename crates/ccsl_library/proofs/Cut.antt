@@ -2,7 +2,7 @@
 use Rattle.std.proofs.Common.{◌≡◌, ℕ, zero, suc, List, [], ◌∷◌, append-nil, length, drop, Bool, true, false, not, ◌&&◌, flat_map, refl, ap, ◌∙◌, if◌then◌else◌}
 use Rattle.std.specs.List.{take_while}
 use Rattle.std.proofs.lemmas.Bool.{and_parts}
-use Rattle.ccsl_base.specs.Name.{is_letter, is_digit, is_inner}
+use Rattle.ccsl_base.specs.Letters.{is_letter, is_digit, is_inner}
 use Rattle.ccsl_lex.specs.Tokens.{Piece, blank, letters, digits, mark, text_of, is_white, is_piece, goes_on, starts, AreCut}
 
 -- what stands in front of a text without comments and quotes

@@ -21,7 +21,8 @@ use Rattle.ccsl_rules.specs.Expansion.{expand}
 use Rattle.ccsl_rules.specs.Spaces.{Role, relation, member, look, calls_space}
 use Rattle.ccsl_accepts.specs.Acceptance.{IsFile}
 use Rattle.ccsl_library.specs.Library.{the_library}
-use Rattle.ccsl_library.specs.Members.{periodic, skip, filter_by, library_groups}
+use Rattle.ccsl_library.specs.Members.{periodic, filter_by, library_groups}
+use Rattle.ccsl_library.specs.Skip.{skip}
 
 -- the text has tokens, and these have the tree, in which no expression stands too deep
 pub record HasTree (text : List ℕ) (f : PlainFile) : Type 0 where

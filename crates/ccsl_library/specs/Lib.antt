@@ -1,3 +1,4 @@
 pub mod Library
 pub mod Members
+pub mod Skip
 pub mod Laws

@@ -17,9 +17,6 @@ use Rattle.ccsl_kernel.specs.Syntax.{Expression, EName, ECall, ENever, EBinary, 
 abbrev pub periodic : Place → NumTerm → Expression
 periodic c n = ECall 0 0 (value.Clock c ∷ value.Number n ∷ [])
 
-abbrev pub skip : Place → NumTerm → Expression
-skip c n = ECall 1 0 (value.Clock c ∷ value.Number n ∷ [])
-
 abbrev pub filter_by : Place → WordPlace → Expression
 filter_by c w = ECall 2 0 (value.Clock c ∷ value.Word w ∷ [])
 

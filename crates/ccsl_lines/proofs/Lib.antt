@@ -5,3 +5,4 @@ pub mod Parts
 pub mod Taken
 pub mod Going
 pub mod Reading
+pub mod Searching

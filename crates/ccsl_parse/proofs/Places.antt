@@ -11,7 +11,8 @@ use Rattle.ccsl_ast.specs.Files.{plain_file}
 use Rattle.ccsl_grammar.specs.Terminals.{Terminal, terminal, terminals}
 use Rattle.ccsl_grammar.specs.Reader.{Reply, took, stopped, no_syntax, too_deep}
 use Rattle.ccsl_grammar.specs.Parser.{file_at}
-use Rattle.ccsl_grammar.specs.File.{Parses, Verdict}
+use Rattle.ccsl_grammar.specs.File.{Parses}
+use Rattle.ccsl_grammar.specs.Verdict.{Verdict}
 use Rattle.ccsl_grammar.specs.Faults.{last_end, place, SyntaxAt, TooDeepAt}
 use Rattle.ccsl_grammar.proofs.Verdict.{reader_is_right, one_verdict}
 use Rattle.ccsl_parse.specs.declared.fault.ParseFault.{ParseFault}

@@ -1,7 +1,9 @@
 //! Definitions of relations and of groups of expressions.
 
-ghost use Rattle.ccsl_ast.specs.Trees.{PlainMember, PlainDefinition, plain_member, plain_definition};
-ghost use Rattle.ccsl_grammar.specs.Terminals.{terminals, is_word};
+ghost use Rattle.ccsl_ast.specs.Trees.{PlainMember, PlainDefinition};
+ghost use Rattle.ccsl_ast.specs.Plain.{plain_member, plain_definition};
+ghost use Rattle.ccsl_grammar.specs.Terminals.{terminals};
+ghost use Rattle.ccsl_grammar.specs.Kinds.{is_word};
 ghost use Rattle.ccsl_grammar.specs.Reader.{took};
 ghost use Rattle.ccsl_grammar.specs.Parser.{relation_at, member_at, further_member_at, group_at, definition_at, is_definition};
 ghost use Rattle.ccsl_base.specs.declared.reserved.Reserved.TheVariants as w;

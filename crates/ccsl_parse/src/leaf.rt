@@ -1,7 +1,8 @@
 //! Readers of one token.
 
 ghost use Rattle.std.specs.Prelude.{◌≡◌, true, IfOk};
-ghost use Rattle.ccsl_grammar.specs.Terminals.{terminal, terminals, is_word, is_symbol, is_name, is_quoted};
+ghost use Rattle.ccsl_grammar.specs.Terminals.{terminal, terminals};
+ghost use Rattle.ccsl_grammar.specs.Kinds.{is_word, is_symbol, is_name, is_quoted};
 ghost use Rattle.ccsl_grammar.specs.Reader.{took, begins};
 ghost use Rattle.ccsl_grammar.specs.Parser.{goes_on_by, word_at, symbol_at, name_at, num_at, quoted_at};
 ghost use Rattle.ccsl_parse.specs.Reads.{Reads, ReadsAs, ReadsWhere, Passes, Skips};

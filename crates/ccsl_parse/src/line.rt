@@ -1,7 +1,8 @@
 //! The lines of relations and of the system.
 
 ghost use Rattle.std.specs.Prelude.{◌≡◌};
-ghost use Rattle.ccsl_ast.specs.Trees.{Line, SLine, plain_line, plain_sline};
+ghost use Rattle.ccsl_ast.specs.Trees.{Line, SLine};
+ghost use Rattle.ccsl_ast.specs.Plain.{plain_line, plain_sline};
 ghost use Rattle.ccsl_grammar.specs.Terminals.{terminals};
 ghost use Rattle.ccsl_grammar.specs.Reader.{took, begins};
 ghost use Rattle.ccsl_grammar.specs.Parser.{define_at, call_at, constraint_at, rline_at, clocks_at, sline_at, no_brace};

@@ -1,7 +1,8 @@
 //! Lists with commas.
 
 ghost use Rattle.std.specs.Prelude.{◌≡◌};
-ghost use Rattle.ccsl_grammar.specs.Terminals.{terminals, is_symbol};
+ghost use Rattle.ccsl_grammar.specs.Terminals.{terminals};
+ghost use Rattle.ccsl_grammar.specs.Kinds.{is_symbol};
 ghost use Rattle.ccsl_grammar.specs.Reader.{took, many};
 ghost use Rattle.ccsl_grammar.specs.Loop.{behind};
 ghost use Rattle.ccsl_grammar.specs.Parser.{further_at, list_at};

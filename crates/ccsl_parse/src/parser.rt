@@ -1,7 +1,8 @@
 //! The parser.
 
 ghost use Rattle.std.specs.Prelude.{◌≡◌, ◌⊎◌, ◌-◌, ◌≤◌, ℕ, [], Err, length, map, take, drop, IfOk, IfErr, IsOkAnd};
-ghost use Rattle.ccsl_ast.specs.Trees.{PlainFile, plain_sline, plain_parts};
+ghost use Rattle.ccsl_ast.specs.Trees.{PlainFile};
+ghost use Rattle.ccsl_ast.specs.Plain.{plain_sline, plain_parts};
 ghost use Rattle.ccsl_ast.specs.Files.{plain_file};
 ghost use Rattle.ccsl_grammar.specs.Terminals.{terminals};
 ghost use Rattle.ccsl_grammar.specs.Reader.{took, accept};

@@ -8,3 +8,4 @@ pub mod Repeating
 pub mod Plain
 pub mod Examples
 pub mod Alone
+pub mod Existing

@@ -5,7 +5,8 @@ use Rattle.std.proofs.lemmas.Bool.{cases_lt}
 use Rattle.std.proofs.Math.Nat.{mul-le-mul_left}
 use Rattle.ccsl_words.specs.Word.{BinaryWord, letter, is_finite, word_len}
 use Rattle.ccsl_words.proofs.Letters.{letter_turn, infinite_len}
-use Rattle.ccsl_periodic.specs.Canonical.{RepeatsFrom, Spells, IsCanonical}
+use Rattle.ccsl_periodic.specs.Canonical.{Spells, IsCanonical}
+use Rattle.ccsl_periodic.specs.Repeats.{RepeatsFrom}
 use Rattle.ccsl_periodic.specs.Ones.{period_ones}
 use Rattle.ccsl_periodic.proofs.Counts.{repeats-period}
 use Rattle.ccsl_periodic.proofs.Spelled.{spelled, prefix-spelled, period-spelled, infinite-spelled, letter-spelled}

@@ -6,7 +6,8 @@ use Rattle.std.proofs.lemmas.Bool.{cases_lt}
 use Rattle.std.proofs.lemmas.List.{ext_get_or, length-take, length-drop, get_or-take, get_or-drop}
 use Rattle.std.proofs.lemmas.List.FromFn.{length-map-range_with_len, get_or-map-range_with_len, take-map-range_with_len, fill_by_all}
 use Rattle.std.proofs.Math.Nat.{mod-eq_of_lt}
-use Rattle.ccsl_words.specs.Word.{BinaryWord, letter, is_finite, is_empty, word_len}
+use Rattle.ccsl_words.specs.Word.{BinaryWord, letter, is_finite, word_len}
+use Rattle.ccsl_base.specs.Empty.{is_empty}
 use Rattle.ccsl_words.proofs.Letters.{past_infinite}
 
 -- the first values of a function

@@ -1,10 +1,6 @@
 -- THE CANONICAL SPELLING of an infinite word: of all that have its letters, the one with the shortest period, and among these the shortest prefix.
-use Rattle.std.specs.Prelude.{◌≡◌, ℕ, ◌+◌, ◌≤◌, length, false}
+use Rattle.std.specs.Prelude.{◌≡◌, ℕ, ◌≤◌, length, false}
 use Rattle.ccsl_words.specs.Word.{BinaryWord, letter, is_finite}
-
--- from place p on, the letters come again after q
-abbrev pub RepeatsFrom : BinaryWord → ℕ → ℕ → Type 0
-RepeatsFrom w p q = (k : ℕ) → p ≤ k → letter w (k + q) ≡ letter w k
 
 -- an infinite word with the letters of w
 pub record Spells (x w : BinaryWord) : Type 0 where

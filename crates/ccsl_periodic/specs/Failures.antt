@@ -1,8 +1,5 @@
 -- WHERE A RELATION FAILS BETWEEN TWO FILTERS OF ONE CLOCK: at the first tick of that clock at which the relation of CCSL (MARTE, Annex C;
 -- INRIA RR-6925) is broken. Ticks are counted from 0; the filters have the infinite words u and v.
---     fails_at      whether the relation fails at the tick number k
---     IsFirstFailure      k is the least such tick
---     NeverFails      there is none
 use Rattle.std.specs.Prelude.{◌≡◌, ℕ, ◌<◌, Bool, true, false, not, ◌&&◌, nat_eq}
 use Rattle.ccsl_words.specs.Word.{BinaryWord, letter}
 use Rattle.ccsl_periodic.specs.declared.between.Between.{Between}
@@ -15,6 +12,7 @@ fails_where Precedes left right as_often = right && as_often
 fails_where Subclock left right as_often = left && not right
 fails_where Excludes left right as_often = left && right
 
+-- whether it fails at the tick number k
 abbrev pub fails_at : Between → BinaryWord → BinaryWord → ℕ → Bool
 fails_at relation u v k = fails_where relation (letter u k) (letter v k) (nat_eq (ones u k) (ones v k))
 

@@ -1,13 +1,7 @@
 -- THE WORD u on v, which filters what u lets through by v (affine and n-synchronous clocks: Cohen and others, POPL 2006), of infinite words.
---     on_letter      its letter number k
---     IsOn      w has these letters
---     IsPlainLength      how many letters prefix and period have where they are read off u and v
-use Rattle.std.specs.Prelude.{◌≡◌, ℕ, zero, suc, ◌+◌, ◌*◌, ◌/◌, ◌<◌, ◌≤◌, length, Bool, false, ◌&&◌}
+use Rattle.std.specs.Prelude.{◌≡◌, ℕ, zero, suc, ◌+◌, ◌*◌, ◌/◌, ◌≤◌, length, Bool, false, ◌&&◌}
 use Rattle.std.specs.Int.{IsGcd}
-use Rattle.ccsl_base.specs.declared.limits.TheConstants.{MAX_LETTERS}
 use Rattle.ccsl_words.specs.Word.{BinaryWord, letter, is_finite}
-use Rattle.ccsl_periodic.specs.declared.filtered.OnFault.{OnFault}
-use Rattle.ccsl_periodic.specs.declared.filtered.OnFault.TheVariants as fault
 use Rattle.ccsl_periodic.specs.Ones.{ones, period_ones}
 
 -- u has a 1 there, and so has v at the place that counts the ones of u before it
@@ -37,10 +31,6 @@ IsShapeBy (suc n) u v p q = IsBehindBoth u v p × IsCommonTurn u v q
 abbrev pub IsPlainShape : BinaryWord → BinaryWord → ℕ → ℕ → Type 0
 IsPlainShape u v p q = IsShapeBy (period_ones u) u v p q
 
+-- how many letters prefix and period have together
 abbrev pub IsPlainLength : BinaryWord → BinaryWord → ℕ → Type 0
 IsPlainLength u v n = (p q : ℕ) × IsPlainShape u v p q × (n ≡ p + q)
-
--- why there is no word: its plain spelling is too long; want of memory is no such cause
-abbrev pub IsCauseOf : BinaryWord → BinaryWord → OnFault → Type 0
-IsCauseOf u v (fault.TooLong n) = IsPlainLength u v n × (MAX_LETTERS < n)
-IsCauseOf u v fault.Memory = Unit {0}

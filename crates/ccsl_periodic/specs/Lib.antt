@@ -1,7 +1,9 @@
 pub mod Ones
 pub mod Failures
 pub mod Filtered
+pub mod Causes
 pub mod Canonical
+pub mod Repeats
 pub mod Turns
 pub mod Filters
 pub mod Laws

@@ -4,7 +4,8 @@ ghost use Rattle.std.specs.Prelude.{◌≡◌, ◌+◌, ◌*◌, ◌<◌, ◌≤
 ghost use Rattle.std.specs.List.{range_with_len};
 ghost use Rattle.ccsl_words.specs.Word.{is_finite, word_len};
 ghost use Rattle.ccsl_periodic.specs.Ones.{ones, period_ones};
-ghost use Rattle.ccsl_periodic.specs.Filtered.{on_letter, IsOn, IsBehindBoth, IsPlainShape, IsPlainLength, IsCauseOf};
+ghost use Rattle.ccsl_periodic.specs.Filtered.{on_letter, IsOn, IsBehindBoth, IsPlainShape, IsPlainLength};
+ghost use Rattle.ccsl_periodic.specs.Causes.{IsCauseOf};
 ghost use Rattle.ccsl_periodic.specs.Filters.{FiltersCompose};
 
 use crate::divisor::greatest_divisor;

@@ -6,7 +6,7 @@ ghost use Rattle.ccsl_periodic.specs.declared.between.Between.{Between};
 ghost use Rattle.ccsl_periodic.specs.Failures.{IsFirstFailure, NeverFails};
 ghost use Rattle.ccsl_periodic.specs.Filtered.{IsOn};
 ghost use Rattle.ccsl_periodic.specs.Filters.{FiltersAreRelated, FiltersCompose};
-ghost use Rattle.ccsl_periodic.specs.Laws.{CanonicalWordsAreOne, PlainLengthsAreOne};
+ghost use Rattle.ccsl_periodic.specs.Laws.{CanonicalWordsAreOne, PlainLengthsAreOne, CanonicalWordsExist, RelationsAreDecided, WordsOnWordsExist};
 
 /// Between two filters of a clock the formula of a relation holds at each step before the tick of that clock at which their
 /// words first fail, and fails at that tick; where they never fail it holds at each step.
@@ -30,4 +30,19 @@ pub fn canonical_words_are_one()
 /// The spelling that is read off two words has one length.
 pub fn plain_lengths_are_one()
     ensures { PlainLengthsAreOne }
+{}
+
+/// Each infinite word has a canonical spelling.
+pub fn canonical_words_exist()
+    ensures { CanonicalWordsExist }
+{}
+
+/// Between two infinite words a relation never fails, or has a first failure.
+pub fn relations_are_decided()
+    ensures { RelationsAreDecided }
+{}
+
+/// One infinite word on another has a plain length, and is a word.
+pub fn words_on_words_exist()
+    ensures { WordsOnWordsExist }
 {}

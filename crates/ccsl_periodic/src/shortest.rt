@@ -2,7 +2,8 @@
 
 ghost use Rattle.std.specs.Prelude.{◌≡◌, ◌+◌, ◌<◌, ◌≤◌, ◌↔◌, ℕ, IsTrue, false, length, IfOk};
 ghost use Rattle.ccsl_words.specs.Word.{is_finite, letter};
-ghost use Rattle.ccsl_periodic.specs.Canonical.{IsCanonical, RepeatsFrom};
+ghost use Rattle.ccsl_periodic.specs.Canonical.{IsCanonical};
+ghost use Rattle.ccsl_periodic.specs.Repeats.{RepeatsFrom};
 
 use crate::letters::period_len;
 use crate::text::{first_letters, prefix_len, word_of};

@@ -2,7 +2,8 @@
 use Rattle.std.proofs.Common.{◌≡◌, ℕ, zero, suc, ◌+◌, List, [], ◌∷◌, ◌++◌, refl, sym, ap, ◌∙◌, subst, add-suc}
 use Rattle.rand_pcg.specs.Lcg.{Lcg, next, advance, next_state, state_after}
 use Rattle.rand_pcg.specs.Pcg.{multiplier_64, output_xsh_rr, pcg32}
-use Rattle.ccsl_policy.specs.Words.{seeded, word_at, words_from, StandsFor}
+use Rattle.ccsl_policy.specs.Words.{seeded, word_at, words_from}
+use Rattle.ccsl_policy.specs.Generator.{StandsFor}
 
 after-suc : (w m p n s : ℕ) → state_after w m p (suc n) s ≡ next_state w m p (state_after w m p n s)
 unfolding state_after

@@ -18,7 +18,8 @@ use Rattle.ccsl_refute.specs.Below.{AreBelow}
 use Rattle.ccsl_solve.specs.Better.{is_better}
 use Rattle.ccsl_solve.specs.Answers.{IsBestStep}
 use Rattle.ccsl_policy.specs.declared.policies.Policy.{Policy}
-use Rattle.ccsl_policy.specs.Priority.{word_of, comes_before, preferred, IsBetter}
+use Rattle.ccsl_policy.specs.Priority.{word_of, comes_before, preferred}
+use Rattle.ccsl_policy.specs.Better.{IsBetter}
 use Rattle.ccsl_policy.specs.Chosen.{IsChosen}
 use Rattle.ccsl_policy.specs.Ranks.{IsRank, IsRanked, wish}
 use Rattle.ccsl_policy.proofs.Order.{is-before}

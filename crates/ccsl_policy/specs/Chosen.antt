@@ -10,7 +10,7 @@ use Rattle.ccsl_refute.specs.Meaning.{Solves}
 use Rattle.ccsl_policy.specs.declared.policies.Policy.{Policy}
 use Rattle.ccsl_policy.specs.declared.choice.Choice.{Choice}
 use Rattle.ccsl_policy.specs.declared.choice.Choice.TheVariants.{Step, Deadlock}
-use Rattle.ccsl_policy.specs.Priority.{IsBetter}
+use Rattle.ccsl_policy.specs.Better.{IsBetter}
 
 -- s has a declared member and named ones only, satisfies all formulas, and no set that has a declared member and satisfies them is better
 pub record IsChosen (scope : Scope) (formulas : List Formula) (policy : Policy) (words : List ℕ) (s : List ℕ) : Type 0 where

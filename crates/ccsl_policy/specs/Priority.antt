@@ -1,6 +1,5 @@
 -- How the words of a step order the declared clocks, and which value each policy prefers. This project's own.
-use Rattle.std.specs.Prelude.{ℕ, List, Bool, true, false, not, ◌&&◌, ◌||◌, ◌≡◌, ◌<◌, ◌%◌, nat_eq, nat_lt, slice_index}
-use Rattle.ccsl_formula.specs.Truth.{Assignment}
+use Rattle.std.specs.Prelude.{ℕ, List, Bool, true, false, ◌&&◌, ◌||◌, ◌%◌, nat_eq, nat_lt, slice_index}
 use Rattle.ccsl_policy.specs.declared.policies.Policy.{Policy}
 use Rattle.ccsl_policy.specs.declared.policies.Policy.TheVariants.{Min, Max, Seeded}
 
@@ -17,11 +16,3 @@ abbrev pub preferred : Policy → ℕ → Bool
 preferred Min word = false
 preferred Max word = true
 preferred Seeded word = nat_eq (word % 2) 1
-
--- s is better than t: at the first of m clocks by priority at which they differ it has the preferred value
-pub record IsBetter (m : ℕ) (policy : Policy) (words : List ℕ) (s t : Assignment) : Type 0 where
-  pub clock : ℕ
-  pub declared : clock < m
-  pub differ : s clock ≡ not (t clock)
-  pub preferred : s clock ≡ preferred policy (word_of words clock)
-  pub before : (d : ℕ) → d < m → comes_before words d clock ≡ true → s d ≡ t d

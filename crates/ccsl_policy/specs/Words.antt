@@ -1,6 +1,6 @@
 -- The words of a seed: those of the generator PCG XSH RR 64/32 (M. E. O'Neill, PCG: A Family of Simple Fast Space-Efficient Statistically Good
 -- Algorithms for Random Number Generation, 2014) that the crate rand_pcg calls Lcg64Xsh32, on stream 54.
-use Rattle.std.specs.Prelude.{ℕ, zero, suc, List, [], ◌∷◌, ◌++◌, ◌+◌, ◌≡◌}
+use Rattle.std.specs.Prelude.{ℕ, zero, suc, List, [], ◌∷◌, ◌++◌, ◌+◌}
 use Rattle.rand_pcg.specs.Lcg.{Lcg, advance, started, increment_of}
 use Rattle.rand_pcg.specs.Pcg.{multiplier_64, output_xsh_rr}
 
@@ -16,7 +16,3 @@ word_at seed j = output_xsh_rr (advance 64 multiplier_64 j (seeded seed)).state
 abbrev pub words_from : ℕ → ℕ → ℕ → List ℕ
 words_from seed j zero = []
 words_from seed j (suc n) = words_from seed j n ++ word_at seed (j + n) ∷ []
-
--- a generator of which j words of a seed are taken
-abbrev pub StandsFor : Lcg → ℕ → ℕ → Type 0
-StandsFor g seed j = g ≡ advance 64 multiplier_64 j (seeded seed)

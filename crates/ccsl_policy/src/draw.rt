@@ -1,7 +1,8 @@
 //! The words of a seed.
 
 ghost use Rattle.std.specs.Prelude.{◌≡◌, ◌+◌, ℕ, IfOk, OnErr};
-ghost use Rattle.ccsl_policy.specs.Words.{words_from, StandsFor};
+ghost use Rattle.ccsl_policy.specs.Words.{words_from};
+ghost use Rattle.ccsl_policy.specs.Generator.{StandsFor};
 
 use ccsl_base::Memory;
 use rand_core::utils::NextWord;

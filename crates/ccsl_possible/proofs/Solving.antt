@@ -5,7 +5,8 @@ use Rattle.ccsl_base.specs.Clocks.{ticks_in, with_clock, is_ascending}
 use Rattle.ccsl_base.proofs.Sets.{ticks_in-with_same, ticks_in-with_other}
 use Rattle.ccsl_formula.specs.declared.scope.Scope.{Scope}
 use Rattle.ccsl_formula.specs.declared.truth3.Truth3.TheVariants.{Yes, Open}
-use Rattle.ccsl_formula.specs.Truth.{known_as, Part, Assignment, Agrees}
+use Rattle.ccsl_formula.specs.Truth.{known_as, Part, Assignment}
+use Rattle.ccsl_formula.specs.Agreement.{Agrees}
 use Rattle.ccsl_formula.specs.Formula.{Formula, in_set}
 use Rattle.ccsl_refute.specs.declared.line.Line.{Line}
 use Rattle.ccsl_solve.specs.Under.{IsInside}

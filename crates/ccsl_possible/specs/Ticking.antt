@@ -4,8 +4,8 @@ use Rattle.ccsl_base.specs.declared.limits.TheConstants.{MAX_CLOCKS}
 use Rattle.ccsl_base.specs.Clocks.{ticks_in, is_ascending}
 use Rattle.ccsl_formula.specs.declared.formula.Formula.{Formula as Boxed}
 use Rattle.ccsl_formula.specs.declared.scope.Scope.{Scope}
-use Rattle.ccsl_formula.specs.Truth.{Part}
-use Rattle.ccsl_formula.specs.Known.{known, with_value}
+use Rattle.ccsl_formula.specs.Truth.{Part, with_value}
+use Rattle.ccsl_formula.specs.Known.{known}
 use Rattle.ccsl_formula.specs.Formula.{Formula, in_set}
 use Rattle.ccsl_formula.specs.Plain.{plain}
 use Rattle.ccsl_refute.specs.Meaning.{Solves}

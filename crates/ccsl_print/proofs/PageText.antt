@@ -4,7 +4,8 @@ use Rattle.std.specs.Prelude.{nat_eq, if◌then◌else◌}
 use Rattle.std.specs.List.{flat_map}
 use Rattle.std.proofs.lemmas.List.{append-nil}
 use Rattle.ccsl_ast.specs.Trees.{PlainFile}
-use Rattle.ccsl_grammar.specs.Terminals.{Terminal, word, symbol, name, number, quoted, is_symbol}
+use Rattle.ccsl_grammar.specs.Terminals.{Terminal, word, symbol, name, number, quoted}
+use Rattle.ccsl_grammar.specs.Kinds.{is_symbol}
 use Rattle.ccsl_grammar.specs.Canonical.{TextLine, file_lines}
 use Rattle.ccsl_print.specs.declared.edge.Edge.TheVariants.{Start, Opening, Other}
 use Rattle.ccsl_print.specs.CanonicalText.{written, touches, laid, line_text, canonical_text}

@@ -12,12 +12,14 @@ use Rattle.std.proofs.lemmas.Str.Parse.{IsNumeralModel, numerals_by_fold}
 use Rattle.std.proofs.lemmas.Fmt.{IsAscii-decimal, decimal_nonempty, digits_decimal, digits_value-decimal}
 use Rattle.ccsl_base.specs.Decimal.{value_behind, decimal_value}
 use Rattle.ccsl_base.specs.declared.limits.TheConstants.{MAX_NAME_BYTES, MAX_NUMBER}
-use Rattle.ccsl_base.specs.Name.{is_letter, is_digit, is_inner, is_word as spells_word}
+use Rattle.ccsl_base.specs.Name.{is_word as spells_word}
+use Rattle.ccsl_base.specs.Letters.{is_letter, is_digit, is_inner}
 use Rattle.ccsl_base.specs.declared.reserved.Reserved.{Reserved}
 use Rattle.ccsl_base.specs.declared.reserved.Reserved.TheVariants as w
 use Rattle.ccsl_lex.specs.declared.token.TokenKind.{TokenKind}
 use Rattle.ccsl_lex.specs.declared.token.TokenKind.TheVariants as kind
-use Rattle.ccsl_base.specs.ReservedWords.{spelling, reserved, is_reserved}
+use Rattle.ccsl_base.specs.ReservedWords.{spelling, reserved}
+use Rattle.ccsl_base.specs.KeptWords.{is_reserved}
 use Rattle.ccsl_base.specs.Quoted.{is_quotable}
 use Rattle.ccsl_lex.specs.Tokens.{Piece, letters, digits, mark, text_of, starts, is_piece, is_mark, fits, kind_of, name_or_word}
 use Rattle.ccsl_lex.specs.Tokens as piece

@@ -5,7 +5,8 @@ use Rattle.std.proofs.lemmas.List.Folds.{flat_map-map}
 use Rattle.ccsl_ast.specs.declared.definition.Definition.{Definition}
 use Rattle.ccsl_ast.specs.declared.line.RelationLine.{RelationLine}
 use Rattle.ccsl_ast.specs.declared.line.SystemLine.{SystemLine}
-use Rattle.ccsl_ast.specs.Trees.{Expression, plain_line, plain_sline, plain_definition}
+use Rattle.ccsl_ast.specs.Trees.{Expression}
+use Rattle.ccsl_ast.specs.Plain.{plain_line, plain_sline, plain_definition}
 use Rattle.ccsl_ast.specs.Depth.{stands_in_parens}
 use Rattle.ccsl_grammar.specs.Terminals.{Terminal, number, quoted}
 use Rattle.ccsl_grammar.specs.Grammar.{opening, closing, right_brace}

@@ -6,7 +6,7 @@ use Rattle.std.proofs.lemmas.List.{append-nil, take_more}
 use Rattle.std.proofs.lemmas.List.Folds.{flat_map-map}
 use Rattle.std.proofs.lemmas.Grind.{flat_map-append}
 use Rattle.ccsl_ast.specs.declared.definition.Member.{Member}
-use Rattle.ccsl_ast.specs.Trees.{plain_member}
+use Rattle.ccsl_ast.specs.Plain.{plain_member}
 use Rattle.ccsl_grammar.specs.Terminals.{Terminal}
 use Rattle.ccsl_grammar.specs.Grammar.{further_spelled, list_spelled}
 use Rattle.ccsl_grammar.specs.Canonical.{TextLine, member_tokens, members_tokens, further_tokens}

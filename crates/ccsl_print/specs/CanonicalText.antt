@@ -4,7 +4,8 @@ use Rattle.std.specs.List.{flat_map}
 use Rattle.std.specs.Fmt.{decimal}
 use Rattle.ccsl_base.specs.ReservedWords.{spelling}
 use Rattle.ccsl_ast.specs.Trees.{PlainFile}
-use Rattle.ccsl_grammar.specs.Terminals.{Terminal, word, symbol, name, number, quoted, is_symbol, is_name}
+use Rattle.ccsl_grammar.specs.Terminals.{Terminal, word, symbol, name, number, quoted}
+use Rattle.ccsl_grammar.specs.Kinds.{is_symbol, is_name}
 use Rattle.ccsl_grammar.specs.Canonical.{TextLine, file_lines}
 
 -- how a token is written; a number has no leading zeros

@@ -2,7 +2,7 @@
 
 ghost use Rattle.std.specs.Prelude.{◌≡◌, ◌∷◌, ◌++◌, [], map, OnOk};
 ghost use Rattle.std.specs.List.{flat_map};
-ghost use Rattle.ccsl_ast.specs.Trees.{plain_member, plain_definition, plain_line};
+ghost use Rattle.ccsl_ast.specs.Plain.{plain_member, plain_definition, plain_line};
 ghost use Rattle.ccsl_grammar.specs.Terminals as t;
 ghost use Rattle.ccsl_grammar.specs.Grammar.{opening, closing, right_brace, kind_spelled, param_spelled, params_spelled};
 ghost use Rattle.ccsl_grammar.specs.Canonical.{outer, head_tokens, member_tokens, members_tokens, further_tokens, rline_tokens, body_lines, definition_lines};

@@ -1,7 +1,8 @@
 //! Expressions.
 
 ghost use Rattle.std.specs.Prelude.{◌≡◌, ◌∷◌, ◌++◌, [], OnOk};
-ghost use Rattle.ccsl_ast.specs.Trees.{plain, EIf};
+ghost use Rattle.ccsl_ast.specs.Trees.{EIf};
+ghost use Rattle.ccsl_ast.specs.Plain.{plain};
 ghost use Rattle.ccsl_grammar.specs.Terminals as t;
 ghost use Rattle.ccsl_grammar.specs.Grammar.{opening, closing, args_spelled, binop_spelled};
 ghost use Rattle.ccsl_grammar.specs.Canonical.{expr_tokens, operand_tokens};

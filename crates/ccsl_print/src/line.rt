@@ -1,7 +1,8 @@
 //! The lines of a system and of a relation's body.
 
 ghost use Rattle.std.specs.Prelude.{◌≡◌, ◌∷◌, ◌++◌, [], OnOk};
-ghost use Rattle.ccsl_ast.specs.Trees.{SClocks, plain_line, plain_sline};
+ghost use Rattle.ccsl_ast.specs.Trees.{SClocks};
+ghost use Rattle.ccsl_ast.specs.Plain.{plain_line, plain_sline};
 ghost use Rattle.ccsl_grammar.specs.Terminals as t;
 ghost use Rattle.ccsl_grammar.specs.Grammar.{relop_spelled, clock_spelled};
 ghost use Rattle.ccsl_grammar.specs.Canonical.{inner, rline_tokens, sline_tokens};

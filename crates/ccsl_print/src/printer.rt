@@ -1,7 +1,7 @@
 //! The canonical text of a file.
 
 ghost use Rattle.std.specs.Prelude.{◌≡◌, ◌∷◌, ◌++◌, [], map, OnOk, IfOk, string_bytes};
-ghost use Rattle.ccsl_ast.specs.Trees.{plain_sline};
+ghost use Rattle.ccsl_ast.specs.Plain.{plain_sline};
 ghost use Rattle.ccsl_ast.specs.Files.{plain_file};
 ghost use Rattle.ccsl_grammar.specs.Terminals as t;
 ghost use Rattle.ccsl_grammar.specs.Canonical.{outer, system_lines, file_lines};

@@ -6,7 +6,7 @@ use Rattle.ccsl_refute.specs.declared.line.Line.{Line}
 use Rattle.ccsl_refute.specs.Literals.{names, are_proper, positives}
 use Rattle.ccsl_refute.specs.declared.line.Line.TheVariants.{Nonempty, Item, Derived}
 use Rattle.std.specs.List.{All}
-use Rattle.ccsl_refute.specs.Writing.{literals}
+use Rattle.ccsl_refute.specs.LineLiterals.{literals}
 use Rattle.ccsl_refute.specs.Validity.{valid_from, clause, is_valid}
 use Rattle.ccsl_formula.specs.declared.scope.Scope.{Scope}
 use Rattle.ccsl_refute.specs.Below.{AreBelow, ClausesBelow}

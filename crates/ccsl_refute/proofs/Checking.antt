@@ -4,7 +4,8 @@ use Rattle.std.proofs.lemmas.List.{take_all, drop_all}
 use Rattle.std.proofs.lemmas.Bool.{ne_eqb}
 use Rattle.ccsl_refute.specs.declared.line.Lit.{Lit}
 use Rattle.ccsl_refute.specs.declared.line.Line.{Line}
-use Rattle.ccsl_refute.specs.Validity.{clause, ends_empty, is_empty, is_valid, bad_from, first_bad_line}
+use Rattle.ccsl_refute.specs.Validity.{clause, ends_empty, is_valid, bad_from, first_bad_line}
+use Rattle.ccsl_base.specs.Empty.{is_empty}
 use Rattle.ccsl_formula.specs.declared.scope.Scope.{Scope}
 use Rattle.ccsl_formula.specs.Formula.{Formula}
 

@@ -12,3 +12,4 @@ pub mod Lines
 pub mod Words
 pub mod ReadBack
 pub mod Written
+pub mod Existence

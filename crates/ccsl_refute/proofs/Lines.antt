@@ -6,7 +6,8 @@ use Rattle.std.specs.Str.Lines.{strip_carriage_return}
 use Rattle.std.proofs.lemmas.Bool.{cases_lt, lt-ltb, le-ltb}
 use Rattle.std.proofs.lemmas.List.{take_all, drop_all, drop-drop}
 use Rattle.std.proofs.lemmas.List.Splits.{slice_split_first, length-slice_split}
-use Rattle.ccsl_refute.specs.Text.{Piece, placed, is_line_feed, line_before, without_returns, lines_from, tokens}
+use Rattle.ccsl_refute.specs.Text.{Piece, placed, is_line_feed, without_returns, lines_from, tokens}
+use Rattle.ccsl_refute.specs.FirstLine.{line_before}
 use Rattle.ccsl_refute.specs.declared.fault.CertFault.{CertFault}
 use Rattle.ccsl_refute.specs.declared.line.Line.{Line}
 use Rattle.ccsl_refute.specs.Reading.{read_tokens, read_more, read_line, read_lines, reading}

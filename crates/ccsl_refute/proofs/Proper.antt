@@ -2,8 +2,8 @@
 use Rattle.std.proofs.Common.{◌≡◌, ℕ, zero, suc, ◌<◌, ◌≤◌, List, [], ◌∷◌, length, drop, get_or, true, false, cond, not, ◌&&◌, ◌||◌, nat_eq, nat_lt, refl, sym, ap, ◌∙◌}
 use Rattle.std.proofs.lemmas.Bool.{lt-ltb, le-ltb, and_right}
 use Rattle.ccsl_formula.specs.declared.truth3.Truth3.TheVariants.{Open}
-use Rattle.ccsl_formula.specs.Truth.{known_as, is_open, Part}
-use Rattle.ccsl_formula.specs.Known.{with_value}
+use Rattle.ccsl_formula.specs.Truth.{known_as, Part, with_value}
+use Rattle.ccsl_formula.specs.Agreement.{is_open}
 use Rattle.ccsl_refute.specs.declared.line.Lit.{Lit}
 use Rattle.ccsl_refute.specs.Literals.{falsified, names, are_proper}
 use Rattle.ccsl_refute.proofs.Lists.{drop-read}

@@ -11,7 +11,7 @@ use Rattle.std.proofs.lemmas.Str.Parse.{digit_from_value}
 use Rattle.std.proofs.lemmas.List.Elements.{All-head, All-tail}
 use Rattle.std.proofs.lemmas.List.Splits.{slice_split_at, length-slice_split}
 use Rattle.std.proofs.lemmas.Option.{slice_get-get_or, unwrap_or-slice_get}
-use Rattle.ccsl_base.specs.Name.{is_digit}
+use Rattle.ccsl_base.specs.Letters.{is_digit}
 use Rattle.ccsl_base.specs.Decimal.{value_behind, decimal_value, number_up_to}
 use Rattle.ccsl_base.specs.Names.{is_among, find_name, are_distinct}
 use Rattle.ccsl_base.proofs.Tables.{bytes_eq-true, bytes_eq-refl}
@@ -24,7 +24,8 @@ use Rattle.ccsl_base.specs.Name.{is_visible, is_cert_name, are_cert_names}
 use Rattle.ccsl_refute.specs.NumbersFit.{AllBelow, NumbersFit}
 use Rattle.ccsl_refute.specs.Text.{placed, is_line_feed, without_returns, lines_from, tokens}
 use Rattle.ccsl_refute.specs.Reading.{literal_of, literal, read_first, read_literals, read_numbers, before_from, after_from, read_hints, item_line, derived_line, read_tokens, read_more, read_line, read_lines}
-use Rattle.ccsl_refute.specs.Writing.{spaced, name_of, literal_text, line_text, lines_text, literals}
+use Rattle.ccsl_refute.specs.Writing.{spaced, name_of, literal_text, line_text, lines_text}
+use Rattle.ccsl_refute.specs.LineLiterals.{literals}
 use Rattle.ccsl_refute.proofs.Cases.{by_cases}
 use Rattle.ccsl_refute.proofs.Lines.{followed}
 use Rattle.ccsl_refute.proofs.Words.{is_word, are_words, tokens-spaced, line-clear, line-kept}

@@ -5,8 +5,8 @@ use Rattle.std.proofs.lemmas.Bool.Decides.{eqb_tells}
 use Rattle.ccsl_formula.specs.declared.truth3.Truth3.{Truth3}
 use Rattle.ccsl_formula.specs.declared.truth3.Truth3.TheVariants.{Yes, No, Open}
 use Rattle.ccsl_formula.specs.declared.scope.Scope.{Scope}
-use Rattle.ccsl_formula.specs.Truth.{known_as, not3, Part, Assignment, Agrees, Fits}
-use Rattle.ccsl_formula.specs.Known.{with_value}
+use Rattle.ccsl_formula.specs.Truth.{known_as, not3, Part, Assignment, with_value}
+use Rattle.ccsl_formula.specs.Agreement.{Agrees, Fits}
 use Rattle.ccsl_formula.specs.Formula.{Formula, truth, kleene, same}
 use Rattle.ccsl_formula.proofs.Kleene.{no_false}
 use Rattle.ccsl_formula.proofs.Tables.{not-fits}
@@ -14,8 +14,10 @@ use Rattle.ccsl_refute.specs.declared.line.Lit.{Lit}
 use Rattle.ccsl_refute.specs.Literals.{falsified, is_no, lit_value, all_false, unit, are_proper, positives}
 use Rattle.ccsl_refute.specs.declared.line.Line.{Line}
 use Rattle.ccsl_refute.specs.declared.line.Line.TheVariants.{Nonempty, Item, Derived}
-use Rattle.ccsl_refute.specs.Validity.{clause, fails_at, unit_at, fails_line, unit_line, closes, is_refuted, is_valid, is_empty, ends_empty, bad_from, first_bad_line, valid_from, are_valid}
-use Rattle.ccsl_refute.specs.Meaning.{holds, AllTrue, Solves, ClausesHold}
+use Rattle.ccsl_refute.specs.Validity.{clause, fails_at, unit_at, fails_line, unit_line, closes, is_refuted, is_valid, ends_empty, bad_from, first_bad_line, valid_from, are_valid}
+use Rattle.ccsl_base.specs.Empty.{is_empty}
+use Rattle.ccsl_refute.specs.Meaning.{AllTrue, Solves}
+use Rattle.ccsl_refute.specs.Clauses.{holds, ClausesHold}
 use Rattle.ccsl_refute.proofs.Cases.{not_both}
 use Rattle.ccsl_refute.proofs.Lists.{snoc-get}
 

@@ -2,10 +2,14 @@ pub mod Literals
 pub mod Validity
 pub mod Bad
 pub mod Meaning
+pub mod Clauses
 pub mod Answer
 pub mod Below
 pub mod Text
+pub mod FirstLine
 pub mod Reading
 pub mod Read
 pub mod Writing
+pub mod LineLiterals
 pub mod NumbersFit
+pub mod Existence

@@ -1,5 +1,5 @@
 -- The lines of a text, and the tokens of a line, each with its place in the text.
-use Rattle.std.specs.Prelude.{ℕ, suc, ◌+◌, List, [], ◌∷◌, Bool, true, false, ◌||◌, length, take, filter, nat_eq, nat_lt, if◌then◌else◌}
+use Rattle.std.specs.Prelude.{ℕ, suc, ◌+◌, List, [], ◌∷◌, Bool, true, false, ◌||◌, length, filter, nat_eq}
 use Rattle.std.specs.List.{slice_split}
 use Rattle.std.specs.Str.Lines.{strip_carriage_return}
 
@@ -18,10 +18,6 @@ is_line_feed b = nat_eq b 10
 -- a blank or a tab
 abbrev pub is_blank : ℕ → Bool
 is_blank b = nat_eq b 32 || nat_eq b 9
-
--- the line of n bytes that a text begins with: one that ends at a line feed loses the one carriage return before it
-abbrev pub line_before : ℕ → List ℕ → List ℕ
-line_before n text = if nat_lt n (length text) then strip_carriage_return (take n text) else take n text
 
 -- what ends at a line feed loses the one carriage return before it
 abbrev pub without_returns : List Piece → List Piece

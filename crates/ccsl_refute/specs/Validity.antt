@@ -1,8 +1,8 @@
 -- When the lines of a certificate are valid, against a list of formulas. Lines are numbered from 1. Nothing here knows of a solver.
 use Rattle.std.specs.Prelude.{ℕ, zero, suc, List, [], ◌∷◌, ◌++◌, Bool, true, false, ◌&&◌, Option, Some, None, if◌then◌else◌, length, slice_get}
+use Rattle.ccsl_base.specs.Empty.{is_empty}
 use Rattle.ccsl_formula.specs.declared.scope.Scope.{Scope}
-use Rattle.ccsl_formula.specs.Truth.{Part}
-use Rattle.ccsl_formula.specs.Known.{with_value}
+use Rattle.ccsl_formula.specs.Truth.{Part, with_value}
 use Rattle.ccsl_formula.specs.Formula.{Formula, kleene}
 use Rattle.ccsl_refute.specs.declared.line.Lit.{Lit}
 use Rattle.ccsl_refute.specs.declared.line.Line.{Line}
@@ -56,10 +56,6 @@ abbrev pub is_valid : Scope → List Formula → List Line → Line → Bool
 is_valid scope formulas earlier Nonempty = true
 is_valid scope formulas earlier (Item item lits) = are_proper scope.named lits && refutes_item formulas item lits
 is_valid scope formulas earlier (Derived lits hints) = are_proper scope.named lits && closes scope.declared earlier (falsified lits) hints
-
-abbrev pub is_empty : List Lit → Bool
-is_empty [] = true
-is_empty (l ∷ ls) = false
 
 -- whether there is a last line, and its clause is empty
 abbrev pub ends_empty : ℕ → List Line → Bool

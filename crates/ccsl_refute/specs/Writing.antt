@@ -22,9 +22,3 @@ line_text names (Derived lits hints) = codes "r" ++ spaced (map (literal_text na
 
 abbrev pub lines_text : List (List ℕ) → List Line → List ℕ
 lines_text names lines = flat_map (λ line. line_text names line ++ 10 ∷ []) lines
-
--- the literals that stand in a line
-abbrev pub literals : Line → List Lit
-literals Nonempty = []
-literals (Item item lits) = lits
-literals (Derived lits hints) = lits

@@ -10,10 +10,13 @@ ghost use Rattle.ccsl_base.specs.Name.{are_cert_names};
 ghost use Rattle.ccsl_refute.specs.NumbersFit.{NumbersFit};
 ghost use Rattle.ccsl_refute.specs.Below.{AreBelow};
 ghost use Rattle.ccsl_refute.specs.Reading.{reading};
-ghost use Rattle.ccsl_refute.specs.Writing.{lines_text, literals};
+ghost use Rattle.ccsl_refute.specs.Writing.{lines_text};
+ghost use Rattle.ccsl_refute.specs.LineLiterals.{literals};
 ghost use Rattle.ccsl_refute.specs.Bad.{IsFirstBad};
-ghost use Rattle.ccsl_refute.specs.Meaning.{Solves, ClausesHold, Blocks};
+ghost use Rattle.ccsl_refute.specs.Meaning.{Solves, Blocks};
+ghost use Rattle.ccsl_refute.specs.Clauses.{ClausesHold};
 ghost use Rattle.ccsl_refute.specs.Validity.{are_valid, is_certificate, first_bad_line};
+ghost use Rattle.ccsl_refute.specs.Existence.{UnsolvedHaveCertificates};
 
 /// The clauses of valid lines are true under all values with a declared member that satisfy the formulas.
 pub fn valid_lines_follow()
@@ -26,6 +29,11 @@ pub fn valid_lines_follow()
 pub fn certificates_block()
     ensures { (scope : Scope) (formulas : List Formula) (lines : List Line) →
         is_certificate scope formulas lines ≡ true → Blocks scope formulas }
+{}
+
+/// Where no set with a declared member satisfies some formulas over named clocks there is a certificate.
+pub fn unsolved_have_certificates()
+    ensures { UnsolvedHaveCertificates }
 {}
 
 /// Lines are a certificate exactly where none of them is bad, and the bad one that the checker names is the first.

@@ -5,7 +5,8 @@ ghost use Rattle.ccsl_base.specs.Name.{are_cert_names};
 ghost use Rattle.ccsl_refute.specs.NumbersFit.{AllBelow, NumbersFit};
 ghost use Rattle.ccsl_refute.specs.Reading.{reading};
 ghost use Rattle.ccsl_refute.specs.Below.{AreBelow};
-ghost use Rattle.ccsl_refute.specs.Writing.{spaced, literal_text, line_text, lines_text, literals};
+ghost use Rattle.ccsl_refute.specs.Writing.{spaced, literal_text, line_text, lines_text};
+ghost use Rattle.ccsl_refute.specs.LineLiterals.{literals};
 
 use crate::line::{Line, Lit};
 use ccsl_base::{Memory, Names};

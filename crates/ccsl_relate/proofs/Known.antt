@@ -13,7 +13,7 @@ use Rattle.ccsl_kernel.specs.Items.{relation_formula}
 use Rattle.ccsl_kernel.specs.Runs.{full_step, declared_part}
 use Rattle.ccsl_state.specs.Reach.{is_within}
 use Rattle.ccsl_state.specs.Part.{HeldPart}
-use Rattle.ccsl_state.proofs.PartLaws.{part_ticks}
+use Rattle.ccsl_state.proofs.PartMeans.{part_keeps}
 use Rattle.ccsl_relate.specs.declared.watched.Related.{Related}
 use Rattle.ccsl_relate.specs.declared.watched.Watched.{Watched}
 use Rattle.ccsl_relate.specs.declared.watched.Watched.TheVariants.{Nothing, Definition, Relation}
@@ -46,7 +46,7 @@ module _ (s t : Step) where
 -- what is known of a step tells the same of the clocks whose ticks are known
 same-known : (K : System) (T : List Step) (ticks : Step) (held : Option HeldPart) (x : ℕ) → is_known K held x ≡ true → ticks_in x (step_known K held T ticks) ≡ ticks_in x (full_step K T (declared_part K ticks))
 same-known K T ticks None x l = sym (declared-ticks K T ticks x (ltb-true x K.declared l))
-same-known K T ticks (Some p) x l = part_ticks (is_within p.system p.followed) (full_step K T (declared_part K ticks)) x l
+same-known K T ticks (Some p) x l = part_keeps (is_within p.system p.followed) (full_step K T (declared_part K ticks)) x l
 
 -- what is asked of the step that is known is what is asked of the whole step
 module _ (K : System) (T : List Step) (ticks : Step) (held : Option HeldPart) where

@@ -4,7 +4,8 @@ use Rattle.std.specs.Prelude.{codes, decimal}
 use Rattle.std.proofs.lemmas.Fmt.{length-decimal-le}
 use Rattle.ccsl_kernel.specs.declared.constraint.Constraint.{Constraint}
 use Rattle.ccsl_kernel.specs.Syntax.{System}
-use Rattle.ccsl_report.specs.Line.{joined, line}
+use Rattle.ccsl_report.specs.Line.{line}
+use Rattle.std.specs.List.{concat}
 use Rattle.ccsl_report.specs.Room.{longest, full_room, room}
 use Rattle.ccsl_report.specs.Texts.{clock_name, label_of, of_label, constraint_pieces, item_pieces, broken_pieces, run_yes_text, fault_at, time_back_text, clock_fault}
 
@@ -13,12 +14,12 @@ abbrev pub total : List (List ℕ) → ℕ
 total [] = 0
 total (p ∷ ps) = length p + total ps
 
-joined_len : (ps : List (List ℕ)) → length (joined ps) ≡ total ps
+joined_len : (ps : List (List ℕ)) → length (concat ps) ≡ total ps
 joined_len [] = refl
-joined_len (p ∷ ps) = length-append p (joined ps) ∙ ap (λ n. length p + n) (joined_len ps)
+joined_len (p ∷ ps) = length-append p (concat ps) ∙ ap (λ n. length p + n) (joined_len ps)
 
 pub line_len : (ps : List (List ℕ)) → length (line ps) ≡ total ps + 1
-line_len ps = length-append (joined ps) (10 ∷ []) ∙ ap (λ n. n + 1) (joined_len ps)
+line_len ps = length-append (concat ps) (10 ∷ []) ∙ ap (λ n. n + 1) (joined_len ps)
 
 pub number_short : (n : ℕ) → n < 2 ^ 64 → length (decimal n) ≤ 20
 number_short n h = let few : n < 10 ^ 20 = omega (arith, h) in let some : 0 < 20 = omega arith in length-decimal-le 20 n some few h

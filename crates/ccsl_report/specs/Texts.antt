@@ -70,8 +70,9 @@ abbrev pub broken_pieces : List ℕ → ℕ → ℕ → ℕ → System → List 
 broken_pieces what step time item K =
     what ∷ codes "no, step " ∷ decimal step ∷ codes ", time " ∷ decimal time ∷ codes ", " ∷ item_pieces K item
 
-abbrev pub run_no_text : ℕ → ℕ → ℕ → System → List ℕ
-run_no_text step time item K = line (broken_pieces (codes "run: ") step time item K)
+-- what was asked is `run: `, `certificate: ` or `explain: `
+abbrev pub broken_text : List ℕ → ℕ → ℕ → ℕ → System → List ℕ
+broken_text what step time item K = line (broken_pieces what step time item K)
 
 abbrev pub simulated_text : ℕ → List ℕ
 simulated_text steps = line (codes "simulate: done, " ∷ decimal steps ∷ codes " steps" ∷ [])
@@ -81,9 +82,6 @@ deadlocked_text steps = line (codes "simulate: deadlock after " ∷ decimal step
 
 abbrev pub cert_valid_text : ℕ → List ℕ
 cert_valid_text steps = line (codes "certificate: valid, " ∷ decimal steps ∷ codes " steps" ∷ [])
-
-abbrev pub cert_no_run_text : ℕ → ℕ → ℕ → System → List ℕ
-cert_no_run_text step time item K = line (broken_pieces (codes "certificate: ") step time item K)
 
 abbrev pub cert_no_line_text : ℕ → List ℕ
 cert_no_line_text number = line (codes "certificate: no, line " ∷ decimal number ∷ [])
@@ -112,9 +110,6 @@ periodic_word_text word = line (codes "periodic: " ∷ word ∷ [])
 abbrev pub periodic_long_text : ℕ → List ℕ
 periodic_long_text letters =
     line (codes "periodic: " ∷ decimal letters ∷ codes " letters, at most " ∷ decimal MAX_LETTERS ∷ [])
-
-abbrev pub explain_no_run_text : ℕ → ℕ → ℕ → System → List ℕ
-explain_no_run_text step time item K = line (broken_pieces (codes "explain: ") step time item K)
 
 abbrev pub explain_open_text : ℕ → List ℕ
 explain_open_text steps = line (codes "explain: not blocked after " ∷ decimal steps ∷ codes " steps" ∷ [])

@@ -1,8 +1,8 @@
 //! The answers of the commands; those of `periodic` and `explain` stand apart.
 
-ghost use Rattle.std.specs.Prelude.{◌≡◌, ◌<◌, IfOk};
+ghost use Rattle.std.specs.Prelude.{◌≡◌, ◌<◌, IfOk, codes};
 ghost use Rattle.ccsl_kernel.specs.Syntax.{item_count};
-ghost use Rattle.ccsl_report.specs.Texts.{checked_text, run_yes_text, run_no_text, simulated_text, deadlocked_text, cert_valid_text, cert_no_run_text, cert_no_line_text, trial_text, session_too_long_text};
+ghost use Rattle.ccsl_report.specs.Texts.{checked_text, run_yes_text, broken_text, simulated_text, deadlocked_text, cert_valid_text, cert_no_line_text, trial_text, session_too_long_text};
 
 use crate::item::broken_parts;
 use crate::line::Part::{Number, Text};
@@ -44,7 +44,7 @@ pub fn run_no(
     system: &System,
 ) -> Result<Vec<u8>, Memory>
     requires { item < item_count system.now }
-    ensures { IfOk result (λ text. text.items ≡ run_no_text step time item system.now) }
+    ensures { IfOk result (λ text. text.items ≡ broken_text (codes "run: ") step time item system.now) }
 {
     line(alloc, &broken_parts("run: ", step, time, item, system))
 }
@@ -92,7 +92,7 @@ pub fn cert_no_run(
     system: &System,
 ) -> Result<Vec<u8>, Memory>
     requires { item < item_count system.now }
-    ensures { IfOk result (λ text. text.items ≡ cert_no_run_text step time item system.now) }
+    ensures { IfOk result (λ text. text.items ≡ broken_text (codes "certificate: ") step time item system.now) }
 {
     line(
         alloc,

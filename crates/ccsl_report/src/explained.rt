@@ -1,11 +1,11 @@
 //! The answers of `explain`.
 
-ghost use Rattle.std.specs.Prelude.{◌≡◌, ◌<◌, ◌++◌, ℕ, true, OnOk, IfOk, length};
+ghost use Rattle.std.specs.Prelude.{◌≡◌, ◌<◌, ◌++◌, ℕ, true, OnOk, IfOk, length, codes};
 ghost use Rattle.ccsl_base.specs.Clocks.{ticks_in};
 ghost use Rattle.ccsl_kernel.specs.Syntax.{item_count};
-ghost use Rattle.ccsl_report.specs.Line.{joined};
+ghost use Rattle.std.specs.List.{concat};
 ghost use Rattle.ccsl_report.specs.Parts.{part_texts};
-ghost use Rattle.ccsl_report.specs.Texts.{explain_no_run_text, explain_open_text, explain_blocked_text, explain_member_text, parted};
+ghost use Rattle.ccsl_report.specs.Texts.{broken_text, explain_open_text, explain_blocked_text, explain_member_text, parted};
 
 use crate::item::{broken_parts, item_parts};
 use crate::line::Part::{Name, Number, Text};
@@ -23,7 +23,7 @@ pub fn explain_no_run(
     system: &System,
 ) -> Result<Vec<u8>, Memory>
     requires { item < item_count system.now }
-    ensures { IfOk result (λ text. text.items ≡ explain_no_run_text step time item system.now) }
+    ensures { IfOk result (λ text. text.items ≡ broken_text (codes "explain: ") step time item system.now) }
 {
     line(alloc, &broken_parts("explain: ", step, time, item, system))
 }
@@ -61,8 +61,8 @@ fn push_names<'a>(
     system: &'a System,
 ) -> Result<(), Memory>
     requires { (x : ℕ) → ticks_in x clocks.now ≡ true → x < length system.now.names }
-    ensures { OnOk result (joined (part_texts parts.new.items) ≡
-        joined (part_texts parts.old.items) ++ joined (parted system.now clocks.now)) }
+    ensures { OnOk result (concat (part_texts parts.new.items) ≡
+        concat (part_texts parts.old.items) ++ concat (parted system.now clocks.now)) }
 {
     let mut members = clocks.members();
     let Some(first) = members.next() else {

@@ -2,7 +2,8 @@
 
 ghost use Rattle.std.specs.Prelude.{◌≡◌, ◌<◌, ◌≤◌, ◌++◌, [], length};
 ghost use Rattle.ccsl_kernel.specs.Syntax.{item_count};
-ghost use Rattle.ccsl_report.specs.Line.{joined, line};
+ghost use Rattle.ccsl_report.specs.Line.{line};
+ghost use Rattle.std.specs.List.{concat};
 ghost use Rattle.ccsl_report.specs.Parts.{part_texts};
 ghost use Rattle.ccsl_report.specs.Room.{full_room};
 ghost use Rattle.ccsl_report.specs.Texts.{of_label, constraint_pieces, item_pieces, broken_pieces};
@@ -13,7 +14,7 @@ use ccsl_kernel::System;
 
 // What stands before a label. A constraint of the system itself has an empty one.
 fn of_word(label: &[u8]) -> &'static str
-    ensures { result.now ++ (label.now ++ []) ≡ joined (of_label label.now) }
+    ensures { result.now ++ (label.now ++ []) ≡ concat (of_label label.now) }
 {
     match label {
         [] => "",
@@ -23,7 +24,7 @@ fn of_word(label: &[u8]) -> &'static str
 
 fn constraint_parts(system: &System, number: u32) -> [Part<'_>; 4]
     requires { number < length system.now.constraints }
-    ensures { joined (part_texts result) ≡ joined (constraint_pieces system.now number) }
+    ensures { concat (part_texts result) ≡ concat (constraint_pieces system.now number) }
 {
     let label = system.constraint(number).label.bytes();
     [
@@ -37,7 +38,7 @@ fn constraint_parts(system: &System, number: u32) -> [Part<'_>; 4]
 /// The pieces of an item: a definition goes by its clock's name, a constraint by its number and its label.
 pub(crate) fn item_parts(system: &System, item: u32) -> [Part<'_>; 4]
     requires { item < item_count system.now }
-    ensures { joined (part_texts result) ≡ joined (item_pieces system.now item) }
+    ensures { concat (part_texts result) ≡ concat (item_pieces system.now item) }
 {
     if item < system.definitions() {
         let name = system.names().get(system.scope().declared + item);

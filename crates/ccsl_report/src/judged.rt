@@ -1,9 +1,9 @@
 //! The report of `judge`, for which memory is taken before the trace is read.
 
-ghost use Rattle.std.specs.Prelude.{◌≡◌, ◌+◌, ◌<◌, ◌≤◌, ◌++◌, map, max, vec_len, vec_capacity};
+ghost use Rattle.std.specs.Prelude.{◌≡◌, ◌+◌, ◌<◌, ◌≤◌, ◌++◌, map, max, vec_len, vec_capacity, codes};
 ghost use Rattle.ccsl_kernel.specs.Syntax.{item_count};
 ghost use Rattle.ccsl_report.specs.Room.{longest, room};
-ghost use Rattle.ccsl_report.specs.Texts.{run_yes_text, run_no_text, trace_text};
+ghost use Rattle.ccsl_report.specs.Texts.{run_yes_text, broken_text, trace_text};
 
 use crate::fault::trace_parts;
 use crate::item::broken_parts;
@@ -61,7 +61,7 @@ pub fn put_run(steps: u64, out: &mut Vec<u8>)
 pub fn put_no_run(step: u64, time: u64, item: u32, system: &System, out: &mut Vec<u8>)
     requires item { item < item_count system.now }
     requires room { vec_len out.old + room system.now ≤ vec_capacity out.old }
-    ensures { out.new.items ≡ out.old.items ++ run_no_text step time item system.now }
+    ensures { out.new.items ≡ out.old.items ++ broken_text (codes "run: ") step time item system.now }
 {
     put_line(out, &broken_parts("run: ", step, time, item, system));
 }

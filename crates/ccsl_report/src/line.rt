@@ -1,7 +1,8 @@
 //! Lines of pieces.
 
 ghost use Rattle.std.specs.Prelude.{◌≡◌, ◌+◌, ◌<◌, ◌≤◌, ◌++◌, OnOk, OnErr, IfOk, length, vec_len, vec_capacity};
-ghost use Rattle.ccsl_report.specs.Line.{joined, line};
+ghost use Rattle.ccsl_report.specs.Line.{line};
+ghost use Rattle.std.specs.List.{concat};
 ghost use Rattle.ccsl_report.specs.Parts.{part_text, part_texts};
 
 use ccsl_base::Memory;
@@ -31,9 +32,9 @@ fn append(out: &mut Vec<u8>, part: &Part<'_>) -> Result<(), AllocError>
 }
 
 fn append_all(out: &mut Vec<u8>, parts: &[Part<'_>]) -> Result<(), AllocError>
-    ensures text { OnOk result (out.new.items ≡ out.old.items ++ joined (part_texts parts.now)) }
-    ensures full { OnErr result (vec_capacity out.old < vec_len out.old + length (joined (part_texts parts.now))) }
-    ensures len { OnOk result (vec_len out.new ≡ vec_len out.old + length (joined (part_texts parts.now))) }
+    ensures text { OnOk result (out.new.items ≡ out.old.items ++ concat (part_texts parts.now)) }
+    ensures full { OnErr result (vec_capacity out.old < vec_len out.old + length (concat (part_texts parts.now))) }
+    ensures len { OnOk result (vec_len out.new ≡ vec_len out.old + length (concat (part_texts parts.now))) }
     ensures capacity { vec_capacity out.old ≤ vec_capacity out.new }
 {
     for part in parts {

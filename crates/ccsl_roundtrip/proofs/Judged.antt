@@ -1,5 +1,5 @@
 -- The trace of a simulation is judged to be a run.
-use Rattle.std.proofs.Common.{◌≡◌, ℕ, ◌≤◌, List, All, length, map, IsTrue, refl, ap₂, ◌∙◌, arith}
+use Rattle.std.proofs.Common.{ap, ◌≡◌, ℕ, ◌≤◌, List, All, length, map, IsTrue, refl, ap₂, ◌∙◌, arith}
 use Rattle.std.specs.List.{range_with_len}
 use Rattle.ccsl_base.specs.declared.limits.TheConstants.{MAX_FILE_BYTES, MAX_STEPS}
 use Rattle.ccsl_base.specs.Clocks.{is_ascending}
@@ -7,7 +7,7 @@ use Rattle.ccsl_kernel.specs.Syntax.{System}
 use Rattle.ccsl_kernel.specs.Lives.{Step}
 use Rattle.ccsl_kernel.specs.Accepted.{IsAccepted}
 use Rattle.ccsl_kernel.specs.Laws.{VerdictIsFirst, RunsComplete}
-use Rattle.ccsl_kernel.specs.Verdict.{verdict}
+use Rattle.ccsl_kernel.specs.Verdict.{verdict, completed_rows}
 use Rattle.ccsl_items.specs.Laws.{AdmissibleSetsSolve, SolutionsAreFull}
 use Rattle.ccsl_policy.specs.declared.policies.Policy.{Policy}
 use Rattle.ccsl_simulate.specs.Simulation.{simulation}
@@ -18,7 +18,7 @@ use Rattle.ccsl_bind.specs.Collected.{wanted_of}
 use Rattle.ccsl_vcd_write.specs.Text.{vcd_text}
 use Rattle.ccsl_vcd_write.specs.ReadsBack.{IsReadable, rows_of_steps}
 use Rattle.ccsl_roundtrip.specs.RoundTrip.{LIMITS, IsJudgedRun, SimulatedTracesAreRuns}
-use Rattle.ccsl_roundtrip.proofs.Rows.{verdict-run}
+use Rattle.ccsl_roundtrip.proofs.Rows.{verdict-run, completed-steps}
 use Rattle.ccsl_roundtrip.proofs.Steps.{shows, ascends}
 
 module _ (K : System) (ok : IsAccepted K)
@@ -52,6 +52,8 @@ module _ (K : System) (ok : IsAccepted K)
       read = read T readable;
       judged = ap₂ (λ b rs. verdict K b rs) (bound T readable) (rows T readable)
           ∙ verdict-run K ok.declared first T (complete T (runs p seed steps).run (runs p seed steps).named) (runs p seed steps).run;
+      steps_again = ap (completed_rows K) (rows T readable)
+          ∙ completed-steps K ok.declared first T (complete T (runs p seed steps).run (runs p seed steps).named) (runs p seed steps).run;
     }
 
   pub simulated-runs : SimulatedTracesAreRuns K

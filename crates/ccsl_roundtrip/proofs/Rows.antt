@@ -90,6 +90,11 @@ module _ (K : System) (low : K.declared ≤ K.written) (first : VerdictIsFirst K
   unfolding rows
   rows-complete = ap (completed K) (declared-parts K low 0 T) ∙ sym complete
 
+  -- the rows, completed, are the steps again
+  pub completed-steps : completed_rows K (rows_of_steps K T) ≡ T
+  unfolding rows
+  completed-steps = rows-complete
+
   as-recorded : (n x : ℕ) → x < K.written → is_as_recorded rows T n x ≡ true
   unfolding rows
   as-recorded n x l =

@@ -17,7 +17,7 @@ const LIMITS: Limits = Limits {
     scopes: MAX_SCOPES,
 };
 
-/// The trace of a simulation reads without a fault, and it is judged to be a run of all its steps.
+/// The trace of a simulation reads without a fault, it is judged to be a run of all its steps, and its rows, completed, are these steps.
 pub fn simulated_traces_are_runs(system: &System)
     ensures { SimulatedTracesAreRuns system.now }
 {

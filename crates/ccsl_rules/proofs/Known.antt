@@ -32,9 +32,9 @@ use Rattle.ccsl_kernel.specs.Accepted.{HasKind, IsClock, IsNumber, AreNumbers, I
 use Rattle.ccsl_rules.specs.Faults.{Fault, where_so, Unknown, Later, WrongKind, BadWord, Arguments}
 use Rattle.ccsl_rules.specs.Spaces.{Known, Callee, Role, relation, member, look}
 use Rattle.ccsl_rules.specs.Uses.{Scene, same_kind, has_role, used, kind_of, has_other_kind, used_as, prim_faults, term_faults, text_faults, word_faults, test_faults, single, argument_faults, argument_kind, argument_at, mismatch, callee_faults, call_faults, expr_faults, right_of}
-use Rattle.ccsl_rules.specs.Settings.{Atom, AClock, ANumber, AWord, AParam, Setting, atom_of, tail_of, prim_number, sum_from, argument_atom, argument_atoms}
+use Rattle.ccsl_rules.specs.Settings.{Atom, AClock, ANumber, AWord, AParam, Setting, atom_of, tail_of, prim_number, sum_from, argument_atom, argument_atoms, resolve_sign}
 use Rattle.ccsl_rules.specs.Texts.{texts, argument_texts, word_texts}
-use Rattle.ccsl_rules.specs.Resolved.{Tables, clock_number, atom_place, atom_prim, atom_word, atom_tail, atom_value, param_value, resolve_prim, resolve_term, resolve_word, resolve_test, resolve_argument, resolve_arguments, resolve, resolve_sign, resolve_call, role_call}
+use Rattle.ccsl_rules.specs.Resolved.{Tables, clock_number, atom_place, atom_prim, atom_word, atom_tail, atom_value, param_value, resolve_prim, resolve_term, resolve_word, resolve_test, resolve_argument, resolve_arguments, resolve, resolve_call, role_call}
 use Rattle.ccsl_rules.specs.Expansion.{kind_in}
 use Rattle.ccsl_rules.proofs.Guarded.{left-empty, right-empty, no-fault}
 

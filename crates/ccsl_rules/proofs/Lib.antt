@@ -2,7 +2,6 @@ pub mod Making
 pub mod Lookups
 pub mod Examples
 pub mod Refusals
-pub mod Random
 pub mod TheLibrary
 pub mod Counting
 pub mod Least

@@ -11,7 +11,7 @@ use Rattle.ccsl_ast.specs.declared.tree.BinaryOp.TheVariants as op
 use Rattle.ccsl_ast.specs.declared.line.Relation.TheVariants as rel
 use Rattle.ccsl_ast.specs.Trees.{EName, ECall, EBinary, EDelay, EFilter, EDelayed, EIf, LDefine, LConstraint, LCall, SClocks, SLineOf, DRelation, DGroup}
 use Rattle.ccsl_rules.specs.declared.refusal.Refusal.TheVariants as refused
-use Rattle.ccsl_rules.specs.Elaborated.{elaborated}
+use Rattle.ccsl_rules.specs.Answer.{elaborated}
 use Rattle.ccsl_rules.proofs.Making.{at_, term_, param_, part_, sheet_, the_library}
 
 case_0 : elaborated the_library (sheet_ ((DGroup ((part_ (at_ 19 (112 ∷ 101 ∷ 114 ∷ 105 ∷ 111 ∷ 100 ∷ 105 ∷ 99 ∷ [])) ((param_ kind.Clock (at_ 34 (99 ∷ []))) ∷ []) (EName (at_ 39 (99 ∷ [])))) ∷ [])) ∷ []) []) ≡ Err (refused.Duplicate 19)

@@ -1,5 +1,5 @@
 -- The refusal of a file, and what elaboration answers.
-use Rattle.std.specs.Prelude.{ℕ, length, nat_lt, Option, Some, None, Result, Ok, Err, if◌then◌else◌}
+use Rattle.std.specs.Prelude.{ℕ, length, nat_lt, Option, Some, None, if◌then◌else◌}
 use Rattle.ccsl_ast.specs.Trees.{PlainFile}
 use Rattle.ccsl_kernel.specs.Syntax.{System}
 use Rattle.ccsl_base.specs.declared.limits.TheConstants.{MAX_CLOCKS, MAX_CONSTRAINTS, MAX_CELLS}
@@ -36,11 +36,3 @@ refusal_with None K = totals_refusal K
 -- THE REFUSAL: the least fault, and then the first total over its limit
 abbrev pub refusal : PlainFile → PlainFile → Option Refusal
 refusal library file = refusal_with (first_fault library file) (expand library file)
-
-abbrev pub answer : Option Refusal → System → Result System Refusal
-answer None K = Ok K
-answer (Some r) K = Err r
-
--- WHAT ELABORATION ANSWERS, want of memory aside
-abbrev pub elaborated : PlainFile → PlainFile → Result System Refusal
-elaborated library file = answer (refusal library file) (expand library file)

@@ -1,5 +1,5 @@
 -- THE EXPANSION of a file behind a library.
-use Rattle.std.specs.Prelude.{ℕ, ◌+◌, List, [], ◌∷◌, ◌++◌, length, map, flat_map, filter_map, Option, Some, None, Bool, true, false}
+use Rattle.std.specs.Prelude.{ℕ, ◌+◌, List, [], ◌∷◌, ◌++◌, length, map, flat_map, filter_map, Option, Some, None}
 use Rattle.ccsl_ast.specs.declared.definition.Param.{Param}
 use Rattle.ccsl_ast.specs.declared.definition.Kind.{Kind}
 use Rattle.ccsl_ast.specs.declared.definition.Kind.TheVariants as kind
@@ -53,20 +53,14 @@ abbrev pub declared_names : SLine → List (List ℕ)
 declared_names (SClocks names) = map (λ s. s.name) names
 declared_names (SLineOf l) = []
 
-abbrev pub is_empty_path : List ℕ → Bool
-is_empty_path [] = true
-is_empty_path (b ∷ bs) = false
-
 -- a clock that the system defines, and one that a relation hides
 abbrev pub written_item : Item → Option Item
 written_item (Defines [] name σ k e) = Some (Defines [] name σ k e)
-written_item (Defines (b ∷ bs) name σ k e) = None
-written_item (Binds path σ a r b) = None
+written_item _ = None
 
 abbrev pub hidden_item : Item → Option Item
-hidden_item (Defines [] name σ k e) = None
 hidden_item (Defines (b ∷ bs) name σ k e) = Some (Defines (b ∷ bs) name σ k e)
-hidden_item (Binds path σ a r b) = None
+hidden_item _ = None
 
 abbrev pub item_name : Item → List ℕ
 item_name (Defines path name σ k e) = name

@@ -1,29 +1,24 @@
 -- Levels of groups and relations.
-use Rattle.std.specs.Prelude.{ℕ, suc, List, [], ◌∷◌, ◌++◌, Option, Some, None, map, max, flat_map, slice_index}
+use Rattle.std.specs.Prelude.{ℕ, suc, List, [], ◌∷◌, ◌++◌, Option, Some, None, map, flat_map, slice_index}
 use Rattle.ccsl_ast.specs.declared.spot.Spot.{Spot}
-use Rattle.ccsl_ast.specs.Trees.{Expression, EName, ECall, ENever, EBinary, EDelay, EAwait, EFilter, EDelayed, EIf, Line, LDefine, LConstraint, LCall, PlainDefinition, DRelation, DGroup}
+use Rattle.ccsl_ast.specs.Trees.{Expression, ECall, EBinary, EDelay, EAwait, EFilter, EDelayed, EIf, Line, LCall, PlainDefinition, DRelation, DGroup}
+use Rattle.ccsl_kernel.specs.Cells.{greatest}
 use Rattle.ccsl_rules.specs.Spaces.{Known, Callee, look}
 
 -- the names that an expression calls, in text order
 abbrev pub called : Expression → List Spot
-called (EName s) = []
 called (ECall s args) = s ∷ []
-called ENever = []
 called (EBinary op a d) = called a ++ called d
 called (EDelay a m) = called a
 called (EAwait a m) = called a
 called (EFilter a w) = called a
 called (EDelayed a at m d) = called a ++ called d
 called (EIf q a d) = called a ++ called d
+called _ = []
 
 abbrev pub called_line : Line → List Spot
-called_line (LDefine s e) = []
-called_line (LConstraint a r b) = []
 called_line (LCall s args) = s ∷ []
-
-abbrev pub greatest : List ℕ → ℕ
-greatest [] = 0
-greatest (n ∷ ns) = max n (greatest ns)
+called_line _ = []
 
 -- levels count among groups, or among relations
 pub data Sort : Type 0 where

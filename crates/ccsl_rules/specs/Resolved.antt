@@ -3,8 +3,6 @@ use Rattle.std.specs.Prelude.{ℕ, ◌+◌, List, [], ◌∷◌, length, Option,
 use Rattle.std.specs.List.{position_or_len}
 use Rattle.ccsl_ast.specs.declared.definition.Kind.{Kind}
 use Rattle.ccsl_ast.specs.declared.definition.Kind.TheVariants as kind
-use Rattle.ccsl_ast.specs.declared.term.Sign.{Sign}
-use Rattle.ccsl_ast.specs.declared.term.Sign.TheVariants as sign
 use Rattle.ccsl_ast.specs.declared.term.Primary.{Primary}
 use Rattle.ccsl_ast.specs.declared.term.Primary.TheVariants as prim
 use Rattle.ccsl_ast.specs.declared.term.Term.{Term}
@@ -19,8 +17,6 @@ use Rattle.ccsl_ast.specs.declared.tree.BinaryOp.TheVariants as op
 use Rattle.ccsl_ast.specs.Trees.{Expression, EName, ECall, ENever, EBinary, EDelay, EAwait, EFilter, EDelayed, EIf}
 use Rattle.ccsl_kernel.specs.declared.expr.Place.{Place}
 use Rattle.ccsl_kernel.specs.declared.expr.Place.TheVariants as place
-use Rattle.ccsl_kernel.specs.declared.expr.NumSign.{NumSign}
-use Rattle.ccsl_kernel.specs.declared.expr.NumSign.TheVariants as plus
 use Rattle.ccsl_kernel.specs.declared.expr.NumPrim.{NumPrim}
 use Rattle.ccsl_kernel.specs.declared.expr.NumPrim.TheVariants as num
 use Rattle.ccsl_kernel.specs.declared.expr.NumTerm.{NumTerm}
@@ -38,7 +34,7 @@ use Rattle.ccsl_kernel.specs.Actuals.{word_of}
 use Rattle.ccsl_rules.specs.Spaces.{Known, Callee, Role, relation, member, look}
 use Rattle.ccsl_rules.specs.Uses.{single}
 use Rattle.ccsl_rules.specs.Texts.{texts, argument_texts}
-use Rattle.ccsl_rules.specs.Settings.{Atom, AClock, ANumber, AWord, AParam, Setting, atom_of}
+use Rattle.ccsl_rules.specs.Settings.{Atom, AClock, ANumber, AWord, AParam, Setting, atom_of, resolve_sign}
 
 -- the names of the system's clocks, its words, and what is called
 pub record Tables : Type 0 where
@@ -52,26 +48,22 @@ clock_number names name = position_or_len (λ x. bytes_eq x name) names
 abbrev pub atom_place : Tables → Atom → Place
 atom_place K (AClock name) = place.Clock (clock_number K.names name)
 atom_place K (AParam i k) = place.Param i
-atom_place K (ANumber n) = place.Clock 0
-atom_place K (AWord w o) = place.Clock 0
+atom_place K _ = place.Clock 0
 
 abbrev pub atom_prim : Atom → NumPrim
 atom_prim (ANumber n) = num.Num n
 atom_prim (AParam i k) = num.Param i
-atom_prim (AClock name) = num.Num 0
-atom_prim (AWord w o) = num.Num 0
+atom_prim _ = num.Num 0
 
 abbrev pub atom_word : Atom → WordPlace
 atom_word (AWord w o) = spot.Word w o
 atom_word (AParam i k) = spot.Param i
-atom_word (AClock name) = spot.Word 0 0
-atom_word (ANumber n) = spot.Word 0 0
+atom_word _ = spot.Word 0 0
 
 abbrev pub atom_tail : Tables → Atom → WordPlace
 atom_tail K (AWord w o) = spot.Word w (rest (word_of K.words w) o)
 atom_tail K (AParam i k) = spot.Tail i
-atom_tail K (AClock name) = spot.Word 0 0
-atom_tail K (ANumber n) = spot.Word 0 0
+atom_tail K _ = spot.Word 0 0
 
 abbrev pub alone : NumPrim → NumTerm
 alone p = record { first = p; rest = [] }
@@ -90,10 +82,6 @@ atom_value K (AParam i k) = param_value i k
 abbrev pub resolve_prim : Setting → Primary → NumPrim
 resolve_prim σ (prim.Num at n) = num.Num n
 resolve_prim σ (prim.Name s) = atom_prim (atom_of σ s.name)
-
-abbrev pub resolve_sign : Sign → NumSign
-resolve_sign sign.Plus = plus.Plus
-resolve_sign sign.Minus = plus.Minus
 
 abbrev pub resolve_term : Setting → Term → NumTerm
 resolve_term σ t = record { first = resolve_prim σ t.first; rest = map (λ p. (resolve_sign p.0, resolve_prim σ p.1)) t.rest }

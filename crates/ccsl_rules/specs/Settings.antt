@@ -1,5 +1,5 @@
 -- What the names of a body stand for, and the values of terms and arguments under that.
-use Rattle.std.specs.Prelude.{ℕ, ◌+◌, ◌-◌, List, [], ◌∷◌, length, Option, Some, None, find, min, bytes_eq}
+use Rattle.std.specs.Prelude.{ℕ, ◌+◌, List, [], ◌∷◌, length, Option, Some, None, find, bytes_eq}
 use Rattle.ccsl_ast.specs.declared.definition.Kind.{Kind}
 use Rattle.ccsl_ast.specs.declared.term.Sign.{Sign}
 use Rattle.ccsl_ast.specs.declared.term.Sign.TheVariants as sign
@@ -8,7 +8,9 @@ use Rattle.ccsl_ast.specs.declared.term.Primary.TheVariants as prim
 use Rattle.ccsl_ast.specs.declared.term.Argument.{Argument}
 use Rattle.ccsl_ast.specs.declared.term.Argument.TheVariants as arg
 use Rattle.ccsl_words.specs.Word.{BinaryWord, rest}
-use Rattle.ccsl_kernel.specs.Actuals.{word_of}
+use Rattle.ccsl_kernel.specs.declared.expr.NumSign.{NumSign}
+use Rattle.ccsl_kernel.specs.declared.expr.NumSign.TheVariants as plus
+use Rattle.ccsl_kernel.specs.Actuals.{word_of, signed}
 use Rattle.ccsl_rules.specs.Uses.{single}
 use Rattle.ccsl_rules.specs.Texts.{argument_texts}
 
@@ -38,13 +40,13 @@ abbrev pub prim_number : Setting → Primary → ℕ
 prim_number σ (prim.Num at n) = n
 prim_number σ (prim.Name s) = number_in (atom_of σ s.name)
 
-abbrev pub signed : Sign → ℕ → ℕ → ℕ
-signed sign.Plus m n = min (m + n) 4294967295
-signed sign.Minus m n = m - n
+abbrev pub resolve_sign : Sign → NumSign
+resolve_sign sign.Plus = plus.Plus
+resolve_sign sign.Minus = plus.Minus
 
 abbrev pub sum_from : Setting → ℕ → List (Sign × Primary) → ℕ
 sum_from σ n [] = n
-sum_from σ n (p ∷ ps) = sum_from σ (signed p.0 n (prim_number σ p.1)) ps
+sum_from σ n (p ∷ ps) = sum_from σ (signed (resolve_sign p.0) n (prim_number σ p.1)) ps
 
 abbrev pub tail_of : List BinaryWord → Atom → Atom
 tail_of words (AWord w o) = AWord w (rest (word_of words w) o)

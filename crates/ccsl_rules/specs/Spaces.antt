@@ -1,10 +1,11 @@
 -- The three name spaces.
-use Rattle.std.specs.Prelude.{ℕ, ◌+◌, List, [], ◌∷◌, ◌++◌, Bool, false, ◌||◌, Option, map, find, bytes_eq}
+use Rattle.std.specs.Prelude.{ℕ, ◌+◌, List, [], ◌∷◌, ◌++◌, Option, map, find, bytes_eq}
+use Rattle.ccsl_base.specs.Names.{is_among}
 use Rattle.ccsl_ast.specs.declared.spot.Spot.{Spot}
 use Rattle.ccsl_ast.specs.declared.definition.Param.{Param}
 use Rattle.ccsl_ast.specs.declared.definition.Kind.{Kind}
 use Rattle.ccsl_ast.specs.declared.definition.Kind.TheVariants as kind
-use Rattle.ccsl_ast.specs.Trees.{LDefine, LConstraint, LCall, SLine, SClocks, SLineOf, PlainMember, PlainDefinition, DRelation, DGroup}
+use Rattle.ccsl_ast.specs.Trees.{LDefine, SLine, SClocks, SLineOf, PlainMember, PlainDefinition, DRelation, DGroup}
 use Rattle.ccsl_rules.specs.Faults.{Fault, where_so, Duplicate}
 
 -- a declared name: what it stands for, and the number of the first line, or definition, that may use it
@@ -16,10 +17,6 @@ pub record Known (A : Type 0) : Type 0 where
 -- the first declaration of a name in a space
 abbrev pub look : {A : Type 0} → List ℕ → List (Known A) → Option (Known A)
 look name space = find (λ k. bytes_eq k.name.name name) space
-
-abbrev pub is_among : List ℕ → List (List ℕ) → Bool
-is_among name [] = false
-is_among name (x ∷ xs) = bytes_eq x name || is_among name xs
 
 -- the names that their space already has; `seen` are the names before them
 abbrev pub repeated : List (List ℕ) → List Spot → List Fault
@@ -59,11 +56,13 @@ params_space params = map (λ p. record { name = p.name; since = 0; what = p.kin
 abbrev pub clock_known : ℕ → Spot → Known Kind
 clock_known since s = record { name = s; since = since; what = kind.Clock }
 
+abbrev pub declares : SLine → List Spot
+declares (SClocks names) = names
+declares (SLineOf (LDefine s e)) = s ∷ []
+declares _ = []
+
 abbrev pub declared_by : ℕ → SLine → List (Known Kind)
-declared_by line (SClocks names) = map (clock_known (line + 1)) names
-declared_by line (SLineOf (LDefine s e)) = clock_known (line + 1) s ∷ []
-declared_by line (SLineOf (LConstraint a r b)) = []
-declared_by line (SLineOf (LCall s args)) = []
+declared_by line e = map (clock_known (line + 1)) (declares e)
 
 abbrev pub lines_space : ℕ → List SLine → List (Known Kind)
 lines_space line [] = []

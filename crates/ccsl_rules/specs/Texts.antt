@@ -4,28 +4,25 @@ use Rattle.ccsl_ast.specs.declared.term.WordTerm.{WordTerm}
 use Rattle.ccsl_ast.specs.declared.term.WordTerm.TheVariants as word
 use Rattle.ccsl_ast.specs.declared.term.Argument.{Argument}
 use Rattle.ccsl_ast.specs.declared.term.Argument.TheVariants as arg
-use Rattle.ccsl_ast.specs.Trees.{Expression, EName, ECall, ENever, EBinary, EDelay, EAwait, EFilter, EDelayed, EIf, Line, LDefine, LConstraint, LCall, SLine, SClocks, SLineOf, PlainDefinition, DRelation, DGroup, PlainFile}
+use Rattle.ccsl_ast.specs.Trees.{Expression, ECall, EBinary, EDelay, EAwait, EFilter, EDelayed, EIf, Line, LDefine, LConstraint, LCall, SLine, SClocks, SLineOf, PlainDefinition, DRelation, DGroup, PlainFile}
 
 abbrev pub word_texts : WordTerm → List (List ℕ)
 word_texts (word.Text at text) = text ∷ []
-word_texts (word.Name s) = []
-word_texts (word.Tail s) = []
+word_texts _ = []
 
 abbrev pub argument_texts : Argument → List (List ℕ)
-argument_texts (arg.Term t) = []
 argument_texts (arg.Text at text) = text ∷ []
-argument_texts (arg.Tail s) = []
+argument_texts _ = []
 
 abbrev pub texts : Expression → List (List ℕ)
-texts (EName s) = []
 texts (ECall s args) = flat_map argument_texts args
-texts ENever = []
 texts (EBinary op a d) = texts a ++ texts d
 texts (EDelay a m) = texts a
 texts (EAwait a m) = texts a
 texts (EFilter a w) = texts a ++ word_texts w
 texts (EDelayed a at m d) = texts a ++ texts d
 texts (EIf q a d) = texts a ++ texts d
+texts _ = []
 
 abbrev pub line_texts : Line → List (List ℕ)
 line_texts (LDefine s e) = texts e

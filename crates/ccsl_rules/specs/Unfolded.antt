@@ -1,12 +1,11 @@
 -- Relation calls replaced by bodies.
 use Rattle.std.specs.Prelude.{ℕ, ◌+◌, List, [], ◌∷◌, ◌++◌, length, map, flat_map, Option, Some, None, slice_get}
 use Rattle.std.specs.Fmt.{decimal}
-use Rattle.ccsl_ast.specs.declared.spot.Spot.{Spot}
 use Rattle.ccsl_ast.specs.declared.definition.Param.{Param}
 use Rattle.ccsl_ast.specs.declared.line.Relation.{Relation}
 use Rattle.ccsl_ast.specs.Trees.{Expression, Line, LDefine, LConstraint, LCall, SLine, SClocks, SLineOf, PlainDefinition, DRelation, DGroup}
 use Rattle.ccsl_words.specs.Word.{BinaryWord}
-use Rattle.ccsl_rules.specs.Spaces.{Known, Callee, look}
+use Rattle.ccsl_rules.specs.Spaces.{Known, Callee, look, declares}
 use Rattle.ccsl_rules.specs.Settings.{Atom, AClock, Setting, argument_atoms}
 use Rattle.ccsl_rules.specs.Texts.{entry_texts, block_texts}
 
@@ -38,6 +37,15 @@ unfolding_at (Some u) path args = u path args
 abbrev pub unfolding_of : List (Known Callee) → Unfoldings → List ℕ → Unfolding
 unfolding_of calls R name = elim (look name calls) [ None ↦ λ path args. [] | Some k ↦ unfolding_at (slice_get R k.what.block) ]
 
+-- THE SETTING OF A BODY: each parameter stands for its argument, each clock that the body declares for the clock with the path before its name
+abbrev pub arguments : List Param → List Atom → Setting
+arguments [] as' = []
+arguments (p ∷ ps) [] = []
+arguments (p ∷ ps) (a ∷ as') = (p.name.name, a) ∷ arguments ps as'
+
+abbrev pub own_clocks : List ℕ → List SLine → Setting
+own_clocks path entries = map (λ s. (s.name, AClock (inside path s.name))) (flat_map declares entries)
+
 module _ (words : List BinaryWord) (calls : List (Known Callee)) where
   -- A LINE at place i of a body with this path: a call is the called relation under the call's path and the values of its arguments
   abbrev pub unfold_line : Unfoldings → List ℕ → Setting → ℕ → ℕ → Line → List Item
@@ -54,25 +62,9 @@ module _ (words : List BinaryWord) (calls : List (Known Callee)) where
   unfold_body R path σ k i [] = []
   unfold_body R path σ k i (l ∷ ls) = unfold_entry R path σ k i l ++ unfold_body R path σ (k + length (entry_texts l)) (i + 1) ls
 
--- THE SETTING OF A BODY: each parameter stands for its argument, each clock that the body declares for the clock with the path before its name
-abbrev pub declares : SLine → List Spot
-declares (SClocks names) = names
-declares (SLineOf (LDefine s e)) = s ∷ []
-declares (SLineOf (LConstraint a r b)) = []
-declares (SLineOf (LCall s args)) = []
-
-abbrev pub arguments : List Param → List Atom → Setting
-arguments [] as' = []
-arguments (p ∷ ps) [] = []
-arguments (p ∷ ps) (a ∷ as') = (p.name.name, a) ∷ arguments ps as'
-
-abbrev pub own_clocks : List ℕ → List SLine → Setting
-own_clocks path entries = map (λ s. (s.name, AClock (inside path s.name))) (flat_map declares entries)
-
-module _ (words : List BinaryWord) (calls : List (Known Callee)) where
   -- the unfolding of a relation whose first text has number k
   abbrev pub unfold_relation : Unfoldings → ℕ → List Param → List SLine → Unfolding
-  unfold_relation R k params entries path args = unfold_body words calls R path (arguments params args ++ own_clocks path entries) k 0 entries
+  unfold_relation R k params entries path args = unfold_body R path (arguments params args ++ own_clocks path entries) k 0 entries
 
   -- that of a definition
   abbrev pub unfold_block : Unfoldings → ℕ → PlainDefinition → Unfolding

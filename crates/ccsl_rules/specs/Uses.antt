@@ -20,7 +20,7 @@ use Rattle.ccsl_ast.specs.declared.tree.BinaryOp.TheVariants as op
 use Rattle.ccsl_ast.specs.Trees.{Expression, EName, ECall, ENever, EBinary, EDelay, EAwait, EFilter, EDelayed, EIf}
 use Rattle.ccsl_kernel.specs.declared.position.Position.{Position}
 use Rattle.ccsl_kernel.specs.declared.position.Position.TheVariants.{Inner, Guarded}
-use Rattle.ccsl_kernel.specs.Guarded.{guarded}
+use Rattle.ccsl_kernel.specs.Positions.{guarded}
 use Rattle.ccsl_words.specs.Spelling.{read_word}
 use Rattle.ccsl_rules.specs.Faults.{Fault, where_so, Unknown, Later, WrongKind, Unguarded, TooTall, Arguments, BadWord}
 use Rattle.ccsl_rules.specs.Spaces.{Known, Callee, Role, relation, member, look}

@@ -5,7 +5,7 @@ use Rattle.ccsl_edge.specs.World.{State, SlotState, Told, Rose}
 use Rattle.ccsl_edge.specs.Calls.{ChangesOnly, Reads, ReadsThenFails, Adds, AddsFront}
 use Rattle.ccsl_kernel.specs.Syntax.{System}
 use Rattle.ccsl_policy.specs.declared.policies.Policy.{Policy}
-use Rattle.ccsl_session.specs.Session.{Says, SameCounts, Fails}
+use Rattle.ccsl_session.specs.Leaving.{Says, SameCounts, Fails}
 
 -- a slot that has changed in what is left of it and in its count alone, or in what is written and in its count
 abbrev pub IsRead : SlotState → SlotState → Type 0

@@ -26,7 +26,8 @@ use Rattle.ccsl_session.specs.declared.world.Heard.TheVariants as heard
 use Rattle.ccsl_session.specs.Asked.{asked}
 use Rattle.ccsl_session.specs.Reading.{plain}
 use Rattle.ccsl_session.specs.Answers.{answer, answers, answers_over, after, is_quit}
-use Rattle.ccsl_session.specs.Session.{session_text, HasEnded, IsCut}
+use Rattle.ccsl_session.specs.Session.{session_text}
+use Rattle.ccsl_session.specs.Leaving.{HasEnded, IsCut}
 use Rattle.ccsl_session.specs.Going.{quits_at, Goes, Turns, IsHeard, Hears, NotWritten}
 use Rattle.ccsl_session.proofs.Found.{by_test}
 use Rattle.ccsl_session.proofs.Saying.{says-nothing, counts-same, says-read, says-write, counts-read, counts-write, read-fails, write-fails, reads-only, adds-only}

@@ -22,7 +22,7 @@ use Rattle.ccsl_session.specs.declared.world.Heard.TheVariants.{Asks, Ends}
 use Rattle.ccsl_session.specs.Asked.{Asked, asked}
 use Rattle.ccsl_session.specs.Reading.{plain}
 use Rattle.ccsl_session.specs.Answers.{answer, answers, answers_over, after, is_quit}
-use Rattle.ccsl_session.specs.Session.{Says, SameCounts, HasEnded}
+use Rattle.ccsl_session.specs.Leaving.{Says, SameCounts, HasEnded}
 use Rattle.ccsl_session.specs.Stack.{Stands}
 use Rattle.ccsl_session.specs.Answering.{system_of, sets_of}
 

@@ -5,7 +5,7 @@ ghost use Rattle.ccsl_edge.specs.World.{State};
 ghost use Rattle.ccsl_lines.specs.Held.{calls_left};
 ghost use Rattle.ccsl_lines.specs.Given.{Breaks};
 ghost use Rattle.ccsl_session.specs.Reading.{plain};
-ghost use Rattle.ccsl_session.specs.Session.{HasEnded, IsCut};
+ghost use Rattle.ccsl_session.specs.Leaving.{HasEnded, IsCut};
 ghost use Rattle.ccsl_session.specs.Laws.{IsStack};
 ghost use Rattle.ccsl_session.specs.Stack.{Stands};
 ghost use Rattle.ccsl_session.specs.Answering.{system_of, sets_of, SameTask};

@@ -2,7 +2,8 @@
 use Rattle.std.proofs.Common.{◌≡◌, ℕ, zero, suc, ◌+◌, List, [], ◌∷◌, length, All, arith, length-append}
 use Rattle.std.specs.List.{AllByRecursion}
 use Rattle.std.proofs.lemmas.List.Elements.{recursion_from_All}
-use Rattle.ccsl_formula.specs.Formula.{Formula, ReadsBelow}
+use Rattle.ccsl_formula.specs.Formula.{Formula}
+use Rattle.ccsl_formula.specs.Variables.{ReadsBelow}
 use Rattle.ccsl_solve.specs.Posed.{AllBelow}
 use Rattle.ccsl_policy.specs.Words.{word_at, words_from}
 

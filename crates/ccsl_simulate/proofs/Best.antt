@@ -5,7 +5,8 @@ use Rattle.ccsl_formula.specs.Formula.{in_set}
 use Rattle.ccsl_formula.specs.Truth.{Assignment}
 use Rattle.ccsl_kernel.specs.Lives.{Step}
 use Rattle.ccsl_policy.specs.declared.policies.Policy.{Policy}
-use Rattle.ccsl_policy.specs.Priority.{word_of, comes_before, preferred, IsBetter}
+use Rattle.ccsl_policy.specs.Priority.{word_of, comes_before, preferred}
+use Rattle.ccsl_policy.specs.Better.{IsBetter}
 use Rattle.ccsl_policy.proofs.Order.{is-before, before-trans}
 use Rattle.ccsl_simulate.specs.Chosen.{is_better}
 use Rattle.ccsl_simulate.proofs.Among.{Among}

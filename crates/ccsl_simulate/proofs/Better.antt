@@ -7,7 +7,8 @@ use Rattle.ccsl_formula.specs.Formula.{same, in_set}
 use Rattle.ccsl_formula.specs.Truth.{Assignment}
 use Rattle.ccsl_kernel.specs.Lives.{Step, steps}
 use Rattle.ccsl_policy.specs.declared.policies.Policy.{Policy}
-use Rattle.ccsl_policy.specs.Priority.{word_of, comes_before, preferred, IsBetter}
+use Rattle.ccsl_policy.specs.Priority.{word_of, comes_before, preferred}
+use Rattle.ccsl_policy.specs.Better.{IsBetter}
 use Rattle.ccsl_simulate.specs.Chosen.{decides, is_better}
 use Rattle.ccsl_simulate.proofs.Numbers.{each_below, all_below, any_below, some_below}
 

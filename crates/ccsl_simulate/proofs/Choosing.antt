@@ -12,7 +12,8 @@ use Rattle.ccsl_items.specs.Formulas.{item_formulas, scope_of}
 use Rattle.ccsl_items.specs.Laws.{IsNamedRun, IsSolution}
 use Rattle.ccsl_items.proofs.Solutions.{admissible_solution, solution_admissible, blocked_ends}
 use Rattle.ccsl_policy.specs.declared.policies.Policy.{Policy}
-use Rattle.ccsl_policy.specs.Priority.{word_of, preferred, IsBetter}
+use Rattle.ccsl_policy.specs.Priority.{word_of, preferred}
+use Rattle.ccsl_policy.specs.Better.{IsBetter}
 use Rattle.ccsl_policy.specs.Chosen.{IsChosen, IsDeadlock}
 use Rattle.ccsl_policy.proofs.First.{IsFirst, first-or-same}
 use Rattle.ccsl_simulate.specs.Chosen.{admissible_sets, is_better, is_best, chosen}

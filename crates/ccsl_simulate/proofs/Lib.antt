@@ -12,3 +12,5 @@ pub mod Standing
 pub mod Asking
 pub mod Writing
 pub mod Worked
+pub mod Extremes
+pub mod Certificates

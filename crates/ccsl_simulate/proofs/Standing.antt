@@ -10,7 +10,8 @@ use Rattle.ccsl_edge.specs.Calls.{Adds, AddsFront}
 use Rattle.ccsl_refute.specs.declared.line.Line.{Line}
 use Rattle.ccsl_refute.specs.Below.{AreBelow}
 use Rattle.ccsl_refute.specs.Validity.{are_valid, ends_empty}
-use Rattle.ccsl_refute.specs.Writing.{literals, lines_text}
+use Rattle.ccsl_refute.specs.Writing.{lines_text}
+use Rattle.ccsl_refute.specs.LineLiterals.{literals}
 use Rattle.ccsl_refute.proofs.Bounds.{lines-below}
 use Rattle.ccsl_kernel.specs.Syntax.{System}
 use Rattle.ccsl_kernel.specs.Lives.{Step}
@@ -21,7 +22,7 @@ use Rattle.ccsl_vcd_write.specs.Text.{step_text}
 use Rattle.ccsl_items.specs.Formulas.{item_formulas, scope_of}
 use Rattle.ccsl_policy.specs.declared.policies.Policy.{Policy}
 use Rattle.ccsl_policy.specs.Chosen.{IsChosen, IsDeadlock}
-use Rattle.ccsl_policy.specs.Words as words
+use Rattle.ccsl_policy.specs.Generator as generator
 use Rattle.ccsl_simulate.specs.declared.answer.SimFault.{SimFault}
 use Rattle.ccsl_simulate.specs.declared.answer.SimFault.TheVariants.{Fault, Memory}
 use Rattle.ccsl_simulate.specs.declared.simulator.Turn.TheVariants.{Goes, Ends}
@@ -66,7 +67,7 @@ module _ (seed n : ℕ) (old mid : Simulator) (task : SameTask old mid) (kept : 
     full = (next-step K s.accepted old.policy seed n s.steps set a c).1
 
     -- the simulator that goes on by it stands for one step more
-    pub stands-next : (new : Simulator) → SameTask mid new → words.StandsFor mid.draw seed (n * K.declared + K.declared) → new.draw ≡ mid.draw → new.states.system ≡ mid.states.system
+    pub stands-next : (new : Simulator) → SameTask mid new → generator.StandsFor mid.draw seed (n * K.declared + K.declared) → new.draw ≡ mid.draw → new.states.system ≡ mid.states.system
         → ((U : List Step) → states.StandsFor mid.states U → length U + 1 < 2 ^ 64 → states.StandsFor new.states (U ++ full_step mid.states.system U set ∷ [])) → n + 1 < 2 ^ 64 → Stands seed (suc n) new
     stands-next new task' drawn draw system goes few =
         let both : SameTask old new = same-task old mid new task task' in
@@ -83,8 +84,8 @@ module _ (seed n : ℕ) (old mid : Simulator) (task : SameTask old mid) (kept : 
               subst (states.StandsFor new.states) (step ∙ sym (same-run old new seed (suc n) both))
               (goes T (subst (λ (h : states.Held). states.StandsFor h T) (sym kept) s.states) (omega (arith, s.steps, few)));
           draw =
-              subst (λ g. words.StandsFor g seed (suc n * new.system.now.declared)) (sym draw)
-              (subst (λ k. words.StandsFor mid.draw seed k) (more ∙ ap (λ (X : System). suc n * X.declared) (sym at)) drawn);
+              subst (λ g. generator.StandsFor g seed (suc n * new.system.now.declared)) (sym draw)
+              (subst (λ k. generator.StandsFor mid.draw seed k) (more ∙ ap (λ (X : System). suc n * X.declared) (sym at)) drawn);
         }
 
     module _ (told : Told) (t u : State) where

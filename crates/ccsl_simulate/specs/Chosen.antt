@@ -1,6 +1,7 @@
 -- THE CHOSEN SET AFTER SOME STEPS, as a function: the best of all admissible sets. This project's own.
-use Rattle.std.specs.Prelude.{ℕ, zero, suc, List, [], ◌∷◌, ◌++◌, Bool, true, false, not, ◌&&◌, ◌||◌, Option, map, filter, find, length}
+use Rattle.std.specs.Prelude.{ℕ, zero, suc, List, [], ◌∷◌, ◌++◌, Bool, not, ◌&&◌, ◌||◌, Option, map, filter, find, length}
 use Rattle.std.specs.List.{list_all, list_any}
+use Rattle.ccsl_base.specs.Empty.{is_empty}
 use Rattle.ccsl_base.specs.Clocks.{ticks_in}
 use Rattle.ccsl_formula.specs.Formula.{same}
 use Rattle.ccsl_kernel.specs.Syntax.{System, item_count}
@@ -13,10 +14,6 @@ use Rattle.ccsl_policy.specs.Priority.{word_of, comes_before, preferred}
 abbrev pub sets_below : ℕ → List Step
 sets_below zero = [] ∷ []
 sets_below (suc m) = sets_below m ++ map (λ s. s ++ m ∷ []) (sets_below m)
-
-abbrev pub is_empty : Step → Bool
-is_empty [] = true
-is_empty (x ∷ s) = false
 
 -- whether each item holds at each step
 abbrev pub is_run : System → List Step → Bool

@@ -14,7 +14,7 @@ use Rattle.ccsl_state.specs.Held as states
 use Rattle.ccsl_vcd_write.specs.Text.{step_text}
 use Rattle.ccsl_items.specs.Formulas.{item_formulas, scope_of}
 use Rattle.ccsl_policy.specs.declared.policies.Policy.{Policy}
-use Rattle.ccsl_policy.specs.Words as words
+use Rattle.ccsl_policy.specs.Generator as generator
 use Rattle.ccsl_simulate.specs.declared.answer.SimFault.{SimFault}
 use Rattle.ccsl_simulate.specs.declared.answer.SimFault.TheVariants.{Fault, Memory}
 use Rattle.ccsl_simulate.specs.declared.simulator.Turn.{Turn}
@@ -32,7 +32,7 @@ pub record Stands (seed n : ℕ) (sim : Simulator) : Type 0 where
   pub accepted : IsAccepted sim.system.now
   pub steps : length (run_of sim seed n) ≡ n
   pub states : states.StandsFor sim.states (run_of sim seed n)
-  pub draw : words.StandsFor sim.draw seed (n * sim.system.now.declared)
+  pub draw : generator.StandsFor sim.draw seed (n * sim.system.now.declared)
 
 -- it simulates the same system by the same policy
 pub record SameTask (old new : Simulator) : Type 0 where

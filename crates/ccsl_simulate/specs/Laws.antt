@@ -6,7 +6,7 @@ use Rattle.ccsl_kernel.specs.Lives.{Step, step_at}
 use Rattle.ccsl_kernel.specs.Runs.{IsAdmissible, full_step}
 use Rattle.ccsl_items.specs.Laws.{IsNamedRun}
 use Rattle.ccsl_policy.specs.declared.policies.Policy.{Policy}
-use Rattle.ccsl_policy.specs.Priority.{IsBetter}
+use Rattle.ccsl_policy.specs.Better.{IsBetter}
 use Rattle.ccsl_simulate.specs.Simulation.{words_of_step, simulation}
 
 module _ (K : System) (policy : Policy) where

@@ -3,3 +3,4 @@ pub mod Simulation
 pub mod Laws
 pub mod Outcome
 pub mod Going
+pub mod Ends

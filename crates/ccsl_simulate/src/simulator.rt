@@ -9,10 +9,11 @@ ghost use Rattle.ccsl_kernel.specs.Runs.{full_step};
 ghost use Rattle.ccsl_state.specs.Held as states;
 ghost use Rattle.ccsl_vcd_write.specs.Text.{header_text, step_text};
 ghost use Rattle.ccsl_refute.specs.Below.{AreBelow};
-ghost use Rattle.ccsl_refute.specs.Writing.{lines_text, literals};
+ghost use Rattle.ccsl_refute.specs.Writing.{lines_text};
+ghost use Rattle.ccsl_refute.specs.LineLiterals.{literals};
 ghost use Rattle.ccsl_items.specs.Formulas.{item_formulas, scope_of};
 ghost use Rattle.ccsl_policy.specs.Chosen.{Chooses};
-ghost use Rattle.ccsl_policy.specs.Words as words;
+ghost use Rattle.ccsl_policy.specs.Generator as generator;
 ghost use Rattle.ccsl_simulate.specs.declared.simulator.Turn.TheVariants as turns;
 ghost use Rattle.ccsl_simulate.specs.Simulation.{words_of_step};
 ghost use Rattle.ccsl_simulate.specs.Going.{run_of, Stands, SameTask, WriteFails, TurnDoes, TurnFails};
@@ -80,13 +81,13 @@ impl<'s> Simulator<'s> {
     // The choice of the next step, by the next words.
     fn choice(&mut self) -> Result<Choice, Memory>
         requires system { self.old.states.system ≡ self.old.system.now }
-        requires draw { (seed : ℕ) × (j : ℕ) × words.StandsFor self.old.draw seed j }
+        requires draw { (seed : ℕ) × (j : ℕ) × generator.StandsFor self.old.draw seed j }
         ensures task { SameTask self.old self.new }
         ensures states { self.new.states ≡ self.old.states }
-        ensures draw { OnOk result ((seed j : ℕ) → words.StandsFor self.old.draw seed j →
-            words.StandsFor self.new.draw seed (j + self.old.system.now.declared)) }
+        ensures draw { OnOk result ((seed j : ℕ) → generator.StandsFor self.old.draw seed j →
+            generator.StandsFor self.new.draw seed (j + self.old.system.now.declared)) }
         ensures choice { IfOk result (λ choice. (T : List Step) (seed n : ℕ) → states.StandsFor self.old.states T →
-            words.StandsFor self.old.draw seed (n * self.old.system.now.declared) →
+            generator.StandsFor self.old.draw seed (n * self.old.system.now.declared) →
             Chooses (scope_of self.old.system.now) (item_formulas self.old.system.now T) self.old.policy
             (words_of_step self.old.system.now seed n) choice) }
     {

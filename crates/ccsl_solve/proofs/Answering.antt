@@ -6,13 +6,15 @@ use Rattle.ccsl_base.specs.Clocks.{ticks_in}
 use Rattle.ccsl_formula.specs.declared.scope.Scope.{Scope}
 use Rattle.ccsl_formula.specs.declared.truth3.Truth3.{Truth3}
 use Rattle.ccsl_formula.specs.declared.truth3.Truth3.TheVariants.{Yes, No, Open}
-use Rattle.ccsl_formula.specs.Truth.{known_as, Part, Assignment, Agrees, Fits}
+use Rattle.ccsl_formula.specs.Truth.{known_as, Part, Assignment}
+use Rattle.ccsl_formula.specs.Agreement.{Agrees, Fits}
 use Rattle.ccsl_formula.specs.Formula.{Formula, in_set}
 use Rattle.ccsl_formula.proofs.Kleene.{yes_true}
 use Rattle.ccsl_refute.specs.declared.line.Lit.{Lit}
 use Rattle.ccsl_refute.specs.declared.line.Line.{Line}
 use Rattle.ccsl_refute.specs.Literals.{falsified}
-use Rattle.ccsl_refute.specs.Validity.{clause, line_at, is_empty, ends_empty, are_valid}
+use Rattle.ccsl_refute.specs.Validity.{clause, line_at, ends_empty, are_valid}
+use Rattle.ccsl_base.specs.Empty.{is_empty}
 use Rattle.ccsl_refute.specs.Meaning.{AllTrue}
 use Rattle.ccsl_refute.proofs.Checking.{ends-last}
 use Rattle.ccsl_refute.proofs.Sound.{valid-clauses, all-false}

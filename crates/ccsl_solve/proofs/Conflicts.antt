@@ -3,8 +3,9 @@ use Rattle.std.proofs.Common.{◌≡◌, ◌≢◌, ◌⊎◌, ℕ, suc, List, [
 use Rattle.std.proofs.lemmas.Bool.{cases_eq}
 use Rattle.ccsl_formula.specs.declared.scope.Scope.{Scope}
 use Rattle.ccsl_formula.specs.declared.truth3.Truth3.TheVariants.{Open}
-use Rattle.ccsl_formula.specs.Truth.{known_as, is_open, Part}
-use Rattle.ccsl_formula.specs.Known.{with_value, with_truth, joined}
+use Rattle.ccsl_formula.specs.Truth.{known_as, Part, with_value}
+use Rattle.ccsl_formula.specs.Agreement.{is_open}
+use Rattle.ccsl_formula.specs.Known.{with_truth, joined}
 use Rattle.ccsl_formula.specs.Formula.{Formula}
 use Rattle.ccsl_refute.specs.declared.line.Lit.{Lit}
 use Rattle.ccsl_refute.specs.declared.line.Line.{Line}

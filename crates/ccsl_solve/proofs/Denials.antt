@@ -4,7 +4,8 @@ use Rattle.std.proofs.Math.Path.{fun_ext}
 use Rattle.std.specs.List.{list_all}
 use Rattle.std.proofs.lemmas.Bool.{eq-eqb, ne_eqb, lt-ltb, ltb-true, ltb-false, and_parts}
 use Rattle.ccsl_base.specs.Clocks.{ticks_in, is_ascending}
-use Rattle.ccsl_formula.specs.Truth.{known_as, is_open}
+use Rattle.ccsl_formula.specs.Truth.{known_as}
+use Rattle.ccsl_formula.specs.Agreement.{is_open}
 use Rattle.ccsl_formula.specs.Known.{known, clocks}
 use Rattle.ccsl_refute.specs.declared.line.Lit.{Lit}
 use Rattle.ccsl_refute.specs.Literals.{falsified, names, are_proper}

@@ -2,8 +2,7 @@
 use Rattle.std.proofs.Common.{◌≡◌, ℕ, zero, suc, List, [], ◌∷◌, ◌++◌, length, true, false, ◌&&◌, Some, None, refl, sym, ap, ◌∙◌, slice_get, append_assoc, append-nil}
 use Rattle.std.proofs.lemmas.Bool.{and_parts}
 use Rattle.ccsl_formula.specs.declared.scope.Scope.{Scope}
-use Rattle.ccsl_formula.specs.Truth.{Part}
-use Rattle.ccsl_formula.specs.Known.{with_value}
+use Rattle.ccsl_formula.specs.Truth.{Part, with_value}
 use Rattle.ccsl_formula.specs.Formula.{Formula}
 use Rattle.ccsl_refute.specs.declared.line.Lit.{Lit}
 use Rattle.ccsl_refute.specs.declared.line.Line.{Line}

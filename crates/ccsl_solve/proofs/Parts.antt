@@ -3,8 +3,9 @@ use Rattle.std.proofs.Common.{◌≡◌, ◌≢◌, ℕ, zero, suc, ◌<◌, ◌
 use Rattle.std.proofs.Math.Path.{fun_ext}
 use Rattle.std.proofs.lemmas.Bool.{cases_eq}
 use Rattle.ccsl_formula.specs.declared.truth3.Truth3.TheVariants.{Open}
-use Rattle.ccsl_formula.specs.Truth.{known_as, is_open, Part}
-use Rattle.ccsl_formula.specs.Known.{with_value, with_truth}
+use Rattle.ccsl_formula.specs.Truth.{known_as, Part, with_value}
+use Rattle.ccsl_formula.specs.Agreement.{is_open}
+use Rattle.ccsl_formula.specs.Known.{with_truth}
 use Rattle.ccsl_solve.specs.Under.{Under, IsInside, open_count}
 use Rattle.ccsl_solve.proofs.Tests.{test_same, test_other, open-known}
 

@@ -2,8 +2,8 @@
 use Rattle.std.proofs.Common.{◌≡◌, ◌≢◌, ◌<◌, ℕ, List, Bool, true, reverse, Option, Some, None, refl, sym, ap, ◌∙◌, subst}
 use Rattle.ccsl_formula.specs.declared.scope.Scope.{Scope}
 use Rattle.ccsl_formula.specs.declared.truth3.Truth3.TheVariants.{Open}
-use Rattle.ccsl_formula.specs.Truth.{Part}
-use Rattle.ccsl_formula.specs.Known.{known, with_value, with_truth}
+use Rattle.ccsl_formula.specs.Truth.{Part, with_value}
+use Rattle.ccsl_formula.specs.Known.{known, with_truth}
 use Rattle.ccsl_formula.specs.Formula.{Formula}
 use Rattle.ccsl_refute.specs.declared.line.Lit.{Lit}
 use Rattle.ccsl_refute.specs.declared.line.Line.{Line}

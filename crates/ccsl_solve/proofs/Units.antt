@@ -3,7 +3,8 @@ use Rattle.std.proofs.Common.{◌≡◌, ◌≢◌, ℕ, List, [], ◌∷◌, Bo
 use Rattle.std.proofs.lemmas.Bool.{cases_eq, and_parts}
 use Rattle.ccsl_formula.specs.declared.truth3.Truth3.{Truth3}
 use Rattle.ccsl_formula.specs.declared.truth3.Truth3.TheVariants.{Yes, No, Open}
-use Rattle.ccsl_formula.specs.Truth.{known_as, not3, is_open, Part}
+use Rattle.ccsl_formula.specs.Truth.{known_as, not3, Part}
+use Rattle.ccsl_formula.specs.Agreement.{is_open}
 use Rattle.ccsl_refute.specs.declared.line.Lit.{Lit}
 use Rattle.ccsl_refute.specs.Literals.{falsified, is_no, lit_value, all_false, unit, names, are_proper}
 use Rattle.ccsl_refute.proofs.Proper.{named-known}

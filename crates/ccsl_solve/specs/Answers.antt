@@ -3,7 +3,8 @@ use Rattle.std.specs.Prelude.{ℕ, List, true, false, ◌≡◌, ◌<◌}
 use Rattle.ccsl_base.specs.Clocks.{ticks_in}
 use Rattle.ccsl_formula.specs.declared.scope.Scope.{Scope}
 use Rattle.ccsl_formula.specs.declared.truth3.Truth3.TheVariants.{Open}
-use Rattle.ccsl_formula.specs.Truth.{Part, Assignment, Agrees}
+use Rattle.ccsl_formula.specs.Truth.{Part, Assignment}
+use Rattle.ccsl_formula.specs.Agreement.{Agrees}
 use Rattle.ccsl_formula.specs.Formula.{Formula, in_set}
 use Rattle.ccsl_refute.specs.declared.line.Lit.{Lit}
 use Rattle.ccsl_refute.specs.declared.line.Line.{Line}

@@ -2,7 +2,8 @@
 use Rattle.std.specs.Prelude.{ℕ, List, [], ◌∷◌, reverse, false, ◌≡◌, ◌<◌, Option, Some, None}
 use Rattle.ccsl_formula.specs.declared.scope.Scope.{Scope}
 use Rattle.ccsl_formula.specs.declared.truth3.Truth3.TheVariants.{Yes}
-use Rattle.ccsl_formula.specs.Truth.{Part, Assignment, Agrees}
+use Rattle.ccsl_formula.specs.Truth.{Part, Assignment}
+use Rattle.ccsl_formula.specs.Agreement.{Agrees}
 use Rattle.ccsl_formula.specs.Known.{known}
 use Rattle.ccsl_formula.specs.Formula.{Formula, kleene}
 use Rattle.ccsl_refute.specs.declared.line.Lit.{Lit}

@@ -2,8 +2,7 @@
 use Rattle.std.specs.Prelude.{ℕ, List, true, not, ◌≡◌, ◌≢◌, ◌<◌, ◌⊎◌, Option, Some, None, slice_get}
 use Rattle.ccsl_formula.specs.declared.scope.Scope.{Scope}
 use Rattle.ccsl_formula.specs.declared.truth3.Truth3.TheVariants.{Open}
-use Rattle.ccsl_formula.specs.Truth.{Part}
-use Rattle.ccsl_formula.specs.Known.{with_value}
+use Rattle.ccsl_formula.specs.Truth.{Part, with_value}
 use Rattle.ccsl_formula.specs.Formula.{Formula}
 use Rattle.ccsl_refute.specs.declared.line.Lit.{Lit}
 use Rattle.ccsl_refute.specs.declared.line.Line.{Line}

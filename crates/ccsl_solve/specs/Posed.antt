@@ -1,6 +1,7 @@
 -- The conditions of a question to the solver. This project's own.
 use Rattle.std.specs.Prelude.{ℕ, List, [], ◌∷◌, true, map, ◌≡◌, ◌<◌, ◌≤◌, ◌^◌, length}
-use Rattle.ccsl_formula.specs.Formula.{Formula, ReadsBelow}
+use Rattle.ccsl_formula.specs.Formula.{Formula}
+use Rattle.ccsl_formula.specs.Variables.{ReadsBelow}
 use Rattle.ccsl_formula.specs.Plain.{plain}
 use Rattle.ccsl_base.specs.declared.limits.TheConstants.{MAX_CLOCKS}
 use Rattle.ccsl_refute.specs.declared.line.Line.{Line}

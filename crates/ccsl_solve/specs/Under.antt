@@ -2,7 +2,8 @@
 use Rattle.std.specs.Prelude.{ℕ, zero, suc, Bool, true, false, ◌≡◌, ◌≤◌, ◌⊎◌, if◌then◌else◌}
 use Rattle.ccsl_formula.specs.declared.truth3.Truth3.{Truth3}
 use Rattle.ccsl_formula.specs.declared.truth3.Truth3.TheVariants.{Yes, No, Open}
-use Rattle.ccsl_formula.specs.Truth.{Part, Assignment, is_open}
+use Rattle.ccsl_formula.specs.Truth.{Part, Assignment}
+use Rattle.ccsl_formula.specs.Agreement.{is_open}
 
 -- each value of q is that of p
 pub record Under (q p : Part) : Type 0 where

@@ -3,7 +3,8 @@
 ghost use Rattle.std.specs.Prelude.{◌≡◌, ◌≢◌, ℕ, not, length, reverse, IfOk, OnOk};
 ghost use Rattle.ccsl_formula.specs.declared.truth3.Truth3.TheVariants.{Open};
 ghost use Rattle.ccsl_formula.specs.Truth.{Part};
-ghost use Rattle.ccsl_formula.specs.Known.{known, with_value, with_truth, joined};
+ghost use Rattle.ccsl_formula.specs.Known.{known, with_truth, joined};
+ghost use Rattle.ccsl_formula.specs.Truth.{with_value};
 ghost use Rattle.ccsl_solve.specs.Under.{Under, IsInside};
 ghost use Rattle.ccsl_solve.specs.Conflict.{IsClause, IsConflict, IsDenial, Extends};
 ghost use Rattle.ccsl_solve.specs.Posed.{AreValid};

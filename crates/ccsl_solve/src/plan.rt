@@ -2,8 +2,9 @@
 
 ghost use Rattle.std.specs.Prelude.{◌≡◌, ◌≢◌, ◌<◌, ℕ, List, Some, true, not, IfOk, OnOk, MatchOption, slice_get};
 ghost use Rattle.ccsl_formula.specs.declared.truth3.Truth3.TheVariants.{Open};
-ghost use Rattle.ccsl_formula.specs.Truth.{is_open};
-ghost use Rattle.ccsl_formula.specs.Known.{known, with_value};
+ghost use Rattle.ccsl_formula.specs.Agreement.{is_open};
+ghost use Rattle.ccsl_formula.specs.Known.{known};
+ghost use Rattle.ccsl_formula.specs.Truth.{with_value};
 ghost use Rattle.ccsl_solve.specs.Posed.{IsPosed, asked};
 ghost use Rattle.ccsl_refute.specs.declared.line.Line.{Line};
 ghost use Rattle.ccsl_refute.specs.declared.line.Lit.{Lit};

@@ -2,8 +2,9 @@
 
 ghost use Rattle.std.specs.Prelude.{◌≡◌, ◌≢◌, ◌<◌, ◌^◌, ◌∷◌, [], ℕ, true, false, not, map, length, reverse, IfOk, OnOk, MatchOption, slice_get};
 ghost use Rattle.ccsl_formula.specs.declared.truth3.Truth3.TheVariants.{Open};
-ghost use Rattle.ccsl_formula.specs.Truth.{is_open};
-ghost use Rattle.ccsl_formula.specs.Known.{known, with_value};
+ghost use Rattle.ccsl_formula.specs.Agreement.{is_open};
+ghost use Rattle.ccsl_formula.specs.Known.{known};
+ghost use Rattle.ccsl_formula.specs.Truth.{with_value};
 ghost use Rattle.ccsl_formula.specs.Plain.{plain};
 ghost use Rattle.ccsl_refute.specs.Literals.{all_false};
 ghost use Rattle.ccsl_refute.specs.Validity.{is_refuted};

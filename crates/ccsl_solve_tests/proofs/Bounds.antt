@@ -1,7 +1,8 @@
 -- Variables below a bound.
 use Rattle.std.proofs.Common.{◌≡◌, ℕ, ◌<◌, true, false, ◌||◌, nat_eq, refl, subst, sym}
 use Rattle.std.proofs.lemmas.Bool.{eqb-true}
-use Rattle.ccsl_formula.specs.Formula.{Formula, reads, ReadsBelow}
+use Rattle.ccsl_formula.specs.Formula.{Formula}
+use Rattle.ccsl_formula.specs.Variables.{reads, ReadsBelow}
 
 pub one-below : (n x v : ℕ) → x < n → nat_eq v x ≡ true → v < n
 one-below n x v l e = subst (λ k. k < n) (sym (eqb-true v x e)) l

@@ -1,7 +1,7 @@
 //! Whether formulas read named clocks alone.
 
 ghost use Rattle.std.specs.Prelude.{◌≡◌, true, map};
-ghost use Rattle.ccsl_formula.specs.Formula.{ReadsBelow};
+ghost use Rattle.ccsl_formula.specs.Variables.{ReadsBelow};
 ghost use Rattle.ccsl_formula.specs.Plain.{plain};
 ghost use Rattle.ccsl_solve.specs.Posed.{AllBelow};
 

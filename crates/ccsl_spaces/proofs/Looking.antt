@@ -9,7 +9,8 @@ use Rattle.std.proofs.Math.ListN.{get_or-map}
 use Rattle.std.proofs.lemmas.List.Quantifiers.{position-Some}
 use Rattle.std.proofs.lemmas.Option.{slice_get-get_or}
 use Rattle.ccsl_base.specs.Names.{find_name}
-use Rattle.ccsl_rules.specs.Spaces.{Known, look, is_among}
+use Rattle.ccsl_rules.specs.Spaces.{Known, look}
+use Rattle.ccsl_base.specs.Names.{is_among}
 use Rattle.ccsl_spaces.specs.declared.declaration.Declaration.{Declaration}
 use Rattle.ccsl_spaces.specs.Knowns.{known, names, name_at}
 use Rattle.ccsl_spaces.specs.Places.{place_of, HasFirsts}
@@ -131,8 +132,7 @@ among-take name [] zero = refl
 among-take name [] (suc k) = refl
 among-take name (x ∷ xs) zero = below-zero (find_name name (x ∷ xs))
 among-take name (x ∷ xs) (suc k) =
-    ap (λ b. b || is_among name (take k xs)) (bytes_eq-comm x name) ∙ by (bytes_eq name x) (among-take name xs k)
-    ∙ ap (is_below (suc k)) (sym (position-cons (bytes_eq name) x xs))
+    by (bytes_eq name x) (among-take name xs k) ∙ ap (is_below (suc k)) (sym (position-cons (bytes_eq name) x xs))
   where
     by : (b : Bool) → is_among name (take k xs) ≡ is_below k (find_name name xs) →
         (b || is_among name (take k xs)) ≡ is_below (suc k) (cond b (Some 0) (option_map suc (find_name name xs)))

@@ -1,7 +1,7 @@
 //! The space of relations and expressions.
 
 ghost use Rattle.std.specs.Prelude.{◌≡◌, ◌+◌, ◌^◌, ◌<◌, ◌≤◌, [], ◌∷◌, ◌++◌, IfOk, OnOk, length, map};
-ghost use Rattle.ccsl_ast.specs.Trees.{plain_member, plain_definition};
+ghost use Rattle.ccsl_ast.specs.Plain.{plain_member, plain_definition};
 ghost use Rattle.std.specs.Option.{option_map};
 ghost use Rattle.ccsl_rules.specs.Spaces.{look, parts_space, calls_space};
 ghost use Rattle.ccsl_spaces.specs.Knowns.{known};

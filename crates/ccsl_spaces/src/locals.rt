@@ -1,7 +1,8 @@
 //! The space of a body: its parameters, and the clocks that its lines declare.
 
 ghost use Rattle.std.specs.Prelude.{◌≡◌, ◌+◌, ◌^◌, ◌<◌, ◌++◌, IfOk, OnOk, map};
-ghost use Rattle.ccsl_ast.specs.Trees.{SLineOf, plain_line, plain_sline};
+ghost use Rattle.ccsl_ast.specs.Trees.{SLineOf};
+ghost use Rattle.ccsl_ast.specs.Plain.{plain_line, plain_sline};
 ghost use Rattle.ccsl_rules.specs.Spaces.{params_space, declared_by, lines_space, clock_known};
 
 use crate::space::Space;

@@ -2,7 +2,8 @@
 
 ghost use Rattle.std.specs.Prelude.{◌≡◌, [], ◌∷◌, ◌++◌, ◌<◌, is_none, IfOk, OnOk, OnErr, length, map, take};
 ghost use Rattle.std.specs.Option.{option_map};
-ghost use Rattle.ccsl_rules.specs.Spaces.{look, is_among};
+ghost use Rattle.ccsl_rules.specs.Spaces.{look};
+ghost use Rattle.ccsl_base.specs.Names.{is_among};
 ghost use Rattle.ccsl_spaces.specs.Knowns.{known, declared_as, names, name_at};
 
 use crate::declaration::Declaration;

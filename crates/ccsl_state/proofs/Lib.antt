@@ -8,6 +8,7 @@ pub mod CallSites
 pub mod CallBodies
 pub mod Moving
 pub mod TwoOperands
+pub mod Settling
 pub mod Evals
 pub mod Bits
 pub mod Keeping
@@ -18,6 +19,7 @@ pub mod Each
 pub mod TableLaws
 pub mod StateLaws
 pub mod WithinLaws
+pub mod QuietLaws
 pub mod BelowLaws
 pub mod Counted
 pub mod PlaceLaws
@@ -26,6 +28,7 @@ pub mod StandLaws
 pub mod SilentLaws
 pub mod AnyBit
 pub mod ReachLaws
-pub mod PartLaws
 pub mod PartRegions
-pub mod PartStands
+pub mod Visiting
+pub mod PartMeans
+pub mod Entering

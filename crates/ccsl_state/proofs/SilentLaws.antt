@@ -6,7 +6,8 @@ use Rattle.ccsl_formula.specs.Formula.{eval}
 use Rattle.ccsl_kernel.specs.Syntax.{Expression, System, definition_of}
 use Rattle.ccsl_kernel.specs.Table.{Now}
 use Rattle.ccsl_kernel.specs.Lives.{Step, step_at}
-use Rattle.ccsl_kernel.specs.Meaning.{dead_below, formula_at, dead_at}
+use Rattle.ccsl_kernel.specs.Meaning.{dead_below, formula_at}
+use Rattle.ccsl_kernel.specs.Deaths.{dead_at}
 use Rattle.ccsl_kernel.specs.Runs.{ObeysDefinitions, full_step}
 use Rattle.ccsl_kernel.specs.Accepted.{IsAccepted}
 use Rattle.ccsl_kernel.proofs.AcceptedParts.{accepted_guarded, accepted_scoped}

@@ -5,7 +5,8 @@ use Rattle.std.proofs.lemmas.Bool.{or_cases}
 use Rattle.std.proofs.lemmas.List.{map_push}
 use Rattle.std.proofs.lemmas.Option.{slice_get_within, slice_get_past, get_or_from_slice_get}
 use Rattle.ccsl_base.specs.Clocks.{ticks_in}
-use Rattle.ccsl_formula.specs.Formula.{Formula, FTrue, FVar, FIff, FNot, FOr, reads, ReadsBelow}
+use Rattle.ccsl_formula.specs.Formula.{Formula, FTrue, FVar, FIff, FNot, FOr}
+use Rattle.ccsl_formula.specs.Variables.{reads, ReadsBelow}
 use Rattle.ccsl_kernel.specs.declared.constraint.Constraint.{Constraint}
 use Rattle.ccsl_kernel.specs.declared.constraint.RelationKind.{RelationKind}
 use Rattle.ccsl_kernel.specs.declared.constraint.RelationKind.TheVariants.{Subclock, Coincides, Excludes, Precedes, PrecedesWeakly, PrecedesWithin}
@@ -13,7 +14,7 @@ use Rattle.ccsl_kernel.specs.Syntax.{Expression, System, definition_of}
 use Rattle.ccsl_kernel.specs.Cells.{cells_in}
 use Rattle.ccsl_kernel.specs.Lives.{Step}
 use Rattle.ccsl_kernel.specs.Ticks.{count}
-use Rattle.ccsl_kernel.specs.Meaning.{dead_at}
+use Rattle.ccsl_kernel.specs.Deaths.{dead_at}
 use Rattle.ccsl_kernel.specs.Items.{clock_count, relation_formula, constraint_or_true, item_or_constraint, item_formula}
 use Rattle.ccsl_kernel.specs.Runs.{full_step}
 use Rattle.ccsl_kernel.specs.Accepted.{IsConstraint, IsAccepted}

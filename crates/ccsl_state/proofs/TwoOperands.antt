@@ -40,17 +40,19 @@ module _ (K : System) (earlier : List ℕ) (ρ : List Actual) (own : ℕ) (a d :
 module _ (K : System) (earlier : List ℕ) (ρ : List Actual) (s : Step) (gone : ℕ → Bool) {N : Type 0} (at : List ℕ → N) (ticks : N → Bool → Bool → Bool) (moves : N → Bool → Bool → N) (dies : N → Bool → Bool → Bool)
     (own : ℕ) (a d : Expression)
   where
-    pub record AreMoved (row row' : List ℕ) (r z : Bool) : Type 0 where
+    pub record AreMoved (row row' one other : List ℕ) (r z : Bool) : Type 0 where
       pub tick : r ≡ ticks (at row) (eval (formula_of (read K earlier a ρ (drop own row))) s) (eval (formula_of (read K earlier d ρ (drop (own + cells_in earlier a) row))) s)
       pub node : at row' ≡ moves (at row) (eval (formula_of (read K earlier a ρ (drop own row))) s) (eval (formula_of (read K earlier d ρ (drop (own + cells_in earlier a) row))) s)
       pub left : read K earlier a ρ (drop own row') ≡ next K s gone (read K earlier a ρ (drop own row))
       pub right : read K earlier d ρ (drop (own + cells_in earlier a) row') ≡ next K s gone (read K earlier d ρ (drop (own + cells_in earlier a) row))
       pub dead : z ≡ dies (at row') (dead_of gone (read K earlier a ρ (drop own row'))) (dead_of gone (read K earlier d ρ (drop (own + cells_in earlier a) row')))
-      pub rest : drop (own + cells_in earlier a + cells_in earlier d) row' ≡ drop (own + cells_in earlier a + cells_in earlier d) row
+      pub behind : drop (own + cells_in earlier a + cells_in earlier d) row' ≡ drop (own + cells_in earlier a + cells_in earlier d) row
+      pub old_left : drop own row ≡ one
+      pub old_right : drop (own + cells_in earlier a) row ≡ other
 
     pub two_moved : (head head' rest middle left right right' row : List ℕ) (t u x y r z : Bool) → ((head rest : List ℕ) → length head ≡ own → at (head ++ rest) ≡ at head) → IsEnough K earlier → cells_in earlier a ≤ 32768 →
         row ≡ head ++ rest → length head ≡ own → length head' ≡ length head → middle ≡ left ++ right → length left ≡ cells_in earlier a → IsMoved K earlier ρ s gone a rest middle t x → IsMoved K earlier ρ s gone d right right' u y →
-        r ≡ ticks (at head) t u → at head' ≡ moves (at head) t u → z ≡ dies (at head') x y → AreMoved row (head' ++ (left ++ right')) r z
+        r ≡ ticks (at head) t u → at head' ≡ moves (at head) t u → z ≡ dies (at head') x y → AreMoved row (head' ++ (left ++ right')) rest right r z
     two_moved head head' rest middle left right right' row t u x y r z front enough few row_is len same middle_is size first second ticked moved died =
         let row' = head' ++ (left ++ right') in
         let parts = rewritten K earlier ρ own a d head head' rest middle left right right' row enough few row_is len same middle_is size first.rest second.rest in
@@ -64,7 +66,9 @@ module _ (K : System) (earlier : List ℕ) (ρ : List Actual) (s : Step) (gone :
           left = parts.first ∙ first.tree ∙ ap (λ r. next K s gone (read K earlier a ρ r)) (sym parts.old_first);
           right = parts.second ∙ second.tree ∙ ap (λ r. next K s gone (read K earlier d ρ r)) (sym parts.old_second);
           dead = died ∙ ap (λ o. dies o x y) (sym new) ∙ ap₂ (dies (at row')) (first.dead ∙ ap (dead_of gone) (sym parts.first)) (second.dead ∙ ap (dead_of gone) (sym parts.second));
-          rest = parts.behind;
+          behind = parts.behind;
+          old_left = parts.old_first;
+          old_right = parts.old_second;
         }
 
 -- AT THE BIRTH

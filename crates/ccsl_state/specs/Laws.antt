@@ -4,7 +4,8 @@ use Rattle.ccsl_base.specs.Clocks.{ticks_in, are_below}
 use Rattle.ccsl_kernel.specs.declared.actual.Actual.{Actual}
 use Rattle.ccsl_kernel.specs.Syntax.{Expression, System, definition_of}
 use Rattle.ccsl_kernel.specs.Lives.{Step}
-use Rattle.ccsl_kernel.specs.Meaning.{life_given, dead_at}
+use Rattle.ccsl_kernel.specs.Meaning.{life_given}
+use Rattle.ccsl_kernel.specs.Deaths.{dead_at}
 use Rattle.ccsl_kernel.specs.Guarded.{IsAllowed}
 use Rattle.ccsl_kernel.specs.Items.{item_formula}
 use Rattle.ccsl_kernel.specs.Runs.{ObeysDefinitions, full_step, completed}

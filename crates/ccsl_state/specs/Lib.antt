@@ -9,6 +9,7 @@ pub mod States
 pub mod Within
 pub mod Below
 pub mod Reach
+pub mod Quiet
 pub mod Held
 pub mod Laws
 pub mod Whole
@@ -17,3 +18,4 @@ pub mod Part
 pub mod PartLaid
 pub mod Regions
 pub mod Passing
+pub mod Visits

@@ -2,7 +2,7 @@
 --     tree, call_tree      the tree in the region of an expression; in that of a call to the group behind the place
 --     size, size_from      the cells of an expression; of the definitions from number i on
 --     newborn, after, ticks      the tree at a birth; after a step; whether it ticks in a step
-use Rattle.std.specs.Prelude.{◌≡◌, ℕ, ◌+◌, ◌≤◌, List, Bool, Some, length, drop}
+use Rattle.std.specs.Prelude.{◌≡◌, ℕ, ◌+◌, ◌≤◌, List, Bool, true, Some, length, drop}
 use Rattle.ccsl_formula.specs.Formula.{eval}
 use Rattle.ccsl_kernel.specs.declared.actual.Actual.{Actual}
 use Rattle.ccsl_kernel.specs.declared.expr.Expr.{Expr}
@@ -17,6 +17,7 @@ use Rattle.ccsl_state.specs.Tree.{Tree, opening, next, formula_of}
 use Rattle.ccsl_state.specs.Layout.{flag_at, then_at, read, region_of}
 use Rattle.ccsl_state.specs.Standing.{Stands, IsEnough}
 use Rattle.ccsl_state.specs.Moves.{gone_in}
+use Rattle.ccsl_state.specs.Quiet.{is_settled}
 use Rattle.ccsl_state.specs.States.{cells_from, trees_in}
 
 abbrev pub tree : Lay → Expr → List Actual → List ℕ → Tree
@@ -73,3 +74,9 @@ HasRoom lay group n = (m : ℕ) (b : Body) → body_of lay.system.now.groups gro
 
 abbrev pub then_tree : Lay → Expr → Expr → List Actual → List ℕ → Tree
 then_tree lay a d ρ row = then_at (flag_at row) (left_tree lay a ρ 1 row) (left_tree lay d ρ 1 row) (plain_expr d) ρ
+
+-- both are settled after a step
+abbrev pub AreSettled : Lay → Expr → Expr → List Actual → ℕ → Step → List ℕ → List ℕ → Type 0
+AreSettled lay a d ρ own s gone row =
+    (is_settled (gone_in gone) (after lay s gone (left_tree lay a ρ own row)) ≡ true)
+    × (is_settled (gone_in gone) (after lay s gone (right_tree lay a d ρ own row)) ≡ true)

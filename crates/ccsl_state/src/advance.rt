@@ -14,12 +14,13 @@ ghost use Rattle.ccsl_state.specs.Layout.{words_of, lag_at, own_cells, two_at, t
 ghost use Rattle.ccsl_state.specs.Standing.{is_then, IsCall, Stands, is_own, IsEnough};
 ghost use Rattle.ccsl_state.specs.Nodes.{one_at, node_ticks, node_dead};
 ghost use Rattle.ccsl_state.specs.Moves.{gone_in, IsTail, Outcome};
-ghost use Rattle.ccsl_state.specs.Regions.{tree, call_tree, size, newborn, after, ticks, HasTable, MayStand, WordsFit, ParamsFit, left_tree, right_tree, then_tree, HasRoom};
+ghost use Rattle.ccsl_state.specs.Quiet.{is_settled};
+ghost use Rattle.ccsl_state.specs.Regions.{tree, call_tree, size, newborn, after, ticks, HasTable, MayStand, WordsFit, ParamsFit, left_tree, right_tree, then_tree, AreSettled, HasRoom};
 
 use crate::cells::{is_then, own_cells, size_of};
 use crate::lag::{lag_cells, lag_dead, lag_moved, lag_ticks};
 use crate::lay::Lay;
-use crate::moved::{Moved, Stepped};
+use crate::moved::{Moved, Visited};
 use crate::name::{is_gone, name_ticks};
 use crate::node::{Unary, filter_from, two_dead, two_moved, two_ticks};
 use crate::open::{call_opened, opened};
@@ -51,6 +52,8 @@ pub fn advanced<'s>(
     ensures next { Outcome lay.now.system.now step.now (gone_in gone.now)
         (length lay.now.earlier.now) actuals.now (tree lay.now e.now actuals.now row.old)
         (tree lay.now e.now actuals.now row.new) result.dead result.tail }
+    ensures settled { result.settled ≡ true → is_settled (gone_in gone.now)
+        (after lay.now step.now gone.now (tree lay.now e.now actuals.now row.old)) ≡ true }
     ensures rest { drop (size lay.now e.now) row.new ≡ drop (size lay.now e.now) row.old }
     ensures size { result.size ≡ size lay.now e.now }
     ensures inner { MayStand lay.now true e.now → result.tail ≡ None }
@@ -61,6 +64,7 @@ pub fn advanced<'s>(
             Moved {
                 tick: name_ticks(actual, step),
                 dead: is_gone(actual, gone),
+                settled: true,
                 size: 1,
                 tail: None,
             }
@@ -72,6 +76,7 @@ pub fn advanced<'s>(
                 Moved {
                     tick: stepped.tick,
                     dead: stepped.dead,
+                    settled: stepped.settled,
                     size: lay.earlier[*group as usize] as usize,
                     tail: None,
                 }
@@ -79,6 +84,7 @@ pub fn advanced<'s>(
                 Moved {
                     tick: false,
                     dead: false,
+                    settled: true,
                     size: 0,
                     tail: None,
                 }
@@ -87,6 +93,7 @@ pub fn advanced<'s>(
         Expr::Never => Moved {
             tick: false,
             dead: false,
+            settled: true,
             size: 1,
             tail: None,
         },
@@ -118,6 +125,7 @@ pub fn advanced<'s>(
                 Moved {
                     tick: moved.tick,
                     dead: moved.dead,
+                    settled: moved.settled,
                     size: 1 + moved.size.max(size_of(d, lay.earlier)),
                     tail: moved.tail,
                 }
@@ -126,6 +134,7 @@ pub fn advanced<'s>(
                 Moved {
                     tick: moved.tick,
                     dead: moved.dead,
+                    settled: moved.settled,
                     size: 1 + moved.size.max(size_of(a, lay.earlier)),
                     tail: moved.tail,
                 }
@@ -163,6 +172,8 @@ fn one_advanced<'s>(
         after lay.now step.now gone.now (left_tree lay.now a.now actuals.now 1 row.old) }
     ensures dead { result.dead ≡ one_dead (one_at lay.now.system.now.words unary (slice_index row.new 0))
         (dead_of (gone_in gone.now) (left_tree lay.now a.now actuals.now 1 row.new)) }
+    ensures settled { result.settled ≡ true → is_settled (gone_in gone.now)
+        (after lay.now step.now gone.now (left_tree lay.now a.now actuals.now 1 row.old)) ≡ true }
     ensures rest { drop (1 + size lay.now a.now) row.new ≡ drop (1 + size lay.now a.now) row.old }
     ensures size { result.size ≡ 1 + size lay.now a.now }
     ensures tail { result.tail ≡ None }
@@ -173,6 +184,7 @@ fn one_advanced<'s>(
     Moved {
         tick: stepped.tick,
         dead: stepped.dead,
+        settled: moved.settled,
         size: 1 + moved.size,
         tail: None,
     }
@@ -217,6 +229,8 @@ fn two_advanced<'s>(
     ensures dead { result.dead ≡ node_dead (two_at op row.new)
         (dead_of (gone_in gone.now) (left_tree lay.now a.now actuals.now (own_cells op) row.new))
         (dead_of (gone_in gone.now) (right_tree lay.now a.now d.now actuals.now (own_cells op) row.new)) }
+    ensures settled { result.settled ≡ true →
+        AreSettled lay.now a.now d.now actuals.now (own_cells op) step.now gone.now row.old }
     ensures rest { let n = own_cells op + size lay.now a.now + size lay.now d.now in drop n row.new ≡
         drop n row.old }
     ensures size { result.size ≡ own_cells op + size lay.now a.now + size lay.now d.now }
@@ -231,6 +245,7 @@ fn two_advanced<'s>(
     Moved {
         tick,
         dead: two_dead(op, head, left.dead, right.dead),
+        settled: left.settled & right.settled,
         size: own_cells(op) + left.size + right.size,
         tail: None,
     }
@@ -265,6 +280,8 @@ fn then_advanced<'s>(
         (then_tree lay.now a.now d.now actuals.now row.old)
         (then_tree lay.now a.now d.now actuals.now row.new)
         result.dead result.tail }
+    ensures settled { result.settled ≡ true → is_settled (gone_in gone.now)
+        (after lay.now step.now gone.now (then_tree lay.now a.now d.now actuals.now row.old)) ≡ true }
     ensures rest { let n = 1 + max (size lay.now a.now) (size lay.now d.now) in drop n row.new ≡
         drop n row.old }
     ensures size { result.size ≡ 1 + max (size lay.now a.now) (size lay.now d.now) }
@@ -276,6 +293,7 @@ fn then_advanced<'s>(
         return Moved {
             tick: right.tick,
             dead: right.dead,
+            settled: right.settled,
             size: 1 + right.size.max(size_of(a, lay.earlier)),
             tail: right.tail,
         };
@@ -286,6 +304,7 @@ fn then_advanced<'s>(
         return Moved {
             tick: left.tick,
             dead: false,
+            settled: left.settled,
             size,
             tail: None,
         };
@@ -294,6 +313,7 @@ fn then_advanced<'s>(
         Some(call) => Moved {
             tick: left.tick,
             dead: false,
+            settled: false,
             size,
             tail: Some(call),
         },
@@ -303,6 +323,7 @@ fn then_advanced<'s>(
             Moved {
                 tick: left.tick,
                 dead: born.dead,
+                settled: false,
                 size,
                 tail: None,
             }
@@ -319,7 +340,7 @@ fn call_advanced(
     row: &mut [u64],
     step: &ClockSet,
     gone: &ClockSet,
-) -> Stepped
+) -> Visited
     requires table { HasTable lay.now }
     requires group { length lay.now.earlier.now ≡ group }
     requires groups { group < length lay.now.system.now.groups }
@@ -329,6 +350,8 @@ fn call_advanced(
     ensures tick { result.tick ≡ ticks (call_tree lay.now row.old) step.now }
     ensures tree { call_tree lay.now row.new ≡ after lay.now step.now gone.now (call_tree lay.now row.old) }
     ensures dead { result.dead ≡ dead_of (gone_in gone.now) (call_tree lay.now row.new) }
+    ensures settled { result.settled ≡ true → is_settled (gone_in gone.now)
+        (after lay.now step.now gone.now (call_tree lay.now row.old)) ≡ true }
     ensures rest { (n : ℕ) → 1 ≤ n → HasRoom lay.now group n → drop n row.new ≡ drop n row.old }
 {
     let (first, rest) = row.split_at_mut(1);
@@ -341,19 +364,22 @@ fn call_advanced(
             actuals_at(lay.system.words(), cells, actuals);
             let moved = advanced(lay, &body.root, actuals, region, step, gone);
             match moved.tail {
-                None => Stepped {
+                None => Visited {
                     tick: moved.tick,
                     dead: moved.dead,
+                    settled: moved.settled,
                 },
-                Some(call) => Stepped {
+                Some(call) => Visited {
                     tick: moved.tick,
                     dead: call_opened(lay, group, call.member, call.args, actuals, row, gone),
+                    settled: false,
                 },
             }
         }
-        None => Stepped {
+        None => Visited {
             tick: false,
             dead: false,
+            settled: true,
         },
     }
 }
@@ -398,6 +424,8 @@ fn lag_advanced<'s>(
     ensures dead { result.dead ≡ two_dead (lag_at m row.new)
         (dead_of (gone_in gone.now) (left_tree lay.now a.now actuals.now (2 + words_of m) row.new))
         (dead_of (gone_in gone.now) (right_tree lay.now a.now d.now actuals.now (2 + words_of m) row.new)) }
+    ensures settled { result.settled ≡ true →
+        AreSettled lay.now a.now d.now actuals.now (2 + words_of m) step.now gone.now row.old }
     ensures rest { let n = 2 + words_of m + size lay.now a.now + size lay.now d.now in drop n row.new ≡
         drop n row.old }
     ensures size { result.size ≡ 2 + words_of m + size lay.now a.now + size lay.now d.now }
@@ -412,6 +440,7 @@ fn lag_advanced<'s>(
     Moved {
         tick,
         dead: lag_dead(m, head, left.dead, right.dead),
+        settled: left.settled & right.settled,
         size: lag_cells(m) + left.size + right.size,
         tail: None,
     }

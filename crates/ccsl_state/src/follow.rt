@@ -1,44 +1,41 @@
-//! The regions of some definitions in a step, each at its place.
+//! The regions of some definitions in a step: those that hear something, each at its place.
 
-ghost use Rattle.std.specs.Prelude.{◌≡◌, ◌≤◌, ◌<◌, ℕ, [], length, slice_get, All, Some, IfOk};
+ghost use Rattle.std.specs.Prelude.{◌≡◌, ◌≤◌, ◌<◌, ℕ, [], ◌||◌, ◌&&◌, true, false, length, slice_get, slice_index_or, Some, IfSome, IfNone};
+ghost use Rattle.ccsl_base.specs.Clocks.{ticks_in, are_below, is_ascending};
 ghost use Rattle.ccsl_kernel.specs.Accepted.{IsAccepted};
 ghost use Rattle.ccsl_state.specs.States.{cells_from, places_from};
 ghost use Rattle.ccsl_state.specs.Regions.{trees_from, HasTable};
 ghost use Rattle.ccsl_state.specs.Whole.{IsWhole};
-ghost use Rattle.ccsl_state.specs.Passing.{passed_one, passed_along, numbers_in, passing};
+ghost use Rattle.ccsl_state.specs.Passing.{AreReaders, AreKept, IsPassed};
+ghost use Rattle.ccsl_state.specs.Visits.{IsVisited, IsEntered, is_waiting};
 
 use crate::advance::advanced;
 use crate::definitions::put;
 use crate::lay::Lay;
-use ccsl_base::{ClockSet, MAX_CELLS, Memory};
-use ccsl_kernel::System;
-use std::alloc::Global;
+use crate::moved::Visited;
+use crate::readers::Readers;
+use ccsl_base::{ClockSet, MAX_CELLS, MAX_CLOCKS};
 
-/// The numbers of the definitions whose clocks a set has.
-pub fn numbers(alloc: Global, system: &System, set: &ClockSet) -> Result<Vec<u32>, Memory>
-    ensures { IfOk result (λ v.
-        v.items ≡ numbers_in set.now system.now.declared 0 (length system.now.definitions)) }
-{
-    let declared = system.scope().declared;
-    let mut numbers = Vec::new(alloc);
-    for i in 0..system.definitions() {
-        if set.has(declared + i) {
-            numbers.push(i)?;
-        }
-    }
-    Ok(numbers)
+/// What is found of a step on its way: the clocks that tick in it, those that are dead after it, the numbers of the definitions that
+/// wait for their visit, and of those that are to be visited at the next step, whatever ticks.
+#[derive(Drop)]
+pub struct Passage {
+    pub step: ClockSet,
+    pub gone: ClockSet,
+    pub waiting: ClockSet,
+    pub unsettled: ClockSet,
 }
 
 /// Rewrites the region of definition number `i`, which begins at `place`. `step` has the ticks that its expression may ask for, and
-/// then its own; `gone` has those clocks that are dead after the step.
-fn follow_one(
+/// `gone` those clocks that are dead after the step.
+fn visit(
     lay: &Lay<'_>,
     i: u32,
     place: u32,
     row: &mut [u64],
-    step: &mut ClockSet,
-    gone: &mut ClockSet,
-)
+    step: &ClockSet,
+    gone: &ClockSet,
+) -> Visited
     requires table { HasTable lay.now }
     requires groups { length lay.now.earlier.now ≡ length lay.now.system.now.groups }
     requires within { i < length lay.now.system.now.definitions }
@@ -46,40 +43,98 @@ fn follow_one(
         Some place }
     requires room { cells_from lay.now.earlier.now lay.now.system.now.definitions ≤ length row.old }
     requires few { length row.old ≤ MAX_CELLS }
-    ensures { passing lay.now row.new step.new gone.new ≡
-        passed_one lay.now.system.now i (passing lay.now row.old step.old gone.old) }
+    ensures { IsVisited lay.now i row.old row.new step.now gone.now result }
 {
     let e = lay.system.definition(i);
     let (_, region) = row.split_at_mut(place as usize);
     let moved = advanced(lay, e, &[], region, step, gone);
-    let clock = lay.system.scope().declared + i;
-    put(step, clock, moved.tick);
-    put(gone, clock, moved.dead);
+    Visited {
+        tick: moved.tick,
+        dead: moved.dead,
+        settled: moved.settled,
+    }
 }
 
-/// Goes on by the full step that declared ticks give, in the regions of the definitions with these numbers. It answers the
-/// declared ticks with theirs.
+/// Whether others may hear of a visit: the clock ticked, or was dead before the step and is not after it, or the other way round.
+#[inline(always)]
+fn has_news(visited: Visited, was_dead: bool) -> bool
+    ensures { result ≡ false → (visited.tick ≡ false) × (visited.dead ≡ was_dead) }
+{
+    visited.tick || visited.dead != was_dead
+}
+
+/// Makes some definitions wait, or none.
+#[inline(always)]
+fn wait(waiting: &mut ClockSet, news: bool, readers: &ClockSet)
+    ensures { (p : ℕ) → ticks_in p waiting.new ≡
+        (ticks_in p waiting.old || (news && ticks_in p readers.now)) }
+{
+    if news {
+        waiting.insert_all(readers);
+    }
+}
+
+/// Enters what came of the visit of definition number `i`, that of a clock.
+#[inline(always)]
+fn enter(passage: &mut Passage, sets: &[ClockSet], i: u32, clock: u32, visited: Visited)
+    requires clock { clock < MAX_CLOCKS }
+    requires number { i < MAX_CLOCKS }
+    requires inside { clock < length sets.now }
+    ensures { IsEntered sets.now i clock visited passage.old passage.new }
+{
+    let news = has_news(visited, passage.gone.has(clock));
+    passage.waiting.remove(i);
+    wait(&mut passage.waiting, news, &sets[clock as usize]);
+    put(&mut passage.step, clock, visited.tick);
+    passage.gone.put(clock, visited.dead);
+    passage.unsettled.put(i, !visited.settled);
+}
+
+/// The first member of a set.
+#[inline(always)]
+fn first(set: &ClockSet) -> Option<u32>
+    ensures member { IfSome result (λ i. ticks_in i set.now ≡ true) }
+    ensures least { IfSome result (λ i. (m : ℕ) → ticks_in m set.now ≡ true → i ≤ m) }
+    ensures none { IfNone result ((m : ℕ) → ticks_in m set.now ≡ false) }
+{
+    set.members().next()
+}
+
+/// Goes on by the full step that declared ticks give: visits the definitions that wait, in ascending order, with those that begin to
+/// wait meanwhile.
 pub fn follow(
     lay: &Lay<'_>,
-    numbers: &[u32],
+    readers: &Readers,
     places: &[u32],
     row: &mut [u64],
-    declared: &ClockSet,
-) -> ClockSet
+    passage: &mut Passage,
+)
     requires accepted { IsAccepted lay.now.system.now }
     requires whole { IsWhole lay.now row.old }
-    requires numbers { All (λ i. i < length lay.now.system.now.definitions) numbers.now }
     requires places { places.now ≡ places_from lay.now.earlier.now 0 lay.now.system.now.definitions }
-    ensures trees { trees_from lay.now 0 row.new ≡ (passed_along lay.now.system.now numbers.now
-        (passing lay.now row.old declared.now [])).trees }
-    ensures step { result ≡ (passed_along lay.now.system.now numbers.now
-        (passing lay.now row.old declared.now [])).step }
+    requires readers { AreReaders lay.now.system.now readers.now.followed readers.now.sets.items }
+    requires kept { AreKept lay.now.system.now readers.now.followed
+        (trees_from lay.now 0 row.old) passage.old.gone passage.old.unsettled }
+    requires low { are_below lay.now.system.now.declared passage.old.step ≡ true }
+    requires ascends { is_ascending passage.old.step ≡ true }
+    requires waiting { (p : ℕ) → ticks_in p passage.old.waiting ≡
+        is_waiting readers.now.sets.items passage.old.unsettled passage.old.step p }
+    ensures passed { IsPassed lay.now.system.now readers.now.followed (trees_from lay.now 0 row.old)
+        passage.old.step (trees_from lay.now 0 row.new) passage.new.step passage.new.gone }
+    ensures kept { AreKept lay.now.system.now readers.now.followed
+        (trees_from lay.now 0 row.new) passage.new.gone passage.new.unsettled }
+    ensures ascends { is_ascending passage.new.step ≡ true }
 {
-    let mut step = declared.copy();
-    let mut gone = ClockSet::empty();
-    for number in numbers {
-        let place = places[*number as usize];
-        follow_one(lay, *number, place, row, &mut step, &mut gone);
+    'visits: while let Some(i) = first(&passage.waiting) {
+        let clock = lay.system.scope().declared + i;
+        let visited = visit(
+            lay,
+            i,
+            places[i as usize],
+            row,
+            &passage.step,
+            &passage.gone,
+        );
+        enter(passage, readers.sets.as_slice(), i, clock, visited);
     }
-    step
 }

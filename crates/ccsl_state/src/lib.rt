@@ -19,6 +19,7 @@ mod open;
 mod params;
 pub mod part;
 mod reach;
+mod readers;
 mod relation;
 pub mod states;
 mod tail;

@@ -3,14 +3,16 @@
 ghost use Rattle.std.specs.Prelude.{◌≡◌, ◌<◌, ◌+◌, ◌^◌, ℕ, List, [], ◌∷◌, ◌++◌, true, length, IfOk};
 ghost use Rattle.ccsl_base.specs.Clocks.{ticks_in, are_below};
 ghost use Rattle.ccsl_kernel.specs.Lives.{Step};
+ghost use Rattle.ccsl_kernel.specs.Cells.{cells};
 ghost use Rattle.ccsl_kernel.specs.Runs.{full_step};
 ghost use Rattle.ccsl_state.specs.Reach.{Includes, IsClosed};
 ghost use Rattle.ccsl_state.specs.Part.{part_of, PartStandsFor};
 
-use crate::follow::{follow, numbers};
+use crate::follow::{Passage, follow};
 use crate::items::places;
 use crate::lay::Lay;
 use crate::reach::reached;
+use crate::readers::Readers;
 use crate::whole::row_opened;
 use ccsl_base::{ClockSet, Memory};
 use ccsl_kernel::System;
@@ -18,7 +20,8 @@ use std::alloc::Global;
 use std::marker::Model;
 
 /// The states of the definitions that some clocks lead to, after some steps. The row has the regions of all definitions, so that each
-/// has its place, but a step visits and rewrites only those that are followed, and takes no memory. Constraints are not counted.
+/// has its place, but a step visits and rewrites only those followed ones that hear something: a clock that they read ticks or dies,
+/// or they are not settled. It takes no memory. Constraints are not counted.
 #[derive(Drop)]
 pub struct Part<'s> {
     system: &'s System,
@@ -26,10 +29,10 @@ pub struct Part<'s> {
     calls: Vec<u32>,
     // where each definition's region begins in the row
     places: Vec<u32>,
-    // the numbers of the definitions that are followed
-    numbers: Vec<u32>,
+    readers: Readers,
     row: Vec<u64>,
-    followed: ClockSet,
+    // the last step and what has come of it
+    passage: Passage,
 }
 
 impl<'s> Model for Part<'s> {
@@ -49,8 +52,8 @@ impl<'s> Model for Part<'s> {
 }
 
 impl<'s> Part<'s> {
-    /// The states before the first step, of the definitions that these clocks lead to. They take one row of cells, and three small
-    /// tables.
+    /// The states before the first step, of the definitions that these clocks lead to. They take one row of cells, two small
+    /// tables, and a set for each clock.
     pub fn open(alloc: Global, system: &'s System, clocks: &ClockSet) -> Result<Part<'s>, Memory>
         ensures system { IfOk result (λ p. p.system ≡ system.now) }
         ensures has { IfOk result (λ p. (x : ℕ) →
@@ -59,6 +62,7 @@ impl<'s> Part<'s> {
         ensures least { IfOk result (λ p. (set : List ℕ) → IsClosed system.now set →
             Includes system.now set clocks.now → Includes system.now set p.followed) }
         ensures stands { IfOk result (λ p. PartStandsFor p []) }
+        ensures cells { IfOk result (λ p. length p.row ≡ cells system.now) }
     {
         let calls = system.group_cells(alloc)?;
         let mut row = Vec::from_elem(alloc, 0u64, system.cells() as usize)?;
@@ -68,15 +72,20 @@ impl<'s> Part<'s> {
         };
         let places = places(alloc, &lay)?;
         row_opened(&lay, row.as_mut_slice());
-        let followed = reached(system, clocks);
-        let numbers = numbers(alloc, system, &followed)?;
+        let readers = Readers::open(alloc, system, reached(system, clocks))?;
+        let passage = Passage {
+            step: ClockSet::empty(),
+            gone: ClockSet::empty(),
+            waiting: ClockSet::empty(),
+            unsettled: readers.numbers(system),
+        };
         Ok(Part {
             system,
             calls,
             places,
-            numbers,
+            readers,
             row,
-            followed,
+            passage,
         })
     }
 
@@ -85,7 +94,7 @@ impl<'s> Part<'s> {
         ensures followed { result.now ≡ self.now.followed }
         ensures closed { IsClosed self.now.system self.now.followed }
     {
-        &self.followed
+        &self.readers.followed
     }
 
     /// Goes on by the full step that a set of declared clocks gives, and answers what of that step is declared or followed.
@@ -93,6 +102,7 @@ impl<'s> Part<'s> {
         requires { are_below self.old.system.declared declared.now ≡ true }
         ensures system { self.new.system ≡ self.old.system }
         ensures followed { self.new.followed ≡ self.old.followed }
+        ensures cells { length self.new.row ≡ length self.old.row }
         ensures step { (T : List Step) → PartStandsFor self.old T →
             result ≡ part_of self.old (full_step self.old.system T declared.now) }
         ensures stands { (T : List Step) → PartStandsFor self.old T → length T + 1 < 2 ^ 64 →
@@ -102,8 +112,18 @@ impl<'s> Part<'s> {
             system: self.system,
             earlier: self.calls.as_slice(),
         };
-        let numbers = self.numbers.as_slice();
+        let passage = &mut self.passage;
+        passage.step.copy_from(declared);
+        self.readers
+            .hear(&passage.step, &passage.unsettled, &mut passage.waiting);
         let places = self.places.as_slice();
-        follow(&lay, numbers, places, self.row.as_mut_slice(), declared)
+        follow(
+            &lay,
+            &self.readers,
+            places,
+            self.row.as_mut_slice(),
+            passage,
+        );
+        self.passage.step.copy()
     }
 }

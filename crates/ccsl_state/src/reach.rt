@@ -33,7 +33,7 @@ fn add_arguments(args: &[Value], set: &mut ClockSet)
 }
 
 /// Makes the clocks that an expression names members of a set.
-fn add_named(e: &Expr, set: &mut ClockSet)
+pub fn add_named(e: &Expr, set: &mut ClockSet)
     requires { NamesWithin (λ x. x < MAX_CLOCKS) (plain_expr e.now) }
     ensures { (y : ℕ) → ticks_in y set.new ≡
         (names_clock (plain_expr e.now) y || ticks_in y set.old) }

@@ -2,12 +2,13 @@
 
 ghost use Rattle.std.specs.Prelude.{◌≡◌, ◌<◌, ◌+◌, ◌^◌, List, [], ◌∷◌, ◌++◌, true, length, Some, IfOk};
 ghost use Rattle.ccsl_base.specs.Clocks.{are_below};
-ghost use Rattle.ccsl_formula.specs.Formula.{ReadsBelow};
+ghost use Rattle.ccsl_formula.specs.Variables.{ReadsBelow};
 ghost use Rattle.ccsl_formula.specs.Plain.{plain};
 ghost use Rattle.ccsl_kernel.specs.Syntax.{Expression, item_count, definition_of};
 ghost use Rattle.ccsl_kernel.specs.Lives.{Step};
-ghost use Rattle.ccsl_kernel.specs.Meaning.{dead_at};
+ghost use Rattle.ccsl_kernel.specs.Deaths.{dead_at};
 ghost use Rattle.ccsl_kernel.specs.Items.{item_formula};
+ghost use Rattle.ccsl_kernel.specs.Cells.{cells};
 ghost use Rattle.ccsl_kernel.specs.Runs.{ObeysDefinitions, full_step};
 ghost use Rattle.ccsl_state.specs.Held.{formula_in, derived_by, is_dead, Advances, StandsFor};
 ghost use Rattle.ccsl_state.specs.Laws.{StaySilent};
@@ -56,6 +57,7 @@ impl<'s> States<'s> {
     pub fn open(alloc: Global, system: &'s System) -> Result<States<'s>, Memory>
         ensures system { IfOk result (λ s. s.system ≡ system.now) }
         ensures stands { IfOk result (λ s. StandsFor s []) }
+        ensures cells { IfOk result (λ s. length s.row ≡ cells system.now) }
     {
         let calls = system.group_cells(alloc)?;
         let mut row = Vec::from_elem(alloc, 0u64, system.cells() as usize)?;
@@ -121,6 +123,7 @@ impl<'s> States<'s> {
         ensures row { Advances self.old (derived_by self.old declared.now) self.new }
         ensures stands { (T : List Step) → StandsFor self.old T → length T + 1 < 2 ^ 64 →
             StandsFor self.new (T ++ full_step self.old.system T declared.now ∷ []) }
+        ensures cells { length self.new.row ≡ length self.old.row }
         ensures silent { (T : List Step) → StandsFor self.old T → length T + 1 < 2 ^ 64 →
             ObeysDefinitions self.old.system T → are_below self.old.system.declared declared.now ≡ true →
             StaySilent self.old result self.new }

@@ -10,8 +10,7 @@ use Rattle.ccsl_base.specs.Names.{are_distinct}
 use Rattle.ccsl_base.specs.Name.{are_cert_names}
 use Rattle.ccsl_formula.specs.declared.scope.Scope.{Scope}
 use Rattle.ccsl_formula.specs.Formula.{Formula}
-use Rattle.ccsl_formula.specs.Known.{with_value}
-use Rattle.ccsl_formula.specs.Truth.{Part}
+use Rattle.ccsl_formula.specs.Truth.{with_value, Part}
 use Rattle.ccsl_kernel.specs.Syntax.{System, item_count}
 use Rattle.ccsl_kernel.specs.Lives.{Step, steps}
 use Rattle.ccsl_kernel.specs.Items.{item_formula}
@@ -25,7 +24,8 @@ use Rattle.ccsl_refute.specs.Literals.{falsified, are_proper}
 use Rattle.ccsl_refute.specs.Below.{AreBelow}
 use Rattle.ccsl_refute.specs.NumbersFit.{AllBelow, NumbersFit}
 use Rattle.ccsl_refute.specs.Validity.{line_at, fails_line, unit_line, fails_at, unit_at, closes, is_refuted, refutes_item, is_valid, valid_from, are_valid, ends_empty, is_certificate}
-use Rattle.ccsl_refute.specs.Writing.{line_text, lines_text, literals}
+use Rattle.ccsl_refute.specs.Writing.{line_text, lines_text}
+use Rattle.ccsl_refute.specs.LineLiterals.{literals}
 use Rattle.ccsl_refute.specs.Reading as certificates
 use Rattle.ccsl_certify.specs.declared.answer.CertVerdict.TheVariants.{Yes}
 use Rattle.ccsl_vcd.specs.declared.fault.VcdFault.{VcdFault}
@@ -118,7 +118,7 @@ steps-length (suc n) =
     let whole = ap length next in
     omega (arith, whole, before, length-append (steps 0 n) (n ∷ []))
 
-formulas-count : (K : System) (T : List Step) → length (item_formulas K T) ≡ item_count K
+pub formulas-count : (K : System) (T : List Step) → length (item_formulas K T) ≡ item_count K
 formulas-count K T = length-map (steps 0 (item_count K)) (item_formula K T (length T)) ∙ steps-length (item_count K)
 
 -- WHAT IS WRITTEN IS VALID
@@ -132,7 +132,7 @@ module _ (none-bad : NoBadLine)
     lines-valid : are_valid (scope_of K) formulas lines ≡ true
     lines-valid = (and_parts (are_valid (scope_of K) formulas lines) (ends_empty K.declared lines) valid).0
 
-    reads-back : certificates.reading K.names (lines_text K.names lines) ≡ Ok lines
+    pub reads-back : certificates.reading K.names (lines_text K.names lines) ≡ Ok lines
     reads-back =
         let n = lines-short K.names lines in
         let few : length formulas < 2 ^ 32 = rw count (few-items K ok) in

@@ -37,18 +37,20 @@ use Rattle.ccsl_top.specs.declared.files.Stop.{Stop}
 use Rattle.ccsl_top.specs.declared.files.Stop.TheVariants as stop
 use Rattle.ccsl_top.specs.declared.reply.Reply.{Reply}
 use Rattle.ccsl_top.specs.Outcome.{Outcome, outcome}
-use Rattle.ccsl_top.specs.Opening.{is_slot, opens}
+use Rattle.ccsl_top.specs.Opening.{is_slot, is_output, opens}
 use Rattle.ccsl_top.specs.Judge.{LIMITS}
 use Rattle.ccsl_top.specs.Certify.{lines_outcome, rows_outcome, text_outcome, certify_behind, certify_outcome}
-use Rattle.ccsl_top.specs.Effects.{Uses, Reads}
+use Rattle.ccsl_top.specs.Changes.{Uses, Reads}
 use Rattle.ccsl_top.specs.Reading.{only, Breaks}
-use Rattle.ccsl_top.specs.Answered.{AnswersTo, StopsAt}
+use Rattle.ccsl_top.specs.Answered.{code_of, IsReadStatus, AnswersTo, StopsAt}
 use Rattle.ccsl_top.specs.Certifying.{HasItem, verdict_outcome, Gives, IsReplyOn, both, CertifyAnswers, BothBreak, IsBothStop}
-use Rattle.ccsl_top.proofs.Slots.{both-ways, is_slot-same, is_slot-differs}
+use Rattle.ccsl_top.proofs.Slots.{both-ways, is_slot-same, is_slot-differs, same-input}
 use Rattle.ccsl_top.proofs.Effects.{by-test, uses-changed, uses-rises, uses-then, reads-then, reads-only, breaks-only}
 use Rattle.ccsl_top.proofs.Opened.{fails-breaks}
 use Rattle.ccsl_top.proofs.Verdicts.{violated-item}
-use Rattle.ccsl_top.proofs.Behind.{read-answered, read-faulted, read-starved}
+use Rattle.ccsl_top.proofs.Reaching.{read-known}
+use Rattle.ccsl_top.proofs.Writing.{on-output}
+use Rattle.ccsl_top.proofs.Behind.{closed-none, read-answered, read-faulted, read-starved}
 
 -- a certificate has no bad line
 abbrev pub NoBadLine : Type 0
@@ -211,18 +213,17 @@ module _ (none-bad : NoBadLine) (told : Told) (K : System) (trace cert : List �
 
       -- what is answered, from its outcome
       module _ (found : Result Reply Stop) where
-        gives : (o : Outcome) → o.status ≢ 2 → o.status ≢ 3 → Reads both s w →
+        gives : (o : Outcome) → IsReadStatus o.status → Reads both s w →
             (IsTrue told.files → IsTrue told.left → o ≡ certify_outcome K (held s.files trace) (held s.files cert)) → Gives o found →
             IfOk found (λ reply. CertifyAnswers told K trace cert reply s w) × IfErr found (λ reason. IsBothStop reason s w)
-        gives o two three reads is g = given found g
+        gives o status reads is g = given found g
           where
             given : (found : Result Reply Stop) → Gives o found →
                 IfOk found (λ reply. CertifyAnswers told K trace cert reply s w) × IfErr found (λ reason. IsBothStop reason s w)
             given (Ok reply) g = (
               record {
                 reads = reads;
-                opened = λ e. two (sym (ap (λ x. x.status) g.0) ∙ e);
-                accepted = λ e. three (sym (ap (λ x. x.status) g.0) ∙ e);
+                status = subst IsReadStatus (sym (ap (λ x. x.status) g.0)) status;
                 is = λ f l. g.0 ∙ is f l;
               },
               g.1,
@@ -233,13 +234,13 @@ module _ (none-bad : NoBadLine) (told : Told) (K : System) (trace cert : List �
             IfOk found (λ reply. CertifyAnswers told K trace cert reply s w) × IfErr found (λ reason. IsBothStop reason s w)
         stops reason e is = rw e (record {}, is)
 
-        verdict-status : (v : CertVerdict) → ((verdict_outcome K v).status ≢ 2) × ((verdict_outcome K v).status ≢ 3)
-        verdict-status (Yes steps) = (λ e. omega (arith, e), λ e. omega (arith, e))
-        verdict-status (NotRun step time item) = (λ e. omega (arith, e), λ e. omega (arith, e))
-        verdict-status (BadLine j) = (λ e. omega (arith, e), λ e. omega (arith, e))
+        verdict-status : (v : CertVerdict) → IsReadStatus (verdict_outcome K v).status
+        verdict-status (Yes steps) = (λ e. omega (arith, e), λ e. omega (arith, e), λ e. omega (arith, e))
+        verdict-status (NotRun step time item) = (λ e. omega (arith, e), λ e. omega (arith, e), λ e. omega (arith, e))
+        verdict-status (BadLine j) = (λ e. omega (arith, e), λ e. omega (arith, e), λ e. omega (arith, e))
 
-        four : (text : List ℕ) → ((outcome 4 text).status ≢ 2) × ((outcome 4 text).status ≢ 3)
-        four text = (λ e. omega (arith, e), λ e. omega (arith, e))
+        four : IsReadStatus 4
+        four = (λ e. omega (arith, e), λ e. omega (arith, e), λ e. omega (arith, e))
 
         on-fault : (reason : CertifyFault) → IsUncertified told K LIMITS u w reason → IsReplyOn K (Err reason) found →
             IfOk found (λ reply. CertifyAnswers told K trace cert reply s w) × IfErr found (λ reason. IsBothStop reason s w)
@@ -247,14 +248,14 @@ module _ (none-bad : NoBadLine) (told : Told) (K : System) (trace cert : List �
             (λ f. both-breaks s u w opened-both (trace-breaks told u w (part-breaks told u w Trace f.bytes f.reads)))
             (λ f. both-breaks s f.between w (trace-read f.between f.bound f.rows f.trace) (cert-breaks told f.between w (part-breaks told f.between w Cert f.reads.bytes f.reads.fails)))
             is)
-        on-fault (fault.Refused f) is g = gives (outcome 4 (trace_text f K)) (four (trace_text f K)).0 (four (trace_text f K)).1
+        on-fault (fault.Refused f) is g = gives (outcome 4 (trace_text f K)) four
             (both-then s u w opened-both (takes-both told u w Trace refl is.bytes is.reads))
             (λ a l. refused-outcome none-bad K (held s.files trace) (held s.files cert) f
             (ap (λ bytes. (reading (wanted_of K) LIMITS bytes).fault) (sym (trace-left a l)) ∙ is.whole l)) g
-        on-fault (fault.Cert f) is g = gives (outcome 4 (cert_text f)) (four (cert_text f)).0 (four (cert_text f)).1
+        on-fault (fault.Cert f) is g = gives (outcome 4 (cert_text f)) four
             (both-read is.read.between is.bound is.rows is.read.trace is.text is.read.certificate)
             (uncertified-outcome is.read.between is.bound is.rows is.read.trace is.text is.read.certificate f is.reads_as) g
-        on-fault fault.CertTooLong is g = gives (outcome 4 cert_too_long_text) (four cert_too_long_text).0 (four cert_too_long_text).1
+        on-fault fault.CertTooLong is g = gives (outcome 4 cert_too_long_text) four
             (both-then s is.between w (trace-read is.between is.bound is.rows is.trace) (takes-both told is.between w Cert refl is.reads.bytes is.reads.reads))
             (λ f l. long-outcome none-bad K (held s.files trace) (held s.files cert) (trace-fine is.between is.bound is.rows is.trace f l)
             (subst (λ bytes. MAX_FILE_BYTES < length bytes) (cert-there is.between is.bound is.rows is.trace f l) (is.reads.more l))) g
@@ -265,7 +266,7 @@ module _ (none-bad : NoBadLine) (told : Told) (K : System) (trace cert : List �
 
         pub certify-replies : (r : Result CertVerdict CertifyFault) → IfOk r (λ v. IsCertified told K LIMITS u w v) → IfErr r (λ f. IsUncertified told K LIMITS u w f) →
             IsReplyOn K r found → IfOk found (λ reply. CertifyAnswers told K trace cert reply s w) × IfErr found (λ reason. IsBothStop reason s w)
-        certify-replies (Ok v) is _ g = gives (verdict_outcome K v) (verdict-status v).0 (verdict-status v).1
+        certify-replies (Ok v) is _ g = gives (verdict_outcome K v) (verdict-status v)
             (both-read is.read.between is.bound is.rows is.read.trace is.text is.read.certificate)
             (certified-outcome is.read.between is.bound is.rows is.read.trace is.text is.read.certificate is.lines is.reads_as v is.answers) g
         certify-replies (Err f) _ is g = on-fault f is g
@@ -298,20 +299,29 @@ module _ (told : Told) (spec trace cert : List ℕ) (s t : State) (reads : Reads
       by-either false true e = refl
       by-either false false e = e
 
+  inputs : (slot : Slot) → both slot ≡ true → is_output slot ≡ false
+  inputs slot e = by-either (is_slot Trace slot) refl e
+    where
+      by-either : (a : Bool) → is_slot Trace slot ≡ a → (a || is_slot Cert slot) ≡ true → is_output slot ≡ false
+      by-either true is e = same-input Trace refl slot is
+      by-either false is e = same-input Cert refl slot e
+
   pub certify-answers : (result : Result Reply Stop) → IfOk result (λ reply. CertifyAnswers told K trace cert reply t u) →
       IfOk result (λ reply. AnswersTo told (command.Certify spec trace cert) reply s u)
   certify-answers (Ok reply) a = λ words means.
-      read-answered told words c means spec behind refl IsAnswer (λ content input o x. x) s t reads K system both within refl u reply a.reads a.opened a.accepted
+      read-answered told words c means spec behind refl IsAnswer (λ content input o x. x) s t reads K system both within inputs u reply a.reads a.status.1
+      (read-known reply.status a.status)
+      (closed-none told words c means spec behind refl IsAnswer (λ content input o x. x) (λ slot out. on-output (λ x. opens behind x ≡ false) refl refl slot out) (code_of reply.status) u)
       (λ f l. a.is f l ∙ ap (λ fs. certify_outcome K (held fs trace) (held fs cert)) reads.uses.files)
   certify-answers (Err reason) a = a
 
   both-stopped : (reason : Stop) → IsBothStop reason t u → StopsAt told (command.Certify spec trace cert) reason s u
   both-stopped stop.Fault b = λ words means. ⊎_elim
-      (λ rose. read-faulted told words c means spec behind refl IsAnswer (λ content input o x. x) s t reads K system both within refl u b.uses Trace refl rose)
-      (λ rose. read-faulted told words c means spec behind refl IsAnswer (λ content input o x. x) s t reads K system both within refl u b.uses Cert refl rose)
+      (λ rose. read-faulted told words c means spec behind refl IsAnswer (λ content input o x. x) s t reads K system both within inputs u b.uses Trace refl rose)
+      (λ rose. read-faulted told words c means spec behind refl IsAnswer (λ content input o x. x) s t reads K system both within inputs u b.uses Cert refl rose)
       b.rose
   both-stopped stop.Memory b = λ words means.
-      read-starved told words c means spec behind refl IsAnswer (λ content input o x. x) s t reads K system both within refl u b
+      read-starved told words c means spec behind refl IsAnswer (λ content input o x. x) s t reads K system both within inputs u b
       (λ f l name file n e. let clash : c ≡ command.Judge name file n = e in absurd (cc))
 
   pub certify-stops : (result : Result Reply Stop) → IfErr result (λ reason. IsBothStop reason t u) →

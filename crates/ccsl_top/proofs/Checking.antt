@@ -1,5 +1,5 @@
 -- What is checked behind an accepted specification.
-use Rattle.std.proofs.Common.{◌≡◌, ℕ, List, [], Result, Ok, Err, IfOk, IfErr, IsTrue, refl, ap, arith}
+use Rattle.std.proofs.Common.{◌≡◌, ℕ, List, [], Result, Ok, Err, IfOk, IfErr, IsTrue, refl, sym, ap, arith}
 use Rattle.ccsl_edge.specs.declared.slot.Slot.TheVariants.{Spec}
 use Rattle.ccsl_edge.specs.World.{State, Told, held}
 use Rattle.ccsl_command.specs.declared.command.Command.TheVariants as command
@@ -9,7 +9,7 @@ use Rattle.ccsl_top.specs.declared.files.Stop.{Stop}
 use Rattle.ccsl_top.specs.declared.files.Stop.TheVariants.{Memory}
 use Rattle.ccsl_top.specs.declared.reply.Reply.{Reply}
 use Rattle.ccsl_top.specs.Check.{check_outcome}
-use Rattle.ccsl_top.specs.Effects.{Reads}
+use Rattle.ccsl_top.specs.Changes.{Reads}
 use Rattle.ccsl_top.specs.Reading.{only}
 use Rattle.ccsl_top.specs.Answered.{plain_reply, AnswersTo, StopsAt}
 use Rattle.ccsl_top.proofs.Behind.{spec-answered, reading-stops}
@@ -20,7 +20,7 @@ module _ (told : Told) (spec : List ℕ) (s t : State) (reads : Reads (only Spec
   check-answers K system (Ok reply) is = λ words means.
       let status = ap (λ o. o.status) is in
       spec-answered told words (command.Check spec) means spec [] refl (λ content input K o. o ≡ check_outcome K) (λ content input o is. is) s t reads K system
-      reply (λ n. omega (arith, n, status)) is
+      (λ slot out. refl) reply (0, omega arith, sym status) is
   check-answers K system (Err reason) is = is
 
   pub check-stops : (result : Result Reply Stop) → IfErr result (λ reason. reason ≡ Memory) →

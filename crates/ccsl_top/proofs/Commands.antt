@@ -1,6 +1,7 @@
 -- Answers that open no file.
-use Rattle.std.proofs.Common.{◌≡◌, ◌≢◌, List, false, Result, Ok, Err, IfOk, IfErr, OnOk, refl, sym, ap, ◌∙◌, subst, ℕ}
+use Rattle.std.proofs.Common.{◌≡◌, ◌≢◌, List, [], ◌∷◌, false, Contains, Result, Ok, Err, IfOk, IfErr, OnOk, refl, sym, ap, ◌∙◌, subst, ℕ, arith}
 use Rattle.ccsl_words.specs.Word.{BinaryWord}
+use Rattle.ccsl_edge.specs.declared.slot.Slot.{Slot}
 use Rattle.ccsl_edge.specs.World.{State, Told, held}
 use Rattle.ccsl_command.specs.declared.command.Command.{Command}
 use Rattle.ccsl_command.specs.declared.command.Command.TheVariants as command
@@ -8,39 +9,48 @@ use Rattle.ccsl_command.specs.declared.table.RelationName.{RelationName}
 use Rattle.ccsl_command.specs.declared.usage.Usage.{Usage}
 use Rattle.ccsl_command.specs.declared.usage.Usage.TheVariants as usage
 use Rattle.ccsl_command.specs.Meaning.{meaning}
-use Rattle.ccsl_command.specs.Opened.{files_opened}
+use Rattle.ccsl_command.specs.Opened.{files_meant, files_of, files_opened}
+use Rattle.ccsl_command.specs.declared.table.RelationName.TheVariants as name
+use Rattle.ccsl_periodic.specs.declared.between.Between.{Between}
+use Rattle.ccsl_periodic.specs.declared.between.Between.TheVariants.{Precedes, Subclock, Excludes}
 use Rattle.ccsl_top.specs.declared.files.Stop.{Stop}
 use Rattle.ccsl_top.specs.declared.files.Stop.TheVariants.{Memory}
 use Rattle.ccsl_top.specs.declared.reply.Reply.{Reply}
 use Rattle.ccsl_top.specs.Trial.{trial_outcome}
-use Rattle.ccsl_top.specs.Periodic.{IsPeriodicOutcome}
+use Rattle.ccsl_top.specs.Outcome.{Outcome}
+use Rattle.ccsl_top.specs.Periodic.{IsRelated, holds, fails, IsFiltered, word, long, IsPeriodicOutcome}
+use Rattle.ccsl_top.specs.Statuses.{answers_of}
+use Rattle.ccsl_top.specs.Opening.{opens}
 use Rattle.ccsl_top.specs.Program.{IsOutcome, IsOutcomeOf, usage_outcome}
-use Rattle.ccsl_top.specs.Headline.{input_of, kept, untouched, unread}
-use Rattle.ccsl_top.specs.Answered.{plain_reply, Leaves, Answered, Starved, IsUnanswered, AnswersTo, StopsAt}
+use Rattle.ccsl_top.specs.Headline.{input_of, kept, untouched, unopened}
+use Rattle.ccsl_top.specs.Answered.{code_of, plain_reply, Leaves, Answered, Starved, IsUnanswered, AnswersTo, StopsAt}
 use Rattle.ccsl_top.proofs.Slots.{both-ways}
 use Rattle.ccsl_top.proofs.Effects.{reads-none, uses-stay}
+
+-- a reply that stands for an outcome of a command that opens no file
+abbrev IsAnswer : Command → Reply → Type 0
+IsAnswer c reply = ((content : List ℕ → List ℕ) (input : List ℕ) → IsOutcomeOf content input (Ok c) (plain_reply reply)) × Contains (answers_of (Ok c)) (code_of reply.status)
 
 module _ (told : Told) (words : List (List ℕ)) (s : State) where
   leaves-none : Leaves told words (λ slot. false) s s
   leaves-none = record {
     opened = λ slot e. both-ways false e refl;
     stays = uses-stay told (files_opened words) (λ slot. false) s s (reads-none s).uses;
-    whole = λ _ _ _ name. kept refl;
-    fronts = λ _ _ _ slot out. untouched refl;
+    whole = λ _ _ name. kept refl;
+    fronts = λ _ _ slot out. untouched refl;
   }
 
   -- a reply that stands for an outcome of the words
   answered-none : (reply : Reply) → ((content : List ℕ → List ℕ) (input : List ℕ) → IsOutcome words content input (plain_reply reply)) →
-      ((fault : Usage) → meaning words ≡ Err fault → plain_reply reply ≡ usage_outcome fault) → Answered told words reply s s
-  answered-none reply is refused = record {
+      Contains (answers_of (meaning words)) (code_of reply.status) → ((slot : Slot) → opens (files_opened words) slot ≡ false) → Answered told words reply s s
+  answered-none reply is known none = record {
     used = λ slot. false;
     leaves = leaves-none;
     counts = λ slot. refl;
-    unopened = λ _ slot. refl;
-    unread = λ _ slot _. refl;
-    unexplained = λ spec trace cert _ _. (refl, λ name. refl);
-    stands = λ _ _. record { outcome = plain_reply reply; status_is = refl; report_is = refl; defined = record { is = is (held s.files) (input_of s); files = λ _. record {} } };
-    refused = refused;
+    known = known;
+    within = λ slot e. both-ways false e refl;
+    closed = λ _ slot _ e. both-ways (opens (files_opened words) slot) e (none slot);
+    stands = λ _. record { outcome = plain_reply reply; status_is = refl; report_is = refl; defined = record { is = is (held s.files) (input_of s); files = λ _. record {} } };
   }
 
   -- no memory was to be had before a file was opened
@@ -49,24 +59,23 @@ module _ (told : Told) (words : List (List ℕ)) (s : State) where
     used = λ slot. false;
     leaves = leaves-none;
     counts = λ slot. refl;
-    barely = λ _ _ spec trace workers means. unread refl;
+    early = λ _ spec trace workers means. unopened refl;
   }
 
   -- the words are refused
   pub words-refused : (fault : Usage) (reply : Reply) → plain_reply reply ≡ usage_outcome fault → meaning words ≡ Err fault → Answered told words reply s s
   words-refused fault reply is means = answered-none reply
       (λ content input. subst (λ m. IsOutcomeOf content input m (plain_reply reply)) (sym means) is)
-      (λ other e. is ∙ ap usage_outcome (same-fault other e))
-    where
-      same-fault : (other : Usage) → meaning words ≡ Err other → fault ≡ other
-      same-fault other e = let clash : (let R : Result Command Usage = Err fault in R) ≡ Err other = sym means ∙ e in cc
+      (subst (λ m. Contains (answers_of m) (code_of reply.status)) (sym means) (0, omega arith, sym (ap (λ o. o.status) is)))
+      (λ slot. ap (λ m. opens (files_meant m) slot) means)
 
   -- a command that opens no file
   pub command-answered : (c : Command) (reply : Reply) → ((content : List ℕ → List ℕ) (input : List ℕ) → IsOutcomeOf content input (Ok c) (plain_reply reply)) →
-      meaning words ≡ Ok c → Answered told words reply s s
-  command-answered c reply is means = answered-none reply
+      Contains (answers_of (Ok c)) (code_of reply.status) → files_of c ≡ [] → meaning words ≡ Ok c → Answered told words reply s s
+  command-answered c reply is known none means = answered-none reply
       (λ content input. subst (λ m. IsOutcomeOf content input m (plain_reply reply)) (sym means) (is content input))
-      (λ other e. let clash : (let R : Result Command Usage = Ok c in R) ≡ Err other = sym means ∙ e in absurd (cc))
+      (subst (λ m. Contains (answers_of m) (code_of reply.status)) (sym means) known)
+      (λ slot. ap (λ m. opens (files_meant m) slot) means ∙ ap (λ fs. opens fs slot) none)
 
 module _ (told : Told) (s : State) where
   module _ (result : Result Reply Stop) where
@@ -87,10 +96,9 @@ module _ (told : Told) (s : State) where
         starved-in (Err stop) e = rw e (starved-at-once told words s)
 
   module _ (c : Command) where
-    pub command-oks : (result : Result Reply Stop) → IfOk result (λ reply. (content : List ℕ → List ℕ) (input : List ℕ) → IsOutcomeOf content input (Ok c) (plain_reply reply)) →
-        IfOk result (λ reply. AnswersTo told c reply s s)
-    command-oks (Ok reply) is = λ words means. command-answered told words s c reply is means
-    command-oks (Err stop) is = is
+    pub command-oks : files_of c ≡ [] → (result : Result Reply Stop) → IfOk result (λ reply. IsAnswer c reply) → IfOk result (λ reply. AnswersTo told c reply s s)
+    command-oks none (Ok reply) a = λ words means. command-answered told words s c reply a.0 a.1 none means
+    command-oks none (Err stop) a = a
 
     pub command-errs : (result : Result Reply Stop) → IfErr result (λ stop. stop ≡ Memory) → IfErr result (λ stop. StopsAt told c stop s s)
     command-errs (Ok reply) e = e
@@ -99,13 +107,27 @@ module _ (told : Told) (s : State) where
 -- a trial
 pub trial-outcome : (c : Command) (clocks steps seed workers : ℕ) → c ≡ command.Trial clocks steps seed workers → (result : Result Reply Stop) →
     IfOk result (λ reply. plain_reply reply ≡ trial_outcome clocks steps seed) →
-    IfOk result (λ reply. (content : List ℕ → List ℕ) (input : List ℕ) → IsOutcomeOf content input (Ok c) (plain_reply reply))
-trial-outcome c clocks steps seed workers is (Ok reply) e = λ content input. subst (λ x. IsOutcomeOf content input (Ok x) (plain_reply reply)) (sym is) e
+    IfOk result (λ reply. IsAnswer c reply)
+trial-outcome c clocks steps seed workers is (Ok reply) e = subst (λ x. IsAnswer x reply) (sym is) (λ content input. e, (0, omega arith, sym (ap (λ o. o.status) e)))
 trial-outcome c clocks steps seed workers is (Err stop) e = e
+
+related-status : (u v : BinaryWord) (relation : RelationName) (between : Between) (o : Outcome) → IsRelated u v relation between o → Contains (0 ∷ 1 ∷ []) o.status
+related-status u v relation between o (holds never left right left_is right_is is) = (0, omega arith, sym (ap (λ x. x.status) is))
+related-status u v relation between o (fails k first left right left_is right_is is) = (1, omega arith, sym (ap (λ x. x.status) is))
+
+filtered-status : (u v : BinaryWord) (o : Outcome) → IsFiltered u v o → Contains (0 ∷ 1 ∷ []) o.status
+filtered-status u v o (word n plain short w on text text_is is) = (0, omega arith, sym (ap (λ x. x.status) is))
+filtered-status u v o (long n plain many is) = (1, omega arith, sym (ap (λ x. x.status) is))
+
+periodic-status : (u v : BinaryWord) (relation : RelationName) (o : Outcome) → IsPeriodicOutcome u v relation o → Contains (0 ∷ 1 ∷ []) o.status
+periodic-status u v name.Precedes o is = related-status u v name.Precedes Precedes o is
+periodic-status u v name.Subclock o is = related-status u v name.Subclock Subclock o is
+periodic-status u v name.Excludes o is = related-status u v name.Excludes Excludes o is
+periodic-status u v name.On o is = filtered-status u v o is
 
 -- words and a relation between their filters
 pub periodic-outcome : (c : Command) (left right : BinaryWord) (relation : RelationName) → c ≡ command.Periodic left right relation → (result : Result Reply Stop) →
     IfOk result (λ reply. IsPeriodicOutcome left right relation (plain_reply reply)) →
-    IfOk result (λ reply. (content : List ℕ → List ℕ) (input : List ℕ) → IsOutcomeOf content input (Ok c) (plain_reply reply))
-periodic-outcome c left right relation is (Ok reply) e = λ content input. subst (λ x. IsOutcomeOf content input (Ok x) (plain_reply reply)) (sym is) e
+    IfOk result (λ reply. IsAnswer c reply)
+periodic-outcome c left right relation is (Ok reply) e = subst (λ x. IsAnswer x reply) (sym is) (λ content input. e, periodic-status left right relation (plain_reply reply) e)
 periodic-outcome c left right relation is (Err stop) e = e

@@ -1,5 +1,5 @@
 -- A session, as an answer to words that mean it.
-use Rattle.std.proofs.Common.{◌≡◌, ◌≢◌, ◌⊎◌, ℕ, ◌+◌, ◌<◌, ◌≤◌, List, [], ◌++◌, length, take, true, false, ◌||◌, ◌&&◌, Result, Ok, Err, IsTrue, ⊎_elim, inl, inr, refl, sym, ap, ◌∙◌, subst, arith, append_assoc, take_all, le_refl}
+use Rattle.std.proofs.Common.{◌≡◌, ◌≢◌, ◌⊎◌, ℕ, ◌+◌, ◌<◌, ◌≤◌, List, [], ◌∷◌, ◌++◌, length, take, true, false, Contains, ◌||◌, ◌&&◌, Result, Ok, Err, IsTrue, ⊎_elim, inl, inr, refl, sym, ap, ◌∙◌, subst, arith, append_assoc, take_all, le_refl}
 use Rattle.std.proofs.lemmas.Bool.{cases_lt}
 use Rattle.std.proofs.lemmas.List.{take-append-le}
 use Rattle.std.proofs.Math.Seq.{take-append-add}
@@ -18,19 +18,23 @@ use Rattle.ccsl_policy.specs.declared.policies.Policy.{Policy}
 use Rattle.ccsl_session.specs.declared.answer.Ended.{Ended}
 use Rattle.ccsl_session.specs.declared.answer.Ended.TheVariants.{Quit, EndOfInput, TooLong}
 use Rattle.ccsl_session.specs.declared.answer.SessionFault.TheVariants as faults
-use Rattle.ccsl_session.specs.Session.{session_text, ended_by, Says, HasEnded, SameCounts, IsCut}
+use Rattle.ccsl_session.specs.Session.{session_text, ended_by}
+use Rattle.ccsl_session.specs.Leaving.{Says, HasEnded, SameCounts, IsCut}
 use Rattle.ccsl_report.specs.Texts.{session_too_long_text}
 use Rattle.ccsl_top.specs.Outcome.{Outcome}
 use Rattle.ccsl_top.specs.Converse.{conversed, session_outcome}
 use Rattle.ccsl_top.specs.Simulate.{named_policy}
-use Rattle.ccsl_top.specs.Opening.{opens, uses, is_slot, is_session}
+use Rattle.ccsl_top.specs.Statuses.{IsStatusOf}
+use Rattle.ccsl_top.specs.Opening.{opens, uses, is_slot, is_output, is_session, may_change}
 use Rattle.ccsl_top.specs.Program.{IsOutcome, accepted}
 use Rattle.ccsl_top.specs.Reading.{only}
-use Rattle.ccsl_top.specs.Headline.{Headline, Answers, ReportsFront, ReportGrows, AreHeld, FaultCause, by_report, by_input, input_of, kept, untouched}
+use Rattle.ccsl_top.specs.Headline.{Headline, IsTold, Answers, Reports, ReportGrows, AreHeld, FaultCause, by_report, by_input, input_of, kept, untouched}
 use Rattle.ccsl_top.specs.Conversing.{Begins}
 use Rattle.ccsl_top.proofs.Slots.{both-ways, is_slot-same, is_slot-other, is_slot-differs, output-differs}
 use Rattle.ccsl_top.proofs.Effects.{Changed, by-test, either-false, other-false, uses-changed, uses-rises}
-use Rattle.ccsl_top.proofs.Behind.{is-outcome}
+use Rattle.ccsl_top.proofs.Reaching.{reach-read}
+use Rattle.ccsl_top.proofs.Writing.{on-output}
+use Rattle.ccsl_top.proofs.Behind.{is-outcome, behind-told}
 
 -- FRONTS of the text that is reported
 
@@ -125,81 +129,90 @@ module _ (told : Told) (words : List (List ℕ)) (K : System) (policy : Policy) 
     clash : (d : Command) → meaning words ≡ Ok d → c ≡ d
     clash d e = let same : (let R : Result Command Usage = Ok c in R) ≡ Ok d = sym b.means ∙ e in cc
 
-    never-refused : (fault : Usage) → meaning words ≡ Err fault → ⊥
-    never-refused fault e = let same : (let R : Result Command Usage = Ok c in R) ≡ Err fault = sym b.means ∙ e in absurd (cc)
-
     never-judged : (spec trace : List ℕ) (workers : ℕ) → meaning words ≡ Ok (command.Judge spec trace workers) → ⊥
     never-judged spec trace workers e = let same = clash (command.Judge spec trace workers) e in absurd (cc)
 
-    never-explained : (spec trace cert : List ℕ) → meaning words ≡ Ok (command.Explain spec trace cert) → ⊥
-    never-explained spec trace cert e = let same = clash (command.Explain spec trace cert) e in absurd (cc)
+    -- a slot that is not reached is neither the specification's nor the input's
+    unreached : (status : ℕ) → status ≢ 3 → (slot : Slot) → may_change words status slot ≡ false → (slot ≢ Spec) × (slot ≢ Input)
+    unreached status three slot e = by-test (is_output slot)
+        (λ out. (output-differs Spec slot refl out, output-differs Input slot refl out))
+        (λ out. closed-apart slot (by-test (uses words slot) (λ yes. both-ways (may_change words status slot) (reach-read words slot status three out yes) e) (λ no. no)))
 
-    promised : (status : ℕ) → (status ≤ 6) ⊎ (status ≡ 8) → status ≢ 2 → status ≢ 3 →
-        (IsTrue told.files → IsTrue told.left → status ≢ 5 → status ≢ 6 → Answers told words status start new) →
+    -- no output slot is opened
+    none-opened : (slot : Slot) → is_output slot ≡ true → opens (files_opened words) slot ≡ false
+    none-opened slot out = ap (λ m. opens (files_meant m) slot) b.means ∙ on-output (λ x. (is_slot Spec x || false) ≡ false) refl refl slot out
+
+    promised : (status : ℕ) → Contains (5 ∷ 6 ∷ 0 ∷ 3 ∷ 4 ∷ []) status → status ≢ 3 →
+        (IsTold told words → status ≢ 5 → status ≢ 6 → Answers told words status start new) →
         (status ≢ 5 → (slot : Slot) → (new.slot_of slot).faults ≡ (start.slot_of slot).faults) →
         (status ≡ 5 → FaultCause told words start new) →
-        (IsTrue told.files → IsTrue told.left → (status ≡ 5) ⊎ (status ≡ 6) → ReportsFront told words start new) → Headline told words status start new
-    promised status known two three defined counts cause front = record {
-      known = known;
+        (IsTold told words → (status ≡ 5) ⊎ (status ≡ 6) → (count : ℕ) × Reports told words start new (take count)) → Headline told words status start new
+    promised status known three defined counts cause front = record {
+      known = subst (λ m. IsStatusOf m status) (sym b.means) known;
       defined = defined;
-      refused_words = λ fault e _ _. absurd (never-refused fault e);
       counts_rise = t.rises;
       counts_stay = counts;
       fault_cause = cause;
-      front = λ f l e. inr (front f l e);
+      unreported = λ _ e. both-ways (is_session (meaning words)) (ap is_session b.means) e;
       silent = λ _ e. both-ways (is_session (meaning words)) (ap is_session b.means) e;
-      barely = λ _ _ _ spec trace workers e. absurd (never-judged spec trace workers e);
-      whole = λ _ _ _ name. kept (ap (λ fs. file_at fs name) t.files);
-      fronts = λ _ _ _ slot out. untouched (ap (λ x. x.written)
+      front = λ tells e. inr (front tells e);
+      early = λ _ _ spec trace workers e. absurd (never-judged spec trace workers e);
+      whole = λ _ _ name. kept (ap (λ fs. file_at fs name) t.files);
+      fronts = λ _ _ slot out. untouched (ap (λ x. x.written)
           (t.others slot (output-differs Spec slot refl out) (output-differs Input slot refl out) (output-differs Report slot refl out)));
-      unexplained = λ spec trace cert e _. absurd (never-explained spec trace cert e);
+      closed = λ _ slot out opened. both-ways (opens (files_opened words) slot) opened (none-opened slot out);
+      stays = λ slot n e. let apart = unreached status three slot e in t.others slot apart.0 apart.1 n;
       unwritten = λ _ _ name. ap (λ fs. file_at fs name) t.files;
       files = λ _ _ name _. ap (λ fs. file_at fs name) t.files;
-      unused = λ slot n e. let apart = closed-apart slot e in t.others slot apart.0 apart.1 n;
-      unopened = λ e. absurd (two e);
-      unread = λ e. absurd (three e);
       read = λ slot n _. t.inputs slot n;
       report = t.report;
     }
+
+    as-told : {P : Type 0} → (IsTrue told.files → IsTrue told.left → P) → IsTold told words → P
+    as-told = behind-told told words c b.means b.spec [] refl IsAnswer (λ content input o x. x)
 
     -- all was said
     answered : (status : ℕ) → status ≡ (conversed ended text).status → (IsTrue told.left → said ≡ (conversed ended text).report) →
         [] ≡ (conversed ended text).outputs → IsTrue told.files → IsTrue told.left → Answers told words status start new
     answered status status_is all none f l = record {
-      outcome = conversed ended text;
-      is = outcome-is f l;
+      reports = record {
+        outcome = conversed ended text;
+        is = outcome-is f l;
+        grows = λ w. t.grows w ∙ ap (λ x. (start.slot_of Report).written ++ x) (all l);
+      };
       status_is = status_is;
-      grows = λ w. t.grows w ∙ ap (λ x. (start.slot_of Report).written ++ x) (all l);
       files = λ _. subst (AreHeld new.files) none (record {});
     }
 
     -- a front was said
-    fronted : (n : ℕ) → said ≡ take n (conversed ended text).report → IsTrue told.files → IsTrue told.left → ReportsFront told words start new
-    fronted n front f l = record {
-      outcome = conversed ended text;
-      is = outcome-is f l;
-      count = n;
-      grows = λ w. t.grows w ∙ ap (λ x. (start.slot_of Report).written ++ x) front;
-    }
+    fronted : (IsTrue told.left → (n : ℕ) × (said ≡ take n (conversed ended text).report)) → IsTold told words → (count : ℕ) × Reports told words start new (take count)
+    fronted front = as-told (λ f l. (
+      (front l).0,
+      record {
+        outcome = conversed ended text;
+        is = outcome-is f l;
+        grows = λ w. t.grows w ∙ ap (λ x. (start.slot_of Report).written ++ x) (front l).1;
+      },
+    ))
 
     -- no memory was to be had
     starved : ((slot : Slot) → (new.slot_of slot).faults ≡ (start.slot_of slot).faults) →
         (IsTrue told.left → (n : ℕ) × (said ≡ take n (conversed ended text).report)) → Headline told words 6 start new
-    starved counts front = promised 6 (inl (omega arith)) (λ e. omega (arith, e)) (λ e. omega (arith, e)) (λ _ _ _ n. absurd (n refl)) (λ _. counts)
-        (λ e. absurd (omega (arith, e))) (λ f l _. fronted (front l).0 (front l).1 f l)
+    starved counts front = promised 6 (1, omega arith, refl) (λ e. omega (arith, e)) (λ _ _ n. absurd (n refl)) (λ _. counts)
+        (λ e. absurd (omega (arith, e))) (λ tells _. fronted front tells)
 
     -- a call failed
     faulted : FaultCause told words start new → (IsTrue told.left → (n : ℕ) × (said ≡ take n (conversed ended text).report)) → Headline told words 5 start new
-    faulted cause front = promised 5 (inl (omega arith)) (λ e. omega (arith, e)) (λ e. omega (arith, e)) (λ _ _ n _. absurd (n refl)) (λ n. absurd (n refl))
-        (λ _. cause) (λ f l _. fronted (front l).0 (front l).1 f l)
+    faulted cause front = promised 5 (0, omega arith, refl) (λ e. omega (arith, e)) (λ _ n _. absurd (n refl)) (λ n. absurd (n refl))
+        (λ _. cause) (λ tells _. fronted front tells)
 
     -- it has ended
-    closed : (status : ℕ) → status ≤ 4 → status ≢ 2 → status ≢ 3 → ((slot : Slot) → (new.slot_of slot).faults ≡ (start.slot_of slot).faults) →
+    closed : (status : ℕ) → Contains (5 ∷ 6 ∷ 0 ∷ 3 ∷ 4 ∷ []) status → status ≢ 3 → status ≤ 4 → ((slot : Slot) → (new.slot_of slot).faults ≡ (start.slot_of slot).faults) →
         (IsTrue told.left → status ≡ (conversed ended text).status) → (IsTrue told.left → said ≡ (conversed ended text).report) →
         (IsTrue told.left → [] ≡ (conversed ended text).outputs) → Headline told words status start new
-    closed status low two three counts status_is all none = promised status (inl (omega (arith, low))) two three
-        (λ f l _ _. answered status (status_is l) all (none l) f l) (λ _. counts) (λ e. absurd (omega (arith, e, low)))
-        (λ _ _ e. absurd (⊎_elim (λ (n : status ≡ 5). omega (arith, n, low)) (λ (n : status ≡ 6). omega (arith, n, low)) e))
+    closed status known three low counts status_is all none = promised status known three
+        (λ tells _ _. as-told (λ f l. answered status (status_is l) all (none l) f l) tells) (λ _. counts) (λ e. absurd (omega (arith, e, low)))
+        (λ _ e. absurd (⊎_elim (λ (n : status ≡ 5). omega (arith, n, low)) (λ (n : status ≡ 6). omega (arith, n, low)) e))
 
   -- WHAT THE SESSION HAS SAID
   module _ (now : State) (said : List ℕ) (s : Says told K policy seed MAX_FILE_BYTES begun now said) where
@@ -257,11 +270,11 @@ module _ (told : Told) (words : List (List ℕ)) (K : System) (policy : Policy) 
       as-defined l = ap (λ e. conversed e h.text) (h.by l) ∙ ap (conversed ended) (h.all l)
 
     pub session-quit : HasEnded told K policy seed MAX_FILE_BYTES begun now Quit → Headline told words 0 start now
-    session-quit h = closed now h.text (ended-talk Quit h) 0 (omega arith) (λ e. omega (arith, e)) (λ e. omega (arith, e)) (ended-counts Quit h)
+    session-quit h = closed now h.text (ended-talk Quit h) 0 (2, omega arith, refl) (λ e. omega (arith, e)) (omega arith) (ended-counts Quit h)
         (λ l. ap (λ o. o.status) (as-defined Quit h l)) (λ l. ap (λ o. o.report) (as-defined Quit h l)) (λ l. ap (λ o. o.outputs) (as-defined Quit h l))
 
     pub session-done : HasEnded told K policy seed MAX_FILE_BYTES begun now EndOfInput → Headline told words 0 start now
-    session-done h = closed now h.text (ended-talk EndOfInput h) 0 (omega arith) (λ e. omega (arith, e)) (λ e. omega (arith, e)) (ended-counts EndOfInput h)
+    session-done h = closed now h.text (ended-talk EndOfInput h) 0 (2, omega arith, refl) (λ e. omega (arith, e)) (omega arith) (ended-counts EndOfInput h)
         (λ l. ap (λ o. o.status) (as-defined EndOfInput h l)) (λ l. ap (λ o. o.report) (as-defined EndOfInput h l)) (λ l. ap (λ o. o.outputs) (as-defined EndOfInput h l))
 
     -- THE INPUT IS TOO LONG, and a line more is to be said
@@ -279,7 +292,7 @@ module _ (told : Told) (words : List (List ℕ)) (K : System) (policy : Policy) 
         long-reported adds = closed new (h.text ++ line)
             (talk-more told start now new h.text line (ended-talk TooLong h) adds.only (written-alone (now.slot_of Report) (new.slot_of Report) adds.here)
             (let e = ap (λ x. x.faults) adds.here in omega (arith, e)) adds.end)
-            4 (omega arith) (λ e. omega (arith, e)) (λ e. omega (arith, e))
+            4 (4, omega arith, refl) (λ e. omega (arith, e)) (omega arith)
             (λ slot. by-test (is_slot Report slot)
             (λ yes. subst (λ x. (new.slot_of x).faults ≡ (start.slot_of x).faults) (is_slot-same Report slot yes) (ap (λ x. x.faults) adds.here ∙ ended-counts TooLong h Report))
             (λ no. ap (λ x. x.faults) (adds.only.others slot (is_slot-differs Report slot no)) ∙ ended-counts TooLong h slot))

@@ -5,7 +5,8 @@ use Rattle.ccsl_edge.specs.World.{State, SlotState, Told, file_at}
 use Rattle.ccsl_edge.specs.Calls.{ChangesOnly}
 use Rattle.ccsl_command.specs.Opened.{Opened}
 use Rattle.ccsl_top.specs.Opening.{is_slot, is_output}
-use Rattle.ccsl_top.specs.Effects.{RoseAt, Uses, Reads, Stays, WritesAlone}
+use Rattle.ccsl_top.specs.Effects.{RoseAt}
+use Rattle.ccsl_top.specs.Changes.{Uses, Reads, Stays, WritesAlone}
 use Rattle.ccsl_top.specs.Reading.{only, Breaks}
 use Rattle.ccsl_top.proofs.Slots.{both-ways, is_slot-same, is_slot-differs, output-differs}
 

@@ -16,15 +16,16 @@ use Rattle.ccsl_top.specs.Outcome.{Output, Outcome}
 use Rattle.ccsl_top.specs.Opening.{opens, writes, is_slot, is_output}
 use Rattle.ccsl_top.specs.Program.{accepted}
 use Rattle.ccsl_top.specs.Explain.{cert_output, blocked_outcome, IsExplainOutcome}
-use Rattle.ccsl_top.specs.Effects.{Reads, Stays}
+use Rattle.ccsl_top.specs.Changes.{Reads, Stays}
 use Rattle.ccsl_top.specs.Reading.{only}
-use Rattle.ccsl_top.specs.Headline.{input_of, IsDefinedOutput, IsFrontOn, by_file, untouched}
+use Rattle.ccsl_top.specs.Headline.{IsTold, input_of, IsDefinedOutput, explained, IsFrontOn, by_file, untouched}
 use Rattle.ccsl_top.specs.Answered.{code_of, plain_reply, Leaves, Answered, Faulted, IsUnanswered, AnswersTo, StopsAt}
 use Rattle.ccsl_top.specs.Explaining.{WritesSome, WritesWhole, WritesBreak, IsBlocked, TraceAnswers, unwritten, written, IsTraceStop}
-use Rattle.ccsl_top.proofs.Slots.{both-ways, is_slot-same, is_slot-self, is_slot-differs}
+use Rattle.ccsl_top.proofs.Slots.{both-ways, is_slot-same, is_slot-self, is_slot-differs, same-input}
 use Rattle.ccsl_top.proofs.Effects.{by-test, either-false, other-false, uses-changed, uses-rises, reads-then}
 use Rattle.ccsl_top.proofs.Outputs.{whole-moves, front-moves}
-use Rattle.ccsl_top.proofs.Behind.{is-outcome, not-refused, read-answered, read-faulted, read-starved}
+use Rattle.ccsl_top.proofs.Reaching.{opened-used, reach-all}
+use Rattle.ccsl_top.proofs.Behind.{is-outcome, behind-told, among-answers, read-answered, read-faulted, read-starved}
 use Rattle.ccsl_top.proofs.Writing.{on-output, trace-apart}
 use Rattle.ccsl_top.proofs.Simulated.{name-apart}
 
@@ -60,6 +61,9 @@ module _ (told : Told) (words : List (List ℕ)) (spec trace cert : List ℕ) (m
       IsTrue told.files → IsTrue told.left → IsExplainOutcome K cert (held s.files trace) o
   at-start o is f l = subst (λ fs. IsExplainOutcome K cert (held fs trace) o) reads.uses.files (is f l)
 
+  as-told : {P : Type 0} → (IsTrue told.files → IsTrue told.left → P) → IsTold told words → P
+  as-told = behind-told told words c means spec behind refl IsAnswer (λ content input p x. x)
+
   -- THE CERTIFICATE WAS OPENED
   module _ (Writes : Output → State → State → Type 0) (all : IsBlocked told K cert trace t u Writes) where
     abbrev file : Output
@@ -90,17 +94,7 @@ module _ (told : Told) (words : List (List ℕ)) (spec trace cert : List ℕ) (m
     file-same name = ap (λ fs. file_at fs name) (sym both.uses.files)
 
     defined-output : IsTrue told.files → IsTrue told.left → (x : Output) → x ≡ file → IsDefinedOutput words s.files x
-    defined-output f l x is = inr (record {
-      spec = spec;
-      trace = trace;
-      cert = cert;
-      means = means;
-      system = K;
-      accepted = system f l;
-      outcome = o;
-      explains = at-start o all.is f l;
-      is = ap (λ y. y ∷ []) (sym is);
-    })
+    defined-output f l x is = explained spec trace cert means K (system f l) o (at-start o all.is f l) (ap (λ y. y ∷ []) (sym is))
 
     module _ (some : WritesSome told (cert_output K cert all.lines) all.between u) where
       cert-unwritten : (slot : Slot) → is_output slot ≡ false → slot ≢ CertOut
@@ -108,7 +102,7 @@ module _ (told : Told) (words : List (List ℕ)) (spec trace cert : List ℕ) (m
 
       stays : Stays told (files_opened words) used s u
       stays = record {
-        unwritten = λ _ e. both-ways (opens opened CertOut) refl (sym (ap (λ fs. opens fs CertOut) words-open) ∙ e);
+        unwritten = λ _ e. both-ways (used CertOut) refl e;
         files = λ f w name e.
             let n : writes opened name ≡ false = sym (ap (λ fs. writes fs name) words-open) ∙ e in
             some.files f w name (name-apart cert name (either-false (bytes_eq cert name) false n)) ∙ sym (file-same name);
@@ -128,16 +122,16 @@ module _ (told : Told) (words : List (List ℕ)) (spec trace cert : List ℕ) (m
       leaves = record {
         opened = used-opened;
         stays = stays;
-        whole = λ f l w name.
+        whole = λ tells w name. as-told (λ f l.
             let P : Output → Type 0 = λ x. x ≡ file in
             let Q : Output → Type 0 = IsDefinedOutput words s.files in
-            whole-moves P Q (defined-output f l) mid s u u name (file-same name) refl (some.whole f w name);
-        fronts = λ f l w slot out. on-output (IsFrontOn (IsDefinedOutput words s.files) s u)
+            whole-moves P Q (defined-output f l) mid s u u name (file-same name) refl (some.whole f w name)) tells;
+        fronts = λ tells w slot out. as-told (λ f l. on-output (IsFrontOn (IsDefinedOutput words s.files) s u)
             (untouched (ap (λ x. x.written) (some.others TraceOut trace-apart ∙ both.uses.others TraceOut refl)))
             (let P : Output → Type 0 = λ x. x ≡ file in
             let Q : Output → Type 0 = IsDefinedOutput words s.files in
             front-moves P Q (defined-output f l) mid s u u CertOut (ap (λ x. x.written) (sym (both.uses.others CertOut refl))) refl (some.front w))
-            slot out;
+            slot out) tells;
       }
 
       some-counts : (u.slot_of CertOut).faults ≡ (mid.slot_of CertOut).faults → (slot : Slot) → (u.slot_of slot).faults ≡ (s.slot_of slot).faults
@@ -145,6 +139,12 @@ module _ (told : Told) (words : List (List ℕ)) (spec trace cert : List ℕ) (m
           (λ yes. subst (λ x. (u.slot_of x).faults ≡ (mid.slot_of x).faults) (is_slot-same CertOut slot yes) e)
           (λ no. ap (λ x. x.faults) (some.others slot (is_slot-differs CertOut slot no)))
           ∙ both.counts slot
+
+  certificate-closed : (all : IsBlocked told K cert trace t u (WritesWhole told)) (slot : Slot) → is_output slot ≡ true → opens (files_opened words) slot ≡ true →
+      (u.slot_of slot).is_open ≡ false
+  certificate-closed all slot out = on-output (λ x. opens (files_opened words) x ≡ true → (u.slot_of x).is_open ≡ false)
+      (λ e. both-ways (opens opened TraceOut) (sym (ap (λ fs. opens fs TraceOut) words-open) ∙ e) refl)
+      (λ _. all.writes.closed) slot out
 
   -- the certificate was written
   written-answered : (reply : Reply) (all : IsBlocked told K cert trace t u (WritesWhole told)) → code_of reply.status ≡ 0 →
@@ -154,10 +154,11 @@ module _ (told : Told) (words : List (List ℕ)) (spec trace cert : List ℕ) (m
         used = used W all;
         leaves = leaves W all all.writes.some;
         counts = some-counts W all all.writes.some all.writes.counts;
-        unopened = λ e. absurd (omega (arith, e, status));
-        unread = λ e. absurd (omega (arith, e, status));
-        unexplained = λ _ _ _ _ e. absurd (⊎_elim (λ n. omega (arith, n, status)) (λ n. omega (arith, n, status)) e);
-        stands = λ f l. record {
+        known = among-answers told words c means spec behind refl IsAnswer (λ content input p x. x) (code_of reply.status) (0, omega arith, sym status);
+        within = λ slot e. reach-all words slot (code_of reply.status) (λ n. omega (arith, n, status)) (λ n. omega (arith, n, status)) (λ n. omega (arith, n, status))
+            (opened-used words slot (used-opened W all slot e));
+        closed = λ _ slot out opens_it. certificate-closed all slot out opens_it;
+        stands = as-told (λ f l. record {
           outcome = o W all;
           status_is = status;
           report_is = line;
@@ -166,8 +167,7 @@ module _ (told : Told) (words : List (List ℕ)) (spec trace cert : List ℕ) (m
                 (accepted K (system f l) (at-start (o W all) all.is f l));
             files = λ w. (all.writes.holds f w, record {});
           };
-        };
-        refused = λ fault e. absurd (not-refused told words c means spec behind refl IsAnswer (λ content input p x. x) fault e);
+        });
       }
 
   -- a call on it failed
@@ -181,17 +181,23 @@ module _ (told : Told) (words : List (List ℕ)) (spec trace cert : List ℕ) (m
       }
 
   pub explain-answered : (reply : Reply) → TraceAnswers told K cert trace t u reply → Answered told words reply s u
-  explain-answered reply (unwritten after two three is) =
-      read-answered told words c means spec behind refl IsAnswer (λ content input p x. x) s t reads K system (only Trace) trace-within refl u reply after two three
+  explain-answered reply (unwritten after status is) =
+      read-answered told words c means spec behind refl IsAnswer (λ content input p x. x) s t reads K system (only Trace) trace-within (same-input Trace refl) u reply after
+      (⊎_elim (λ (n : code_of reply.status ≡ 1). λ e. omega (arith, n, e)) (λ (n : code_of reply.status ≡ 4). λ e. omega (arith, n, e)) status)
+      (⊎_elim (λ (n : code_of reply.status ≡ 1). (1, omega arith, sym n)) (λ (n : code_of reply.status ≡ 4). (3, omega arith, sym n)) status)
+      (λ done slot out opens_it. absurd (⊎_elim
+      (λ (n : code_of reply.status ≡ 1). ⊎_elim (λ (e : code_of reply.status ≡ 0). omega (arith, n, e)) (λ (e : code_of reply.status ≡ 8). omega (arith, n, e)) done)
+      (λ (n : code_of reply.status ≡ 4). ⊎_elim (λ (e : code_of reply.status ≡ 0). omega (arith, n, e)) (λ (e : code_of reply.status ≡ 8). omega (arith, n, e)) done)
+      status))
       (at-start (plain_reply reply) is)
   explain-answered reply (written all status line) = written-answered reply all status line
 
   pub explain-stopped : (reason : Stop) → IsTraceStop told K cert trace t u reason → IsUnanswered reason told words s u
   explain-stopped stop.Fault b = ⊎_elim
-      (λ f. read-faulted told words c means spec behind refl IsAnswer (λ content input p x. x) s t reads K system (only Trace) trace-within refl u f.uses Trace (is_slot-self Trace) f.rose)
+      (λ f. read-faulted told words c means spec behind refl IsAnswer (λ content input p x. x) s t reads K system (only Trace) trace-within (same-input Trace refl) u f.uses Trace (is_slot-self Trace) f.rose)
       written-faulted b
   explain-stopped stop.Memory b =
-      read-starved told words c means spec behind refl IsAnswer (λ content input p x. x) s t reads K system (only Trace) trace-within refl u b
+      read-starved told words c means spec behind refl IsAnswer (λ content input p x. x) s t reads K system (only Trace) trace-within (same-input Trace refl) u b
       (λ f l name file n e. absurd (no-trial name file n e))
 
 -- whichever words mean the command

@@ -11,7 +11,7 @@ use Rattle.ccsl_command.specs.Meaning.{meaning}
 use Rattle.ccsl_command.specs.Opened.{files_meant, files_opened}
 use Rattle.ccsl_top.specs.Outcome.{Output}
 use Rattle.ccsl_top.specs.Opening.{opens, writes, is_slot, is_output}
-use Rattle.ccsl_top.specs.Headline.{IsDefinedOutput, IsKeptOrWhole, IsFrontOn}
+use Rattle.ccsl_top.specs.Headline.{IsTold, IsDefinedOutput, IsKeptOrWhole, IsFrontOn}
 use Rattle.ccsl_top.specs.Answered.{AreOpened, Leaves}
 use Rattle.ccsl_top.proofs.Slots.{both-ways, is_slot-same, is_slot-differs, output-differs}
 use Rattle.ccsl_top.proofs.Effects.{Changed, by-test}
@@ -39,17 +39,15 @@ unused-of words used opened slot closed =
 
 -- what stays, the report's slot aside
 pub record Frame (told : Told) (words : List (List ℕ)) (used : Slot → Bool) (old new : State) : Type 0 where
-  pub unwritten : opens (files_opened words) TraceOut ≡ false → opens (files_opened words) CertOut ≡ false →
-      (name : List ℕ) → file_at new.files name ≡ file_at old.files name
+  pub unwritten : used TraceOut ≡ false → used CertOut ≡ false → (name : List ℕ) → file_at new.files name ≡ file_at old.files name
   pub files : IsTrue told.files → IsTrue told.written → (name : List ℕ) → writes (files_opened words) name ≡ false →
       file_at new.files name ≡ file_at old.files name
   pub slots : (slot : Slot) → slot ≢ Report → is_output slot ≡ false → Changed (old.slot_of slot) (new.slot_of slot)
   pub kept : (slot : Slot) → slot ≢ Report → used slot ≡ false → new.slot_of slot ≡ old.slot_of slot
   pub rises : (slot : Slot) → (old.slot_of slot).faults ≤ (new.slot_of slot).faults
   pub report : new.slot_of Report ≡ record (old.slot_of Report) { written = (new.slot_of Report).written; faults = (new.slot_of Report).faults }
-  pub whole : IsTrue told.files → IsTrue told.left → IsTrue told.written → (name : List ℕ) →
-      IsKeptOrWhole (IsDefinedOutput words old.files) old new name
-  pub fronts : IsTrue told.files → IsTrue told.left → IsTrue told.written → (slot : Slot) → is_output slot ≡ true →
+  pub whole : IsTold told words → IsTrue told.written → (name : List ℕ) → IsKeptOrWhole (IsDefinedOutput words old.files) old new name
+  pub fronts : IsTold told words → IsTrue told.written → (slot : Slot) → is_output slot ≡ true →
       IsFrontOn (IsDefinedOutput words old.files) old new slot
 
 module _ (told : Told) (words : List (List ℕ)) (used : Slot → Bool) (old mid : State) (leaves : Leaves told words used old mid) where
@@ -89,8 +87,8 @@ module _ (told : Told) (words : List (List ℕ)) (used : Slot → Bool) (old mid
           (λ no. let e = ap (λ s. s.faults) (elsewhere slot (is_slot-differs Report slot no)) in
           let r = leaves.stays.rises slot in omega (arith, e, r));
       report = here ∙ ap (λ (x : SlotState). let S : SlotState = record x { written = (new.slot_of Report).written; faults = (new.slot_of Report).faults } in S) report-same;
-      whole = λ f l w name. let P : Output → Type 0 = IsDefinedOutput words old.files in
-          whole-moves P P (λ o p. p) old old mid new name refl (same-file name) (leaves.whole f l w name);
-      fronts = λ f l w slot out. let P : Output → Type 0 = IsDefinedOutput words old.files in
-          front-moves P P (λ o p. p) old old mid new slot refl (ap (λ s. s.written) (elsewhere slot (output-differs Report slot refl out))) (leaves.fronts f l w slot out);
+      whole = λ t w name. let P : Output → Type 0 = IsDefinedOutput words old.files in
+          whole-moves P P (λ o p. p) old old mid new name refl (same-file name) (leaves.whole t w name);
+      fronts = λ t w slot out. let P : Output → Type 0 = IsDefinedOutput words old.files in
+          front-moves P P (λ o p. p) old old mid new slot refl (ap (λ s. s.written) (elsewhere slot (output-differs Report slot refl out))) (leaves.fronts t w slot out);
     }

@@ -1,31 +1,25 @@
 -- The program's promise, from what was done and what was reported.
-use Rattle.std.proofs.Common.{◌≡◌, ◌≢◌, ◌⊎◌, ℕ, ◌<◌, ◌≤◌, List, ◌++◌, take, false, ◌&&◌, ⊎_elim, inl, inr, refl, sym, ap, ◌∙◌, subst, arith}
+use Rattle.std.proofs.Common.{◌≡◌, ◌≢◌, ◌⊎◌, ℕ, ◌<◌, ◌≤◌, List, ◌++◌, take, Bool, true, false, ⊎_elim, inl, inr, refl, sym, ap, ◌∙◌, subst, arith}
 use Rattle.ccsl_edge.specs.declared.slot.Slot.{Slot}
-use Rattle.ccsl_edge.specs.declared.slot.Slot.TheVariants.{Input, Report, CertOut}
-use Rattle.ccsl_edge.specs.World.{State, SlotState, Told, file_at, risen}
+use Rattle.ccsl_edge.specs.declared.slot.Slot.TheVariants.{Report, TraceOut, CertOut}
+use Rattle.ccsl_edge.specs.World.{State, SlotState, Told, risen}
 use Rattle.ccsl_edge.specs.Calls.{Adds, AddsFront}
 use Rattle.ccsl_top.specs.declared.reply.Status.{Status}
 use Rattle.ccsl_top.specs.declared.reply.Status.TheVariants.{Done, No, WordsRefused, SpecRefused, FileRefused, Deadlock}
 use Rattle.ccsl_top.specs.declared.reply.Reply.{Reply}
 use Rattle.ccsl_command.specs.Meaning.{meaning}
-use Rattle.ccsl_command.specs.Opened.{files_opened}
-use Rattle.ccsl_top.specs.Opening.{is_slot, opens, uses, is_session}
-use Rattle.ccsl_top.specs.Answered.{code_of, Answered, Faulted, Starved, IsUnanswered}
+use Rattle.ccsl_top.specs.Statuses.{answers_of}
+use Rattle.ccsl_top.specs.Opening.{is_slot, may_change}
+use Rattle.ccsl_top.specs.Effects.{RoseAt}
+use Rattle.ccsl_top.specs.Answered.{code_of, AreOpened, AreClosed, Answered, Faulted, Starved, IsUnanswered}
 use Rattle.ccsl_top.specs.declared.files.Stop.{Stop}
 use Rattle.ccsl_top.specs.declared.files.Stop.TheVariants.{Fault, Memory}
 use Rattle.ccsl_top.specs.Stopping.{stop_code}
 use Rattle.ccsl_top.specs.Headline.{Headline, ReportGrows, AreHeld, by_report}
-use Rattle.ccsl_top.proofs.Slots.{is_slot-same, is_slot-differs}
-use Rattle.ccsl_top.proofs.Effects.{by-test, either-false}
-use Rattle.ccsl_top.proofs.Frames.{Frame, unused-of, report-same, frame-still, frame-reported}
-
-code-known : (s : Status) → (code_of s ≤ 6) ⊎ (code_of s ≡ 8)
-code-known Done = inl (omega arith)
-code-known No = inl (omega arith)
-code-known WordsRefused = inl (omega arith)
-code-known SpecRefused = inl (omega arith)
-code-known FileRefused = inl (omega arith)
-code-known Deadlock = inr refl
+use Rattle.ccsl_top.proofs.Slots.{both-ways, is_slot-same, is_slot-differs, output-differs}
+use Rattle.ccsl_top.proofs.Effects.{by-test}
+use Rattle.ccsl_top.proofs.Reaching.{opened-used, reach-all, among-more}
+use Rattle.ccsl_top.proofs.Frames.{Frame, report-same, frame-still, frame-reported}
 
 code-answers : (s : Status) → (code_of s ≢ 5) × (code_of s ≢ 6)
 code-answers Done = (λ e. omega (arith, e), λ e. omega (arith, e))
@@ -35,16 +29,23 @@ code-answers SpecRefused = (λ e. omega (arith, e), λ e. omega (arith, e))
 code-answers FileRefused = (λ e. omega (arith, e), λ e. omega (arith, e))
 code-answers Deadlock = (λ e. omega (arith, e), λ e. omega (arith, e))
 
--- what the words don't use they don't open
-pub unopened-of : (words : List (List ℕ)) (slot : Slot) → uses words slot ≡ false → opens (files_opened words) slot ≡ false
-unopened-of words slot e = either-false (opens (files_opened words) slot) (is_session (meaning words) && is_slot slot Input) e
+-- 5 and 6 are no answers
+no-answer : {P : Type 0} (status : ℕ) → (status ≡ 5) ⊎ (status ≡ 6) → (status ≡ 0) ⊎ (status ≡ 8) → P
+no-answer status five-six zero-eight = absurd (⊎_elim
+    (λ (a : status ≡ 5). ⊎_elim (λ (b : status ≡ 0). omega (arith, a, b)) (λ (b : status ≡ 8). omega (arith, a, b)) zero-eight)
+    (λ (a : status ≡ 6). ⊎_elim (λ (b : status ≡ 0). omega (arith, a, b)) (λ (b : status ≡ 8). omega (arith, a, b)) zero-eight)
+    five-six)
 
--- nothing was answered
-pub answers-none : {P : Type 0} (status : ℕ) → 4 < status → (status ≡ 1) ⊎ (status ≡ 4) → P
-answers-none status l e = absurd (⊎_elim (λ (n : status ≡ 1). omega (arith, n, l)) (λ (n : status ≡ 4). omega (arith, n, l)) e)
+-- what a run without an answer does not reach was not used
+module _ (words : List (List ℕ)) (used : Slot → Bool) (opened : AreOpened words used) (status : ℕ) (none : (status ≡ 5) ⊎ (status ≡ 6)) where
+  unlike : (n : ℕ) → n < 5 → status ≢ n
+  unlike n few e = ⊎_elim (λ (a : status ≡ 5). omega (arith, a, e, few)) (λ (a : status ≡ 6). omega (arith, a, e, few)) none
 
-cert-apart : CertOut ≢ Report
-cert-apart = is_slot-differs Report CertOut refl
+  unreached : (slot : Slot) → may_change words status slot ≡ false → used slot ≡ false
+  unreached slot e = by-test (used slot)
+      (λ yes. both-ways (may_change words status slot)
+      (reach-all words slot status (unlike 1 (omega arith)) (unlike 3 (omega arith)) (unlike 4 (omega arith)) (opened-used words slot (opened slot yes))) e)
+      (λ no. no)
 
 module _ (told : Told) (words : List (List ℕ)) (old : State) where
   module _ (reply : Reply) (mid new : State) (a : Answered told words reply old mid) where
@@ -74,32 +75,34 @@ module _ (told : Told) (words : List (List ℕ)) (old : State) where
       grows : ReportGrows told old new reply.line.items
       grows w = adds.end w ∙ ap (λ s. s.written ++ reply.line.items) same
 
+      outside : (slot : Slot) → may_change words (code_of reply.status) slot ≡ false → a.used slot ≡ false
+      outside slot e = by-test (a.used slot) (λ yes. both-ways (may_change words (code_of reply.status) slot) (a.within slot yes) e) (λ no. no)
+
+      -- the slots of the files are as they were
+      closed : AreClosed words (code_of reply.status) new
+      closed e slot out opened = ap (λ x. x.is_open) (adds.only.others slot (output-differs Report slot refl out)) ∙ a.closed e slot out opened
+
       pub headline-reported : Headline told words (code_of reply.status) old new
       headline-reported = record {
-        known = code-known reply.status;
-        defined = λ f l _ _. let s = a.stands f l in record {
-          outcome = s.outcome;
-          is = s.defined.is;
+        known = among-more (answers_of (meaning words)) (code_of reply.status) a.known;
+        defined = λ t _ _. let s = a.stands t in record {
+          reports = record { outcome = s.outcome; is = s.defined.is; grows = subst (ReportGrows told old new) s.report_is grows };
           status_is = s.status_is;
-          grows = subst (ReportGrows told old new) s.report_is grows;
           files = λ w. subst (λ fs. AreHeld fs s.outcome.outputs) (sym adds.only.files) (s.defined.files w);
         };
-        refused_words = λ fault e _ _. let is = a.refused fault e in (ap (λ x. x.status) is, subst (λ x. ReportGrows told old new x.report) is grows);
         counts_rise = frame.rises;
         counts_stay = λ _. counts;
         fault_cause = not-five;
-        front = λ _ _ e. ⊎_elim not-five not-six e;
+        unreported = λ e _. not-five e;
         silent = λ e _. not-six e;
-        barely = λ _ _. not-six;
+        front = λ _ e. ⊎_elim not-five not-six e;
+        early = λ _. not-six;
         whole = frame.whole;
         fronts = frame.fronts;
-        unexplained = λ spec trace cert means e. let kept = a.unexplained spec trace cert means e in
-            (adds.only.others CertOut cert-apart ∙ kept.0, λ name. ap (λ fs. file_at fs name) adds.only.files ∙ kept.1 name);
-        unwritten = frame.unwritten;
+        closed = closed;
+        stays = λ slot n e. frame.kept slot n (outside slot e);
+        unwritten = λ t c. frame.unwritten (outside TraceOut t) (outside CertOut c);
         files = frame.files;
-        unused = λ slot n closed. frame.kept slot n (unused-of words a.used a.leaves.opened slot (unopened-of words slot closed));
-        unopened = λ e slot n. frame.kept slot n (a.unopened e slot);
-        unread = λ e slot n m. frame.kept slot n (a.unread e slot m);
         read = frame.slots;
         report = frame.report;
       }
@@ -109,30 +112,34 @@ module _ (told : Told) (words : List (List ℕ)) (old : State) where
       part : Frame told words a.used old new
       part = frame-reported told words a.used old mid a.leaves new front.only front.here front.rose.0
 
+      rose : RoseAt Report old new
+      rose = subst (λ s. let faults : ℕ = s.faults in (faults ≤ (new.slot_of Report).faults) × (risen faults ≤ (new.slot_of Report).faults)) same front.rose
+
       pub headline-unreported : Headline told words 5 old new
       headline-unreported = record {
-        known = inl (omega arith);
-        defined = λ _ _ n _. absurd (n refl);
-        refused_words = λ _ _ n _. absurd (n refl);
+        known = (0, omega arith, refl);
+        defined = λ _ n _. absurd (n refl);
         counts_rise = part.rises;
         counts_stay = λ n. absurd (n refl);
-        fault_cause = λ _. by_report (subst (λ s. let faults : ℕ = s.faults in (faults ≤ (new.slot_of Report).faults) × (risen faults ≤ (new.slot_of Report).faults)) same front.rose);
-        front = λ f l _. let s = a.stands f l in inr (record {
-          outcome = s.outcome;
-          is = s.defined.is;
-          count = front.count;
-          grows = λ w. front.front w ∙ ap (λ x. x.written ++ take front.count reply.line.items) same ∙ ap (λ t. (old.slot_of Report).written ++ take front.count t) s.report_is;
-        });
+        fault_cause = λ _. by_report rose;
+        unreported = λ _ _. inr rose;
         silent = λ e _. absurd (omega (arith, e));
-        barely = λ _ _ e. absurd (omega (arith, e));
+        front = λ t _. let s = a.stands t in inr (
+          front.count,
+          record {
+            outcome = s.outcome;
+            is = s.defined.is;
+            grows = λ w. front.front w ∙ ap (λ x. x.written ++ take front.count reply.line.items) same ∙ ap (λ t. (old.slot_of Report).written ++ take front.count t) s.report_is;
+          },
+        );
+        early = λ _ e. absurd (omega (arith, e));
         whole = part.whole;
         fronts = part.fronts;
-        unexplained = λ _ _ _ _ e. answers-none 5 (omega arith) e;
-        unwritten = part.unwritten;
+        closed = no-answer 5 (inl refl);
+        stays = λ slot n e. part.kept slot n (unreached words a.used a.leaves.opened 5 (inl refl) slot e);
+        unwritten = λ t c.
+            part.unwritten (unreached words a.used a.leaves.opened 5 (inl refl) TraceOut t) (unreached words a.used a.leaves.opened 5 (inl refl) CertOut c);
         files = part.files;
-        unused = λ slot n closed. part.kept slot n (unused-of words a.used a.leaves.opened slot (unopened-of words slot closed));
-        unopened = λ e. absurd (omega (arith, e));
-        unread = λ e. absurd (omega (arith, e));
         read = part.slots;
         report = part.report;
       }
@@ -142,24 +149,24 @@ module _ (told : Told) (words : List (List ℕ)) (old : State) where
     pub headline-faulted : Faulted told words old new → Headline told words 5 old new
     headline-faulted f =
         let still : Frame told words f.used old new = frame-still told words f.used old new f.leaves in
+        let same = report-same told words f.used old new f.leaves in
         record {
-          known = inl (omega arith);
-          defined = λ _ _ n _. absurd (n refl);
-          refused_words = λ _ _ n _. absurd (n refl);
+          known = (0, omega arith, refl);
+          defined = λ _ n _. absurd (n refl);
           counts_rise = still.rises;
           counts_stay = λ n. absurd (n refl);
           fault_cause = λ _. f.cause;
-          front = λ _ _ _. inl (ap (λ s. s.written) (report-same told words f.used old new f.leaves));
+          unreported = λ _ _. inl same;
           silent = λ e _. absurd (omega (arith, e));
-          barely = λ _ _ e. absurd (omega (arith, e));
+          front = λ _ _. inl (ap (λ s. s.written) same);
+          early = λ _ e. absurd (omega (arith, e));
           whole = still.whole;
           fronts = still.fronts;
-          unexplained = λ _ _ _ _ e. answers-none 5 (omega arith) e;
-          unwritten = still.unwritten;
+          closed = no-answer 5 (inl refl);
+          stays = λ slot n e. still.kept slot n (unreached words f.used f.leaves.opened 5 (inl refl) slot e);
+          unwritten = λ t c.
+              still.unwritten (unreached words f.used f.leaves.opened 5 (inl refl) TraceOut t) (unreached words f.used f.leaves.opened 5 (inl refl) CertOut c);
           files = still.files;
-          unused = λ slot n closed. still.kept slot n (unused-of words f.used f.leaves.opened slot (unopened-of words slot closed));
-          unopened = λ e. absurd (omega (arith, e));
-          unread = λ e. absurd (omega (arith, e));
           read = still.slots;
           report = still.report;
         }
@@ -168,24 +175,24 @@ module _ (told : Told) (words : List (List ℕ)) (old : State) where
     pub headline-starved : Starved told words old new → Headline told words 6 old new
     headline-starved s =
         let still : Frame told words s.used old new = frame-still told words s.used old new s.leaves in
+        let same = report-same told words s.used old new s.leaves in
         record {
-          known = inl (omega arith);
-          defined = λ _ _ _ n. absurd (n refl);
-          refused_words = λ _ _ _ n. absurd (n refl);
+          known = (1, omega arith, refl);
+          defined = λ _ _ n. absurd (n refl);
           counts_rise = still.rises;
           counts_stay = λ _. s.counts;
           fault_cause = λ e. absurd (omega (arith, e));
-          front = λ _ _ _. inl (ap (λ s. s.written) (report-same told words s.used old new s.leaves));
-          silent = λ _ _. report-same told words s.used old new s.leaves;
-          barely = λ f l _. s.barely f l;
+          unreported = λ e _. absurd (omega (arith, e));
+          silent = λ _ _. same;
+          front = λ _ _. inl (ap (λ s. s.written) same);
+          early = λ t _. s.early t;
           whole = still.whole;
           fronts = still.fronts;
-          unexplained = λ _ _ _ _ e. answers-none 6 (omega arith) e;
-          unwritten = still.unwritten;
+          closed = no-answer 6 (inr refl);
+          stays = λ slot n e. still.kept slot n (unreached words s.used s.leaves.opened 6 (inr refl) slot e);
+          unwritten = λ t c.
+              still.unwritten (unreached words s.used s.leaves.opened 6 (inr refl) TraceOut t) (unreached words s.used s.leaves.opened 6 (inr refl) CertOut c);
           files = still.files;
-          unused = λ slot n closed. still.kept slot n (unused-of words s.used s.leaves.opened slot (unopened-of words slot closed));
-          unopened = λ e. absurd (omega (arith, e));
-          unread = λ e. absurd (omega (arith, e));
           read = still.slots;
           report = still.report;
         }

@@ -1,5 +1,5 @@
 -- A trace that was opened and judged.
-use Rattle.std.proofs.Common.{◌≡◌, ◌≢◌, ◌⊎◌, ℕ, List, [], ◌∷◌, true, false, Result, Ok, Err, IfOk, IfErr, IsTrue, ⊎_elim, inr, refl, sym, ap, ◌∙◌, subst}
+use Rattle.std.proofs.Common.{◌≡◌, ◌⊎◌, ℕ, List, [], ◌∷◌, true, false, Result, Ok, Err, IfOk, IfErr, IsTrue, ⊎_elim, inr, refl, sym, ap, ◌∙◌, subst}
 use Rattle.ccsl_edge.specs.declared.slot.Slot.{Slot}
 use Rattle.ccsl_edge.specs.declared.slot.Slot.TheVariants.{Spec, Trace}
 use Rattle.ccsl_edge.specs.World.{State, Told, held}
@@ -17,18 +17,20 @@ use Rattle.ccsl_judge.specs.Judged.{IsJudged, plain}
 use Rattle.ccsl_report.specs.Texts.{trace_text}
 use Rattle.ccsl_top.specs.Outcome.{Outcome, outcome}
 use Rattle.ccsl_top.specs.Judge.{LIMITS, judge_outcome, verdict_outcome, read_outcome}
-use Rattle.ccsl_top.specs.Effects.{Reads}
+use Rattle.ccsl_top.specs.Changes.{Reads}
 use Rattle.ccsl_top.specs.Reading.{only, Breaks}
 use Rattle.ccsl_top.specs.declared.files.Stop.{Stop}
 use Rattle.ccsl_top.specs.declared.files.Stop.TheVariants as stop
 use Rattle.ccsl_top.specs.declared.reply.Reply.{Reply}
-use Rattle.ccsl_top.specs.Opening.{is_slot, opens}
-use Rattle.ccsl_top.specs.Headline.{IsNear, IsBarelyRead, unread, hardly}
+use Rattle.ccsl_top.specs.Opening.{is_slot, is_output, opens}
+use Rattle.ccsl_top.specs.Headline.{EndsNearHeader, LeavesTrace, unopened, near_header}
 use Rattle.ccsl_top.specs.Judging.{StarvesAt, IsTraceStop}
-use Rattle.ccsl_top.specs.Answered.{plain_reply, AnswersTo, StopsAt}
-use Rattle.ccsl_top.proofs.Slots.{is_slot-self}
+use Rattle.ccsl_top.specs.Answered.{code_of, plain_reply, IsReadStatus, AnswersTo, StopsAt}
+use Rattle.ccsl_top.proofs.Slots.{is_slot-self, same-input}
+use Rattle.ccsl_top.proofs.Reaching.{read-known}
+use Rattle.ccsl_top.proofs.Writing.{on-output}
 use Rattle.ccsl_top.proofs.Opened.{opened-reads, opened-breaks, opened-taken}
-use Rattle.ccsl_top.proofs.Behind.{first-opens, read-answered, read-faulted, read-starved}
+use Rattle.ccsl_top.proofs.Behind.{first-opens, closed-none, read-answered, read-faulted, read-starved}
 
 module _ (told : Told) (K : System) (trace : List ℕ) (s t u : State) (opens : OpensIn told Trace trace s t) where
   module _ (v : Verdict) (is : IsJudged told K LIMITS t u v) where
@@ -54,7 +56,7 @@ module _ (told : Told) (K : System) (trace : List ℕ) (s t u : State) (opens : 
   pub near-starves : IsNearHeader told (wanted_of K) LIMITS t u → StarvesAt told K trace s u
   near-starves is = record {
     reads = opened-reads told Trace trace s t u opens is.bytes is.reads;
-    barely = λ f l. inr (record { bytes = is.bytes; taken = opened-taken told Trace trace s t u opens is.bytes is.reads f l; near = is.near });
+    early = λ f l. inr (record { bytes = is.bytes; taken = opened-taken told Trace trace s t u opens is.bytes is.reads f l; near = is.near });
   }
 
 -- THE WHOLE COMMAND behind an accepted specification
@@ -73,26 +75,32 @@ module _ (told : Told) (spec trace : List ℕ) (workers : ℕ) (s t : State) (re
   unfolding behind
   within slot e = first-opens (is_slot Trace slot) false e
 
+  unwritten : (slot : Slot) → is_output slot ≡ true → opens behind slot ≡ false
+  unfolding behind
+  unwritten slot out = on-output (λ x. opens behind x ≡ false) refl refl slot out
+
   pub judge-replies : (result : Result Reply Stop) → IfOk result (λ _. Reads (only Trace) t u) →
-      IfOk result (λ reply. ((plain_reply reply).status ≢ 2) × ((plain_reply reply).status ≢ 3)) →
+      IfOk result (λ reply. IsReadStatus (plain_reply reply).status) →
       IfOk result (λ reply. IsTrue told.files → IsTrue told.left → plain_reply reply ≡ judge_outcome K (held t.files trace)) →
       IfOk result (λ reply. AnswersTo told (command.Judge spec trace workers) reply s u)
   unfolding c behind IsAnswer
   judge-replies (Ok reply) after status is = λ words means.
-      read-answered told words c means spec behind refl IsAnswer (λ content input o x. x) s t reads K system (only Trace) within refl u reply after status.0 status.1
+      read-answered told words c means spec behind refl IsAnswer (λ content input o x. x) s t reads K system (only Trace) within (same-input Trace refl) u reply after status.1
+      (read-known reply.status status)
+      (closed-none told words c means spec behind refl IsAnswer (λ content input o x. x) unwritten (code_of reply.status) u)
       (λ f l. is f l ∙ ap (λ fs. judge_outcome K (held fs trace)) reads.uses.files)
   judge-replies (Err stop) after status is = after
 
   trace-stopped : (reason : Stop) → IsTraceStop reason told K trace t u → StopsAt told (command.Judge spec trace workers) reason s u
   unfolding c behind IsAnswer
   trace-stopped stop.Fault b = λ words means.
-      read-faulted told words c means spec behind refl IsAnswer (λ content input o x. x) s t reads K system (only Trace) within refl u b.uses Trace (is_slot-self Trace) b.rose
+      read-faulted told words c means spec behind refl IsAnswer (λ content input o x. x) s t reads K system (only Trace) within (same-input Trace refl) u b.uses Trace (is_slot-self Trace) b.rose
   trace-stopped stop.Memory b = λ words means.
-      read-starved told words c means spec behind refl IsAnswer (λ content input o x. x) s t reads K system (only Trace) within refl u b.reads
+      read-starved told words c means spec behind refl IsAnswer (λ content input o x. x) s t reads K system (only Trace) within (same-input Trace refl) u b.reads
       (λ f l name file n e.
       let spec-same : spec ≡ name = spec-of name file n e in
       let trace-same : trace ≡ file = trace-of name file n e in
-      rw (sym spec-same, sym trace-same) (barely-of f l (b.barely f l)))
+      rw (sym spec-same, sym trace-same) (early-of f l (b.early f l)))
     where
       spec-of : (name file : List ℕ) (n : ℕ) → command.Judge spec trace workers ≡ command.Judge name file n → spec ≡ name
       spec-of name file n e = cc
@@ -100,11 +108,11 @@ module _ (told : Told) (spec trace : List ℕ) (workers : ℕ) (s t : State) (re
       trace-of : (name file : List ℕ) (n : ℕ) → command.Judge spec trace workers ≡ command.Judge name file n → trace ≡ file
       trace-of name file n e = cc
 
-      barely-of : IsTrue told.files → IsTrue told.left → (u.slot_of Trace ≡ t.slot_of Trace) ⊎ IsNear K (held t.files trace) (u.slot_of Trace).left →
-          IsBarelyRead spec trace s u
-      barely-of f l either = ⊎_elim
-          (λ same. unread (same ∙ reads.uses.others Trace refl))
-          (λ near. hardly K (system f l) (subst (λ fs. IsNear K (held fs trace) (u.slot_of Trace).left) reads.uses.files near))
+      early-of : IsTrue told.files → IsTrue told.left → (u.slot_of Trace ≡ t.slot_of Trace) ⊎ EndsNearHeader K (held t.files trace) (u.slot_of Trace).left →
+          LeavesTrace spec trace s u
+      early-of f l either = ⊎_elim
+          (λ same. unopened (same ∙ reads.uses.others Trace refl))
+          (λ near. near_header K (system f l) (subst (λ fs. EndsNearHeader K (held fs trace) (u.slot_of Trace).left) reads.uses.files near))
           either
 
   pub judge-stops : (result : Result Reply Stop) → IfErr result (λ reason. IsTraceStop reason told K trace t u) →

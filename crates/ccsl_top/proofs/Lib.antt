@@ -1,5 +1,6 @@
 pub mod Slots
 pub mod Effects
+pub mod Reaching
 pub mod OneAnswer
 pub mod OneExplanation
 pub mod One
@@ -25,3 +26,7 @@ pub mod Explained
 pub mod Conversing
 pub mod Ranges
 pub mod Trying
+pub mod Meant
+pub mod Existing
+pub mod CertifiedRuns
+pub mod Ending

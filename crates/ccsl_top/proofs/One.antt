@@ -19,7 +19,8 @@ use Rattle.ccsl_top.specs.Judge.{judge_outcome}
 use Rattle.ccsl_top.specs.Certify.{certify_outcome}
 use Rattle.ccsl_top.specs.Explain.{IsExplainOutcome}
 use Rattle.ccsl_top.specs.Converse.{session_outcome}
-use Rattle.ccsl_top.specs.Program.{IsSpecOutcome, refused, accepted, IsCommandOutcome, IsOutcomeOf, but_certificate, OutcomesAreOne}
+use Rattle.ccsl_top.specs.Program.{IsSpecOutcome, refused, accepted, IsCommandOutcome, IsOutcomeOf}
+use Rattle.ccsl_top.specs.OneOutcome.{but_certificate, OutcomesAreOne}
 
 module _ (one_system : OneSystem) (one_refusal : OneRefusal) (not_both : NotBoth) (canonical : CanonicalWordsAreOne) (plain : PlainLengthsAreOne)
     (cores : (scope : Scope) (formulas : List Formula) → CoresAreOne scope formulas) (least : (scope : Scope) (formulas : List Formula) → LeastSetsAreOne scope formulas) where

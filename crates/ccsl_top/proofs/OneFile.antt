@@ -2,7 +2,8 @@
 use Rattle.std.proofs.Common.{◌≡◌, ◌≢◌, ℕ, ◌≤◌, List, ◌++◌, length, take, IsTrue, refl, sym, ap, ◌∙◌, subst, arith, take_all, le_refl}
 use Rattle.ccsl_edge.specs.declared.slot.Slot.{Slot}
 use Rattle.ccsl_edge.specs.declared.slot.Slot.TheVariants.{CertOut}
-use Rattle.ccsl_edge.specs.World.{State, Told, Rose, Stores, file_at}
+use Rattle.ccsl_edge.specs.World.{State, Told, Rose, file_at}
+use Rattle.ccsl_edge.specs.Stored.{Stores}
 use Rattle.ccsl_edge.specs.Calls.{Fails, OpensOut, Adds, AddsFront, Closes}
 use Rattle.ccsl_top.specs.Outcome.{Output}
 use Rattle.ccsl_top.specs.Headline.{IsKeptOrWhole, kept, whole, IsFrontOn, untouched, part}
@@ -109,6 +110,7 @@ module _ (told : Told) (cert bytes : List ℕ) where
                 (λ n. kept ((stores f w).others name n ∙ same-file name));
             front = λ w. whole-of s c (ap (λ x. x.written) closes.here ∙ added-written w);
           };
+          closed = ap (λ x. x.is_open) closes.here;
           counts = closed-counts;
           holds = λ f w. (stores f w).file;
         }

@@ -4,7 +4,7 @@ use Rattle.ccsl_edge.specs.declared.slot.Slot.{Slot}
 use Rattle.ccsl_edge.specs.World.{State, SlotState, Told, held}
 use Rattle.ccsl_edge.specs.Calls.{ChangesOnly, Fails, OpensIn, ReadsThenFails, ReadsAll, ReadsTooMuch}
 use Rattle.ccsl_edge.specs.Calls as edge
-use Rattle.ccsl_top.specs.Effects.{Reads}
+use Rattle.ccsl_top.specs.Changes.{Reads}
 use Rattle.ccsl_top.specs.Reading.{only, IsFile, Breaks}
 use Rattle.ccsl_top.proofs.Effects.{reads-only, breaks-only}
 

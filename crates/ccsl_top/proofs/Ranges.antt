@@ -15,7 +15,8 @@ use Rattle.ccsl_command.specs.declared.usage.Usage.TheVariants as usage
 use Rattle.ccsl_command.specs.Table.{key_text, keys_of}
 use Rattle.ccsl_command.specs.Values.{Range, range_of, is_number, is_within, number_in, is_value}
 use Rattle.ccsl_command.specs.Pairs.{is_pair, key_part, value_part, key_of, has_key, is_given, value_of}
-use Rattle.ccsl_command.specs.Meaning.{meaning, named_meaning, pairs_meaning, key_fault, word_fault, first_or, first_fault, first_missing, has_same_name, command_of, command_named, number_of}
+use Rattle.ccsl_command.specs.Meaning.{meaning, named_meaning, pairs_meaning, key_fault, word_fault, first_fault, first_missing, has_same_name, command_of, command_named, number_of}
+use Rattle.std.specs.Option.{option_or}
 use Rattle.ccsl_top.proofs.Slots.{both-ways}
 use Rattle.ccsl_top.proofs.Names.{none-first, not-not}
 
@@ -43,7 +44,7 @@ in-range range text e = by-test (is_within range text) refl e
     by-test false is e = both-ways false e refl
 
 -- no fault of two
-neither : (a b : Option Usage) → first_or a b ≡ None → (a ≡ None) × (b ≡ None)
+neither : (a b : Option Usage) → option_or a b ≡ None → (a ≡ None) × (b ≡ None)
 neither (Some fault) b e = let clash : (let O : Option Usage = Some fault in O) ≡ None = e in absurd (cc)
 neither None b e = (refl, e)
 

@@ -1,5 +1,6 @@
 -- What is explained behind a run, and behind a trace.
 use Rattle.std.proofs.Common.{◌≡◌, ℕ, List, ◌++◌, length, Result, Ok, Err, IfOk, IfErr, IsTrue, inl, inr, refl, sym, ap, ap₂, ◌∙◌, subst, arith}
+use Rattle.std.specs.Prelude.{codes}
 use Rattle.ccsl_base.specs.declared.rows.Row.{Row}
 use Rattle.ccsl_edge.specs.declared.slot.Slot.TheVariants.{Trace}
 use Rattle.ccsl_edge.specs.World.{State, Told, held}
@@ -14,13 +15,14 @@ use Rattle.ccsl_state.specs.Held.{Held, StandsFor}
 use Rattle.ccsl_items.specs.Formulas.{item_formulas, scope_of}
 use Rattle.ccsl_explain.specs.declared.explanation.Explained.{Explained}
 use Rattle.ccsl_explain.specs.declared.explanation.Explained.TheVariants.{Blocked}
-use Rattle.ccsl_explain.specs.Explained.{IsExplained, Explains}
+use Rattle.ccsl_explain.specs.Explained.{IsExplained}
+use Rattle.ccsl_explain.specs.Explains.{Explains}
 use Rattle.ccsl_vcd.specs.declared.fault.VcdFault.{VcdFault}
 use Rattle.ccsl_bind.specs.Collected.{wanted_of}
 use Rattle.ccsl_trace.specs.Traces.{IsRefused, IsNearHeader}
 use Rattle.ccsl_trace.specs.Traces as traces
 use Rattle.ccsl_certify.specs.Replaying.{IsTrace, AreAfter}
-use Rattle.ccsl_report.specs.Texts.{trace_text, explain_no_run_text, explain_blocked_text}
+use Rattle.ccsl_report.specs.Texts.{trace_text, broken_text, explain_blocked_text}
 use Rattle.ccsl_top.specs.declared.files.Stop.{Stop}
 use Rattle.ccsl_top.specs.declared.files.Stop.TheVariants as stop
 use Rattle.ccsl_top.specs.declared.reply.Reply.{Reply}
@@ -28,7 +30,7 @@ use Rattle.ccsl_top.specs.Outcome.{Outcome, outcome}
 use Rattle.ccsl_top.specs.Judge.{LIMITS}
 use Rattle.ccsl_top.specs.Explain.{member_lines, cert_output, blocked_outcome, IsRunExplained, IsVerdictExplained, IsReadExplained, IsExplainOutcome}
 use Rattle.ccsl_top.specs.Explain as explain
-use Rattle.ccsl_top.specs.Effects.{Reads}
+use Rattle.ccsl_top.specs.Changes.{Reads}
 use Rattle.ccsl_top.specs.Reading.{only}
 use Rattle.ccsl_top.specs.Answered.{plain_reply}
 use Rattle.ccsl_top.specs.Explaining.{BlockedAnswers, WritesBreak, IsWriteStop, RunAnswers, possible, blocked, IsRunStop, TraceAnswers, unwritten, written, IsTraceStop}
@@ -100,10 +102,10 @@ module _ (told : Told) (K : System) (cert trace : List ℕ) (s t : State) (opens
 
     -- it is no run
     pub trace-no-run : (step time item : ℕ) → verdict K bound rows ≡ kernel.Violated step time item → (reply : Reply) →
-        plain_reply reply ≡ outcome 1 (explain_no_run_text step time item K) → TraceAnswers told K cert trace s u reply
+        plain_reply reply ≡ outcome 1 (broken_text (codes "explain: ") step time item K) → TraceAnswers told K cert trace s u reply
     trace-no-run step time item v reply e =
         let status = ap (λ o. o.status) e in
-        unwritten trace-reads (λ n. omega (arith, n, status)) (λ n. omega (arith, n, status))
+        unwritten trace-reads (inl status)
         (trace-explains (plain_reply reply) (subst (λ (w : Verdict). IsVerdictExplained K cert rows w (plain_reply reply)) (sym v) e))
 
     -- it is a run
@@ -115,7 +117,7 @@ module _ (told : Told) (K : System) (cert trace : List ℕ) (s t : State) (opens
       run-answers : (reply : Reply) → RunAnswers told K cert steps (item_formulas K (completed_rows K rows)) u w reply → TraceAnswers told K cert trace s w reply
       run-answers reply (possible step one is same) =
           let status = ap (λ o. o.status) is in
-          unwritten (subst (Reads (only Trace) s) (sym same) trace-reads) (λ n. omega (arith, n, status)) (λ n. omega (arith, n, status))
+          unwritten (subst (Reads (only Trace) s) (sym same) trace-reads) (inl status)
           (run-explains (plain_reply reply) (explain.possible step one is))
       run-answers reply (blocked core lines without why status report writes) = written (record {
         between = u;
@@ -168,7 +170,7 @@ module _ (told : Told) (K : System) (cert trace : List ℕ) (s t : State) (opens
     pub trace-refused : (reply : Reply) → plain_reply reply ≡ outcome 4 (trace_text f K) → TraceAnswers told K cert trace s u reply
     trace-refused reply e =
         let status = ap (λ o. o.status) e in
-        unwritten refused-reads (λ n. omega (arith, n, status)) (λ n. omega (arith, n, status))
+        unwritten refused-reads (inr status)
         (λ a l. subst (λ bytes. IsExplainOutcome K cert bytes (plain_reply reply)) (opens.bytes a l)
         (subst (λ m. IsReadExplained K cert (t.slot_of Trace).left m (plain_reply reply)) (sym (is.whole l)) e))
 

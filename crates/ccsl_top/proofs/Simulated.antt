@@ -1,5 +1,5 @@
 -- The command `simulate`, as an answer to words that mean it.
-use Rattle.std.proofs.Common.{◌≡◌, ◌≢◌, ℕ, ◌<◌, List, [], ◌∷◌, length, Bool, true, false, ◌||◌, nat_lt, cond, Result, Ok, Err, IfOk, IfErr, IsTrue, ⊎_elim, inl, refl, sym, ap, ◌∙◌, subst, arith, lt-ltb, le-ltb, bytes_eq}
+use Rattle.std.proofs.Common.{◌≡◌, ◌≢◌, ℕ, ◌<◌, List, [], ◌∷◌, length, Bool, true, false, ◌||◌, nat_lt, cond, Contains, Result, Ok, Err, IfOk, IfErr, IsTrue, ◌⊎◌, ⊎_elim, inl, inr, refl, sym, ap, ◌∙◌, subst, arith, lt-ltb, le-ltb, bytes_eq}
 use Rattle.std.proofs.lemmas.Slice.Eq.{bytes_eq-Decides}
 use Rattle.ccsl_edge.specs.declared.slot.Slot.{Slot}
 use Rattle.ccsl_edge.specs.declared.slot.Slot.TheVariants.{Spec, TraceOut, CertOut}
@@ -23,15 +23,18 @@ use Rattle.ccsl_top.specs.Outcome.{Output, Outcome}
 use Rattle.ccsl_top.specs.Opening.{opens, writes, is_slot, is_output}
 use Rattle.ccsl_top.specs.Program.{accepted}
 use Rattle.ccsl_top.specs.Simulate.{named_policy, run, IsSimulated, IsOutput, simulate_outcome}
-use Rattle.ccsl_top.specs.Effects.{RoseAt, Reads, Stays}
+use Rattle.ccsl_top.specs.Effects.{RoseAt}
+use Rattle.ccsl_top.specs.Changes.{Reads, Stays}
 use Rattle.ccsl_top.specs.Reading.{only}
-use Rattle.ccsl_top.specs.Headline.{input_of, FaultCause, IsDefinedOutput, by_file}
+use Rattle.ccsl_top.specs.Statuses.{answers_of}
+use Rattle.ccsl_top.specs.Headline.{IsTold, input_of, FaultCause, IsDefinedOutput, simulated, by_file}
 use Rattle.ccsl_top.specs.Answered.{code_of, Leaves, Stands, Answered, Faulted, Starved, IsUnanswered, AnswersTo, StopsAt}
 use Rattle.ccsl_top.specs.Simulating.{IsDoneReply, WritesSome, WritesBoth, WriteBreaks, WriteStarves, IsWriteStop}
 use Rattle.ccsl_top.proofs.Slots.{both-ways}
 use Rattle.ccsl_top.proofs.Effects.{either-false, other-false, uses-changed, uses-rises}
 use Rattle.ccsl_top.proofs.Outputs.{whole-moves, front-moves}
-use Rattle.ccsl_top.proofs.Behind.{is-outcome, not-refused}
+use Rattle.ccsl_top.proofs.Reaching.{opened-used, reach-all}
+use Rattle.ccsl_top.proofs.Behind.{is-outcome, behind-told, among-answers}
 use Rattle.ccsl_top.proofs.Names.{names-differ}
 use Rattle.ccsl_top.proofs.Writing.{on-output}
 
@@ -108,24 +111,16 @@ module _ (told : Told) (words : List (List ℕ)) (spec : List ℕ) (policy : Pol
   file-same name = ap (λ fs. file_at fs name) (sym reads.uses.files)
 
   defined-output : IsTrue told.files → IsTrue told.left → (o : Output) → IsOutput K p seed steps trace cert o → IsDefinedOutput words s.files o
-  defined-output f l o is = inl (record {
-    spec = spec;
-    policy = policy;
-    seed = seed;
-    steps = steps;
-    trace = trace;
-    cert = cert;
-    means = means;
-    system = K;
-    accepted = system f l;
-    is = is;
-  })
+  defined-output f l o is = simulated spec policy seed steps trace cert means K (system f l) is
+
+  as-told : {P : Type 0} → (IsTrue told.files → IsTrue told.left → P) → IsTold told words → P
+  as-told = behind-told told words c means spec behind refl IsAnswer (λ content input o x. x)
 
   module _ (some : WritesSome told K (named_policy policy) seed steps trace cert t u) where
     stays : Stays told (files_opened words) used s u
     unfolding used
     stays = record {
-      unwritten = λ e _. both-ways (opens opened TraceOut) refl (sym (ap (λ fs. opens fs TraceOut) words-open) ∙ e);
+      unwritten = λ e _. both-ways (used TraceOut) refl e;
       files = λ f w name e.
           let n : writes opened name ≡ false = sym (ap (λ fs. writes fs name) words-open) ∙ e in
           some.others f w name
@@ -142,18 +137,15 @@ module _ (told : Told) (words : List (List ℕ)) (spec : List ℕ) (policy : Pol
     leaves = record {
       opened = used-opened;
       stays = stays;
-      whole = λ f l w name.
+      whole = λ tells w name. as-told (λ f l.
           let P : Output → Type 0 = IsOutput K p seed steps trace cert in
           let Q : Output → Type 0 = IsDefinedOutput words s.files in
-          whole-moves P Q (defined-output f l) t s u u name (file-same name) refl (some.whole f w name);
-      fronts = λ f l w slot out.
+          whole-moves P Q (defined-output f l) t s u u name (file-same name) refl (some.whole f w name)) tells;
+      fronts = λ tells w slot out. as-told (λ f l.
           let P : Output → Type 0 = IsOutput K p seed steps trace cert in
           let Q : Output → Type 0 = IsDefinedOutput words s.files in
-          front-moves P Q (defined-output f l) t s u u slot (ap (λ x. x.written) (sym (reads.uses.others slot (output-unread slot out)))) refl (some.fronts w slot out);
+          front-moves P Q (defined-output f l) t s u u slot (ap (λ x. x.written) (sym (reads.uses.others slot (output-unread slot out)))) refl (some.fronts w slot out)) tells;
     }
-
-  no-explanation : (name file other : List ℕ) → meaning words ≡ Ok (command.Explain name file other) → ⊥
-  no-explanation name file other e = let clash : (let R : Result Command Usage = Ok c in R) ≡ Ok (command.Explain name file other) = sym means ∙ e in absurd (cc)
 
   -- both files were written
   module _ (done : Done) (both : WritesBoth told K (named_policy policy) seed steps trace cert t u done) where
@@ -173,31 +165,35 @@ module _ (told : Told) (words : List (List ℕ)) (spec : List ℕ) (policy : Pol
       };
     }
 
-    answered-by : (reply : Reply) → code_of reply.status ≢ 2 → code_of reply.status ≢ 3 → (IsTrue told.files → IsTrue told.left → Stands told words reply s u) → Answered told words reply s u
-    answered-by reply two three is = record {
+    answered-by : (reply : Reply) → Contains (answers_of (Ok c)) (code_of reply.status) → (code_of reply.status ≡ 0) ⊎ (code_of reply.status ≡ 8) →
+        (IsTrue told.files → IsTrue told.left → Stands told words reply s u) → Answered told words reply s u
+    answered-by reply known done is = record {
       used = used;
       leaves = leaves both.some;
       counts = λ slot. both.counts slot ∙ reads.counts slot;
-      unopened = λ e. absurd (two e);
-      unread = λ e. absurd (three e);
-      unexplained = λ name file other e. absurd (no-explanation name file other e);
-      stands = is;
-      refused = λ fault e. absurd (not-refused told words c means spec behind refl IsAnswer (λ content input o x. x) fault e);
+      known = among-answers told words c means spec behind refl IsAnswer (λ content input o x. x) (code_of reply.status) known;
+      within = λ slot e. reach-all words slot (code_of reply.status) (unlike 1 (omega arith) (omega arith)) (unlike 3 (omega arith) (omega arith)) (unlike 4 (omega arith) (omega arith))
+          (opened-used words slot (used-opened slot e));
+      closed = λ _ slot out _. both.closed slot out;
+      stands = as-told is;
     }
+      where
+        unlike : (n : ℕ) → 0 < n → n < 8 → code_of reply.status ≢ n
+        unlike n some few e = ⊎_elim (λ (a : code_of reply.status ≡ 0). omega (arith, a, e, some)) (λ (a : code_of reply.status ≡ 8). omega (arith, a, e, few)) done
 
   simulate-answered : (done : Done) (reply : Reply) → IsDoneReply done steps reply → WritesBoth told K (named_policy policy) seed steps trace cert t u done →
       Answered told words reply s u
   simulate-answered Full reply is both =
       let n = length (run K p seed steps) in
       let status = ap (λ o. o.status) is in
-      answered-by Full both reply (λ e. omega (arith, e, status)) (λ e. omega (arith, e, status))
+      answered-by Full both reply (0, omega arith, sym status) (inl status)
       (stands-for Full both reply
       (status ∙ sym (full-code steps n both.ends))
       (ap (λ o. o.report) is ∙ ap simulated_text (sym both.ends) ∙ sym (full-report steps n (deadlocked_text n) (simulated_text n) both.ends)))
   simulate-answered (Deadlock at) reply is both =
       let n = length (run K p seed steps) in
       let status = ap (λ o. o.status) is in
-      answered-by (Deadlock at) both reply (λ e. omega (arith, e, status)) (λ e. omega (arith, e, status))
+      answered-by (Deadlock at) both reply (2, omega arith, sym status) (inr status)
       (stands-for (Deadlock at) both reply
       (status ∙ sym (early-code steps n both.ends.1))
       (ap (λ o. o.report) is ∙ ap deadlocked_text (sym both.ends.0) ∙ sym (early-report steps n (deadlocked_text n) (simulated_text n) both.ends.1)))
@@ -218,7 +214,7 @@ module _ (told : Told) (words : List (List ℕ)) (spec : List ℕ) (policy : Pol
     used = used;
     leaves = leaves b.some;
     counts = λ slot. b.counts slot ∙ reads.counts slot;
-    barely = λ f l name file workers e. absurd (no-trace-read name file workers e);
+    early = λ _ name file workers e. absurd (no-trace-read name file workers e);
   }
 
   simulate-stopped : (reason : Stop) → IsWriteStop told K (named_policy policy) seed steps trace cert t u reason → IsUnanswered reason told words s u

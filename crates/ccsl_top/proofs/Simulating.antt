@@ -1,8 +1,9 @@
 -- A simulation that is written between the opening of its files and their closing.
-use Rattle.std.proofs.Common.{◌≡◌, ◌≢◌, ℕ, ◌<◌, List, [], ◌++◌, length, take, true, IsTrue, ⊎_elim, inl, inr, refl, sym, ap, ◌∙◌, subst, take_all, le_refl}
+use Rattle.std.proofs.Common.{◌≡◌, ◌≢◌, ℕ, ◌<◌, List, [], ◌++◌, length, take, true, false, IsTrue, ⊎_elim, inl, inr, refl, sym, ap, ◌∙◌, subst, take_all, le_refl}
 use Rattle.ccsl_edge.specs.declared.slot.Slot.{Slot}
 use Rattle.ccsl_edge.specs.declared.slot.Slot.TheVariants.{TraceOut, CertOut}
-use Rattle.ccsl_edge.specs.World.{State, Told, Rose, Stores, file_at}
+use Rattle.ccsl_edge.specs.World.{State, Told, Rose, file_at}
+use Rattle.ccsl_edge.specs.Stored.{Stores}
 use Rattle.ccsl_edge.specs.Calls.{Fails, OpensOut, Adds, AddsFront, Closes}
 use Rattle.ccsl_kernel.specs.Syntax.{System}
 use Rattle.ccsl_policy.specs.declared.policies.Policy.{Policy}
@@ -16,15 +17,16 @@ use Rattle.ccsl_simulate.specs.Outcome.{IsDone, IsUndone}
 use Rattle.ccsl_top.specs.Outcome.{Output}
 use Rattle.ccsl_top.specs.Opening.{is_output}
 use Rattle.ccsl_top.specs.Simulate.{run, IsCertificate, none, lines, IsOutput, of_trace, of_certificate, trace_output, cert_output}
-use Rattle.ccsl_top.specs.Effects.{WritesAlone}
-use Rattle.ccsl_top.specs.Headline.{IsKeptOrWhole, kept, whole, IsFrontOn, untouched, nothing, part}
+use Rattle.ccsl_top.specs.Changes.{WritesAlone}
+use Rattle.ccsl_top.specs.Headline.{IsKeptOrWhole, kept, whole, IsFrontOn, untouched, part}
 use Rattle.ccsl_top.specs.Stopping.{of_simulation}
 use Rattle.ccsl_top.specs.Simulating.{IsEnd, WritesSome, WritesBoth, WriteBreaks, WriteStarves, IsWriteStop}
 use Rattle.ccsl_top.proofs.Effects.{alone-none, alone-then}
 use Rattle.ccsl_top.proofs.Outputs.{whole-moves, front-moves}
 use Rattle.ccsl_top.proofs.Writing.{cert-apart, trace-apart, on-output, by-name, fails-alone, opens-alone, opens-counts, adds-alone, adds-counts, part-alone, closes-alone, closes-counts, closes-written}
 
-module _ (told : Told) (K : System) (p : Policy) (seed steps : ℕ) (trace cert : List ℕ) where
+-- a simulation has a certificate, by which nothing written is a front
+module _ (told : Told) (K : System) (p : Policy) (seed steps : ℕ) (trace cert : List ℕ) (ending : (bytes : List ℕ) × IsCertificate K p seed steps bytes) where
   pub text : List ℕ
   text = vcd_text K (run K p seed steps)
 
@@ -95,7 +97,7 @@ module _ (told : Told) (K : System) (p : Policy) (seed steps : ℕ) (trace cert 
   -- THE FIRST FILE was opened
   module _ (s a : State) (open_trace : OpensOut told TraceOut trace s a) where
     pub first-some : WritesSome told K p seed steps trace cert s a
-    first-some = unclosed s a (opens-alone told TraceOut refl s a trace open_trace) open_trace.only.files (λ w. nothing (open_trace.empty w))
+    first-some = unclosed s a (opens-alone told TraceOut refl s a trace open_trace) open_trace.only.files (λ w. trace-part s a 0 (open_trace.empty w))
         (λ _. untouched (ap (λ x. x.written) (open_trace.only.others CertOut cert-apart)))
 
     pub first-counts : (slot : Slot) → (a.slot_of slot).faults ≡ (s.slot_of slot).faults
@@ -130,7 +132,7 @@ module _ (told : Told) (K : System) (p : Policy) (seed steps : ℕ) (trace cert 
             c.slot_of CertOut ≡ b.slot_of CertOut → WritesSome told K p seed steps trace cert s c
         trace-only count alone files written same = unclosed s c (alone-then s b c both-alone alone) (files ∙ both-files)
             (λ w. trace-part s c count (written w ∙ ap (λ bytes. bytes ++ take count text) (trace-empty w)))
-            (λ w. nothing (ap (λ x. x.written) same ∙ open_cert.empty w))
+            (λ w. cert-part ending.0 ending.1 s c 0 (ap (λ x. x.written) same ∙ open_cert.empty w))
 
         front-stops : AddsFront told TraceOut text b c → WriteBreaks told K p seed steps trace cert s c
         front-stops f = record {
@@ -288,6 +290,9 @@ module _ (told : Told) (K : System) (p : Policy) (seed steps : ℕ) (trace cert 
               unfolding text
               both-written = record {
                 some = end-some;
+                closed = λ slot out. on-output (λ x. (e.slot_of x).is_open ≡ false)
+                    (ap (λ y. y.is_open) (close_cert.others TraceOut trace-apart) ∙ ap (λ y. y.is_open) close_trace.here)
+                    (ap (λ y. y.is_open) close_cert.here) slot out;
                 counts = λ slot. closes-counts told CertOut refl d e close_cert slot ∙ half-counts slot;
                 ends = x.ends;
                 text = x.bytes;

@@ -1,9 +1,9 @@
 -- Slots by their places.
-use Rattle.std.proofs.Common.{◌≡◌, ◌≢◌, ℕ, [], ◌∷◌, Bool, true, false, refl, sym, ap, ◌∙◌, ⊎_elim, slice_index_or}
+use Rattle.std.proofs.Common.{◌≡◌, ◌≢◌, ℕ, [], ◌∷◌, Bool, true, false, refl, sym, ap, ◌∙◌, subst, ⊎_elim, slice_index_or}
 use Rattle.std.proofs.lemmas.Bool.{cases_eq, eq-eqb, ne_eqb}
 use Rattle.ccsl_edge.specs.declared.slot.Slot.{Slot}
 use Rattle.ccsl_edge.specs.declared.slot.Slot.TheVariants.{Spec, Trace, Cert, Input, Report, TraceOut, CertOut}
-use Rattle.ccsl_edge.specs.Slots.{index_of}
+use Rattle.ccsl_edge.specs.Order.{index_of}
 use Rattle.ccsl_top.specs.Opening.{is_slot, is_output}
 
 abbrev slot_at : ℕ → Slot
@@ -38,6 +38,10 @@ is_slot-other a b other =
 
 pub is_slot-differs : (a b : Slot) → is_slot a b ≡ false → b ≢ a
 is_slot-differs a b e same = both-ways (is_slot a b) (ap (is_slot a) same ∙ is_slot-self a) e
+
+-- a slot that is this one is no output, where this one is none
+pub same-input : (a : Slot) → is_output a ≡ false → (slot : Slot) → is_slot a slot ≡ true → is_output slot ≡ false
+same-input a out slot e = subst (λ x. is_output x ≡ false) (is_slot-same a slot e) out
 
 -- an output slot of a file is not a slot that is none
 pub output-differs : (a b : Slot) → is_output a ≡ false → is_output b ≡ true → b ≢ a

@@ -6,7 +6,7 @@ use Rattle.ccsl_edge.specs.declared.slot.Slot.TheVariants.{Spec, Trace, Cert, In
 use Rattle.ccsl_edge.specs.World.{State, Told}
 use Rattle.ccsl_edge.specs.Calls.{Fails, OpensOut, Adds, AddsFront, Closes}
 use Rattle.ccsl_top.specs.Opening.{is_output}
-use Rattle.ccsl_top.specs.Effects.{WritesAlone}
+use Rattle.ccsl_top.specs.Changes.{WritesAlone}
 use Rattle.ccsl_top.proofs.Slots.{both-ways, is_slot-differs}
 use Rattle.ccsl_top.proofs.Effects.{by-test, alone-at, alone-counts}
 

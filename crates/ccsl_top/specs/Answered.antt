@@ -1,11 +1,9 @@
 -- What stands before the report is written.
-use Rattle.std.specs.Prelude.{◌≡◌, ◌≢◌, ◌⊎◌, ℕ, Bool, true, false, List, Ok, Err, IsTrue}
+use Rattle.std.specs.Prelude.{◌≡◌, ◌≢◌, ◌⊎◌, ℕ, Bool, true, false, List, Ok, IsTrue, Contains}
 use Rattle.ccsl_edge.specs.declared.slot.Slot.{Slot}
-use Rattle.ccsl_edge.specs.declared.slot.Slot.TheVariants.{Spec, CertOut}
-use Rattle.ccsl_edge.specs.World.{State, Told, held, file_at}
+use Rattle.ccsl_edge.specs.World.{State, Told, held}
 use Rattle.ccsl_command.specs.declared.command.Command.{Command}
 use Rattle.ccsl_command.specs.declared.command.Command.TheVariants as command
-use Rattle.ccsl_command.specs.declared.usage.Usage.{Usage}
 use Rattle.ccsl_command.specs.Meaning.{meaning}
 use Rattle.ccsl_command.specs.Opened.{files_opened}
 use Rattle.ccsl_top.specs.declared.files.Stop.{Stop}
@@ -14,10 +12,11 @@ use Rattle.ccsl_top.specs.declared.reply.Status.{Status}
 use Rattle.ccsl_top.specs.declared.reply.Status.TheVariants.{Done, No, WordsRefused, SpecRefused, FileRefused, Deadlock}
 use Rattle.ccsl_top.specs.declared.reply.Reply.{Reply}
 use Rattle.ccsl_top.specs.Outcome.{Outcome, outcome}
-use Rattle.ccsl_top.specs.Program.{IsOutcome, usage_outcome}
-use Rattle.ccsl_top.specs.Opening.{opens, is_output}
-use Rattle.ccsl_top.specs.Effects.{Stays}
-use Rattle.ccsl_top.specs.Headline.{input_of, FaultCause, IsBarelyRead, IsDefinedOutput, IsKeptOrWhole, IsFrontOn, AreHeld}
+use Rattle.ccsl_top.specs.Program.{IsOutcome}
+use Rattle.ccsl_top.specs.Statuses.{answers_of}
+use Rattle.ccsl_top.specs.Opening.{opens, is_output, may_change}
+use Rattle.ccsl_top.specs.Changes.{Stays}
+use Rattle.ccsl_top.specs.Headline.{IsTold, input_of, FaultCause, LeavesTrace, IsDefinedOutput, IsKeptOrWhole, IsFrontOn, AreHeld}
 
 abbrev pub code_of : Status → ℕ
 code_of Done = 0
@@ -39,9 +38,8 @@ AreOpened words used = (slot : Slot) → used slot ≡ true → opens (files_ope
 pub record Leaves (told : Told) (words : List (List ℕ)) (used : Slot → Bool) (old new : State) : Type 0 where
   pub opened : AreOpened words used
   pub stays : Stays told (files_opened words) used old new
-  pub whole : IsTrue told.files → IsTrue told.left → IsTrue told.written → (name : List ℕ) →
-      IsKeptOrWhole (IsDefinedOutput words old.files) old new name
-  pub fronts : IsTrue told.files → IsTrue told.left → IsTrue told.written → (slot : Slot) → is_output slot ≡ true →
+  pub whole : IsTold told words → IsTrue told.written → (name : List ℕ) → IsKeptOrWhole (IsDefinedOutput words old.files) old new name
+  pub fronts : IsTold told words → IsTrue told.written → (slot : Slot) → is_output slot ≡ true →
       IsFrontOn (IsDefinedOutput words old.files) old new slot
 
 -- this is the defined outcome, and its files are written
@@ -56,21 +54,24 @@ pub record Stands (told : Told) (words : List (List ℕ)) (reply : Reply) (old n
   pub report_is : reply.line.items ≡ outcome.report
   pub defined : IsDefined told words outcome old new
 
--- no certificate was opened, and no file has changed
-abbrev pub LeavesCertificate : State → State → Type 0
-LeavesCertificate old new = (new.slot_of CertOut ≡ old.slot_of CertOut) × ((name : List ℕ) → file_at new.files name ≡ file_at old.files name)
+-- a reply to what was read behind a specification is none of these
+abbrev pub IsReadStatus : ℕ → Type 0
+IsReadStatus status = (status ≢ 2) × (status ≢ 3) × (status ≢ 8)
+
+-- behind an answer the output slots that words open are closed
+abbrev pub AreClosed : List (List ℕ) → ℕ → State → Type 0
+AreClosed words status new = (status ≡ 0) ⊎ (status ≡ 8) → (slot : Slot) → is_output slot ≡ true → opens (files_opened words) slot ≡ true →
+    (new.slot_of slot).is_open ≡ false
 
 -- the defined outcome is known
 pub record Answered (told : Told) (words : List (List ℕ)) (reply : Reply) (old new : State) : Type 0 where
   pub used : Slot → Bool
   pub leaves : Leaves told words used old new
   pub counts : (slot : Slot) → (new.slot_of slot).faults ≡ (old.slot_of slot).faults
-  pub unopened : code_of reply.status ≡ 2 → (slot : Slot) → used slot ≡ false
-  pub unread : code_of reply.status ≡ 3 → (slot : Slot) → slot ≢ Spec → used slot ≡ false
-  pub unexplained : (spec trace cert : List ℕ) → meaning words ≡ Ok (command.Explain spec trace cert) →
-      (code_of reply.status ≡ 1) ⊎ (code_of reply.status ≡ 4) → LeavesCertificate old new
-  pub stands : IsTrue told.files → IsTrue told.left → Stands told words reply old new
-  pub refused : (fault : Usage) → meaning words ≡ Err fault → plain_reply reply ≡ usage_outcome fault
+  pub known : Contains (answers_of (meaning words)) (code_of reply.status)
+  pub within : (slot : Slot) → used slot ≡ true → may_change words (code_of reply.status) slot ≡ true
+  pub closed : AreClosed words (code_of reply.status) new
+  pub stands : IsTold told words → Stands told words reply old new
 
 -- a call on a file failed
 pub record Faulted (told : Told) (words : List (List ℕ)) (old new : State) : Type 0 where
@@ -83,8 +84,8 @@ pub record Starved (told : Told) (words : List (List ℕ)) (old new : State) : T
   pub used : Slot → Bool
   pub leaves : Leaves told words used old new
   pub counts : (slot : Slot) → (new.slot_of slot).faults ≡ (old.slot_of slot).faults
-  pub barely : IsTrue told.files → IsTrue told.left → (spec trace : List ℕ) (workers : ℕ) →
-      meaning words ≡ Ok (command.Judge spec trace workers) → IsBarelyRead spec trace old new
+  pub early : IsTold told words → (spec trace : List ℕ) (workers : ℕ) →
+      meaning words ≡ Ok (command.Judge spec trace workers) → LeavesTrace spec trace old new
 
 abbrev pub IsUnanswered : Stop → Told → List (List ℕ) → State → State → Type 0
 IsUnanswered Fault told words old new = Faulted told words old new

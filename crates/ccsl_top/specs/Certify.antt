@@ -1,6 +1,6 @@
 -- WHAT `certify` ANSWERS on an accepted specification, the bytes of a trace and those of a certificate: the first of these cases that
 -- holds.
-use Rattle.std.specs.Prelude.{ℕ, List, length, Option, Some, None, Result, Ok, Err, nat_lt, if◌then◌else◌}
+use Rattle.std.specs.Prelude.{ℕ, List, length, Option, Some, None, Result, Ok, Err, nat_lt, if◌then◌else◌, codes}
 use Rattle.ccsl_base.specs.declared.limits.TheConstants.{MAX_FILE_BYTES}
 use Rattle.ccsl_base.specs.declared.rows.Row.{Row}
 use Rattle.ccsl_kernel.specs.Syntax.{System}
@@ -14,7 +14,7 @@ use Rattle.ccsl_vcd.specs.declared.fault.VcdFault.{VcdFault}
 use Rattle.ccsl_vcd.specs.Reading.{reading}
 use Rattle.ccsl_vcd.specs.Rows.{recorded}
 use Rattle.ccsl_bind.specs.Collected.{wanted_of}
-use Rattle.ccsl_report.specs.Texts.{trace_text, cert_text, cert_too_long_text, cert_valid_text, cert_no_run_text, cert_no_line_text}
+use Rattle.ccsl_report.specs.Texts.{trace_text, cert_text, cert_too_long_text, cert_valid_text, broken_text, cert_no_line_text}
 use Rattle.ccsl_top.specs.Outcome.{Outcome, outcome}
 use Rattle.ccsl_top.specs.Judge.{LIMITS, judged}
 
@@ -29,7 +29,7 @@ lines_outcome steps None = outcome 0 (cert_valid_text steps)
 
 -- both files read: whether the trace is a run
 abbrev pub rows_outcome : System → List Row → List Line → Verdict → Outcome
-rows_outcome K rows lines (Violated step time item) = outcome 1 (cert_no_run_text step time item K)
+rows_outcome K rows lines (Violated step time item) = outcome 1 (broken_text (codes "certificate: ") step time item K)
 rows_outcome K rows lines (Run steps) = lines_outcome steps (bad_line K rows lines)
 
 -- the trace reads: whether the certificate does

@@ -1,5 +1,5 @@
 -- What the parts of `certify` answer and leave.
-use Rattle.std.specs.Prelude.{◌≡◌, ◌≢◌, ◌⊎◌, ℕ, ◌<◌, Bool, ◌||◌, Result, Ok, Err, IfOk, IfErr, IsTrue, List}
+use Rattle.std.specs.Prelude.{◌≡◌, ◌≢◌, ◌⊎◌, ℕ, ◌<◌, Bool, ◌||◌, Result, Ok, Err, IfOk, IfErr, IsTrue, List, codes}
 use Rattle.ccsl_edge.specs.declared.slot.Slot.{Slot}
 use Rattle.ccsl_edge.specs.declared.slot.Slot.TheVariants.{Trace, Cert}
 use Rattle.ccsl_edge.specs.World.{State, Told, held}
@@ -8,15 +8,16 @@ use Rattle.ccsl_certify.specs.declared.answer.CertVerdict.{CertVerdict}
 use Rattle.ccsl_certify.specs.declared.answer.CertVerdict.TheVariants.{Yes, NotRun, BadLine}
 use Rattle.ccsl_certify.specs.declared.answer.CertifyFault.{CertifyFault}
 use Rattle.ccsl_certify.specs.declared.answer.CertifyFault.TheVariants as fault
-use Rattle.ccsl_report.specs.Texts.{trace_text, cert_text, cert_too_long_text, cert_valid_text, cert_no_run_text, cert_no_line_text}
+use Rattle.ccsl_report.specs.Texts.{trace_text, cert_text, cert_too_long_text, cert_valid_text, broken_text, cert_no_line_text}
 use Rattle.ccsl_top.specs.declared.files.Stop.{Stop}
 use Rattle.ccsl_top.specs.declared.files.Stop.TheVariants as stop
 use Rattle.ccsl_top.specs.declared.reply.Reply.{Reply}
 use Rattle.ccsl_top.specs.Outcome.{Outcome, outcome}
 use Rattle.ccsl_top.specs.Certify.{certify_outcome}
-use Rattle.ccsl_top.specs.Effects.{RoseAt, Uses, Reads}
+use Rattle.ccsl_top.specs.Effects.{RoseAt}
+use Rattle.ccsl_top.specs.Changes.{Uses, Reads}
 use Rattle.ccsl_top.specs.Reading.{only}
-use Rattle.ccsl_top.specs.Answered.{plain_reply}
+use Rattle.ccsl_top.specs.Answered.{plain_reply, IsReadStatus}
 
 -- the item of a verdict is one of the system's
 abbrev pub HasItem : System → CertVerdict → Type 0
@@ -27,7 +28,7 @@ HasItem K (BadLine number) = Unit {0}
 -- what a verdict is answered by
 abbrev pub verdict_outcome : System → CertVerdict → Outcome
 verdict_outcome K (Yes steps) = outcome 0 (cert_valid_text steps)
-verdict_outcome K (NotRun step time item) = outcome 1 (cert_no_run_text step time item K)
+verdict_outcome K (NotRun step time item) = outcome 1 (broken_text (codes "certificate: ") step time item K)
 verdict_outcome K (BadLine number) = outcome 1 (cert_no_line_text number)
 
 -- this is answered, or no memory is to be had for its line
@@ -50,8 +51,7 @@ both slot = only Trace slot || only Cert slot
 -- both files were read as far as the answer needs, and it is the defined one
 pub record CertifyAnswers (told : Told) (K : System) (trace cert : List ℕ) (reply : Reply) (old new : State) : Type 0 where
   pub reads : Reads both old new
-  pub opened : (plain_reply reply).status ≢ 2
-  pub accepted : (plain_reply reply).status ≢ 3
+  pub status : IsReadStatus (plain_reply reply).status
   pub is : IsTrue told.files → IsTrue told.left → plain_reply reply ≡ certify_outcome K (held old.files trace) (held old.files cert)
 
 -- a call on one of them failed

@@ -9,7 +9,7 @@ use Rattle.ccsl_kernel.specs.Syntax.{System}
 use Rattle.ccsl_policy.specs.declared.policies.Policy.{Policy}
 use Rattle.ccsl_spec.specs.Specifications.{IsSystemOf}
 use Rattle.ccsl_top.specs.Simulate.{named_policy}
-use Rattle.ccsl_top.specs.Effects.{Reads}
+use Rattle.ccsl_top.specs.Changes.{Reads}
 use Rattle.ccsl_top.specs.Reading.{only}
 
 -- the words ask for a session by a policy and a seed, and their specification was read and is that of a system

@@ -1,7 +1,7 @@
 -- WHAT `explain` ANSWERS on an accepted specification and the bytes of a trace: that a step is possible after it; or which items block
 -- every step, with a certificate that cites no other item, and for each of them the least step that would be possible without it. Which
 -- valid lines these are is left open.
-use Rattle.std.specs.Prelude.{◌≡◌, ℕ, List, [], ◌∷◌, ◌++◌, Option, Some, None, length}
+use Rattle.std.specs.Prelude.{◌≡◌, ℕ, List, [], ◌∷◌, ◌++◌, Option, Some, None, length, codes}
 use Rattle.ccsl_base.specs.declared.rows.Row.{Row}
 use Rattle.ccsl_edge.specs.declared.slot.Slot.TheVariants.{CertOut}
 use Rattle.ccsl_kernel.specs.Syntax.{System}
@@ -15,7 +15,7 @@ use Rattle.ccsl_vcd.specs.declared.fault.VcdFault.{VcdFault}
 use Rattle.ccsl_vcd.specs.Reading.{reading}
 use Rattle.ccsl_vcd.specs.Rows.{recorded}
 use Rattle.ccsl_bind.specs.Collected.{wanted_of}
-use Rattle.ccsl_report.specs.Texts.{trace_text, explain_no_run_text, explain_open_text, explain_blocked_text, explain_member_text}
+use Rattle.ccsl_report.specs.Texts.{trace_text, broken_text, explain_open_text, explain_blocked_text, explain_member_text}
 use Rattle.ccsl_top.specs.Outcome.{Output, Outcome, outcome}
 use Rattle.ccsl_top.specs.Judge.{LIMITS, judged}
 
@@ -46,7 +46,7 @@ module _ (K : System) (cert : List ℕ) where
 
   -- the trace reads: whether it is a run
   abbrev pub IsVerdictExplained : List Row → Verdict → Outcome → Type 0
-  IsVerdictExplained rows (Violated step time item) o = o ≡ outcome 1 (explain_no_run_text step time item K)
+  IsVerdictExplained rows (Violated step time item) o = o ≡ outcome 1 (broken_text (codes "explain: ") step time item K)
   IsVerdictExplained rows (Run steps) o = IsRunExplained steps (item_formulas K (completed_rows K rows)) o
 
   -- whether the trace reads

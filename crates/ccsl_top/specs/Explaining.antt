@@ -1,5 +1,5 @@
 -- What the parts of `explain` answer and leave.
-use Rattle.std.specs.Prelude.{◌≡◌, ◌≢◌, ◌⊎◌, ℕ, ◌<◌, ◌≤◌, List, [], ◌∷◌, length, true, Some, IsTrue}
+use Rattle.std.specs.Prelude.{◌≡◌, ◌≢◌, ◌⊎◌, ℕ, ◌<◌, ◌≤◌, List, [], ◌∷◌, length, true, false, Some, IsTrue}
 use Rattle.ccsl_base.specs.Clocks.{ticks_in}
 use Rattle.ccsl_edge.specs.declared.slot.Slot.{Slot}
 use Rattle.ccsl_edge.specs.declared.slot.Slot.TheVariants.{Trace, CertOut}
@@ -15,7 +15,8 @@ use Rattle.ccsl_top.specs.declared.files.Stop.TheVariants as stop
 use Rattle.ccsl_top.specs.declared.reply.Reply.{Reply}
 use Rattle.ccsl_top.specs.Outcome.{Output, Outcome, outcome}
 use Rattle.ccsl_top.specs.Explain.{cert_output, blocked_outcome, IsExplainOutcome}
-use Rattle.ccsl_top.specs.Effects.{RoseAt, Reads}
+use Rattle.ccsl_top.specs.Effects.{RoseAt}
+use Rattle.ccsl_top.specs.Changes.{Reads}
 use Rattle.ccsl_top.specs.Reading.{only, Breaks}
 use Rattle.ccsl_top.specs.Headline.{IsKeptOrWhole, IsFrontOn}
 use Rattle.ccsl_top.specs.Answered.{code_of, plain_reply}
@@ -44,9 +45,10 @@ module _ (told : Told) (file : Output) (old new : State) where
     pub whole : IsTrue told.files → IsTrue told.written → (name : List ℕ) → IsKeptOrWhole IsThis old new name
     pub front : IsTrue told.written → IsFrontOn IsThis old new CertOut
 
-  -- it was written, and no call failed
+  -- it was written and closed, and no call failed
   pub record WritesWhole : Type 0 where
     pub some : WritesSome
+    pub closed : (new.slot_of CertOut).is_open ≡ false
     pub counts : (new.slot_of CertOut).faults ≡ (old.slot_of CertOut).faults
     pub holds : IsTrue told.files → IsTrue told.written → file_at new.files file.name ≡ Some file.content
 
@@ -109,7 +111,7 @@ module _ (told : Told) (K : System) (cert : List ℕ) where
 
     -- the trace alone was used; or the certificate was written, and the answer is that of items that block
     pub data TraceAnswers (reply : Reply) : Type 0 where
-      unwritten : (reads : Reads (only Trace) old new) (opened : (plain_reply reply).status ≢ 2) (accepted : (plain_reply reply).status ≢ 3)
+      unwritten : (reads : Reads (only Trace) old new) (status : ((plain_reply reply).status ≡ 1) ⊎ ((plain_reply reply).status ≡ 4))
           (is : IsAnswered (plain_reply reply)) → TraceAnswers reply
       written : (all : IsBlocked (WritesWhole told)) (status : code_of reply.status ≡ 0)
           (report : reply.line.items ≡ (blocked_outcome K cert all.steps all.core all.lines all.without).report) → TraceAnswers reply

@@ -1,15 +1,14 @@
 -- WHAT `judge` ANSWERS on an accepted specification and the bytes of a trace. The number of workers is no part of it.
-use Rattle.std.specs.Prelude.{ℕ, List, Bool, true, false, map, Option, Some, None}
+use Rattle.std.specs.Prelude.{ℕ, List, map, Option, Some, None, codes}
 use Rattle.ccsl_base.specs.declared.limits.TheConstants.{MAX_FILE_BYTES, MAX_VARS, MAX_SCOPES}
 use Rattle.ccsl_kernel.specs.Syntax.{System}
 use Rattle.ccsl_kernel.specs.Verdict.{Verdict, Run, Violated, verdict}
 use Rattle.ccsl_vcd.specs.declared.limits.Limits.{Limits}
 use Rattle.ccsl_vcd.specs.declared.fault.VcdFault.{VcdFault}
-use Rattle.ccsl_vcd.specs.Places.{Where, header, body}
-use Rattle.ccsl_vcd.specs.Reading.{so_far, reading}
+use Rattle.ccsl_vcd.specs.Reading.{reading}
 use Rattle.ccsl_vcd.specs.Rows.{bound_at, recorded}
 use Rattle.ccsl_bind.specs.Collected.{wanted_of}
-use Rattle.ccsl_report.specs.Texts.{run_yes_text, run_no_text, trace_text}
+use Rattle.ccsl_report.specs.Texts.{run_yes_text, broken_text, trace_text}
 use Rattle.ccsl_top.specs.Outcome.{Outcome, outcome}
 
 -- the limits on a trace
@@ -24,17 +23,9 @@ clocks_in K trace = map (λ b. b.clock) (bound_at (reading (wanted_of K) LIMITS 
 abbrev pub judged : System → List ℕ → Verdict
 judged K trace = verdict K (clocks_in K trace) (recorded (wanted_of K) LIMITS trace)
 
--- whether the first bytes of a trace have ended its header
-abbrev pub is_in_body : Where → Bool
-is_in_body (header h) = false
-is_in_body (body b) = true
-
-abbrev pub has_header : System → List ℕ → Bool
-has_header K bytes = is_in_body (so_far (wanted_of K) LIMITS bytes).place
-
 abbrev pub verdict_outcome : System → Verdict → Outcome
 verdict_outcome K (Run steps) = outcome 0 (run_yes_text steps)
-verdict_outcome K (Violated step time item) = outcome 1 (run_no_text step time item K)
+verdict_outcome K (Violated step time item) = outcome 1 (broken_text (codes "run: ") step time item K)
 
 -- the fault of a trace comes before the verdict, wherever it stands
 abbrev pub read_outcome : System → List ℕ → Option VcdFault → Outcome

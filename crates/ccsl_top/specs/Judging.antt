@@ -13,9 +13,9 @@ use Rattle.ccsl_top.specs.declared.files.Stop.TheVariants as stop
 use Rattle.ccsl_top.specs.declared.reply.Reply.{Reply}
 use Rattle.ccsl_top.specs.Outcome.{outcome}
 use Rattle.ccsl_top.specs.Judge.{verdict_outcome}
-use Rattle.ccsl_top.specs.Effects.{Reads}
+use Rattle.ccsl_top.specs.Changes.{Reads}
 use Rattle.ccsl_top.specs.Reading.{only, Breaks}
-use Rattle.ccsl_top.specs.Headline.{IsNear}
+use Rattle.ccsl_top.specs.Headline.{EndsNearHeader}
 use Rattle.ccsl_top.specs.Answered.{plain_reply}
 
 -- the reply on what judging a trace has come to
@@ -25,11 +25,11 @@ IsReplyOn K (Err (fault.Refused f)) found = IsOkAnd found (λ reply. plain_reply
 IsReplyOn K (Err fault.Fault) found = found ≡ Err stop.Fault
 IsReplyOn K (Err fault.Memory) found = found ≡ Err stop.Memory
 
--- no memory was to be had while a trace was read for a system: it was not opened, or hardly read
+-- no memory was to be had while a trace was read for a system: it was not opened, or read near its header alone
 pub record StarvesAt (told : Told) (K : System) (trace : List ℕ) (old new : State) : Type 0 where
   pub reads : Reads (only Trace) old new
-  pub barely : IsTrue told.files → IsTrue told.left →
-      (new.slot_of Trace ≡ old.slot_of Trace) ⊎ IsNear K (held old.files trace) (new.slot_of Trace).left
+  pub early : IsTrue told.files → IsTrue told.left →
+      (new.slot_of Trace ≡ old.slot_of Trace) ⊎ EndsNearHeader K (held old.files trace) (new.slot_of Trace).left
 
 abbrev pub IsTraceStop : Stop → Told → System → List ℕ → State → State → Type 0
 IsTraceStop stop.Fault told K trace old new = Breaks Trace old new

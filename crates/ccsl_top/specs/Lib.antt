@@ -8,9 +8,12 @@ pub mod Converse
 pub mod Trial
 pub mod Periodic
 pub mod Program
+pub mod OneOutcome
 pub mod Laws
+pub mod Statuses
 pub mod Opening
 pub mod Effects
+pub mod Changes
 pub mod Reading
 pub mod Stopping
 pub mod Answered

@@ -1,9 +1,9 @@
 -- The files that words name, and the slots under which they are opened or which are read.
-use Rattle.std.specs.Prelude.{ℕ, List, [], ◌∷◌, Bool, true, false, ◌&&◌, ◌||◌, nat_eq, Result, Ok, Err}
+use Rattle.std.specs.Prelude.{ℕ, List, [], ◌∷◌, Bool, true, false, not, ◌&&◌, ◌||◌, nat_eq, if◌then◌else◌, Result, Ok, Err}
 use Rattle.std.specs.Str.{bytes_eq}
 use Rattle.ccsl_edge.specs.declared.slot.Slot.{Slot}
-use Rattle.ccsl_edge.specs.declared.slot.Slot.TheVariants.{Input, TraceOut, CertOut}
-use Rattle.ccsl_edge.specs.Slots.{index_of}
+use Rattle.ccsl_edge.specs.declared.slot.Slot.TheVariants.{Spec, Input, TraceOut, CertOut}
+use Rattle.ccsl_edge.specs.Order.{index_of}
 use Rattle.ccsl_command.specs.declared.command.Command.{Command}
 use Rattle.ccsl_command.specs.declared.command.Command.TheVariants as command
 use Rattle.ccsl_command.specs.declared.usage.Usage.{Usage}
@@ -41,3 +41,12 @@ is_session (Err fault) = false
 -- whether the words read or write through a slot, the report aside
 abbrev pub uses : List (List ℕ) → Slot → Bool
 uses words slot = opens (files_opened words) slot || (is_session (meaning words) && is_slot slot Input)
+
+-- how far a run goes that ends with a status: a refused specification is all that was read, and no file is written where the answer is
+-- no, or a file is refused
+abbrev pub reaches : ℕ → Slot → Bool
+reaches status slot = if nat_eq status 3 then is_slot Spec slot else not ((nat_eq status 1 || nat_eq status 4) && is_output slot)
+
+-- the slots that may have changed behind a run with that status, the report's aside
+abbrev pub may_change : List (List ℕ) → ℕ → Slot → Bool
+may_change words status slot = uses words slot && reaches status slot

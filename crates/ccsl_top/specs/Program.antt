@@ -1,7 +1,6 @@
 -- THE OUTCOME OF THE PROGRAM: of its words, of the content of the files by their names, and of the bytes that are left of standard
 -- input, which `session` alone reads. A file that is not held is an empty one.
-use Rattle.std.specs.Prelude.{◌≡◌, ℕ, List, filter, not, Result, Ok, Err}
-use Rattle.ccsl_edge.specs.declared.slot.Slot.TheVariants.{CertOut}
+use Rattle.std.specs.Prelude.{◌≡◌, ℕ, List, Result, Ok, Err}
 use Rattle.ccsl_command.specs.declared.command.Command.{Command}
 use Rattle.ccsl_command.specs.declared.command.Command.TheVariants as command
 use Rattle.ccsl_command.specs.declared.usage.Usage.{Usage}
@@ -9,8 +8,7 @@ use Rattle.ccsl_command.specs.Meaning.{meaning}
 use Rattle.ccsl_kernel.specs.Syntax.{System}
 use Rattle.ccsl_spec.specs.Specifications.{IsSystemOf, IsRefusedWith}
 use Rattle.ccsl_report.specs.Texts.{usage_text}
-use Rattle.ccsl_top.specs.Opening.{is_slot}
-use Rattle.ccsl_top.specs.Outcome.{Output, Outcome, outcome}
+use Rattle.ccsl_top.specs.Outcome.{Outcome, outcome}
 use Rattle.ccsl_top.specs.Check.{check_outcome}
 use Rattle.ccsl_top.specs.Simulate.{named_policy, IsSimulated}
 use Rattle.ccsl_top.specs.Judge.{judge_outcome}
@@ -49,12 +47,3 @@ IsOutcomeOf content input (Ok command) o = IsCommandOutcome content input comman
 
 abbrev pub IsOutcome : List (List ℕ) → (List ℕ → List ℕ) → List ℕ → Outcome → Type 0
 IsOutcome words content input o = IsOutcomeOf content input (meaning words) o
-
--- an outcome but for the certificate that it writes
-abbrev pub but_certificate : Outcome → Outcome
-but_certificate o = record { status = o.status; report = o.report; outputs = filter (λ (f : Output). not (is_slot f.slot CertOut)) o.outputs }
-
--- THE OUTCOME IS ONE, but for the lines of a certificate
-abbrev pub OutcomesAreOne : Type 0
-OutcomesAreOne = (words : List (List ℕ)) (content : List ℕ → List ℕ) (input : List ℕ) (o p : Outcome) →
-    IsOutcome words content input o → IsOutcome words content input p → but_certificate o ≡ but_certificate p

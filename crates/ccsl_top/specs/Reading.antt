@@ -7,7 +7,8 @@ use Rattle.ccsl_spec.specs.Found.{IsRead}
 use Rattle.ccsl_top.specs.declared.files.Stop.{Stop}
 use Rattle.ccsl_top.specs.declared.files.Stop.TheVariants.{Fault, Memory}
 use Rattle.ccsl_top.specs.Opening.{is_slot}
-use Rattle.ccsl_top.specs.Effects.{RoseAt, Uses, Reads}
+use Rattle.ccsl_top.specs.Effects.{RoseAt}
+use Rattle.ccsl_top.specs.Changes.{Uses, Reads}
 
 -- this slot alone
 abbrev pub only : Slot → Slot → Bool

@@ -1,5 +1,5 @@
 -- What the parts of `simulate` answer and leave.
-use Rattle.std.specs.Prelude.{◌≡◌, ◌≢◌, ◌⊎◌, ℕ, ◌<◌, List, length, true, Some, IsTrue}
+use Rattle.std.specs.Prelude.{◌≡◌, ◌≢◌, ◌⊎◌, ℕ, ◌<◌, List, length, true, false, Some, IsTrue}
 use Rattle.ccsl_edge.specs.declared.slot.Slot.{Slot}
 use Rattle.ccsl_edge.specs.declared.slot.Slot.TheVariants.{TraceOut, CertOut}
 use Rattle.ccsl_edge.specs.World.{State, Told, file_at}
@@ -15,7 +15,8 @@ use Rattle.ccsl_top.specs.declared.reply.Reply.{Reply}
 use Rattle.ccsl_top.specs.Outcome.{outcome}
 use Rattle.ccsl_top.specs.Opening.{is_output}
 use Rattle.ccsl_top.specs.Simulate.{run, IsCertificate, IsOutput}
-use Rattle.ccsl_top.specs.Effects.{RoseAt, WritesAlone}
+use Rattle.ccsl_top.specs.Effects.{RoseAt}
+use Rattle.ccsl_top.specs.Changes.{WritesAlone}
 use Rattle.ccsl_top.specs.Headline.{IsKeptOrWhole, IsFrontOn}
 use Rattle.ccsl_top.specs.Answered.{plain_reply}
 
@@ -40,9 +41,10 @@ module _ (told : Told) (K : System) (policy : Policy) (seed steps : ℕ) (trace 
     pub fronts : IsTrue told.written → (slot : Slot) → is_output slot ≡ true →
         IsFrontOn (IsOutput K policy seed steps trace cert) old new slot
 
-  -- both files were written, and no call failed
+  -- both files were written and closed, and no call failed
   pub record WritesBoth (done : Done) : Type 0 where
     pub some : WritesSome
+    pub closed : (slot : Slot) → is_output slot ≡ true → (new.slot_of slot).is_open ≡ false
     pub counts : (slot : Slot) → (new.slot_of slot).faults ≡ (old.slot_of slot).faults
     pub ends : IsEnd (length (run K policy seed steps)) steps done
     pub text : List ℕ

@@ -7,13 +7,15 @@ ghost use Rattle.ccsl_command.specs.declared.command.Command.TheVariants as comm
 ghost use Rattle.ccsl_kernel.specs.Syntax.{item_count};
 ghost use Rattle.ccsl_kernel.specs.Accepted.{IsAccepted};
 ghost use Rattle.ccsl_kernel.specs.Lives.{Step};
-ghost use Rattle.ccsl_formula.specs.Formula.{Formula as Plain, ReadsBelow};
+ghost use Rattle.ccsl_formula.specs.Formula.{Formula as Plain};
+ghost use Rattle.ccsl_formula.specs.Variables.{ReadsBelow};
 ghost use Rattle.ccsl_formula.specs.Plain.{plain};
 ghost use Rattle.ccsl_refute.specs.Below.{AreBelow};
-ghost use Rattle.ccsl_refute.specs.Writing.{lines_text, literals};
+ghost use Rattle.ccsl_refute.specs.Writing.{lines_text};
+ghost use Rattle.ccsl_refute.specs.LineLiterals.{literals};
 ghost use Rattle.ccsl_state.specs.Held.{StandsFor};
 ghost use Rattle.ccsl_items.specs.Formulas.{item_formulas, scope_of};
-ghost use Rattle.ccsl_explain.specs.Explained.{Explains};
+ghost use Rattle.ccsl_explain.specs.Explains.{Explains};
 ghost use Rattle.ccsl_report.specs.Texts.{explain_blocked_text, explain_member_text};
 ghost use Rattle.ccsl_top.specs.Explain.{member_lines, cert_output};
 ghost use Rattle.ccsl_top.specs.Explaining.{AreMembers, file_of, WritesWhole, WritesBreak, IsWriteStop, BlockedAnswers, RunAnswers, IsRunStop, TraceAnswers, IsTraceStop};

@@ -2,7 +2,7 @@
 
 ghost use Rattle.std.specs.Prelude.{◌≡◌, IfOk, IfErr, option_map};
 ghost use Rattle.ccsl_edge.specs.Slots.{IsInputFile};
-ghost use Rattle.ccsl_top.specs.Effects.{Reads};
+ghost use Rattle.ccsl_top.specs.Changes.{Reads};
 ghost use Rattle.ccsl_top.specs.Reading.{only, IsFile, IsStop};
 ghost use Rattle.ccsl_top.specs.Stopping.{stop_code};
 

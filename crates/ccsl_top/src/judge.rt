@@ -1,16 +1,16 @@
 //! The command `judge`.
 
-ghost use Rattle.std.specs.Prelude.{◌≡◌, ◌≢◌, ◌+◌, ◌≤◌, IfOk, IfErr, IsTrue, vec_len, vec_capacity, []};
+ghost use Rattle.std.specs.Prelude.{◌≡◌, ◌+◌, ◌≤◌, IfOk, IfErr, IsTrue, vec_len, vec_capacity, []};
 ghost use Rattle.ccsl_edge.specs.declared.slot.Slot.TheVariants.{Spec, Trace};
 ghost use Rattle.ccsl_edge.specs.World.{held};
 ghost use Rattle.ccsl_command.specs.declared.command.Command.TheVariants as command;
 ghost use Rattle.ccsl_judge.specs.Judged.{HasItem};
 ghost use Rattle.ccsl_report.specs.Room.{room};
 ghost use Rattle.ccsl_top.specs.Judge.{judge_outcome};
-ghost use Rattle.ccsl_top.specs.Effects.{Reads};
+ghost use Rattle.ccsl_top.specs.Changes.{Reads};
 ghost use Rattle.ccsl_top.specs.Reading.{only};
 ghost use Rattle.ccsl_top.specs.Judging.{IsReplyOn, IsTraceStop};
-ghost use Rattle.ccsl_top.specs.Answered.{plain_reply, AnswersTo, StopsAt};
+ghost use Rattle.ccsl_top.specs.Answered.{plain_reply, IsReadStatus, AnswersTo, StopsAt};
 
 use crate::files::{LIMITS, Stop};
 use crate::reply::{Reply, Status};
@@ -77,7 +77,7 @@ fn judge_trace<R: Threads + Sync, W: World, G: Gate>(
 ) -> Result<Reply, Stop>
     requires { W.allows Trace trace.now }
     ensures reads { IfOk result (λ _. Reads (only Trace) (W.state world.old) (W.state world.new)) }
-    ensures status { IfOk result (λ reply. ((plain_reply reply).status ≢ 2) × ((plain_reply reply).status ≢ 3)) }
+    ensures status { IfOk result (λ reply. IsReadStatus (plain_reply reply).status) }
     ensures outcome { IfOk result (λ reply. IsTrue W.told.files → IsTrue W.told.left →
         plain_reply reply ≡ judge_outcome system.now (held (W.state world.old).files trace.now)) }
     ensures stop { IfErr result (λ stop. IsTraceStop stop W.told system.now trace.now (W.state world.old) (W.state world.new)) }

@@ -9,7 +9,7 @@ ghost use Rattle.ccsl_command.specs.Meaning.{meaning};
 ghost use Rattle.ccsl_kernel.specs.Syntax.{System};
 ghost use Rattle.ccsl_policy.specs.declared.policies.Policy.{Policy};
 ghost use Rattle.ccsl_session.specs.declared.answer.Ended.TheVariants as ended;
-ghost use Rattle.ccsl_session.specs.Session.{HasEnded};
+ghost use Rattle.ccsl_session.specs.Leaving.{HasEnded};
 ghost use Rattle.ccsl_top.specs.Conversing.{Begins};
 ghost use Rattle.ccsl_top.specs.Headline.{Headline};
 

@@ -18,6 +18,7 @@ use ccsl_kernel::System;
 use ccsl_policy::Policy;
 use ccsl_report::{deadlocked, simulated};
 use ccsl_simulate::Done;
+use ccsl_simulate::laws::{deadlocks_have_certificates, simulation_is_one};
 use ccsl_spec::Specification;
 use std::alloc::Global;
 
@@ -50,6 +51,10 @@ pub(crate) fn write_run<W: World>(
     ensures stop { IfErr result (λ stop. IsWriteStop W.told system.now policy seed steps trace.now cert.now
         (W.state world.old) (W.state world.new) stop) }
 {
+    // By these laws each simulation has a certificate, of which nothing written is a front.
+    simulation_is_one();
+    deadlocks_have_certificates();
+    system.names();
     world.open_out(Slot::TraceOut, trace)?;
     world.open_out(Slot::CertOut, cert)?;
     let done = ccsl_simulate::simulate(alloc, world, system, policy, seed, steps)?;

@@ -2,7 +2,7 @@
 
 ghost use Rattle.std.specs.Prelude.{IfOk, IfErr};
 ghost use Rattle.ccsl_edge.specs.declared.slot.Slot.TheVariants.{Spec};
-ghost use Rattle.ccsl_top.specs.Effects.{Reads};
+ghost use Rattle.ccsl_top.specs.Changes.{Reads};
 ghost use Rattle.ccsl_top.specs.Reading.{only, IsSpecOf, IsStop};
 
 use crate::files::{Stop, read_file};

@@ -77,6 +77,53 @@ fn each_call<R: Threads + Sync + Abort>(
     Ok(())
 }
 
+/// What is left behind a run in which one call fails: the status, the report, the trace and the certificate.
+type Row = ((CallKind, u64), u8, [&'static str; 3]);
+
+const NOTHING: [&str; 3] = ["", "no file", "no file"];
+
+const DONE: [&str; 3] = ["simulate: done, 2 steps\n", TRACE, ""];
+
+// The calls of a simulation, in their order: each once, and none more. The specification is opened and read; the trace and then the
+// certificate are opened; the header and each step are one write; the trace and then the certificate are closed; the report is one write.
+const ROWS: &[Row] = &[
+    ((CallKind::OpenIn, 1), 5, NOTHING),
+    ((CallKind::OpenIn, 2), 0, DONE),
+    ((CallKind::OpenOut, 1), 5, NOTHING),
+    ((CallKind::OpenOut, 2), 5, NOTHING),
+    ((CallKind::OpenOut, 3), 0, DONE),
+    ((CallKind::Write, 1), 5, NOTHING),
+    ((CallKind::Write, 2), 5, NOTHING),
+    ((CallKind::Write, 3), 5, NOTHING),
+    ((CallKind::CloseOut, 1), 5, NOTHING),
+    ((CallKind::CloseOut, 2), 5, ["", TRACE, "no file"]),
+    ((CallKind::CloseOut, 3), 0, DONE),
+    ((CallKind::Write, 4), 5, ["", TRACE, ""]),
+    ((CallKind::Write, 5), 0, DONE),
+];
+
+// Asserts one row.
+fn leaves_row<R: Threads + Sync + Abort>(rt: &R, alloc: Global, row: &Row) -> Result<(), Fail> {
+    let (failing, status, texts) = *row;
+    for (looked, text) in [
+        (Looked::Written(Slot::Report), texts[0]),
+        (Looked::File("x"), texts[1]),
+        (Looked::File("y"), texts[2]),
+    ] {
+        let found = seen(rt, alloc, failing, 4096, looked)?;
+        assert_eq!(rt; (found.status, found.text.as_str()), (status, text));
+    }
+    Ok(())
+}
+
+#[test]
+fn each_call_is_made_once_in_its_order(rt: HostRuntime) -> Result<(), Fail> {
+    for row in ROWS {
+        leaves_row(&rt, rt.alloc(), row)?;
+    }
+    Ok(())
+}
+
 #[test]
 fn each_call_that_fails_is_told(rt: HostRuntime) -> Result<(), Fail> {
     for kind in [

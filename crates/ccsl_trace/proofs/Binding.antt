@@ -12,11 +12,13 @@ use Rattle.ccsl_vcd.specs.Words as w
 use Rattle.ccsl_vcd.specs.Places as p
 use Rattle.ccsl_vcd.specs.Body.{is_declared, changed, change_says, body_says}
 use Rattle.ccsl_vcd.specs.Reading.{may_end, or_else, Story, says, told, next, next_from, story, so_far, reading}
-use Rattle.ccsl_vcd.specs.Rows.{row_at, times, has_ticks, rows, rows_of, bound_at, now_at, is_before, done}
-use Rattle.ccsl_vcd.proofs.Decided.{story-more}
+use Rattle.ccsl_vcd.specs.Rows.{row_at, times, has_ticks, rows, rows_of, bound_at}
+use Rattle.ccsl_vcd.specs.Completed.{now_at, is_before, done}
+use Rattle.ccsl_vcd.proofs.Decided.{story-more, story-sticks}
 use Rattle.ccsl_vcd_read.specs.Staging.{shown_at}
 use Rattle.ccsl_vcd_read.specs.Reading.{Reading, FewRows, Running, is_past, past_header}
 use Rattle.ccsl_vcd_read.proofs.Taking.{so_far-within, done-within}
+use Rattle.ccsl_trace.specs.HeaderEnd.{is_body}
 use Rattle.ccsl_vcd_read.proofs.Ending.{reading-within}
 
 -- the clocks that some bytes bind, once they have ended the header
@@ -106,6 +108,29 @@ pub past-stays : (wanted : Wanted) (l : Limits) (a b : List ℕ) → length a �
 past-stays wanted l a b h k e =
     let s = past-some (so_far wanted l a).place e in
     past-shown (so_far wanted l (a ++ b)).place ∙ ap is_some (bound-stays wanted l a b s.0 h k s.1)
+
+-- a body has begun where the clocks are bound
+pub body-past : (v : p.Where) → is_body v ≡ is_past v
+body-past (p.header h) = refl
+body-past (p.body b) = refl
+
+fault-stays : (wanted : Wanted) (l : Limits) (a b : List ℕ) (f : VcdFault) → length a ≤ l.bytes → length (a ++ b) ≤ l.bytes →
+    (so_far wanted l a).fault ≡ Some f → (so_far wanted l (a ++ b)).fault ≡ Some f
+fault-stays wanted l a b f h k e =
+    let r = settled-further a b in
+    let early : (story wanted l (settled a)).fault ≡ Some f = sym (ap (λ (s : Story). s.fault) (so_far-within wanted l a h)) ∙ e in
+    ap (λ (s : Story). s.fault) (so_far-within wanted l (a ++ b) k)
+    ∙ ap (λ hs. (story wanted l hs).fault) r.1
+    ∙ ap (λ (s : Story). s.fault) (story-sticks wanted l (settled a) r.0 f early) ∙ early
+
+-- where some bytes have no fault no front of them has one
+pub none-before-none : (wanted : Wanted) (l : Limits) (a b : List ℕ) → length a ≤ l.bytes → length (a ++ b) ≤ l.bytes →
+    (so_far wanted l (a ++ b)).fault ≡ None → (so_far wanted l a).fault ≡ None
+none-before-none wanted l a b h k none = of-fault (so_far wanted l a).fault refl
+  where
+    of-fault : (o : Option VcdFault) → (so_far wanted l a).fault ≡ o → (so_far wanted l a).fault ≡ None
+    of-fault None e = e
+    of-fault (Some f) e = let clash : (let O : Option VcdFault = Some f in O) ≡ None = sym (fault-stays wanted l a b f h k e) ∙ none in absurd (cc)
 
 pub clocks-shown : (v : p.Where) (bound : List ℕ) → shown_at v ≡ Some bound → map (λ b. b.clock) (bound_at v) ≡ bound
 clocks-shown (p.header h) bound e = absurd (cc)

@@ -7,7 +7,8 @@ use Rattle.ccsl_base.specs.declared.rows.Row.{Row}
 use Rattle.ccsl_vcd.specs.declared.limits.Limits.{Limits}
 use Rattle.ccsl_vcd.specs.Binding.{Wanted}
 use Rattle.ccsl_vcd.specs.Reading.{reading}
-use Rattle.ccsl_vcd.specs.Rows.{done, recorded}
+use Rattle.ccsl_vcd.specs.Rows.{recorded}
+use Rattle.ccsl_vcd.specs.Completed.{done}
 use Rattle.ccsl_vcd_read.specs.declared.reader.Counts.{Counts}
 use Rattle.ccsl_vcd_read.specs.Staging.{shown_at}
 use Rattle.ccsl_vcd_read.specs.Reading.{Pushes, AreCounts, shows}
@@ -18,7 +19,7 @@ use Rattle.ccsl_trace.specs.Feeding.{Feeding, bound_of, waiting_in, Runs, Nears}
 use Rattle.ccsl_trace.specs.Stepping.{IsNear, EndsLate, EndsNow, Finishes}
 use Rattle.ccsl_trace.proofs.Binding.{bound_by, bound-read, clocks-shown, read-bound}
 use Rattle.ccsl_trace.proofs.Refusing.{near-of}
-use Rattle.ccsl_trace.proofs.Running.{within, bound-taken, past-taken, none-before, nearer-end}
+use Rattle.ccsl_trace.proofs.Running.{within, fine-taken, bound-taken, past-taken, none-before, nearer-end}
 
 -- what the reader says at the end of these bytes
 pub record Finished (wanted : Wanted) (limits : Limits) (bytes : List ℕ) (before after : Feeding) (n : Counts) : Type 0 where
@@ -88,7 +89,7 @@ module _ (wanted : Wanted) (limits : Limits) (bytes : List ℕ) (feed feed' : Fe
         waited = e;
         none = nil;
         near = subst (IsNear wanted limits) (sym r.all) (near-of wanted limits r.taken feed.pending (within wanted limits bytes feed rows r) r.few
-            (λ p. let c : false ≡ true = sym (past-taken wanted limits bytes feed rows r ∙ ap is_some e) ∙ p in absurd (cc)));
+            (λ p. let c : false ≡ true = sym (past-taken wanted limits bytes feed rows r ∙ ap is_some e) ∙ p in absurd (cc)) (fine-taken wanted limits bytes feed rows r));
         bound = b.0;
         shows = q.shows_are ∙ b.1;
         counts = n;

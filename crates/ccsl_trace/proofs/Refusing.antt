@@ -1,5 +1,5 @@
 -- How a fault of the reader is answered.
-use Rattle.std.proofs.Common.{◌≡◌, ℕ, ◌+◌, ◌≤◌, List, [], ◌++◌, length, take, drop, nat_le, Bool, true, false, Option, Some, None, IsTrue, refl, sym, ap, ◌∙◌, subst, append_assoc, arith, length-append, length-take}
+use Rattle.std.proofs.Common.{◌≡◌, ℕ, ◌+◌, ◌≤◌, List, [], ◌++◌, length, take, drop, nat_le, Bool, true, false, ◌||◌, Option, Some, None, IsTrue, refl, sym, ap, ◌∙◌, subst, append_assoc, arith, length-append, length-take}
 use Rattle.std.specs.Prelude.{IfSome, Result, Err, ◌≢◌}
 use Rattle.std.proofs.lemmas.Bool.{leb-true, leb-false}
 use Rattle.std.proofs.lemmas.List.{append-nil, take-append-le, take-append-drop}
@@ -10,7 +10,7 @@ use Rattle.ccsl_vcd.specs.declared.fault.VcdFault.{VcdFault}
 use Rattle.ccsl_vcd.specs.declared.fault.VcdFault.TheVariants as faults
 use Rattle.ccsl_vcd.specs.declared.limits.Limits.{Limits}
 use Rattle.ccsl_vcd.specs.Binding.{Wanted}
-use Rattle.ccsl_vcd.specs.Reading.{reading}
+use Rattle.ccsl_vcd.specs.Reading.{so_far, reading}
 use Rattle.ccsl_vcd_read.specs.Heading.{Caused, NotMemory}
 use Rattle.ccsl_vcd_read.specs.Reading.{IsCalm, past_header}
 use Rattle.ccsl_trace.specs.declared.fault.TraceFault.{TraceFault}
@@ -18,7 +18,8 @@ use Rattle.ccsl_trace.specs.declared.fault.TraceFault.TheVariants.{Fault, Refuse
 use Rattle.ccsl_trace.specs.declared.pending.TheConstants.{PIECE}
 use Rattle.ccsl_trace.specs.Traces.{IsUnread, IsNearHeader, unread}
 use Rattle.ccsl_trace.specs.Stepping.{IsNear, RefusesAll, RefusesIt}
-use Rattle.ccsl_trace.proofs.Binding.{past-stays}
+use Rattle.ccsl_trace.specs.HeaderEnd.{is_body, binds_none, ends_header}
+use Rattle.ccsl_trace.proofs.Binding.{past-stays, body-past, none-before-none}
 
 -- a fault that is no want of memory is told, with its cause
 by-cause : (P : TraceFault → Type 0) (f : VcdFault) (cause : Type 0) → (f ≡ faults.Memory → P Memory) → (NotMemory f → cause → P (Refused f)) → Caused f cause → P (unread f)
@@ -62,19 +63,29 @@ never-memory A None f t e h = tt
 never-memory A (Some b) f t e h = λ same. not-memory f (h b refl) (sym e ∙ (let k : t ≡ Memory = cc in k))
 
 -- where a front has not ended the header, the bytes behind it reach at most a piece past its end
-pub near-of : (wanted : Wanted) (limits : Limits) (a b : List ℕ) → length a ≤ limits.bytes → length b ≤ PIECE → (past_header wanted limits a ≡ true → ⊥) → IsNear wanted limits (a ++ b)
-near-of wanted limits a b within few early = λ n p. by-place n p (nat_le n (length a)) refl
+pub near-of : (wanted : Wanted) (limits : Limits) (a b : List ℕ) → length a ≤ limits.bytes → length b ≤ PIECE → (past_header wanted limits a ≡ true → ⊥) →
+    (so_far wanted limits a).fault ≡ None → IsNear wanted limits (a ++ b)
+near-of wanted limits a b within few early fine = λ n p. by-place n p (nat_le n (length a)) refl
   where
-    by-place : (n : ℕ) → past_header wanted limits (take n (a ++ b)) ≡ true → (v : Bool) → nat_le n (length a) ≡ v → length (a ++ b) ≤ n + PIECE
+    not-ended : (n : ℕ) → (v : Bool) → is_body (so_far wanted limits (take n a)).place ≡ v → (v || binds_none (so_far wanted limits (take n a)).fault) ≡ true → ⊥
+    not-ended n true e q = early (ap (past_header wanted limits) (sym (take-append-drop n a))
+        ∙ past-stays wanted limits (take n a) (drop n a) (omega (arith, within, length-take n a)) (rw (take-append-drop n a) within)
+        (sym (body-past (so_far wanted limits (take n a)).place) ∙ e))
+    not-ended n false e q =
+        let none = none-before-none wanted limits (take n a) (drop n a) (omega (arith, within, length-take n a)) (rw (take-append-drop n a) within)
+        (ap (λ xs. (so_far wanted limits xs).fault) (take-append-drop n a) ∙ fine) in
+        let clash : true ≡ false = sym q ∙ ap binds_none none in absurd (cc)
+
+    by-place : (n : ℕ) → ends_header wanted limits (take n (a ++ b)) ≡ true → (v : Bool) → nat_le n (length a) ≡ v → length (a ++ b) ≤ n + PIECE
     by-place n p true e =
         let le : n ≤ length a = leb-true _ _ e in
-        let q : past_header wanted limits (take n a) ≡ true = ap (past_header wanted limits) (sym (take-append-le n a b le)) ∙ p in
-        absurd (early (ap (past_header wanted limits) (sym (take-append-drop n a)) ∙ past-stays wanted limits (take n a) (drop n a) (omega (arith, within, length-take n a)) (rw (take-append-drop n a) within) q))
+        absurd (not-ended n (is_body (so_far wanted limits (take n a)).place) refl (ap (ends_header wanted limits) (sym (take-append-le n a b le)) ∙ p))
     by-place n p false e = let gt = leb-false _ _ e in omega (arith, length-append a b, few)
 
-module _ (f : VcdFault) (wanted : Wanted) (limits : Limits) (a b : List ℕ) (within : length a ≤ limits.bytes) (few : length b ≤ PIECE) (calm : IsCalm wanted limits a f) where
+module _ (f : VcdFault) (wanted : Wanted) (limits : Limits) (a b : List ℕ) (within : length a ≤ limits.bytes) (few : length b ≤ PIECE) (calm : IsCalm wanted limits a f)
+    (fine : (so_far wanted limits a).fault ≡ None) where
   want : f ≡ faults.Memory → IsNear wanted limits (a ++ b)
-  want e = near-of wanted limits a b within few (λ p. subst NotMemory e (calm p))
+  want e = near-of wanted limits a b within few (λ p. subst NotMemory e (calm p)) fine
 
   -- all that begin with the bytes are refused
   pub refuses-all : Caused f ((more : List ℕ) → (reading wanted limits (a ++ (b ++ more))).fault ≡ Some f) → RefusesAll (unread f) wanted limits (a ++ b)

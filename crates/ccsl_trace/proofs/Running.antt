@@ -6,19 +6,28 @@ use Rattle.ccsl_base.specs.declared.rows.Row.{Row}
 use Rattle.ccsl_vcd.specs.declared.fault.VcdFault.{VcdFault}
 use Rattle.ccsl_vcd.specs.declared.limits.Limits.{Limits}
 use Rattle.ccsl_vcd.specs.Binding.{Wanted}
-use Rattle.ccsl_vcd.specs.Reading.{so_far, reading}
-use Rattle.ccsl_vcd.specs.Rows.{done}
+use Rattle.ccsl_vcd.specs.Reading.{Story, so_far, reading}
+use Rattle.ccsl_vcd.specs.Completed.{done}
 use Rattle.ccsl_vcd_read.specs.declared.reader.Counts.{Counts}
+use Rattle.ccsl_vcd_read.specs.declared.stage.Stage.{Stage}
+use Rattle.ccsl_vcd_read.specs.declared.stage.Stage.TheVariants.{Header, Body, Unbound}
+use Rattle.ccsl_vcd_read.specs.Staging.{Pictures}
 use Rattle.ccsl_vcd_read.specs.Heading.{Caused, NotMemory}
 use Rattle.ccsl_vcd_read.specs.Reading.{Running, StandsFor, Pushes, HeaderSo, IsCalm, past_header}
 use Rattle.ccsl_vcd_read.proofs.StagePictures.{caused-map}
-use Rattle.ccsl_vcd_read.proofs.Taking.{running-of}
+use Rattle.ccsl_vcd_read.proofs.Taking.{running-of, so_far-within}
 use Rattle.ccsl_vcd_read.proofs.Ending.{running-shown}
 use Rattle.ccsl_trace.specs.Traces.{unread}
 use Rattle.ccsl_trace.specs.Feeding.{Feeding, bound_of, waiting_in, left_of, calls_left, calls_left_from, Runs}
 use Rattle.ccsl_trace.specs.Stepping.{IsNear, Turns, RefusesAll, RefusesIt}
 use Rattle.ccsl_trace.proofs.Binding.{bound_by, bound-stays, done-none, done-few, past-shown}
 use Rattle.ccsl_trace.proofs.Refusing.{near-of, refuses-all, refuses-it}
+
+-- what a reader that runs has taken has no fault
+pictures-fine : (wanted : Wanted) (l : Limits) (stage : Stage) (st : Story) → Pictures wanted l stage st → st.fault ≡ None
+pictures-fine wanted l (Header h) st q = ap (λ (s : Story). s.fault) q.told
+pictures-fine wanted l (Body b) st q = ap (λ (s : Story). s.fault) q.told
+pictures-fine wanted l Unbound st q = absurd q
 
 -- whether the clocks were bound just now
 abbrev Link : Bool → Bool → Bool → Type 0
@@ -66,6 +75,13 @@ module _ (wanted : Wanted) (limits : Limits) (bytes : List ℕ) (feed : Feeding)
 
   pub within : length r.taken ≤ limits.bytes
   within = let n = running in subst (λ (x : Limits). length r.taken ≤ x.bytes) r.limits_are n.within
+
+  pub fine-taken : (so_far wanted limits r.taken).fault ≡ None
+  fine-taken =
+      let n = running in
+      let at : (so_far wanted feed.reading.limits r.taken).fault ≡ None =
+      ap (λ (s : Story). s.fault) (so_far-within wanted feed.reading.limits r.taken n.within) ∙ pictures-fine wanted feed.reading.limits feed.reading.stage _ n.pictures in
+      subst (λ (x : Limits). (so_far wanted x r.taken).fault ≡ None) r.limits_are at
 
   pub bound-taken : bound_of feed ≡ bound_by wanted limits r.taken
   bound-taken = running-shown wanted feed.reading r.taken running ∙ ap (λ (x : Limits). bound_by wanted x r.taken) r.limits_are
@@ -168,7 +184,7 @@ module _ (wanted : Wanted) (limits : Limits) (bytes : List ℕ) (feed : Feeding)
   -- where the header ends in the piece it had not ended before
   pub near : (n : ℕ) → HeaderSo true wanted feed.reading.limits r.taken feed.pending n → IsNear wanted limits bytes
   near n h = subst (IsNear wanted limits) (sym r.all) (near-of wanted limits r.taken feed.pending within r.few
-      (λ p. let c : false ≡ true = sym h.first ∙ ap (λ (x : Limits). past_header wanted x r.taken) r.limits_are ∙ p in absurd (cc)))
+      (λ p. let c : false ≡ true = sym h.first ∙ ap (λ (x : Limits). past_header wanted x r.taken) r.limits_are ∙ p in absurd (cc)) fine-taken)
 
   module _ (f : VcdFault) (calm : IfNone feed.reading.fault ((wanted : Wanted) (bytes : List ℕ) → StandsFor wanted feed.reading bytes → IsCalm wanted feed.reading.limits bytes f)) where
     calm-taken : IsCalm wanted limits r.taken f
@@ -180,9 +196,9 @@ module _ (wanted : Wanted) (limits : Limits) (bytes : List ℕ) (feed : Feeding)
     calm-bound bound e = calm-taken (past-taken ∙ ap is_some e)
 
     pub refused-all : Caused f ((wanted : Wanted) (bytes more : List ℕ) → StandsFor wanted feed.reading bytes → (reading wanted feed.reading.limits (bytes ++ (feed.pending ++ more))).fault ≡ Some f) → RefusesAll (unread f) wanted limits bytes
-    refused-all c = subst (RefusesAll (unread f) wanted limits) (sym r.all) (refuses-all f wanted limits r.taken feed.pending within r.few calm-taken
+    refused-all c = subst (RefusesAll (unread f) wanted limits) (sym r.all) (refuses-all f wanted limits r.taken feed.pending within r.few calm-taken fine-taken
         (caused-map f (λ h. λ more. ap (λ (x : Limits). (reading wanted x (r.taken ++ (feed.pending ++ more))).fault) (sym r.limits_are) ∙ h wanted r.taken more r.stands) c))
 
     pub refused-it : feed.pending ≡ [] → Caused f ((wanted : Wanted) (bytes : List ℕ) → StandsFor wanted feed.reading bytes → (reading wanted feed.reading.limits bytes).fault ≡ Some f) → RefusesIt (unread f) wanted limits bytes
-    refused-it none c = subst (RefusesIt (unread f) wanted limits) (sym r.all) (refuses-it f wanted limits r.taken feed.pending within r.few calm-taken
+    refused-it none c = subst (RefusesIt (unread f) wanted limits) (sym r.all) (refuses-it f wanted limits r.taken feed.pending within r.few calm-taken fine-taken
         (caused-map f (λ h. ap (λ xs. (reading wanted limits xs).fault) (ap (λ xs. r.taken ++ xs) none ∙ append-nil r.taken) ∙ ap (λ (x : Limits). (reading wanted x r.taken).fault) (sym r.limits_are) ∙ h wanted r.taken r.stands) c))

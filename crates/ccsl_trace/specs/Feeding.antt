@@ -8,7 +8,7 @@ use Rattle.ccsl_edge.specs.World.{State, Told}
 use Rattle.ccsl_edge.specs.Calls.{Reads}
 use Rattle.ccsl_vcd.specs.declared.limits.Limits.{Limits}
 use Rattle.ccsl_vcd.specs.Binding.{Wanted}
-use Rattle.ccsl_vcd.specs.Rows.{done}
+use Rattle.ccsl_vcd.specs.Completed.{done}
 use Rattle.ccsl_vcd_read.specs.declared.reader.Counts.{Counts}
 use Rattle.ccsl_vcd_read.specs.Reading.{Reading, StandsFor, shows}
 use Rattle.ccsl_trace.specs.declared.next.Next.{Next}

@@ -1,3 +1,4 @@
+pub mod HeaderEnd
 pub mod Traces
 pub mod Feeding
 pub mod Stepping

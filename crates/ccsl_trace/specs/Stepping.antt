@@ -9,12 +9,12 @@ use Rattle.ccsl_vcd.specs.Binding.{Wanted}
 use Rattle.ccsl_vcd.specs.Reading.{reading}
 use Rattle.ccsl_vcd_read.specs.declared.reader.Counts.{Counts}
 use Rattle.ccsl_vcd_read.specs.Heading.{NotMemory}
-use Rattle.ccsl_vcd_read.specs.Reading.{past_header}
 use Rattle.ccsl_trace.specs.declared.fault.TraceFault.{TraceFault}
 use Rattle.ccsl_trace.specs.declared.fault.TraceFault.TheVariants.{Fault, Refused, Memory}
 use Rattle.ccsl_trace.specs.declared.next.Next.{Next}
 use Rattle.ccsl_trace.specs.declared.next.Next.TheVariants.{Bound, Rows, Ended}
 use Rattle.ccsl_trace.specs.declared.pending.TheConstants.{PIECE}
+use Rattle.ccsl_trace.specs.HeaderEnd.{ends_header}
 use Rattle.ccsl_trace.specs.Traces.{Ends}
 use Rattle.ccsl_trace.specs.Feeding.{Feeding, bound_of, calls_left, Feeds}
 
@@ -26,7 +26,7 @@ pub record Refills (told : Told) (old new : State) (piece : List ℕ) : Type 0 w
 
 -- the bytes reach at most one piece past the header's end
 abbrev pub IsNear : Wanted → Limits → List ℕ → Type 0
-IsNear wanted limits bytes = (n : ℕ) → past_header wanted limits (take n bytes) ≡ true → length bytes ≤ n + PIECE
+IsNear wanted limits bytes = (n : ℕ) → ends_header wanted limits (take n bytes) ≡ true → length bytes ≤ n + PIECE
 
 -- whether the clocks were bound just now, or nothing has changed
 abbrev pub Turns : Bool → Option (List ℕ) → Option (List ℕ) → Type 0

@@ -11,7 +11,8 @@ use Rattle.ccsl_vcd.specs.Binding.{Wanted}
 use Rattle.ccsl_vcd.specs.Reading.{reading}
 use Rattle.ccsl_vcd.specs.Rows.{bound_at, recorded}
 use Rattle.ccsl_vcd_read.specs.Heading.{NotMemory}
-use Rattle.ccsl_vcd_read.specs.Reading.{past_header, AreCounts}
+use Rattle.ccsl_vcd_read.specs.Reading.{AreCounts}
+use Rattle.ccsl_trace.specs.HeaderEnd.{ends_header}
 use Rattle.ccsl_trace.specs.declared.fault.TraceFault.{TraceFault}
 use Rattle.ccsl_trace.specs.declared.fault.TraceFault.TheVariants.{Fault, Refused, Memory}
 use Rattle.ccsl_trace.specs.declared.pending.TheConstants.{PIECE}
@@ -52,7 +53,7 @@ module _ (told : Told) (wanted : Wanted) (limits : Limits) (old new : State) whe
   pub record IsNearHeader : Type 0 where
     pub bytes : List ℕ
     pub reads : Reads told Trace bytes old new
-    pub near : (n : ℕ) → past_header wanted limits (take n bytes) ≡ true → length bytes ≤ n + PIECE
+    pub near : (n : ℕ) → ends_header wanted limits (take n bytes) ≡ true → length bytes ≤ n + PIECE
 
   abbrev pub IsUnread : TraceFault → Type 0
   IsUnread Fault = Fails

@@ -20,7 +20,7 @@ two = record { names = (codes "a") ∷ (codes "b") ∷ []; declared = 2 }
 abbrev one : Wanted
 one = record { names = (codes "a") ∷ []; declared = 1 }
 
-abbrev clk : Wanted
+abbrev pub clk : Wanted
 clk = record { names = (codes "clk") ∷ []; declared = 1 }
 
 abbrev line : ℕ → List ℕ → Row

@@ -5,4 +5,6 @@ pub mod Header
 pub mod Body
 pub mod Reading
 pub mod Rows
+pub mod Completed
 pub mod Grammar
+pub mod Commands

@@ -5,7 +5,7 @@ use Rattle.ccsl_base.specs.declared.rows.Row.{Row}
 use Rattle.ccsl_vcd.specs.declared.limits.Limits.{Limits}
 use Rattle.ccsl_vcd.specs.Binding.{Wanted, Bound}
 use Rattle.ccsl_vcd.specs.Places.{Change, Where, header, body}
-use Rattle.ccsl_vcd.specs.Reading.{Story, so_far, reading}
+use Rattle.ccsl_vcd.specs.Reading.{Story, reading}
 
 -- the later of two values, if there is one
 abbrev pub later : Option Bool → Option Bool → Option Bool
@@ -69,27 +69,13 @@ abbrev pub bound_at : Where → List Bound
 bound_at (header h) = []
 bound_at (body b) = b.bound
 
-abbrev pub now_at : Where → ℕ
-now_at (header h) = 0
-now_at (body b) = b.now
-
 -- all rows of a story, and those that a greater time has completed
 abbrev pub rows_of : Story → List Row
 rows_of s = rows (bound_at s.place) s.changes
 
-abbrev pub is_before : ℕ → Row → Bool
-is_before now r = nat_lt r.time now
-
-abbrev pub complete : Story → List Row
-complete s = filter (is_before (now_at s.place)) (rows_of s)
-
 -- the rows of a whole file
 unfoldable pub recorded : Wanted → Limits → List ℕ → List Row
 recorded wanted limits file = rows_of (reading wanted limits file)
-
--- the rows that these bytes of a file complete: a token with a greater time has ended
-unfoldable pub done : Wanted → Limits → List ℕ → List Row
-done wanted limits bytes = complete (so_far wanted limits bytes)
 
 -- a file that is read without a fault
 abbrev pub IsRead : Wanted → Limits → List ℕ → Type 0

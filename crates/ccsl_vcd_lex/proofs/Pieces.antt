@@ -3,7 +3,8 @@ use Rattle.std.proofs.Common.{◌≡◌, ℕ, zero, suc, Bool, ◌+◌, ◌-◌,
 use Rattle.std.specs.List.{prefix_len, slice_range}
 use Rattle.std.proofs.Math.Seq.{take-add}
 use Rattle.std.proofs.lemmas.List.{append-nil, take-append-drop, take-take, length-take-le, length-drop, get_or-drop, get_or-take, take_more}
-use Rattle.ccsl_vcd_lex.specs.Tokens.{is_white, token, tokens, settled, first_long, Heard, word, too_long}
+use Rattle.ccsl_vcd_lex.specs.Tokens.{is_white, token, tokens, settled, Heard, word, too_long}
+use Rattle.ccsl_vcd_lex.specs.LongTokens.{first_long}
 use Rattle.ccsl_vcd_lex.specs.Lexing.{Dark, is_dark, Lexing, StandsFor, BreaksWithin}
 use Rattle.ccsl_vcd_lex.proofs.Cuts.{White}
 use Rattle.ccsl_vcd_lex.proofs.Steps.{stays, short-now, long-now}

@@ -3,7 +3,8 @@ use Rattle.std.proofs.Common.{◌≡◌, ℕ, ◌+◌, ◌≤◌, ◌<◌, List,
 use Rattle.std.proofs.lemmas.List.{append-nil}
 use Rattle.std.proofs.lemmas.Grind.{common_steps}
 use Rattle.std.proofs.lemmas.Bool.{lt-ltb}
-use Rattle.ccsl_vcd_lex.specs.Tokens.{Token, token, run, tokens_from, tokens, closed, is_long, first_long}
+use Rattle.ccsl_vcd_lex.specs.Tokens.{Token, token, run, tokens_from, tokens, closed, is_long}
+use Rattle.ccsl_vcd_lex.specs.LongTokens.{first_long}
 use Rattle.ccsl_vcd_lex.specs.Runs.{fresh_after}
 use Rattle.ccsl_vcd_lex.specs.Lexing.{Dark, Lexing, StandsFor, GoesOn}
 use Rattle.ccsl_vcd_lex.proofs.Cuts.{White, one, fresh-behind, tokens-cut, tokens-parts, closed-parts, dark-append, long-append, one-token-more, from-behind}

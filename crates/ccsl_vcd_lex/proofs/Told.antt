@@ -3,7 +3,8 @@ use Rattle.std.proofs.Common.{◌≡◌, ℕ, ◌≤◌, ◌<◌, List, [], ◌�
 use Rattle.std.proofs.lemmas.List.{append-nil, map-append}
 use Rattle.std.proofs.lemmas.Grind.{common_steps}
 use Rattle.std.proofs.lemmas.Bool.{lt-ltb}
-use Rattle.ccsl_vcd_lex.specs.Tokens.{Token, token, tokens, closed, settled, heard, Heard, word, too_long, hear, first_long}
+use Rattle.ccsl_vcd_lex.specs.Tokens.{Token, token, tokens, closed, settled, heard, Heard, word, too_long, hear}
+use Rattle.ccsl_vcd_lex.specs.LongTokens.{first_long}
 use Rattle.ccsl_vcd_lex.specs.Lexing.{Lexing, StandsFor}
 use Rattle.ccsl_vcd_lex.proofs.Cuts.{one}
 use Rattle.ccsl_vcd_lex.proofs.Steps.{Grows, Ends, Breaks, grows, grows-closed, ends, ends-closed, breaks, breaks-closed, stays, short-now, long-now, all-now}

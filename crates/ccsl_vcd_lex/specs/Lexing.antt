@@ -1,7 +1,8 @@
 -- What a tokenizer stands for.
 use Rattle.std.specs.Prelude.{◌≡◌, ℕ, ◌+◌, ◌<◌, ◌≤◌, List, [], ◌∷◌, ◌++◌, length, take, Bool, true, false, not, Option, Some, None}
 use Rattle.std.specs.List.{AllByRecursion}
-use Rattle.ccsl_vcd_lex.specs.Tokens.{is_white, token, tokens, first_long, settled, Heard, word, too_long}
+use Rattle.ccsl_vcd_lex.specs.Tokens.{is_white, token, tokens, settled, Heard, word, too_long}
+use Rattle.ccsl_vcd_lex.specs.LongTokens.{first_long}
 use Rattle.ccsl_vcd_lex.specs.Runs.{fresh_after}
 use Rattle.ccsl_vcd_lex.specs.declared.span.Span.{Span}
 use Rattle.ccsl_base.specs.declared.limits.TheConstants.{MAX_TOKEN_BYTES}

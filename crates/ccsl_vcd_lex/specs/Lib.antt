@@ -1,3 +1,4 @@
 pub mod Tokens
+pub mod LongTokens
 pub mod Runs
 pub mod Lexing

@@ -1,6 +1,6 @@
 -- The tokens of a whole value change dump, with their places. IEEE 1364-2005, clause 18.2: the file is free in format, and
 -- white space separates its parts.
-use Rattle.std.specs.Prelude.{ℕ, ◌+◌, List, [], ◌∷◌, length, Bool, true, false, Option, Some, None, nat_le, nat_lt, ◌==◌, ◌&&◌, ◌||◌, if◌then◌else◌, filter, map}
+use Rattle.std.specs.Prelude.{ℕ, ◌+◌, List, [], ◌∷◌, length, Bool, true, false, nat_le, nat_lt, ◌==◌, ◌&&◌, ◌||◌, if◌then◌else◌, filter, map}
 use Rattle.ccsl_base.specs.declared.limits.TheConstants.{MAX_TOKEN_BYTES}
 
 -- white space: tab, line feed, vertical tab, form feed, carriage return, blank
@@ -63,8 +63,3 @@ heard bytes = map hear (tokens bytes)
 -- what these bytes settle of it, whatever follows
 abbrev pub settled : List ℕ → List Heard
 settled bytes = map hear (closed bytes)
-
--- where the first token with more than MAX_TOKEN_BYTES begins
-unfoldable pub first_long : List Token → Option ℕ
-first_long [] = None
-first_long (t ∷ ts) = if is_long t then Some t.at else first_long ts

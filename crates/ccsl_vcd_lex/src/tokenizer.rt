@@ -2,7 +2,8 @@
 
 ghost use Rattle.std.specs.Prelude.{◌≡◌, ℕ, List, [], ◌∷◌, ◌++◌, length, take, ◌+◌, ◌-◌, ◌<◌, ◌≤◌, ◌^◌, IsSome, OnSome, IfNone, IfOk, IfErr, MatchResult, slice_range, Some, None, true, vec_len};
 ghost use Rattle.std.specs.List.{prefix_len};
-ghost use Rattle.ccsl_vcd_lex.specs.Tokens.{is_white, tokens, heard, settled, first_long, too_long};
+ghost use Rattle.ccsl_vcd_lex.specs.Tokens.{is_white, tokens, heard, settled, too_long};
+ghost use Rattle.ccsl_vcd_lex.specs.LongTokens.{first_long};
 ghost use Rattle.ccsl_vcd_lex.specs.Lexing.{StandsFor, BreaksWithin, named, Spans};
 
 use crate::scan::{LANES, copy_part, is_space, run_end, white_end};

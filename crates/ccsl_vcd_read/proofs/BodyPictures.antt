@@ -13,7 +13,8 @@ use Rattle.ccsl_vcd.specs.Binding.{Declaration, Wanted}
 use Rattle.ccsl_vcd.specs.Places as p
 use Rattle.ccsl_vcd.specs.Body.{is_declared, change_says, body_says}
 use Rattle.ccsl_vcd.specs.Reading.{Story, next, says, told}
-use Rattle.ccsl_vcd.specs.Rows.{complete, rows, has_ticks, row}
+use Rattle.ccsl_vcd.specs.Rows.{rows, has_ticks, row}
+use Rattle.ccsl_vcd.specs.Completed.{complete}
 use Rattle.ccsl_vcd.proofs.RowLaws.{Earlier, Now, rows-all, rows-done, row_now}
 use Rattle.ccsl_bind.specs.Codes.{number_of}
 use Rattle.ccsl_vcd_read.specs.declared.amid.Amid.{Amid}

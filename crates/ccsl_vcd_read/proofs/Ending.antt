@@ -10,7 +10,8 @@ use Rattle.ccsl_vcd.specs.declared.fault.VcdFault.TheVariants as faults
 use Rattle.ccsl_vcd.specs.declared.limits.Limits.{Limits}
 use Rattle.ccsl_vcd.specs.Binding.{Wanted}
 use Rattle.ccsl_vcd.specs.Reading.{Story, next, story, so_far, reading, ends_at, at_end, may_end, or_else}
-use Rattle.ccsl_vcd.specs.Rows.{complete, done, recorded, rows, rows_of}
+use Rattle.ccsl_vcd.specs.Rows.{recorded, rows, rows_of}
+use Rattle.ccsl_vcd.specs.Completed.{complete, done}
 use Rattle.ccsl_vcd.proofs.Decided.{story-more, decided-first}
 use Rattle.ccsl_vcd.proofs.RowLaws.{rows-all}
 use Rattle.ccsl_vcd_read.specs.declared.stage.Stage.{Stage}

@@ -5,7 +5,8 @@ use Rattle.std.proofs.lemmas.Bool.{lt-ltb}
 use Rattle.std.proofs.lemmas.Grind.{common_steps}
 use Rattle.std.proofs.Math.Seq.{take-append_seam}
 use Rattle.ccsl_base.specs.declared.rows.Row.{Row}
-use Rattle.ccsl_vcd_lex.specs.Tokens.{token, Heard as Said, word, too_long, tokens, settled, first_long}
+use Rattle.ccsl_vcd_lex.specs.Tokens.{token, Heard as Said, word, too_long, tokens, settled}
+use Rattle.ccsl_vcd_lex.specs.LongTokens.{first_long}
 use Rattle.ccsl_vcd_lex.specs.Lexing as lexer
 use Rattle.ccsl_vcd_read.specs.Passing.{Passing, Lexes}
 use Rattle.ccsl_vcd.specs.declared.fault.VcdFault.{VcdFault}
@@ -13,7 +14,7 @@ use Rattle.ccsl_vcd.specs.declared.fault.VcdFault.TheVariants as faults
 use Rattle.ccsl_vcd.specs.declared.limits.Limits.{Limits}
 use Rattle.ccsl_vcd.specs.Binding.{Wanted}
 use Rattle.ccsl_vcd.specs.Reading.{Story, next, says, story, so_far, reading, decides, or_else}
-use Rattle.ccsl_vcd.specs.Rows.{complete, done}
+use Rattle.ccsl_vcd.specs.Completed.{complete, done}
 use Rattle.ccsl_vcd.proofs.Decided.{story-more, so_far-further, so_far-stays}
 use Rattle.ccsl_vcd_read.specs.Heading.{Refuses}
 use Rattle.ccsl_vcd_read.specs.Staging.{is_body, shown, shown_at}

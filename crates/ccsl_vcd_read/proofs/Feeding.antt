@@ -10,7 +10,7 @@ use Rattle.ccsl_vcd.specs.declared.fault.VcdFault.TheVariants as faults
 use Rattle.ccsl_vcd.specs.declared.limits.Limits.{Limits}
 use Rattle.ccsl_vcd.specs.Binding.{Wanted}
 use Rattle.ccsl_vcd.specs.Reading.{so_far, reading}
-use Rattle.ccsl_vcd.specs.Rows.{done}
+use Rattle.ccsl_vcd.specs.Completed.{done}
 use Rattle.ccsl_vcd.proofs.Decided.{decided-first}
 use Rattle.ccsl_vcd_read.specs.Heading.{Caused}
 use Rattle.ccsl_vcd_read.specs.Reading.{Reading, Stopped, StandsFor, Pushes, Decides, EndsHeader, HeaderSo, past_header}

@@ -12,7 +12,7 @@ use Rattle.ccsl_vcd.specs.Binding.{Declaration, Wanted, bind}
 use Rattle.ccsl_vcd.specs.Places as p
 use Rattle.ccsl_vcd.specs.Header as d
 use Rattle.ccsl_vcd.specs.Reading.{Story, next, says, told}
-use Rattle.ccsl_bind.specs.Collected.{StandsFor}
+use Rattle.ccsl_bind.specs.Gathered.{StandsFor}
 use Rattle.ccsl_vcd_read.specs.declared.command.Command.{Command}
 use Rattle.ccsl_vcd_read.specs.declared.command.Command.TheVariants.{Between, Kind, Size, Code, Reference, More, Scope, Upscope, EndDefinitions, Other}
 use Rattle.ccsl_vcd_read.specs.declared.heading.Heading.{Heading}

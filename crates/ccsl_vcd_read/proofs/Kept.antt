@@ -5,7 +5,8 @@ use Rattle.std.specs.List.{list_all, AllByRecursion}
 use Rattle.std.proofs.lemmas.List.{take_more}
 use Rattle.std.proofs.lemmas.Bool.{and_parts, ne_eqb, ltb-true, eqb-true, cases_eq}
 use Rattle.ccsl_base.specs.declared.limits.TheConstants.{MAX_CLOCKS}
-use Rattle.ccsl_base.specs.Clocks.{ticks_in, with_clock, put_clock, difference, is_ascending, are_below}
+use Rattle.ccsl_base.specs.Clocks.{ticks_in, with_clock, is_ascending, are_below}
+use Rattle.ccsl_base.specs.Changes.{put_clock, difference}
 use Rattle.ccsl_base.proofs.Sets.{ticks_in-with_same, ticks_in-with_other, ticks_in-put_same, ticks_in-put_other, ticks_in-difference}
 use Rattle.ccsl_vcd_read.specs.declared.marks.Mark.{Mark}
 use Rattle.ccsl_vcd_read.specs.declared.users.Slot.{Slot}

@@ -20,3 +20,5 @@ pub mod Calm
 mod Faults
 pub mod Feeding
 pub mod Ending
+pub mod Filling
+pub mod Wanting

@@ -3,7 +3,8 @@ use Rattle.std.proofs.Common.{◌≡◌, ℕ, zero, suc, ◌+◌, ◌<◌, List,
 use Rattle.std.specs.List.{AllByRecursion}
 use Rattle.std.proofs.lemmas.List.{append-nil, map-append}
 use Rattle.std.proofs.lemmas.Bool.{lt-ltb, le-ltb, cases_lt}
-use Rattle.ccsl_vcd_lex.specs.Tokens.{is_white, Token, token, end_of, run, begins, tokens_from, tokens, closed, settled, heard, Heard, hear, word, too_long, is_long, first_long}
+use Rattle.ccsl_vcd_lex.specs.Tokens.{is_white, Token, token, end_of, run, begins, tokens_from, tokens, closed, settled, heard, Heard, hear, word, too_long, is_long}
+use Rattle.ccsl_vcd_lex.specs.LongTokens.{first_long}
 use Rattle.ccsl_vcd_lex.specs.Runs.{fresh_after}
 use Rattle.ccsl_vcd_lex.specs.Lexing.{Dark, Lexing, StandsFor, BreaksWithin}
 use Rattle.ccsl_vcd_lex.proofs.Cuts.{White, tokens-cut, closed-before, long-append, fresh-behind, from-behind}

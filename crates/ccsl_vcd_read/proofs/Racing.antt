@@ -2,14 +2,15 @@
 use Rattle.std.proofs.Common.{◌≡◌, ℕ, ◌+◌, ◌-◌, ◌≤◌, ◌<◌, List, [], ◌∷◌, ◌++◌, length, take, true, false, cond, Some, None, Result, Ok, Err, fold, map, get_or, refl, sym, ap, ap₂, ◌∙◌, subst, append_assoc, arith, length-append, length-take-le, zero-add}
 use Rattle.std.proofs.lemmas.List.{append-nil, take-take, take_more}
 use Rattle.ccsl_base.specs.declared.rows.Row.{Row}
-use Rattle.ccsl_vcd_lex.specs.Tokens.{is_white, Token, tokens_from, tokens, hear, word, too_long, settled, is_long, first_long}
+use Rattle.ccsl_vcd_lex.specs.Tokens.{is_white, Token, tokens_from, tokens, hear, word, too_long, settled, is_long}
+use Rattle.ccsl_vcd_lex.specs.LongTokens.{first_long}
 use Rattle.ccsl_vcd_lex.specs.Runs.{fresh_after}
 use Rattle.ccsl_vcd_lex.proofs.Cuts.{tokens-cut, ends-before, all-kept, long-append, fresh-behind}
 use Rattle.ccsl_vcd.specs.declared.fault.VcdFault.{VcdFault}
 use Rattle.ccsl_vcd.specs.declared.limits.Limits.{Limits}
 use Rattle.ccsl_vcd.specs.Binding.{Wanted}
 use Rattle.ccsl_vcd.specs.Reading.{Story, next, story}
-use Rattle.ccsl_vcd.specs.Rows.{complete, done}
+use Rattle.ccsl_vcd.specs.Completed.{complete, done}
 use Rattle.ccsl_vcd.proofs.Decided.{story-more}
 use Rattle.ccsl_vcd_read.specs.declared.body.Body.{Body}
 use Rattle.ccsl_vcd_read.specs.declared.stage.Stage.{Stage}
@@ -102,6 +103,14 @@ settles-run bytes part f g h = settled-at bytes part f ∙ ap (λ hs. hs ++ sett
 pub short-run : (bytes part : List ℕ) → fresh_after true bytes ≡ true → first_long (tokens bytes) ≡ None → first_long (tokens_from true (length bytes) part) ≡ None → first_long (tokens (bytes ++ part)) ≡ None
 short-run bytes part f n h =
     ap first_long (tokens-cut true 0 bytes part f ∙ ap (λ k. tokens bytes ++ tokens_from true k part) (zero-add (length bytes))) ∙ long-append (tokens bytes) (tokens_from true (length bytes) part) n ∙ h
+
+-- the rows that a part of a body completes
+pub part-rows : (wanted : Wanted) (v : Reading) (bytes part : List ℕ) (b c : Body) (x y : List Row) → Running wanted v bytes → v.stage ≡ stage.Body b → (r : Runs b c (length bytes) part x y) → fresh_after true bytes ≡ true
+    → complete (story wanted v.limits (settled (bytes ++ part))) ≡ complete (story wanted v.limits (settled bytes)) ++ r.pushed
+part-rows wanted v bytes part b c x y s e r f =
+    let shows : Shows b (story wanted v.limits (settled bytes)) = subst (λ (t : Stage). Rattle.ccsl_vcd_read.specs.Staging.Pictures wanted v.limits t (story wanted v.limits (settled bytes))) e s.pictures in
+    ap complete (ap (story wanted v.limits) (settles-run bytes part f r.fresh r.short) ∙ story-more wanted v.limits (settled bytes) (map word (tokens_from true (length bytes) part)))
+    ∙ (all-told wanted v.limits (tokens_from true (length bytes) part) b c (story wanted v.limits (settled bytes)) r.pushed shows r.hears).1
 
 -- A reader of a body goes on.
 pub record Races (wanted : Wanted) (v w : Reading) (bytes more : List ℕ) (before after : List Row) : Type 0 where

@@ -15,7 +15,8 @@ use Rattle.ccsl_vcd.specs.Header as d
 use Rattle.ccsl_vcd.specs.Words as w
 use Rattle.ccsl_vcd.specs.Body.{is_declared, changed, change_says, body_says}
 use Rattle.ccsl_vcd.specs.Reading.{says, Story, told, next_from, next, begin, story, decides, is_over, so_far, ends_at, reading}
-use Rattle.ccsl_vcd.specs.Rows.{put_time, times, row_at, rows, rows_of, has_ticks, now_at, bound_at, is_before, recorded, done}
+use Rattle.ccsl_vcd.specs.Rows.{put_time, times, row_at, rows, rows_of, has_ticks, bound_at, recorded}
+use Rattle.ccsl_vcd.specs.Completed.{now_at, is_before, done}
 use Rattle.ccsl_vcd_read.specs.Order.{ascend, AreInOrder}
 
 -- Changes whose times do not fall, up to a time.

@@ -1,11 +1,12 @@
 -- Tokens that are heard one after another.
 use Rattle.std.proofs.Common.{◌≡◌, ℕ, ◌+◌, ◌-◌, ◌≤◌, ◌<◌, List, [], ◌∷◌, ◌++◌, length, take, drop, get_or, Bool, true, false, not, Some, None, Result, Ok, Err, cond, zero, suc, nat_eq, ◌||◌, length-take-le, map, ◌⊎◌, inl, inr, fold, refl, sym, ap, ◌∙◌, subst, append_assoc, arith, length-append, length-drop}
 use Rattle.std.specs.List.{prefix_len}
-use Rattle.std.proofs.lemmas.List.{append-nil, take_more, drop-drop}
+use Rattle.std.proofs.lemmas.List.{append-nil, take-take, take_more, drop-drop}
 use Rattle.std.proofs.lemmas.Bool.{eqb-true}
 use Rattle.std.proofs.Math.Seq.{take-add}
 use Rattle.ccsl_base.specs.declared.rows.Row.{Row}
-use Rattle.ccsl_vcd_lex.specs.Tokens.{is_white, Token, token, tokens_from, first_long}
+use Rattle.ccsl_vcd_lex.specs.Tokens.{is_white, Token, token, tokens_from}
+use Rattle.ccsl_vcd_lex.specs.LongTokens.{first_long}
 use Rattle.ccsl_vcd_lex.specs.Runs.{fresh_after}
 use Rattle.ccsl_vcd_lex.specs.Lexing.{Dark, is_dark}
 use Rattle.ccsl_vcd_lex.proofs.Cuts.{tokens-cut, long-append, one-token, from-behind, fresh-behind}
@@ -19,7 +20,7 @@ use Rattle.ccsl_vcd_read.specs.declared.amid.Amid.{Amid}
 use Rattle.ccsl_vcd_read.specs.declared.amid.Amid.TheVariants.{Changes, Remark, Code, CodeSkipped}
 use Rattle.ccsl_vcd_read.specs.Meant.{amid_of}
 use Rattle.ccsl_vcd_read.specs.Marks.{put}
-use Rattle.ccsl_vcd_read.specs.Run.{behind, hear_next, hear_all, Runs}
+use Rattle.ccsl_vcd_read.specs.Run.{behind, hear_next, hear_all, Runs, Fills}
 use Rattle.ccsl_vcd_read.proofs.Passing.{fresh-append}
 use Rattle.ccsl_vcd_read.proofs.StagePictures.{room-left}
 
@@ -190,6 +191,32 @@ runs-before-end a b c at k piece rest x y z so on none_ =
     let same : n + k ≡ n = omega (arith, none_) in
     let fits : n ≤ length piece = omega arith in
     subst (λ i. Runs a c at (take i piece) x z) same (runs-on a b c at n k piece rest x y z fits so.rest so.runs on)
+
+pub runs-nothing : (b c : Body) (at k : ℕ) (rest : List ℕ) (y z : List Row) → Runs b c at (take k rest) y z → k ≡ 0 → length z ≡ length y
+runs-nothing b c at k rest y z r e =
+    let few : length r.pushed ≤ length (take k rest) = r.few in
+    let none : length (take k rest) ≡ 0 = ap (λ i. length (take i rest)) e in
+    omega (arith, few, none, ap length r.rows ∙ length-append y r.pushed)
+
+-- The next bytes, which end one token by their last, come behind bytes that left room.
+pub fills-last : (a b : Body) (at k : ℕ) (piece rest more : List ℕ) (x y : List Row) (room : ℕ) → RunsBefore a b at piece rest x y → k ≤ length rest → 0 < k → length y < room → Dark (take (k - 1) rest)
+    → more ≡ drop k rest → Fills a at (take (length piece - length more) piece) x room
+fills-last a b at k piece rest more x y room so within some left one cut =
+    let n : ℕ = length piece - length rest in
+    let len : length more ≡ length rest - k = ap length cut ∙ length-drop k rest in
+    let sum : n + k ≡ length piece - length more = omega (arith, so.fits, within, len) in
+    let size : length (take k rest) ≡ k = length-take-le k rest within in
+    record {
+      front = take n piece;
+      last = take k rest;
+      is = ap (λ i. take i piece) (sym sum) ∙ take-add n k piece ∙ ap (λ xs. take n piece ++ take k xs) (sym so.rest);
+      some = omega (arith, size, some);
+      mid = b;
+      rows = y;
+      runs = so.runs;
+      left = left;
+      one = subst Dark (sym (ap (λ i. take (i - 1) (take k rest)) size ∙ take-take (k - 1) k rest (omega arith))) one;
+    }
 
 -- where nothing was done
 pub runs-still : (b c : Body) (at : ℕ) (x y : List Row) → c ≡ b → y ≡ x → Runs b c at [] x y

@@ -12,7 +12,8 @@ use Rattle.ccsl_vcd.specs.Binding.{Wanted, bind}
 use Rattle.ccsl_vcd.specs.Places as p
 use Rattle.ccsl_vcd.specs.Header as d
 use Rattle.ccsl_vcd.specs.Reading.{Story, next, told}
-use Rattle.ccsl_vcd.specs.Rows.{complete, rows, has_ticks}
+use Rattle.ccsl_vcd.specs.Rows.{rows, has_ticks}
+use Rattle.ccsl_vcd.specs.Completed.{complete}
 use Rattle.ccsl_bind.specs.Codes.{number_of}
 use Rattle.ccsl_vcd_read.specs.declared.amid.Amid.{Amid}
 use Rattle.ccsl_vcd_read.specs.declared.amid.Amid.TheVariants.{Changes, Remark, Code, CodeSkipped}

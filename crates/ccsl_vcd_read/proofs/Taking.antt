@@ -3,13 +3,15 @@ use Rattle.std.proofs.Common.{◌≡◌, ℕ, ◌+◌, ◌-◌, ◌≤◌, ◌<�
 use Rattle.std.proofs.lemmas.List.{append-nil}
 use Rattle.std.proofs.lemmas.Bool.{le-ltb}
 use Rattle.ccsl_base.specs.declared.rows.Row.{Row}
-use Rattle.ccsl_vcd_lex.specs.Tokens.{token, Heard as Said, word, tokens, settled, first_long}
+use Rattle.ccsl_vcd_lex.specs.Tokens.{token, Heard as Said, word, tokens, settled}
+use Rattle.ccsl_vcd_lex.specs.LongTokens.{first_long}
 use Rattle.ccsl_vcd_read.specs.Passing.{Passing, Lexes}
 use Rattle.ccsl_vcd.specs.declared.fault.VcdFault.{VcdFault}
 use Rattle.ccsl_vcd.specs.declared.limits.Limits.{Limits}
 use Rattle.ccsl_vcd.specs.Binding.{Wanted}
 use Rattle.ccsl_vcd.specs.Reading.{Story, next, story, so_far}
-use Rattle.ccsl_vcd.specs.Rows.{complete, done, rows}
+use Rattle.ccsl_vcd.specs.Rows.{rows}
+use Rattle.ccsl_vcd.specs.Completed.{complete, done}
 use Rattle.ccsl_vcd.proofs.Decided.{story-more}
 use Rattle.ccsl_vcd_read.specs.declared.stage.Stage.{Stage}
 use Rattle.ccsl_vcd_read.specs.declared.stage.Stage.TheVariants as stage

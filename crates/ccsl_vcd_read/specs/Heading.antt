@@ -8,8 +8,8 @@ use Rattle.ccsl_vcd.specs.Binding.{Declaration, Wanted, bind}
 use Rattle.ccsl_vcd.specs.Places as p
 use Rattle.ccsl_vcd.specs.Header as d
 use Rattle.ccsl_vcd.specs.Reading.{Story, told}
-use Rattle.ccsl_vcd.specs.Rows.{complete}
-use Rattle.ccsl_bind.specs.Collected.{StandsFor}
+use Rattle.ccsl_vcd.specs.Completed.{complete}
+use Rattle.ccsl_bind.specs.Gathered.{StandsFor}
 use Rattle.ccsl_vcd_read.specs.declared.command.Command.{Command}
 use Rattle.ccsl_vcd_read.specs.declared.command.Command.TheVariants.{Between, Kind, Size, Code, Reference, More, Scope, Upscope, EndDefinitions, Other}
 use Rattle.ccsl_vcd_read.specs.declared.heading.Heading.{Heading}

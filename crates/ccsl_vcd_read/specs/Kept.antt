@@ -2,7 +2,8 @@
 use Rattle.std.specs.Prelude.{◌≡◌, ℕ, List, Bool, true, ◌==◌, if◌then◌else◌, fold, map, slice_get}
 use Rattle.std.specs.List.{AllByRecursion}
 use Rattle.ccsl_base.specs.declared.limits.TheConstants.{MAX_CLOCKS}
-use Rattle.ccsl_base.specs.Clocks.{ticks_in, with_clock, put_clock, is_ascending, are_below}
+use Rattle.ccsl_base.specs.Clocks.{ticks_in, with_clock, is_ascending, are_below}
+use Rattle.ccsl_base.specs.Changes.{put_clock}
 use Rattle.ccsl_vcd_read.specs.declared.marks.Mark.{Mark}
 use Rattle.ccsl_vcd_read.specs.declared.users.Slot.{Slot}
 use Rattle.ccsl_vcd_read.specs.declared.users.User.{User}

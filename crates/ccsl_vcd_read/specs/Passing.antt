@@ -1,6 +1,7 @@
 -- A tokenizer past which bytes were read.
 use Rattle.std.specs.Prelude.{◌≡◌, ℕ, ◌+◌, List, ◌++◌, length, true, None, replicate}
-use Rattle.ccsl_vcd_lex.specs.Tokens.{tokens, first_long}
+use Rattle.ccsl_vcd_lex.specs.Tokens.{tokens}
+use Rattle.ccsl_vcd_lex.specs.LongTokens.{first_long}
 use Rattle.ccsl_vcd_lex.specs.Runs.{fresh_after}
 use Rattle.ccsl_vcd_lex.specs.Lexing.{Lexing, StandsFor}
 

@@ -1,13 +1,16 @@
 -- What a reader stands for.
-use Rattle.std.specs.Prelude.{◌≡◌, ℕ, ◌≤◌, ◌<◌, List, ◌++◌, length, take, Bool, true, false, Option, Some, None, ◌-◌}
+use Rattle.std.specs.Prelude.{◌≡◌, ℕ, ◌≤◌, ◌<◌, List, ◌++◌, length, take, Bool, true, false, Option, Some, None, ◌+◌, ◌-◌}
+use Rattle.ccsl_base.specs.Rows.{RowList}
 use Rattle.ccsl_base.specs.declared.rows.Row.{Row}
-use Rattle.ccsl_vcd_lex.specs.Tokens.{tokens, settled, heard, first_long}
+use Rattle.ccsl_vcd_lex.specs.Tokens.{tokens, settled, heard}
+use Rattle.ccsl_vcd_lex.specs.LongTokens.{first_long}
 use Rattle.ccsl_vcd.specs.declared.fault.VcdFault.{VcdFault}
 use Rattle.ccsl_vcd.specs.declared.limits.Limits.{Limits}
 use Rattle.ccsl_vcd.specs.Binding.{Wanted}
 use Rattle.ccsl_vcd.specs.Places as p
 use Rattle.ccsl_vcd.specs.Reading.{story, so_far, reading}
-use Rattle.ccsl_vcd.specs.Rows.{complete, done, recorded}
+use Rattle.ccsl_vcd.specs.Rows.{recorded}
+use Rattle.ccsl_vcd.specs.Completed.{complete, done}
 use Rattle.ccsl_vcd_read.specs.declared.stage.Stage.{Stage}
 use Rattle.ccsl_vcd_read.specs.Heading.{Caused, NotMemory}
 use Rattle.ccsl_vcd_read.specs.Passing.{Passing, Lexes}
@@ -59,6 +62,17 @@ pub record Pushes (before after old new : List Row) : Type 0 where
   pub pushed : List Row
   pub rows : after ≡ before ++ pushed
   pub block : new ≡ old ++ pushed
+
+-- behind some more bytes a block still has room for a row
+abbrev pub HadRoom : Wanted → Limits → List ℕ → List ℕ → RowList → Type 0
+HadRoom wanted limits bytes more out =
+    length out.rows + length (done wanted limits (bytes ++ more)) < out.room + length (done wanted limits bytes)
+
+-- where the block is full, the last of the bytes that were taken filled it
+abbrev pub FilledByLast : Reading → List ℕ → ℕ → RowList → RowList → Type 0
+FilledByLast v piece n old new =
+    length new.rows ≡ new.room → (wanted : Wanted) (bytes : List ℕ) → StandsFor wanted v bytes →
+    HadRoom wanted v.limits bytes (take (n - 1) piece) old
 
 -- Some bytes from the front of a piece decide the fault. The rows that were pushed are those that they complete.
 pub record Decides (wanted : Wanted) (limits : Limits) (bytes piece : List ℕ) (f : VcdFault) (old new : List Row) : Type 0 where

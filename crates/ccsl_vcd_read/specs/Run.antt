@@ -1,10 +1,11 @@
 -- The tokens of some bytes of a body, heard one after another.
-use Rattle.std.specs.Prelude.{◌≡◌, ℕ, ◌≤◌, ◌<◌, List, [], ◌++◌, length, take, true, None, Result, Ok, Err, fold}
+use Rattle.std.specs.Prelude.{◌≡◌, ℕ, ◌≤◌, ◌<◌, ◌-◌, List, [], ◌++◌, length, take, true, None, Result, Ok, Err, fold}
 use Rattle.std.specs.List.{prefix_len}
 use Rattle.ccsl_base.specs.declared.rows.Row.{Row}
-use Rattle.ccsl_vcd_lex.specs.Tokens.{Token, tokens_from, first_long}
+use Rattle.ccsl_vcd_lex.specs.Tokens.{Token, tokens_from}
+use Rattle.ccsl_vcd_lex.specs.LongTokens.{first_long}
 use Rattle.ccsl_vcd_lex.specs.Runs.{fresh_after}
-use Rattle.ccsl_vcd_lex.specs.Lexing.{is_dark}
+use Rattle.ccsl_vcd_lex.specs.Lexing.{is_dark, Dark}
 use Rattle.ccsl_vcd.specs.declared.fault.VcdFault.{VcdFault}
 use Rattle.ccsl_vcd_read.specs.declared.body.Body.{Body}
 use Rattle.ccsl_vcd_read.specs.Step.{hear_of, Says}
@@ -46,3 +47,15 @@ pub record HearsFront (n : ℕ) (bytes : List ℕ) (old new : Body) (at : ℕ) (
 
 abbrev pub Front : Body → Body → ℕ → List ℕ → ℕ → List Row → List Row → Type 0
 Front old new at bytes n before after = (0 < n → HearsFront n bytes old new at before after) × (n ≡ 0 → (new ≡ old) × (after ≡ before))
+
+-- The last of some bytes fills a block: those from the front left room in it, and the others end no token before the last.
+pub record Fills (old : Body) (at : ℕ) (part : List ℕ) (before : List Row) (room : ℕ) : Type 0 where
+  pub front : List ℕ
+  pub last : List ℕ
+  pub is : part ≡ front ++ last
+  pub some : 0 < length last
+  pub mid : Body
+  pub rows : List Row
+  pub runs : Runs old mid at front before rows
+  pub left : length rows < room
+  pub one : Dark (take (length last - 1) last)

@@ -6,13 +6,13 @@ use Rattle.ccsl_vcd.specs.Binding.{Wanted}
 use Rattle.ccsl_vcd.specs.Places as p
 use Rattle.ccsl_vcd.specs.Reading.{Story, is_changes}
 use Rattle.ccsl_vcd_read.specs.Meant.{amid_of}
-use Rattle.ccsl_vcd.specs.Rows.{complete}
+use Rattle.ccsl_vcd.specs.Completed.{complete}
 use Rattle.ccsl_vcd_read.specs.declared.stage.Stage.{Stage}
 use Rattle.ccsl_vcd_read.specs.declared.stage.Stage.TheVariants.{Header, Body, Unbound}
 use Rattle.ccsl_vcd_read.specs.Heading.{HeadShows, Closes}
 use Rattle.ccsl_vcd_read.specs.Picture.{Shows}
 use Rattle.ccsl_vcd_read.specs.Step.{row_of}
-use Rattle.ccsl_vcd_read.specs.Run.{Runs}
+use Rattle.ccsl_vcd_read.specs.Run.{Runs, Fills}
 
 abbrev pub Pictures : Wanted → Limits → Stage → Story → Type 0
 Pictures wanted limits (Header h) st = HeadShows wanted limits h st
@@ -72,3 +72,8 @@ ends_well Unbound = false
 abbrev pub RunsIn : Stage → Stage → ℕ → List ℕ → List Row → List Row → Type 0
 RunsIn (Body b) (Body c) at part before after = Runs b c at part before after
 RunsIn old new at part before after = ⊥
+
+-- and the last of them fills the block
+abbrev pub FillsIn : Stage → ℕ → List ℕ → List Row → ℕ → Type 0
+FillsIn (Body b) at part before room = Fills b at part before room
+FillsIn old at part before room = ⊥

@@ -2,7 +2,7 @@
 
 ghost use Rattle.std.specs.Prelude.{◌≡◌, ◌<◌, ◌≤◌, ◌+◌, ◌-◌, ◌++◌, ◌^◌, length, take, [], Ok};
 ghost use Rattle.ccsl_vcd_read.specs.Step.{Says, row_of, time_says, changed_says, skipped_says, remark_says, word_says, hear_of};
-ghost use Rattle.ccsl_vcd_read.specs.Run.{Runs, Made, Front};
+ghost use Rattle.ccsl_vcd_read.specs.Run.{Runs, Made, Front, Fills};
 ghost use Rattle.ccsl_vcd_lex.specs.Lexing.{Dark};
 ghost use Rattle.ccsl_vcd.specs.Words.{dump, close};
 ghost use Rattle.ccsl_vcd_read.specs.Meant.{meant, rest_of};
@@ -323,6 +323,8 @@ impl Body {
         requires fits { at + length piece.now < 2 ^ 64 }
         ensures within { result ≤ length piece.now }
         ensures runs { Runs self.old self.new at (take result piece.now) out.old.rows out.new.rows }
+        ensures full { length out.new.rows ≡ out.new.room →
+            Fills self.old at (take result piece.now) out.old.rows out.old.room }
         ensures room { out.new.room ≡ out.old.room }
     {
         let mut rest = piece;

@@ -7,7 +7,7 @@ ghost use Rattle.ccsl_vcd.specs.Header.{header_word, end_command};
 ghost use Rattle.ccsl_vcd_lex.specs.Tokens.{token, word};
 ghost use Rattle.ccsl_vcd.specs.Binding.{Wanted, Declaration};
 ghost use Rattle.ccsl_vcd.specs.Reading.{Story, next};
-ghost use Rattle.ccsl_bind.specs.Collected.{StandsFor};
+ghost use Rattle.ccsl_bind.specs.Gathered.{StandsFor};
 ghost use Rattle.ccsl_vcd_read.specs.Meant.{header_meant};
 ghost use Rattle.ccsl_vcd_read.specs.Heading.{start_of, size_in, code_in, word_in, end_in, reference_in, Becomes, HeadShows, HeadGoes, Refuses, Caused, declared_in};
 

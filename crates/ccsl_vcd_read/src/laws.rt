@@ -3,7 +3,8 @@
 ghost use Rattle.std.specs.Prelude.{ℕ, List};
 ghost use Rattle.ccsl_vcd.specs.declared.limits.Limits.{Limits};
 ghost use Rattle.ccsl_vcd.specs.Binding.{Wanted};
-ghost use Rattle.ccsl_vcd.specs.Rows.{recorded, done};
+ghost use Rattle.ccsl_vcd.specs.Rows.{recorded};
+ghost use Rattle.ccsl_vcd.specs.Completed.{done};
 ghost use Rattle.ccsl_vcd_read.specs.Order.{AreInOrder};
 
 /// The rows of every text come in strictly ascending time, and each has a tick: those of a whole file, and those that its

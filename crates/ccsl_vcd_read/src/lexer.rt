@@ -1,7 +1,8 @@
 //! A tokenizer past which bytes may be read.
 
 ghost use Rattle.std.specs.Prelude.{◌≡◌, ℕ, List, [], ◌++◌, length, take, ◌+◌, ◌-◌, ◌<◌, ◌≤◌, ◌^◌, OnSome, IfOk, IfErr, None, true, map};
-ghost use Rattle.ccsl_vcd_lex.specs.Tokens.{tokens, heard, settled, first_long};
+ghost use Rattle.ccsl_vcd_lex.specs.Tokens.{tokens, heard, settled};
+ghost use Rattle.ccsl_vcd_lex.specs.LongTokens.{first_long};
 ghost use Rattle.ccsl_vcd_lex.specs.Runs.{fresh_after};
 ghost use Rattle.ccsl_vcd_lex.specs.Lexing.{BreaksWithin, named};
 ghost use Rattle.ccsl_vcd_read.specs.Passing.{Lexes};

@@ -3,7 +3,7 @@
 ghost use Rattle.std.specs.Prelude.{◌≡◌, ℕ, List, [], IfOk, IfErr, OnOk, IsTrue, map, Err};
 ghost use Rattle.ccsl_vcd.specs.Binding.{Declaration, Wanted, bind};
 ghost use Rattle.ccsl_bind.specs.Bindings.{are_declared};
-ghost use Rattle.ccsl_bind.specs.Collected.{StandsFor};
+ghost use Rattle.ccsl_bind.specs.Gathered.{StandsFor};
 ghost use Rattle.ccsl_vcd_read.specs.Heading.{Caused, IsMemory};
 ghost use Rattle.ccsl_vcd_read.specs.Marks.{mark_of};
 ghost use Rattle.ccsl_vcd_read.specs.Opening.{IsBeginning, IsOpened};

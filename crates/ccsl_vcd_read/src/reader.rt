@@ -5,11 +5,12 @@ ghost use Rattle.ccsl_vcd.specs.Binding.{Wanted};
 ghost use Rattle.std.specs.Option.{option_copied};
 ghost use Rattle.ccsl_vcd_lex.specs.Tokens.{token, word};
 ghost use Rattle.ccsl_vcd.specs.Reading.{so_far, reading, Story, next};
-ghost use Rattle.ccsl_vcd.specs.Rows.{complete, done, recorded};
+ghost use Rattle.ccsl_vcd.specs.Rows.{recorded};
+ghost use Rattle.ccsl_vcd.specs.Completed.{complete, done};
 ghost use Rattle.ccsl_bind.specs.Collected.{wanted_of};
-ghost use Rattle.ccsl_vcd_read.specs.Heading.{Caused, NotMemory, Refuses};
+ghost use Rattle.ccsl_vcd_read.specs.Heading.{Caused, IsMemory, NotMemory, Refuses};
 ghost use Rattle.ccsl_vcd_read.specs.Staging.{Pictures, Heard, is_body, row_left, shown, shown_at};
-ghost use Rattle.ccsl_vcd_read.specs.Reading.{StandsFor, Pushes, Decides, HeaderSo, past_header, IsCalm, IsFront, IsCut, shows, AtEnd, Refused, AreCounts};
+ghost use Rattle.ccsl_vcd_read.specs.Reading.{StandsFor, Pushes, Decides, HeaderSo, past_header, IsCalm, IsFront, IsCut, shows, AtEnd, Refused, AreCounts, FilledByLast};
 
 use crate::buffer::Buffer;
 use crate::command::Command;
@@ -179,6 +180,8 @@ impl Reader {
         ensures calm { IfErr result (λ f. is_body self.old.stage ≡ true → NotMemory f) }
         ensures still { OnErr result ((wanted : Wanted) (bytes : List ℕ) → StandsFor wanted self.old bytes →
             StandsFor wanted self.new (bytes ++ piece.now)) }
+        ensures kept { OnErr result ((out.new ≡ out.old) × (shown self.new.stage ≡ shown self.old.stage)) }
+        ensures filled { IfOk result (λ t. FilledByLast self.old piece.now t.bytes out.old out.new) }
     {
         let left = self.limits.bytes - self.taken;
         if left == 0 {
@@ -222,6 +225,7 @@ impl Reader {
             Pushes (done wanted self.old.limits bytes) (done wanted self.old.limits (bytes ++ take result piece.now)) out.old.rows out.new.rows }
         ensures header { (wanted : Wanted) (bytes : List ℕ) → StandsFor wanted self.old bytes →
             past_header wanted self.old.limits (bytes ++ take result piece.now) ≡ past_header wanted self.old.limits bytes }
+        ensures filled { FilledByLast self.old piece.now result out.old out.new }
     {
         if !is_body(&self.stage) {
             return 0;
@@ -258,6 +262,8 @@ impl Reader {
         ensures calm { IfErr result (λ f. is_body self.old.stage ≡ true → NotMemory f) }
         ensures still { OnErr result ((wanted : Wanted) (bytes : List ℕ) → StandsFor wanted self.old bytes →
             StandsFor wanted self.new (bytes ++ piece.now)) }
+        ensures kept { OnErr result ((out.new ≡ out.old) × (shown self.new.stage ≡ shown self.old.stage)) }
+        ensures filled { IfOk result (λ t. FilledByLast self.old piece.now t.bytes out.old out.new) }
     {
         let step = match self.advance(piece, out) {
             Ok(step) => step,
@@ -285,6 +291,8 @@ impl Reader {
         // It stops only at the end of the piece, where the block is full, or where the header ended.
         ensures stops { IfOk result (λ t. t.bytes < length piece.now →
             (length out.new.rows ≡ out.new.room) ⊎ (t.header_ended ≡ true)) }
+        // Where the block is full, the last byte that was taken filled it.
+        ensures filled { IfOk result (λ t. FilledByLast self.old piece.now t.bytes out.old out.new) }
 
         ensures stands { IfOk result (λ t. (wanted : Wanted) (bytes : List ℕ) → StandsFor wanted self.old bytes →
             StandsFor wanted self.new (bytes ++ take t.bytes piece.now)) }
@@ -305,6 +313,9 @@ impl Reader {
         ensures calm { IfErr result (λ f. IfNone self.old.fault ((wanted : Wanted) (bytes : List ℕ) → StandsFor wanted self.old bytes →
             IsCalm wanted self.old.limits bytes f)) }
         ensures faulty { IfErr result (λ f. self.new.fault ≡ Some f) }
+        // Where memory is wanted no row was pushed, and no clock is bound.
+        ensures unpushed { IfErr result (λ f. IsMemory f → out.new ≡ out.old) }
+        ensures unbound { IfErr result (λ f. IsMemory f → IfNone self.old.fault (shows self.new ≡ None)) }
         ensures still { OnErr result ((wanted : Wanted) (bytes : List ℕ) → StandsFor wanted self.old bytes →
             StandsFor wanted self.new (bytes ++ piece.now)) }
         // After a fault it answers that fault, and does nothing.
@@ -349,7 +360,7 @@ impl Reader {
             Refused wanted self.old bytes f)) }
         ensures stops { IfErr result (λ f. self.new.fault ≡ Some f) }
         ensures calm { IfErr result (λ f. is_body self.old.stage ≡ true → NotMemory f) }
-        ensures kept { OnErr result (out.new ≡ out.old) }
+        ensures kept { OnErr result ((out.new ≡ out.old) × (shown self.new.stage ≡ shown self.old.stage)) }
         ensures room { out.new.room ≡ out.old.room }
     {
         match self.lexer.finish() {
@@ -385,6 +396,9 @@ impl Reader {
         ensures calm { IfErr result (λ f. IfNone self.old.fault ((wanted : Wanted) (bytes : List ℕ) → StandsFor wanted self.old bytes →
             IsCalm wanted self.old.limits bytes f)) }
         ensures faulty { IfErr result (λ f. self.new.fault ≡ Some f) }
+        // Where memory is wanted no row was pushed, and no clock is bound.
+        ensures unpushed { IfErr result (λ f. IsMemory f → out.new ≡ out.old) }
+        ensures unbound { IfErr result (λ f. IsMemory f → IfNone self.old.fault (shows self.new ≡ None)) }
         ensures sticks { IfSome self.old.fault (λ f. (result ≡ Err f) × (self.new ≡ self.old) × (out.new ≡ out.old)) }
     {
         if let Some(fault) = self.fault {

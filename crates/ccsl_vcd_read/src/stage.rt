@@ -6,7 +6,7 @@ ghost use Rattle.ccsl_vcd_lex.specs.Tokens.{token, word};
 ghost use Rattle.ccsl_vcd.specs.Binding.{Wanted};
 ghost use Rattle.ccsl_vcd.specs.Reading.{Story, next};
 ghost use Rattle.ccsl_vcd_read.specs.Heading.{Refuses, Caused, NotMemory};
-ghost use Rattle.ccsl_vcd_read.specs.Staging.{Pictures, Heard, IsClosing, Begins, row_left, shown, ends_well, is_body, RunsIn};
+ghost use Rattle.ccsl_vcd_read.specs.Staging.{Pictures, Heard, IsClosing, Begins, row_left, shown, ends_well, is_body, RunsIn, FillsIn};
 
 use crate::body::{Body, give};
 use crate::heading::Heading;
@@ -100,6 +100,8 @@ pub(crate) fn run(stage: &mut Stage, at: u64, piece: &[u8], out: &mut Block) -> 
     requires fits { at + length piece.now < 2 ^ 64 }
     ensures within { result ≤ length piece.now }
     ensures runs { RunsIn stage.old stage.new at (take result piece.now) out.old.rows out.new.rows }
+    ensures full { length out.new.rows ≡ out.new.room →
+        FillsIn stage.old at (take result piece.now) out.old.rows out.old.room }
     ensures room { out.new.room ≡ out.old.room }
 {
     match stage {

@@ -1,6 +1,7 @@
 -- What the loops of a caller keep.
 use Rattle.std.proofs.Common.{◌≡◌, ℕ, ◌+◌, ◌≤◌, ◌<◌, ◌^◌, None, List, [], ◌++◌, length, refl, arith, length-append}
-use Rattle.ccsl_vcd_lex.specs.Tokens.{tokens, tokens_from, first_long}
+use Rattle.ccsl_vcd_lex.specs.Tokens.{tokens, tokens_from}
+use Rattle.ccsl_vcd_lex.specs.LongTokens.{first_long}
 use Rattle.ccsl_vcd_lex.specs.Lexing.{Lexing, StandsFor}
 
 -- no token was too long, and so many bytes may still come

@@ -3,7 +3,8 @@ use Rattle.std.proofs.Common.{◌≡◌, ℕ, ◌+◌, ◌≤◌, ◌<◌, List,
 use Rattle.std.specs.List.{list_all}
 use Rattle.std.proofs.lemmas.Bool.{and_parts, le-leb, lt-leb}
 use Rattle.std.proofs.lemmas.Grind.{common_steps}
-use Rattle.ccsl_base.specs.Name.{is_letter, is_inner, is_word}
+use Rattle.ccsl_base.specs.Name.{is_word}
+use Rattle.ccsl_base.specs.Letters.{is_letter, is_inner}
 use Rattle.ccsl_vcd_lex.specs.Tokens.{Token, token, word}
 use Rattle.ccsl_vcd.specs.declared.limits.Limits.{Limits}
 use Rattle.ccsl_vcd.specs.declared.fault.VcdFault.TheVariants as faults

@@ -8,8 +8,9 @@ use Rattle.std.proofs.lemmas.Grind.{common_steps}
 use Rattle.std.proofs.lemmas.List.{map-append}
 use Rattle.std.proofs.lemmas.List.Folds.{list_all-append}
 use Rattle.std.proofs.lemmas.Str.Parse.{digit_from_value}
-use Rattle.ccsl_base.specs.Name.{is_visible, is_letter, is_inner, is_word, is_name}
-use Rattle.ccsl_base.specs.ReservedWords.{is_reserved}
+use Rattle.ccsl_base.specs.Name.{is_visible, is_word, is_name}
+use Rattle.ccsl_base.specs.Letters.{is_letter, is_inner}
+use Rattle.ccsl_base.specs.KeptWords.{is_reserved}
 use Rattle.ccsl_kernel.specs.Syntax.{System}
 use Rattle.ccsl_vcd_write.specs.Code.{code_of}
 use Rattle.ccsl_vcd_write.specs.Text.{text_of, var_line, var_lines, written_names, header_lines, written_part, tick_line, steps_text, vcd_text}

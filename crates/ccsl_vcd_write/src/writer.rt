@@ -121,6 +121,8 @@ fn make_room(ticks: &ClockSet, system: &System, out: &mut Vec<u8>) -> Result<(),
     ensures room { OnOk result (vec_len out.new + step_room (written_part system.now ticks.now) ≤
         vec_capacity out.new) }
     ensures full { OnErr result (vec_capacity out.old < vec_len out.old + step_room ticks.now) }
+    ensures kept { vec_len out.old + (MOST_TIME_BYTES + MOST_TICK_BYTES * system.now.written) ≤
+        vec_capacity out.old → vec_capacity out.new ≡ vec_capacity out.old }
 {
     let enough = MOST_TIME_BYTES + MOST_TICK_BYTES * system.written() as usize;
     if out.capacity() - out.len() < enough {
@@ -129,12 +131,15 @@ fn make_room(ticks: &ClockSet, system: &System, out: &mut Vec<u8>) -> Result<(),
     Ok(())
 }
 
-/// Appends the text of step `k`: its time, and a line for each clock below `written` that ticks. Where `out` has room no memory
-/// is taken. After `Memory` nothing is appended.
+/// Appends the text of step `k`: its time, and a line for each clock below `written` that ticks. That no memory is taken where
+/// there is room for the step, but not for all written clocks, is code, no clause.
 pub fn step(k: u64, ticks: &ClockSet, system: &System, out: &mut Vec<u8>) -> Result<(), Memory>
     ensures text { OnOk result (out.new.items ≡ out.old.items ++ step_text k system.now ticks.now) }
     ensures same { OnErr result (out.new.items ≡ out.old.items) }
     ensures room { OnErr result (vec_capacity out.old < vec_len out.old + step_room ticks.now) }
+    // Where there is room for all written clocks no memory is taken.
+    ensures kept { vec_len out.old + (MOST_TIME_BYTES + MOST_TICK_BYTES * system.now.written) ≤
+        vec_capacity out.old → vec_capacity out.new ≡ vec_capacity out.old }
 {
     let members = ticks.members();
     make_room(ticks, system, out)?;

@@ -2,7 +2,8 @@
 use Rattle.std.proofs.Common.{◌≡◌, ℕ, suc, ◌+◌, ◌<◌, ◌≤◌, List, [], ◌∷◌, ◌++◌, length, take, Bool, true, false, refl, sym, ap, ap₂, ◌∙◌, subst, inl, inr, cond, append_assoc, length-append, arith}
 use Rattle.std.proofs.lemmas.List.{take_at, append-nil, length-map, length_push, map_push}
 use Rattle.ccsl_words.specs.declared.fault.WordFault.TheVariants as fault
-use Rattle.ccsl_words.specs.Spelling.{digit, digits, is_digit, Reads}
+use Rattle.ccsl_words.specs.Spelling.{digit, digits, is_digit}
+use Rattle.ccsl_words.specs.Reads.{Reads}
 use Rattle.ccsl_words.specs.Fault.{CanGoOn, EndsWithoutPeriod, letter_count, IsReadTo, PassesLimitAt, IsFault}
 use Rattle.ccsl_words.proofs.Splits.{split_unique, is_digit-digit, digit_is_not}
 use Rattle.ccsl_words.proofs.Fronts.{front_goes_on, letter_count-append, letters_go_on, inside_goes_on, closed_goes_on, stray_in_prefix, stray_in_period, stray_behind, letter_count-digits, letter_count-inside, letter_count-closed}

@@ -2,7 +2,9 @@
 use Rattle.std.proofs.Common.{◌≡◌, ◌≢◌, ℕ, zero, suc, ◌+◌, ◌-◌, ◌%◌, ◌<◌, ◌≤◌, ⊎_elim, length, List, [], ◌∷◌, get_or, Bool, true, false, ◌&&◌, cond, refl, sym, ap, ap₂, ◌∙◌, arith, nat_le, nat_lt, nat_eq, le-leb, eq-eqb}
 use Rattle.std.proofs.lemmas.Bool.{cases_Bool, cases_lt, cases_eq, lt-leb, ne_eqb, le-ltb, false≢true}
 use Rattle.std.proofs.Math.Nat.{add-mod_left}
-use Rattle.ccsl_words.specs.Word.{BinaryWord, letter, rest, is_finite, is_empty, word_len, offset_at, has_ended}
+use Rattle.ccsl_words.specs.Word.{BinaryWord, letter, rest, is_finite, word_len, has_ended}
+use Rattle.ccsl_base.specs.Empty.{is_empty}
+use Rattle.ccsl_words.specs.Offsets.{offset_at}
 
 letter_cases : (w : BinaryWord) (k : ℕ) (within fin : Bool) → nat_lt k (length w.prefix) ≡ within → is_finite w ≡ fin →
     letter w k ≡ cond within (get_or w.prefix k false) (cond fin false (get_or w.period ((k - length w.prefix) % length w.period) false))

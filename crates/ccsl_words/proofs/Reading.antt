@@ -6,8 +6,10 @@ use Rattle.std.proofs.lemmas.List.Sums.{take_while-cons}
 use Rattle.std.specs.Prelude.{bytes_eq, codes, IfOk, IfErr}
 use Rattle.ccsl_words.specs.declared.fault.WordFault.{WordFault}
 use Rattle.ccsl_words.specs.declared.fault.WordFault.TheVariants as fault
-use Rattle.ccsl_words.specs.Word.{BinaryWord, word_len, is_empty}
-use Rattle.ccsl_words.specs.Spelling.{digit, digits, period_text, spelling, is_digit, Reads, leading_letters, behind_letters, short_word, word_closed, word_with, read_word}
+use Rattle.ccsl_words.specs.Word.{BinaryWord, word_len}
+use Rattle.ccsl_base.specs.Empty.{is_empty}
+use Rattle.ccsl_words.specs.Spelling.{digit, digits, period_text, spelling, is_digit, leading_letters, behind_letters, short_word, word_closed, word_with, read_word}
+use Rattle.ccsl_words.specs.Reads.{Reads}
 use Rattle.ccsl_words.specs.Fault.{IsFault}
 use Rattle.ccsl_words.specs.Front.{begins_with_letter, LeadsWith}
 use Rattle.ccsl_words.specs.Verdict.{IsVerdict}

@@ -4,7 +4,8 @@ use Rattle.std.proofs.lemmas.Bool.{eqb-true, eqb-false, eq-eqb, false≢true}
 use Rattle.std.proofs.lemmas.List.{append-nil, nil_from_length, take_rest}
 use lib.Pointwise.{pointwise}
 use Rattle.ccsl_words.specs.declared.fault.WordFault.TheVariants as fault
-use Rattle.ccsl_words.specs.Spelling.{digits, Reads}
+use Rattle.ccsl_words.specs.Spelling.{digits}
+use Rattle.ccsl_words.specs.Reads.{Reads}
 use Rattle.ccsl_words.specs.Front.{begins_with_letter, LeadsWith, HasLetters}
 use Rattle.ccsl_words.specs.Fault.{IsFault}
 use Rattle.ccsl_words.proofs.Faults.{stray_after_letters, limit_in_prefix, limit_in_period, empty_period, stray_inside, ends_inside, stray_behind_period, finite_reads, periodic_reads}

@@ -6,7 +6,8 @@ use Rattle.std.proofs.lemmas.List.Sums.{sum_by-take-le}
 use Rattle.ccsl_words.specs.declared.fault.WordFault.{WordFault}
 use Rattle.ccsl_words.specs.declared.fault.WordFault.TheVariants as fault
 use Rattle.ccsl_words.specs.Word.{BinaryWord, word_len}
-use Rattle.ccsl_words.specs.Spelling.{digits, spelling, is_digit, Reads}
+use Rattle.ccsl_words.specs.Spelling.{digits, spelling, is_digit}
+use Rattle.ccsl_words.specs.Reads.{Reads}
 use Rattle.ccsl_words.specs.Fault.{CanGoOn, EndsWithoutPeriod, EndsInsidePeriod, letter_count, IsReadTo, ClosesEmptyAt, PassesLimitAt, StrayAt, EndsAt, IsFault}
 use Rattle.ccsl_words.specs.Verdict.{IsVerdict}
 use Rattle.ccsl_words.proofs.Splits.{spelling_apart}

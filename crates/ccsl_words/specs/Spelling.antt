@@ -1,7 +1,8 @@
 -- The texts of binary words: letters 0 and 1, and then nothing or a period of at least one letter in parentheses, as 0110, 01(10) and (1).
-use Rattle.std.specs.Prelude.{◌≡◌, ℕ, ◌<◌, ◌≤◌, List, [], ◌∷◌, ◌++◌, map, drop, take_while, length, codes, Bool, true, false, ◌||◌, not, ◌&&◌, nat_eq, nat_le, bytes_eq, Option, Some, None, if◌then◌else◌}
+use Rattle.std.specs.Prelude.{ℕ, List, [], ◌∷◌, ◌++◌, map, drop, take_while, length, codes, Bool, true, false, ◌||◌, not, ◌&&◌, nat_eq, nat_le, bytes_eq, Option, Some, None, if◌then◌else◌}
 use Rattle.ccsl_base.specs.declared.limits.TheConstants.{MAX_LETTERS}
-use Rattle.ccsl_words.specs.Word.{BinaryWord, is_empty, word_len}
+use Rattle.ccsl_words.specs.Word.{BinaryWord, word_len}
+use Rattle.ccsl_base.specs.Empty.{is_empty}
 
 -- the byte of a letter
 abbrev pub digit : Bool → ℕ
@@ -18,12 +19,6 @@ period_text (x ∷ xs) = codes "(" ++ digits (x ∷ xs) ++ codes ")"
 
 abbrev pub spelling : BinaryWord → List ℕ
 spelling w = digits w.prefix ++ period_text w.period
-
--- the text reads as the word: it is its spelling, and the word has at least one letter and at most MAX_LETTERS
-pub record Reads (text : List ℕ) (w : BinaryWord) : Type 0 where
-  pub spelled : text ≡ spelling w
-  pub some_letter : 0 < word_len w
-  pub few_letters : word_len w ≤ MAX_LETTERS
 
 -- The word that a text reads as, if there is one, computed from the text.
 

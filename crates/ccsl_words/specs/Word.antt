@@ -1,15 +1,12 @@
 -- Binary words: finite, as 0110, or ultimately periodic, as 01(10), a prefix and then a period for ever.
 -- Their letters say which ticks of a clock a filter lets through (CCSL, MARTE Annex C; INRIA RR-6925).
-use Rattle.std.specs.Prelude.{ℕ, zero, suc, ◌+◌, ◌-◌, ◌%◌, List, [], ◌∷◌, Bool, true, false, ◌&&◌, length, slice_index_or, nat_lt, nat_le, nat_eq, if◌then◌else◌}
+use Rattle.std.specs.Prelude.{ℕ, ◌+◌, ◌-◌, ◌%◌, List, Bool, false, ◌&&◌, length, slice_index_or, nat_lt, nat_le, nat_eq, if◌then◌else◌}
+use Rattle.ccsl_base.specs.Empty.{is_empty}
 
 -- the letters of the prefix and those of the period, a 1 as true; a finite word has an empty period
 pub record BinaryWord : Type 0 where
   pub prefix : List Bool
   pub period : List Bool
-
-abbrev pub is_empty : List Bool → Bool
-is_empty [] = true
-is_empty (x ∷ xs) = false
 
 abbrev pub is_finite : BinaryWord → Bool
 is_finite w = is_empty w.period
@@ -35,8 +32,3 @@ rest w o =
 -- whether the offset is the end of a finite word
 abbrev pub has_ended : BinaryWord → ℕ → Bool
 has_ended w o = is_finite w && nat_eq o (length w.prefix)
-
--- the offset after n letters
-abbrev pub offset_at : BinaryWord → ℕ → ℕ
-offset_at w zero = 0
-offset_at w (suc n) = rest w (offset_at w n)

@@ -2,8 +2,10 @@
 
 ghost use Rattle.std.specs.Prelude.{◌≡◌, ℕ, ◌+◌, ◌<◌, ◌≤◌, ◌↔◌, List, Result, Ok, Some, false, true, length};
 ghost use Rattle.ccsl_words.specs.declared.fault.WordFault.{WordFault};
-ghost use Rattle.ccsl_words.specs.Word.{BinaryWord, is_finite, word_len, letter, rest, offset_at, has_ended};
-ghost use Rattle.ccsl_words.specs.Spelling.{spelling, read_word, Reads};
+ghost use Rattle.ccsl_words.specs.Word.{BinaryWord, is_finite, word_len, letter, rest, has_ended};
+ghost use Rattle.ccsl_words.specs.Offsets.{offset_at};
+ghost use Rattle.ccsl_words.specs.Spelling.{spelling, read_word};
+ghost use Rattle.ccsl_words.specs.Reads.{Reads};
 ghost use Rattle.ccsl_words.specs.Verdict.{IsVerdict};
 
 use ccsl_base::MAX_LETTERS;

@@ -2,7 +2,8 @@
 
 ghost use Rattle.std.specs.Prelude.{◌≡◌, ◌<◌, ◌≤◌, ◌↔◌, ◌≢◌, IfOk, IfErr, Some, None, vec_len, ◌++◌, ◌∷◌};
 ghost use Rattle.ccsl_words.specs.Word.{letter, rest, is_finite, word_len};
-ghost use Rattle.ccsl_words.specs.Spelling.{Reads, read_word, digits};
+ghost use Rattle.ccsl_words.specs.Spelling.{read_word, digits};
+ghost use Rattle.ccsl_words.specs.Reads.{Reads};
 ghost use Rattle.ccsl_words.specs.Fault.{IsFault};
 
 use crate::fault::WordFault;

@@ -1,10 +1,13 @@
 //! A system whose files read short and fail in mid-stream, for tests of the real files' world.
 
+use ccsl_edge::Close;
 use std::alloc::Allocator;
+use std::cell::Cell;
 use std::fmt::Display;
 use std::fs::{Metadata, OpenFile, OpenOptions};
 use std::io;
 use std::io::{BufRead, Input, Print, Read, Seek, SeekFrom, Write};
+use std::random::RandomSource;
 use std::rt::Files;
 
 /// A file of so many bytes, of which the one at a place is that place modulo 251. It moves at most `piece` bytes in a
@@ -15,6 +18,7 @@ pub struct FakeFile {
     pub piece: usize,
     pub fails_at: usize,
     pub flush_fails: bool,
+    pub close_fails: bool,
     pub moved: usize,
 }
 
@@ -64,6 +68,15 @@ impl Write for FakeFile {
     }
 }
 
+impl Close for FakeFile {
+    fn close(self) -> io::Result<()> {
+        if self.close_fails {
+            return Err(broken());
+        }
+        Ok(())
+    }
+}
+
 impl Seek for FakeFile {
     fn seek(&mut self, _to: SeekFrom) -> io::Result<u64> {
         Err(unsupported())
@@ -72,7 +85,7 @@ impl Seek for FakeFile {
 
 impl OpenFile for FakeFile {
     fn metadata(&self) -> io::Result<Metadata> {
-        Err(unsupported())
+        Ok(Metadata::of_file(0))
     }
 
     fn set_len(&self, _size: u64) -> io::Result<()> {
@@ -88,11 +101,60 @@ impl OpenFile for FakeFile {
     }
 }
 
+/// How many new files were made, put in place and removed.
+#[derive(Clone, Copy, Debug, Default, PartialEq, Eq)]
+pub struct Moves {
+    pub made: u32,
+    pub put: u32,
+    pub removed: u32,
+}
+
 /// A system that opens one file under every name, and takes what is printed unless it is broken.
 #[derive(Drop)]
 pub struct FakeSystem {
     pub file: FakeFile,
     pub is_broken: bool,
+    /// Whether a file stands under the name of an output.
+    pub has_old: bool,
+    /// How many of the next new files have a name that is taken.
+    pub taken: Cell<u32>,
+    pub rename_fails: bool,
+    pub moves: Cell<Moves>,
+}
+
+impl FakeSystem {
+    /// A system over this file, under whose outputs no file stands yet.
+    pub fn of(file: FakeFile, is_broken: bool) -> FakeSystem {
+        FakeSystem {
+            file,
+            is_broken,
+            has_old: false,
+            taken: Cell::new(0),
+            rename_fails: false,
+            moves: Cell::new(Moves::default()),
+        }
+    }
+
+    fn make_new(&self) -> io::Result<FakeFile> {
+        let taken = self.taken.get();
+        if taken > 0 {
+            self.taken.set(taken - 1);
+            return Err(io::Error::from(io::ErrorKind::AlreadyExists));
+        }
+        let moves = self.moves.get();
+        self.moves.set(Moves {
+            made: moves.made.saturating_add(1),
+            ..moves
+        });
+        Ok(self.file)
+    }
+
+    fn found(&self) -> io::Result<Metadata> {
+        if !self.has_old {
+            return Err(io::Error::from(io::ErrorKind::NotFound));
+        }
+        Ok(Metadata::of_file(0))
+    }
 }
 
 impl Files for FakeSystem {
@@ -100,7 +162,14 @@ impl Files for FakeSystem {
 
     type Dir = FakeFile;
 
-    fn open_file(&self, _how: &OpenOptions, _path: &str) -> io::Result<FakeFile> {
+    fn open_file(&self, how: &OpenOptions, _path: &str) -> io::Result<FakeFile> {
+        how.check()?;
+        if how.asks_create_new() {
+            return self.make_new();
+        }
+        if how.asks_append() {
+            self.found()?;
+        }
         Ok(self.file)
     }
 
@@ -108,12 +177,15 @@ impl Files for FakeSystem {
         Err(unsupported())
     }
 
-    fn metadata(&self, _path: &str) -> io::Result<Metadata> {
-        Err(unsupported())
+    fn metadata(&self, path: &str) -> io::Result<Metadata> {
+        if path != "." {
+            return Err(unsupported());
+        }
+        Ok(Metadata::of_dir())
     }
 
     fn symlink_metadata(&self, _path: &str) -> io::Result<Metadata> {
-        Err(unsupported())
+        self.found()
     }
 
     fn copy(&self, _from: &str, _to: &str) -> io::Result<u64> {
@@ -121,11 +193,24 @@ impl Files for FakeSystem {
     }
 
     fn rename(&self, _from: &str, _to: &str) -> io::Result<()> {
-        Err(unsupported())
+        if self.rename_fails {
+            return Err(unsupported());
+        }
+        let moves = self.moves.get();
+        self.moves.set(Moves {
+            put: moves.put.saturating_add(1),
+            ..moves
+        });
+        Ok(())
     }
 
     fn remove_file(&self, _path: &str) -> io::Result<()> {
-        Err(unsupported())
+        let moves = self.moves.get();
+        self.moves.set(Moves {
+            removed: moves.removed.saturating_add(1),
+            ..moves
+        });
+        Ok(())
     }
 
     fn create_dir(&self, _path: &str) -> io::Result<()> {
@@ -138,6 +223,12 @@ impl Files for FakeSystem {
 
     fn remove_dir_all<B: Allocator>(&self, _alloc: B, _path: &str) -> io::Result<()> {
         Err(unsupported())
+    }
+}
+
+impl RandomSource for FakeSystem {
+    fn fill_bytes(&self, _buf: &mut [u8]) -> io::Result<()> {
+        Ok(())
     }
 }
 

@@ -75,12 +75,12 @@ fn worlds_may_be_shared_by_threads(rt: HostRuntime) -> Result<(), Fail> {
     may_be_shared(&SteadyWorld::new(Vec::new(rt.alloc()), 1));
     let (files, failing) = (Vec::new(rt.alloc()), Vec::new(rt.alloc()));
     may_be_shared(&MemoryWorld::new(rt.alloc(), files, failing, 1));
-    may_be_shared(&FileWorld::new(&rt));
+    may_be_shared(&FileWorld::new(&rt, rt.alloc()));
     Ok(())
 }
 
 fn write_anew(rt: &HostRuntime, path: &str, text: &str) -> Result<(), Failed> {
-    let mut world = FileWorld::new(rt);
+    let mut world = FileWorld::new(rt, rt.alloc());
     world.open_out(Slot::TraceOut, path)?;
     write_all(&mut world, Slot::TraceOut, text.as_bytes())?;
     world.close_out(Slot::TraceOut)
@@ -88,7 +88,7 @@ fn write_anew(rt: &HostRuntime, path: &str, text: &str) -> Result<(), Failed> {
 
 /// How much is read of a file of at most 15 bytes.
 fn read_of(rt: &HostRuntime, path: &str) -> Result<usize, ReadFault> {
-    let mut world = FileWorld::new(rt);
+    let mut world = FileWorld::new(rt, rt.alloc());
     world.open_in(Slot::Trace, path)?;
     read_all(rt.alloc(), &mut world, Slot::Trace, 15).map(|all| all.len())
 }
@@ -116,5 +116,40 @@ fn real_files_hold_what_was_written(rt: HostRuntime) -> Result<(), Fail> {
     assert!(rt; texts_are_kept(&rt, path.as_str()));
     assert!(rt; fs::remove_file(&rt, path.as_str()).is_ok());
     assert_eq!(rt; read_of(&rt, path.as_str()), Err(ReadFault::Fault));
+    Ok(())
+}
+
+/// Whether the file of the first name, which is read, and the second name, which is written, can be opened under two more names.
+fn opens_twice(rt: &HostRuntime, names: [&str; 4]) -> (bool, bool) {
+    let [read, written, read_again, written_again] = names;
+    let mut world = FileWorld::new(rt, rt.alloc());
+    let _ = world.open_in(Slot::Spec, read);
+    let _ = world.open_out(Slot::TraceOut, written);
+    (
+        world.open_out(Slot::CertOut, read_again).is_ok(),
+        world.open_out(Slot::CertOut, written_again).is_ok(),
+    )
+}
+
+#[test]
+fn one_file_is_no_second_output(rt: HostRuntime) -> Result<(), Fail> {
+    let folder = env::temp_dir(&rt)?;
+    let read = folder.join(rt.alloc(), "ccsl_edge_read")?;
+    let linked = folder.join(rt.alloc(), "ccsl_edge_linked")?;
+    let written = folder.join(rt.alloc(), "ccsl_edge_written")?;
+    let written_again = folder.join(rt.alloc(), "./ccsl_edge_written")?;
+    fs::write(&rt, read.as_str(), "read")?;
+    fs::hard_link(&rt, read.as_str(), linked.as_str())?;
+    let names = [
+        read.as_str(),
+        written.as_str(),
+        linked.as_str(),
+        written_again.as_str(),
+    ];
+    let opened = opens_twice(&rt, names);
+    fs::remove_file(&rt, read.as_str())?;
+    fs::remove_file(&rt, linked.as_str())?;
+    assert_eq!(rt; opened, (false, false));
+    assert_eq!(rt; read_of(&rt, written.as_str()), Err(ReadFault::Fault));
     Ok(())
 }

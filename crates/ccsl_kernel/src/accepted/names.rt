@@ -2,7 +2,8 @@
 
 ghost use Rattle.std.specs.Prelude.{◌≡◌, ◌↔◌, IsTrue, nat_lt, nat_le, ◌&&◌, if◌then◌else◌};
 ghost use Rattle.std.specs.List.{list_all, prefix_len};
-ghost use Rattle.ccsl_base.specs.Name.{is_inner, is_name};
+ghost use Rattle.ccsl_base.specs.Name.{is_name};
+ghost use Rattle.ccsl_base.specs.Letters.{is_inner};
 ghost use Rattle.ccsl_kernel.specs.Accepted.{is_path_rest, is_hidden, Each};
 
 use ccsl_base::{Names, is_inner, is_name};

@@ -1,7 +1,7 @@
 //! Headers of a system whose clocks a and b are declared and whose clock c is defined.
 
 ghost use Rattle.std.specs.Prelude.{◌<◌, [], length, IfOk};
-ghost use Rattle.ccsl_bind.specs.Collected.{StandsFor};
+ghost use Rattle.ccsl_bind.specs.Gathered.{StandsFor};
 ghost use Rattle.ccsl_vcd.specs.Binding.{Wanted};
 
 use ccsl_base::{HashKeys, Memory, Names, Seq};

@@ -1,5 +1,5 @@
 use Rattle.std.proofs.Common.{◌≡◌, true, get_or, sym, ◌∙◌, rules, arith}
-use Rattle.ccsl_base.specs.Name.{is_digit}
+use Rattle.ccsl_base.specs.Letters.{is_digit}
 use Rattle.ccsl_base.proofs.Digits.{number-over, number-done, number-some}
 use Rattle.ccsl_base.proofs.numeral.decimal.Goals as goal
 

@@ -1,5 +1,5 @@
 use Rattle.ccsl_formula.specs.Plain.{plain}
-use Rattle.ccsl_formula.specs.Formula.{ReadsBelow}
+use Rattle.ccsl_formula.specs.Variables.{ReadsBelow}
 use Rattle.ccsl_bench.proofs.pigeons.some_hole.Given as goal
 
 abbrev pub invariant-loop-hole : goal.invariant-loop-hole

@@ -1,6 +1,6 @@
 -- Behind the library a file without lines has the library's groups.
 use Rattle.std.proofs.Common.{ap, ap₂, ◌∙◌}
-use Rattle.ccsl_ast.specs.Trees.{plain_parts}
+use Rattle.ccsl_ast.specs.Plain.{plain_parts}
 use Rattle.ccsl_kernel.specs.Syntax.{System}
 use Rattle.ccsl_chain.proofs.LibraryAlone.{new, few, groups}
 use Rattle.ccsl_chain.proofs.build.groups.Goals as goal

@@ -1,6 +1,6 @@
 -- The counts so far and those of the rest are the whole.
 use Rattle.std.proofs.Common.{◌≡◌, drop, map}
-use Rattle.ccsl_ast.specs.Trees.{plain_definition}
+use Rattle.ccsl_ast.specs.Plain.{plain_definition}
 use Rattle.ccsl_spaces.specs.Callees.{seen_call}
 use Rattle.ccsl_elaborate.specs.TreeCells.{groups_before}
 use Rattle.ccsl_elaborate.proofs.cells.add_groups.Given as goal

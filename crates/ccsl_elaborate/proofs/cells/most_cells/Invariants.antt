@@ -1,6 +1,7 @@
 -- The greatest so far and that of the rest are the whole.
 use Rattle.std.proofs.Common.{◌≡◌, ◌≤◌, List, drop, map, max}
-use Rattle.ccsl_ast.specs.Trees.{plain_member, PlainMember}
+use Rattle.ccsl_ast.specs.Trees.{PlainMember}
+use Rattle.ccsl_ast.specs.Plain.{plain_member}
 use Rattle.ccsl_ast.specs.declared.definition.Member.{Member}
 use Rattle.ccsl_kernel.specs.Cells.{saturated, greatest}
 use Rattle.ccsl_spaces.specs.Callees.{seen_call}

@@ -1,5 +1,6 @@
 use Rattle.std.proofs.Common.{map, arith}
-use Rattle.ccsl_ast.specs.Trees.{SLineOf, plain_line}
+use Rattle.ccsl_ast.specs.Trees.{SLineOf}
+use Rattle.ccsl_ast.specs.Plain.{plain_line}
 use Rattle.ccsl_spaces.specs.Callees.{seen_call}
 use Rattle.ccsl_elaborate.specs.Weighed.{weights_of}
 use Rattle.ccsl_elaborate.proofs.Cuts.{body_count-cut}

@@ -1,6 +1,7 @@
 -- The sum so far and that of the rest are the whole.
 use Rattle.std.proofs.Common.{◌≡◌, ◌≤◌, ◌+◌, drop, map}
-use Rattle.ccsl_ast.specs.Trees.{SLineOf, plain_line}
+use Rattle.ccsl_ast.specs.Trees.{SLineOf}
+use Rattle.ccsl_ast.specs.Plain.{plain_line}
 use Rattle.ccsl_rules.specs.Counts.{cut, body_count}
 use Rattle.ccsl_spaces.specs.Callees.{seen_call}
 use Rattle.ccsl_elaborate.specs.Weighed.{weights_of}

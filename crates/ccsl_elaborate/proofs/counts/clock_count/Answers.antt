@@ -1,5 +1,5 @@
 use Rattle.std.proofs.Common.{◌+◌, map, flat_map, length, ap, ◌∙◌}
-use Rattle.ccsl_ast.specs.Trees.{plain_sline}
+use Rattle.ccsl_ast.specs.Plain.{plain_sline}
 use Rattle.ccsl_ast.specs.Files.{plain_file}
 use Rattle.ccsl_rules.specs.Expansion.{declared_names, expand}
 use Rattle.ccsl_rules.specs.Counts.{cut, clock_weights, count_behind, file_count}

@@ -1,6 +1,6 @@
 -- The sum so far and that of the rest are the whole.
 use Rattle.std.proofs.Common.{◌≡◌, ◌≤◌, ◌+◌, List, drop, map, length, flat_map}
-use Rattle.ccsl_ast.specs.Trees.{plain_sline}
+use Rattle.ccsl_ast.specs.Plain.{plain_sline}
 use Rattle.ccsl_rules.specs.Counts.{cut}
 use Rattle.ccsl_rules.specs.Expansion.{declared_names}
 use Rattle.ccsl_ast.specs.declared.line.SystemLine.{SystemLine}

@@ -1,5 +1,5 @@
 use Rattle.std.proofs.Common.{map, arith}
-use Rattle.ccsl_ast.specs.Trees.{plain_sline}
+use Rattle.ccsl_ast.specs.Plain.{plain_sline}
 use Rattle.ccsl_spaces.specs.Callees.{seen_call}
 use Rattle.ccsl_elaborate.specs.Weighed.{weights_of}
 use Rattle.ccsl_elaborate.proofs.Cuts.{body_count-cut}

@@ -1,6 +1,6 @@
 use Rattle.std.proofs.Common.{◌≡◌, ◌≤◌, ◌++◌, map, length, IfOk, subst, sym, ap, ◌∙◌}
 use Rattle.ccsl_base.specs.declared.limits.TheConstants.{MAX_CLOCKS}
-use Rattle.ccsl_ast.specs.Trees.{plain_definition, plain_sline}
+use Rattle.ccsl_ast.specs.Plain.{plain_definition, plain_sline}
 use Rattle.ccsl_ast.specs.Files.{plain_file}
 use Rattle.ccsl_kernel.specs.Plain.{plain_system}
 use Rattle.ccsl_rules.specs.Spaces.{calls_space}

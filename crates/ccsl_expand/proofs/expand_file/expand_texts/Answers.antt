@@ -1,5 +1,5 @@
 use Rattle.std.proofs.Common.{◌≡◌, [], map, flat_map, IfOk, subst, ap, ◌∙◌}
-use Rattle.ccsl_ast.specs.Trees.{plain_sline}
+use Rattle.ccsl_ast.specs.Plain.{plain_sline}
 use Rattle.ccsl_kernel.specs.Plain.{plain_system}
 use Rattle.ccsl_rules.specs.Unfolded.{unfold_body, own_clocks}
 use Rattle.ccsl_rules.specs.Expansion.{declared_names}

@@ -1,6 +1,6 @@
 use Rattle.std.proofs.Common.{◌≤◌, map, flat_map, length, subst, sym, ap, ◌∙◌}
 use Rattle.ccsl_base.specs.declared.limits.TheConstants.{MAX_CLOCKS}
-use Rattle.ccsl_ast.specs.Trees.{plain_sline}
+use Rattle.ccsl_ast.specs.Plain.{plain_sline}
 use Rattle.ccsl_kernel.specs.Plain.{plain_expr, plain_group}
 use Rattle.ccsl_rules.specs.Expansion.{declared_names}
 use Rattle.ccsl_spaces.specs.Callees.{seen_call}

@@ -1,5 +1,5 @@
 use Rattle.std.proofs.Common.{◌≡◌, [], map, IfOk, subst, ap, ◌∙◌}
-use Rattle.ccsl_ast.specs.Trees.{plain_sline}
+use Rattle.ccsl_ast.specs.Plain.{plain_sline}
 use Rattle.ccsl_rules.specs.Unfolded.{unfold_body}
 use Rattle.ccsl_spaces.specs.Callees.{seen_call}
 use Rattle.ccsl_expand.specs.Numbered.{unfold_all}

@@ -1,6 +1,6 @@
 -- An operator goes to its operands.
 use Rattle.std.proofs.Common.{◌+◌, ◌*◌}
-use Rattle.ccsl_ast.specs.Trees.{plain}
+use Rattle.ccsl_ast.specs.Plain.{plain}
 use Rattle.ccsl_ast.proofs.Height.{height}
 use Rattle.ccsl_expand.proofs.expression.+resolving.Given as goal
 

@@ -1,6 +1,7 @@
 -- What stands in the setting, and what the rest adds, is the whole.
 use Rattle.std.proofs.Common.{◌≡◌, ◌++◌, drop, map}
-use Rattle.ccsl_ast.specs.Trees.{plain_line, SLineOf}
+use Rattle.ccsl_ast.specs.Trees.{SLineOf}
+use Rattle.ccsl_ast.specs.Plain.{plain_line}
 use Rattle.ccsl_rules.specs.Unfolded.{own_clocks}
 use Rattle.ccsl_expand.proofs.frame.bind_body.Given as goal
 

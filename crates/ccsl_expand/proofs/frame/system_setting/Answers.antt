@@ -1,5 +1,5 @@
 use Rattle.std.proofs.Common.{◌+◌, ◌++◌, [], drop, map, sym, ap, ◌∙◌}
-use Rattle.ccsl_ast.specs.Trees.{plain_sline}
+use Rattle.ccsl_ast.specs.Plain.{plain_sline}
 use Rattle.ccsl_rules.specs.Unfolded.{own_clocks}
 use Rattle.ccsl_expand.proofs.Walks.{drop-at, own_clocks-step}
 use Rattle.ccsl_expand.proofs.frame.system_setting.Goals as goal

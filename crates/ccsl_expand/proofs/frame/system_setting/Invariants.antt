@@ -1,6 +1,6 @@
 -- What stands in the setting, and what the rest adds, is the whole.
 use Rattle.std.proofs.Common.{◌≡◌, ◌++◌, [], drop, map}
-use Rattle.ccsl_ast.specs.Trees.{plain_sline}
+use Rattle.ccsl_ast.specs.Plain.{plain_sline}
 use Rattle.ccsl_rules.specs.Unfolded.{own_clocks}
 use Rattle.ccsl_expand.proofs.frame.system_setting.Given as goal
 

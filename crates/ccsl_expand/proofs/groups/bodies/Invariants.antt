@@ -1,6 +1,6 @@
 -- What stands in the list, and what the rest adds, is the whole.
 use Rattle.std.proofs.Common.{◌≡◌, ◌++◌, drop, map}
-use Rattle.ccsl_ast.specs.Trees.{plain_member}
+use Rattle.ccsl_ast.specs.Plain.{plain_member}
 use Rattle.ccsl_kernel.specs.Plain.{plain_body}
 use Rattle.ccsl_rules.specs.Expansion.{part_bodies}
 use Rattle.ccsl_expand.specs.Seen.{seen_tables}

@@ -1,5 +1,6 @@
 use Rattle.std.proofs.Common.{◌≡◌, map, take}
-use Rattle.ccsl_rules.specs.Resolved.{resolve_prim, resolve_sign}
+use Rattle.ccsl_rules.specs.Resolved.{resolve_prim}
+use Rattle.ccsl_rules.specs.Settings.{resolve_sign}
 use Rattle.ccsl_expand.proofs.term.term.Given as goal
 
 abbrev pub invariant-loop-part : goal.invariant-loop-part

@@ -1,6 +1,6 @@
 -- What stands in the lists, and what the rest adds, is the whole.
 use Rattle.std.proofs.Common.{◌≡◌, ◌++◌, drop, map, flat_map, length}
-use Rattle.ccsl_ast.specs.Trees.{plain_definition}
+use Rattle.ccsl_ast.specs.Plain.{plain_definition}
 use Rattle.ccsl_rules.specs.Texts.{block_texts}
 use Rattle.ccsl_expand.specs.Numbered.{word_in, numbered}
 use Rattle.ccsl_expand.specs.Seen.{seen_block}

@@ -1,6 +1,7 @@
 -- What stands in the list, and what the rest adds, is the whole. A call goes to an earlier definition.
 use Rattle.std.proofs.Common.{◌≡◌, ◌+◌, ◌*◌, ◌++◌, drop, map}
-use Rattle.ccsl_ast.specs.Trees.{plain_line, SLineOf}
+use Rattle.ccsl_ast.specs.Trees.{SLineOf}
+use Rattle.ccsl_ast.specs.Plain.{plain_line}
 use Rattle.ccsl_rules.specs.Unfolded.{unfold_body}
 use Rattle.ccsl_spaces.specs.Callees.{seen_call}
 use Rattle.ccsl_expand.specs.Items.{seen_item, earlier}

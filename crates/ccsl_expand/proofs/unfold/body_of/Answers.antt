@@ -1,7 +1,8 @@
 -- A call goes to an earlier definition, or becomes nothing.
 use Rattle.std.proofs.Common.{◌<◌, Some, map, length, get_or, sym, ap, ◌∙◌, arith}
 use Rattle.std.proofs.lemmas.Option.{slice_get-get_or}
-use Rattle.ccsl_ast.specs.Trees.{plain_definition, plain_line, SLineOf}
+use Rattle.ccsl_ast.specs.Trees.{SLineOf}
+use Rattle.ccsl_ast.specs.Plain.{plain_definition, plain_line}
 use Rattle.ccsl_rules.specs.Unfolded.{unfold_block, unfold_relation}
 use Rattle.ccsl_spaces.specs.Callees.{seen_callee, seen_call}
 use Rattle.ccsl_expand.specs.Seen.{seen_block}

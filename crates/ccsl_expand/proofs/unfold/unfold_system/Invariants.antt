@@ -1,6 +1,6 @@
 -- What stands in the list, and what the rest adds, is the whole.
 use Rattle.std.proofs.Common.{◌≡◌, ◌++◌, drop, map, length}
-use Rattle.ccsl_ast.specs.Trees.{plain_sline}
+use Rattle.ccsl_ast.specs.Plain.{plain_sline}
 use Rattle.ccsl_rules.specs.Unfolded.{unfold_body}
 use Rattle.ccsl_spaces.specs.Callees.{seen_call}
 use Rattle.ccsl_expand.specs.Items.{seen_item, earlier}

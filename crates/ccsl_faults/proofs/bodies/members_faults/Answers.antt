@@ -1,6 +1,6 @@
 -- The next member.
 use Rattle.std.proofs.Common.{flat_map, map, refl}
-use Rattle.ccsl_ast.specs.Trees.{plain_member}
+use Rattle.ccsl_ast.specs.Plain.{plain_member}
 use Rattle.ccsl_faults.specs.Homes.{part_faults}
 use Rattle.ccsl_faults.proofs.Walks.{walk-step}
 use Rattle.ccsl_faults.proofs.bodies.members_faults.Goals as goal

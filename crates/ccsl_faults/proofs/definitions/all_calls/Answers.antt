@@ -1,6 +1,6 @@
 use Rattle.std.proofs.Common.{map, sym, ap, ◌++◌, arith}
 use Rattle.std.proofs.lemmas.List.{length-map}
-use Rattle.ccsl_ast.specs.Trees.{plain_definition}
+use Rattle.ccsl_ast.specs.Plain.{plain_definition}
 use Rattle.ccsl_spaces.specs.Knowns.{known}
 use Rattle.ccsl_spaces.specs.Callees.{seen_call}
 use Rattle.ccsl_spaces.proofs.Joined.{space-joined}

@@ -1,6 +1,6 @@
 -- The next definition.
 use Rattle.std.proofs.Common.{◌+◌, ◌++◌, map, arith, ap}
-use Rattle.ccsl_ast.specs.Trees.{plain_definition}
+use Rattle.ccsl_ast.specs.Plain.{plain_definition}
 use Rattle.ccsl_rules.specs.Blocks.{block_faults, blocks_faults}
 use Rattle.ccsl_spaces.specs.Callees.{seen_call}
 use Rattle.ccsl_faults.specs.Levels.{seen_heights}

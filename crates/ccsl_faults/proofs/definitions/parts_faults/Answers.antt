@@ -1,6 +1,6 @@
 use Rattle.std.proofs.Common.{map, length, sym}
 use Rattle.std.proofs.lemmas.List.{length-map}
-use Rattle.ccsl_ast.specs.Trees.{plain_definition, plain_sline}
+use Rattle.ccsl_ast.specs.Plain.{plain_definition, plain_sline}
 use Rattle.ccsl_faults.specs.Levels.{seen_heights}
 use Rattle.ccsl_faults.proofs.Whole.{parts-joined}
 use Rattle.ccsl_faults.proofs.definitions.parts_faults.Goals as goal

@@ -1,8 +1,8 @@
 -- The levels so far, and those that the rest adds, are those of the whole.
 use Rattle.std.proofs.Common.{◌≡◌, ◌≤◌, ◌+◌, drop, map, length}
-use Rattle.ccsl_ast.specs.Trees.{plain_definition}
+use Rattle.ccsl_ast.specs.Plain.{plain_definition}
 use Rattle.ccsl_rules.specs.Levels as rules
-use Rattle.ccsl_rules.specs.Levels.{greatest}
+use Rattle.ccsl_kernel.specs.Cells.{greatest}
 use Rattle.ccsl_spaces.specs.Callees.{seen_call}
 use Rattle.ccsl_faults.specs.Levels.{seen_sort}
 use Rattle.ccsl_faults.proofs.levels.add_levels.Given as goal

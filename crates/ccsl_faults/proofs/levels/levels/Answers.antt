@@ -1,5 +1,5 @@
 use Rattle.std.proofs.Common.{map, ap, sym, ◌∙◌}
-use Rattle.ccsl_ast.specs.Trees.{plain_definition}
+use Rattle.ccsl_ast.specs.Plain.{plain_definition}
 use Rattle.ccsl_rules.specs.Levels as rules
 use Rattle.ccsl_spaces.specs.Callees.{seen_call}
 use Rattle.ccsl_faults.specs.Levels.{seen_sort}

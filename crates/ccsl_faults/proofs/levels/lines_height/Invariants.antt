@@ -1,6 +1,6 @@
 -- The greatest so far and that of the rest is that of the whole.
 use Rattle.std.proofs.Common.{◌≡◌, drop, map, flat_map, max}
-use Rattle.ccsl_ast.specs.Trees.{plain_line}
+use Rattle.ccsl_ast.specs.Plain.{plain_line}
 use Rattle.ccsl_rules.specs.Levels.{called_line}
 use Rattle.ccsl_spaces.specs.Callees.{seen_call}
 use Rattle.ccsl_faults.specs.Levels.{height_of}

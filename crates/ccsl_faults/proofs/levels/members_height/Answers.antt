@@ -1,6 +1,6 @@
 -- The next member.
 use Rattle.std.proofs.Common.{map}
-use Rattle.ccsl_ast.specs.Trees.{plain_member}
+use Rattle.ccsl_ast.specs.Plain.{plain_member}
 use Rattle.ccsl_rules.specs.Levels.{called}
 use Rattle.ccsl_spaces.specs.Callees.{seen_call}
 use Rattle.ccsl_faults.proofs.Heights.{height-step}

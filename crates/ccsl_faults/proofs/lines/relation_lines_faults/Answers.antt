@@ -1,6 +1,7 @@
 -- The next line.
 use Rattle.std.proofs.Common.{map, refl, ap, ◌∙◌}
-use Rattle.ccsl_ast.specs.Trees.{SLineOf, plain_line}
+use Rattle.ccsl_ast.specs.Trees.{SLineOf}
+use Rattle.ccsl_ast.specs.Plain.{plain_line}
 use Rattle.ccsl_rules.specs.Faults.{least}
 use Rattle.ccsl_rules.specs.Blocks.{line_faults, entries_faults}
 use Rattle.ccsl_faults.specs.Scenes.{seen_scene}

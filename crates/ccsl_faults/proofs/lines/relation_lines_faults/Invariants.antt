@@ -1,6 +1,7 @@
 -- The worst so far and the least of the rest is the least of the whole.
 use Rattle.std.proofs.Common.{◌≡◌, drop, map}
-use Rattle.ccsl_ast.specs.Trees.{SLineOf, plain_line}
+use Rattle.ccsl_ast.specs.Trees.{SLineOf}
+use Rattle.ccsl_ast.specs.Plain.{plain_line}
 use Rattle.ccsl_rules.specs.Faults.{least, earlier}
 use Rattle.ccsl_rules.specs.Blocks.{entries_faults}
 use Rattle.ccsl_faults.specs.Scenes.{seen_scene}

@@ -1,6 +1,6 @@
 -- The next line.
 use Rattle.std.proofs.Common.{map, refl, ap, ◌∙◌}
-use Rattle.ccsl_ast.specs.Trees.{plain_sline}
+use Rattle.ccsl_ast.specs.Plain.{plain_sline}
 use Rattle.ccsl_rules.specs.Faults.{least}
 use Rattle.ccsl_rules.specs.Blocks.{entry_faults, entries_faults}
 use Rattle.ccsl_faults.specs.Scenes.{seen_scene}

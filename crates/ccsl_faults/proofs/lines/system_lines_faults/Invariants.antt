@@ -1,6 +1,6 @@
 -- The worst so far and the least of the rest is the least of the whole.
 use Rattle.std.proofs.Common.{◌≡◌, drop, map}
-use Rattle.ccsl_ast.specs.Trees.{plain_sline}
+use Rattle.ccsl_ast.specs.Plain.{plain_sline}
 use Rattle.ccsl_rules.specs.Faults.{least, earlier}
 use Rattle.ccsl_rules.specs.Blocks.{entries_faults}
 use Rattle.ccsl_faults.specs.Scenes.{seen_scene}

@@ -1,5 +1,6 @@
 use Rattle.std.proofs.lemmas.Result.{IfOk-weaker}
-use Rattle.ccsl_formula.specs.Formula.{FNot, FIff, FFalse, Same}
+use Rattle.ccsl_formula.specs.Formula.{FNot, FIff, FFalse}
+use Rattle.ccsl_formula.specs.Same.{Same}
 use Rattle.ccsl_formula.specs.Plain.{plain}
 use Rattle.ccsl_formula.proofs.Folds.{Same-iff_false}
 use Rattle.ccsl_formula.proofs.fold.iff.Goals as goal

@@ -1,6 +1,6 @@
 -- Each row keeps it.
 use Rattle.std.proofs.Common.{◌≡◌, suc, ◌+◌, ap, ◌∙◌, arith}
-use Rattle.ccsl_kernel.specs.Meaning.{dead_at}
+use Rattle.ccsl_kernel.specs.Deaths.{dead_at}
 use Rattle.ccsl_kernel.proofs.Silent.{obeying_silent}
 use Rattle.ccsl_kernel.proofs.AcceptedParts.{accepted_guarded}
 use Rattle.ccsl_kernel.proofs.laws.dead_stays.Goals as goal

@@ -1,7 +1,7 @@
 use Rattle.std.proofs.Common.{take, refl}
 use Rattle.std.specs.List.{prefix_len}
 use Rattle.ccsl_base.specs.declared.limits.TheConstants.{MAX_NUMBER}
-use Rattle.ccsl_base.specs.Name.{is_digit}
+use Rattle.ccsl_base.specs.Letters.{is_digit}
 use Rattle.ccsl_lex.proofs.Front.{found_number, are_run, large_number}
 use Rattle.ccsl_lex.proofs.Values.{number_some, number_none}
 use Rattle.ccsl_lex.proofs.piece.number_piece.Goals as goal

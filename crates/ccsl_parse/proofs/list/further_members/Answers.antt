@@ -1,5 +1,6 @@
 use Rattle.std.proofs.lemmas.Result.{err_from_is_err_and}
-use Rattle.ccsl_grammar.specs.Terminals.{terminals, is_symbol}
+use Rattle.ccsl_grammar.specs.Terminals.{terminals}
+use Rattle.ccsl_grammar.specs.Kinds.{is_symbol}
 use Rattle.ccsl_grammar.specs.Reader.{many}
 use Rattle.ccsl_grammar.specs.Loop.{prefixed}
 use Rattle.ccsl_grammar.specs.Parser.{further_at}

@@ -1,6 +1,6 @@
 use Rattle.std.proofs.Common.{inl}
 use Rattle.ccsl_base.specs.declared.limits.TheConstants.{MAX_LEVELS}
-use Rattle.ccsl_ast.specs.Trees.{plain_parts}
+use Rattle.ccsl_ast.specs.Plain.{plain_parts}
 use Rattle.ccsl_grammar.specs.Terminals.{terminals}
 use Rattle.ccsl_grammar.specs.Reader.{took}
 use Rattle.ccsl_grammar.proofs.Parsed.{parsed_keeps, parsed_depth}

@@ -1,5 +1,5 @@
 use Rattle.std.proofs.Common.{◌<◌, ℕ, length}
-use Rattle.ccsl_periodic.specs.Canonical.{RepeatsFrom}
+use Rattle.ccsl_periodic.specs.Repeats.{RepeatsFrom}
 use Rattle.ccsl_periodic.proofs.shortest.shortest_period.Given as goal
 
 abbrev pub invariant-loop-period : goal.invariant-loop-period

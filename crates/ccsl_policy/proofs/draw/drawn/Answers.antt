@@ -1,7 +1,8 @@
 use Rattle.std.proofs.Common.{◌≡◌, ◌∙◌, ◌+◌, ◌++◌, ◌∷◌, [], ℕ, sym, ap, subst, arith, add-one}
 use Rattle.rand_pcg.specs.Lcg.{Lcg}
 use Rattle.rand_pcg.specs.Pcg.{pcg32}
-use Rattle.ccsl_policy.specs.Words.{words_from, StandsFor}
+use Rattle.ccsl_policy.specs.Words.{words_from}
+use Rattle.ccsl_policy.specs.Generator.{StandsFor}
 use Rattle.ccsl_policy.proofs.Drawn.{words-more}
 use Rattle.ccsl_policy.proofs.draw.drawn.Goals as goal
 

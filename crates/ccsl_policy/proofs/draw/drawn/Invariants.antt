@@ -1,6 +1,7 @@
 use Rattle.std.proofs.Common.{◌≡◌, ◌≤◌, ◌+◌, ℕ, vec_len}
 use Rattle.std.specs.Vec.{vec_capacity}
-use Rattle.ccsl_policy.specs.Words.{words_from, StandsFor}
+use Rattle.ccsl_policy.specs.Words.{words_from}
+use Rattle.ccsl_policy.specs.Generator.{StandsFor}
 use Rattle.ccsl_policy.proofs.draw.drawn.Given as goal
 
 abbrev pub invariant-loop-i : goal.invariant-loop-i

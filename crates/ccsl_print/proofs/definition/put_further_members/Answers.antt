@@ -1,5 +1,5 @@
 use Rattle.std.proofs.Common.{arith, ap, ◌∙◌}
-use Rattle.ccsl_ast.specs.Trees.{plain_member}
+use Rattle.ccsl_ast.specs.Plain.{plain_member}
 use Rattle.ccsl_grammar.specs.Canonical.{member_tokens, further_tokens}
 use Rattle.ccsl_print.specs.Pages.{after}
 use Rattle.ccsl_print.proofs.Turns.{mapped_turn}

@@ -1,6 +1,6 @@
 use Rattle.std.proofs.Common.{◌≡◌, take, map}
 use Rattle.std.specs.List.{flat_map}
-use Rattle.ccsl_ast.specs.Trees.{plain_member}
+use Rattle.ccsl_ast.specs.Plain.{plain_member}
 use Rattle.ccsl_grammar.specs.Canonical.{further_tokens}
 use Rattle.ccsl_print.specs.Pages.{after}
 use Rattle.ccsl_print.proofs.definition.put_further_members.Given as goal

@@ -1,5 +1,5 @@
 use Rattle.std.proofs.Common.{◌+◌, ◌*◌}
-use Rattle.ccsl_ast.specs.Trees.{plain}
+use Rattle.ccsl_ast.specs.Plain.{plain}
 use Rattle.ccsl_ast.proofs.Height.{height}
 use Rattle.ccsl_print.proofs.expression.+expression.Given as goal
 

@@ -1,6 +1,6 @@
 use Rattle.std.proofs.Common.{◌≡◌, ◌<◌, ◌-◌, suc, false, length, sym, ap, ◌∙◌, arith}
 use Rattle.ccsl_formula.specs.Known.{known}
-use Rattle.ccsl_formula.specs.Truth.{is_open}
+use Rattle.ccsl_formula.specs.Agreement.{is_open}
 use Rattle.ccsl_refute.proofs.Proper.{proper-at, falsified-at, improper-large, improper-twice}
 use Rattle.ccsl_refute.proofs.checker.assumed.Goals as goal
 

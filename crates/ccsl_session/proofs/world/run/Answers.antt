@@ -1,6 +1,6 @@
 use Rattle.std.proofs.Common.{◌≡◌, [], Option, sym, ap, subst}
 use Rattle.ccsl_session.specs.declared.answer.Ended.{Ended}
-use Rattle.ccsl_session.specs.Session.{HasEnded}
+use Rattle.ccsl_session.specs.Leaving.{HasEnded}
 use Rattle.ccsl_session.specs.Answering.{system_of, sets_of}
 use Rattle.ccsl_session.specs.Going.{Goes, Turns}
 use Rattle.ccsl_session.proofs.Turning.{at-task}

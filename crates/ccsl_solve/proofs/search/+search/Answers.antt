@@ -1,7 +1,7 @@
 use Rattle.std.proofs.Common.{◌≡◌, ◌≢◌, ◌<◌, ◌∙◌, ℕ, List, not, reverse, true, Option, sym, ap, subst, arith}
 use Rattle.ccsl_formula.specs.declared.truth3.Truth3.TheVariants.{Open}
-use Rattle.ccsl_formula.specs.Truth.{Part}
-use Rattle.ccsl_formula.specs.Known.{known, with_value}
+use Rattle.ccsl_formula.specs.Truth.{Part, with_value}
+use Rattle.ccsl_formula.specs.Known.{known}
 use Rattle.ccsl_refute.specs.declared.line.Line.{Line}
 use Rattle.ccsl_solve.specs.declared.reason.Reason.{Reason}
 use Rattle.ccsl_solve.specs.Under.{Under, IsInside, open_count}

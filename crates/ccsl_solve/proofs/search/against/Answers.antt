@@ -1,6 +1,6 @@
 use Rattle.std.proofs.Common.{◌∙◌, Bool, List, not, reverse, sym, ap, subst}
-use Rattle.ccsl_formula.specs.Truth.{Part}
-use Rattle.ccsl_formula.specs.Known.{known, with_value}
+use Rattle.ccsl_formula.specs.Truth.{Part, with_value}
+use Rattle.ccsl_formula.specs.Known.{known}
 use Rattle.ccsl_refute.specs.declared.line.Line.{Line}
 use Rattle.ccsl_solve.specs.Under.{Under, IsInside}
 use Rattle.ccsl_solve.specs.Conflict.{IsConflict}

@@ -1,6 +1,6 @@
 -- What stands in the space, and what the rest adds, is the whole; and so for the number of the next group.
 use Rattle.std.proofs.Common.{◌≡◌, ◌≤◌, ◌+◌, ◌++◌, drop, map}
-use Rattle.ccsl_ast.specs.Trees.{plain_definition}
+use Rattle.ccsl_ast.specs.Plain.{plain_definition}
 use Rattle.ccsl_rules.specs.Spaces.{calls_space}
 use Rattle.ccsl_spaces.specs.Callees.{seen_call, groups_after}
 use Rattle.ccsl_spaces.proofs.calls.add_definitions.Given as goal

@@ -1,6 +1,6 @@
 -- What stands in the space, and what the rest adds, is the whole.
 use Rattle.std.proofs.Common.{◌≡◌, ◌++◌, drop, map}
-use Rattle.ccsl_ast.specs.Trees.{plain_member}
+use Rattle.ccsl_ast.specs.Plain.{plain_member}
 use Rattle.ccsl_rules.specs.Spaces.{parts_space}
 use Rattle.ccsl_spaces.specs.Callees.{seen_call}
 use Rattle.ccsl_spaces.proofs.calls.add_members.Given as goal

@@ -1,6 +1,7 @@
 -- What stands in the space, and what the rest adds, is the whole.
 use Rattle.std.proofs.Common.{◌≡◌, ◌++◌, drop, map}
-use Rattle.ccsl_ast.specs.Trees.{SLineOf, plain_line}
+use Rattle.ccsl_ast.specs.Trees.{SLineOf}
+use Rattle.ccsl_ast.specs.Plain.{plain_line}
 use Rattle.ccsl_rules.specs.Spaces.{params_space, lines_space}
 use Rattle.ccsl_spaces.proofs.locals.relation_space.Given as goal
 

@@ -1,6 +1,6 @@
 -- What stands in the space, and what the rest adds, is the whole.
 use Rattle.std.proofs.Common.{◌≡◌, ◌++◌, drop, map}
-use Rattle.ccsl_ast.specs.Trees.{plain_sline}
+use Rattle.ccsl_ast.specs.Plain.{plain_sline}
 use Rattle.ccsl_rules.specs.Spaces.{lines_space}
 use Rattle.ccsl_spaces.proofs.locals.system_space.Given as goal
 

@@ -1,34 +1,102 @@
--- The tables are the system's, and each number is that of a definition.
-use Rattle.std.proofs.Common.{◌<◌, length, slice_index_or, slice_get, sym, ap, ◌∙◌, arith}
+-- Each visit leaves what is done done and what waits untouched, and at the end nothing waits.
+use Rattle.std.proofs.Common.{◌≡◌, ◌+◌, ◌<◌, length, slice_get, sym, ap, subst, ◌∙◌, arith}
 use Rattle.std.proofs.lemmas.Option.{slice_get-get_or}
+use Rattle.ccsl_formula.specs.declared.scope.Scope.{Scope}
+use Rattle.ccsl_state.specs.Regions.{trees_from}
+use Rattle.ccsl_state.specs.Passing.{IsFollowed}
+use Rattle.ccsl_state.specs.Visits.{IsEntered}
 use Rattle.ccsl_state.proofs.PlaceLaws.{places_len}
 use Rattle.ccsl_state.proofs.WholeLaws.{ready_table}
+use Rattle.ccsl_state.proofs.StandLaws.{trees_len}
+use Rattle.ccsl_state.proofs.Visiting.{begins, ends, passes, one_more, later, reader}
+use Rattle.ccsl_state.proofs.Entering.{visit_is, lowest_below, lowest_above, lowest_most, unsettled_wait, readers_wait, followed_wait}
 use Rattle.ccsl_state.proofs.follow.follow.Goals as goal
 
-pub bounds-places-number : goal.bounds-places-number
-bounds-places-number c =
-    let within = c.requires.numbers c.loop-number.number-index 0 c.loop-number-test.true in
+pub visits-init : goal.visits-init
+visits-init c =
+    let K = c.args.lay.now.system.now in
+    let F = c.args.readers.now.followed in
+    let sets = c.args.readers.now.sets.items in
+    let p = c.args.passage.now in
+    begins K c.requires.accepted F sets c.requires.readers p.step p.gone (trees_from c.args.lay.now 0 c.args.row.now) c.requires.kept.within p.unsettled p.waiting (trees_len K c.args.lay.now.earlier.now K.definitions c.args.row.now) c.requires.low c.requires.ascends c.requires.kept
+    (unsettled_wait sets p.unsettled p.step p.waiting c.requires.waiting)
+    (readers_wait sets p.unsettled p.step p.waiting c.requires.waiting)
+    (followed_wait sets p.unsettled p.step p.waiting c.requires.waiting (IsFollowed K F) c.requires.kept.few (λ q y h. (reader K c.requires.accepted F sets c.requires.readers q y h).0))
+
+pub bounds-places-i : goal.bounds-places-i
+bounds-places-i c =
+    let within = (c.visits.invariant.followed c.in-Some.i c.in-Some.ensures.member).0 in
     let len = ap length c.requires.places ∙ places_len c.args.lay.now.earlier.now 0 c.args.lay.now.system.now.definitions in
     omega (arith, within, len)
 
-pub follow_one-requires-clause-table : goal.follow_one-requires-clause-table
-follow_one-requires-clause-table c = (ready_table c.args.lay.now.system.now c.args.lay.now.earlier.now c.requires.accepted c.requires.whole.calls).table
-
-pub follow_one-requires-clause-groups : goal.follow_one-requires-clause-groups
-follow_one-requires-clause-groups c = (ready_table c.args.lay.now.system.now c.args.lay.now.earlier.now c.requires.accepted c.requires.whole.calls).groups
-
-pub follow_one-requires-clause-place : goal.follow_one-requires-clause-place
-follow_one-requires-clause-place c =
-    let number = slice_index_or c.args.numbers.now c.loop-number.number-index 0 in
-    let within = c.requires.numbers c.loop-number.number-index 0 c.loop-number-test.true in
-    let len = ap length c.requires.places ∙ places_len c.args.lay.now.earlier.now 0 c.args.lay.now.system.now.definitions in
-    let below : number < length c.args.places.now = omega (arith, within, len) in
-    ap (λ places. slice_get places number) (sym c.requires.places) ∙ slice_get-get_or c.args.places.now number 0 below
-
-pub follow_one-requires-clause-room : goal.follow_one-requires-clause-room
-follow_one-requires-clause-room c =
-    let ready = ready_table c.args.lay.now.system.now c.args.lay.now.earlier.now c.requires.accepted c.requires.whole.calls in
-    let room = ready.room in
+pub visit-visited-requires : goal.visit-visited-requires
+visit-visited-requires c =
+    let K = c.args.lay.now.system.now in
+    let i = c.in-Some.i in
+    let ready = ready_table K c.args.lay.now.earlier.now c.requires.accepted c.requires.whole.calls in
+    let within = (c.visits.invariant.followed i c.in-Some.ensures.member).0 in
+    let len = ap length c.requires.places ∙ places_len c.args.lay.now.earlier.now 0 K.definitions in
+    let below : i < length c.args.places.now = omega (arith, within, len) in
     let size = c.requires.whole.size in
-    let same = c.loop-number.auto.row in
-    omega arith
+    let same = c.visits.auto.row in
+    let room = ready.room in
+    let few = ready.few in
+    record {
+      table = ready.table;
+      groups = ready.groups;
+      within = within;
+      place = ap (λ places. slice_get places i) (sym c.requires.places) ∙ slice_get-get_or c.args.places.now i 0 below;
+      room = omega arith;
+      few = omega arith;
+    }
+
+pub enter-requires-clause-clock : goal.enter-requires-clause-clock
+enter-requires-clause-clock c =
+    let within = (c.visits.invariant.followed c.in-Some.i c.in-Some.ensures.member).0 in
+    let few = c.requires.accepted.few_clocks in
+    let all = c.requires.accepted.defined in
+    let scope = ap (λ (s : Scope). s.declared) c.scope.ensures.scope in
+    omega (arith, within, few, all, scope)
+
+pub visits-preserved : goal.visits-preserved
+visits-preserved c =
+    let K = c.args.lay.now.system.now in
+    let i = c.in-Some.i in
+    let clock : c.scope.result.declared + i ≡ K.declared + i = ap (λ (s : Scope). s.declared + i) c.scope.ensures.scope in
+    let v = visit_is c.args.lay.now i _ c.args.readers.now.sets.items c.visits.row c.visit-visited.new.row c.visit-visited.result c.visits.passage c.enter.new.passage clock c.visit-visited.ensures
+    (subst (λ sets. IsEntered sets i (c.scope.result.declared + i) c.visit-visited.result c.visits.passage c.enter.new.passage) c.as_slice.ensures.value c.enter.ensures) in
+    one_more K c.requires.accepted c.args.readers.now.followed c.args.readers.now.sets.items c.requires.readers c.args.passage.now.step c.args.passage.now.gone (trees_from c.args.lay.now 0 c.args.row.now) c.requires.kept.within
+    _ _ _ _ _ _ _ _ _ _ i _ _ _ _ c.visits.invariant v c.in-Some.ensures.member c.in-Some.ensures.least
+
+pub visits-smaller : goal.visits-smaller
+visits-smaller c =
+    let K = c.args.lay.now.system.now in
+    let n = length K.definitions in
+    let i = c.in-Some.i in
+    let clock : c.scope.result.declared + i ≡ K.declared + i = ap (λ (s : Scope). s.declared + i) c.scope.ensures.scope in
+    let v = visit_is c.args.lay.now i _ c.args.readers.now.sets.items c.visits.row c.visit-visited.new.row c.visit-visited.result c.visits.passage c.enter.new.passage clock c.visit-visited.ensures
+    (subst (λ sets. IsEntered sets i (c.scope.result.declared + i) c.visit-visited.result c.visits.passage c.enter.new.passage) c.as_slice.ensures.value c.enter.ensures) in
+    let within = (c.visits.invariant.followed i c.in-Some.ensures.member).0 in
+    let before = lowest_below n c.visits.passage.waiting i c.in-Some.ensures.member in
+    let most = lowest_most n c.enter.new.passage.waiting in
+    let after = lowest_above n i c.enter.new.passage.waiting within
+    (later K c.requires.accepted c.args.readers.now.followed c.args.readers.now.sets.items c.requires.readers c.args.passage.now.step c.args.passage.now.gone (trees_from c.args.lay.now 0 c.args.row.now) c.requires.kept.within
+    _ _ _ _ _ _ _ _ _ _ i _ _ _ _ c.visits.invariant v c.in-Some.ensures.member c.in-Some.ensures.least) in
+    omega (arith, before, most, after)
+
+pub returns-clause-ascends : goal.returns-clause-ascends
+returns-clause-ascends c = c.visits.invariant.ascends
+
+pub returns-clause-kept : goal.returns-clause-kept
+returns-clause-kept c =
+    let p = c.args.passage.now in
+    let q = c.visits.passage in
+    ends c.args.lay.now.system.now c.requires.accepted c.args.readers.now.followed c.args.readers.now.sets.items c.requires.readers p.step p.gone (trees_from c.args.lay.now 0 c.args.row.now) c.requires.kept.within
+    (trees_from c.args.lay.now 0 c.visits.row) q.step q.gone q.waiting q.unsettled c.visits.invariant c.in_default.ensures.none
+
+pub returns-clause-passed : goal.returns-clause-passed
+returns-clause-passed c =
+    let p = c.args.passage.now in
+    let q = c.visits.passage in
+    passes c.args.lay.now.system.now c.requires.accepted c.args.readers.now.followed c.args.readers.now.sets.items c.requires.readers p.step p.gone (trees_from c.args.lay.now 0 c.args.row.now) c.requires.kept.within
+    (trees_from c.args.lay.now 0 c.visits.row) q.step q.gone q.waiting q.unsettled c.visits.invariant c.in_default.ensures.none

@@ -1,9 +1,9 @@
 use Rattle.std.proofs.Common.{◌<◌, ◌^◌, ℕ, List, All, length, sym, ap, refl, subst}
 use Rattle.ccsl_refute.specs.declared.line.Line.{Line}
 use Rattle.ccsl_refute.specs.Below.{AreBelow}
-use Rattle.ccsl_refute.specs.Writing.{literals}
+use Rattle.ccsl_refute.specs.LineLiterals.{literals}
 use Rattle.ccsl_explain.specs.declared.explanation.Explained.{Explained}
-use Rattle.ccsl_explain.specs.Explained.{Explains}
+use Rattle.ccsl_explain.specs.Explains.{Explains}
 use Rattle.ccsl_items.specs.Formulas.{scope_of}
 use Rattle.ccsl_top.specs.Outcome.{outcome}
 use Rattle.ccsl_top.specs.Explaining.{AreMembers, possible}

@@ -1,12 +1,18 @@
-use Rattle.std.proofs.Common.{length, map, sym, ◌∙◌, subst}
+use Rattle.std.proofs.Common.{ℕ, List, [], ◌∷◌, All, length, map, sym, ◌∙◌, subst}
 use Rattle.std.proofs.lemmas.List.{length-map}
+use Rattle.std.proofs.lemmas.List.Elements.{All-head, All-tail}
+use Rattle.ccsl_formula.specs.Formula.{Formula}
+use Rattle.ccsl_formula.specs.Variables.{ReadsBelow}
 use Rattle.ccsl_formula.specs.declared.scope.Scope.{Scope}
 use Rattle.ccsl_formula.specs.Plain.{plain}
 use Rattle.ccsl_solve.specs.Posed.{AllBelow}
-use Rattle.ccsl_explain.specs.Explained.{Explains}
-use Rattle.ccsl_simulate.proofs.Asking.{all-below}
+use Rattle.ccsl_explain.specs.Explains.{Explains}
 use Rattle.ccsl_top.proofs.Running.{explained-answers, explained-stops}
 use Rattle.ccsl_top.proofs.explain.explain_formulas.Goals as goal
+
+all-below : (n : ℕ) (fs : List Formula) → All (ReadsBelow n) fs → AllBelow n fs
+all-below n [] h = tt
+all-below n (f ∷ fs) h = (All-head (ReadsBelow n) f fs h, all-below n fs (All-tail (ReadsBelow n) f fs h))
 
 pub explain-requires-clause-reads : goal.explain-requires-clause-reads
 explain-requires-clause-reads g c =

@@ -1,7 +1,7 @@
 use Rattle.std.proofs.Common.{◌≤◌, ap, ◌∙◌, subst}
 use Rattle.ccsl_base.specs.declared.limits.TheConstants.{MAX_LETTERS}
 use Rattle.ccsl_words.specs.Word.{word_len}
-use Rattle.ccsl_periodic.specs.Filtered.{IsCauseOf}
+use Rattle.ccsl_periodic.specs.Causes.{IsCauseOf}
 use Rattle.ccsl_report.specs.Texts.{periodic_word_text}
 use Rattle.ccsl_top.specs.Outcome.{outcome}
 use Rattle.ccsl_top.specs.Periodic.{word, long}

@@ -1,5 +1,6 @@
 use Rattle.std.proofs.Common.{Ok, ap, ◌∙◌, subst}
 use Rattle.ccsl_command.specs.Infinite.{HasInfiniteWords}
+use Rattle.ccsl_command.specs.Opened.{files_of}
 use Rattle.ccsl_top.proofs.Ranges.{trial-ranges}
 use Rattle.ccsl_top.proofs.Commands.{command-oks, command-errs, trial-outcome, periodic-outcome}
 use Rattle.ccsl_top.proofs.program.answer_command.Goals as goal
@@ -18,7 +19,7 @@ trial-requires-clause-few g c =
 
 pub returns-in-Trial-clause-ok : goal.returns-in-Trial-clause-ok
 returns-in-Trial-clause-ok g c =
-    command-oks g.W.World.told (g.W.World.state c.args.world.now) c.args.command.now c.trial.result
+    command-oks g.W.World.told (g.W.World.state c.args.world.now) c.args.command.now (ap files_of c.in-Trial.is) c.trial.result
     (trial-outcome c.args.command.now c.in-Trial.clocks c.in-Trial.steps c.in-Trial.seed c.in-Trial.workers c.in-Trial.is c.trial.result c.trial.ensures.reply)
 
 pub returns-in-Trial-clause-err : goal.returns-in-Trial-clause-err
@@ -33,7 +34,7 @@ periodic-requires-clause-right g c = (subst HasInfiniteWords c.in-Periodic.is c.
 
 pub returns-in-Periodic-clause-ok : goal.returns-in-Periodic-clause-ok
 returns-in-Periodic-clause-ok g c =
-    command-oks g.W.World.told (g.W.World.state c.args.world.now) c.args.command.now c.periodic.result
+    command-oks g.W.World.told (g.W.World.state c.args.world.now) c.args.command.now (ap files_of c.in-Periodic.is) c.periodic.result
     (periodic-outcome c.args.command.now c.in-Periodic.left c.in-Periodic.right c.in-Periodic.relation c.in-Periodic.is c.periodic.result c.periodic.ensures.reply)
 
 pub returns-in-Periodic-clause-err : goal.returns-in-Periodic-clause-err

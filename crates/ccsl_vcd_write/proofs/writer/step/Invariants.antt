@@ -8,4 +8,5 @@ invariant-loop-clock l =
     record {
       text : l.out.items ++ text_of (map tick_line (filter (λ x. nat_lt x l.written) l.clock-iterator)) ≡ l.fn.out.items ++ step_text l.k l.system l.ticks;
       room : vec_len l.out + 4 * length (filter (λ x. nat_lt x l.written) l.clock-iterator) ≤ vec_capacity l.out;
+      capacity : vec_capacity l.out ≡ vec_capacity l.initial.out;
     }

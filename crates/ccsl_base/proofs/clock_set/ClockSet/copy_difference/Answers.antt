@@ -1,5 +1,5 @@
 use Rattle.std.proofs.Common.{sym, ap₂, ◌∙◌, arith, refl}
-use Rattle.ccsl_base.specs.Clocks.{difference}
+use Rattle.ccsl_base.specs.Changes.{difference}
 use Rattle.ccsl_base.proofs.Differences.{made-next, made-begun, made-behind, zero-beyond, words-difference}
 use Rattle.ccsl_base.proofs.clock_set.ClockSet.copy_difference.Goals as goal
 

@@ -1,5 +1,5 @@
 use Rattle.std.proofs.Common.{◌≡◌, true, false, refl, ◌∙◌, sym, ap₂, arith}
-use Rattle.ccsl_base.specs.Clocks.{difference}
+use Rattle.ccsl_base.specs.Changes.{difference}
 use Rattle.ccsl_base.proofs.Differences.{within-none, within-next, within-all, not-within}
 use Rattle.ccsl_base.proofs.clock_set.ClockSet.is_subset.Goals as goal
 

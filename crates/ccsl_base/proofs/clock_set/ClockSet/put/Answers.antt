@@ -1,5 +1,5 @@
 use Rattle.std.proofs.Common.{ap, sym, ◌∙◌, arith}
-use Rattle.ccsl_base.specs.Clocks.{put_clock}
+use Rattle.ccsl_base.specs.Changes.{put_clock}
 use Rattle.ccsl_base.proofs.Words.{words-put}
 use Rattle.ccsl_base.proofs.clock_set.ClockSet.put.Goals as goal
 

@@ -2,7 +2,7 @@ use Rattle.std.proofs.Common.{◌%◌, ap, sym, ◌∙◌, arith, nat_eq}
 use Rattle.std.specs.Int.{w64}
 use Rattle.std.proofs.lemmas.Nat.Bits.{bit_at_clear_same, bit_at_clear_other}
 use Rattle.ccsl_base.proofs.Words.{words-without, words-without-absent}
-use Rattle.ccsl_base.specs.Clocks.{without_clock}
+use Rattle.ccsl_base.specs.Changes.{without_clock}
 use Rattle.ccsl_base.proofs.clock_set.ClockSet.remove.Goals as goal
 
 pub returns-then-place-self : goal.returns-then-place-self

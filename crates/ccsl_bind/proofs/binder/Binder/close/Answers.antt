@@ -1,5 +1,5 @@
 use Rattle.std.proofs.Common.{Ok, sym, ap, ◌∙◌, subst, arith, length}
-use Rattle.ccsl_bind.specs.Collected.{Collected, StandsFor, Refuses}
+use Rattle.ccsl_bind.specs.Gathered.{Collected, StandsFor, Refuses}
 use Rattle.ccsl_bind.specs.Slots.{clocks_from}
 use Rattle.ccsl_vcd.specs.Binding.{bind}
 use Rattle.ccsl_bind.proofs.Gathering.{same-length}

@@ -2,7 +2,7 @@ use Rattle.std.proofs.Common.{◌≡◌, true, false, List, Some, sym, ap, ◌�
 use Rattle.ccsl_base.specs.Names.{find_name, are_distinct}
 use Rattle.ccsl_vcd.specs.Binding.{Declaration}
 use Rattle.ccsl_bind.specs.Candidates.{noted}
-use Rattle.ccsl_bind.specs.Collected.{Collected}
+use Rattle.ccsl_bind.specs.Gathered.{Collected}
 use Rattle.ccsl_bind.proofs.Finding.{few-codes}
 use Rattle.ccsl_bind.proofs.Gathering.{never-binds, none-found}
 use Rattle.ccsl_bind.proofs.Declaring.{passes, notes, fits}

@@ -1,6 +1,6 @@
 use Rattle.std.proofs.Common.{Some, sym, ap, ◌∙◌}
 use Rattle.ccsl_bind.specs.Codes.{put_code}
-use Rattle.ccsl_bind.specs.Collected.{Collected}
+use Rattle.ccsl_bind.specs.Gathered.{Collected}
 use Rattle.ccsl_bind.proofs.Finding.{put-there}
 use Rattle.ccsl_bind.proofs.Declaring.{added-last}
 use Rattle.ccsl_bind.proofs.binder.Binder.number.Goals as goal

@@ -7,11 +7,11 @@ pub returns-then-is_err-clause-err : goal.returns-then-is_err-clause-err
 returns-then-is_err-clause-err g c =
     let long : length c.self.inside.slots ≡ 7 = omega arith in
     rw (← c.self.view_is)
-    (Fails-at [] _ c.args.slot _ _ _ c.index.ensures long (rw c.flush.ensures at c.fail.ensures.after)
-    (rw c.flush.ensures at c.fail.ensures.rose))
+    (Fails-at [] _ c.args.slot _ _ _ c.index.ensures long (rw c.finish.ensures at c.fail.ensures.after)
+    (rw c.finish.ensures at c.fail.ensures.rose))
 
 pub returns-clause-ok : goal.returns-clause-ok
 returns-clause-ok g c =
     let long : length c.self.inside.slots ≡ 7 = omega arith in
     rw (← c.self.view_is)
-    (Closes-untold _ c.args.slot _ _ _ c.index.ensures long (rw c.flush.ensures at c.close.ensures))
+    (Closes-untold _ c.args.slot _ _ _ c.index.ensures long (rw c.finish.ensures at c.close.ensures))

@@ -11,4 +11,4 @@ returns-in_default-clause-err g c =
 pub returns-clause-ok : goal.returns-clause-ok
 returns-clause-ok g c =
     let long : length c.self.inside.slots ≡ 7 = omega arith in
-    rw (← c.self.view_is) (OpensOut-untold _ c.args.slot _ _ _ _ c.index.ensures long c.open_out.ensures)
+    rw (← c.self.view_is) (OpensOut-untold _ c.args.slot _ _ _ _ c.index.ensures long (rw c.give_up.ensures at c.open_out.ensures))

@@ -1,5 +1,5 @@
 use Rattle.std.proofs.Common.{sym, ap, ◌∙◌}
-use Rattle.ccsl_edge.specs.Slots.{index_of}
+use Rattle.ccsl_edge.specs.Order.{index_of}
 use Rattle.ccsl_edge.specs.SlotTable.{slot_in}
 use Rattle.ccsl_edge.proofs.Sources.{faultless}
 use Rattle.ccsl_edge.proofs.steady.SteadyWorld.piece.Goals as goal

@@ -1,5 +1,6 @@
 use Rattle.std.proofs.Common.{ap₂, sym, ◌∙◌}
-use Rattle.ccsl_formula.specs.Known.{known, with_value}
+use Rattle.ccsl_formula.specs.Known.{known}
+use Rattle.ccsl_formula.specs.Truth.{with_value}
 use Rattle.ccsl_formula.specs.Kept.{pairs_of}
 use Rattle.ccsl_formula.proofs.Kept.{known-true, known-false, within-true, within-false}
 use Rattle.ccsl_formula.proofs.partial.Partial.set.Goals as goal

@@ -1,6 +1,6 @@
 use Rattle.std.proofs.Common.{◌≡◌, ◌+◌, drop}
 use Rattle.std.specs.List.{prefix_len}
-use Rattle.ccsl_base.specs.Name.{is_inner}
+use Rattle.ccsl_base.specs.Letters.{is_inner}
 use Rattle.ccsl_kernel.proofs.accepted.names.inner_front.Given as goal
 
 abbrev pub invariant-loop-i : goal.invariant-loop-i

@@ -1,6 +1,6 @@
 use Rattle.std.proofs.Common.{length, sym, ap, subst, zero-mul}
 use Rattle.ccsl_state.specs.Held as states
-use Rattle.ccsl_policy.specs.Words as words
+use Rattle.ccsl_policy.specs.Generator as generator
 use Rattle.ccsl_simulate.proofs.Runs.{run-zero}
 use Rattle.ccsl_simulate.proofs.simulator.Simulator.open.Goals as goal
 
@@ -12,5 +12,5 @@ returns-clause-stands c =
       accepted = c.names.ensures.accepted;
       steps = ap length none;
       states = subst (states.StandsFor c.in_ok-states.states) (sym none) c.in_ok-states.ensures.stands;
-      draw = subst (λ k. words.StandsFor c.new.result c.args.seed k) (sym (zero-mul c.args.system.now.declared)) c.new.ensures;
+      draw = subst (λ k. generator.StandsFor c.new.result c.args.seed k) (sym (zero-mul c.args.system.now.declared)) c.new.ensures;
     }

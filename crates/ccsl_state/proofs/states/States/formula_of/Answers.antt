@@ -1,6 +1,6 @@
 -- The formula is that of the item, and reads named clocks alone.
 use Rattle.std.proofs.Common.{◌≡◌, length, sym, ap, subst, ◌∙◌}
-use Rattle.ccsl_formula.specs.Formula.{ReadsBelow}
+use Rattle.ccsl_formula.specs.Variables.{ReadsBelow}
 use Rattle.ccsl_formula.specs.Plain.{plain}
 use Rattle.ccsl_kernel.specs.Accepted.{IsAccepted}
 use Rattle.ccsl_state.specs.Held.{Held, calls_of, formula_in}

@@ -1,5 +1,6 @@
 use Rattle.std.proofs.Common.{[], refl, arith}
-use Rattle.ccsl_vcd_lex.specs.Tokens.{tokens_from, first_long}
+use Rattle.ccsl_vcd_lex.specs.Tokens.{tokens_from}
+use Rattle.ccsl_vcd_lex.specs.LongTokens.{first_long}
 use Rattle.ccsl_vcd_lex.specs.Runs.{fresh_after}
 use Rattle.ccsl_vcd_lex.proofs.tokenizer.Tokenizer.open.Goals as goal
 

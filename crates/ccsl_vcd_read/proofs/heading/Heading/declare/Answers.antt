@@ -1,6 +1,6 @@
 use Rattle.std.proofs.Common.{◌∷◌, [], ◌++◌, ap, ◌∙◌, subst}
 use Rattle.ccsl_vcd.specs.Binding.{Declaration}
-use Rattle.ccsl_bind.specs.Collected.{StandsFor}
+use Rattle.ccsl_bind.specs.Gathered.{StandsFor}
 use Rattle.ccsl_vcd_read.specs.Heading.{reference_in}
 use Rattle.ccsl_vcd_read.proofs.HeadPictures.{declared-same}
 use Rattle.ccsl_vcd_read.proofs.heading.Heading.declare.Goals as goal

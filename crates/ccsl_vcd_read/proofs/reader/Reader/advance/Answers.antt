@@ -6,14 +6,15 @@ use Rattle.ccsl_vcd.specs.declared.fault.VcdFault.{VcdFault}
 use Rattle.ccsl_vcd.specs.declared.fault.VcdFault.TheVariants as faults
 use Rattle.ccsl_vcd.specs.Binding.{Wanted}
 use Rattle.ccsl_vcd.specs.Reading.{story, next}
-use Rattle.ccsl_vcd.specs.Rows.{done}
+use Rattle.ccsl_vcd.specs.Completed.{done}
 use Rattle.ccsl_vcd_read.specs.Heading.{Refuses}
 use Rattle.ccsl_vcd_read.specs.Passing.{Lexes}
 use Rattle.ccsl_vcd_read.specs.Staging.{shown}
-use Rattle.ccsl_vcd_read.specs.Reading.{Reading, StandsFor, Running, Pushes, Decides, HeaderSo, past_header}
+use Rattle.ccsl_vcd_read.specs.Reading.{Reading, StandsFor, Running, Pushes, Decides, HeaderSo, past_header, HadRoom}
 use Rattle.ccsl_vcd_read.proofs.HeadPictures.{weaken}
 use Rattle.ccsl_vcd_read.proofs.StagePictures.{caused-map}
 use Rattle.ccsl_vcd_read.proofs.Taking.{stands-of, stands-stopped, quiet, quiet-pushes, quiet-past, word-runs, word-pushes, word-header}
+use Rattle.ccsl_vcd_read.proofs.Filling.{quiet-room}
 use Rattle.ccsl_vcd_read.proofs.Faults.{enter, fed-of, before-last, room-for, take-cut, decides-of, stopped-of, over-breaks, long-breaks, front-back, rows-fit, cut-some, refused-breaks}
 use Rattle.ccsl_vcd_read.proofs.reader.Reader.advance.Goals as goal
 
@@ -179,3 +180,28 @@ returns-in-Err-clause-still c = λ wanted bytes t.
     stands-stopped wanted c.fail-in-Err.new.self (faults.TokenTooLong c.in-Err.long.at) (bytes ++ c.args.piece.now) (ap (λ (y : Reading). y.fault) e)
     (stopped-of wanted _ c.fail-in-Err.new.self bytes c.args.piece.now (take (x.taken + 1) c.args.piece.now) (drop (x.taken + 1) c.args.piece.now) (faults.TokenTooLong c.in-Err.long.at) c.args.out.now.rows c.args.out.now.rows (front-back (x.taken + 1) c.args.piece.now) b
     (ap (λ (y : Reading). y.limits) e) (ap (λ (y : Reading). shown y.stage) e))
+
+pub returns-in-None-clause-filled : goal.returns-in-None-clause-filled
+returns-in-None-clause-filled c = λ full. absurd (omega (arith, full, c.requires.room))
+
+pub returns-in-Ok-hear_token-clause-filled : goal.returns-in-Ok-hear_token-clause-filled
+returns-in-Ok-hear_token-clause-filled c = λ full wanted bytes t.
+    let s = enter wanted _ _ bytes c.self.view_is c.requires.runs t in
+    let k = c.in-Ok.fed.bytes in
+    let by_last = subst (λ o. Rattle.std.specs.Prelude.OnSome o ((bs : List ℕ) → Lexes c.self.inside.lexer bs → settled (bs ++ take (k - 1) c.front-piece.result.now) ≡ settled bs)) c.in-Some.is c.in-Ok.ensures.by_last in
+    subst (λ (x : Reading). HadRoom wanted x.limits bytes (take (k - 1) c.args.piece.now) c.args.out.now) c.self.view_is
+    (quiet-room wanted _ bytes (take (k - 1) c.args.piece.now) c.args.out.now s (before-last wanted _ bytes c.args.piece.now c.front-piece.result.now k s c.front-piece.ensures c.in-Ok.ensures.within)
+    (ap (λ xs. settled (bytes ++ xs)) (sym (take-cut _ c.args.piece.now c.front-piece.result.now c.front-piece.ensures (k - 1) (omega (arith, c.in-Ok.ensures.within)))) ∙ by_last bytes s.lexes)
+    c.requires.room)
+
+pub returns-then-left-eq0-clause-kept : goal.returns-then-left-eq0-clause-kept
+returns-then-left-eq0-clause-kept c = (refl, ap (λ (x : Reading). shown x.stage) c.fail.ensures.after)
+
+pub returns-in-Err-hear_token-clause-kept : goal.returns-in-Err-hear_token-clause-kept
+returns-in-Err-hear_token-clause-kept c =
+    let kept = c.in-Err-hear_token.ensures.kept in
+    (kept.0, kept.1 ∙ ap (λ (x : Reading). shown x.stage) c.self.view_is)
+
+pub returns-in-Err-clause-kept : goal.returns-in-Err-clause-kept
+returns-in-Err-clause-kept c =
+    (refl, ap (λ (x : Reading). shown x.stage) c.fail-in-Err.ensures.after ∙ ap (λ (x : Reading). shown x.stage) c.self.view_is)

@@ -2,6 +2,8 @@ use Rattle.std.proofs.Common.{ℕ, List, ◌++◌, sym, ap, ◌∙◌, subst, ar
 use Rattle.std.proofs.lemmas.Grind.{common_steps}
 use Rattle.ccsl_vcd.specs.Binding.{Wanted}
 use Rattle.ccsl_vcd_read.specs.Reading.{Reading, StandsFor, HeaderSo}
+use Rattle.ccsl_vcd_read.proofs.Filling.{filled-more}
+use Rattle.ccsl_vcd_read.proofs.Wanting.{in-header, shown-none, out-same}
 use Rattle.ccsl_vcd_read.proofs.StagePictures.{caused-map}
 use Rattle.ccsl_vcd_read.proofs.Feeding.{starts, passes, more-stands, more-pushes, more-header, piece-decides, piece-refuses, piece-still, stays-stopped, all-refused, rest_at, if-none}
 use Rattle.ccsl_vcd_read.proofs.reader.Reader.feed.Goals as goal
@@ -101,3 +103,22 @@ pub returns-in-Err-clause-calm : goal.returns-in-Err-clause-calm
 returns-in-Err-clause-calm c =
     if-none c.args.self.now.fault c.loop-from.invariant.old_runs
     (piece-calm c.args.self.now c.loop-from.self c.args.out.now c.loop-from.out c.args.piece.now c.loop-from.from c.in-Err.fault c.loop-from.invariant c.in-Err.ensures.calm)
+
+pub returns-then-step-clause-filled : goal.returns-then-step-clause-filled
+returns-then-step-clause-filled c =
+    filled-more c.args.self.now c.loop-from.self c.args.out.now c.loop-from.out c.stride.new.out c.args.piece.now c.loop-from.from c.in-Ok.step.bytes c.loop-from.invariant c.in-Ok.ensures.room
+    c.in-Ok.ensures.filled c.in-Ok.ensures.pushes
+
+pub returns-clause-filled : goal.returns-clause-filled
+returns-clause-filled c = λ full. absurd (omega (arith, full, c.loop-from.invariant.room))
+
+pub returns-in-Err-clause-unpushed : goal.returns-in-Err-clause-unpushed
+returns-in-Err-clause-unpushed c = λ e.
+    let w = subst (λ o. Rattle.std.specs.Prelude.IfNone o ((x : Wanted) × (y : List ℕ) × StandsFor x c.args.self.now y)) c.loop-from.invariant.old_runs c.requires.stands in
+    c.in-Err.ensures.kept.0
+    ∙ out-same c.args.self.now c.loop-from.self c.args.out.now c.loop-from.out c.args.piece.now c.loop-from.from c.loop-from.invariant w.0 w.1 w.2 (in-header c.loop-from.self.stage c.in-Err.fault c.in-Err.ensures.calm e)
+
+pub returns-in-Err-clause-unbound : goal.returns-in-Err-clause-unbound
+returns-in-Err-clause-unbound c = λ e.
+    if-none c.args.self.now.fault c.loop-from.invariant.old_runs
+    (c.in-Err.ensures.kept.1 ∙ shown-none c.loop-from.self.stage (in-header c.loop-from.self.stage c.in-Err.fault c.in-Err.ensures.calm e))

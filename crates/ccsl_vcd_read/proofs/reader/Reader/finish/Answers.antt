@@ -4,6 +4,7 @@ use Rattle.ccsl_vcd.specs.declared.fault.VcdFault.TheVariants as faults
 use Rattle.ccsl_vcd.specs.Binding.{Wanted}
 use Rattle.ccsl_vcd_read.specs.Staging.{ends_well, row_left}
 use Rattle.ccsl_vcd_read.specs.Reading.{Reading, StandsFor}
+use Rattle.ccsl_vcd_read.proofs.Wanting.{in-header, shown-none}
 use Rattle.ccsl_vcd_read.proofs.HeadPictures.{weaken}
 use Rattle.ccsl_vcd_read.proofs.Taking.{running-of}
 use Rattle.ccsl_vcd_read.proofs.Faults.{rows-fit}
@@ -64,3 +65,11 @@ returns-in-Err-clause-calm c =
 pub returns-else-not-may_end-clause-shows : goal.returns-else-not-may_end-clause-shows
 returns-else-not-may_end-clause-shows c = λ wanted bytes t.
     end-shown wanted c.args.self.now c.last_token.new.self bytes _ _ (c.in-Ok.ensures.ends wanted bytes t)
+
+pub returns-in-Err-clause-unpushed : goal.returns-in-Err-clause-unpushed
+returns-in-Err-clause-unpushed c = λ e. c.in-Err.ensures.kept.0
+
+pub returns-in-Err-clause-unbound : goal.returns-in-Err-clause-unbound
+returns-in-Err-clause-unbound c = λ e.
+    when-none c.args.self.now.fault (λ none.
+    c.in-Err.ensures.kept.1 ∙ shown-none c.args.self.now.stage (in-header c.args.self.now.stage c.in-Err.fault c.in-Err.ensures.calm e))

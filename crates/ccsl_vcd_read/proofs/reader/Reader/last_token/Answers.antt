@@ -1,8 +1,9 @@
-use Rattle.std.proofs.Common.{◌<◌, ◌+◌, ◌^◌, ℕ, List, refl, sym, ap, subst, arith}
+use Rattle.std.proofs.Common.{◌<◌, ◌+◌, ◌^◌, ℕ, List, refl, sym, ap, ◌∙◌, subst, arith}
 use Rattle.ccsl_vcd_lex.specs.Tokens.{token, word, settled}
 use Rattle.ccsl_vcd.specs.Binding.{Wanted}
 use Rattle.ccsl_vcd.specs.Reading.{story, next}
 use Rattle.ccsl_vcd_read.specs.Heading.{Refuses}
+use Rattle.ccsl_vcd_read.specs.Staging.{shown}
 use Rattle.ccsl_vcd_read.specs.Reading.{Reading, StandsFor, AtEnd, Refused}
 use Rattle.ccsl_vcd_read.proofs.StagePictures.{caused-map}
 use Rattle.ccsl_vcd_read.proofs.Faults.{enter}
@@ -63,3 +64,8 @@ returns-in-None-clause-few c =
     let fits : c.self.inside.rows + 1 < 2 ^ 64 = subst (λ (x : Reading). x.rows + 1 < 2 ^ 64) (sym c.self.view_is) c.requires.rows in
     let few = one-left c.self.inside.stage in
     omega (arith, fits, few)
+
+pub returns-in-Err-clause-kept : goal.returns-in-Err-clause-kept
+returns-in-Err-clause-kept c =
+    let kept = c.in-Err.ensures.kept in
+    (kept.0, kept.1 ∙ ap (λ (x : Reading). shown x.stage) c.self.view_is)

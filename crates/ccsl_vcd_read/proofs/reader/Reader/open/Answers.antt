@@ -1,5 +1,6 @@
 use Rattle.std.proofs.Common.{[], refl, arith}
-use Rattle.ccsl_vcd_lex.specs.Tokens.{tokens_from, first_long}
+use Rattle.ccsl_vcd_lex.specs.Tokens.{tokens_from}
+use Rattle.ccsl_vcd_lex.specs.LongTokens.{first_long}
 use Rattle.ccsl_vcd.specs.Rows.{rows}
 use Rattle.ccsl_vcd.specs.Places.{commands}
 use Rattle.ccsl_bind.specs.Collected.{wanted_of}

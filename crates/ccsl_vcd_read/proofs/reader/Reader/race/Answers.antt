@@ -1,8 +1,9 @@
 use Rattle.std.proofs.Common.{◌≡◌, ◌-◌, ◌≤◌, ◌<◌, ◌++◌, length, take, sym, ap, ◌∙◌, subst, arith}
-use Rattle.ccsl_vcd.specs.Rows.{done}
-use Rattle.ccsl_vcd_read.specs.Reading.{Reading, Pushes, past_header}
+use Rattle.ccsl_vcd.specs.Completed.{done}
+use Rattle.ccsl_vcd_read.specs.Reading.{Reading, Pushes, past_header, HadRoom}
 use Rattle.ccsl_vcd_read.proofs.Faults.{enter}
 use Rattle.ccsl_vcd_read.proofs.Taking.{stands-of}
+use Rattle.ccsl_vcd_read.proofs.Filling.{race-filled}
 use Rattle.ccsl_vcd_read.proofs.Racing.{taken, raced, few-pushed, rows-less}
 use Rattle.ccsl_vcd_read.proofs.reader.Reader.race.Goals as goal
 
@@ -48,3 +49,10 @@ returns-clause-header c = λ wanted bytes t.
     let r = raced wanted _ c.pass.new.self bytes c.args.piece.now c.cut-piece.result.now c.run-count.new.stage c.run-count.result c.len.result c.len-before.result c.args.out.now.rows c.run-count.new.out.rows s c.cut-piece.ensures c.run-count.ensures.within c.run-count.ensures.runs
     (ap (λ (x : Reading). x.lexing.inner.open_text) c.self.view_is ∙ c.requires.nothing_open) c.pass.ensures c.len.ensures c.len-before.ensures in
     subst (λ (x : Reading). past_header wanted x.limits (bytes ++ take c.run-count.result c.args.piece.now) ≡ past_header wanted x.limits bytes) c.self.view_is r.past
+
+pub returns-clause-filled : goal.returns-clause-filled
+returns-clause-filled c = λ full wanted bytes t.
+    let s = enter wanted _ _ bytes c.self.view_is c.requires.runs t in
+    subst (λ (x : Reading). HadRoom wanted x.limits bytes (take (c.run-count.result - 1) c.args.piece.now) c.args.out.now) c.self.view_is
+    (race-filled wanted _ bytes c.args.piece.now c.cut-piece.result.now c.run-count.result c.args.out.now s c.cut-piece.ensures c.run-count.ensures.within (c.run-count.ensures.full full)
+    (ap (λ (x : Reading). x.lexing.inner.open_text) c.self.view_is ∙ c.requires.nothing_open))

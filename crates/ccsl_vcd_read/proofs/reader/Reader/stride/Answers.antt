@@ -2,6 +2,7 @@ use Rattle.std.proofs.Common.{◌++◌, take, false, sym, ◌∙◌, subst, arit
 use Rattle.std.proofs.lemmas.Grind.{common_steps}
 use Rattle.ccsl_vcd_read.specs.Reading.{HeaderSo}
 use Rattle.ccsl_vcd_read.proofs.Feeding.{Passed, more-stands, more-pushes, more-header}
+use Rattle.ccsl_vcd_read.proofs.Filling.{filled-more}
 use Rattle.ccsl_vcd_read.proofs.Passing.{none-open}
 use Rattle.ccsl_vcd_read.proofs.Racing.{white-last}
 use Rattle.ccsl_vcd_read.proofs.Taking.{running-of}
@@ -58,3 +59,18 @@ returns-clause-header c =
       header = λ wanted bytes s. subst (λ b. HeaderSo b wanted c.args.self.now.limits bytes c.args.piece.now c.in-Ok.step.bytes) c.if-step.false (c.in-Ok.ensures.header wanted bytes s);
     } in
     more-header c.args.self.now c.advance.new.self c.race-more.new.self c.args.out.now c.advance.new.out c.race-more.new.out c.args.piece.now c.in-Ok.step.bytes c.race-more.result q c.race-more.ensures.limits c.race-more.ensures.stands c.race-more.ensures.pushes false c.race-more.ensures.header
+
+pub returns-clause-filled : goal.returns-clause-filled
+returns-clause-filled c =
+    let q : Passed c.args.self.now c.advance.new.self c.args.out.now c.advance.new.out c.args.piece.now c.in-Ok.step.bytes = record {
+      old_runs = c.requires.runs;
+      runs = c.in-Ok.ensures.runs;
+      limits = c.in-Ok.ensures.limits;
+      same_room = c.in-Ok.ensures.room;
+      room = grind (arith, common_steps, c.is_full.ensures, c.if-is_full.false);
+      within = c.in-Ok.ensures.within;
+      stands = c.in-Ok.ensures.stands;
+      pushes = c.in-Ok.ensures.pushes;
+      header = λ wanted bytes s. subst (λ b. HeaderSo b wanted c.args.self.now.limits bytes c.args.piece.now c.in-Ok.step.bytes) c.if-step.false (c.in-Ok.ensures.header wanted bytes s);
+    } in
+    filled-more c.args.self.now c.advance.new.self c.args.out.now c.advance.new.out c.race-more.new.out c.args.piece.now c.in-Ok.step.bytes c.race-more.result q c.race-more.ensures.room c.race-more.ensures.filled c.race-more.ensures.pushes

@@ -2,7 +2,8 @@ use Rattle.std.proofs.Common.{◌≡◌, ℕ, ◌++◌, ◌∷◌, List, sym, su
 use Rattle.std.specs.Prelude.{IfOk, IfErr, ◌≢◌, Err}
 use Rattle.std.proofs.lemmas.Result.{err_from_is_err_and}
 use Rattle.ccsl_words.specs.declared.fault.WordFault.TheVariants as fault
-use Rattle.ccsl_words.specs.Spelling.{Reads, digits}
+use Rattle.ccsl_words.specs.Spelling.{digits}
+use Rattle.ccsl_words.specs.Reads.{Reads}
 use Rattle.ccsl_words.specs.Fault.{IsFault}
 use Rattle.ccsl_words.proofs.Reading.{word_computed, fault_refused, reads_read}
 use Rattle.ccsl_words.proofs.Stripped.{opens, not_opened, ended_word, front_long, none_long, some_long}

@@ -1,0 +1,6 @@
+-- Lists without a member.
+use Rattle.std.specs.Prelude.{List, [], ◌∷◌, Bool, true, false}
+
+abbrev pub is_empty : {A : Type 0} → List A → Bool
+is_empty [] = true
+is_empty (x ∷ xs) = false

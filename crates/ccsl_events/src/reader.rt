@@ -1,0 +1,152 @@
+//! Reading a dump piece by piece.
+
+ghost use Rattle.std.specs.Prelude.{◌≤◌, ◌<◌, length, IfOk};
+
+use crate::body::Body;
+use crate::output::FULL;
+use ccsl_base::{HashKeys, MAX_TOKEN_BYTES, Memory};
+use ccsl_scopes::{Header, HeaderReader};
+use ccsl_vcd::{Limits, VcdFault};
+use ccsl_vcd_lex::run_end;
+use std::alloc::Global;
+
+/// Takes the bytes of a dump. It keeps the token that a piece ends in.
+pub struct Reader {
+    heading: Option<HeaderReader>,
+    is_header_over: bool,
+    body: Option<Body>,
+    carry: Vec<u8>,
+    // how many bytes were taken
+    taken: u64,
+}
+
+// By hand and not derived: to the prover, an early return then drops one by a single call.
+impl Drop for Reader {
+    fn drop(self) {
+        let Reader {
+            heading: _heading,
+            is_header_over: _,
+            body: _body,
+            carry: _carry,
+            taken: _,
+        } = self;
+    }
+}
+
+impl Reader {
+    /// A reader before the first byte.
+    pub fn open(alloc: Global, keys: HashKeys, limits: Limits) -> Result<Reader, Memory> {
+        let carry = Vec::with_capacity(alloc, MAX_TOKEN_BYTES)?;
+        Ok(Reader {
+            heading: Some(HeaderReader::new(alloc, keys, limits)),
+            is_header_over: false,
+            body: None,
+            carry,
+            taken: 0,
+        })
+    }
+
+    /// How many bytes were taken.
+    pub fn taken(&self) -> u64 {
+        self.taken
+    }
+
+    /// How many times have a row so far.
+    pub fn times(&self) -> u64 {
+        match &self.body {
+            Some(body) => body.times(),
+            None => 0,
+        }
+    }
+
+    /// The header, once its last token was taken.
+    pub fn take_header(&mut self) -> Option<Header> {
+        if !self.is_header_over {
+            return None;
+        }
+        self.is_header_over = false;
+        match self.heading.take() {
+            Some(heading) => Some(heading.into_header()),
+            None => None,
+        }
+    }
+
+    /// The body begins.
+    pub fn begin(&mut self, body: Body) {
+        self.body = Some(body);
+    }
+
+    // The token that is kept has ended.
+    fn hear(&mut self, out: &mut Vec<u8>) -> Result<(), VcdFault> {
+        let at = self.taken.saturating_sub(self.carry.len() as u64);
+        let text = self.carry.as_slice();
+        if let Some(body) = &mut self.body {
+            body.hear(at, text, out)?;
+        } else if let Some(heading) = &mut self.heading {
+            self.is_header_over = heading.hear(at, text)?;
+        }
+        self.carry.clear();
+        Ok(())
+    }
+
+    // Takes the bytes up to the end of the token that is open.
+    fn part(&mut self, bytes: &[u8], out: &mut Vec<u8>) -> Result<usize, VcdFault>
+        requires { 0 < length bytes.now }
+        ensures { IfOk result (λ taken. (0 < taken) × (taken ≤ length bytes.now)) }
+    {
+        let end = run_end(bytes, 0);
+        if end > MAX_TOKEN_BYTES - self.carry.len().min(MAX_TOKEN_BYTES) {
+            let at = self.taken.saturating_sub(self.carry.len() as u64);
+            return Err(VcdFault::TokenTooLong { at });
+        }
+        self.carry.extend_from_slice(&bytes[..end])?;
+        self.taken = self.taken.saturating_add(end as u64);
+        if end == bytes.len() {
+            return Ok(end);
+        }
+        if !self.carry.is_empty() {
+            self.hear(out)?;
+        }
+        self.taken = self.taken.saturating_add(1);
+        Ok(end + 1)
+    }
+
+    // Takes the tokens that lie whole in some bytes, or a part of one.
+    fn stride(&mut self, bytes: &[u8], out: &mut Vec<u8>) -> Result<usize, VcdFault>
+        requires { 0 < length bytes.now }
+        ensures { IfOk result (λ taken. (0 < taken) × (taken ≤ length bytes.now)) }
+    {
+        if self.carry.is_empty() {
+            if let Some(body) = &mut self.body {
+                let taken = body.run(self.taken, bytes, out)?;
+                if taken > 0 {
+                    self.taken = self.taken.saturating_add(taken as u64);
+                    return Ok(taken);
+                }
+            }
+        }
+        self.part(bytes, out)
+    }
+
+    /// Takes bytes of a piece, one at least, up to the header's end or to where the output is full. It answers how many.
+    pub fn feed(&mut self, piece: &[u8], out: &mut Vec<u8>) -> Result<usize, VcdFault>
+        requires { 0 < length piece.now }
+        ensures { IfOk result (λ taken. (0 < taken) × (taken ≤ length piece.now)) }
+    {
+        let first = self.stride(piece, out)?;
+        let mut rest = &piece[first..];
+        'strides: while !rest.is_empty() && out.len() < FULL && !self.is_header_over {
+            let taken = self.stride(rest, out)?;
+            rest = &rest[taken..];
+        }
+        Ok(piece.len() - rest.len())
+    }
+
+    /// Ends the dump: the row of the last time is appended, if the dump may end here.
+    pub fn finish(&mut self, len: u64, out: &mut Vec<u8>) -> Result<(), VcdFault> {
+        match &mut self.body {
+            Some(body) if body.may_end() => body.settle(out),
+            _ => Err(VcdFault::Truncated { at: len }),
+        }
+    }
+}

@@ -1,0 +1,101 @@
+//! The program's one call.
+
+ghost use Rattle.std.specs.Prelude.{ℕ, List};
+ghost use Rattle.ccsl_edge.specs.declared.slot.Slot.{Slot};
+ghost use Rattle.ccsl_edge.specs.declared.slot.Slot.TheVariants.{TraceOut};
+
+use crate::answer::{Answer, answer_to};
+use crate::files::read_event_file;
+use crate::pass::Pass;
+use crate::sink::Sink;
+use crate::stop::Stop;
+use crate::words::{Command, Key, meaning, value_of};
+use ccsl_base::{CommandWord, HashKeys, Memory};
+use ccsl_edge::{Slot, World, write_all};
+use ccsl_event_file::{Event, EventFault, read_events};
+use ccsl_events::{Body, bind, header_text};
+use ccsl_scopes::Header;
+use std::alloc::Global;
+
+fn events_of(alloc: Global, keys: HashKeys, text: &[u8]) -> Result<Vec<Event>, Stop> {
+    match read_events(alloc, keys, text) {
+        Ok(events) => Ok(events),
+        Err(fault) => Err(Stop::Events(fault, Vec::new(alloc))),
+    }
+}
+
+// The names of events, in their order.
+fn text_of_header(alloc: Global, events: &[Event], header: &Header) -> Result<Vec<u8>, Memory> {
+    let timescale = match &header.timescale {
+        Some(scale) => Some(scale.as_slice()),
+        None => None,
+    };
+    header_text(alloc, timescale, events)
+}
+
+fn body_of(
+    alloc: Global,
+    command: Command<'_>,
+    events: &[Event],
+    header: Header,
+) -> Result<Body, Stop> {
+    match bind(alloc, events, header, command.gaps) {
+        Ok(body) => Ok(body),
+        Err(refused) => Err(Stop::Events(refused.fault, refused.candidates)),
+    }
+}
+
+// The body, written to the file that the words name.
+fn write_file<W: World>(world: &mut W, pass: &mut Pass, name: &str) -> Result<u64, Stop>
+    requires allowed { W.allows TraceOut name.now }
+{
+    world.open_out(Slot::TraceOut, name)?;
+    let times = pass.body(world, Sink::File)?;
+    world.close_out(Slot::TraceOut)?;
+    Ok(times)
+}
+
+fn make<W: World>(
+    alloc: Global,
+    keys: HashKeys,
+    command: Command<'_>,
+    world: &mut W,
+) -> Result<(usize, u64), Stop>
+    requires allowed { (slot : Slot) (name : List ℕ) → W.allows slot name }
+{
+    let text = read_event_file(alloc, world, command.events)?;
+    let events = events_of(alloc, keys, text.as_slice())?;
+    world.open_in(Slot::Trace, command.trace)?;
+    let mut pass = Pass::new(alloc, keys)?;
+    let header = pass.header(world)?;
+    let text = text_of_header(alloc, events.as_slice(), &header)?;
+    let body = body_of(alloc, command, events.as_slice(), header)?;
+    pass.begin(body, text)?;
+    let times = match command.out {
+        Some(name) => write_file(world, &mut pass, name)?,
+        None => pass.body(world, Sink::Standard)?,
+    };
+    Ok((events.len(), times))
+}
+
+// The report goes to standard output where that is no trace.
+fn report<W: World>(world: &mut W, words: &[CommandWord], mut answer: Answer) -> Answer {
+    if value_of(Key::Out, words).is_some() {
+        if write_all(world, Slot::Report, answer.line.as_slice()).is_err() {
+            answer.status = 5;
+        }
+        answer.line.clear();
+    }
+    answer
+}
+
+/// Makes a trace of events of a dump, as the words say. What the answer has is for standard error.
+pub fn run<W: World>(alloc: Global, keys: HashKeys, words: &[CommandWord], world: &mut W) -> Answer
+    requires allowed { (slot : Slot) (name : List ℕ) → W.allows slot name }
+{
+    let done = match meaning(words) {
+        Ok(command) => make(alloc, keys, command, world),
+        Err(fault) => Err(Stop::Words(fault)),
+    };
+    report(world, words, answer_to(alloc, done))
+}

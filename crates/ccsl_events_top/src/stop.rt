@@ -1,0 +1,54 @@
+//! Why there is no trace of events, or not the whole of it.
+
+ghost use Rattle.std.specs.Prelude.{◌≡◌};
+
+use crate::words::Usage;
+use ccsl_base::Memory;
+use ccsl_edge::{Failed, ReadFault};
+use ccsl_event_file::EventFault;
+use ccsl_vcd::VcdFault;
+use std::alloc::{AllocError, AllocFailed};
+
+#[derive(Drop)]
+pub(crate) enum Stop {
+    Words(Usage),
+    /// the file of events, and the variables that a path of it may mean
+    Events(EventFault, Vec<u8>),
+    Trace(VcdFault),
+    /// a call of the world failed
+    Fault,
+    Memory,
+}
+
+impl From<Memory> for Stop {
+    fn from(_memory: Memory) -> Stop {
+        Stop::Memory
+    }
+}
+
+impl From<AllocError> for Stop {
+    fn from(_error: AllocError) -> Stop {
+        Stop::Memory
+    }
+}
+
+impl<T: Drop> From<AllocFailed<T>> for Stop {
+    fn from(_failed: AllocFailed<T>) -> Stop {
+        Stop::Memory
+    }
+}
+
+impl From<Failed> for Stop {
+    fn from(_failed: Failed) -> Stop {
+        Stop::Fault
+    }
+}
+
+impl From<VcdFault> for Stop {
+    fn from(fault: VcdFault) -> Stop {
+        match fault {
+            VcdFault::Memory => Stop::Memory,
+            fault => Stop::Trace(fault),
+        }
+    }
+}

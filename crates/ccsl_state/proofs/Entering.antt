@@ -1,0 +1,280 @@
+-- Which definitions wait and which read a clock, as the program finds it.
+use Rattle.std.proofs.Common.{◌≡◌, ℕ, zero, suc, ◌+◌, ◌<◌, ◌≤◌, ⊎_elim, List, [], ◌∷◌, ◌++◌, length, Bool, true, false, not, ◌&&◌, ◌||◌, Option, Some, None, min, slice_get, slice_set, slice_index_or, nat_eq, nat_lt, refl, sym, ap, ap₂, ◌∙◌, arith, lt-ltb, le-ltb, eq-eqb, eqb-true}
+use Rattle.std.specs.Prelude.{MatchOption, IfSome}
+use Rattle.std.specs.List.{list_any, list_all}
+use Rattle.std.proofs.lemmas.List.{length-set, get_or_default, get_or-set_same, get_or-set_other}
+use Rattle.std.proofs.lemmas.Bool.{cases_eq, cases_lt, ne_eqb, and_parts, or_cases}
+use Rattle.ccsl_base.specs.Clocks.{ticks_in, with_clock, is_ascending}
+use Rattle.ccsl_base.specs.Changes.{put_clock}
+use Rattle.ccsl_base.proofs.Ascending.{above}
+use Rattle.ccsl_base.proofs.Sets.{ticks_in-put_same, ticks_in-put_other}
+use Rattle.ccsl_kernel.proofs.Sets.{ticks_in-with_clock}
+use Rattle.ccsl_kernel.specs.Syntax.{Expression, System}
+use Rattle.ccsl_kernel.specs.Lives.{Step}
+use Rattle.ccsl_state.specs.Reach.{names_clock}
+use Rattle.ccsl_state.specs.Quiet.{named_by, reads}
+use Rattle.ccsl_state.specs.Passing.{AreReaders}
+use Rattle.ccsl_state.specs.declared.lay.Lay.{Lay}
+use Rattle.ccsl_state.specs.declared.moved.Visited.{Visited}
+use Rattle.ccsl_state.specs.declared.follow.Passage.{Passage}
+use Rattle.ccsl_state.specs.States.{put}
+use Rattle.ccsl_state.specs.Regions.{trees_from}
+use Rattle.ccsl_state.specs.Visits.{IsVisited, IsEntered, is_waiting}
+use Rattle.ccsl_state.proofs.WithinLaws.{or_left, or_right}
+use Rattle.ccsl_state.proofs.Visiting.{IsVisit}
+
+-- THE FIRST MEMBER of an ascending list is the least
+pub first_least : (x : ℕ) (xs : List ℕ) → is_ascending (x ∷ xs) ≡ true → (m : ℕ) → ticks_in m (x ∷ xs) ≡ true → x ≤ m
+first_least x xs h m is = ⊎_elim
+    (λ (e : nat_eq m x ≡ true). let same = eqb-true m x e in omega (arith, same))
+    (λ (r : ticks_in m xs ≡ true). let l = above x xs m (and_parts (list_all (nat_lt x) xs) (is_ascending xs) h).0 r in omega (arith, l))
+    (or_cases (nat_eq m x) (ticks_in m xs) is)
+
+pub first_is : (set left left' : List ℕ) (r : Option ℕ) → left ≡ set → is_ascending set ≡ true → MatchOption r ((left ≡ []) × (left' ≡ [])) (λ x. left ≡ x ∷ left') →
+    IfSome r (λ i. (m : ℕ) → ticks_in m set ≡ true → i ≤ m)
+first_is set left left' None is asc h = tt
+first_is set left left' (Some x) is asc h = λ m t. first_least x left' (ap is_ascending (sym h ∙ is) ∙ asc) m (ap (ticks_in m) (sym h ∙ is) ∙ t)
+
+-- one member of one set more
+pub placed_more : (old : List (List ℕ)) (i clock : ℕ) (was now : List ℕ) → clock < length old → was ≡ slice_index_or old clock was → now ≡ with_clock i was →
+    (y p : ℕ) → ticks_in p (slice_index_or (slice_set old clock now) y []) ≡ ((nat_eq p i && nat_eq y clock) || ticks_in p (slice_index_or old y []))
+placed_more old i clock was now l at is y p = ⊎_elim
+    (λ (e : y ≡ clock).
+    ap (λ k. ticks_in p (slice_index_or (slice_set old clock now) k [])) e
+    ∙ ap (ticks_in p) (get_or-set_same old clock now [] l ∙ is) ∙ ticks_in-with_clock p i was
+    ∙ ap₂ (λ a b. a || b) (and_yes (nat_eq p i) ∙ sym (ap (λ b. nat_eq p i && b) (eq-eqb y clock e))) (ap (ticks_in p) (at ∙ get_or_default old clock was [] l ∙ ap (λ k. slice_index_or old k []) (sym e))))
+    (λ (ne : y ≡ clock → ⊥).
+    ap (ticks_in p) (get_or-set_other old clock y now [] ne)
+    ∙ sym (ap (λ b. (nat_eq p i && b) || ticks_in p (slice_index_or old y [])) (ne_eqb y clock ne) ∙ ap (λ b. b || ticks_in p (slice_index_or old y [])) (and_no (nat_eq p i))))
+    (cases_eq y clock)
+  where
+    and_yes : (b : Bool) → b ≡ (b && true)
+    and_yes true = refl
+    and_yes false = refl
+
+    and_no : (b : Bool) → (b && false) ≡ false
+    and_no true = refl
+    and_no false = refl
+
+-- the least member, or a bound where there is none
+abbrev pub lowest : ℕ → List ℕ → ℕ
+lowest n [] = n
+lowest n (x ∷ xs) = min x (lowest n xs)
+
+pub lowest_below : (n : ℕ) (xs : List ℕ) (x : ℕ) → ticks_in x xs ≡ true → lowest n xs ≤ x
+lowest_below n [] x is = let z : ⊥ = cc in absurd z
+lowest_below n (y ∷ xs) x is = ⊎_elim
+    (λ (e : nat_eq x y ≡ true). let same = eqb-true x y e in omega (arith, same))
+    (λ (r : ticks_in x xs ≡ true). let l = lowest_below n xs x r in omega (arith, l))
+    (or_cases (nat_eq x y) (ticks_in x xs) is)
+
+pub lowest_above : (n j : ℕ) (xs : List ℕ) → j < n → ((m : ℕ) → ticks_in m xs ≡ true → j < m) → j < lowest n xs
+lowest_above n j [] l h = l
+lowest_above n j (x ∷ xs) l h =
+    let here = h x (ap (λ t. t || ticks_in x xs) (eq-eqb x x refl)) in
+    let rest = lowest_above n j xs l (λ m is. h m (or_right (nat_eq m x) (ticks_in m xs) is)) in
+    omega (arith, here, rest)
+
+pub lowest_most : (n : ℕ) (xs : List ℕ) → lowest n xs ≤ n
+lowest_most n [] = omega arith
+lowest_most n (x ∷ xs) = let l = lowest_most n xs in omega (arith, l)
+
+-- WHO READS a clock that ticks
+any_member : (p : ℕ → Bool) (xs : List ℕ) (x : ℕ) → ticks_in x xs ≡ true → p x ≡ true → list_any p xs ≡ true
+any_member p [] x is h = let z : ⊥ = cc in absurd z
+any_member p (y ∷ xs) x is h = ⊎_elim
+    (λ (e : nat_eq x y ≡ true). or_left (p y) (list_any p xs) (ap p (sym (eqb-true x y e)) ∙ h))
+    (λ (r : ticks_in x xs ≡ true). or_right (p y) (list_any p xs) (any_member p xs x r h))
+    (or_cases (nat_eq x y) (ticks_in x xs) is)
+
+member_any : (p : ℕ → Bool) (xs : List ℕ) → list_any p xs ≡ true → (x : ℕ) × (p x ≡ true)
+member_any p [] h = let z : ⊥ = cc in absurd z
+member_any p (y ∷ xs) h = ⊎_elim (λ (e : p y ≡ true). (y, e)) (λ (r : list_any p xs ≡ true). member_any p xs r) (or_cases (p y) (list_any p xs) h)
+
+module _ (sets : List (List ℕ)) (unsettled : List ℕ) (s : Step) (waiting : List ℕ) (are : (p : ℕ) → ticks_in p waiting ≡ is_waiting sets unsettled s p) where
+  pub unsettled_wait : (p : ℕ) → ticks_in p unsettled ≡ true → ticks_in p waiting ≡ true
+  unsettled_wait p h = are p ∙ or_left (ticks_in p unsettled) (list_any (λ y. ticks_in p (slice_index_or sets y [])) s) h
+
+  pub readers_wait : (p y : ℕ) → ticks_in y s ≡ true → ticks_in p (slice_index_or sets y []) ≡ true → ticks_in p waiting ≡ true
+  readers_wait p y is h = are p ∙ or_right (ticks_in p unsettled) (list_any (λ y. ticks_in p (slice_index_or sets y [])) s) (any_member (λ y. ticks_in p (slice_index_or sets y [])) s y is h)
+
+  pub followed_wait : (P : ℕ → Type 0) → ((p : ℕ) → ticks_in p unsettled ≡ true → P p) → ((p y : ℕ) → ticks_in p (slice_index_or sets y []) ≡ true → P p) → (p : ℕ) → ticks_in p waiting ≡ true → P p
+  followed_wait P early reader p h = ⊎_elim
+      (λ (u : ticks_in p unsettled ≡ true). early p u)
+      (λ (a : list_any (λ y. ticks_in p (slice_index_or sets y [])) s ≡ true). let m = member_any (λ y. ticks_in p (slice_index_or sets y [])) s a in reader p m.0 m.1)
+      (or_cases (ticks_in p unsettled) (list_any (λ y. ticks_in p (slice_index_or sets y [])) s) (sym (are p) ∙ h))
+
+-- while the clocks that tick are gone through: some are left
+abbrev pub IsHearing : List (List ℕ) → List ℕ → Step → List ℕ → List ℕ → Type 0
+IsHearing sets unsettled s left waiting = (p : ℕ) → (ticks_in p waiting || list_any (λ y. ticks_in p (slice_index_or sets y [])) left) ≡ is_waiting sets unsettled s p
+
+or_move : (a b c : Bool) → ((a || b) || c) ≡ (a || (b || c))
+or_move true b c = refl
+or_move false b c = refl
+
+pub hear_more : (sets : List (List ℕ)) (unsettled : List ℕ) (s : Step) (y : ℕ) (left waiting waiting' : List ℕ) → IsHearing sets unsettled s (y ∷ left) waiting →
+    ((p : ℕ) → ticks_in p waiting' ≡ (ticks_in p waiting || ticks_in p (slice_index_or sets y []))) → IsHearing sets unsettled s left waiting'
+hear_more sets unsettled s y left waiting waiting' h more p =
+    ap (λ t. t || list_any (λ y. ticks_in p (slice_index_or sets y [])) left) (more p)
+    ∙ or_move (ticks_in p waiting) (ticks_in p (slice_index_or sets y [])) (list_any (λ y. ticks_in p (slice_index_or sets y [])) left)
+    ∙ h p
+
+pub hear_all : (sets : List (List ℕ)) (unsettled : List ℕ) (s : Step) (waiting : List ℕ) → IsHearing sets unsettled s [] waiting → (p : ℕ) → ticks_in p waiting ≡ is_waiting sets unsettled s p
+hear_all sets unsettled s waiting h p = none (ticks_in p waiting) ∙ h p
+  where
+    none : (a : Bool) → a ≡ (a || false)
+    none true = refl
+    none false = refl
+
+-- ONE EMPTY SET more
+pub empty_more : (sets : List (List ℕ)) (one : List ℕ) → one ≡ [] → ((y : ℕ) → slice_index_or sets y [] ≡ []) → (y : ℕ) → slice_index_or (sets ++ one ∷ []) y [] ≡ []
+empty_more [] one is h zero = is
+empty_more [] one is h (suc y) = refl
+empty_more (set ∷ sets) one is h zero = h zero
+empty_more (set ∷ sets) one is h (suc y) = empty_more sets one is (λ k. h (suc k)) y
+
+-- ONE READER of some clocks, while they are gone through: some are left
+pub record IsAdding (i : ℕ) (clocks : List ℕ) (old : List (List ℕ)) (left : List ℕ) (sets : List (List ℕ)) : Type 0 where
+  pub within : (y : ℕ) → ticks_in y left ≡ true → y < length sets
+  pub added : (y p : ℕ) → ((nat_eq p i && ticks_in y left) || ticks_in p (slice_index_or sets y [])) ≡ ((nat_eq p i && ticks_in y clocks) || ticks_in p (slice_index_or old y []))
+
+pub adding_none : (i : ℕ) (clocks left : List ℕ) (old : List (List ℕ)) → left ≡ clocks → ((y : ℕ) → ticks_in y clocks ≡ true → y < length old) → IsAdding i clocks old left old
+adding_none i clocks left old is below = record {
+  within = λ y h. below y (ap (ticks_in y) (sym is) ∙ h);
+  added = λ y p. ap (λ clocks. (nat_eq p i && ticks_in y clocks) || ticks_in p (slice_index_or old y [])) is;
+}
+
+regroup : (a e u w : Bool) → ((a && u) || ((a && e) || w)) ≡ ((a && (e || u)) || w)
+regroup true true true w = refl
+regroup true true false w = refl
+regroup true false true w = refl
+regroup true false false w = refl
+regroup false e u w = refl
+
+pub adding_within : (i clock : ℕ) (clocks left left' : List ℕ) (old sets : List (List ℕ)) → left ≡ clock ∷ left' → IsAdding i clocks old left sets → clock < length sets
+adding_within i clock clocks left left' old sets is so = so.within clock (ap (ticks_in clock) is ∙ ap (λ t. t || ticks_in clock left') (eq-eqb clock clock refl))
+
+pub adding_more : (i clock : ℕ) (clocks left left' : List ℕ) (old sets : List (List ℕ)) (was now : List ℕ) → left ≡ clock ∷ left' → IsAdding i clocks old left sets →
+    was ≡ slice_index_or sets clock was → now ≡ with_clock i was → IsAdding i clocks old left' (slice_set sets clock now)
+adding_more i clock clocks left left' old sets was now is so at new = record {
+  within = λ y h.
+      let l = so.within y (ap (ticks_in y) is ∙ or_right (nat_eq y clock) (ticks_in y left') h) in
+      let same = length-set sets clock now in
+      omega (arith, l, same);
+  added = λ y p.
+      ap (λ t. (nat_eq p i && ticks_in y left') || t) (placed_more sets i clock was now (adding_within i clock clocks left left' old sets is so) at new y p)
+      ∙ regroup (nat_eq p i) (nat_eq y clock) (ticks_in y left') (ticks_in p (slice_index_or sets y []))
+      ∙ ap (λ clocks. (nat_eq p i && ticks_in y clocks) || ticks_in p (slice_index_or sets y [])) (sym is)
+      ∙ so.added y p;
+}
+
+pub adding_all : (i : ℕ) (clocks : List ℕ) (old sets : List (List ℕ)) → IsAdding i clocks old [] sets → (y p : ℕ) →
+    ticks_in p (slice_index_or sets y []) ≡ ((nat_eq p i && ticks_in y clocks) || ticks_in p (slice_index_or old y []))
+adding_all i clocks old sets so y p = none (nat_eq p i) (ticks_in p (slice_index_or sets y [])) ∙ so.added y p
+  where
+    none : (a t : Bool) → t ≡ ((a && false) || t)
+    none true t = refl
+    none false t = refl
+
+-- the clocks that an expression names, as a set that had none
+pub named_alone : (e : Expression) (empty named : List ℕ) → empty ≡ [] → ((y : ℕ) → ticks_in y named ≡ (names_clock e y || ticks_in y empty)) → (y : ℕ) → ticks_in y named ≡ names_clock e y
+named_alone e empty named is added y = added y ∙ ap (λ s. names_clock e y || ticks_in y s) is ∙ none (names_clock e y)
+  where
+    none : (a : Bool) → (a || false) ≡ a
+    none true = refl
+    none false = refl
+
+-- THE TABLE OF READERS, of the definitions before number i
+abbrev pub ReadBefore : System → List ℕ → ℕ → List (List ℕ) → Type 0
+ReadBefore K F i sets = (y p : ℕ) → ticks_in p (slice_index_or sets y []) ≡ (nat_lt p i && (ticks_in (K.declared + p) F && reads K p y))
+
+lt_more : (p i : ℕ) → nat_lt p (i + 1) ≡ (nat_eq p i || nat_lt p i)
+lt_more p i = ⊎_elim
+    (λ (e : p ≡ i). lt-ltb p (i + 1) (omega (arith, e)) ∙ sym (ap (λ t. t || nat_lt p i) (eq-eqb p i e)))
+    (λ (ne : p ≡ i → ⊥). ⊎_elim
+    (λ (l : p < i). lt-ltb p (i + 1) (omega (arith, l)) ∙ sym (or_right (nat_eq p i) (nat_lt p i) (lt-ltb p i l)))
+    (λ (l : i ≤ p). le-ltb p (i + 1) (omega (arith, l, ne)) ∙ sym (ap₂ (λ t u. t || u) (ne_eqb p i ne) (le-ltb p i l)))
+    (cases_lt p i))
+    (cases_eq p i)
+
+module _ (K : System) (F : List ℕ) (i : ℕ) (sets : List (List ℕ)) (before : ReadBefore K F i sets) where
+  -- one that is not followed
+  pub read_past : ticks_in (K.declared + i) F ≡ false → ReadBefore K F (i + 1) sets
+  read_past out y p = before y p ∙ ⊎_elim
+      (λ (e : p ≡ i). both (nat_lt p i) (nat_lt p (i + 1)) (ticks_in (K.declared + p) F && reads K p y) (ap (λ k. ticks_in (K.declared + k) F && reads K p y) e ∙ ap (λ t. t && reads K p y) out))
+      (λ (ne : p ≡ i → ⊥). sym (ap (λ t. t && (ticks_in (K.declared + p) F && reads K p y)) (lt_more p i ∙ ap (λ t. t || nat_lt p i) (ne_eqb p i ne))))
+      (cases_eq p i)
+    where
+      both : (t u c : Bool) → c ≡ false → (t && c) ≡ (u && c)
+      both true true c h = refl
+      both true false c h = h
+      both false true c h = sym h
+      both false false c h = refl
+
+  -- or is, and then its number stands with the clocks that it names
+  pub read_more : (e : Expression) (sets' : List (List ℕ)) → slice_get K.definitions i ≡ Some e → ticks_in (K.declared + i) F ≡ true →
+      ((y p : ℕ) → ticks_in p (slice_index_or sets' y []) ≡ ((nat_eq p i && names_clock e y) || ticks_in p (slice_index_or sets y []))) → ReadBefore K F (i + 1) sets'
+  read_more e sets' is followed added y p =
+      added y p ∙ ap (λ t. (nat_eq p i && names_clock e y) || t) (before y p) ∙ ⊎_elim
+      (λ (same : p ≡ i).
+      ap₂ (λ a b. (a && names_clock e y) || (b && (ticks_in (K.declared + p) F && reads K p y))) (eq-eqb p i same) (le-ltb p i (omega (arith, same)))
+      ∙ or_none (names_clock e y)
+      ∙ sym (ap₂ (λ a b. a && b) (lt-ltb p (i + 1) (omega (arith, same))) (ap₂ (λ a b. a && b) (ap (λ k. ticks_in (K.declared + k) F) same ∙ followed) (ap (λ k. reads K k y) same ∙ ap (λ o. named_by o y) is))))
+      (λ (ne : p ≡ i → ⊥).
+      ap (λ a. (a && names_clock e y) || (nat_lt p i && (ticks_in (K.declared + p) F && reads K p y))) (ne_eqb p i ne)
+      ∙ sym (ap (λ t. t && (ticks_in (K.declared + p) F && reads K p y)) (lt_more p i ∙ ap (λ t. t || nat_lt p i) (ne_eqb p i ne))))
+      (cases_eq p i)
+    where
+      or_none : (a : Bool) → (a || false) ≡ a
+      or_none true = refl
+      or_none false = refl
+
+pub read_none : (K : System) (F : List ℕ) (sets : List (List ℕ)) → ((y : ℕ) → slice_index_or sets y [] ≡ []) → ReadBefore K F 0 sets
+read_none K F sets empty y p = ap (ticks_in p) (empty y) ∙ sym (ap (λ t. t && (ticks_in (K.declared + p) F && reads K p y)) (le-ltb p 0 (omega arith)))
+
+no_number : (K : System) (p y : ℕ) → length K.definitions ≤ p → reads K p y ≡ false
+no_number K p y l = ap (λ o. named_by o y) (past K.definitions p l)
+  where
+    past : (es : List Expression) (i : ℕ) → length es ≤ i → slice_get es i ≡ None
+    past [] i l = refl
+    past (e ∷ es) zero l = absurd (omega (arith, l))
+    past (e ∷ es) (suc i) l = past es i (omega (arith, l))
+
+pub read_all : (K : System) (F : List ℕ) (sets : List (List ℕ)) (n : ℕ) → n ≡ length K.definitions → length sets ≡ K.declared + length K.definitions → ReadBefore K F n sets → AreReaders K F sets
+read_all K F sets n all count before = record {
+  count = count;
+  tell = λ y p. before y p ∙ ⊎_elim
+      (λ (l : p < n). ap (λ t. t && (ticks_in (K.declared + p) F && reads K p y)) (lt-ltb p n l))
+      (λ (l : n ≤ p). ap (λ t. t && (ticks_in (K.declared + p) F && reads K p y)) (le-ltb p n l)
+      ∙ sym (ap (λ t. ticks_in (K.declared + p) F && t) (no_number K p y (omega (arith, l, all))) ∙ neither (ticks_in (K.declared + p) F)))
+      (cases_lt p n);
+}
+  where
+    neither : (a : Bool) → (a && false) ≡ false
+    neither true = refl
+    neither false = refl
+
+-- A VISIT, as the program makes it and enters it
+pub visit_is : (lay : Lay) (i clock : ℕ) (sets : List (List ℕ)) (row row' : List ℕ) (v : Visited) (old new : Passage) → clock ≡ lay.system.now.declared + i → IsVisited lay i row row' old.step old.gone v →
+    (e : IsEntered sets i clock v old new) → IsVisit lay.system.now sets (trees_from lay 0 row) (trees_from lay 0 row') old.step new.step old.gone new.gone old.waiting new.waiting old.unsettled new.unsettled i v.tick v.dead v.settled e.news
+visit_is lay i clock sets row row' v old new at is e = record {
+  trees_are = is.trees;
+  tick_is = is.tick;
+  dead_is = is.dead;
+  settled_is = is.settled;
+  told_is = λ h. let n = e.none h in (n.0, n.1 ∙ ap (λ k. ticks_in k old.gone) at);
+  step_is = e.step ∙ ap (λ k. put v.tick k old.step) at;
+  gone_is = e.gone ∙ ap (λ k. put_clock k v.dead old.gone) at;
+  unsettled_is = e.unsettled;
+  waiting_is = λ p. e.waiting p ∙ ap (λ k. (ticks_in p old.waiting && not (nat_eq i p)) || (e.news && ticks_in p (slice_index_or sets k []))) at;
+}
+
+-- THE NUMBERS of the followed definitions, one more
+pub numbers_more : (D i : ℕ) (F set set' : List ℕ) (one : Bool) → ((p : ℕ) → ticks_in p set ≡ (nat_lt p i && ticks_in (D + p) F)) → set' ≡ put_clock i one set → one ≡ ticks_in (D + i) F →
+    (p : ℕ) → ticks_in p set' ≡ (nat_lt p (i + 1) && ticks_in (D + p) F)
+numbers_more D i F set set' one before is one_is p = ap (ticks_in p) is ∙ ⊎_elim
+    (λ (e : p ≡ i).
+    ap (λ k. ticks_in k (put_clock i one set)) e ∙ ticks_in-put_same i one set ∙ one_is
+    ∙ sym (ap₂ (λ t k. t && ticks_in (D + k) F) (lt-ltb p (i + 1) (omega (arith, e))) e))
+    (λ (ne : p ≡ i → ⊥). ticks_in-put_other i one p set ne ∙ before p ∙ sym (ap (λ t. t && ticks_in (D + p) F) (lt_more p i ∙ ap (λ t. t || nat_lt p i) (ne_eqb p i ne))))
+    (cases_eq p i)

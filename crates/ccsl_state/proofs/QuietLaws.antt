@@ -1,0 +1,186 @@
+-- A tree that hears nothing tells nothing and stays, for each operator.
+use Rattle.std.proofs.Common.{◌≡◌, ℕ, ◌+◌, ◌-◌, List, [], ◌∷◌, length, Bool, true, false, not, ◌&&◌, ◌||◌, Some, slice_get, slice_index_or, nat_eq, nat_le, nat_lt, if◌then◌else◌, refl, sym, ap, ap₂, ◌∙◌}
+use Rattle.std.proofs.lemmas.Bool.{and_parts, and_from}
+use Rattle.ccsl_formula.specs.Formula.{eval}
+use Rattle.ccsl_words.specs.Word.{letter}
+use Rattle.ccsl_kernel.specs.declared.expr.Place.{Place}
+use Rattle.ccsl_kernel.specs.declared.expr.Place.TheVariants as place
+use Rattle.ccsl_kernel.specs.declared.expr.Value.{Value}
+use Rattle.ccsl_kernel.specs.declared.expr.Value.TheVariants as value
+use Rattle.ccsl_kernel.specs.declared.actual.Actual.{Actual}
+use Rattle.ccsl_kernel.specs.declared.actual.Actual.TheVariants as actual
+use Rattle.ccsl_kernel.specs.Syntax.{Expression, EName, ECall, ENever, EBinary, EDelay, EAwait, EFilter, EDelayed, EIf, System, root_of}
+use Rattle.ccsl_kernel.specs.Lives.{Step}
+use Rattle.ccsl_kernel.specs.Meaning.{dead_below}
+use Rattle.ccsl_kernel.specs.Accepted.{IsAccepted}
+use Rattle.ccsl_kernel.proofs.Scoped.{NamesBelow}
+use Rattle.ccsl_kernel.proofs.AcceptedParts.{accepted_scoped}
+use Rattle.ccsl_state.specs.Tree.{One, Delaying, Awaiting, Filtering, Two, Uniting, Meeting, Lessening, Leading, Trailing, Ending, EndingWeakly, Sampling, SamplingWeakly, Lagging, Tree, TName, TNever, TOne, TTwo, TThen, one_ticks, one_next, two_ticks, two_next, set_first, opening, then_or_right, next, formula_of, dead_of}
+use Rattle.ccsl_state.specs.Within.{PlaceWithin, ArgsWithin, NamesWithin, ActualsWithin, TreeWithin}
+use Rattle.ccsl_state.specs.Reach.{names_clock}
+use Rattle.ccsl_state.specs.Quiet.{named_by, reads, ReadsNoMore, IsUnheard, is_settled, IsQuiet, StaysAsItIs, BearsSettled}
+use Rattle.ccsl_state.proofs.Evals.{one_eval, two_eval}
+use Rattle.ccsl_state.proofs.WithinLaws.{names_within, opening_within, grown_within, dead_same}
+
+both : (c : Bool) → (if c then false else false) ≡ false
+both true = refl
+both false = refl
+
+neither : (c : Bool) → (c && false) ≡ false
+neither true = refl
+neither false = refl
+
+or_none : (c : Bool) → (c || false) ≡ c
+or_none true = refl
+or_none false = refl
+
+and_all : (c : Bool) → (c && true) ≡ c
+and_all true = refl
+and_all false = refl
+
+one_silent : (o : One) → one_ticks o false ≡ false
+one_silent (Delaying m ticks) = neither (nat_le m ticks)
+one_silent (Awaiting m ticks) = neither (nat_eq (ticks + 1) m)
+one_silent (Filtering w o) = neither (letter w o)
+
+three : (c d : Bool) → (if c then false else if d then false else false) ≡ false
+three true d = refl
+three false d = both d
+
+two_silent : (o : Two) → two_ticks o false false ≡ false
+two_silent Uniting = refl
+two_silent Meeting = refl
+two_silent Lessening = refl
+two_silent (Leading a d) = three (nat_lt d a) (nat_lt a d)
+two_silent (Trailing a d) = three (nat_lt a d) (nat_lt d a)
+two_silent (Ending seen) = both seen
+two_silent (EndingWeakly seen) = both seen
+two_silent (Sampling waiting) = both waiting
+two_silent (SamplingWeakly waiting) = both waiting
+two_silent (Lagging m waiting) = both (slice_index_or waiting (m - 1) false)
+
+one_still : (o : One) → one_next o false ≡ o
+one_still (Delaying m ticks) = refl
+one_still (Awaiting m ticks) = refl
+one_still (Filtering w o) = refl
+
+unmarked : (waiting : List Bool) → set_first false waiting ≡ waiting
+unmarked [] = refl
+unmarked (x ∷ xs) = refl
+
+two_still : (o : Two) → two_next o false false ≡ o
+two_still Uniting = refl
+two_still Meeting = refl
+two_still Lessening = refl
+two_still (Leading a d) = refl
+two_still (Trailing a d) = refl
+two_still (Ending seen) = ap Ending (or_none seen)
+two_still (EndingWeakly seen) = ap EndingWeakly (or_none seen)
+two_still (Sampling waiting) = ap Sampling (and_all waiting)
+two_still (SamplingWeakly waiting) = ap SamplingWeakly (and_all waiting)
+two_still (Lagging m waiting) = ap (Lagging m) (unmarked waiting)
+
+-- NOTHING HEARD, NOTHING TOLD
+pub tells_nothing : (s : Step) (t : Tree) → IsUnheard s t → eval (formula_of t) s ≡ false
+tells_nothing s (TName x) h = h
+tells_nothing s TNever h = refl
+tells_nothing s (TOne o a) h = one_eval s o (formula_of a) ∙ ap (one_ticks o) (tells_nothing s a h) ∙ one_silent o
+tells_nothing s (TTwo o a d) h = two_eval s o (formula_of a) (formula_of d) ∙ ap₂ (two_ticks o) (tells_nothing s a h.0) (tells_nothing s d h.1) ∙ two_silent o
+tells_nothing s (TThen a d ρ) h = tells_nothing s a h.0
+
+not_true : (c : Bool) → not c ≡ true → c ≡ false
+not_true true h = let z : ⊥ = cc in absurd z
+not_true false h = refl
+
+module _ (K : System) (s : Step) (gone : ℕ → Bool) where
+  -- NOTHING HEARD, NOTHING MOVED
+  pub stays : (t : Tree) → IsUnheard s t → is_settled gone t ≡ true → next K s gone t ≡ t
+  stays (TName x) h settled = refl
+  stays TNever h settled = refl
+  stays (TOne o a) h settled = ap₂ TOne (ap (one_next o) (tells_nothing s a h) ∙ one_still o) (stays a h settled)
+  stays (TTwo o a d) h settled =
+      let w = and_parts (is_settled gone a) (is_settled gone d) settled in
+      ap (λ o'. TTwo o' (next K s gone a) (next K s gone d)) (ap₂ (two_next o) (tells_nothing s a h.0) (tells_nothing s d h.1) ∙ two_still o)
+      ∙ ap₂ (TTwo o) (stays a h.0 w.0) (stays d h.1 w.1)
+  stays (TThen a d ρ) h settled =
+      let w = and_parts (not (dead_of gone a)) (is_settled gone a) settled in
+      ap (λ a'. then_or_right K (dead_of gone a') a' d ρ) (stays a h.0 w.1) ∙ ap (λ c. then_or_right K c a d ρ) (not_true (dead_of gone a) w.0)
+
+  -- UNSETTLED LASTS ONE STEP
+  pub settles : (t : Tree) → BearsSettled K gone t → is_settled gone (next K s gone t) ≡ true
+  settles (TName x) h = refl
+  settles TNever h = refl
+  settles (TOne o a) h = settles a h
+  settles (TTwo o a d) h = and_from (is_settled gone (next K s gone a)) (is_settled gone (next K s gone d)) (settles a h.0) (settles d h.1)
+  settles (TThen a d ρ) h = on (dead_of gone (next K s gone a)) refl (settles a h.0)
+    where
+      on : (c : Bool) → dead_of gone (next K s gone a) ≡ c → is_settled gone (next K s gone a) ≡ true → is_settled gone (then_or_right K c (next K s gone a) d ρ) ≡ true
+      on true is left = h.1
+      on false is left = and_from (not (dead_of gone (next K s gone a))) (is_settled gone (next K s gone a)) (ap not is) left
+
+module _ (P : ℕ → Type 0) (gone gone' : ℕ → Bool) (same : (x : ℕ) → P x → gone x ≡ gone' x) where
+  pub settled_same : (t : Tree) → TreeWithin P t → is_settled gone t ≡ is_settled gone' t
+  settled_same (TName x) h = refl
+  settled_same TNever h = refl
+  settled_same (TOne o a) h = settled_same a h
+  settled_same (TTwo o a d) h = ap₂ (λ c e. c && e) (settled_same a h.0) (settled_same d h.1)
+  settled_same (TThen a d ρ) h = ap₂ (λ c e. not c && e) (dead_same P gone gone' same a h.0) (settled_same a h.0)
+
+-- what names clocks with P only names clocks with Q only, where Q follows from P
+module _ (P Q : ℕ → Type 0) (more : (y : ℕ) → P y → Q y) where
+  place_more : (x : Place) → PlaceWithin P x → PlaceWithin Q x
+  place_more (place.Clock x) h = more x h
+  place_more (place.Param i) h = tt
+
+  args_more : (args : List Value) → ArgsWithin P args → ArgsWithin Q args
+  args_more [] h = tt
+  args_more (value.Clock x ∷ args) h = (place_more x h.0, args_more args h.1)
+  args_more (value.Number t ∷ args) h = args_more args h
+  args_more (value.Word w ∷ args) h = args_more args h
+
+  names_more : (e : Expression) → NamesWithin P e → NamesWithin Q e
+  names_more (EName x) h = place_more x h
+  names_more (ECall group member args) h = args_more args h
+  names_more ENever h = tt
+  names_more (EBinary o a d) h = (names_more a h.0, names_more d h.1)
+  names_more (EDelay a m) h = names_more a h
+  names_more (EAwait a m) h = names_more a h
+  names_more (EFilter a w) h = names_more a h
+  names_more (EDelayed a m d) h = (names_more a h.0, names_more d h.1)
+  names_more (EIf q a d) h = (names_more a h.0, names_more d h.1)
+
+  actuals_more : (ρ : List Actual) → ActualsWithin P ρ → ActualsWithin Q ρ
+  actuals_more [] h = tt
+  actuals_more (actual.Clock x ∷ ρ) h = (more x h.0, actuals_more ρ h.1)
+  actuals_more (actual.Number n ∷ ρ) h = actuals_more ρ h
+  actuals_more (actual.Word w o ∷ ρ) h = actuals_more ρ h
+
+  pub tree_more : (t : Tree) → TreeWithin P t → TreeWithin Q t
+  tree_more (TName x) h = more x h
+  tree_more TNever h = tt
+  tree_more (TOne o a) h = tree_more a h
+  tree_more (TTwo o a d) h = (tree_more a h.0, tree_more d h.1)
+  tree_more (TThen a d ρ) h = (tree_more a h.0, names_more d h.1, actuals_more ρ h.2)
+
+pub stays_as_it_is : (K : System) (s : Step) (gone gone' : ℕ → Bool) (t : Tree) → IsQuiet s gone gone' t → StaysAsItIs K s gone gone' t
+stays_as_it_is K s gone gone' t q =
+    let P = λ (x : ℕ). gone x ≡ gone' x in
+    let settled : is_settled gone' t ≡ true = sym (settled_same P gone gone' (λ x h. h) t q.alive) ∙ q.settled in
+    record {
+      tree = stays K s gone' t q.unheard settled;
+      dead = sym (dead_same P gone gone' (λ x h. h) t q.alive);
+      settled = settled;
+    }
+
+module _ (K : System) (ok : IsAccepted K) where
+  pub bodies_closed : (g m : ℕ) → NamesBelow 0 (root_of K g m)
+  bodies_closed = (accepted_scoped K ok).bodies
+
+  read_as : (i : ℕ) (e : Expression) → slice_get K.definitions i ≡ Some e → (y : ℕ) → names_clock e y ≡ true → reads K i y ≡ true
+  read_as i e is y named = ap (λ o. named_by o y) is ∙ named
+
+  pub opening_reads : (i : ℕ) (e : Expression) → slice_get K.definitions i ≡ Some e → TreeWithin (λ y. reads K i y ≡ true) (opening K e [])
+  opening_reads i e is = opening_within (λ y. reads K i y ≡ true) K bodies_closed e [] (names_within (λ y. reads K i y ≡ true) e (read_as i e is)) tt
+
+  pub reads_no_more : ReadsNoMore K
+  reads_no_more i e T x is = grown_within (λ y. reads K i y ≡ true) K bodies_closed T (dead_below K T x) (opening K e []) 0 (length T) (opening_reads i e is)

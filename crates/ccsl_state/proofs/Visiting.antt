@@ -1,0 +1,371 @@
+-- A STEP THAT VISITS ONLY WHAT HEARS SOMETHING: a definition that waits for its visit is untouched, and one that does not is done.
+use Rattle.std.proofs.Common.{◌≡◌, ℕ, zero, suc, ◌+◌, ◌<◌, ◌≤◌, ◌⊎◌, inl, inr, ⊎_elim, List, [], ◌∷◌, length, Bool, true, false, not, ◌&&◌, ◌||◌, Option, Some, None, slice_get, slice_set, slice_index_or, nat_eq, nat_lt, if◌then◌else◌, eq-eqb, lt-ltb, ltb-false, refl, sym, ap, ap₂, subst, ◌∙◌, arith}
+use Rattle.std.specs.List.{list_all}
+use Rattle.std.proofs.lemmas.Bool.{cases_eq, ne_eqb, and_parts, and_from, or_cases, ltb-true}
+use Rattle.std.proofs.lemmas.Option.{slice_get_within}
+use Rattle.ccsl_base.specs.Clocks.{ticks_in, with_clock, is_ascending, are_below}
+use Rattle.ccsl_base.specs.Changes.{put_clock}
+use Rattle.ccsl_base.proofs.Sets.{ticks_in-put_same, ticks_in-put_other, ticks_in-with_same, ticks_in-with_other}
+use Rattle.ccsl_formula.specs.Formula.{eval}
+use Rattle.ccsl_kernel.specs.Syntax.{Expression, System}
+use Rattle.ccsl_kernel.specs.Accepted.{IsAccepted}
+use Rattle.ccsl_kernel.proofs.Sets.{NoneFrom-are_below}
+use Rattle.ccsl_state.specs.Tree.{Tree, next, formula_of, dead_of}
+use Rattle.ccsl_state.specs.Moves.{gone_in}
+use Rattle.ccsl_state.specs.States.{put}
+use Rattle.ccsl_state.specs.Within.{TreeWithin}
+use Rattle.ccsl_state.specs.Quiet.{named_by, reads, is_settled}
+use Rattle.ccsl_state.specs.Passing.{tree_number, IsFollowed, AreReaders, AreKept, IsPassed}
+use Rattle.ccsl_state.proofs.WithinLaws.{tick_same, dead_same, next_same, next_within}
+use Rattle.ccsl_state.proofs.QuietLaws.{tells_nothing, stays, settled_same, bodies_closed, tree_more}
+use Rattle.ccsl_state.proofs.ReachLaws.{definition_names, definition_at}
+
+-- ONE TREE of a list is written
+tree_set_same : (ts : List Tree) (i : ℕ) (t : Tree) → i < length ts → tree_number (slice_set ts i t) i ≡ t
+tree_set_same [] i t l = absurd (omega (arith, l))
+tree_set_same (u ∷ ts) zero t l = refl
+tree_set_same (u ∷ ts) (suc i) t l = tree_set_same ts i t (omega (arith, l))
+
+tree_set_other : (ts : List Tree) (i j : ℕ) (t : Tree) → (j ≡ i → ⊥) → tree_number (slice_set ts i t) j ≡ tree_number ts j
+tree_set_other [] i j t ne = refl
+tree_set_other (u ∷ ts) zero zero t ne = absurd (ne refl)
+tree_set_other (u ∷ ts) zero (suc j) t ne = refl
+tree_set_other (u ∷ ts) (suc i) zero t ne = refl
+tree_set_other (u ∷ ts) (suc i) (suc j) t ne = tree_set_other ts i j t (λ e. ne (ap suc e))
+
+tree_set_len : (ts : List Tree) (i : ℕ) (t : Tree) → length (slice_set ts i t) ≡ length ts
+tree_set_len [] i t = refl
+tree_set_len (u ∷ ts) zero t = refl
+tree_set_len (u ∷ ts) (suc i) t = ap suc (tree_set_len ts i t)
+
+true_or_false : (b : Bool) → (b ≡ true) ⊎ (b ≡ false)
+true_or_false true = inl refl
+true_or_false false = inr refl
+
+not_both : (b : Bool) → b ≡ true → b ≡ false → ⊥
+not_both b p q = let e : true ≡ false = sym p ∙ q in cc
+
+put_same : (t : Bool) (x : ℕ) (s : List ℕ) → ticks_in x s ≡ false → ticks_in x (put t x s) ≡ t
+put_same true x s none = ticks_in-with_same x s
+put_same false x s none = none
+
+put_other : (t : Bool) (x y : ℕ) (s : List ℕ) → (y ≡ x → ⊥) → ticks_in y (put t x s) ≡ ticks_in y s
+put_other true x y s ne = ticks_in-with_other x y s ne
+put_other false x y s ne = refl
+
+or_false_parts : (a b : Bool) → (a || b) ≡ false → (a ≡ false) × (b ≡ false)
+or_false_parts true b h = let z : ⊥ = cc in absurd z
+or_false_parts false b h = (refl, h)
+
+and_false : (a b : Bool) → (a && b) ≡ false → b ≡ true → a ≡ false
+and_false true b h is = let z : ⊥ = (let e : true ≡ false = sym is ∙ h in cc) in absurd z
+and_false false b h is = refl
+
+not_false : (b : Bool) → not b ≡ false → b ≡ true
+not_false true h = refl
+not_false false h = let z : ⊥ = cc in absurd z
+
+-- ONE MEMBER MORE of an ascending list
+all_less : (x y : ℕ) (ys : List ℕ) → x < y → list_all (nat_lt y) ys ≡ true → list_all (nat_lt x) ys ≡ true
+all_less x y [] l h = refl
+all_less x y (z ∷ ys) l h =
+    let w = and_parts (nat_lt y z) (list_all (nat_lt y) ys) h in
+    let m = ltb-true y z w.0 in
+    and_from (nat_lt x z) (list_all (nat_lt x) ys) (lt-ltb x z (omega (arith, l, m))) (all_less x y ys l w.1)
+
+all_with : (p : ℕ → Bool) (x : ℕ) (ys : List ℕ) → p x ≡ true → list_all p ys ≡ true → list_all p (with_clock x ys) ≡ true
+all_with p x [] is h = and_from (p x) true is refl
+all_with p x (y ∷ ys) is h = on (nat_lt x y) (nat_eq x y) (all_with p x ys is (and_parts (p y) (list_all p ys) h).1)
+  where
+    on : (t u : Bool) → list_all p (with_clock x ys) ≡ true → list_all p (if t then x ∷ (y ∷ ys) else if u then y ∷ ys else y ∷ with_clock x ys) ≡ true
+    on true u rest = and_from (p x) (list_all p (y ∷ ys)) is h
+    on false true rest = h
+    on false false rest = and_from (p y) (list_all p (with_clock x ys)) (and_parts (p y) (list_all p ys) h).0 rest
+
+with_ascends : (x : ℕ) (ys : List ℕ) → is_ascending ys ≡ true → is_ascending (with_clock x ys) ≡ true
+with_ascends x [] h = refl
+with_ascends x (y ∷ ys) h = let w = and_parts (list_all (nat_lt y) ys) (is_ascending ys) h in on (nat_lt x y) (nat_eq x y) refl refl w (with_ascends x ys w.1)
+  where
+    on : (t u : Bool) → nat_lt x y ≡ t → nat_eq x y ≡ u → (list_all (nat_lt y) ys ≡ true) × (is_ascending ys ≡ true) → is_ascending (with_clock x ys) ≡ true →
+        is_ascending (if t then x ∷ (y ∷ ys) else if u then y ∷ ys else y ∷ with_clock x ys) ≡ true
+    on true u less e w rest =
+        let l = ltb-true x y less in
+        and_from (list_all (nat_lt x) (y ∷ ys)) (is_ascending (y ∷ ys)) (and_from (nat_lt x y) (list_all (nat_lt x) ys) less (all_less x y ys l w.0)) h
+    on false true less e w rest = h
+    on false false less e w rest =
+        let l = ltb-false x y less in
+        let ne : x ≡ y → ⊥ = λ s. not_both (nat_eq x y) (eq-eqb x y s) e in
+        and_from (list_all (nat_lt y) (with_clock x ys)) (is_ascending (with_clock x ys)) (all_with (nat_lt y) x ys (lt-ltb y x (omega (arith, l, ne))) w.0) rest
+
+put_ascends : (t : Bool) (x : ℕ) (s : List ℕ) → is_ascending s ≡ true → is_ascending (put t x s) ≡ true
+put_ascends true x s h = with_ascends x s h
+put_ascends false x s h = h
+
+-- a definition that is done, in what has been found so far
+pub record IsDone (K : System) (old : List Tree) (trees : List Tree) (step gone unsettled : List ℕ) (i : ℕ) : Type 0 where
+  pub tick : ticks_in (K.declared + i) step ≡ eval (formula_of (tree_number old i)) step
+  pub tree : tree_number trees i ≡ next K step (gone_in gone) (tree_number old i)
+  pub dead : ticks_in (K.declared + i) gone ≡ dead_of (gone_in gone) (tree_number trees i)
+  pub settled : ticks_in i unsettled ≡ false → is_settled (gone_in gone) (tree_number trees i) ≡ true
+
+-- and one that is untouched
+pub record IsUntouched (K : System) (gone₀ : List ℕ) (old : List Tree) (trees : List Tree) (step gone : List ℕ) (i : ℕ) : Type 0 where
+  pub tick : ticks_in (K.declared + i) step ≡ false
+  pub tree : tree_number trees i ≡ tree_number old i
+  pub dead : ticks_in (K.declared + i) gone ≡ ticks_in (K.declared + i) gone₀
+
+-- WHAT HOLDS BETWEEN TWO VISITS
+pub record IsGoing (K : System) (F s gone₀ : List ℕ) (old : List Tree) (trees : List Tree) (step gone waiting unsettled : List ℕ) : Type 0 where
+  pub count : length trees ≡ length K.definitions
+  pub done : (i : ℕ) → IsFollowed K F i → ticks_in i waiting ≡ false → IsDone K old trees step gone unsettled i
+  pub untouched : (m i : ℕ) → ticks_in m waiting ≡ true → m ≤ i → IsUntouched K gone₀ old trees step gone i
+  pub followed : (m : ℕ) → ticks_in m waiting ≡ true → IsFollowed K F m
+  pub few : (m : ℕ) → ticks_in m unsettled ≡ true → IsFollowed K F m
+  pub declared : (y : ℕ) → y < K.declared → ticks_in y step ≡ ticks_in y s
+  pub outside : (i : ℕ) → (IsFollowed K F i → ⊥) → ticks_in (K.declared + i) step ≡ false
+  pub alive : (y : ℕ) → y < K.declared → ticks_in y gone ≡ false
+  pub ascends : is_ascending step ≡ true
+
+-- A VISIT: told is whether something came of it that others may hear
+pub record IsVisit (K : System) (readers : List (List ℕ)) (trees trees' : List Tree) (step step' gone gone' waiting waiting' unsettled unsettled' : List ℕ) (j : ℕ) (tick dead settled told : Bool) : Type 0 where
+  pub trees_are : trees' ≡ slice_set trees j (next K step (gone_in gone) (tree_number trees j))
+  pub tick_is : tick ≡ eval (formula_of (tree_number trees j)) step
+  pub dead_is : dead ≡ dead_of (gone_in gone) (next K step (gone_in gone) (tree_number trees j))
+  pub settled_is : settled ≡ true → is_settled (gone_in gone) (next K step (gone_in gone) (tree_number trees j)) ≡ true
+  pub told_is : told ≡ false → (tick ≡ false) × (dead ≡ ticks_in (K.declared + j) gone)
+  pub step_is : step' ≡ put tick (K.declared + j) step
+  pub gone_is : gone' ≡ put_clock (K.declared + j) dead gone
+  pub unsettled_is : unsettled' ≡ put_clock j (not settled) unsettled
+  pub waiting_is : (p : ℕ) → ticks_in p waiting' ≡ ((ticks_in p waiting && not (nat_eq j p)) || (told && ticks_in p (slice_index_or readers (K.declared + j) [])))
+
+module _ (K : System) (ok : IsAccepted K) (F : List ℕ) where
+  pub reads_below : (i y : ℕ) → reads K i y ≡ true → y < K.declared + i
+  reads_below i y h = on (slice_get K.definitions i) refl h
+    where
+      on : (o : Option Expression) → slice_get K.definitions i ≡ o → named_by o y ≡ true → y < K.declared + i
+      on None is n = let z : ⊥ = cc in absurd z
+      on (Some e) is n = definition_names K ok (K.declared + i) y e (definition_at K ok i e is) n
+
+  reads_there : (i y : ℕ) → reads K i y ≡ true → i < length K.definitions
+  reads_there i y h = on (slice_get K.definitions i) refl h
+    where
+      on : (o : Option Expression) → slice_get K.definitions i ≡ o → named_by o y ≡ true → i < length K.definitions
+      on None is n = let z : ⊥ = cc in absurd z
+      on (Some e) is n = slice_get_within K.definitions i e is
+
+  module _ (readers : List (List ℕ)) (are : AreReaders K F readers) where
+    -- a reader of a clock is followed and names it
+    pub reader : (i y : ℕ) → ticks_in i (slice_index_or readers y []) ≡ true → IsFollowed K F i × (reads K i y ≡ true)
+    reader i y h = let w = and_parts (ticks_in (K.declared + i) F) (reads K i y) (sym (are.tell y i) ∙ h) in ((reads_there i y w.1, w.0), w.1)
+
+    no_reader : (i y : ℕ) → IsFollowed K F i → reads K i y ≡ true → ticks_in i (slice_index_or readers y []) ≡ true
+    no_reader i y followed h = are.tell y i ∙ ap₂ (λ b c. b && c) followed.1 h
+
+    module _ (s gone₀ : List ℕ) (old : List Tree) (within : (i : ℕ) → IsFollowed K F i → TreeWithin (λ y. reads K i y ≡ true) (tree_number old i)) where
+      module _ (trees trees' : List Tree) (step step' gone gone' waiting waiting' unsettled unsettled' : List ℕ) (j : ℕ) (tick dead settled told : Bool) (g : IsGoing K F s gone₀ old trees step gone waiting unsettled)
+          (v : IsVisit K readers trees trees' step step' gone gone' waiting waiting' unsettled unsettled' j tick dead settled told) (is : ticks_in j waiting ≡ true) (first : (m : ℕ) → ticks_in m waiting ≡ true → j ≤ m)
+        where
+          here : IsUntouched K gone₀ old trees step gone j
+          here = g.untouched j j is (omega arith)
+
+          mine : IsFollowed K F j
+          mine = g.followed j is
+
+          step_other : (y : ℕ) → (y ≡ K.declared + j → ⊥) → ticks_in y step' ≡ ticks_in y step
+          step_other y ne = ap (ticks_in y) v.step_is ∙ put_other tick (K.declared + j) y step ne
+
+          gone_other : (y : ℕ) → (y ≡ K.declared + j → ⊥) → ticks_in y gone' ≡ ticks_in y gone
+          gone_other y ne = ap (ticks_in y) v.gone_is ∙ ticks_in-put_other (K.declared + j) dead y gone ne
+
+          step_here : ticks_in (K.declared + j) step' ≡ tick
+          step_here = ap (ticks_in (K.declared + j)) v.step_is ∙ put_same tick (K.declared + j) step here.tick
+
+          gone_here : ticks_in (K.declared + j) gone' ≡ dead
+          gone_here = ap (ticks_in (K.declared + j)) v.gone_is ∙ ticks_in-put_same (K.declared + j) dead gone
+
+          -- what does not wait hears nothing of it
+          unheard : (i : ℕ) → IsFollowed K F i → ticks_in i waiting' ≡ false → (y : ℕ) → reads K i y ≡ true → (ticks_in y step ≡ ticks_in y step') × (ticks_in y gone ≡ ticks_in y gone')
+          unheard i followed quiet y read = ⊎_elim
+              (λ (e : y ≡ K.declared + j).
+              let read' : reads K i (K.declared + j) ≡ true = ap (reads K i) (sym e) ∙ read in
+              let w = or_false_parts (ticks_in i waiting && not (nat_eq j i)) (told && ticks_in i (slice_index_or readers (K.declared + j) [])) (sym (v.waiting_is i) ∙ quiet) in
+              let n = v.told_is (and_false told (ticks_in i (slice_index_or readers (K.declared + j) [])) w.1 (no_reader i (K.declared + j) followed read')) in (
+                ap (λ k. ticks_in k step) e ∙ here.tick ∙ sym n.0 ∙ sym step_here ∙ ap (λ k. ticks_in k step') (sym e),
+                ap (λ k. ticks_in k gone) e ∙ sym n.1 ∙ sym gone_here ∙ ap (λ k. ticks_in k gone') (sym e),
+              ))
+              (λ (ne : y ≡ K.declared + j → ⊥). (sym (step_other y ne), sym (gone_other y ne)))
+              (cases_eq y (K.declared + j))
+
+          old_next : (i : ℕ) → IsFollowed K F i → TreeWithin (λ y. reads K i y ≡ true) (next K step (gone_in gone) (tree_number old i))
+          old_next i followed = next_within (λ y. reads K i y ≡ true) K (bodies_closed K ok) step (gone_in gone) (tree_number old i) (within i followed)
+
+          -- a definition that is done with the old ticks is done with the new ones
+          still : (i : ℕ) (t' : Tree) (b d : Bool) → IsFollowed K F i → ticks_in i waiting' ≡ false → b ≡ eval (formula_of (tree_number old i)) step → t' ≡ next K step (gone_in gone) (tree_number old i) → d ≡ dead_of (gone_in gone) t' →
+              (b ≡ eval (formula_of (tree_number old i)) step') × (t' ≡ next K step' (gone_in gone') (tree_number old i)) × (d ≡ dead_of (gone_in gone') t') × (is_settled (gone_in gone) t' ≡ is_settled (gone_in gone') t')
+          still i t' b d followed quiet ticks tree dies =
+              let P = λ (y : ℕ). reads K i y ≡ true in
+              let at : TreeWithin P t' = subst (TreeWithin P) (sym tree) (old_next i followed) in
+              let same_step : (y : ℕ) → P y → ticks_in y step ≡ ticks_in y step' = λ y r. (unheard i followed quiet y r).0 in
+              let same_gone : (y : ℕ) → P y → gone_in gone y ≡ gone_in gone' y = λ y r. (unheard i followed quiet y r).1 in (
+                ticks ∙ tick_same P step step' same_step (tree_number old i) (within i followed),
+                tree ∙ next_same P K (bodies_closed K ok) step step' same_step (gone_in gone) (gone_in gone') same_gone (tree_number old i) (within i followed),
+                dies ∙ dead_same P (gone_in gone) (gone_in gone') same_gone t' at,
+                settled_same P (gone_in gone) (gone_in gone') same_gone t' at,
+              )
+
+          the_tree : tree_number trees' j ≡ next K step (gone_in gone) (tree_number old j)
+          the_tree =
+              ap (λ ts. tree_number ts j) v.trees_are
+              ∙ tree_set_same trees j (next K step (gone_in gone) (tree_number trees j)) (let c = g.count in let l = mine.0 in omega arith)
+              ∙ ap (next K step (gone_in gone)) here.tree
+
+          visited : ticks_in j waiting' ≡ false → IsDone K old trees' step' gone' unsettled' j
+          visited quiet =
+              let n = next K step (gone_in gone) (tree_number old j) in
+              let same = still j n tick dead mine quiet (v.tick_is ∙ ap (λ t. eval (formula_of t) step) here.tree) refl (v.dead_is ∙ ap (λ t. dead_of (gone_in gone) (next K step (gone_in gone) t)) here.tree) in
+              record {
+                tick = step_here ∙ same.0;
+                tree = the_tree ∙ same.1;
+                dead = gone_here ∙ same.2 ∙ ap (dead_of (gone_in gone')) (sym the_tree);
+                settled = λ h.
+                    let so : settled ≡ true = not_false settled (sym (ticks_in-put_same j (not settled) unsettled) ∙ ap (ticks_in j) (sym v.unsettled_is) ∙ h) in
+                    ap (is_settled (gone_in gone')) the_tree ∙ sym same.3 ∙ ap (λ t. is_settled (gone_in gone) (next K step (gone_in gone) t)) (sym here.tree) ∙ v.settled_is so;
+              }
+
+          other : (i : ℕ) → (i ≡ j → ⊥) → IsFollowed K F i → ticks_in i waiting ≡ false → ticks_in i waiting' ≡ false → IsDone K old trees' step' gone' unsettled' i
+          other i ne followed before quiet =
+              let was = g.done i followed before in
+              let same = still i (tree_number trees i) (ticks_in (K.declared + i) step) (ticks_in (K.declared + i) gone) followed quiet was.tick was.tree was.dead in
+              let apart : K.declared + i ≡ K.declared + j → ⊥ = λ e. ne (omega (arith, e)) in
+              let kept : tree_number trees' i ≡ tree_number trees i = ap (λ ts. tree_number ts i) v.trees_are ∙ tree_set_other trees j i (next K step (gone_in gone) (tree_number trees j)) ne in
+              record {
+                tick = step_other (K.declared + i) apart ∙ same.0;
+                tree = kept ∙ same.1;
+                dead = gone_other (K.declared + i) apart ∙ same.2 ∙ ap (dead_of (gone_in gone')) (sym kept);
+                settled = λ h.
+                    ap (is_settled (gone_in gone')) kept ∙ sym same.3 ∙ was.settled (sym (ticks_in-put_other j (not settled) i unsettled ne) ∙ ap (ticks_in i) (sym v.unsettled_is) ∙ h);
+              }
+
+          -- what waits now has waited, or reads the clock
+          waits : (m : ℕ) → ticks_in m waiting' ≡ true → IsFollowed K F m × (j < m)
+          waits m h = ⊎_elim
+              (λ (w : (ticks_in m waiting && not (nat_eq j m)) ≡ true).
+              let p = and_parts (ticks_in m waiting) (not (nat_eq j m)) w in
+              let low = first m p.0 in
+              let ne : m ≡ j → ⊥ = λ e. not_both (nat_eq j m) (eq_is j m (sym e)) (not_is (nat_eq j m) p.1) in
+              (g.followed m p.0, omega (arith, low, ne)))
+              (λ (w : (told && ticks_in m (slice_index_or readers (K.declared + j) [])) ≡ true).
+              let p = and_parts told (ticks_in m (slice_index_or readers (K.declared + j) [])) w in
+              let r = reader m (K.declared + j) p.1 in
+              let low = reads_below m (K.declared + j) r.1 in
+              (r.0, omega (arith, low)))
+              (or_cases (ticks_in m waiting && not (nat_eq j m)) (told && ticks_in m (slice_index_or readers (K.declared + j) [])) (sym (v.waiting_is m) ∙ h))
+            where
+              eq_is : (a b : ℕ) → a ≡ b → nat_eq a b ≡ true
+              eq_is a b e = eq-eqb a b e
+
+              not_is : (b : Bool) → not b ≡ true → b ≡ false
+              not_is true h = let z : ⊥ = cc in absurd z
+              not_is false h = refl
+
+          pub later : (m : ℕ) → ticks_in m waiting' ≡ true → j < m
+          later m h = (waits m h).1
+
+          waited : (i : ℕ) → (i ≡ j → ⊥) → ticks_in i waiting' ≡ false → ticks_in i waiting ≡ false
+          waited i ne quiet =
+              let w = or_false_parts (ticks_in i waiting && not (nat_eq j i)) (told && ticks_in i (slice_index_or readers (K.declared + j) [])) (sym (v.waiting_is i) ∙ quiet) in
+              and_false (ticks_in i waiting) (not (nat_eq j i)) w.0 (ap not (ne_eqb j i (λ e. ne (sym e))))
+
+          -- A VISIT MORE
+          pub one_more : IsGoing K F s gone₀ old trees' step' gone' waiting' unsettled'
+          one_more = record {
+            count = ap length v.trees_are ∙ tree_set_len trees j (next K step (gone_in gone) (tree_number trees j)) ∙ g.count;
+            done = λ i followed quiet. ⊎_elim
+                (λ (e : i ≡ j). subst (IsDone K old trees' step' gone' unsettled') (sym e) (visited (ap (λ k. ticks_in k waiting') (sym e) ∙ quiet)))
+                (λ (ne : i ≡ j → ⊥). other i ne followed (waited i ne quiet) quiet)
+                (cases_eq i j);
+            untouched = λ m i h l.
+                let w = waits m h in
+                let low = w.1 in
+                let u = g.untouched j i is (omega (arith, l, low)) in
+                let ne : i ≡ j → ⊥ = λ e. omega (arith, e, l, low) in
+                let apart : K.declared + i ≡ K.declared + j → ⊥ = λ e. ne (omega (arith, e)) in
+                record {
+                  tick = step_other (K.declared + i) apart ∙ u.tick;
+                  tree = ap (λ ts. tree_number ts i) v.trees_are ∙ tree_set_other trees j i (next K step (gone_in gone) (tree_number trees j)) ne ∙ u.tree;
+                  dead = gone_other (K.declared + i) apart ∙ u.dead;
+                };
+            followed = λ m h. (waits m h).0;
+            few = λ m h. ⊎_elim
+                (λ (e : m ≡ j). subst (IsFollowed K F) (sym e) mine)
+                (λ (ne : m ≡ j → ⊥). g.few m (sym (ticks_in-put_other j (not settled) m unsettled ne) ∙ ap (ticks_in m) (sym v.unsettled_is) ∙ h))
+                (cases_eq m j);
+            declared = λ y l. step_other y (λ e. omega (arith, e, l)) ∙ g.declared y l;
+            outside = λ i none. step_other (K.declared + i) (λ e. none (subst (IsFollowed K F) (let z : j ≡ i = omega (arith, e) in z) mine)) ∙ g.outside i none;
+            alive = λ y l. gone_other y (λ e. omega (arith, e, l)) ∙ g.alive y l;
+            ascends = ap is_ascending v.step_is ∙ put_ascends tick (K.declared + j) step g.ascends;
+          }
+
+      -- THE BEGINNING: what hears nothing does not wait, and is done
+      pub begins : (unsettled waiting : List ℕ) → length old ≡ length K.definitions → are_below K.declared s ≡ true → is_ascending s ≡ true → AreKept K F old gone₀ unsettled →
+          ((p : ℕ) → ticks_in p unsettled ≡ true → ticks_in p waiting ≡ true) → ((p y : ℕ) → ticks_in y s ≡ true → ticks_in p (slice_index_or readers y []) ≡ true → ticks_in p waiting ≡ true) →
+          ((p : ℕ) → ticks_in p waiting ≡ true → IsFollowed K F p) → IsGoing K F s gone₀ old old s gone₀ waiting unsettled
+      begins unsettled waiting count low ascends kept unsettled_wait heard followed =
+          record {
+            count = count;
+            done = λ i f quiet.
+                let settled = kept.settled i f (waits_not i quiet) in
+                let silent = unheard i f quiet in
+                let same = stays K s (gone_in gone₀) (tree_number old i) silent settled in
+                record {
+                  tick = none i ∙ sym (tells_nothing s (tree_number old i) silent);
+                  tree = sym same;
+                  dead = kept.dead i f (waits_not i quiet);
+                  settled = λ h. settled;
+                };
+            untouched = λ m i h l. record { tick = none i; tree = refl; dead = refl };
+            followed = followed;
+            few = kept.few;
+            declared = λ y l. refl;
+            outside = λ i h. none i;
+            alive = kept.alive;
+            ascends = ascends;
+          }
+        where
+          none : (i : ℕ) → ticks_in (K.declared + i) s ≡ false
+          none i = NoneFrom-are_below K.declared s low (K.declared + i) (omega arith)
+
+          waits_not : (i : ℕ) → ticks_in i waiting ≡ false → ticks_in i unsettled ≡ false
+          waits_not i quiet = ⊎_elim
+              (λ (h : ticks_in i unsettled ≡ true). absurd (not_both (ticks_in i waiting) (unsettled_wait i h) quiet))
+              (λ (h : ticks_in i unsettled ≡ false). h)
+              (true_or_false (ticks_in i unsettled))
+
+          silent_clock : (i : ℕ) → IsFollowed K F i → ticks_in i waiting ≡ false → (y : ℕ) → reads K i y ≡ true → ticks_in y s ≡ false
+          silent_clock i f quiet y read = ⊎_elim
+              (λ (h : ticks_in y s ≡ true). absurd (not_both (ticks_in i waiting) (heard i y h (no_reader i y f read)) quiet))
+              (λ (h : ticks_in y s ≡ false). h)
+              (true_or_false (ticks_in y s))
+
+          unheard : (i : ℕ) → IsFollowed K F i → ticks_in i waiting ≡ false → TreeWithin (λ y. ticks_in y s ≡ false) (tree_number old i)
+          unheard i f quiet = tree_more (λ y. reads K i y ≡ true) (λ y. ticks_in y s ≡ false) (silent_clock i f quiet) (tree_number old i) (within i f)
+
+      -- THE END, where nothing waits
+      pub ends : (trees : List Tree) (step gone waiting unsettled : List ℕ) → IsGoing K F s gone₀ old trees step gone waiting unsettled → ((m : ℕ) → ticks_in m waiting ≡ false) → AreKept K F trees gone unsettled
+      ends trees step gone waiting unsettled g none = record {
+        within = λ i f. subst (TreeWithin (λ y. reads K i y ≡ true)) (sym (g.done i f (none i)).tree) (next_within (λ y. reads K i y ≡ true) K (bodies_closed K ok) step (gone_in gone) (tree_number old i) (within i f));
+        dead = λ i f h. (g.done i f (none i)).dead;
+        alive = g.alive;
+        settled = λ i f h. (g.done i f (none i)).settled h;
+        few = g.few;
+      }
+
+      pub passes : (trees : List Tree) (step gone waiting unsettled : List ℕ) → IsGoing K F s gone₀ old trees step gone waiting unsettled → ((m : ℕ) → ticks_in m waiting ≡ false) → IsPassed K F old s trees step gone
+      passes trees step gone waiting unsettled g none = record {
+        count = g.count;
+        tick = λ i f. (g.done i f (none i)).tick;
+        tree = λ i f. (g.done i f (none i)).tree;
+        dead = λ i f. (g.done i f (none i)).dead;
+        declared = g.declared;
+        outside = g.outside;
+      }

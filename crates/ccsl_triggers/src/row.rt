@@ -1,0 +1,64 @@
+//! What is written of a time.
+
+ghost use Rattle.std.specs.Prelude.{◌≡◌, ◌++◌, OnOk};
+ghost use Rattle.ccsl_triggers.specs.Output.{code_byte, code_of, time_line, tick_line, tick_lines, row_text};
+
+use ccsl_base::{ClockSet, Memory};
+use itoa::Buffer;
+
+fn code_byte(i: u32) -> u8
+    ensures { result ≡ code_byte i }
+{
+    b'!' + (i % 94) as u8
+}
+
+/// The code of a name: one visible byte, or two.
+pub fn put_code(name: u32, out: &mut Vec<u8>) -> Result<(), Memory>
+    ensures { OnOk result (out.new.items ≡ out.old.items ++ code_of name) }
+{
+    if name < 94 {
+        out.push(code_byte(name))?;
+        return Ok(());
+    }
+    out.push(code_byte((name - 94) / 94))?;
+    out.push(code_byte((name - 94) % 94))?;
+    Ok(())
+}
+
+fn put_time(time: u64, out: &mut Vec<u8>) -> Result<(), Memory>
+    ensures { OnOk result (out.new.items ≡ out.old.items ++ time_line time) }
+{
+    out.push(b'#')?;
+    out.extend_from_slice(Buffer::new().format(time).as_bytes())?;
+    out.push(b'\n')?;
+    Ok(())
+}
+
+fn put_tick(name: u32, out: &mut Vec<u8>) -> Result<(), Memory>
+    ensures { OnOk result (out.new.items ≡ out.old.items ++ tick_line name) }
+{
+    out.push(b'1')?;
+    put_code(name, out)?;
+    out.push(b'\n')?;
+    Ok(())
+}
+
+fn put_ticks(names: &ClockSet, out: &mut Vec<u8>) -> Result<(), Memory>
+    ensures { OnOk result (out.new.items ≡ out.old.items ++ tick_lines names.now) }
+{
+    for name in names.members() {
+        put_tick(name, out)?;
+    }
+    Ok(())
+}
+
+/// Appends the row of a time: its line, and one for each name that happens, if any does.
+pub fn put_row(time: u64, names: &ClockSet, out: &mut Vec<u8>) -> Result<(), Memory>
+    ensures { OnOk result (out.new.items ≡ out.old.items ++ row_text time names.now) }
+{
+    if names.is_empty() {
+        return Ok(());
+    }
+    put_time(time, out)?;
+    put_ticks(names, out)
+}
