@@ -1,5 +1,5 @@
 -- How far a call on a reader of lines has come, and what it gives.
-use Rattle.std.proofs.Common.{◌≡◌, ℕ, ◌+◌, ◌<◌, ◌≤◌, List, [], ◌∷◌, ◌++◌, length, take, Bool, cond, true, false, None, Some, refl, sym, ap, ◌∙◌, subst, ⊎_elim, arith, append_assoc, length-append, length-take}
+use Rattle.std.proofs.Common.{◌≡◌, ◌≢◌, ℕ, ◌+◌, ◌<◌, ◌≤◌, List, [], ◌∷◌, ◌++◌, length, take, Bool, cond, true, false, Option, None, Some, refl, sym, ap, ◌∙◌, subst, ⊎_elim, arith, append_assoc, length-append, length-take}
 use Rattle.std.proofs.lemmas.Bool.{cases_lt}
 use Rattle.std.proofs.lemmas.List.{append-nil, take_all}
 use Rattle.std.proofs.lemmas.List.Elements.{All-append}
@@ -239,5 +239,26 @@ module _ (told : Told) (s t : State) (b h : Held) (c : Comes told s t b h) (p : 
       nears-stop k next.Ended e g = absurd (cc)
       nears-stop k next.TooLong e g = absurd (cc)
 
-pub breaks : (told : Told) (s t u : State) (b h : Held) → Comes told s t b h → Fails Input t u → Breaks told s u
-breaks told s t u b h c f = record { bytes = c.bytes; fails = Reads-fails told Input c.bytes s t u c.reads f }
+-- all that was read was looked at, where more is wanted
+looked-at : (pending bytes : List ℕ) (h p : Held) (n : ℕ) → h.left ≡ Some n → TakesAll h p → Waits pending bytes h → HasNoLineFeed (pending ++ bytes)
+looked-at pending bytes h p n left t (none_read none same) =
+    subst HasNoLineFeed (same ∙ sym (append-nil pending) ∙ ap (λ b. pending ++ b) (sym none)) t.unended
+looked-at pending bytes h p n left t (some_read before piece all few unended kept) =
+    subst HasNoLineFeed (append_assoc pending before piece ∙ ap (λ b. pending ++ b) (sym all))
+    (All-append (λ b. is_line_feed b ≡ false) (pending ++ before) piece unended (subst HasNoLineFeed (kept n left) t.unended))
+
+some-left : (left : Option ℕ) → left ≢ None → (n : ℕ) × (left ≡ Some n)
+some-left None wanted = absurd (wanted refl)
+some-left (Some n) wanted = (n, refl)
+
+pub breaks : (told : Told) (s t u : State) (b h p : Held) (pending : List ℕ) (handed : Bool) → Comes told s t b h → Changes h p pending handed → TakesAll h p →
+    p.left ≢ None → Fails Input t u → Breaks told s u b
+breaks told s t u b h p pending handed c keeps all wanted f =
+    let some = some-left p.left wanted in
+    record {
+      bytes = c.bytes;
+      fails = Reads-fails told Input c.bytes s t u c.reads f;
+      runs = c.was;
+      unended = looked-at b.pending c.bytes h p some.0 (sym keeps.left ∙ some.1) all c.waits;
+      few = λ taken given stands. omega (arith, (c.goes taken given stands).few, c.limit);
+    }

@@ -1,5 +1,5 @@
 -- What the next call on a reader of lines gives.
-use Rattle.std.specs.Prelude.{◌≡◌, ℕ, ◌<◌, ◌≤◌, List, [], ◌∷◌, ◌++◌, length, Bool, true, false, IsTrue}
+use Rattle.std.specs.Prelude.{◌≡◌, ℕ, ◌+◌, ◌<◌, ◌≤◌, List, [], ◌∷◌, ◌++◌, length, Bool, true, false, IsTrue}
 use Rattle.ccsl_edge.specs.declared.slot.Slot.TheVariants.{Input}
 use Rattle.ccsl_edge.specs.World.{State, Told}
 use Rattle.ccsl_edge.specs.Calls.{Reads, ReadsThenFails}
@@ -30,10 +30,13 @@ pub record Gives (told : Told) (old new : State) (before after : Held) (found : 
   pub follows : (taken : List ℕ) (given : List Line) → StandsFor before taken given → Follows found after (taken ++ bytes) given
   pub ends : after.ended ≡ true → before.ended ≡ false → IsTrue told.left → (new.slot_of Input).left ≡ []
 
--- a read failed behind some bytes
-pub record Breaks (told : Told) (old new : State) : Type 0 where
+-- a read failed behind some bytes, which were read since no line feed stood in what was pending and in them
+pub record Breaks (told : Told) (old new : State) (before : Held) : Type 0 where
   pub bytes : List ℕ
   pub fails : ReadsThenFails told Input bytes old new
+  pub runs : before.ended ≡ false
+  pub unended : HasNoLineFeed (before.pending ++ bytes)
+  pub few : (taken : List ℕ) (given : List Line) → StandsFor before taken given → length (taken ++ bytes) ≤ before.limit + 1
 
 -- whether another call may come behind this one
 abbrev pub goes_on : Next → Bool

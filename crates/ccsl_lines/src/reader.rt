@@ -1,6 +1,6 @@
 //! A reader of lines.
 
-ghost use Rattle.std.specs.Prelude.{◌≡◌, ◌<◌, [], true, false, IfOk, IfNone, IfSome, OnErr, position};
+ghost use Rattle.std.specs.Prelude.{◌≡◌, ◌≢◌, ◌<◌, [], true, false, None, IfOk, IfNone, IfSome, OnErr, position};
 ghost use Rattle.ccsl_edge.specs.declared.slot.Slot.TheVariants.{Input};
 ghost use Rattle.ccsl_edge.specs.Calls.{Fails, Reads};
 ghost use Rattle.ccsl_lines.specs.Lines.{is_line_feed};
@@ -90,7 +90,7 @@ impl LineReader {
     pub fn next<W: World>(&mut self, world: &mut W) -> Result<Next, Failed>
         ensures gives { IfOk result (λ next. Gives W.told (W.state world.old) (W.state world.new) self.old self.new next) }
         ensures nears { IfOk result (λ next. goes_on next ≡ true → calls_left self.new < calls_left self.old) }
-        ensures breaks { OnErr result (Breaks W.told (W.state world.old) (W.state world.new)) }
+        ensures breaks { OnErr result (Breaks W.told (W.state world.old) (W.state world.new) self.old) }
     {
         if self.ended {
             return Ok(Next::Ended);
@@ -194,6 +194,7 @@ impl LineReader {
         ensures same { IfOk result (λ found. IfSome found (λ _. Reads W.told Input [] (W.state world.old) (W.state world.new))) }
         ensures stops { IfOk result (λ found. IfSome found (λ next. Stops next W.told (W.state world.new) self.old self.new)) }
         ensures err { OnErr result (Fails Input (W.state world.old) (W.state world.new)) }
+        ensures wanted { OnErr result (self.old.left ≢ None) }
     {
         let Some(left) = self.left else {
             return Ok(Some(Next::TooLong));

@@ -7,7 +7,7 @@ use Rattle.ccsl_kernel.specs.Syntax.{System}
 use Rattle.ccsl_report.specs.Line.{line}
 use Rattle.std.specs.List.{concat}
 use Rattle.ccsl_report.specs.Room.{longest, full_room, room}
-use Rattle.ccsl_report.specs.Texts.{clock_name, label_of, of_label, constraint_pieces, item_pieces, broken_pieces, run_yes_text, fault_at, time_back_text, clock_fault}
+use Rattle.ccsl_report.specs.Texts.{clock_name, label_of, of_label, constraint_pieces, item_pieces, broken_text, run_yes_text, fault_at, time_back_text, clock_fault}
 
 -- the lengths of pieces, added up
 abbrev pub total : List (List ℕ) → ℕ
@@ -52,9 +52,9 @@ item_short K i h = by_kind (nat_lt i (length K.definitions))
           number_short (i - length K.definitions) (omega (arith, h)),
         )
 
-pub broken_short : (what : List ℕ) (step time item : ℕ) (K : System) → length what ≤ 16 → step < 2 ^ 64 → time < 2 ^ 64 → item < 2 ^ 32 → length (line (broken_pieces what step time item K)) ≤ full_room K
+pub broken_short : (what : List ℕ) (step time item : ℕ) (K : System) → length what ≤ 16 → step < 2 ^ 64 → time < 2 ^ 64 → item < 2 ^ 32 → length (broken_text what step time item K) ≤ full_room K
 broken_short what step time item K w s t i =
-    let whole = line_len (broken_pieces what step time item K) in
+    let whole = line_len (what ∷ codes "no, step " ∷ decimal step ∷ codes ", time " ∷ decimal time ∷ codes ", " ∷ item_pieces K item) in
     omega (arith, whole, w, number_short step s, number_short time t, item_short K item i)
 
 pub run_short : (steps : ℕ) → steps < 2 ^ 64 → length (run_yes_text steps) ≤ 64

@@ -65,14 +65,10 @@ checked_text K = line (
 abbrev pub run_yes_text : ℕ → List ℕ
 run_yes_text steps = line (codes "run: yes, " ∷ decimal steps ∷ codes " steps" ∷ [])
 
--- a broken item: the step, its time, and the item
-abbrev pub broken_pieces : List ℕ → ℕ → ℕ → ℕ → System → List (List ℕ)
-broken_pieces what step time item K =
-    what ∷ codes "no, step " ∷ decimal step ∷ codes ", time " ∷ decimal time ∷ codes ", " ∷ item_pieces K item
-
--- what was asked is `run: `, `certificate: ` or `explain: `
+-- a broken item: the step, its time, and the item; what was asked is `run: `, `certificate: ` or `explain: `
 abbrev pub broken_text : List ℕ → ℕ → ℕ → ℕ → System → List ℕ
-broken_text what step time item K = line (broken_pieces what step time item K)
+broken_text what step time item K =
+    line (what ∷ codes "no, step " ∷ decimal step ∷ codes ", time " ∷ decimal time ∷ codes ", " ∷ item_pieces K item)
 
 abbrev pub simulated_text : ℕ → List ℕ
 simulated_text steps = line (codes "simulate: done, " ∷ decimal steps ∷ codes " steps" ∷ [])
@@ -88,35 +84,30 @@ cert_no_line_text number = line (codes "certificate: no, line " ∷ decimal numb
 
 abbrev pub trial_text : ℕ → ℕ → ℕ → List ℕ
 trial_text clocks steps ticks = line (
-    codes "trial: clocks " ∷ decimal clocks ∷ codes ", steps " ∷ decimal steps ∷ codes ", ticks " ∷ decimal ticks
-    ∷ codes ", run: yes" ∷ [])
+    codes "trial: clocks " ∷ decimal clocks ∷ codes ", steps " ∷ decimal steps ∷ codes ", ticks " ∷ decimal ticks ∷ codes ", run: yes" ∷ [])
 
 -- the texts of two words with the relation between them
 abbrev pub related_pieces : List ℕ → List ℕ → RelationName → List (List ℕ)
-related_pieces left right relation =
-    codes "periodic: " ∷ left ∷ codes " " ∷ relation_text relation ∷ codes " " ∷ right ∷ []
+related_pieces left right relation = codes "periodic: " ∷ left ∷ codes " " ∷ relation_text relation ∷ codes " " ∷ right ∷ []
 
 abbrev pub periodic_holds_text : List ℕ → List ℕ → RelationName → List ℕ
 periodic_holds_text left right relation = line (related_pieces left right relation ++ codes " holds" ∷ [])
 
 -- the first tick at which it fails, from 1
 abbrev pub periodic_fails_text : List ℕ → List ℕ → RelationName → ℕ → List ℕ
-periodic_fails_text left right relation tick =
-    line (related_pieces left right relation ++ codes " fails at tick " ∷ decimal tick ∷ [])
+periodic_fails_text left right relation tick = line (related_pieces left right relation ++ codes " fails at tick " ∷ decimal tick ∷ [])
 
 abbrev pub periodic_word_text : List ℕ → List ℕ
 periodic_word_text word = line (codes "periodic: " ∷ word ∷ [])
 
 abbrev pub periodic_long_text : ℕ → List ℕ
-periodic_long_text letters =
-    line (codes "periodic: " ∷ decimal letters ∷ codes " letters, at most " ∷ decimal MAX_LETTERS ∷ [])
+periodic_long_text letters = line (codes "periodic: " ∷ decimal letters ∷ codes " letters, at most " ∷ decimal MAX_LETTERS ∷ [])
 
 abbrev pub explain_open_text : ℕ → List ℕ
 explain_open_text steps = line (codes "explain: not blocked after " ∷ decimal steps ∷ codes " steps" ∷ [])
 
 abbrev pub explain_blocked_text : ℕ → ℕ → List ℕ
-explain_blocked_text steps items = line (
-    codes "explain: blocked after " ∷ decimal steps ∷ codes " steps by " ∷ decimal items ∷ codes " items" ∷ [])
+explain_blocked_text steps items = line (codes "explain: blocked after " ∷ decimal steps ∷ codes " steps by " ∷ decimal items ∷ codes " items" ∷ [])
 
 -- an item, and the clocks of a set
 abbrev pub explain_member_text : ℕ → List ℕ → System → List ℕ
@@ -183,8 +174,7 @@ refusal_text refused.Memory = []
 
 abbrev pub time_back_text : ℕ → ℕ → ℕ → List ℕ
 time_back_text present time at = line (
-    codes "trace: time goes back from " ∷ decimal present ∷ codes " to " ∷ decimal time ∷ codes " at byte "
-    ∷ decimal at ∷ [])
+    codes "trace: time goes back from " ∷ decimal present ∷ codes " to " ∷ decimal time ∷ codes " at byte " ∷ decimal at ∷ [])
 
 abbrev pub clock_fault : List ℕ → System → ℕ → List ℕ
 clock_fault kind K clock = line (codes "trace: " ∷ kind ∷ clock_name K clock ∷ [])

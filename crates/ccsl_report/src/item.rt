@@ -6,7 +6,7 @@ ghost use Rattle.ccsl_report.specs.Line.{line};
 ghost use Rattle.std.specs.List.{concat};
 ghost use Rattle.ccsl_report.specs.Parts.{part_texts};
 ghost use Rattle.ccsl_report.specs.Room.{full_room};
-ghost use Rattle.ccsl_report.specs.Texts.{of_label, constraint_pieces, item_pieces, broken_pieces};
+ghost use Rattle.ccsl_report.specs.Texts.{of_label, constraint_pieces, item_pieces, broken_text};
 
 use crate::line::Part;
 use crate::line::Part::{Name, Number, Text};
@@ -59,8 +59,8 @@ pub(crate) fn broken_parts<'a>(
 ) -> [Part<'a>; 10]
     requires item { item < item_count system.now }
     requires word { length what.now ≤ 16 }
-    ensures text { line (part_texts result) ≡ line (broken_pieces what.now step time item system.now) }
-    ensures short { length (line (broken_pieces what.now step time item system.now)) ≤ full_room system.now }
+    ensures text { line (part_texts result) ≡ broken_text what.now step time item system.now }
+    ensures short { length (broken_text what.now step time item system.now) ≤ full_room system.now }
 {
     let [a, b, c, d] = item_parts(system, item);
     [

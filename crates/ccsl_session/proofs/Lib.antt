@@ -7,4 +7,5 @@ pub mod StackStates
 pub mod Texts
 pub mod Choices
 pub mod Saying
+pub mod Resting
 pub mod Turning

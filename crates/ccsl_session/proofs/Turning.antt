@@ -14,8 +14,8 @@ use Rattle.ccsl_lines.specs.declared.reader.Next.TheVariants as next
 use Rattle.ccsl_lines.specs.Lines.{Line, Whole, lines_taken}
 use Rattle.ccsl_lines.specs.Lines as lines
 use Rattle.ccsl_lines.specs.Held.{Held, StandsFor, going, ended}
-use Rattle.ccsl_lines.specs.Given.{Gives, Breaks, Follows}
-use Rattle.ccsl_lines.specs.Laws.{GivenLinesAreTaken}
+use Rattle.ccsl_lines.specs.Given.{IsPrompt, at_once, late, Gives, Breaks, Follows}
+use Rattle.ccsl_lines.specs.Laws.{GivenLinesAreTaken, FewBytesAreRead, SearchEndsNoLine}
 use Rattle.ccsl_session.specs.declared.answer.Ended.{Ended}
 use Rattle.ccsl_session.specs.declared.answer.Ended.TheVariants.{Quit, EndOfInput, TooLong}
 use Rattle.ccsl_session.specs.declared.answer.SessionFault.{SessionFault}
@@ -23,18 +23,24 @@ use Rattle.ccsl_session.specs.declared.answer.SessionFault.TheVariants.{Fault, M
 use Rattle.ccsl_session.specs.declared.asked.Asked.{Asked as Found}
 use Rattle.ccsl_session.specs.declared.world.Heard.TheVariants.{Asks}
 use Rattle.ccsl_session.specs.declared.world.Heard.TheVariants as heard
-use Rattle.ccsl_session.specs.Asked.{asked}
+use Rattle.ccsl_session.specs.Asked.{asked, is_quit}
 use Rattle.ccsl_session.specs.Reading.{plain}
-use Rattle.ccsl_session.specs.Answers.{answer, answers, answers_over, after, is_quit}
+use Rattle.ccsl_session.specs.Answers.{answer, answers, answers_over, after}
 use Rattle.ccsl_session.specs.Session.{session_text}
+use Rattle.ccsl_session.specs.Rest.{IsAskedFor, LeavesRest}
 use Rattle.ccsl_session.specs.Leaving.{HasEnded, IsCut}
 use Rattle.ccsl_session.specs.Going.{quits_at, Goes, Turns, IsHeard, Hears, NotWritten}
 use Rattle.ccsl_session.proofs.Found.{by_test}
+use Rattle.ccsl_session.proofs.Resting.{asked-none, asked-more, rest-none}
 use Rattle.ccsl_session.proofs.Saying.{says-nothing, counts-same, says-read, says-write, counts-read, counts-write, read-fails, write-fails, reads-only, adds-only}
 
 nothing-left : (bs rest : List ℕ) → [] ≡ bs ++ rest → rest ≡ []
 nothing-left [] rest e = sym e
 nothing-left (b ∷ bs) rest e = absurd (cc)
+
+nothing-read : (bs rest : List ℕ) → [] ≡ bs ++ rest → bs ≡ []
+nothing-read [] rest e = refl
+nothing-read (b ∷ bs) rest e = absurd (cc)
 
 -- a front of a list is what stands first in it
 front-of : (front rest whole : List ℕ) → whole ≡ front ++ rest → (n : ℕ) × (front ≡ take n whole)
@@ -59,6 +65,7 @@ module _ (told : Told) (K : System) (policy : Policy) (seed limit : ℕ) (old : 
     stands = s;
     answered = λ more. refl;
     unended = refl;
+    asked_for = λ t. asked-none limit;
   }
 
   -- cut short before the first line
@@ -68,9 +75,16 @@ module _ (told : Told) (K : System) (policy : Policy) (seed limit : ℕ) (old : 
     says = says-nothing told K policy seed limit old;
     cause = counts-same told K policy seed limit old;
     front = λ t. (0, refl);
+    rest = λ t. rest-none limit (old.slot_of Input).left;
   }
 
-module _ (told : Told) (K : System) (policy : Policy) (seed limit : ℕ) (old : State) (taken : GivenLinesAreTaken) where
+-- what lines are worth
+pub record LinesLaws : Type 0 where
+  pub taken : GivenLinesAreTaken
+  pub few : FewBytesAreRead
+  pub search : SearchEndsNoLine
+
+module _ (told : Told) (K : System) (policy : Policy) (seed limit : ℕ) (old : State) (laws : LinesLaws) where
   abbrev GoesTo : State → Held → List Step → List Line → Type 0
   GoesTo now h R waiting = Goes told K policy seed limit old now h R waiting
 
@@ -91,7 +105,7 @@ module _ (told : Told) (K : System) (policy : Policy) (seed limit : ℕ) (old : 
     pub lines-are : IsTrue told.left → (behind : List Line) × (all_lines ≡ g.given ++ (waiting ++ behind))
     lines-are t =
         let rest = (now.slot_of Input).left in
-        let b = taken h g.bytes rest (g.given ++ waiting) g.stands (λ e. g.ended e t) in (
+        let b = laws.taken h g.bytes rest (g.given ++ waiting) g.stands (λ e. g.ended e t) in (
           b.behind,
           ap (λ input. lines_taken limit input) (g.left t)
               ∙ ap (λ n. lines_taken n (g.bytes ++ rest)) (sym g.limit_is)
@@ -102,27 +116,43 @@ module _ (told : Told) (K : System) (policy : Policy) (seed limit : ℕ) (old : 
     pub text-is : IsTrue told.left → (behind : List Line) × (session_text K policy seed limit (old.slot_of Input).left ≡ g.text ++ over R (waiting ++ behind))
     text-is t = let q = lines-are t in (q.0, ap (answers K policy seed) q.1 ∙ g.answered (waiting ++ q.0))
 
+    pub text-front : IsTrue told.left → (n : ℕ) × (g.text ≡ take n (session_text K policy seed limit (old.slot_of Input).left))
+    text-front t = let q = text-is t in front-of g.text (over R (waiting ++ q.0)) (session_text K policy seed limit (old.slot_of Input).left) q.1
+
     -- CUT SHORT before anything more is written
     pub memory-cut : Cut now Memory
     memory-cut = record {
       text = g.text;
       says = g.says;
       cause = g.counts;
-      front = λ t. let q = text-is t in front-of g.text (over R (waiting ++ q.0)) (session_text K policy seed limit (old.slot_of Input).left) q.1;
-    }
-
-    pub read-cut : (later : State) → Breaks told now later → Cut later Fault
-    read-cut later b = record {
-      text = g.text;
-      says = says-read told K policy seed limit old now later g.text g.says b.fails.only b.fails.here;
-      cause = read-fails told K policy seed limit old now later g.counts b.bytes b.fails;
-      front = λ t. let q = text-is t in front-of g.text (over R (waiting ++ q.0)) (session_text K policy seed limit (old.slot_of Input).left) q.1;
+      front = text-front;
+      rest = λ t. record { bytes = g.bytes; taken = g.left t; asked_for = g.asked_for t };
     }
 
   module _ (now : State) (h : Held) (R : List Step) (g : GoesTo now h R []) where
     -- the lines that were handed out stand for the bytes read
     stands-for : StandsFor h g.bytes g.given
     stands-for = subst (StandsFor h g.bytes) (append-nil g.given) g.stands
+
+    -- a read fails
+    pub read-cut : (later : State) → Breaks told now later h → Cut later Fault
+    read-cut later b = record {
+      text = g.text;
+      says = says-read told K policy seed limit old now later g.text g.says b.fails.only b.fails.here;
+      cause = read-fails told K policy seed limit old now later g.counts b.bytes b.fails;
+      front = text-front now h R [] g;
+      rest = λ t. record {
+        bytes = g.bytes ++ (b.bytes ++ []);
+        taken =
+            g.left t
+            ∙ ap (λ bs. g.bytes ++ bs) (b.fails.taken t)
+            ∙ sym (append_assoc g.bytes b.bytes (later.slot_of Input).left)
+            ∙ ap (λ bs. (g.bytes ++ bs) ++ (later.slot_of Input).left) (sym (append-nil b.bytes));
+        asked_for =
+            asked-more limit h g.bytes b.bytes [] g.given K laws.search g.limit_is stands-for b.runs b.unended g.unended (omega arith)
+            (omega (arith, b.few g.bytes g.given stands-for, ap (λ bs. length (g.bytes ++ bs)) (append-nil b.bytes), g.limit_is));
+      };
+    }
 
     module _ (later : State) (h' : Held) (found : Next) (gives : Gives told now later h h' found) where
       left-behind : IsTrue told.left → (old.slot_of Input).left ≡ (g.bytes ++ gives.bytes) ++ (later.slot_of Input).left
@@ -138,6 +168,23 @@ module _ (told : Told) (K : System) (policy : Policy) (seed limit : ℕ) (old : 
           (λ b. nothing-left gives.bytes (later.slot_of Input).left (sym (g.ended b t) ∙ gives.reads.taken t))
           (λ b. gives.ends e b t)
 
+      -- no more was read than is asked for
+      asked-on : IsTrue told.left → (lines : List Line) → StandsFor h' (g.bytes ++ gives.bytes) lines → IsAskedFor limit (g.bytes ++ gives.bytes)
+      asked-on t lines s = on gives.prompt
+        where
+          same : gives.bytes ≡ [] → IsAskedFor limit (g.bytes ++ gives.bytes)
+          same none = subst (IsAskedFor limit) (sym (append-nil g.bytes) ∙ ap (λ bs. g.bytes ++ bs) (sym none)) (g.asked_for t)
+
+          on : IsPrompt h.pending gives.bytes → IsAskedFor limit (g.bytes ++ gives.bytes)
+          on (at_once none) = same none
+          on (late before piece all few unended) =
+              by_test h.ended _
+              (λ b. same (nothing-read gives.bytes (later.slot_of Input).left (sym (g.ended b t) ∙ gives.reads.taken t)))
+              (λ b.
+              subst (λ bs. IsAskedFor limit (g.bytes ++ bs)) (sym all)
+              (asked-more limit h g.bytes before piece g.given K laws.search g.limit_is stands-for b unended g.unended few
+              (omega (arith, laws.few h' (g.bytes ++ gives.bytes) lines s, ap (λ bs. length (g.bytes ++ bs)) all, gives.limit, g.limit_is))))
+
       -- A LINE IS HEARD
       pub hears : (line : Line) → StandsFor h' (g.bytes ++ gives.bytes) (g.given ++ line ∷ []) → GoesTo later h' R (line ∷ [])
       hears line s = record {
@@ -152,12 +199,13 @@ module _ (told : Told) (K : System) (policy : Policy) (seed limit : ℕ) (old : 
         stands = s;
         answered = g.answered;
         unended = g.unended;
+        asked_for = λ t. asked-on t (g.given ++ line ∷ []) s;
       }
 
       -- THE INPUT ENDS
-      ends : (e : Ended) →
+      ends : (e : Ended) → StandsFor h' (g.bytes ++ gives.bytes) g.given →
           (IsTrue told.left → (all_lines ≡ g.given) × (e ≡ (if nat_lt limit (length (old.slot_of Input).left) then TooLong else EndOfInput))) → Ends later e
-      ends e all = record {
+      ends e s all = record {
         text = g.text;
         says = says-read told K policy seed limit old now later g.text g.says gives.reads.only (reads-only told gives.bytes now later gives.reads);
         counts = counts-read told K policy seed limit old now later g.counts gives.bytes gives.reads;
@@ -166,11 +214,12 @@ module _ (told : Told) (K : System) (policy : Policy) (seed limit : ℕ) (old : 
         by = λ t.
             (all t).1
             ∙ sym (ap (λ (b : Bool). if b then Quit else if nat_lt limit (length (old.slot_of Input).left) then TooLong else EndOfInput) (ap (list_any (quits_at told K policy seed limit old)) (all t).0 ∙ g.unended));
+        rest = λ t. record { bytes = g.bytes ++ gives.bytes; taken = left-behind t; asked_for = asked-on t g.given s };
       }
 
     pub input-ends : (later : State) (h' : Held) → Gives told now later h h' next.Ended → Ends later EndOfInput
     input-ends later h' gives =
-        ends later h' next.Ended gives EndOfInput
+        ends later h' next.Ended gives EndOfInput (follows later h' next.Ended gives).0
         (λ t. whole t (follows later h' next.Ended gives).0 (follows later h' next.Ended gives).1)
       where
         whole : IsTrue told.left → StandsFor h' (g.bytes ++ gives.bytes) g.given → h'.ended ≡ true →
@@ -191,7 +240,7 @@ module _ (told : Told) (K : System) (policy : Policy) (seed limit : ℕ) (old : 
         let f = follows later h' next.TooLong gives in
         let most : h'.limit ≡ limit = gives.limit ∙ g.limit_is in
         let rest = (later.slot_of Input).left in
-        ends later h' next.TooLong gives TooLong
+        ends later h' next.TooLong gives TooLong f.2
         (λ t. (
           ap (lines_taken limit) (left-behind later h' next.TooLong gives t) ∙ ap (λ n. lines_taken n ((g.bytes ++ gives.bytes) ++ rest)) (sym most) ∙ f.1 rest,
           sym
@@ -205,7 +254,7 @@ module _ (told : Told) (K : System) (policy : Policy) (seed limit : ℕ) (old : 
     reply = answer K policy seed R (asked K line)
 
     abbrev behind_it : List Line → List ℕ
-    behind_it more = if is_quit K policy seed (asked K line) then [] else over (after K policy seed R (asked K line)) more
+    behind_it more = if is_quit (asked K line) then [] else over (after K policy seed R (asked K line)) more
 
     -- the text of the session goes on by the answer
     goes-on-by : IsTrue told.left → (more : List ℕ) × (session_text K policy seed limit (old.slot_of Input).left ≡ g.text ++ (reply ++ more))
@@ -227,11 +276,16 @@ module _ (told : Told) (K : System) (policy : Policy) (seed limit : ℕ) (old : 
               ∙ ap (λ bs. g.text ++ (bs ++ q.0)) (sym (take-append-drop w.count reply))
               ∙ ap (λ bs. g.text ++ bs) (append_assoc part rest q.0)
               ∙ sym (append_assoc g.text part (rest ++ q.0)));
+          rest = λ t. record {
+            bytes = g.bytes;
+            taken = g.left t ∙ ap (λ (s : SlotState). g.bytes ++ s.left) (sym (w.only.others Input (λ e. cc)));
+            asked_for = g.asked_for t;
+          };
         }
 
     module _ (later : State) (w : Adds told Report reply now later) where
       -- IT IS ANSWERED
-      pub replies : is_quit K policy seed (asked K line) ≡ false → GoesTo later h (after K policy seed R (asked K line)) []
+      pub replies : is_quit (asked K line) ≡ false → GoesTo later h (after K policy seed R (asked K line)) []
       replies not_quit = record {
         bytes = g.bytes;
         given = g.given ++ line ∷ [];
@@ -249,12 +303,13 @@ module _ (told : Told) (K : System) (policy : Policy) (seed limit : ℕ) (old : 
             ∙ sym (append_assoc g.text reply (over (after K policy seed R (asked K line)) more));
         unended =
             list_any-append (quits_at told K policy seed limit old) g.given (line ∷ [])
-            ∙ ap (λ b. b || (is_quit K policy seed (asked K line) || false)) g.unended
+            ∙ ap (λ b. b || (is_quit (asked K line) || false)) g.unended
             ∙ ap (λ b. b || false) not_quit;
+        asked_for = g.asked_for;
       }
 
       -- IT IS ANSWERED AND ENDS THE SESSION
-      pub quits-there : is_quit K policy seed (asked K line) ≡ true → Ends later Quit
+      pub quits-there : is_quit (asked K line) ≡ true → Ends later Quit
       quits-there quit = record {
         text = g.text ++ reply;
         says = says-write told K policy seed limit old now later g.text g.says reply w.only (adds-only told reply now later w) w.end;
@@ -271,8 +326,13 @@ module _ (told : Told) (K : System) (policy : Policy) (seed limit : ℕ) (old : 
             (ap (λ (b : Bool). if b then Quit else if nat_lt limit (length (old.slot_of Input).left) then TooLong else EndOfInput)
             (ap (list_any (quits_at told K policy seed limit old)) q.1
             ∙ list_any-append (quits_at told K policy seed limit old) g.given (line ∷ q.0)
-            ∙ ap (λ b. b || (is_quit K policy seed (asked K line) || list_any (quits_at told K policy seed limit old) q.0)) g.unended
+            ∙ ap (λ b. b || (is_quit (asked K line) || list_any (quits_at told K policy seed limit old) q.0)) g.unended
             ∙ ap (λ b. b || list_any (quits_at told K policy seed limit old) q.0) quit));
+        rest = λ t. record {
+          bytes = g.bytes;
+          taken = g.left t ∙ ap (λ (s : SlotState). g.bytes ++ s.left) (sym (w.only.others Input (λ e. cc)));
+          asked_for = g.asked_for t;
+        };
       }
 
   module _ (now later : State) (h h' : Held) (R : List Step) where
@@ -297,9 +357,9 @@ module _ (told : Told) (K : System) (policy : Policy) (seed limit : ℕ) (old : 
 
     -- A LINE THAT WAITS IS ANSWERED
     pub answered : (line : Line) (S : List Step) (end : Option Ended) → GoesTo now h' R (line ∷ []) → Adds told Report (answer K policy seed R (asked K line)) now later →
-        S ≡ after K policy seed R (asked K line) → end ≡ (if is_quit K policy seed (asked K line) then Some Quit else None) → Turns told K policy seed limit old later h' S end
+        S ≡ after K policy seed R (asked K line) → end ≡ (if is_quit (asked K line) then Some Quit else None) → Turns told K policy seed limit old later h' S end
     answered line S end g w sets ends =
-        by_test (is_quit K policy seed (asked K line)) _
+        by_test (is_quit (asked K line)) _
         (λ quit.
         subst (λ (x : Option Ended). Turns told K policy seed limit old later h' S x) (sym (ends ∙ ap (λ (b : Bool). if b then Some Quit else None) quit))
         (quits-there now h' R line g later w quit))

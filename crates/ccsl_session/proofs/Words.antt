@@ -4,13 +4,14 @@ use Rattle.std.specs.List.{slice_split, prefix_len}
 use Rattle.ccsl_refute.specs.Text as placed
 use Rattle.ccsl_refute.specs.Text.{is_blank}
 use Rattle.ccsl_refute.proofs.Tokens as placed_tokens
-use Rattle.ccsl_session.specs.Asked.{has_bytes, tokens}
+use Rattle.ccsl_base.specs.Empty.{is_empty}
+use Rattle.ccsl_session.specs.Asked.{tokens}
 
 abbrev texts : List placed.Piece → List (List ℕ)
 texts ps = map (λ (p : placed.Piece). p.1) ps
 
 -- the tokens are those with places, without these
-without_places : (parts : List (List ℕ)) (at : ℕ) → filter has_bytes parts ≡ texts (filter placed.has_bytes (placed.placed at parts))
+without_places : (parts : List (List ℕ)) (at : ℕ) → filter (λ token. not (is_empty token)) parts ≡ texts (filter placed.has_bytes (placed.placed at parts))
 without_places [] at = refl
 without_places ([] ∷ parts) at = without_places parts (suc (at + length {A = ℕ} []))
 without_places ((b ∷ bs) ∷ parts) at = ap (λ ts. (b ∷ bs) ∷ ts) (without_places parts (suc (at + length {A = ℕ} (b ∷ bs))))

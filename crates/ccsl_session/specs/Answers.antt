@@ -8,7 +8,7 @@ use Rattle.ccsl_policy.specs.declared.policies.Policy.{Policy}
 use Rattle.ccsl_vcd_write.specs.Text.{vcd_text}
 use Rattle.ccsl_simulate.specs.Simulation.{next_chosen}
 use Rattle.ccsl_session.specs.declared.TheConstants.{MAX_SESSION_STEPS}
-use Rattle.ccsl_session.specs.Asked.{Asked, Nothing, Fire, Next, Back, Allowed, Trace, Quit, Long, Unknown, asked}
+use Rattle.ccsl_session.specs.Asked.{Asked, Nothing, Fire, Next, Back, Allowed, Trace, Quit, Long, Unknown, asked, is_quit}
 use Rattle.ccsl_possible.specs.Possible.{first_failing, allowed_clocks}
 use Rattle.ccsl_lines.specs.Lines as lines
 
@@ -81,19 +81,10 @@ module _ (K : System) (policy : Policy) (seed : ℕ) where
 
   -- the stack behind it
   abbrev pub after : List Step → Asked → List Step
-  after R Nothing = R
   after R (Fire s) = if is_full R then R else fired R s (first_failing K (run_of R) s)
   after R Next = if is_full R then R else stepped R (next_set R)
   after R Back = take (length R - 1) R
-  after R Allowed = R
-  after R Trace = R
-  after R Quit = R
-  after R Long = R
-  after R Unknown = R
-
-  abbrev pub is_quit : Asked → Bool
-  is_quit Quit = true
-  is_quit a = false
+  after R other = R
 
   -- the answers to lines up to the first `quit`, over a stack
   abbrev pub answers_over : List Step → List lines.Line → List ℕ

@@ -1,7 +1,8 @@
 -- WHAT A LINE ASKS of a session. This project's own.
-use Rattle.std.specs.Prelude.{ℕ, List, [], ◌∷◌, Bool, true, false, ◌&&◌, Option, Some, None, codes, filter, take, if◌then◌else◌}
+use Rattle.std.specs.Prelude.{ℕ, List, [], ◌∷◌, Bool, true, false, not, ◌&&◌, Option, Some, None, codes, filter, take, if◌then◌else◌}
 use Rattle.std.specs.List.{list_all, slice_split}
 use Rattle.std.specs.Str.{bytes_eq}
+use Rattle.ccsl_base.specs.Empty.{is_empty}
 use Rattle.ccsl_base.specs.Clocks.{with_clock}
 use Rattle.ccsl_base.specs.Names.{is_among, find_name, are_distinct}
 use Rattle.ccsl_kernel.specs.Syntax.{System}
@@ -22,13 +23,9 @@ pub data Asked : Type 0 where
   Long : Asked
   Unknown : Asked
 
-abbrev pub has_bytes : List ℕ → Bool
-has_bytes [] = false
-has_bytes (b ∷ bs) = true
-
 -- what stands between blanks and tabs
 abbrev pub tokens : List ℕ → List (List ℕ)
-tokens line = filter has_bytes (slice_split is_blank line)
+tokens line = filter (λ token. not (is_empty token)) (slice_split is_blank line)
 
 -- the names of the declared clocks
 abbrev pub declared_names : System → List (List ℕ)
@@ -71,3 +68,7 @@ asked_words K (word ∷ name ∷ names) = asked_with K word (name ∷ names)
 abbrev pub asked : System → lines.Line → Asked
 asked K (lines.Whole bytes) = asked_words K (tokens bytes)
 asked K lines.Long = Long
+
+abbrev pub is_quit : Asked → Bool
+is_quit Quit = true
+is_quit other = false

@@ -19,16 +19,17 @@ use Rattle.ccsl_session.specs.declared.answer.SessionFault.TheVariants.{Fault, M
 use Rattle.ccsl_session.specs.declared.answers.Session.{Session}
 use Rattle.ccsl_session.specs.declared.world.Heard.{Heard}
 use Rattle.ccsl_session.specs.declared.world.Heard.TheVariants.{Asks, Ends}
-use Rattle.ccsl_session.specs.Asked.{Asked, asked}
+use Rattle.ccsl_session.specs.Asked.{Asked, asked, is_quit}
 use Rattle.ccsl_session.specs.Reading.{plain}
-use Rattle.ccsl_session.specs.Answers.{answer, answers, answers_over, after, is_quit}
+use Rattle.ccsl_session.specs.Answers.{answer, answers, answers_over, after}
+use Rattle.ccsl_session.specs.Rest.{IsAskedFor}
 use Rattle.ccsl_session.specs.Leaving.{Says, SameCounts, HasEnded}
 use Rattle.ccsl_session.specs.Stack.{Stands}
 use Rattle.ccsl_session.specs.Answering.{system_of, sets_of}
 
 module _ (told : Told) (K : System) (policy : Policy) (seed limit : ℕ) (old : State) where
   abbrev pub quits_at : lines.Line → Bool
-  quits_at line = is_quit K policy seed (asked K line)
+  quits_at line = is_quit (asked K line)
 
   -- of the lines that were handed out some were answered, none of them by `bye`, and the others wait; R are the sets of the run
   pub record Goes (now : State) (held : Held) (R : List Step) (waiting : List lines.Line) : Type 0 where
@@ -43,6 +44,7 @@ module _ (told : Told) (K : System) (policy : Policy) (seed limit : ℕ) (old : 
     pub stands : StandsFor held bytes (given ++ waiting)
     pub answered : (more : List lines.Line) → answers K policy seed (given ++ more) ≡ text ++ answers_over K policy seed R more
     pub unended : list_any quits_at given ≡ false
+    pub asked_for : IsTrue told.left → IsAskedFor limit bytes
 
   -- the session goes on, or it has ended
   abbrev pub Turns : State → Held → List Step → Option Ended → Type 0
@@ -72,7 +74,7 @@ pub record Replies (told : Told) (asked : Asked) (session later : Session) (old 
   pub adds : Adds told Report (answer (system_of session) session.policy session.seed (sets_of session) asked) old new
   pub sets : sets_of later ≡ after (system_of session) session.policy session.seed (sets_of session) asked
   pub stands : Stands later.stack
-  pub ends : end ≡ (if is_quit (system_of session) session.policy session.seed asked then Some ended.Quit else None)
+  pub ends : end ≡ (if is_quit asked then Some ended.Quit else None)
 
 -- a front of it is, or nothing
 abbrev pub NotWritten : Told → List ℕ → State → State → SessionFault → Type 0

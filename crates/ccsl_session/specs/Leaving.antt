@@ -9,6 +9,7 @@ use Rattle.ccsl_session.specs.declared.answer.Ended.{Ended}
 use Rattle.ccsl_session.specs.declared.answer.SessionFault.{SessionFault}
 use Rattle.ccsl_session.specs.declared.answer.SessionFault.TheVariants.{Fault, Memory}
 use Rattle.ccsl_session.specs.Session.{session_text, ended_by}
+use Rattle.ccsl_session.specs.Rest.{LeavesRest}
 
 module _ (told : Told) (K : System) (policy : Policy) (seed limit : ℕ) (old new : State) where
   -- standard input was read, the report has grown by a text, and nothing else has changed but counts of faults of the two
@@ -30,6 +31,7 @@ module _ (told : Told) (K : System) (policy : Policy) (seed limit : ℕ) (old ne
     pub counts : SameCounts
     pub all : IsTrue told.left → text ≡ session_text K policy seed limit (old.slot_of Input).left
     pub by : IsTrue told.left → ended ≡ ended_by K policy seed limit (old.slot_of Input).left
+    pub rest : IsTrue told.left → LeavesRest limit (old.slot_of Input).left (new.slot_of Input).left
 
   -- a call failed on one of the two, and no count fell
   pub record Fails : Type 0 where
@@ -47,3 +49,4 @@ module _ (told : Told) (K : System) (policy : Policy) (seed limit : ℕ) (old ne
     pub says : Says text
     pub cause : IsCause fault
     pub front : IsTrue told.left → (n : ℕ) × (text ≡ take n (session_text K policy seed limit (old.slot_of Input).left))
+    pub rest : IsTrue told.left → LeavesRest limit (old.slot_of Input).left (new.slot_of Input).left

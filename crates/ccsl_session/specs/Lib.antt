@@ -3,6 +3,7 @@ pub mod Reading
 pub mod Stack
 pub mod Answers
 pub mod Session
+pub mod Rest
 pub mod Leaving
 pub mod Laws
 pub mod Answering

@@ -6,8 +6,8 @@ use Rattle.ccsl_policy.specs.declared.policies.Policy.{Policy}
 use Rattle.ccsl_lines.specs.Lines.{lines_taken}
 use Rattle.ccsl_session.specs.declared.answer.Ended.{Ended}
 use Rattle.ccsl_session.specs.declared.answer.Ended.TheVariants.{Quit, EndOfInput, TooLong}
-use Rattle.ccsl_session.specs.Asked.{asked}
-use Rattle.ccsl_session.specs.Answers.{answers, is_quit}
+use Rattle.ccsl_session.specs.Asked.{asked, is_quit}
+use Rattle.ccsl_session.specs.Answers.{answers}
 
 module _ (K : System) (policy : Policy) (seed limit : ℕ) (input : List ℕ) where
   -- the answers to the lines of an input of which at most so many bytes are taken
@@ -15,7 +15,7 @@ module _ (K : System) (policy : Policy) (seed limit : ℕ) (input : List ℕ) wh
   session_text = answers K policy seed (lines_taken limit input)
 
   abbrev pub quits : Bool
-  quits = list_any (λ line. is_quit K policy seed (asked K line)) (lines_taken limit input)
+  quits = list_any (λ line. is_quit (asked K line)) (lines_taken limit input)
 
   -- how it ends
   abbrev pub ended_by : Ended

@@ -28,14 +28,11 @@ pub(crate) enum Asked {
 }
 
 impl Asked {
-    ghost use Rattle.std.specs.Prelude.{ℕ};
-    ghost use Rattle.ccsl_kernel.specs.Syntax.{System as Plain};
-    ghost use Rattle.ccsl_policy.specs.declared.policies.Policy.{Policy};
-    ghost use Rattle.ccsl_session.specs.Answers.{is_quit};
+    ghost use Rattle.ccsl_session.specs.Asked.{is_quit};
     ghost use Rattle.ccsl_session.specs.Reading.{plain};
 
     pub(crate) fn is_quit(&self) -> bool
-        ensures { (K : Plain) (policy : Policy) (seed : ℕ) → result ≡ is_quit K policy seed (plain self.now) }
+        ensures { result ≡ is_quit (plain self.now) }
     {
         matches!(self, Asked::Quit)
     }

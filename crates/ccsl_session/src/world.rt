@@ -17,7 +17,7 @@ use crate::asked::{Asked, read};
 use crate::laws::lines_leave_stacks;
 use ccsl_edge::{Failed, Slot, World, write_all};
 use ccsl_kernel::System;
-use ccsl_lines::laws::given_lines_are_taken;
+use ccsl_lines::laws::{few_bytes_are_read, given_lines_are_taken, search_ends_no_line};
 use ccsl_lines::{LineReader, Next};
 use ccsl_policy::Policy;
 use std::alloc::Global;
@@ -36,7 +36,7 @@ fn hear<W: World>(world: &mut W, lines: &mut LineReader, system: &System) -> Res
     ensures hears { IfOk result (λ heard.
         Hears W.told system.now (W.state world.old) (W.state world.new) lines.old lines.new heard) }
     ensures nears { IfOk result (λ heard. is_line heard ≡ true → calls_left lines.new < calls_left lines.old) }
-    ensures breaks { OnErr result (Breaks W.told (W.state world.old) (W.state world.new)) }
+    ensures breaks { OnErr result (Breaks W.told (W.state world.old) (W.state world.new) lines.old) }
 {
     match lines.next(world)? {
         Next::Line => Ok(Heard::Asks(read(system, lines.line()))),
@@ -93,6 +93,8 @@ fn turn<W: World>(
     ensures nears { IfOk result (λ end. end ≡ None → calls_left lines.new < calls_left lines.old) }
 {
     given_lines_are_taken();
+    few_bytes_are_read();
+    search_ends_no_line();
     lines_leave_stacks();
     match hear(world, lines, session.stack.system)? {
         Heard::Asks(asked) => reply(world, session, asked),

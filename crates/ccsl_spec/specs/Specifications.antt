@@ -35,8 +35,7 @@ pub record HasNoTree (text : List ℕ) (fault : ParseFault) : Type 0 where
   pub are : AreTokens text (map plain_token tokens)
   pub none : IsNoTree fault tokens
 
--- AN ACCEPTED SPECIFICATION: the text is not too long, it has a tree that is not refused behind the library, and the system is
--- the expansion
+-- AN ACCEPTED SPECIFICATION: not too long, with a tree that is not refused behind the library; the system is the expansion
 pub record IsSystemOf (text : List ℕ) (K : System) : Type 0 where
   pub short : length text ≤ MAX_SPEC_BYTES
   pub file : PlainFile

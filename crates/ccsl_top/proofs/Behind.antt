@@ -181,7 +181,7 @@ module _ (told : Told) (words : List (List ℕ)) (c : Command) (means : meaning 
           read-faulted uses slot one rose = record {
             used = used;
             leaves = leaves-reads used both-within s u (uses-then (only Spec) more s t u reads.uses uses);
-            cause = by_file spec behind opened-files (λ f l. record { system = K; is = system f l }) slot (within slot one) (rw (sym (reads.counts slot)) rose);
+            cause = by_file spec behind opened-files (λ f l. (K, system f l)) slot (within slot one) (rw (sym (reads.counts slot)) rose);
           }
 
           pub read-starved : Reads more t u →

@@ -38,8 +38,8 @@ use Rattle.ccsl_top.specs.declared.files.Stop.TheVariants as stop
 use Rattle.ccsl_top.specs.declared.reply.Reply.{Reply}
 use Rattle.ccsl_top.specs.Outcome.{Outcome, outcome}
 use Rattle.ccsl_top.specs.Opening.{is_slot, is_output, opens}
-use Rattle.ccsl_top.specs.Judge.{LIMITS}
-use Rattle.ccsl_top.specs.Certify.{lines_outcome, rows_outcome, text_outcome, certify_behind, certify_outcome}
+use Rattle.ccsl_top.specs.Judge.{LIMITS, behind_fault}
+use Rattle.ccsl_top.specs.Certify.{lines_outcome, rows_outcome, text_outcome, cert_outcome, certify_outcome}
 use Rattle.ccsl_top.specs.Changes.{Uses, Reads}
 use Rattle.ccsl_top.specs.Reading.{only, Breaks}
 use Rattle.ccsl_top.specs.Answered.{code_of, IsReadStatus, AnswersTo, StopsAt}
@@ -66,14 +66,14 @@ module _ (none-bad : NoBadLine) (K : System) (trace cert : List ℕ) where
 
   -- a trace without a fault, and a certificate that is short enough
   fine-outcome : (reading (wanted_of K) LIMITS trace).fault ≡ None → length cert ≤ MAX_FILE_BYTES → certify_outcome K trace cert ≡ text_outcome K trace (certificates.reading K.names cert)
-  fine-outcome fine short = ap (certify_behind K trace cert) fine
+  fine-outcome fine short = ap (λ fault. behind_fault K fault (cert_outcome K trace cert)) fine
       ∙ ap (λ t. cond t (outcome 4 cert_too_long_text) (text_outcome K trace (certificates.reading K.names cert))) (le-ltb MAX_FILE_BYTES (length cert) short)
 
   refused-outcome : (f : VcdFault) → (reading (wanted_of K) LIMITS trace).fault ≡ Some f → outcome 4 (trace_text f K) ≡ certify_outcome K trace cert
-  refused-outcome f e = sym (ap (certify_behind K trace cert) e)
+  refused-outcome f e = sym (ap (λ fault. behind_fault K fault (cert_outcome K trace cert)) e)
 
   long-outcome : (reading (wanted_of K) LIMITS trace).fault ≡ None → MAX_FILE_BYTES < length cert → outcome 4 cert_too_long_text ≡ certify_outcome K trace cert
-  long-outcome fine long = sym (ap (certify_behind K trace cert) fine
+  long-outcome fine long = sym (ap (λ fault. behind_fault K fault (cert_outcome K trace cert)) fine
       ∙ ap (λ t. cond t (outcome 4 cert_too_long_text) (text_outcome K trace (certificates.reading K.names cert))) (lt-ltb MAX_FILE_BYTES (length cert) long))
 
   module _ (fine : (reading (wanted_of K) LIMITS trace).fault ≡ None) (short : length cert ≤ MAX_FILE_BYTES) where

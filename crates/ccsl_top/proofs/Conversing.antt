@@ -19,6 +19,7 @@ use Rattle.ccsl_session.specs.declared.answer.Ended.{Ended}
 use Rattle.ccsl_session.specs.declared.answer.Ended.TheVariants.{Quit, EndOfInput, TooLong}
 use Rattle.ccsl_session.specs.declared.answer.SessionFault.TheVariants as faults
 use Rattle.ccsl_session.specs.Session.{session_text, ended_by}
+use Rattle.ccsl_session.specs.Rest.{LeavesRest}
 use Rattle.ccsl_session.specs.Leaving.{Says, HasEnded, SameCounts, IsCut}
 use Rattle.ccsl_report.specs.Texts.{session_too_long_text}
 use Rattle.ccsl_top.specs.Outcome.{Outcome}
@@ -69,6 +70,7 @@ record Talk (told : Told) (start now : State) (said : List ℕ) : Type 0 where
   pub rises : (slot : Slot) → (start.slot_of slot).faults ≤ (now.slot_of slot).faults
   pub report : now.slot_of Report ≡ record (start.slot_of Report) { written = (now.slot_of Report).written; faults = (now.slot_of Report).faults }
   pub grows : ReportGrows told start now said
+  pub rest : IsTrue told.left → LeavesRest MAX_FILE_BYTES (input_of start) (input_of now)
 
 -- a line more on the report
 talk-more : (told : Told) (start now new : State) (said more : List ℕ) → Talk told start now said → ChangesOnly Report now new →
@@ -83,6 +85,7 @@ talk-more told start now new said more t alone here rise grows = record {
       (λ no. let e = ap (λ x. x.faults) (alone.others slot (is_slot-differs Report slot no)) in let r = t.rises slot in omega (arith, e, r));
   report = here ∙ ap (λ (x : SlotState). let S : SlotState = record x { written = (new.slot_of Report).written; faults = (new.slot_of Report).faults } in S) t.report;
   grows = λ w. grows w ∙ ap (λ x. x ++ more) (t.grows w) ∙ append_assoc (start.slot_of Report).written said more;
+  rest = λ l. subst (λ (x : SlotState). LeavesRest MAX_FILE_BYTES (input_of start) x.left) (sym (alone.others Input input-apart)) (t.rest l);
 }
 
 written-alone : (a b : SlotState) → b ≡ record a { written = b.written } → b ≡ record a { written = b.written; faults = b.faults }
@@ -161,6 +164,7 @@ module _ (told : Told) (words : List (List ℕ)) (K : System) (policy : Policy) 
       fronts = λ _ _ slot out. untouched (ap (λ x. x.written)
           (t.others slot (output-differs Spec slot refl out) (output-differs Input slot refl out) (output-differs Report slot refl out)));
       closed = λ _ slot out opened. both-ways (opens (files_opened words) slot) opened (none-opened slot out);
+      rest = λ l. inr (t.rest l);
       stays = λ slot n e. let apart = unreached status three slot e in t.others slot apart.0 apart.1 n;
       unwritten = λ _ _ name. ap (λ fs. file_at fs name) t.files;
       files = λ _ _ name _. ap (λ fs. file_at fs name) t.files;
@@ -216,8 +220,9 @@ module _ (told : Told) (words : List (List ℕ)) (K : System) (policy : Policy) 
 
   -- WHAT THE SESSION HAS SAID
   module _ (now : State) (said : List ℕ) (s : Says told K policy seed MAX_FILE_BYTES begun now said) where
-    talk : (begun.slot_of Input).faults ≤ (now.slot_of Input).faults → (begun.slot_of Report).faults ≤ (now.slot_of Report).faults → Talk told start now said
-    talk input_rises report_rises = record {
+    talk : (begun.slot_of Input).faults ≤ (now.slot_of Input).faults → (begun.slot_of Report).faults ≤ (now.slot_of Report).faults →
+        (IsTrue told.left → LeavesRest MAX_FILE_BYTES input (input_of now)) → Talk told start now said
+    talk input_rises report_rises rest = record {
       files = s.files ∙ b.reads.uses.files;
       others = λ slot x i r. s.others slot i r ∙ b.reads.uses.others slot (is_slot-other Spec slot x);
       inputs = λ slot n. by-test (is_slot Input slot)
@@ -230,6 +235,7 @@ module _ (told : Told) (words : List (List ℕ)) (K : System) (policy : Policy) 
           (λ slot i r. let e = ap (λ (x : SlotState). x.faults) (s.others slot i r) in let u = uses-rises (only Spec) start begun b.reads.uses slot in omega (arith, e, u));
       report = s.report ∙ ap (λ (x : SlotState). let S : SlotState = record x { written = (now.slot_of Report).written; faults = (now.slot_of Report).faults } in S) report-same;
       grows = λ w. s.grows w ∙ ap (λ (x : SlotState). x.written ++ said) report-same;
+      rest = λ l. subst (λ (x : SlotState). LeavesRest MAX_FILE_BYTES x.left (input_of now)) input-same (rest l);
     }
 
     same-counts : SameCounts told K policy seed MAX_FILE_BYTES begun now → (slot : Slot) → (now.slot_of slot).faults ≡ (start.slot_of slot).faults
@@ -238,8 +244,8 @@ module _ (told : Told) (words : List (List ℕ)) (K : System) (policy : Policy) 
         (same.report ∙ ap (λ (x : SlotState). x.faults) report-same)
         (λ slot i r. ap (λ (x : SlotState). x.faults) (s.others slot i r) ∙ b.reads.counts slot)
 
-    calm : SameCounts told K policy seed MAX_FILE_BYTES begun now → Talk told start now said
-    calm same = talk (let e = same.input in omega (arith, e)) (let e = same.report in omega (arith, e))
+    calm : SameCounts told K policy seed MAX_FILE_BYTES begun now → (IsTrue told.left → LeavesRest MAX_FILE_BYTES input (input_of now)) → Talk told start now said
+    calm same rest = talk (let e = same.input in omega (arith, e)) (let e = same.report in omega (arith, e)) rest
 
   -- IT WAS CUT SHORT
   module _ (now : State) where
@@ -248,12 +254,12 @@ module _ (told : Told) (words : List (List ℕ)) (K : System) (policy : Policy) 
 
     pub session-starved : IsCut told K policy seed MAX_FILE_BYTES begun now faults.Memory → Headline told words 6 start now
     session-starved cut =
-        starved now cut.text (calm now cut.text cut.says cut.cause) (same-counts now cut.text cut.says cut.cause) (λ l. cut-front cut.text (cut.front l))
+        starved now cut.text (calm now cut.text cut.says cut.cause cut.rest) (same-counts now cut.text cut.says cut.cause) (λ l. cut-front cut.text (cut.front l))
 
     pub session-faulted : IsCut told K policy seed MAX_FILE_BYTES begun now faults.Fault → Headline told words 5 start now
     session-faulted cut =
-        faulted now cut.text (talk now cut.text cut.says cut.cause.input cut.cause.report) (⊎_elim
-        (λ r. by_input b.spec b.name seed b.means (λ f l. record { system = K; is = b.system f l })
+        faulted now cut.text (talk now cut.text cut.says cut.cause.input cut.cause.report cut.rest) (⊎_elim
+        (λ r. by_input b.spec b.name seed b.means (λ f l. (K, b.system f l))
         (subst (λ (x : SlotState). Rose x.faults (now.slot_of Input).faults) input-same r))
         (λ r. by_report (subst (λ (x : SlotState). Rose x.faults (now.slot_of Report).faults) report-same r))
         cut.cause.one) (λ l. cut-front cut.text (cut.front l))
@@ -261,7 +267,7 @@ module _ (told : Told) (words : List (List ℕ)) (K : System) (policy : Policy) 
     -- IT HAS ENDED
     module _ (how : Ended) (h : HasEnded told K policy seed MAX_FILE_BYTES begun now how) where
       ended-talk : Talk told start now h.text
-      ended-talk = calm now h.text h.says h.counts
+      ended-talk = calm now h.text h.says h.counts h.rest
 
       ended-counts : (slot : Slot) → (now.slot_of slot).faults ≡ (start.slot_of slot).faults
       ended-counts = same-counts now h.text h.says h.counts

@@ -19,8 +19,8 @@ use Rattle.ccsl_items.specs.Formulas.{item_formulas, scope_of}
 use Rattle.ccsl_kernel.specs.Verdict as kernel
 use Rattle.ccsl_report.specs.Texts.{cert_valid_text, cert_too_long_text}
 use Rattle.ccsl_top.specs.Outcome.{Outcome, outcome}
-use Rattle.ccsl_top.specs.Judge.{LIMITS, clocks_in, judged}
-use Rattle.ccsl_top.specs.Certify.{bad_line, lines_outcome, rows_outcome, text_outcome, cert_outcome, certify_behind, certify_outcome}
+use Rattle.ccsl_top.specs.Judge.{LIMITS, clocks_in, judged, behind_fault}
+use Rattle.ccsl_top.specs.Certify.{bad_line, lines_outcome, rows_outcome, text_outcome, cert_outcome, certify_outcome}
 use Rattle.ccsl_top.specs.Laws.{IsCertifiedEnd, CertifiedRunsEnd}
 
 module _ (certificate : (scope : Scope) (formulas : List Formula) (lines : List Line) → first_bad_line scope formulas lines ≡ None → is_certificate scope formulas lines ≡ true)
@@ -56,7 +56,7 @@ module _ (certificate : (scope : Scope) (formulas : List Formula) (lines : List 
     of-length true is done = absurd (cc)
     of-length false is done = of-text (certificates.reading K.names cert) is done
 
-    of-fault : (fault : Option VcdFault) → IsEnd (certify_behind K trace cert fault)
+    of-fault : (fault : Option VcdFault) → IsEnd (behind_fault K fault (cert_outcome K trace cert))
     of-fault (Some fault) is done = absurd (cc)
     of-fault None is done = of-length (nat_lt MAX_FILE_BYTES (length cert)) is done
 

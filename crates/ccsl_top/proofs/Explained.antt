@@ -176,7 +176,7 @@ module _ (told : Told) (words : List (List ℕ)) (spec trace cert : List ℕ) (m
       let W : Output → State → State → Type 0 = WritesBreak told in record {
         used = used W all;
         leaves = leaves W all all.writes.some;
-        cause = by_file spec behind words-open (λ f l. record { system = K; is = system f l }) CertOut refl
+        cause = by_file spec behind words-open (λ f l. (K, system f l)) CertOut refl
             (subst (λ n. Rose n (u.slot_of CertOut).faults) ((both W all).counts CertOut) all.writes.rose);
       }
 

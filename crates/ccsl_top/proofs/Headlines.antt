@@ -103,6 +103,7 @@ module _ (told : Told) (words : List (List ℕ)) (old : State) where
         stays = λ slot n e. frame.kept slot n (outside slot e);
         unwritten = λ t c. frame.unwritten (outside TraceOut t) (outside CertOut c);
         files = frame.files;
+        rest = λ _. inl frame.input;
         read = frame.slots;
         report = frame.report;
       }
@@ -140,6 +141,7 @@ module _ (told : Told) (words : List (List ℕ)) (old : State) where
         unwritten = λ t c.
             part.unwritten (unreached words a.used a.leaves.opened 5 (inl refl) TraceOut t) (unreached words a.used a.leaves.opened 5 (inl refl) CertOut c);
         files = part.files;
+        rest = λ _. inl part.input;
         read = part.slots;
         report = part.report;
       }
@@ -167,6 +169,7 @@ module _ (told : Told) (words : List (List ℕ)) (old : State) where
           unwritten = λ t c.
               still.unwritten (unreached words f.used f.leaves.opened 5 (inl refl) TraceOut t) (unreached words f.used f.leaves.opened 5 (inl refl) CertOut c);
           files = still.files;
+          rest = λ _. inl still.input;
           read = still.slots;
           report = still.report;
         }
@@ -193,6 +196,7 @@ module _ (told : Told) (words : List (List ℕ)) (old : State) where
           unwritten = λ t c.
               still.unwritten (unreached words s.used s.leaves.opened 6 (inr refl) TraceOut t) (unreached words s.used s.leaves.opened 6 (inr refl) CertOut c);
           files = still.files;
+          rest = λ _. inl still.input;
           read = still.slots;
           report = still.report;
         }

@@ -16,7 +16,7 @@ use Rattle.ccsl_judge.specs.declared.verdict.Verdict.{Verdict}
 use Rattle.ccsl_judge.specs.Judged.{IsJudged, plain}
 use Rattle.ccsl_report.specs.Texts.{trace_text}
 use Rattle.ccsl_top.specs.Outcome.{Outcome, outcome}
-use Rattle.ccsl_top.specs.Judge.{LIMITS, judge_outcome, verdict_outcome, read_outcome}
+use Rattle.ccsl_top.specs.Judge.{LIMITS, judged, judge_outcome, verdict_outcome, behind_fault}
 use Rattle.ccsl_top.specs.Changes.{Reads}
 use Rattle.ccsl_top.specs.Reading.{only, Breaks}
 use Rattle.ccsl_top.specs.declared.files.Stop.{Stop}
@@ -39,7 +39,7 @@ module _ (told : Told) (K : System) (trace : List ℕ) (s t u : State) (opens : 
 
     pub judged-outcome : (o : Outcome) → o ≡ verdict_outcome K (plain v) → IsTrue told.files → IsTrue told.left → o ≡ judge_outcome K (held s.files trace)
     judged-outcome o e f l =
-        e ∙ ap (verdict_outcome K) is.judged ∙ sym (ap (read_outcome K is.bytes) is.fine)
+        e ∙ ap (verdict_outcome K) is.judged ∙ sym (ap (λ f. behind_fault K f (verdict_outcome K (judged K is.bytes))) is.fine)
         ∙ ap (judge_outcome K) (sym (is.whole l) ∙ opens.bytes f l)
 
   module _ (f : VcdFault) (is : IsRefused told (wanted_of K) LIMITS t u f) where
@@ -48,7 +48,7 @@ module _ (told : Told) (K : System) (trace : List ℕ) (s t u : State) (opens : 
 
     pub refused-outcome : (o : Outcome) → o ≡ outcome 4 (trace_text f K) → IsTrue told.files → IsTrue told.left → o ≡ judge_outcome K (held s.files trace)
     refused-outcome o e tells_files tells_left =
-        e ∙ sym (ap (read_outcome K (t.slot_of Trace).left) (is.whole tells_left)) ∙ ap (judge_outcome K) (opens.bytes tells_files tells_left)
+        e ∙ sym (ap (λ f. behind_fault K f (verdict_outcome K (judged K (t.slot_of Trace).left))) (is.whole tells_left)) ∙ ap (judge_outcome K) (opens.bytes tells_files tells_left)
 
   pub failed-breaks : Fails told (wanted_of K) LIMITS t u → Breaks Trace s u
   failed-breaks is = opened-breaks told Trace trace s t u opens is.bytes is.reads

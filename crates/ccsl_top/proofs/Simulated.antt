@@ -204,7 +204,7 @@ module _ (told : Told) (words : List (List ℕ)) (spec : List ℕ) (policy : Pol
     where
       cause : (slot : Slot) → opens behind slot ≡ true → RoseAt slot t u → FaultCause told words s u
       cause slot one rose =
-          by_file spec behind words-open (λ f l. record { system = K; is = system f l }) slot one (subst (λ n. Rose n (u.slot_of slot).faults) (reads.counts slot) rose)
+          by_file spec behind words-open (λ f l. (K, system f l)) slot one (subst (λ n. Rose n (u.slot_of slot).faults) (reads.counts slot) rose)
 
   no-trace-read : (name file : List ℕ) (workers : ℕ) → meaning words ≡ Ok (command.Judge name file workers) → ⊥
   no-trace-read name file workers e = let clash : (let R : Result Command Usage = Ok c in R) ≡ Ok (command.Judge name file workers) = sym means ∙ e in absurd (cc)

@@ -1,5 +1,4 @@
--- WHAT `certify` ANSWERS on an accepted specification, the bytes of a trace and those of a certificate: the first of these cases that
--- holds.
+-- WHAT `certify` ANSWERS on an accepted specification and the bytes of a trace and of a certificate: the first case that holds.
 use Rattle.std.specs.Prelude.{ℕ, List, length, Option, Some, None, Result, Ok, Err, nat_lt, if◌then◌else◌, codes}
 use Rattle.ccsl_base.specs.declared.limits.TheConstants.{MAX_FILE_BYTES}
 use Rattle.ccsl_base.specs.declared.rows.Row.{Row}
@@ -10,13 +9,12 @@ use Rattle.ccsl_refute.specs.declared.fault.CertFault.{CertFault}
 use Rattle.ccsl_refute.specs.Validity.{first_bad_line}
 use Rattle.ccsl_refute.specs.Reading as certificates
 use Rattle.ccsl_items.specs.Formulas.{item_formulas, scope_of}
-use Rattle.ccsl_vcd.specs.declared.fault.VcdFault.{VcdFault}
 use Rattle.ccsl_vcd.specs.Reading.{reading}
 use Rattle.ccsl_vcd.specs.Rows.{recorded}
 use Rattle.ccsl_bind.specs.Collected.{wanted_of}
-use Rattle.ccsl_report.specs.Texts.{trace_text, cert_text, cert_too_long_text, cert_valid_text, broken_text, cert_no_line_text}
+use Rattle.ccsl_report.specs.Texts.{cert_text, cert_too_long_text, cert_valid_text, broken_text, cert_no_line_text}
 use Rattle.ccsl_top.specs.Outcome.{Outcome, outcome}
-use Rattle.ccsl_top.specs.Judge.{LIMITS, judged}
+use Rattle.ccsl_top.specs.Judge.{LIMITS, judged, behind_fault}
 
 -- the first line of a certificate that is bad, after these rows
 abbrev pub bad_line : System → List Row → List Line → Option ℕ
@@ -41,10 +39,5 @@ abbrev pub cert_outcome : System → List ℕ → List ℕ → Outcome
 cert_outcome K trace cert =
     if nat_lt MAX_FILE_BYTES (length cert) then outcome 4 cert_too_long_text else text_outcome K trace (certificates.reading K.names cert)
 
--- whether the trace reads
-abbrev pub certify_behind : System → List ℕ → List ℕ → Option VcdFault → Outcome
-certify_behind K trace cert (Some fault) = outcome 4 (trace_text fault K)
-certify_behind K trace cert None = cert_outcome K trace cert
-
 abbrev pub certify_outcome : System → List ℕ → List ℕ → Outcome
-certify_outcome K trace cert = certify_behind K trace cert (reading (wanted_of K) LIMITS trace).fault
+certify_outcome K trace cert = behind_fault K (reading (wanted_of K) LIMITS trace).fault (cert_outcome K trace cert)

@@ -1,6 +1,7 @@
 -- THE PROMISE OF THE PROGRAM'S ONE CALL, each sentence a field: what stands after it, from the words, the world before and the
 -- world after, and the status.
 use Rattle.std.specs.Prelude.{◌≡◌, ◌≢◌, ◌⊎◌, ℕ, ◌+◌, ◌≤◌, List, [], ◌∷◌, ◌++◌, length, take, true, false, Some, Ok, IsTrue}
+use Rattle.ccsl_base.specs.declared.limits.TheConstants.{MAX_FILE_BYTES}
 use Rattle.ccsl_edge.specs.declared.slot.Slot.{Slot}
 use Rattle.ccsl_edge.specs.declared.slot.Slot.TheVariants.{Spec, Trace, Input, Report, TraceOut, CertOut}
 use Rattle.ccsl_edge.specs.World.{State, Told, file_at, held}
@@ -11,6 +12,7 @@ use Rattle.ccsl_command.specs.Opened.{Opened, files_opened}
 use Rattle.ccsl_kernel.specs.Syntax.{System}
 use Rattle.ccsl_spec.specs.Specifications.{IsSystemOf}
 use Rattle.ccsl_trace.specs.declared.pending.TheConstants.{PIECE}
+use Rattle.ccsl_session.specs.Rest.{LeavesRest}
 use Rattle.ccsl_top.specs.Outcome.{Output, Outcome}
 use Rattle.ccsl_top.specs.Simulate.{named_policy, IsOutput}
 use Rattle.ccsl_top.specs.Explain.{IsExplainOutcome}
@@ -52,9 +54,8 @@ pub record Answers (told : Told) (words : List (List ℕ)) (status : ℕ) (old n
   pub files : IsTrue told.written → AreHeld new.files reports.outcome.outputs
 
 -- the words name an accepted specification
-pub record IsAcceptedSpec (files : List (List ℕ × List ℕ)) (spec : List ℕ) : Type 0 where
-  pub system : System
-  pub is : IsSystemOf (held files spec) system
+abbrev pub IsAcceptedSpec : List (List ℕ × List ℕ) → List ℕ → Type 0
+IsAcceptedSpec files spec = (K : System) × IsSystemOf (held files spec) K
 
 -- status 5 comes only where a call on the report failed; or, with words that open one, on the specification; or, with an accepted
 -- specification, on another file that the words open, or in a session on standard input
@@ -127,6 +128,8 @@ pub record Headline (told : Told) (words : List (List ℕ)) (status : ℕ) (old 
       IsFrontOn (IsDefinedOutput words old.files) old new slot
   pub closed : (status ≡ 0) ⊎ (status ≡ 8) → (slot : Slot) → is_output slot ≡ true → opens (files_opened words) slot ≡ true →
       (new.slot_of slot).is_open ≡ false
+  -- OF STANDARD INPUT no more is gone than a session asks for
+  pub rest : IsTrue told.left → (new.slot_of Input ≡ old.slot_of Input) ⊎ LeavesRest MAX_FILE_BYTES (input_of old) (input_of new)
   -- WHAT STAYS: each slot but the report's that a run with this status does not reach; every file, where it reaches no output slot;
   -- and every file that the words do not open for writing
   pub stays : (slot : Slot) → slot ≢ Report → may_change words status slot ≡ false → new.slot_of slot ≡ old.slot_of slot

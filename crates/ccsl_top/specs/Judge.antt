@@ -27,10 +27,10 @@ abbrev pub verdict_outcome : System → Verdict → Outcome
 verdict_outcome K (Run steps) = outcome 0 (run_yes_text steps)
 verdict_outcome K (Violated step time item) = outcome 1 (broken_text (codes "run: ") step time item K)
 
--- the fault of a trace comes before the verdict, wherever it stands
-abbrev pub read_outcome : System → List ℕ → Option VcdFault → Outcome
-read_outcome K trace (Some fault) = outcome 4 (trace_text fault K)
-read_outcome K trace None = verdict_outcome K (judged K trace)
+-- the fault of a trace comes before what else is answered, wherever it stands
+abbrev pub behind_fault : System → Option VcdFault → Outcome → Outcome
+behind_fault K (Some fault) answer = outcome 4 (trace_text fault K)
+behind_fault K None answer = answer
 
 abbrev pub judge_outcome : System → List ℕ → Outcome
-judge_outcome K trace = read_outcome K trace (reading (wanted_of K) LIMITS trace).fault
+judge_outcome K trace = behind_fault K (reading (wanted_of K) LIMITS trace).fault (verdict_outcome K (judged K trace))

@@ -1,5 +1,6 @@
 -- The files that words name, and the slots under which they are opened or which are read.
-use Rattle.std.specs.Prelude.{ℕ, List, [], ◌∷◌, Bool, true, false, not, ◌&&◌, ◌||◌, nat_eq, if◌then◌else◌, Result, Ok, Err}
+use Rattle.std.specs.Prelude.{ℕ, List, [], ◌∷◌, Bool, true, false, not, ◌&&◌, ◌||◌, nat_eq, if◌then◌else◌, Result, Ok}
+use Rattle.std.specs.List.{list_any}
 use Rattle.std.specs.Str.{bytes_eq}
 use Rattle.ccsl_edge.specs.declared.slot.Slot.{Slot}
 use Rattle.ccsl_edge.specs.declared.slot.Slot.TheVariants.{Spec, Input, TraceOut, CertOut}
@@ -21,22 +22,19 @@ is_slot a b = nat_eq (index_of a) (index_of b)
 
 -- whether a file is opened under a slot
 abbrev pub opens : List Opened → Slot → Bool
-opens [] slot = false
-opens (f ∷ fs) slot = is_slot f.slot slot || opens fs slot
+opens files slot = list_any (λ file. is_slot file.slot slot) files
 
 abbrev pub is_output : Slot → Bool
 is_output slot = is_slot slot TraceOut || is_slot slot CertOut
 
 -- whether a file of this name is opened for writing
 abbrev pub writes : List Opened → List ℕ → Bool
-writes [] name = false
-writes (f ∷ fs) name = (is_output f.slot && bytes_eq f.name name) || writes fs name
+writes files name = list_any (λ file. is_output file.slot && bytes_eq file.name name) files
 
 -- whether a command reads standard input
 abbrev pub is_session : Result Command Usage → Bool
 is_session (Ok (command.Session spec policy seed)) = true
-is_session (Ok c) = false
-is_session (Err fault) = false
+is_session other = false
 
 -- whether the words read or write through a slot, the report aside
 abbrev pub uses : List (List ℕ) → Slot → Bool

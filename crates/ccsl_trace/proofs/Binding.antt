@@ -2,6 +2,7 @@
 use Rattle.std.proofs.Common.{◌≡◌, ℕ, ◌≤◌, ◌<◌, ◌^◌, List, [], ◌∷◌, ◌++◌, length, Bool, true, false, cond, nat_lt, Option, Some, None, map, filter, refl, sym, ap, ◌∙◌, subst, arith}
 use Rattle.std.specs.Prelude.{fold, is_some, bytes_eq, codes}
 use Rattle.std.proofs.lemmas.List.{append-nil}
+use Rattle.std.specs.Option.{option_or}
 use Rattle.ccsl_vcd_lex.specs.Tokens.{Token, Heard, word, too_long, tokens_from, settled, heard}
 use Rattle.ccsl_vcd_lex.proofs.Further.{settled-further, heard-further}
 use Rattle.ccsl_vcd.specs.declared.fault.VcdFault.{VcdFault}
@@ -11,7 +12,7 @@ use Rattle.ccsl_vcd.specs.Binding.{Wanted}
 use Rattle.ccsl_vcd.specs.Words as w
 use Rattle.ccsl_vcd.specs.Places as p
 use Rattle.ccsl_vcd.specs.Body.{is_declared, changed, change_says, body_says}
-use Rattle.ccsl_vcd.specs.Reading.{may_end, or_else, Story, says, told, next, next_from, story, so_far, reading}
+use Rattle.ccsl_vcd.specs.Reading.{may_end, Story, says, told, next, next_from, story, so_far, reading}
 use Rattle.ccsl_vcd.specs.Rows.{row_at, times, has_ticks, rows, rows_of, bound_at}
 use Rattle.ccsl_vcd.specs.Completed.{now_at, is_before, done}
 use Rattle.ccsl_vcd.proofs.Decided.{story-more, story-sticks}
@@ -170,7 +171,7 @@ may-end-bound : (v : p.Where) → may_end v ≡ true → (bound : List ℕ) × (
 may-end-bound (p.header h) e = absurd (cc)
 may-end-bound (p.body b) e = (map (λ c. c.clock) b.bound, refl)
 
-none-or : (o : Option VcdFault) (b : Bool) (f : VcdFault) → or_else o (cond b None (Some f)) ≡ None → b ≡ true
+none-or : (o : Option VcdFault) (b : Bool) (f : VcdFault) → option_or o (cond b None (Some f)) ≡ None → b ≡ true
 none-or None true f e = refl
 none-or None false f e = absurd (cc)
 none-or (Some g) b f e = absurd (cc)

@@ -5,6 +5,7 @@ use Rattle.std.proofs.lemmas.Bool.{lt-ltb, ltb-true, ltb-false, le-ltb}
 use Rattle.std.proofs.lemmas.List.{take-append-le}
 use Rattle.std.proofs.lemmas.Grind.{fold-append}
 use Rattle.std.proofs.Math.Seq.{take-append-add}
+use Rattle.std.specs.Option.{option_or}
 use Rattle.ccsl_vcd_lex.specs.Tokens.{Heard, settled, heard}
 use Rattle.ccsl_vcd_lex.proofs.Further.{settled-further, heard-further}
 use Rattle.ccsl_vcd.specs.declared.fault.VcdFault.{VcdFault}
@@ -12,7 +13,7 @@ use Rattle.ccsl_vcd.specs.declared.fault.VcdFault.TheVariants as faults
 use Rattle.ccsl_vcd.specs.Binding.{Wanted}
 use Rattle.ccsl_vcd.specs.declared.limits.Limits.{Limits}
 use Rattle.ccsl_vcd.specs.Places.{Change, Where}
-use Rattle.ccsl_vcd.specs.Reading.{Story, next, story, begin, decides, or_else, is_over, so_far, reading}
+use Rattle.ccsl_vcd.specs.Reading.{Story, next, story, begin, decides, is_over, so_far, reading}
 
 -- after a fault nothing changes
 stuck : (w : Wanted) (l : Limits) (cs : List Change) (p : Where) (f : VcdFault) (hs : List Heard)
@@ -31,7 +32,7 @@ story-more w l xs ys = fold-append (next w l) begin xs ys
 pub story-sticks : (w : Wanted) (l : Limits) (xs ys : List Heard) (f : VcdFault) → (story w l xs).fault ≡ Some f → story w l (xs ++ ys) ≡ story w l xs
 story-sticks w l xs ys f e = story-more w l xs ys ∙ sticks w l (story w l xs) f ys e
 
-or-kept : (o g : Option VcdFault) (f : VcdFault) → o ≡ Some f → or_else o g ≡ Some f
+or-kept : (o g : Option VcdFault) (f : VcdFault) → o ≡ Some f → option_or o g ≡ Some f
 or-kept o g f e = rw e refl
 
 take-past : (n : ℕ) (b c : List ℕ) → length b ≤ n → take n (b ++ c) ≡ b ++ take (n - length b) c

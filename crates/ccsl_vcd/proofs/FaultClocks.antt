@@ -3,6 +3,7 @@ use Rattle.std.proofs.Common.{◌≡◌, ℕ, ◌+◌, ◌≤◌, ◌<◌, List,
 use Rattle.std.specs.Prelude.{fold, bytes_eq, codes, take}
 use Rattle.std.specs.List.{list_all}
 use Rattle.std.proofs.lemmas.Bool.{ltb-true}
+use Rattle.std.specs.Option.{option_or}
 use Rattle.ccsl_vcd_lex.specs.Tokens.{Token, Heard, word, too_long, settled, heard}
 use Rattle.ccsl_vcd.specs.declared.fault.VcdFault.{VcdFault}
 use Rattle.ccsl_vcd.specs.declared.fault.VcdFault.TheVariants as faults
@@ -12,7 +13,7 @@ use Rattle.ccsl_vcd.specs.Places as p
 use Rattle.ccsl_vcd.specs.Header as d
 use Rattle.ccsl_vcd.specs.Words as w
 use Rattle.ccsl_vcd.specs.Body.{is_declared, changed, change_says, body_says}
-use Rattle.ccsl_vcd.specs.Reading.{says, Story, told, next_from, next, begin, story, or_else, at_end, may_end, decides, is_over, so_far, ends_at, reading}
+use Rattle.ccsl_vcd.specs.Reading.{says, Story, told, next_from, next, begin, story, at_end, may_end, decides, is_over, so_far, ends_at, reading}
 
 -- the clock of a fault is below these
 abbrev pub Names : ℕ → ℕ → VcdFault → Type 0
@@ -149,7 +150,7 @@ module _ (wanted : Wanted) (l : Limits) where
   story-names : (hs : List Heard) → OfFault (story wanted l hs).fault
   story-names hs = fold-names begin hs tt
 
-  or-names : (o g : Option VcdFault) → OfFault o → OfFault g → OfFault (or_else o g)
+  or-names : (o g : Option VcdFault) → OfFault o → OfFault g → OfFault (option_or o g)
   or-names None g h k = k
   or-names (Some f) g h k = h
 

@@ -3,6 +3,7 @@ use Rattle.std.proofs.Common.{◌≡◌, ℕ, List, [], ◌∷◌, ◌++◌, len
 use Rattle.std.specs.Prelude.{fold, map}
 use Rattle.std.specs.List.{AllByRecursion}
 use Rattle.std.proofs.lemmas.Bool.{ltb-false, le-ltb}
+use Rattle.std.specs.Option.{option_or}
 use Rattle.ccsl_vcd_lex.specs.Tokens.{Token, word, too_long, hear, heard, tokens, settled, is_long}
 use Rattle.ccsl_vcd.specs.declared.fault.VcdFault.{VcdFault}
 use Rattle.ccsl_vcd.specs.declared.fault.VcdFault.TheVariants as faults
@@ -10,7 +11,7 @@ use Rattle.ccsl_vcd.specs.Binding.{Wanted, Bound, bind}
 use Rattle.ccsl_vcd.specs.declared.limits.Limits.{Limits}
 use Rattle.ccsl_vcd.specs.Places.{inside, Where, Body, header, body}
 use Rattle.ccsl_vcd.specs.Header.{opens}
-use Rattle.ccsl_vcd.specs.Reading.{Story, next, begin, story, says, told, or_else, may_end, at_end, decides, ends_at, is_over, so_far, reading}
+use Rattle.ccsl_vcd.specs.Reading.{Story, next, begin, story, says, told, may_end, at_end, decides, ends_at, is_over, so_far, reading}
 use Rattle.ccsl_vcd.specs.Rows.{IsRead}
 use Rattle.ccsl_vcd.specs.Grammar.{items_tokens, changes_of, time_after, body_story, EndsWell}
 use Rattle.ccsl_vcd.specs.Commands.{Command, command_tokens, commands_tokens, declarations, IsHeader, header_tokens, IsTrace, BeginsWithHeader}
@@ -96,16 +97,16 @@ module _ (w : Wanted) (l : Limits) where
     ends-well : (s : Story) → (ends_at (length file) s).fault ≡ None → EndsWell s
     ends-well s e = (first s.fault refl e, at-place s.fault (may_end s.place) refl e)
       where
-        first : (o : Option VcdFault) → s.fault ≡ o → or_else s.fault (at_end (length file) s.place) ≡ None → s.fault ≡ None
+        first : (o : Option VcdFault) → s.fault ≡ o → option_or s.fault (at_end (length file) s.place) ≡ None → s.fault ≡ None
         first None k h = k
-        first (Some f) k h = none-some f (sym (ap (λ o. or_else o (at_end (length file) s.place)) k) ∙ h)
+        first (Some f) k h = none-some f (sym (ap (λ o. option_or o (at_end (length file) s.place)) k) ∙ h)
 
-        at-place : (o : Option VcdFault) (b : Bool) → may_end s.place ≡ b → or_else s.fault (at_end (length file) s.place) ≡ None → may_end s.place ≡ true
+        at-place : (o : Option VcdFault) (b : Bool) → may_end s.place ≡ b → option_or s.fault (at_end (length file) s.place) ≡ None → may_end s.place ≡ true
         at-place o true k h = k
         at-place o false k h = cut (first s.fault refl h)
           where
             cut : s.fault ≡ None → may_end s.place ≡ true
-            cut n = none-some (faults.Truncated (length file)) (sym (ap (λ f. or_else f (at_end (length file) s.place)) n ∙ ap (λ x. if x then None else Some (faults.Truncated (length file))) k) ∙ h)
+            cut n = none-some (faults.Truncated (length file)) (sym (ap (λ f. option_or f (at_end (length file) s.place)) n ∙ ap (λ x. if x then None else Some (faults.Truncated (length file))) k) ∙ h)
 
     in-body : (p : Where) → may_end p ≡ true → in_body p ≡ true
     in-body (header h) e = absurd (cc)
@@ -121,7 +122,7 @@ module _ (w : Wanted) (l : Limits) where
           | false ↦ λ k h. (k, h)
         ]) refl e
       where
-        over : {X : Type 0} (o : Option VcdFault) → or_else o (Some (faults.TooLong l.bytes)) ≡ None → X
+        over : {X : Type 0} (o : Option VcdFault) → option_or o (Some (faults.TooLong l.bytes)) ≡ None → X
         over None h = none-some (faults.TooLong l.bytes) h
         over (Some f) h = none-some f h
 

@@ -1,12 +1,12 @@
 -- The grammar of a header, a list of commands, and with that of a body the grammar of a whole file. IEEE 1364-2005,
 -- clause 18.2.
-use Rattle.std.specs.Prelude.{◌≡◌, ℕ, ◌+◌, ◌-◌, ◌≤◌, ◌<◌, List, [], ◌∷◌, ◌++◌, length, true, false, Ok}
+use Rattle.std.specs.Prelude.{◌≡◌, ℕ, ◌+◌, ◌-◌, ◌≤◌, ◌<◌, List, [], ◌∷◌, ◌++◌, length, is_some, true, false, Ok}
 use Rattle.std.specs.List.{AllByRecursion}
 use Rattle.std.specs.Option.{option_to_list}
 use Rattle.ccsl_vcd_lex.specs.Tokens.{Token, tokens, is_long}
 use Rattle.ccsl_vcd.specs.declared.limits.Limits.{Limits}
 use Rattle.ccsl_vcd.specs.Binding.{Declaration, Wanted, Bound, bind}
-use Rattle.ccsl_vcd.specs.Header.{HeaderWord, var, scope, upscope, end_definitions, other_command, end_command, plain, header_word, size_of, is_number, is_code, declares}
+use Rattle.ccsl_vcd.specs.Header.{HeaderWord, var, scope, upscope, end_definitions, other_command, end_command, plain, header_word, size_of, is_code, declares}
 use Rattle.ccsl_vcd.specs.Grammar.{Item, is_end, items_tokens, IsBody}
 
 -- a keyword, the text behind it, and $end
@@ -32,7 +32,7 @@ pub record IsClosed (c : Command) : Type 0 where
 
 -- the text of a $var: type, size, code, and a reference of one or more words
 abbrev pub IsVariable : List Token → Type 0
-IsVariable (kind ∷ size ∷ code ∷ first ∷ more) = (is_number (size_of size.text) ≡ true) × (is_code code.text ≡ true)
+IsVariable (kind ∷ size ∷ code ∷ first ∷ more) = (is_some (size_of size.text) ≡ true) × (is_code code.text ≡ true)
 IsVariable text = ⊥
 
 -- Whether a command of that kind, with that text, may stand in so many scopes behind these declarations. The limits are

@@ -1,6 +1,6 @@
 -- The header: a list of commands, each ended by $end. IEEE 1364-2005, clause 18.2.3: $var, $scope, $upscope and $enddefinitions;
 -- every other command is passed over. Where a fault stands, and the limits, are this project's profile.
-use Rattle.std.specs.Prelude.{ℕ, ◌+◌, ◌-◌, List, [], ◌∷◌, ◌++◌, length, Bool, true, false, Option, Some, None, Result, Ok, Err, nat_le, ◌==◌, ◌&&◌, if◌then◌else◌, codes, bytes_eq}
+use Rattle.std.specs.Prelude.{ℕ, ◌+◌, ◌-◌, List, [], ◌∷◌, ◌++◌, length, Bool, true, false, Option, Some, None, is_some, unwrap_or, Result, Ok, Err, nat_le, ◌==◌, ◌&&◌, if◌then◌else◌, codes, bytes_eq, flat_map}
 use Rattle.std.specs.List.{list_all}
 use Rattle.ccsl_vcd_lex.specs.Tokens.{Token}
 use Rattle.ccsl_vcd.specs.declared.fault.VcdFault.{VcdFault}
@@ -37,20 +37,12 @@ header_word text =
 abbrev pub is_code : List ℕ → Bool
 is_code text = nat_le (length text) 32 && list_all (λ b. nat_le 33 b && nat_le b 126) text
 
-abbrev pub join_texts : List Token → List ℕ
-join_texts [] = []
-join_texts (t ∷ ts) = t.text ++ join_texts ts
-
 -- A reference is an identifier, with a bit or a range of bits behind it. The range of a single bit, as simulators write it for a
 -- net of one bit, is taken away; all other tokens are joined.
 abbrev pub reference_of : Token → List Token → List ℕ
 reference_of first [] = first.text
 reference_of first (t ∷ ts) =
-    if bytes_eq (join_texts (t ∷ ts)) (codes "[0:0]") then first.text else join_texts (first ∷ t ∷ ts)
-
-abbrev pub value_or_0 : Option ℕ → ℕ
-value_or_0 None = 0
-value_or_0 (Some n) = n
+    if bytes_eq (flat_map (λ u. u.text) (t ∷ ts)) (codes "[0:0]") then first.text else flat_map (λ u. u.text) (first ∷ t ∷ ts)
 
 -- a size of a declaration fits 32 bits
 abbrev pub size_of : List ℕ → Option ℕ
@@ -62,7 +54,7 @@ declares depth (kind ∷ size ∷ code ∷ first ∷ more) =
     Some (record {
       depth = depth;
       kind = kind.text;
-      size = value_or_0 (size_of size.text);
+      size = unwrap_or (size_of size.text) 0;
       code = code.text;
       reference = reference_of first more;
     })
@@ -77,13 +69,9 @@ starts limits h t var =
     else goes (header (record h { among = inside t [] })) []
 starts limits h t w = goes (header (record h { among = inside t [] })) []
 
-abbrev pub is_number : Option ℕ → Bool
-is_number None = false
-is_number (Some n) = true
-
 -- whether a token may stand inside a command, behind these
 abbrev pub word_fits : HeaderWord → List Token → Token → Bool
-word_fits var (kind ∷ []) t = is_number (size_of t.text)
+word_fits var (kind ∷ []) t = is_some (size_of t.text)
 word_fits var (kind ∷ size ∷ []) t = is_code t.text
 word_fits w words t = true
 

@@ -1,11 +1,12 @@
 -- Reading a whole file: what its tokens say one after another, and the fault that is decided first.
 use Rattle.std.specs.Prelude.{ℕ, List, [], ◌++◌, length, take, Bool, true, false, not, Option, Some, None, nat_lt, ◌&&◌, if◌then◌else◌, fold}
+use Rattle.std.specs.Option.{option_or}
 use Rattle.ccsl_vcd_lex.specs.Tokens.{Token, Heard, word, too_long, settled, heard}
 use Rattle.ccsl_vcd.specs.declared.fault.VcdFault.{VcdFault}
 use Rattle.ccsl_vcd.specs.declared.fault.VcdFault.TheVariants as faults
 use Rattle.ccsl_vcd.specs.declared.limits.Limits.{Limits}
 use Rattle.ccsl_vcd.specs.Binding.{Wanted}
-use Rattle.ccsl_vcd.specs.Places.{Change, commands, Amid, changes, remark, code_of, code_skipped, Where, header, body, Said, goes, refused}
+use Rattle.ccsl_vcd.specs.Places.{Change, commands, Amid, changes, Where, header, body, Said, goes, refused}
 use Rattle.ccsl_vcd.specs.Header.{header_says}
 use Rattle.ccsl_vcd.specs.Body.{body_says}
 
@@ -45,18 +46,12 @@ story wanted limits hs = fold (next wanted limits) begin hs
 
 abbrev pub is_changes : Amid → Bool
 is_changes changes = true
-is_changes remark = false
-is_changes (code_of one) = false
-is_changes code_skipped = false
+is_changes amid = false
 
 -- whether a file may end there
 abbrev pub may_end : Where → Bool
 may_end (header h) = false
 may_end (body b) = is_changes b.amid && not b.dumping
-
-abbrev pub or_else : Option VcdFault → Option VcdFault → Option VcdFault
-or_else None g = g
-or_else (Some f) g = Some f
 
 -- what the end of a file of that length decides
 abbrev pub at_end : ℕ → Where → Option VcdFault
@@ -64,7 +59,7 @@ at_end len w = if may_end w then None else Some (faults.Truncated len)
 
 -- a fault that is decided after all of a story
 abbrev pub decides : Story → Option VcdFault → Story
-decides s f = record { changes = s.changes; place = s.place; fault = or_else s.fault f }
+decides s f = record { changes = s.changes; place = s.place; fault = option_or s.fault f }
 
 abbrev pub is_over : Limits → List ℕ → Bool
 is_over limits bytes = nat_lt limits.bytes (length bytes)

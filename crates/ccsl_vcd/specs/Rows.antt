@@ -1,21 +1,17 @@
 -- The rows of a recorded trace: the times at which a bound clock ticks. This project's profile.
 use Rattle.std.specs.Prelude.{◌≡◌, ℕ, List, [], ◌∷◌, length, Bool, true, false, not, Option, Some, None, nat_lt, ◌==◌, ◌&&◌, if◌then◌else◌, bytes_eq, filter, map}
 use Rattle.std.specs.List.{list_any}
+use Rattle.std.specs.Option.{option_or}
 use Rattle.ccsl_base.specs.declared.rows.Row.{Row}
 use Rattle.ccsl_vcd.specs.declared.limits.Limits.{Limits}
 use Rattle.ccsl_vcd.specs.Binding.{Wanted, Bound}
 use Rattle.ccsl_vcd.specs.Places.{Change, Where, header, body}
 use Rattle.ccsl_vcd.specs.Reading.{Story, reading}
 
--- the later of two values, if there is one
-abbrev pub later : Option Bool → Option Bool → Option Bool
-later (Some v) other = Some v
-later None other = other
-
 -- whether the last value that some changes give a code is 1
 abbrev pub last_value : List ℕ → List Change → Option Bool
 last_value code [] = None
-last_value code (c ∷ cs) = later (last_value code cs) (if bytes_eq c.code code then Some c.one else None)
+last_value code (c ∷ cs) = option_or (last_value code cs) (if bytes_eq c.code code then Some c.one else None)
 
 -- the changes before a time, and those at it
 abbrev pub before : ℕ → List Change → List Change

@@ -1,8 +1,10 @@
 -- What a token says in a body where a change may stand. IEEE 1364-2005, clause 18.2.1: simulation times, scalar, vector and real
 -- value changes, and commands. The letters U, W, L, H and - are those of VHDL's nine values (IEEE 1164), as GHDL writes
 -- them; s and S begin a string's value, as GHDL and Verilator write it. These two are this project's profile.
-use Rattle.std.specs.Prelude.{ℕ, ◌+◌, ◌-◌, ◌*◌, List, [], ◌∷◌, Bool, true, false, Option, Some, None, nat_le, ◌==◌, ◌&&◌, ◌||◌, if◌then◌else◌, codes, bytes_eq}
+use Rattle.std.specs.Prelude.{ℕ, List, [], ◌∷◌, Bool, not, Option, Some, None, ◌==◌, ◌&&◌, ◌||◌, if◌then◌else◌, codes, bytes_eq}
 use Rattle.std.specs.List.{list_any, list_all}
+use Rattle.ccsl_base.specs.Empty.{is_empty}
+use Rattle.ccsl_base.specs.Decimal.{number_up_to}
 
 -- whether a byte is one of some letters
 abbrev pub is_one_of : List ℕ → ℕ → Bool
@@ -12,19 +14,9 @@ is_one_of letters b = list_any (λ c. c == b) letters
 abbrev pub is_scalar : ℕ → Bool
 is_scalar b = is_one_of (codes "01xXzZuUwWlLhH-") b
 
-abbrev pub is_digit : ℕ → Bool
-is_digit b = nat_le 48 b && nat_le b 57
-
--- decimal digits behind a number
-abbrev pub digits_from : ℕ → List ℕ → ℕ
-digits_from n [] = n
-digits_from n (d ∷ ds) = digits_from (10 * n + (d - 48)) ds
-
 -- one or more digits, with a value up to a limit
 unfoldable pub number : ℕ → List ℕ → Option ℕ
-number limit [] = None
-number limit (d ∷ ds) =
-    if list_all is_digit (d ∷ ds) && nat_le (digits_from 0 (d ∷ ds)) limit then Some (digits_from 0 (d ∷ ds)) else None
+number limit text = number_up_to limit text
 
 -- the last of some bytes
 abbrev pub last_of : ℕ → List ℕ → ℕ
@@ -63,16 +55,12 @@ command_of text =
     else (if bytes_eq text (codes "$end") then close
     else unknown)))
 
-abbrev pub not_empty : List ℕ → Bool
-not_empty [] = false
-not_empty (b ∷ bs) = true
-
 -- a token that is no time and no command, by its first byte and the rest
 abbrev pub change_of : ℕ → List ℕ → Word
 change_of b rest =
-    if is_scalar b && not_empty rest then scalar (b == 49) rest
-    else (if is_one_of (codes "bB") b && (not_empty rest && list_all is_scalar rest) then vector (last_of b rest == 49)
-    else (if is_one_of (codes "rR") b && not_empty rest then skipped
+    if is_scalar b && not (is_empty rest) then scalar (b == 49) rest
+    else (if is_one_of (codes "bB") b && (not (is_empty rest) && list_all is_scalar rest) then vector (last_of b rest == 49)
+    else (if is_one_of (codes "rR") b && not (is_empty rest) then skipped
     else (if is_one_of (codes "sS") b then skipped
     else bad_change)))
 

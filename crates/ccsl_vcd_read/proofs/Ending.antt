@@ -3,13 +3,14 @@ use Rattle.std.proofs.Common.{◌≡◌, ℕ, ◌+◌, ◌-◌, ◌≤◌, List,
 use Rattle.std.specs.Prelude.{IfNone, IfSome}
 use Rattle.std.proofs.lemmas.List.{append-nil}
 use Rattle.std.proofs.lemmas.Bool.{le-ltb}
+use Rattle.std.specs.Option.{option_or}
 use Rattle.ccsl_base.specs.declared.rows.Row.{Row}
 use Rattle.ccsl_vcd_lex.specs.Tokens.{token, word, settled, heard}
 use Rattle.ccsl_vcd.specs.declared.fault.VcdFault.{VcdFault}
 use Rattle.ccsl_vcd.specs.declared.fault.VcdFault.TheVariants as faults
 use Rattle.ccsl_vcd.specs.declared.limits.Limits.{Limits}
 use Rattle.ccsl_vcd.specs.Binding.{Wanted}
-use Rattle.ccsl_vcd.specs.Reading.{Story, next, story, so_far, reading, ends_at, at_end, may_end, or_else}
+use Rattle.ccsl_vcd.specs.Reading.{Story, next, story, so_far, reading, ends_at, at_end, may_end}
 use Rattle.ccsl_vcd.specs.Rows.{recorded, rows, rows_of}
 use Rattle.ccsl_vcd.specs.Completed.{complete, done}
 use Rattle.ccsl_vcd.proofs.Decided.{story-more, decided-first}
@@ -76,7 +77,7 @@ module _ (wanted : Wanted) (v : Reading) (bytes : List ℕ) (at : ℕ) (text : L
       let whole : reading wanted v.limits bytes ≡ ends_at (length bytes) (next wanted v.limits (story wanted v.limits (settled bytes)) (word (token at text))) =
       reading-within wanted v.limits bytes s.within ∙ ap (ends_at (length bytes)) last-told in
       record {
-        fault = ap (λ (x : Story). x.fault) whole ∙ ap (λ (o : Option VcdFault). or_else o (at_end (length bytes) (next wanted v.limits (story wanted v.limits (settled bytes)) (word (token at text))).place)) r.fault;
+        fault = ap (λ (x : Story). x.fault) whole ∙ ap (λ (o : Option VcdFault). option_or o (at_end (length bytes) (next wanted v.limits (story wanted v.limits (settled bytes)) (word (token at text))).place)) r.fault;
         rows = ap complete whole ∙ r.rows ∙ sym (done-within wanted v.limits bytes s.within);
       }
 
@@ -105,7 +106,7 @@ module _ (wanted : Wanted) (v w : Reading) (bytes : List ℕ) (old mid : List Ro
   pub truncated : ends_well w.stage ≡ false → (reading wanted v.limits bytes).fault ≡ Some (faults.Truncated (length bytes))
   truncated e =
       ap (λ (x : Story). x.fault) whole-told
-      ∙ ap (λ (o : Option VcdFault). or_else o (at_end (length bytes) (story wanted v.limits (heard bytes)).place)) (no-fault wanted v.limits w.stage (story wanted v.limits (heard bytes)) a.pictures)
+      ∙ ap (λ (o : Option VcdFault). option_or o (at_end (length bytes) (story wanted v.limits (heard bytes)).place)) (no-fault wanted v.limits w.stage (story wanted v.limits (heard bytes)) a.pictures)
       ∙ ap (λ v'. cond v' None (Some (faults.Truncated (length bytes)))) (same-end wanted v.limits w.stage (story wanted v.limits (heard bytes)) a.pictures ∙ e)
 
   pub cut-pushes : Pushes (done wanted v.limits bytes) (complete (reading wanted v.limits bytes)) old mid
@@ -114,7 +115,7 @@ module _ (wanted : Wanted) (v w : Reading) (bytes : List ℕ) (old mid : List Ro
   pub accepted : ends_well w.stage ≡ true → (reading wanted v.limits bytes).fault ≡ None
   accepted e =
       ap (λ (x : Story). x.fault) whole-told
-      ∙ ap (λ (o : Option VcdFault). or_else o (at_end (length bytes) (story wanted v.limits (heard bytes)).place)) (no-fault wanted v.limits w.stage (story wanted v.limits (heard bytes)) a.pictures)
+      ∙ ap (λ (o : Option VcdFault). option_or o (at_end (length bytes) (story wanted v.limits (heard bytes)).place)) (no-fault wanted v.limits w.stage (story wanted v.limits (heard bytes)) a.pictures)
       ∙ ap (λ v'. cond v' None (Some (faults.Truncated (length bytes)))) (same-end wanted v.limits w.stage (story wanted v.limits (heard bytes)) a.pictures ∙ e)
 
   all-rows : recorded wanted v.limits bytes ≡ complete (story wanted v.limits (heard bytes)) ++ row_left w.stage

@@ -4,6 +4,7 @@ use Rattle.std.proofs.lemmas.List.{append-nil, take-append-drop}
 use Rattle.std.proofs.lemmas.Bool.{lt-ltb}
 use Rattle.std.proofs.lemmas.Grind.{common_steps}
 use Rattle.std.proofs.Math.Seq.{take-append_seam}
+use Rattle.std.specs.Option.{option_or}
 use Rattle.ccsl_base.specs.declared.rows.Row.{Row}
 use Rattle.ccsl_vcd_lex.specs.Tokens.{token, Heard as Said, word, too_long, tokens, settled}
 use Rattle.ccsl_vcd_lex.specs.LongTokens.{first_long}
@@ -13,7 +14,7 @@ use Rattle.ccsl_vcd.specs.declared.fault.VcdFault.{VcdFault}
 use Rattle.ccsl_vcd.specs.declared.fault.VcdFault.TheVariants as faults
 use Rattle.ccsl_vcd.specs.declared.limits.Limits.{Limits}
 use Rattle.ccsl_vcd.specs.Binding.{Wanted}
-use Rattle.ccsl_vcd.specs.Reading.{Story, next, says, story, so_far, reading, decides, or_else}
+use Rattle.ccsl_vcd.specs.Reading.{Story, next, says, story, so_far, reading, decides}
 use Rattle.ccsl_vcd.specs.Completed.{complete, done}
 use Rattle.ccsl_vcd.proofs.Decided.{story-more, so_far-further, so_far-stays}
 use Rattle.ccsl_vcd_read.specs.Heading.{Refuses}
@@ -107,7 +108,7 @@ unfolding done
 over-breaks wanted v bytes piece rows s h some =
     let e = so_far-over wanted v bytes piece s h some in
     record {
-      fault = ap (λ (x : Story). x.fault) e ∙ ap (λ (o : Option VcdFault). or_else o (Some (faults.TooLong v.limits.bytes))) (no-fault wanted v.limits v.stage (story wanted v.limits (settled bytes)) s.pictures);
+      fault = ap (λ (x : Story). x.fault) e ∙ ap (λ (o : Option VcdFault). option_or o (Some (faults.TooLong v.limits.bytes))) (no-fault wanted v.limits v.stage (story wanted v.limits (settled bytes)) s.pictures);
       shown = same-shown wanted v.limits v.stage (story wanted v.limits (settled bytes)) s.pictures ∙ sym (ap (λ (x : Story). shown_at x.place) e);
       pushes = record {
         pushed = [];

@@ -1,6 +1,6 @@
 -- What is kept of a header, token by token.
 use Rattle.std.proofs.Common.{◌≡◌, ℕ, ◌+◌, ◌-◌, ◌<◌, ◌^◌, List, [], ◌∷◌, ◌++◌, length, take, drop, Bool, true, false, Some, None, Result, Ok, Err, nat_le, cond, ◌&&◌, refl, sym, ap, ◌∙◌, append_assoc, arith, subst, length-append}
-use Rattle.std.specs.Prelude.{bytes_eq, codes}
+use Rattle.std.specs.Prelude.{bytes_eq, codes, flat_map, is_some, unwrap_or}
 use Rattle.std.proofs.lemmas.List.{append-nil}
 use Rattle.std.proofs.lemmas.Grind.{common_steps}
 use Rattle.std.proofs.Math.Seq.{take-append_seam, drop-append_seam}
@@ -124,9 +124,12 @@ inside-fits-not : (wanted : Wanted) (limits : Limits) (hd : p.Header) (head : To
 inside-fits-not wanted limits hd head words t n e =
     inside-goes wanted limits hd head words t (d.header_word t.text) n ∙ ap (λ v. cond v (p.goes (p.header (record hd { among = p.inside head (words ++ t ∷ []) })) []) (p.refused (faults.BadHeader t.at))) e
 
-join-more : (ts : List Token) (t : Token) → d.join_texts (ts ++ t ∷ []) ≡ d.join_texts ts ++ t.text
+abbrev texts_of : List Token → List ℕ
+texts_of ts = flat_map (λ t. t.text) ts
+
+join-more : (ts : List Token) (t : Token) → texts_of (ts ++ t ∷ []) ≡ texts_of ts ++ t.text
 join-more [] t = append-nil t.text
-join-more (u ∷ ts) t = ap (λ xs. u.text ++ xs) (join-more ts t) ∙ sym (append_assoc u.text (d.join_texts ts) t.text)
+join-more (u ∷ ts) t = ap (λ xs. u.text ++ xs) (join-more ts t) ∙ sym (append_assoc u.text (texts_of ts) t.text)
 
 module _ (wanted : Wanted) (limits : Limits) (h : Heading) (ds : List Declaration) (at : ℕ) (text : List ℕ) (binds : StandsFor wanted h.binder ds) (vars : h.vars ≡ length ds) (n : NotEnd (d.header_word text)) where
   abbrev this : Token
@@ -184,8 +187,8 @@ module _ (wanted : Wanted) (limits : Limits) (h : Heading) (ds : List Declaratio
   size-word a s =
       at-among a (p.inside s.opened.head (s.kind ∷ [])) (size_in h at text) s.opened.inside
       ((elim (d.size_of text) as (λ o. d.size_of text ≡ o → Hears (p.inside s.opened.head (s.kind ∷ [])) (put_size h at o)) [
-        | None ↦ λ e. fits-not s.opened.head (s.kind ∷ []) (by-head s.opened.head (s.kind ∷ []) d.var false s.opened.is_var (ap d.is_number e))
-        | Some m ↦ λ e. fits s.opened.head (s.kind ∷ []) (record h { size = m; command = Code }) (by-head s.opened.head (s.kind ∷ []) d.var true s.opened.is_var (ap d.is_number e)) refl refl refl
+        | None ↦ λ e. fits-not s.opened.head (s.kind ∷ []) (by-head s.opened.head (s.kind ∷ []) d.var false s.opened.is_var (ap is_some e))
+        | Some m ↦ λ e. fits s.opened.head (s.kind ∷ []) (record h { size = m; command = Code }) (by-head s.opened.head (s.kind ∷ []) d.var true s.opened.is_var (ap is_some e)) refl refl refl
             (record { kind = s.kind; size = this; opened = record { head = s.opened.head; inside = refl; is_var = s.opened.is_var; few = s.opened.few }; kind_is = s.kind_is; size_is = e })
       ]) refl)
 
@@ -327,15 +330,15 @@ ends wanted limits h st at text s k l m e =
 
 -- The end of a declaration, and of the header.
 
-reference-same : (first : Token) (more : List Token) → reference_in (first.text ++ d.join_texts more) (length first.text) ≡ d.reference_of first more
+reference-same : (first : Token) (more : List Token) → reference_in (first.text ++ texts_of more) (length first.text) ≡ d.reference_of first more
 reference-same first more =
-    let l : nat_le (length first.text) (length (first.text ++ d.join_texts more)) ≡ true = grind (arith, common_steps, length-append first.text (d.join_texts more)) in
-    ap (λ v. cond (v && bytes_eq (drop (length first.text) (first.text ++ d.join_texts more)) (codes "[0:0]")) (take (length first.text) (first.text ++ d.join_texts more)) (first.text ++ d.join_texts more)) l
-    ∙ ap (λ xs. cond (bytes_eq xs (codes "[0:0]")) (take (length first.text) (first.text ++ d.join_texts more)) (first.text ++ d.join_texts more)) (drop-append_seam first.text (d.join_texts more))
-    ∙ ap (λ xs. cond (bytes_eq (d.join_texts more) (codes "[0:0]")) xs (first.text ++ d.join_texts more)) (take-append_seam first.text (d.join_texts more))
+    let l : nat_le (length first.text) (length (first.text ++ texts_of more)) ≡ true = grind (arith, common_steps, length-append first.text (texts_of more)) in
+    ap (λ v. cond (v && bytes_eq (drop (length first.text) (first.text ++ texts_of more)) (codes "[0:0]")) (take (length first.text) (first.text ++ texts_of more)) (first.text ++ texts_of more)) l
+    ∙ ap (λ xs. cond (bytes_eq xs (codes "[0:0]")) (take (length first.text) (first.text ++ texts_of more)) (first.text ++ texts_of more)) (drop-append_seam first.text (texts_of more))
+    ∙ ap (λ xs. cond (bytes_eq (texts_of more) (codes "[0:0]")) xs (first.text ++ texts_of more)) (take-append_seam first.text (texts_of more))
     ∙ by-more more
   where
-    by-more : (ts : List Token) → cond (bytes_eq (d.join_texts ts) (codes "[0:0]")) first.text (first.text ++ d.join_texts ts) ≡ d.reference_of first ts
+    by-more : (ts : List Token) → cond (bytes_eq (texts_of ts) (codes "[0:0]")) first.text (first.text ++ texts_of ts) ≡ d.reference_of first ts
     by-more [] = append-nil first.text
     by-more (t ∷ ts) = refl
 
@@ -346,8 +349,8 @@ declared-same depth size k k' x x' r r' e f g = cc
 whole : (limits : Limits) (h : Heading) (a : p.Among) (s : MoreNext limits h a) → d.declares h.depth (s.kind ∷ s.size ∷ s.code ∷ s.first ∷ s.more) ≡ Some (declared_in h)
 whole limits h a s =
     let r : reference_in h.reference h.first ≡ d.reference_of s.first s.more =
-    ap (λ xs. reference_in xs h.first) s.reference_is ∙ ap (reference_in (s.first.text ++ d.join_texts s.more)) s.first_is ∙ reference-same s.first s.more in
-    ap (λ x. Some x) (ap (λ n. record { depth = h.depth; kind = s.kind.text; size = n; code = s.code.text; reference = d.reference_of s.first s.more }) (ap d.value_or_0 s.size_is)
+    ap (λ xs. reference_in xs h.first) s.reference_is ∙ ap (reference_in (s.first.text ++ texts_of s.more)) s.first_is ∙ reference-same s.first s.more in
+    ap (λ x. Some x) (ap (λ n. record { depth = h.depth; kind = s.kind.text; size = n; code = s.code.text; reference = d.reference_of s.first s.more }) (ap (λ n. unwrap_or n 0) s.size_is)
     ∙ sym (declared-same h.depth h.size h.kind s.kind.text h.code s.code.text (reference_in h.reference h.first) (d.reference_of s.first s.more) s.kind_is s.code_is r))
 
 pub few-declared : (wanted : Wanted) (limits : Limits) (h : Heading) (st : Story) (s : HeadShows wanted limits h st) → h.command ≡ More → limits.vars < 2 ^ 32

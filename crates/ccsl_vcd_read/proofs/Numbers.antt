@@ -4,11 +4,13 @@ use Rattle.std.specs.List.{list_all}
 use Rattle.std.proofs.Math.Bool.{and-false}
 use Rattle.std.proofs.lemmas.List.{drop_all}
 use Rattle.std.proofs.lemmas.Grind.{common_steps}
-use Rattle.ccsl_vcd.specs.Words.{number, digits_from, is_digit}
+use Rattle.ccsl_base.specs.Letters.{is_digit}
+use Rattle.ccsl_base.specs.Decimal.{value_behind}
+use Rattle.ccsl_vcd.specs.Words.{number}
 
 -- what is read of the digits that are left, behind a value
 abbrev pub value_of : ℕ → ℕ → List ℕ → Option ℕ
-value_of limit n ds = cond (list_all is_digit ds && nat_le (digits_from n ds) limit) (Some (digits_from n ds)) None
+value_of limit n ds = cond (list_all is_digit ds && nat_le (value_behind n ds) limit) (Some (value_behind n ds)) None
 
 pub number-value : (limit : ℕ) (text : List ℕ) → 0 < length text → number limit text ≡ value_of limit 0 text
 unfolding number
@@ -20,9 +22,9 @@ unfolding number
 number-none limit [] h = refl
 number-none limit (d ∷ ds) h = absurd (omega arith)
 
-digits-grow : (n : ℕ) (ds : List ℕ) → n ≤ digits_from n ds
+digits-grow : (n : ℕ) (ds : List ℕ) → n ≤ value_behind n ds
 digits-grow n [] = omega arith
-digits-grow n (d ∷ ds) = let ih : 10 * n + (d - 48) ≤ digits_from (10 * n + (d - 48)) ds = digits-grow (10 * n + (d - 48)) ds in omega arith
+digits-grow n (d ∷ ds) = let ih : n * 10 + (d - 48) ≤ value_behind (n * 10 + (d - 48)) ds = digits-grow (n * 10 + (d - 48)) ds in omega arith
 
 -- a byte that is no digit
 pub no-digit : (limit n b : ℕ) (ds : List ℕ) → is_digit b ≡ false → value_of limit n (b ∷ ds) ≡ None
@@ -31,13 +33,13 @@ no-digit limit n b ds e = rw e refl
 -- a value past the limit
 pub too-large : (limit n b : ℕ) (ds : List ℕ) → limit < 10 * n + (b - 48) → value_of limit n (b ∷ ds) ≡ None
 too-large limit n b ds h =
-    let g : 10 * n + (b - 48) ≤ digits_from (10 * n + (b - 48)) ds = digits-grow (10 * n + (b - 48)) ds in
-    let f : nat_le (digits_from (10 * n + (b - 48)) ds) limit ≡ false = grind (arith, common_steps) in
-    rw f (ap (λ (w : Bool). cond w (Some (digits_from (10 * n + (b - 48)) ds)) None) (and-false (list_all is_digit (b ∷ ds))))
+    let g : n * 10 + (b - 48) ≤ value_behind (n * 10 + (b - 48)) ds = digits-grow (n * 10 + (b - 48)) ds in
+    let f : nat_le (value_behind (n * 10 + (b - 48)) ds) limit ≡ false = grind (arith, common_steps) in
+    rw f (ap (λ (w : Bool). cond w (Some (value_behind (n * 10 + (b - 48)) ds)) None) (and-false (list_all is_digit (b ∷ ds))))
 
 -- one more digit
 pub one-digit : (limit n b : ℕ) (ds : List ℕ) → is_digit b ≡ true → value_of limit n (b ∷ ds) ≡ value_of limit (10 * n + (b - 48)) ds
-one-digit limit n b ds e = rw e refl
+one-digit limit n b ds e = let same : n * 10 + (b - 48) ≡ 10 * n + (b - 48) = omega arith in rw e (ap (λ k. value_of limit k ds) same)
 
 pub at-end : (limit n : ℕ) → n ≤ limit → value_of limit n [] ≡ Some n
 at-end limit n h =

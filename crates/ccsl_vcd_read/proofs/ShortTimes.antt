@@ -12,7 +12,9 @@ use Rattle.ccsl_base.specs.declared.rows.Row.{Row}
 use Rattle.ccsl_vcd_lex.specs.Tokens.{is_white}
 use Rattle.ccsl_vcd_lex.specs.Lexing.{is_dark}
 use Rattle.ccsl_vcd.specs.declared.fault.VcdFault.{VcdFault}
-use Rattle.ccsl_vcd.specs.Words.{is_digit, digits_from, number, word_of, time, time_of}
+use Rattle.ccsl_base.specs.Letters.{is_digit}
+use Rattle.ccsl_base.specs.Decimal.{value_behind}
+use Rattle.ccsl_vcd.specs.Words.{number, word_of, time, time_of}
 use Rattle.ccsl_vcd.specs.Reading.{is_changes}
 use Rattle.ccsl_vcd_read.specs.declared.body.Body.{Body}
 use Rattle.ccsl_vcd_read.specs.Meant.{amid_of}
@@ -35,18 +37,18 @@ digits-all (suc n) (x ∷ xs) e =
 
 -- and write one value, whoever reads them
 
-digits-same : (n : ℕ) (ds : List ℕ) → list_all is_digit ds ≡ true → digits_value_after 10 n ds ≡ digits_from n ds
+digits-same : (n : ℕ) (ds : List ℕ) → list_all is_digit ds ≡ true → digits_value_after 10 n ds ≡ value_behind n ds
 digits-same n [] h = refl
 digits-same n (d ∷ ds) h =
     let p = and_parts (is_digit d) (list_all is_digit ds) h in
     let q = and_parts (nat_le 48 d) (nat_le d 57) p.0 in
     let value : digit_value d + 48 ≡ d = digit_value_digit d (leb-true 48 d q.0, leb-true d 57 q.1) in
-    let step : n * 10 + digit_value d ≡ 10 * n + (d - 48) = omega (arith, value) in
-    ap (λ v. digits_value_after 10 v ds) step ∙ digits-same (10 * n + (d - 48)) ds p.1
+    let step : n * 10 + digit_value d ≡ n * 10 + (d - 48) = omega (arith, value) in
+    ap (λ v. digits_value_after 10 v ds) step ∙ digits-same (n * 10 + (d - 48)) ds p.1
 
 -- So many digits have a value below that power of ten.
 
-more-digits : (n value digit : ℕ) → value < 10 ^ n → digit < 10 → 10 * value + digit < 10 ^ (n + 1)
+more-digits : (n value digit : ℕ) → value < 10 ^ n → digit < 10 → value * 10 + digit < 10 ^ (n + 1)
 more-digits n value digit l d =
     let k : n + 1 ≡ suc n = omega arith in
     let p = ap (λ m. 10 ^ m) k ∙ pow-suc 10 n in
@@ -58,14 +60,14 @@ few-digits n most value l m =
     let p = pow-le-pow_right {n = 10} some m in
     omega (arith, l, p)
 
-digits-small : (n value : ℕ) (ds : List ℕ) → value < 10 ^ n → list_all is_digit ds ≡ true → digits_from value ds < 10 ^ (n + length ds)
+digits-small : (n value : ℕ) (ds : List ℕ) → value < 10 ^ n → list_all is_digit ds ≡ true → value_behind value ds < 10 ^ (n + length ds)
 digits-small n value [] l h = subst (λ (k : ℕ). value < 10 ^ k) (omega arith) l
 digits-small n value (d ∷ ds) l h =
     let p = and_parts (is_digit d) (list_all is_digit ds) h in
     let q = and_parts (nat_le 48 d) (nat_le d 57) p.0 in
     let high : d ≤ 57 = leb-true d 57 q.1 in
-    let more : 10 * value + (d - 48) < 10 ^ (n + 1) = more-digits n value (d - 48) l (omega (arith, high)) in
-    subst (λ (k : ℕ). digits_from (10 * value + (d - 48)) ds < 10 ^ k) (omega arith) (digits-small (n + 1) (10 * value + (d - 48)) ds more p.1)
+    let more : value * 10 + (d - 48) < 10 ^ (n + 1) = more-digits n value (d - 48) l (omega (arith, high)) in
+    subst (λ (k : ℕ). value_behind (value * 10 + (d - 48)) ds < 10 ^ k) (omega arith) (digits-small (n + 1) (value * 10 + (d - 48)) ds more p.1)
 
 -- the digits that were read eight at a time
 pub front-digits : (bytes : List ℕ) (n value : ℕ) → n ≡ 0 + prefix_len is_digit (drop 0 bytes) → n ≤ 19
@@ -75,9 +77,9 @@ front-digits bytes n value run few read =
     let back : n - 0 ≡ n = omega arith in
     let all : list_all is_digit ds ≡ true = digits-all n bytes (omega (arith, run)) in
     let len : length ds ≤ 19 = omega (arith, length-take n bytes, few) in
-    let small : digits_from 0 ds < 10 ^ 19 = few-digits (0 + length ds) 19 (digits_from 0 ds) (digits-small 0 0 ds (omega arith) all) (omega (arith, len)) in
+    let small : value_behind 0 ds < 10 ^ 19 = few-digits (0 + length ds) 19 (value_behind 0 ds) (digits-small 0 0 ds (omega arith) all) (omega (arith, len)) in
     let none : 0 * 10 ^ (n - 0) ≡ 0 = zero-mul (10 ^ (n - 0)) in
-    let same : digits_value_after 10 0 (take (n - 0) bytes) ≡ digits_from 0 ds = ap (λ (k : ℕ). digits_value_after 10 0 (take k bytes)) back ∙ digits-same 0 ds all in
+    let same : digits_value_after 10 0 (take (n - 0) bytes) ≡ value_behind 0 ds = ap (λ (k : ℕ). digits_value_after 10 0 (take k bytes)) back ∙ digits-same 0 ds all in
     record { all = all; amount = omega (arith, read, none, same, small) }
 
 -- digits are not white
@@ -106,8 +108,8 @@ run-is q (suc n) (x ∷ xs) h l e =
 
 number-is : (text : List ℕ) (value : ℕ) → 0 < length text → AreDigits text value → value < 2 ^ 64 → number 18446744073709551615 text ≡ Some value
 number-is text value some d fits =
-    let n : digits_from 0 text ≤ 18446744073709551615 = omega (arith, d.amount, fits) in
-    number-value 18446744073709551615 text some ∙ rw (d.all, le-leb (digits_from 0 text) 18446744073709551615 n) (ap (λ (v : ℕ). Some v) (sym d.amount))
+    let n : value_behind 0 text ≤ 18446744073709551615 = omega (arith, d.amount, fits) in
+    number-value 18446744073709551615 text some ∙ rw (d.all, le-leb (value_behind 0 text) 18446744073709551615 n) (ap (λ (v : ℕ). Some v) (sym d.amount))
 
 time-word : (text : List ℕ) (value : ℕ) → number 18446744073709551615 text ≡ Some value → word_of (35 ∷ text) ≡ time value
 unfolding word_of

@@ -1,5 +1,5 @@
 -- What is kept of a header, the story of which it is kept, and what a token makes of it.
-use Rattle.std.specs.Prelude.{◌≡◌, ℕ, ◌+◌, ◌-◌, ◌<◌, List, [], ◌∷◌, ◌++◌, length, take, drop, Bool, true, false, Option, Some, None, Result, Ok, Err, nat_le, ◌&&◌, if◌then◌else◌, codes, bytes_eq}
+use Rattle.std.specs.Prelude.{◌≡◌, ℕ, ◌+◌, ◌-◌, ◌<◌, List, [], ◌∷◌, ◌++◌, length, take, drop, Bool, true, false, Option, Some, None, Result, Ok, Err, nat_le, ◌&&◌, if◌then◌else◌, codes, bytes_eq, flat_map}
 use Rattle.ccsl_vcd_lex.specs.Tokens.{Token}
 use Rattle.ccsl_vcd.specs.declared.fault.VcdFault.{VcdFault}
 use Rattle.ccsl_vcd.specs.declared.fault.VcdFault.TheVariants as faults
@@ -120,7 +120,7 @@ pub record MoreNext (limits : Limits) (h : Heading) (among : p.Among) : Type 0 w
   pub kind_is : h.kind ≡ kind.text
   pub size_is : d.size_of size.text ≡ Some h.size
   pub code_is : h.code ≡ code.text
-  pub reference_is : h.reference ≡ d.join_texts (first ∷ more)
+  pub reference_is : h.reference ≡ flat_map (λ t. t.text) (first ∷ more)
   pub first_is : h.first ≡ length first.text
 
 pub record InScope (among : p.Among) (at : ℕ) : Type 0 where

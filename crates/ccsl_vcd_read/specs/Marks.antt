@@ -1,8 +1,9 @@
 -- What a reader keeps of the changes, for each bound clock.
 use Rattle.std.specs.Prelude.{ℕ, List, Bool, true, false, not, Option, Some, None, ◌==◌, ◌&&◌, ◌||◌, if◌then◌else◌, filter, map, unwrap_or}
+use Rattle.std.specs.Option.{option_or}
 use Rattle.ccsl_vcd.specs.Binding.{Bound}
 use Rattle.ccsl_vcd.specs.Places.{Change}
-use Rattle.ccsl_vcd.specs.Rows.{later, last_value, event_ticks}
+use Rattle.ccsl_vcd.specs.Rows.{last_value, event_ticks}
 use Rattle.ccsl_bind.specs.Codes.{number_of}
 use Rattle.ccsl_vcd_read.specs.declared.marks.Mark.{Mark}
 
@@ -35,6 +36,6 @@ mark_of codes old cur b = record {
   clock = b.clock;
   code = unwrap_or (number_of b.code codes) 0;
   event = b.event;
-  now = if b.event then event_ticks b.code cur else stands (later (last_value b.code cur) (last_value b.code old));
+  now = if b.event then event_ticks b.code cur else stands (option_or (last_value b.code cur) (last_value b.code old));
   before = if b.event then false else stands (last_value b.code old);
 }

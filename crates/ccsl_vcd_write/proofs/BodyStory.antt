@@ -1,5 +1,5 @@
 -- The story of written steps.
-use Rattle.std.proofs.Common.{◌≡◌, ℕ, ◌+◌, ◌*◌, ◌-◌, ◌^◌, ◌≤◌, ◌<◌, List, [], ◌∷◌, ◌++◌, length, map, true, false, ◌&&◌, nat_le, cond, Some, None, refl, sym, ap, ap₂, ◌∙◌, arith, append_assoc, append-nil, decimal}
+use Rattle.std.proofs.Common.{◌≡◌, ℕ, ◌+◌, ◌*◌, ◌-◌, ◌^◌, ◌≤◌, ◌<◌, List, [], ◌∷◌, ◌++◌, length, map, true, false, not, ◌&&◌, nat_le, cond, Some, None, refl, sym, ap, ap₂, ◌∙◌, arith, append_assoc, append-nil, decimal}
 use Rattle.std.specs.List.{list_all, AllByRecursion}
 use Rattle.std.specs.Char.{digit_value}
 use Rattle.std.specs.Str.Parse.{AllDigits, IsNumeral, digits_value, digits_value_after}
@@ -7,6 +7,9 @@ use Rattle.std.proofs.lemmas.Bool.{le-leb, le-ltb}
 use Rattle.std.proofs.lemmas.Fmt.{decimal_is_IsNumeral}
 use Rattle.std.proofs.lemmas.Str.{digit_value_digit}
 use Rattle.std.proofs.lemmas.Str.Parse.{digit_from_value}
+use Rattle.ccsl_base.specs.Empty.{is_empty}
+use Rattle.ccsl_base.specs.Letters.{is_digit}
+use Rattle.ccsl_base.specs.Decimal.{value_behind}
 use Rattle.ccsl_vcd_lex.specs.Tokens.{token, word}
 use Rattle.ccsl_vcd.specs.declared.limits.Limits.{Limits}
 use Rattle.ccsl_vcd.specs.Words as w
@@ -23,23 +26,23 @@ use Rattle.ccsl_vcd_write.proofs.Stories.{goes, goes-append}
 
 -- a TIME
 
-digits-are : (ds : List ℕ) → AllDigits 10 ds → list_all w.is_digit ds ≡ true
+digits-are : (ds : List ℕ) → AllDigits 10 ds → list_all is_digit ds ≡ true
 digits-are [] h = refl
 digits-are (d ∷ ds) h =
     let range = digit_from_value d h.0 in
     ap₂ (λ s t. s && t) (ap₂ (λ s t. s && t) (le-leb 48 d range.0) (le-leb d 57 range.1)) (digits-are ds h.1)
 
-value-same : (n : ℕ) (ds : List ℕ) → AllDigits 10 ds → w.digits_from n ds ≡ digits_value_after 10 n ds
+value-same : (n : ℕ) (ds : List ℕ) → AllDigits 10 ds → value_behind n ds ≡ digits_value_after 10 n ds
 value-same n [] h = refl
 value-same n (d ∷ ds) h =
-    let value : 10 * n + (d - 48) ≡ n * 10 + digit_value d = omega (arith, digit_value_digit d (digit_from_value d h.0)) in
-    ap (λ v. w.digits_from v ds) value ∙ value-same (n * 10 + digit_value d) ds h.1
+    let value : n * 10 + (d - 48) ≡ n * 10 + digit_value d = omega (arith, digit_value_digit d (digit_from_value d h.0)) in
+    ap (λ v. value_behind v ds) value ∙ value-same (n * 10 + digit_value d) ds h.1
 
 number-read : (most n : ℕ) (ds : List ℕ) → IsNumeral 10 ds → digits_value 10 ds ≡ n → n ≤ most → w.number most ds ≡ Some n
 unfolding w.number
 number-read most n [] h e l = absurd (omega (arith, h.0))
 number-read most n (d ∷ ds) h e l =
-    ap (λ b. cond (b && nat_le (w.digits_from 0 (d ∷ ds)) most) (Some (w.digits_from 0 (d ∷ ds))) None) (digits-are (d ∷ ds) h.1)
+    ap (λ b. cond (b && nat_le (value_behind 0 (d ∷ ds)) most) (Some (value_behind 0 (d ∷ ds))) None) (digits-are (d ∷ ds) h.1)
     ∙ ap (λ v. cond (nat_le v most) (Some v) None) (value-same 0 (d ∷ ds) h.1 ∙ e)
     ∙ ap (λ b. cond b (Some n) None) (le-leb n most l)
 
@@ -49,7 +52,7 @@ time-word k h = let n = decimal_is_IsNumeral k h in ap w.time_of (number-read 18
 
 -- a CHANGE
 
-some-code : (code : List ℕ) → 1 ≤ length code → w.not_empty code ≡ true
+some-code : (code : List ℕ) → 1 ≤ length code → not (is_empty code) ≡ true
 some-code [] h = absurd (omega arith)
 some-code (b ∷ bs) h = refl
 

@@ -17,7 +17,7 @@ returns-then-quits-clause-replies g c =
       ends =
           sym
           (ap (λ (b : Bool). if b then Some Quit else None)
-          (sym (c.is_quit-quits.ensures session.stack.system.now session.policy session.seed) ∙ c.if-quits.true));
+          (sym c.is_quit-quits.ensures ∙ c.if-quits.true));
     }
 
 pub returns-else-quits-clause-replies : goal.returns-else-quits-clause-replies
@@ -33,5 +33,5 @@ returns-else-quits-clause-replies g c =
       ends =
           sym
           (ap (λ (b : Bool). if b then Some Quit else None)
-          (sym (c.is_quit-quits.ensures session.stack.system.now session.policy session.seed) ∙ c.if-quits.false));
+          (sym c.is_quit-quits.ensures ∙ c.if-quits.false));
     }

@@ -14,7 +14,9 @@ loop-self-preserved g c =
 pub returns-in_err-next-clause-breaks : goal.returns-in_err-next-clause-breaks
 returns-in_err-next-clause-breaks g c =
     let p = err_from_is_err_and c.from_residual.result c.from_residual.ensures.1 in
-    rw p.1 (breaks _ _ _ _ _ _ c.loop-self.invariant c.in_err-next.ensures.err)
+    rw p.1
+    (breaks _ _ _ _ _ _ _ _ _ c.loop-self.invariant (changes _ _ _ _ _ _ c.take_part.ensures.kept) (c.take_part.ensures.takes c.loop-self-test.true)
+    c.in_err-next.ensures.wanted c.in_err-next.ensures.err)
 
 pub returns-in-Some-clause-gives : goal.returns-in-Some-clause-gives
 returns-in-Some-clause-gives g c =
