@@ -2,6 +2,7 @@
 #![tactic(auto)]
 
 pub mod judging;
+pub mod laws;
 mod share;
 mod shares;
 pub mod verdict;

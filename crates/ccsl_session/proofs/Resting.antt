@@ -1,16 +1,14 @@
 -- What a session leaves of standard input.
-use Rattle.std.proofs.Common.{◌≡◌, ℕ, ◌+◌, ◌≤◌, List, [], ◌∷◌, ◌++◌, length, take, Bool, true, false, ◌&&◌, ◌||◌, if◌then◌else◌, refl, sym, ap, ◌∙◌, subst, arith, append-nil, append_assoc}
+use Rattle.std.proofs.Common.{◌≡◌, ℕ, ◌+◌, ◌≤◌, List, [], ◌∷◌, ◌++◌, length, take, Bool, true, false, ◌||◌, if◌then◌else◌, refl, sym, ap, ◌∙◌, arith, append_assoc}
 use Rattle.std.specs.List.{list_any}
-use Rattle.std.specs.Str.{bytes_eq}
 use Rattle.std.proofs.Math.Seq.{take-nil}
 use Rattle.ccsl_kernel.specs.Syntax.{System}
 use Rattle.ccsl_lines.specs.Lines.{Line, Whole, Long, parts, ended_lines}
 use Rattle.ccsl_lines.specs.Held.{Held, StandsFor, HasNoLineFeed}
 use Rattle.ccsl_lines.specs.Laws.{SearchEndsNoLine}
 use Rattle.ccsl_lines.specs.declared.pending.TheConstants.{PIECE}
-use Rattle.ccsl_session.specs.Asked.{Asked, Fire, Unknown, are_clocks, set_of, asked, asked_words, asked_with, tokens, is_quit}
+use Rattle.ccsl_session.specs.Asked.{Asked, Fire, Unknown, set_of, asked, asked_words, tokens, is_quit}
 use Rattle.ccsl_session.specs.Rest.{IsAskedFor, LeavesRest}
-use Rattle.ccsl_session.proofs.Found.{by_test}
 
 -- WHICH LINES END A SESSION, whatever the system
 

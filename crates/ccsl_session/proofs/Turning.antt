@@ -27,7 +27,7 @@ use Rattle.ccsl_session.specs.Asked.{asked, is_quit}
 use Rattle.ccsl_session.specs.Reading.{plain}
 use Rattle.ccsl_session.specs.Answers.{answer, answers, answers_over, after}
 use Rattle.ccsl_session.specs.Session.{session_text}
-use Rattle.ccsl_session.specs.Rest.{IsAskedFor, LeavesRest}
+use Rattle.ccsl_session.specs.Rest.{IsAskedFor}
 use Rattle.ccsl_session.specs.Leaving.{HasEnded, IsCut}
 use Rattle.ccsl_session.specs.Going.{quits_at, Goes, Turns, IsHeard, Hears, NotWritten}
 use Rattle.ccsl_session.proofs.Found.{by_test}

@@ -1,6 +1,6 @@
 -- THE ANSWERS OF A SESSION: those of a stack of declared sets. `fire` and `step` push a set, `back` takes the last one away, the other
 -- lines change nothing, and every answer speaks of the run of the stack as it stands. This project's own.
-use Rattle.std.specs.Prelude.{ℕ, ◌+◌, ◌-◌, List, [], ◌∷◌, ◌++◌, Bool, true, false, Option, Some, None, length, take, codes, decimal, nat_le, if◌then◌else◌, slice_index_or}
+use Rattle.std.specs.Prelude.{ℕ, ◌+◌, ◌-◌, List, [], ◌∷◌, ◌++◌, Bool, Option, Some, None, length, take, codes, decimal, nat_le, if◌then◌else◌, slice_index_or}
 use Rattle.ccsl_kernel.specs.Syntax.{System}
 use Rattle.ccsl_kernel.specs.Lives.{Step}
 use Rattle.ccsl_kernel.specs.Runs.{completed}

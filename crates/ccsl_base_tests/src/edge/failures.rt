@@ -111,8 +111,6 @@ fn a_new_file_is_put_in_place_or_removed(rt: HostRuntime) -> Result<(), Fail> {
         let mut world = FileWorld::new(&system, rt.alloc());
         assert_eq!(rt; write_text(&mut world), *want, "at {fails_at}");
         assert_eq!(rt; system.moves.get(), *moves, "at {fails_at}");
-        assert!(rt; world.close_out(Slot::TraceOut).is_err());
-        assert_eq!(rt; system.moves.get(), *moves, "at {fails_at}");
     }
     Ok(())
 }

@@ -10,6 +10,12 @@ use Rattle.ccsl_session.proofs.world.session.Given as given
 use Rattle.ccsl_session.proofs.world.session.Goals as goal
 use Rattle.ccsl_session.proofs.world.session.Goals.{In_ok-session}
 
+pub returns-in_err-lines-clause-cut : goal.returns-in_err-lines-clause-cut
+returns-in_err-lines-clause-cut g c =
+    let r = c.from_residual in
+    let p = err_from_is_err_and r.result r.ensures.1 in
+    rw (p.1, p.2) (nothing-cut g.W.World.told c.args.system.now c.args.policy c.args.seed c.args.limit (g.W.World.state c.args.world.now))
+
 pub returns-in_err-session-clause-cut : goal.returns-in_err-session-clause-cut
 returns-in_err-session-clause-cut g c =
     let r = c.from_residual-in_err-session in

@@ -1,4 +1,4 @@
-use Rattle.std.proofs.Common.{◌∙◌, [], Some, None, if◌then◌else◌, sym, ap, subst}
+use Rattle.std.proofs.Common.{◌∙◌, Some, None, if◌then◌else◌, sym, ap, subst}
 use Rattle.std.proofs.lemmas.Result.{IfOk-at_ok, IfErr-at_err, err_from_is_err_and}
 use Rattle.ccsl_edge.specs.declared.slot.Slot.TheVariants.{Report}
 use Rattle.ccsl_edge.specs.Calls.{Adds}
