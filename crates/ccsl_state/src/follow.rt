@@ -9,8 +9,8 @@ ghost use Rattle.ccsl_state.specs.Whole.{IsWhole};
 ghost use Rattle.ccsl_state.specs.Passing.{AreReaders, AreKept, IsPassed};
 ghost use Rattle.ccsl_state.specs.Visits.{IsVisited, IsEntered, is_waiting};
 
-use crate::advance::advanced;
 use crate::definitions::put;
+use crate::flat::definition_advanced;
 use crate::lay::Lay;
 use crate::moved::Visited;
 use crate::readers::Readers;
@@ -47,12 +47,7 @@ fn visit(
 {
     let e = lay.system.definition(i);
     let (_, region) = row.split_at_mut(place as usize);
-    let moved = advanced(lay, e, &[], region, step, gone);
-    Visited {
-        tick: moved.tick,
-        dead: moved.dead,
-        settled: moved.settled,
-    }
+    definition_advanced(lay, e, region, step, gone)
 }
 
 /// Whether others may hear of a visit: the clock ticked, or was dead before the step and is not after it, or the other way round.

@@ -6,6 +6,7 @@ mod cells;
 mod connective;
 mod counts;
 mod definitions;
+mod flat;
 mod follow;
 mod heard;
 mod items;

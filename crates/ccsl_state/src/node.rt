@@ -98,6 +98,7 @@ pub fn filter_from(words: &[Word], suffix: Suffix) -> Unary
 }
 
 /// Whether an operator ticks, where its operands tick or not. A then has no node.
+#[inline(always)]
 pub fn two_ticks(op: ExprOp, head: &[u64], t: bool, u: bool) -> bool
     requires { own_cells op ≤ length head.now }
     ensures { result ≡ node_ticks (two_at op head.now) t u }
@@ -135,6 +136,7 @@ pub fn two_ticks(op: ExprOp, head: &[u64], t: bool, u: bool) -> bool
 }
 
 /// Whether an operator is dead, where its operands are or not.
+#[inline(always)]
 pub fn two_dead(op: ExprOp, head: &[u64], x: bool, y: bool) -> bool
     requires { length head.now ≡ own_cells op }
     ensures { result ≡ node_dead (two_at op head.now) x y }
@@ -154,6 +156,7 @@ pub fn two_dead(op: ExprOp, head: &[u64], x: bool, y: bool) -> bool
 }
 
 /// Rewrites an operator's cells after a step in which its operands ticked or not.
+#[inline(always)]
 pub fn two_moved(op: ExprOp, head: &mut [u64], t: bool, u: bool)
     requires { length head.old ≡ own_cells op }
     ensures { two_at op head.new ≡ option_map (λ o. two_next o t u) (two_at op head.old) }

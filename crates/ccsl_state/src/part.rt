@@ -97,6 +97,36 @@ impl<'s> Part<'s> {
         &self.readers.followed
     }
 
+    /// Goes on by the full step that the declared clocks of a set give. Then the set has what of that step is declared or followed.
+    pub fn go_on(&mut self, step: &mut ClockSet)
+        requires { are_below self.old.system.declared step.old ≡ true }
+        ensures system { self.new.system ≡ self.old.system }
+        ensures followed { self.new.followed ≡ self.old.followed }
+        ensures cells { length self.new.row ≡ length self.old.row }
+        ensures step { (T : List Step) → PartStandsFor self.old T →
+            step.new ≡ part_of self.old (full_step self.old.system T step.old) }
+        ensures stands { (T : List Step) → PartStandsFor self.old T → length T + 1 < 2 ^ 64 →
+            PartStandsFor self.new (T ++ full_step self.old.system T step.old ∷ []) }
+    {
+        let lay = Lay {
+            system: self.system,
+            earlier: self.calls.as_slice(),
+        };
+        let passage = &mut self.passage;
+        passage.step.copy_from(step);
+        self.readers
+            .hear(&passage.step, &passage.unsettled, &mut passage.waiting);
+        let places = self.places.as_slice();
+        follow(
+            &lay,
+            &self.readers,
+            places,
+            self.row.as_mut_slice(),
+            passage,
+        );
+        step.copy_from(&self.passage.step);
+    }
+
     /// Goes on by the full step that a set of declared clocks gives, and answers what of that step is declared or followed.
     pub fn advance(&mut self, declared: &ClockSet) -> ClockSet
         requires { are_below self.old.system.declared declared.now ≡ true }
@@ -108,22 +138,8 @@ impl<'s> Part<'s> {
         ensures stands { (T : List Step) → PartStandsFor self.old T → length T + 1 < 2 ^ 64 →
             PartStandsFor self.new (T ++ full_step self.old.system T declared.now ∷ []) }
     {
-        let lay = Lay {
-            system: self.system,
-            earlier: self.calls.as_slice(),
-        };
-        let passage = &mut self.passage;
-        passage.step.copy_from(declared);
-        self.readers
-            .hear(&passage.step, &passage.unsettled, &mut passage.waiting);
-        let places = self.places.as_slice();
-        follow(
-            &lay,
-            &self.readers,
-            places,
-            self.row.as_mut_slice(),
-            passage,
-        );
-        self.passage.step.copy()
+        let mut step = declared.copy();
+        self.go_on(&mut step);
+        step
     }
 }

@@ -9,7 +9,7 @@ use Rattle.ccsl_state.specs.PartLaid.{held_part}
 use Rattle.ccsl_state.specs.Passing.{AreKept}
 use Rattle.ccsl_state.proofs.Regions.{front_head}
 use Rattle.ccsl_state.proofs.PartMeans.{passed_by, part_step, part_stands}
-use Rattle.ccsl_state.proofs.part.Part.advance.Goals as goal
+use Rattle.ccsl_state.proofs.part.Part.go_on.Goals as goal
 
 pub follow-requires-clause-kept : goal.follow-requires-clause-kept
 follow-requires-clause-kept c =
@@ -20,11 +20,11 @@ follow-requires-clause-kept c =
 pub follow-requires-clause-low : goal.follow-requires-clause-low
 follow-requires-clause-low c =
     ap (are_below c.self.inside.system.now.declared) c.copy_from.ensures
-    ∙ subst (λ (p : HeldPart). are_below p.system.declared c.args.declared.now ≡ true) (sym c.self.view_is) c.requires
+    ∙ subst (λ (p : HeldPart). are_below p.system.declared c.args.step.now ≡ true) (sym c.self.view_is) c.requires
 
 pub returns-clause-step : goal.returns-clause-step
 returns-clause-step c = λ T stands.
-    let s = c.args.declared.now in
+    let s = c.args.step.now in
     let h = held_part c.self.inside in
     let old = c.self.inside.passage in
     let new = c.follow.new.passage in
@@ -32,12 +32,12 @@ returns-clause-step c = λ T stands.
     let low : are_below h.system.declared s ≡ true = subst (λ (p : HeldPart). are_below p.system.declared s ≡ true) (sym c.self.view_is) c.requires in
     let ascends : is_ascending s ≡ true = ap is_ascending (sym c.copy_from.ensures) ∙ c.hear.ensures.ascends in
     let passed = passed_by h s c.copy_from.new.self c.as_slice.result.now c.as_mut_slice.result.now trees new.step new.gone (c.as_slice.ensures.value ∙ c.self.invariant.calls) c.as_mut_slice.ensures.value c.copy_from.ensures c.follow.ensures.passed in
-    subst (λ (p : HeldPart). PartStandsFor p T → c.copy.result ≡ part_of p (full_step p.system T s)) c.self.view_is
-    (λ st. c.copy.ensures ∙ part_step h T s c.self.invariant.accepted c.self.invariant.closed low ascends old.gone old.unsettled c.self.invariant.kept trees new.step new.gone new.unsettled passed c.follow.ensures.kept st c.follow.ensures.ascends) stands
+    subst (λ (p : HeldPart). PartStandsFor p T → c.copy_from-2.new.self ≡ part_of p (full_step p.system T s)) c.self.view_is
+    (λ st. c.copy_from-2.ensures ∙ part_step h T s c.self.invariant.accepted c.self.invariant.closed low ascends old.gone old.unsettled c.self.invariant.kept trees new.step new.gone new.unsettled passed c.follow.ensures.kept st c.follow.ensures.ascends) stands
 
 pub returns-clause-stands : goal.returns-clause-stands
 returns-clause-stands c = λ T stands short.
-    let s = c.args.declared.now in
+    let s = c.args.step.now in
     let h = held_part c.self.inside in
     let old = c.self.inside.passage in
     let new = c.follow.new.passage in
