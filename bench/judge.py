@@ -14,7 +14,7 @@ from traces import events, wires
 SIZE = int(sys.argv[1]) * 1_000_000 if len(sys.argv) > 1 else 50_000_000
 
 
-def compare(name, trace, spec, folder, workers):
+def compare(name, trace, spec, folder, workers, wanted=None):
     own, other = [], []
     for _ in range(3):
         own.append(measured([PROGRAM, "judge", f"spec={spec}", f"trace={trace}", f"workers={workers}"]))
@@ -24,7 +24,7 @@ def compare(name, trace, spec, folder, workers):
     print(f"{name}, {os.path.getsize(trace) / 1e6:.0f} MB, workers {workers}: {clock:.2f} s by the clock, {busy:.2f} s of the processor, "
           f"{own[0].memory:.1f} MB at most; vcd2fst {theirs:.2f} and {others:.2f} s: "
           f"{theirs / clock:.1f} and {others / busy:.1f} times as fast ({own[0].said})")
-    note("ccsl_judge", f"{name}, workers {workers}", "vcd2fst", processor=others / busy, clock=theirs / clock)
+    note("ccsl_judge", f"{name}, workers {workers}", "vcd2fst", processor=others / busy, clock=theirs / clock, wanted=wanted)
 
 
 def together(count, trace, spec):

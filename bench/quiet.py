@@ -8,7 +8,8 @@ The program has to be built (./ccsl builds it). The traces are made in a folder 
 import random
 import tempfile
 
-from judge import SIZE, compare, wires
+from judge import SIZE, compare
+from traces import wires
 
 WIRES = 64
 
@@ -58,6 +59,9 @@ def sampled(count):
     return lines
 
 
+# how many times as fast as vcd2fst each is to be
+WANTED = {"64 unions": 3, "64 sampled clocks": 3, "64 delayed clocks": 3, "64 growing clocks": 2}
+
 SPECIFICATIONS = {
     "64 constraints on declared clocks": [f"w{i} subclock w{i};" for i in range(WIRES)],
     "64 unions": [f"define s{i} = w{i} union {next_wire(i)}; w{i} subclock s{i};" for i in range(WIRES)],
@@ -74,7 +78,7 @@ def written(path, clocks, lines):
     groups = [line for line in lines if line.startswith("expression ")]
     items = [line for line in lines if not line.startswith("expression ")]
     with open(path, "w") as out:
-        out.write(f"ccsl 1; {' '.join(groups)} system {{ clock {', '.join(clocks)}; {' '.join(items)} }}\n")
+        out.write(f"ccsl 2; {' '.join(groups)} system {{ clock {', '.join(clocks)}; {' '.join(items)} }}\n")
     return path
 
 
@@ -83,13 +87,16 @@ def main():
     with tempfile.TemporaryDirectory() as folder:
         turns(f"{folder}/turns.vcd")
         sparse(f"{folder}/sparse.vcd")
-        wires(f"{folder}/dense.vcd")
-        two = ["req", "ack"]
-        for line in ["req precedes within 3 ack;", "alternates(req, ack);"]:
-            compare(f"two events in turn, {line[:-1]}", f"{folder}/turns.vcd", written(f"{folder}/two.ccsl", two, [line]), folder, 1)
+        wires(f"{folder}/dense.vcd", SIZE)
+        for line, wanted in [("req precedes within 3 ack;", None), ("alternates(req, ack);", 3)]:
+            spec = written(f"{folder}/two.ccsl", ["req", "ack"], [line])
+            compare(f"two events in turn, {line[:-1]}", f"{folder}/turns.vcd", spec, folder, 1, wanted)
         for name, lines in SPECIFICATIONS.items():
-            compare(f"sparse, {name}", f"{folder}/sparse.vcd", written(f"{folder}/one.ccsl", names, lines), folder, 1)
-        compare("dense, 64 sampled clocks", f"{folder}/dense.vcd", written(f"{folder}/one.ccsl", names, sampled(64)), folder, 1)
+            spec = written(f"{folder}/one.ccsl", names, lines)
+            compare(f"sparse, {name}", f"{folder}/sparse.vcd", spec, folder, 1, WANTED.get(name))
+        for name, wanted in [("64 constraints on declared clocks", None), ("64 sampled clocks", 2.5)]:
+            spec = written(f"{folder}/one.ccsl", names, SPECIFICATIONS[name])
+            compare(f"dense, {name}", f"{folder}/dense.vcd", spec, folder, 1, wanted)
 
 
 if __name__ == "__main__":
