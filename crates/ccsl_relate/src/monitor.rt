@@ -32,6 +32,8 @@ pub struct Monitor<'s> {
     // which of them read a clock
     readers: Option<Readers>,
     states: Option<Part<'s>>,
+    // room for a step
+    step: ClockSet,
     steps: u64,
     first: Option<Violation>,
 }
@@ -46,6 +48,7 @@ impl<'s> Drop for Monitor<'s> {
             kept: _kept,
             readers: _readers,
             states: _states,
+            step: _step,
             steps: _,
             first: _,
         } = self;
@@ -104,6 +107,7 @@ impl<'s> Monitor<'s> {
             kept,
             readers,
             states,
+            step: ClockSet::empty(),
             steps: 0,
             first: None,
         })
@@ -127,6 +131,7 @@ impl<'s> Monitor<'s> {
             kept,
             &self.readers,
             &row.ticks,
+            &mut self.step,
         )?;
         Some(Violation {
             step: self.steps,

@@ -49,31 +49,31 @@ pub(crate) fn rows_are_sets(block: &Block)
 
 // The declared clocks among some.
 #[inline(always)]
-fn declared_ticks(ticks: &ClockSet, undeclared: &ClockSet) -> ClockSet
-    ensures { (K : System) → IsUndeclared K undeclared.now → result ≡ declared_part K ticks.now }
+fn put_declared(declared: &mut ClockSet, ticks: &ClockSet, undeclared: &ClockSet)
+    ensures { (K : System) → IsUndeclared K undeclared.now → declared.new ≡ declared_part K ticks.now }
 {
-    let mut declared = ticks.copy();
-    declared.remove_all(undeclared);
+    declared.copy_difference(ticks, undeclared);
     is_set(ticks);
-    is_set(&declared);
-    declared
+    is_set(declared);
 }
 
-// What is known of the step that a row with these ticks completes. The states go on by it.
+// Puts into a set what is known of the step that a row with these ticks completes. The states go on by it.
 #[inline(always)]
-fn next_step(states: &mut Part<'_>, undeclared: &ClockSet, ticks: &ClockSet) -> ClockSet
+fn next_step(states: &mut Part<'_>, undeclared: &ClockSet, ticks: &ClockSet, step: &mut ClockSet)
     requires { IsUndeclared states.old.system undeclared.now }
     ensures known { (K : System) (x : ℕ) → is_known K (Some states.new) x ≡ is_known K (Some states.old) x }
     ensures step { (K : System) (T : List Step) → AreAfter K (Some states.old) T →
-        result ≡ step_known K (Some states.old) T ticks.now }
+        step.new ≡ step_known K (Some states.old) T ticks.now }
     ensures after { (K : System) (T : List Step) → AreAfter K (Some states.old) T → length T + 1 < 2 ^ 64 →
         AreAfter K (Some states.new) (T ++ full_step K T (declared_part K ticks.now) ∷ []) }
 {
-    states.advance(&declared_ticks(ticks, undeclared))
+    put_declared(step, ticks, undeclared);
+    states.go_on(step);
 }
 
 /// The place of the first item that fails in the step that a row with these ticks completes. Where none does, all go on by the step,
-/// and the states with them. Where there are none, no step is made: the row's ticks are all that the items read of it.
+/// and the states with them. Where there are none, no step is made: the row's ticks are all that the items read of it. `step` is
+/// room for it, and what it has counts for nothing.
 #[inline(always)]
 pub(crate) fn first_violated(
     states: &mut Option<Part<'_>>,
@@ -81,6 +81,7 @@ pub(crate) fn first_violated(
     kept: &mut [Watched],
     readers: &Option<Readers>,
     ticks: &ClockSet,
+    step: &mut ClockSet,
 ) -> Option<u32>
     requires undeclared { ForSome states.old (λ p. IsUndeclared p.system undeclared.now) }
     requires readers { Fit readers.now kept.old }
@@ -100,8 +101,8 @@ pub(crate) fn first_violated(
 {
     match states {
         Some(states) => {
-            let step = next_step(states, undeclared, ticks);
-            first_read(kept, readers, ticks, &step)
+            next_step(states, undeclared, ticks, step);
+            first_read(kept, readers, ticks, step)
         }
         None => first_read(kept, readers, ticks, ticks),
     }

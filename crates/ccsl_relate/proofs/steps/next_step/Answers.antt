@@ -7,26 +7,26 @@ use Rattle.ccsl_state.specs.Reach.{is_within}
 use Rattle.ccsl_state.specs.Part.{part_of, PartStandsFor}
 use Rattle.ccsl_relate.proofs.steps.next_step.Goals as goal
 
-pub advance-requires : goal.advance-requires
-advance-requires c =
+pub go_on-requires : goal.go_on-requires
+go_on-requires c =
     let K = c.args.states.now.system in
-    subst (λ s. are_below K.declared s ≡ true) (sym (c.declared_ticks.ensures K c.requires)) (below-below K.declared c.args.ticks.now)
+    subst (λ s. are_below K.declared s ≡ true) (sym (c.put_declared.ensures K c.requires)) (below-below K.declared c.args.ticks.now)
 
 pub returns-clause-known : goal.returns-clause-known
-returns-clause-known c = λ K x. ap₂ (λ (X : System) followed. is_within X followed x) c.advance.ensures.system c.advance.ensures.followed
+returns-clause-known c = λ K x. ap₂ (λ (X : System) followed. is_within X followed x) c.go_on.ensures.system c.go_on.ensures.followed
 
 pub returns-clause-step : goal.returns-clause-step
 returns-clause-step c = λ K T after.
     let own = c.args.states.now.system in
-    c.advance.ensures.step T after.1
+    c.go_on.ensures.step T after.1
     ∙ ap₂ (λ X s. part_of c.args.states.now (full_step X T s)) after.0
-    (c.declared_ticks.ensures own c.requires ∙ ap (λ X. declared_part X c.args.ticks.now) after.0)
+    (c.put_declared.ensures own c.requires ∙ ap (λ X. declared_part X c.args.ticks.now) after.0)
 
 pub returns-clause-after : goal.returns-clause-after
 returns-clause-after c = λ K T after few.
     let own = c.args.states.now.system in (
-      c.advance.ensures.system ∙ after.0,
-      subst (λ s. PartStandsFor c.advance.new.self (T ++ s ∷ []))
-          (ap₂ (λ X s. full_step X T s) after.0 (c.declared_ticks.ensures own c.requires ∙ ap (λ X. declared_part X c.args.ticks.now) after.0))
-          (c.advance.ensures.stands T after.1 few),
+      c.go_on.ensures.system ∙ after.0,
+      subst (λ s. PartStandsFor c.go_on.new.self (T ++ s ∷ []))
+          (ap₂ (λ X s. full_step X T s) after.0 (c.put_declared.ensures own c.requires ∙ ap (λ X. declared_part X c.args.ticks.now) after.0))
+          (c.go_on.ensures.stands T after.1 few),
     )

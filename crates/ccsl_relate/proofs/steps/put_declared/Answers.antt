@@ -1,9 +1,10 @@
-use Rattle.std.proofs.Common.{◌≡◌, ◌&&◌, not, subst}
+use Rattle.std.proofs.Common.{ap, ◌∙◌}
 use Rattle.ccsl_base.specs.Clocks.{ticks_in}
+use Rattle.ccsl_base.proofs.Sets.{ticks_in-difference}
 use Rattle.ccsl_relate.proofs.DeclaredTicks.{declared-are}
-use Rattle.ccsl_relate.proofs.steps.declared_ticks.Goals as goal
+use Rattle.ccsl_relate.proofs.steps.put_declared.Goals as goal
 
 pub returns : goal.returns
 returns c = λ K u.
-    declared-are K c.args.undeclared.now c.args.ticks.now c.remove_all.new.self u c.is_set.ensures.ascending c.is_set.ensures.below c.is_set-2.ensures.ascending
-    (λ x. subst (λ xs. ticks_in x c.remove_all.new.self ≡ (ticks_in x xs && not (ticks_in x c.args.undeclared.now))) c.copy-declared.ensures (c.remove_all.ensures x))
+    declared-are K c.args.undeclared.now c.args.ticks.now c.copy_difference.new.self u c.is_set.ensures.ascending c.is_set.ensures.below c.is_set-2.ensures.ascending
+    (λ x. ap (ticks_in x) c.copy_difference.ensures ∙ ticks_in-difference c.args.ticks.now c.args.undeclared.now x)
