@@ -1,4 +1,4 @@
--- A share may go to another thread: threads may share its system, and the rest of it is plain data.
+-- A share may go to another thread, and threads may share its monitor: they may share its system, and the rest of it is plain data.
 -- Each fact is named, since a search that goes down through all types at once runs out of steps.
 use denote.Ref.{NamedLft}
 use denote.RattleType.{RattleType}
@@ -122,7 +122,7 @@ part_send ℓ =
     let p = passage_send in
     search (sendable, crosses) depth 40
 
-monitor_send : (ℓ : NamedLft) → IsSend (monitor.the_field ℓ).row
+pub monitor_send : (ℓ : NamedLft) → IsSend (monitor.the_field ℓ).row
 monitor_send ℓ =
     let y = system_sync in
     let s = set_send in
@@ -134,3 +134,41 @@ monitor_send ℓ =
 
 pub share_send : (ℓ : NamedLft) → IsSend (share.the_row ℓ)
 share_send ℓ = let m = monitor_send ℓ in search (sendable, crosses) depth 40
+
+set_sync : IsSync (set.the_field).row
+set_sync = search (sendable, crosses) depth 40
+
+watched_sync : IsSync (watched.the_field).row
+watched_sync = search (sendable, crosses) depth 40
+
+violation_sync : IsSync (violation.the_field).row
+violation_sync = search (sendable, crosses) depth 40
+
+places_sync : IsSync (places.the_field).row
+places_sync = let s = set_sync in search (sendable, crosses) depth 40
+
+readers_sync : IsSync (readers.the_field).row
+readers_sync = let p = places_sync in search (sendable, crosses) depth 40
+
+clock_readers_sync : IsSync (clock_readers.the_field).row
+clock_readers_sync = let s = set_sync in search (sendable, crosses) depth 40
+
+passage_sync : IsSync (passage.the_field).row
+passage_sync = let s = set_sync in search (sendable, crosses) depth 40
+
+part_sync : (ℓ : NamedLft) → IsSync (part.the_field ℓ).row
+part_sync ℓ =
+    let y = system_sync in
+    let r = clock_readers_sync in
+    let p = passage_sync in
+    search (sendable, crosses) depth 40
+
+pub monitor_sync : (ℓ : NamedLft) → IsSync (monitor.the_field ℓ).row
+monitor_sync ℓ =
+    let y = system_sync in
+    let s = set_sync in
+    let w = watched_sync in
+    let v = violation_sync in
+    let r = readers_sync in
+    let h = part_sync ℓ in
+    search (sendable, crosses) depth 40
