@@ -1,0 +1,9 @@
+-- A call goes to an earlier definition.
+use Rattle.std.proofs.Common.{◌+◌, ◌*◌}
+use Rattle.ccsl_origin.proofs.walk.Walk.+walking.Given as goal
+
+abbrev pub decreases-is_from : goal.decreases-is_from
+decreases-is_from l = 2 * l.limit
+
+abbrev pub decreases-is_in : goal.decreases-is_in
+decreases-is_in l = 2 * l.limit + 1

@@ -1,0 +1,89 @@
+//! A page of text, to which pieces are put one behind the other.
+
+ghost use Rattle.std.specs.Prelude.{◌≡◌, ◌++◌, [], OnOk};
+ghost use Rattle.std.specs.List.{concat};
+ghost use Rattle.ccsl_page.specs.Pieces.{piece_text, piece_texts, line};
+
+use ccsl_base::Memory;
+use itoa::Buffer;
+use std::alloc::Global;
+use std::marker::Model;
+
+/// A piece of a text.
+#[derive(Clone, Copy)]
+pub enum Piece<'a> {
+    Text(&'a str),
+    Name(&'a [u8]),
+    Number(u64),
+}
+
+/// A text that grows. Contracts see its bytes.
+#[derive(Drop)]
+pub struct Page {
+    text: Vec<u8>,
+}
+
+impl Model for Page {
+    ghost use Rattle.std.specs.Prelude.{List, ℕ};
+
+    ghost Value = { List ℕ };
+
+    ghost view = { λ p. p.text.items };
+}
+
+impl Page {
+    pub fn new(alloc: Global) -> Page
+        ensures { result ≡ [] }
+    {
+        Page {
+            text: Vec::new(alloc),
+        }
+    }
+
+    pub fn bytes(&self) -> &[u8]
+        ensures { result.now ≡ self.now }
+    {
+        self.text.as_slice()
+    }
+
+    fn put_piece(&mut self, piece: &Piece<'_>) -> Result<(), Memory>
+        ensures { OnOk result (self.new ≡ self.old ++ piece_text piece.now) }
+    {
+        match piece {
+            Piece::Text(text) => self.text.extend_from_slice(text.as_bytes())?,
+            Piece::Name(name) => self.text.extend_from_slice(name)?,
+            Piece::Number(number) => {
+                self.text
+                    .extend_from_slice(Buffer::new().format(*number).as_bytes())?
+            }
+        }
+        Ok(())
+    }
+
+    /// Puts these pieces behind what stands.
+    pub fn put(&mut self, pieces: &[Piece<'_>]) -> Result<(), Memory>
+        ensures { OnOk result (self.new ≡ self.old ++ concat (piece_texts pieces.now)) }
+    {
+        for piece in pieces {
+            self.put_piece(piece)?;
+        }
+        Ok(())
+    }
+
+    /// Puts these pieces and a line feed behind what stands.
+    pub fn put_line(&mut self, pieces: &[Piece<'_>]) -> Result<(), Memory>
+        ensures { OnOk result (self.new ≡ self.old ++ line (piece_texts pieces.now)) }
+    {
+        self.put(pieces)?;
+        self.text.extend_from_slice(b"\n")?;
+        Ok(())
+    }
+
+    /// Puts a byte so many times behind what stands.
+    pub fn fill(&mut self, byte: u8, count: usize) -> Result<(), Memory> {
+        for _ in 0..count {
+            self.text.push(byte)?;
+        }
+        Ok(())
+    }
+}
