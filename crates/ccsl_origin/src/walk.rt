@@ -1,6 +1,7 @@
 //! Walking over lines in the order in which they are expanded.
 
-ghost use Rattle.std.specs.Prelude.{◌<◌, IfSome};
+ghost use Rattle.std.specs.Prelude.{◌≡◌, ◌==◌, ◌<◌, ◌-◌, IfSome};
+ghost use Rattle.ccsl_origin.specs.Offsets.{offset_of};
 
 use crate::origin::{Home, Origin, Wanted};
 use ccsl_ast::{Definition, RelationLine, Spot};
@@ -60,7 +61,9 @@ fn body_of<'a>(blocks: &[Block<'a>], limit: usize, called: &Spot) -> Option<Body
 }
 
 // The offset of a line's first name.
-fn offset_of(line: &RelationLine) -> usize {
+fn offset_of(line: &RelationLine) -> usize
+    ensures { result ≡ offset_of line.now }
+{
     match line {
         RelationLine::Define(name, _) => name.at,
         RelationLine::Constraint(left, _, _) => left.at,
@@ -69,7 +72,10 @@ fn offset_of(line: &RelationLine) -> usize {
 }
 
 // One fewer is left to pass, or none is.
-fn passed(left: &mut u32) -> bool {
+fn passed(left: &mut u32) -> bool
+    ensures last { result ≡ (left.old == 0) }
+    ensures fewer { left.new ≡ left.old - 1 }
+{
     if *left == 0 {
         return true;
     }

@@ -1,7 +1,7 @@
 //! A line of a text with a mark under a part of it.
 
 use crate::page::{Page, Piece};
-use crate::place::{line_around, place_of};
+use crate::place::{Place, line_around, place_of};
 use ccsl_base::Memory;
 use itoa::Buffer;
 
@@ -37,31 +37,67 @@ fn put_indent(page: &mut Page, front: &[u8]) -> Result<(), Memory> {
     Ok(())
 }
 
-// The line with its number, and under it the mark.
-fn put_marked(
-    page: &mut Page,
+// A line of a text with its number, and the part of it that is marked.
+#[derive(Clone, Copy)]
+struct Marked<'a> {
     number: u64,
-    line: &[u8],
+    line: &'a [u8],
     from: usize,
     count: usize,
-) -> Result<(), Memory> {
-    let line = &line[..line.len().min(MOST)];
-    let from = from.min(line.len());
-    let count = count.min(line.len().saturating_sub(from)).max(1);
-    let margin = width_of(number);
-    page.put(&[Piece::Text("  "), Piece::Number(number), Piece::Text(" | ")])?;
-    put_shown(page, line)?;
-    page.put_line(&[])?;
-    page.put(&[Piece::Text("  ")])?;
-    page.fill(b' ', margin)?;
-    page.put(&[Piece::Text(" | ")])?;
-    put_indent(page, &line[..from])?;
-    page.fill(b'^', count)?;
+}
+
+fn put_line_shown(page: &mut Page, marked: &Marked<'_>) -> Result<(), Memory> {
+    page.put(&[
+        Piece::Text("  "),
+        Piece::Number(marked.number),
+        Piece::Text(" | "),
+    ])?;
+    put_shown(page, marked.line)?;
     page.put_line(&[])
 }
 
-/// Puts where byte number `at` of a file stands, as `FILE:LINE:COLUMN` with what is said of it, then its line, and a mark under
-/// `count` bytes of that, one at least.
+fn put_mark(page: &mut Page, marked: &Marked<'_>, said: &[Piece<'_>]) -> Result<(), Memory> {
+    let from = marked.from.min(marked.line.len());
+    page.put(&[Piece::Text("  ")])?;
+    page.fill(b' ', width_of(marked.number))?;
+    page.put(&[Piece::Text(" | ")])?;
+    put_indent(page, &marked.line[..from])?;
+    let left = marked.line.len() - from;
+    page.fill(b'^', marked.count.min(left).max(1))?;
+    if !said.is_empty() {
+        page.put(&[Piece::Text(" ")])?;
+    }
+    page.put_line(said)
+}
+
+/// Puts the place of a file as `FILE:LINE:COLUMN`, then its line, and under `count` bytes of that from the place on, one at least,
+/// a mark with what is said behind it.
+pub fn put_line_at(
+    page: &mut Page,
+    file: &str,
+    place: Place,
+    line: &[u8],
+    count: usize,
+    said: &[Piece<'_>],
+) -> Result<(), Memory> {
+    page.put_line(&[
+        Piece::Text(file),
+        Piece::Text(":"),
+        Piece::Number(place.line),
+        Piece::Text(":"),
+        Piece::Number(place.column),
+    ])?;
+    let marked = Marked {
+        number: place.line,
+        line: &line[..line.len().min(MOST)],
+        from: place.column.saturating_sub(1) as usize,
+        count,
+    };
+    put_line_shown(page, &marked)?;
+    put_mark(page, &marked, said)
+}
+
+/// The same of byte number `at` of a text.
 pub fn put_excerpt(
     page: &mut Page,
     file: &str,
@@ -71,14 +107,5 @@ pub fn put_excerpt(
     said: &[Piece<'_>],
 ) -> Result<(), Memory> {
     let place = place_of(text, at);
-    page.put(&[
-        Piece::Text(file),
-        Piece::Text(":"),
-        Piece::Number(place.line),
-        Piece::Text(":"),
-        Piece::Number(place.column),
-    ])?;
-    page.put_line(said)?;
-    let from = place.column.saturating_sub(1) as usize;
-    put_marked(page, place.line, line_around(text, at), from, count)
+    put_line_at(page, file, place, line_around(text, at), count, said)
 }

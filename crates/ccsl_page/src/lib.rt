@@ -7,7 +7,7 @@ pub mod place;
 pub mod ticks;
 pub mod time;
 
-pub use excerpt::put_excerpt;
+pub use excerpt::{put_excerpt, put_line_at};
 pub use page::{Page, Piece};
 pub use place::{Place, line_around, place_of};
 pub use ticks::{Column, put_ticks};

@@ -46,6 +46,13 @@ impl Page {
         self.text.as_slice()
     }
 
+    /// Empties the page.
+    pub fn clear(&mut self)
+        ensures { self.new ≡ [] }
+    {
+        self.text.clear();
+    }
+
     fn put_piece(&mut self, piece: &Piece<'_>) -> Result<(), Memory>
         ensures { OnOk result (self.new ≡ self.old ++ piece_text piece.now) }
     {

@@ -22,17 +22,12 @@ fn width(column: &Column, scale: Scale) -> usize {
     digits(column.step).max(digits(scale.number(column.time)))
 }
 
-// A cell at the right of its column; the marked one stands in brackets.
-fn put_cell(
-    page: &mut Page,
-    room: usize,
-    piece: Piece<'_>,
-    used: usize,
-    is_marked: bool,
-) -> Result<(), Memory> {
-    let (left, right) = if is_marked { ("[", "]") } else { (" ", " ") };
-    page.fill(b' ', room.saturating_sub(used))?;
-    page.put(&[Piece::Text(left), piece, Piece::Text(right)])
+// What a row has of each column.
+#[derive(Clone, Copy)]
+enum Cell {
+    Step,
+    Time,
+    Tick(u32),
 }
 
 fn put_word(page: &mut Page, word: &[u8], margin: usize) -> Result<(), Memory> {
@@ -40,52 +35,50 @@ fn put_word(page: &mut Page, word: &[u8], margin: usize) -> Result<(), Memory> {
     page.fill(b' ', margin.saturating_sub(word.len()))
 }
 
-fn put_steps(
+// A number at the right of its column.
+fn put_number(page: &mut Page, room: usize, bracket: &str, number: u64) -> Result<(), Memory> {
+    page.fill(b' ', room.saturating_sub(digits(number)))?;
+    page.put(&[Piece::Text(bracket), Piece::Number(number)])
+}
+
+fn put_cell(
+    page: &mut Page,
+    column: &Column,
+    scale: Scale,
+    cell: Cell,
+    bracket: &str,
+) -> Result<(), Memory> {
+    let room = width(column, scale);
+    match cell {
+        Cell::Step => put_number(page, room, bracket, column.step),
+        Cell::Time => put_number(page, room, bracket, scale.number(column.time)),
+        Cell::Tick(clock) => {
+            page.fill(b' ', room.saturating_sub(1))?;
+            let tick = if column.ticks.has(clock) { "|" } else { "." };
+            page.put(&[Piece::Text(" "), Piece::Text(tick)])
+        }
+    }
+}
+
+// A row. The marked step stands in brackets, and no blank stands at the end.
+fn put_cells(
     page: &mut Page,
     columns: &[Column],
     scale: Scale,
+    cell: Cell,
     marked: Option<u64>,
 ) -> Result<(), Memory> {
+    let mut end = " ";
     for column in columns {
+        page.put(&[Piece::Text(end)])?;
         let is_marked = marked == Some(column.step);
-        let used = digits(column.step);
-        put_cell(
-            page,
-            width(column, scale),
-            Piece::Number(column.step),
-            used,
-            is_marked,
-        )?;
+        put_cell(page, column, scale, cell, if is_marked { "[" } else { " " })?;
+        end = if is_marked { "]" } else { " " };
     }
-    page.put_line(&[])
-}
-
-fn put_times(
-    page: &mut Page,
-    columns: &[Column],
-    scale: Scale,
-    marked: Option<u64>,
-) -> Result<(), Memory> {
-    for column in columns {
-        let is_marked = marked == Some(column.step);
-        let time = scale.number(column.time);
-        put_cell(
-            page,
-            width(column, scale),
-            Piece::Number(time),
-            digits(time),
-            is_marked,
-        )?;
+    if end == "]" {
+        page.put(&[Piece::Text(end)])?;
     }
-    page.put_line(&[Piece::Text(" "), Piece::Text(scale.word())])
-}
-
-fn put_row(page: &mut Page, columns: &[Column], scale: Scale, clock: u32) -> Result<(), Memory> {
-    for column in columns {
-        let tick = if column.ticks.has(clock) { "|" } else { "." };
-        put_cell(page, width(column, scale), Piece::Text(tick), 1, false)?;
-    }
-    page.put_line(&[])
+    Ok(())
 }
 
 // The name of a clock, if it has one.
@@ -105,6 +98,13 @@ fn margin_of(names: &Names, clocks: &[u32]) -> usize {
     margin
 }
 
+fn put_unit(page: &mut Page, scale: Scale) -> Result<(), Memory> {
+    if scale.unit.is_some() {
+        page.put(&[Piece::Text(" "), Piece::Text(scale.word())])?;
+    }
+    page.put_line(&[])
+}
+
 /// Puts the steps of these columns with the ticks of these clocks, each under its name. The marked step stands in brackets.
 pub fn put_ticks(
     page: &mut Page,
@@ -116,12 +116,15 @@ pub fn put_ticks(
 ) -> Result<(), Memory> {
     let margin = margin_of(names, clocks);
     put_word(page, b"step", margin)?;
-    put_steps(page, columns, scale, marked)?;
+    put_cells(page, columns, scale, Cell::Step, marked)?;
+    page.put_line(&[])?;
     put_word(page, b"time", margin)?;
-    put_times(page, columns, scale, marked)?;
+    put_cells(page, columns, scale, Cell::Time, marked)?;
+    put_unit(page, scale)?;
     for clock in clocks {
         put_word(page, name_of(names, *clock), margin)?;
-        put_row(page, columns, scale, *clock)?;
+        put_cells(page, columns, scale, Cell::Tick(*clock), None)?;
+        page.put_line(&[])?;
     }
     Ok(())
 }

@@ -1,0 +1,227 @@
+//! What is shown behind an answer, from its files on.
+
+ghost use Rattle.std.specs.Prelude.{ℕ, List};
+ghost use Rattle.ccsl_edge.specs.declared.slot.Slot.{Slot};
+
+use crate::case::Case;
+use crate::judged::View;
+use crate::picture::put_picture;
+use crate::said::Said;
+use crate::show::{Files, put_once, show_trace};
+use crate::stop::Stop;
+use crate::text::{Understood, read_text, show_refused, understand};
+use crate::waves::{write_file, write_save_file, write_waves};
+use ccsl_base::HashKeys;
+use ccsl_command::Command;
+use ccsl_edge::World;
+use ccsl_page::{Page, Piece};
+use std::alloc::Global;
+
+/// Which of the files may be read once more. A pipe may not.
+#[derive(Clone, Copy, Debug, PartialEq, Eq)]
+pub struct Again {
+    pub spec: bool,
+    pub trace: bool,
+}
+
+/// What is known before anything is shown.
+#[derive(Clone, Copy)]
+pub struct Asking<'a> {
+    pub alloc: Global,
+    pub keys: HashKeys,
+    pub own: Own<'a>,
+    pub again: Again,
+    pub said: Said<'a>,
+}
+
+/// What is asked for beside the answer: the file of the trace with all computed clocks, and that of the drawing.
+#[derive(Clone, Copy)]
+pub struct Own<'a> {
+    pub waves: Option<&'a str>,
+    pub picture: Option<&'a str>,
+}
+
+// The files that a command names, where it has a specification.
+fn files_of(command: &Command) -> Option<Files<'_>> {
+    let (spec, trace, cert) = match command {
+        Command::Check { spec } | Command::Session { spec, .. } => (spec, None, None),
+        Command::Judge { spec, trace, .. } => (spec, Some(trace.as_str()), None),
+        Command::Simulate {
+            spec,
+            trace,
+            cert,
+            ..
+        }
+        | Command::Certify { spec, trace, cert }
+        | Command::Explain { spec, trace, cert } => {
+            (spec, Some(trace.as_str()), Some(cert.as_str()))
+        }
+        Command::Trial { .. } | Command::Periodic { .. } => return None,
+    };
+    Some(Files {
+        spec: spec.as_str(),
+        trace,
+        cert,
+    })
+}
+
+// The trace for a viewer, if it is asked for.
+fn write_viewed<W: World, O: World>(
+    asking: &Asking<'_>,
+    world: &mut W,
+    out: &mut O,
+    case: &Case<'_>,
+    page: &mut Page,
+    trace: &str,
+    view: &View,
+) -> Result<(), Stop>
+    requires allowed { (slot : Slot) (name : List ℕ) → W.allows slot name }
+    requires all { (slot : Slot) (name : List ℕ) → O.allows slot name }
+{
+    let Some(file) = asking.own.waves else {
+        return Ok(());
+    };
+    let timescale = match &view.timescale {
+        Some(text) => Some(text.as_slice()),
+        None => None,
+    };
+    write_waves(asking.keys, world, out, case, trace, timescale, file)?;
+    let marker = match view.marked {
+        Some((_, time)) => Some(time),
+        None => None,
+    };
+    write_save_file(
+        case.alloc,
+        out,
+        case.system,
+        file,
+        view.rows.as_slice(),
+        marker,
+    )?;
+    page.put_line(&[
+        Piece::Text("  waves: gtkwave "),
+        Piece::Text(file),
+        Piece::Text(" "),
+        Piece::Text(file),
+        Piece::Text(".gtkw"),
+    ])?;
+    Ok(())
+}
+
+// The drawing, if it is asked for.
+fn write_drawn<O: World>(
+    asking: &Asking<'_>,
+    out: &mut O,
+    case: &Case<'_>,
+    page: &mut Page,
+    view: &View,
+) -> Result<(), Stop>
+    requires all { (slot : Slot) (name : List ℕ) → O.allows slot name }
+{
+    let Some(file) = asking.own.picture else {
+        return Ok(());
+    };
+    let marked = match view.marked {
+        Some((step, _)) => Some(step),
+        None => None,
+    };
+    let mut drawing = Page::new(case.alloc);
+    let (rows, columns) = (view.rows.as_slice(), view.columns.as_slice());
+    put_picture(
+        &mut drawing,
+        case.alloc,
+        case.system,
+        rows,
+        columns,
+        view.scale,
+        marked,
+    )?;
+    write_file(out, file, drawing.bytes())?;
+    page.put_line(&[Piece::Text("  picture: "), Piece::Text(file)])?;
+    Ok(())
+}
+
+// What is shown behind an answer on an accepted specification.
+fn show_case<W: World, O: World>(
+    asking: &Asking<'_>,
+    world: &mut W,
+    out: &mut O,
+    case: &Case<'_>,
+    page: &mut Page,
+    files: Files<'_>,
+) -> Result<(), Stop>
+    requires allowed { (slot : Slot) (name : List ℕ) → W.allows slot name }
+    requires all { (slot : Slot) (name : List ℕ) → O.allows slot name }
+{
+    let Some(trace) = files.trace else {
+        return Ok(());
+    };
+    if !asking.again.trace {
+        put_once(page, "the trace")?;
+        return Ok(());
+    }
+    let shown = show_trace(asking.keys, world, case, page, files, trace, asking.said)?;
+    if let Some(view) = shown {
+        write_viewed(asking, world, out, case, page, trace, &view)?;
+        write_drawn(asking, out, case, page, &view)?;
+    }
+    Ok(())
+}
+
+// What is shown behind an answer on these files.
+fn show_files<W: World, O: World>(
+    asking: &Asking<'_>,
+    world: &mut W,
+    out: &mut O,
+    page: &mut Page,
+    files: Files<'_>,
+) -> Result<(), Stop>
+    requires allowed { (slot : Slot) (name : List ℕ) → W.allows slot name }
+    requires all { (slot : Slot) (name : List ℕ) → O.allows slot name }
+{
+    if !asking.again.spec {
+        put_once(page, "the specification")?;
+        return Ok(());
+    }
+    let alloc = asking.alloc;
+    let text = read_text(alloc, world, files.spec)?;
+    match understand(alloc, text.as_slice())? {
+        Understood::Refused(fault) => {
+            show_refused(alloc, page, files.spec, text.as_slice(), fault)?;
+            Ok(())
+        }
+        Understood::Accepted {
+            file,
+            library,
+            system,
+        } => {
+            let case = Case {
+                alloc,
+                name: files.spec,
+                text: text.as_slice(),
+                file: &file,
+                library: &library,
+                system: &system,
+            };
+            show_case(asking, world, out, &case, page, files)
+        }
+    }
+}
+
+/// Puts on a page what stands behind an answer to a command. The files are read once more from the world, and what is drawn beside
+/// the page is written to the world `out`.
+pub fn show<W: World, O: World>(
+    asking: &Asking<'_>,
+    world: &mut W,
+    out: &mut O,
+    page: &mut Page,
+    command: &Command,
+) -> Result<(), Stop>
+    requires allowed { (slot : Slot) (name : List ℕ) → W.allows slot name }
+    requires all { (slot : Slot) (name : List ℕ) → O.allows slot name }
+{
+    match files_of(command) {
+        Some(files) => show_files(asking, world, out, page, files),
+        None => Ok(()),
+    }
+}

@@ -1,0 +1,23 @@
+//! What stands behind an answer of `ccsl`: where in the text, what was bound, and why.
+#![tactic(auto)]
+
+pub mod behind;
+mod binding;
+mod case;
+mod cited;
+mod feeding;
+mod follow;
+mod heading;
+mod hint;
+mod judged;
+mod picture;
+mod refused_trace;
+pub mod said;
+mod show;
+pub mod stop;
+mod text;
+mod waves;
+
+pub use behind::{Again, Asking, Own, show};
+pub use said::{Said, said};
+pub use stop::Stop;

@@ -1,0 +1,150 @@
+//! What is shown behind an answer.
+
+ghost use Rattle.std.specs.Prelude.{ℕ, List};
+ghost use Rattle.ccsl_edge.specs.declared.slot.Slot.{Slot};
+ghost use Rattle.ccsl_edge.specs.declared.slot.Slot.TheVariants as slots;
+
+use crate::binding::{put_event, put_near};
+use crate::case::Case;
+use crate::cited::{put_bad_line, put_blocking, put_cited, read_cert};
+use crate::heading::read_header;
+use crate::judged::{View, show_broken, show_run};
+use crate::refused_trace::show_refused_trace;
+use crate::said::{Named, Said};
+use crate::stop::Stop;
+use ccsl_base::{HashKeys, Memory};
+use ccsl_edge::World;
+use ccsl_page::{Page, Piece};
+
+/// The files of an answer, by their names, and which of them can be read once more.
+#[derive(Clone, Copy)]
+pub(crate) struct Files<'a> {
+    pub(crate) spec: &'a str,
+    pub(crate) trace: Option<&'a str>,
+    pub(crate) cert: Option<&'a str>,
+}
+
+// The variables that a clock's name may mean.
+fn show_unbound<W: World>(
+    keys: HashKeys,
+    world: &mut W,
+    case: &Case<'_>,
+    page: &mut Page,
+    name: &str,
+    clock: &[u8],
+) -> Result<(), Stop>
+    requires allowed { W.allows slots.Trace name.now }
+{
+    let Some(header) = read_header(case.alloc, keys, world, name)? else {
+        return Ok(());
+    };
+    put_near(case.alloc, page, &header, clock)?;
+    put_event(case.alloc, page, &header, clock)?;
+    Ok(())
+}
+
+fn show_violation<W: World>(
+    keys: HashKeys,
+    world: &mut W,
+    case: &Case<'_>,
+    page: &mut Page,
+    name: &str,
+    item: Named<'_>,
+    step: u64,
+) -> Result<Option<View>, Stop>
+    requires allowed { W.allows slots.Trace name.now }
+{
+    match case.item_of(item) {
+        Some(item) => Ok(Some(show_broken(keys, world, case, page, name, item, step)?)),
+        None => Ok(None),
+    }
+}
+
+// The items that a certificate shows to block every step, behind what is shown of the run.
+fn show_blocked<W: World>(
+    world: &mut W,
+    case: &Case<'_>,
+    page: &mut Page,
+    files: Files<'_>,
+    lines: &[u8],
+) -> Result<(), Stop>
+    requires allowed { (slot : Slot) (name : List ℕ) → W.allows slot name }
+{
+    let cert = match files.cert {
+        Some(name) => read_cert(case, world, name)?,
+        None => None,
+    };
+    match (&cert, lines.is_empty()) {
+        (Some(cert), true) => put_cited(page, case, cert.as_slice())?,
+        (Some(cert), false) => put_blocking(page, case, lines, Some(cert.as_slice()))?,
+        (None, _) => put_blocking(page, case, lines, None)?,
+    }
+    Ok(())
+}
+
+fn show_bad_line<W: World>(
+    world: &mut W,
+    case: &Case<'_>,
+    page: &mut Page,
+    files: Files<'_>,
+    line: u64,
+) -> Result<(), Stop>
+    requires allowed { (slot : Slot) (name : List ℕ) → W.allows slot name }
+{
+    if let Some(name) = files.cert
+        && let Some(cert) = read_cert(case, world, name)?
+    {
+        put_bad_line(page, case, name, cert.as_slice(), line)?;
+    }
+    Ok(())
+}
+
+/// Shows what stands behind an answer on a trace. It answers what was drawn of it.
+pub(crate) fn show_trace<W: World>(
+    keys: HashKeys,
+    world: &mut W,
+    case: &Case<'_>,
+    page: &mut Page,
+    files: Files<'_>,
+    name: &str,
+    said: Said<'_>,
+) -> Result<Option<View>, Stop>
+    requires allowed { (slot : Slot) (name : List ℕ) → W.allows slot name }
+{
+    match said {
+        Said::Run(_) => Ok(Some(show_run(keys, world, case, page, name)?)),
+        Said::Broken { step, item, .. } => {
+            show_violation(keys, world, case, page, name, item, step)
+        }
+        Said::Trace { kind, at } => {
+            show_refused_trace(case.alloc, world, page, name, kind, at)?;
+            Ok(None)
+        }
+        Said::Unbound(clock) | Said::Ambiguous(clock) => {
+            show_unbound(keys, world, case, page, name, clock)?;
+            Ok(None)
+        }
+        Said::Blocked(lines) => {
+            show_blocked(world, case, page, files, lines)?;
+            Ok(Some(show_run(keys, world, case, page, name)?))
+        }
+        Said::Deadlock(_) => {
+            show_blocked(world, case, page, files, b"")?;
+            Ok(Some(show_run(keys, world, case, page, name)?))
+        }
+        Said::BadLine(line) => {
+            show_bad_line(world, case, page, files, line)?;
+            Ok(None)
+        }
+        Said::Cert { .. } | Said::Other => Ok(None),
+    }
+}
+
+/// Puts that a file can be read only once.
+pub(crate) fn put_once(page: &mut Page, what: &str) -> Result<(), Memory> {
+    page.put_line(&[
+        Piece::Text("  "),
+        Piece::Text(what),
+        Piece::Text(" is no file that can be read twice, so no more is shown"),
+    ])
+}

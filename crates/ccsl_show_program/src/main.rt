@@ -1,0 +1,211 @@
+//! The program: it hands the real words and the real files to `run`, which reports and shows.
+#![tactic(auto)]
+
+use ccsl_base::{CommandWord, HashKeys};
+use ccsl_edge::{FileWorld, Slot};
+use ccsl_pool::NoGate;
+use ccsl_show::{Again, Stop};
+use ccsl_show_top::{Asked, Heard, Listen, Outcome, run, told};
+use std::alloc::AllocError;
+use std::io::Read;
+use std::process::ExitCode;
+use std::random::RandomSource;
+use std::{env, fs, io};
+
+// Nothing is said of what is read.
+#[derive(Drop)]
+struct Silent;
+
+impl Listen for Silent {
+    fn read(&mut self, _slot: Slot, _count: usize) {}
+}
+
+// The words behind the program's name.
+fn asked(rt: &HostRuntime) -> io::Result<Asked> {
+    let mut asked = Asked::new(rt.alloc());
+    for word in env::args(rt)?.skip(1) {
+        if asked.add(rt.alloc(), CommandWord::new(word)).is_err() {
+            return Err(io::Error::from(AllocError));
+        }
+    }
+    Ok(asked)
+}
+
+// Keys that no file can be made for.
+fn drawn_keys(rt: &HostRuntime) -> io::Result<HashKeys> {
+    let mut first = [0; 8];
+    let mut second = [0; 8];
+    rt.fill_bytes(&mut first)?;
+    rt.fill_bytes(&mut second)?;
+    Ok(HashKeys {
+        first: u64::from_le_bytes(first),
+        second: u64::from_le_bytes(second),
+    })
+}
+
+// The value of a key.
+fn value_of<'a>(words: &'a [CommandWord], key: &str) -> Option<&'a str> {
+    for word in words {
+        if let Some((name, value)) = word.as_str().split_once('=')
+            && name == key
+        {
+            return Some(value);
+        }
+    }
+    None
+}
+
+// Whether a file can be read once more: one that lies on a disk, and is not what stands at standard input.
+fn is_again(rt: &HostRuntime, words: &[CommandWord], key: &str) -> bool {
+    match value_of(words, key) {
+        Some("/dev/stdin") => false,
+        Some(name) => match fs::metadata(rt, name) {
+            Ok(found) => found.is_file(),
+            Err(_) => false,
+        },
+        None => true,
+    }
+}
+
+// The words, or the status where there are none to be had.
+fn asked_or_status(rt: &HostRuntime) -> Result<Asked, u8> {
+    match asked(rt) {
+        Ok(asked) => Ok(asked),
+        Err(error) => {
+            if error.kind() == io::ErrorKind::OutOfMemory {
+                let _ = eprintln!(rt; "ccsl-show: no memory");
+                return Err(6);
+            }
+            let _ = eprintln!(rt; "ccsl-show: a word is not UTF-8");
+            Err(2)
+        }
+    }
+}
+
+// Says on standard error why not all was done.
+fn complain(rt: &HostRuntime, words: &[CommandWord], outcome: &Outcome) {
+    if outcome.status == 5 {
+        put_failure(rt, words);
+    }
+    if outcome.status == 6 || outcome.shown == Err(Stop::Memory) {
+        let _ = eprintln!(rt; "ccsl-show: no memory");
+    }
+    if outcome.shown == Err(Stop::Fault) {
+        let _ = eprintln!(rt; "ccsl-show: a file failed, or is another than before");
+    }
+}
+
+// Whether a command writes the file of a key.
+fn is_written(command: &str, key: &str) -> bool {
+    match command {
+        "simulate" => key != "spec",
+        "explain" => key == "cert",
+        _ => false,
+    }
+}
+
+// Says what the system says of a file that is to be read, if it says something.
+fn put_unread(rt: &HostRuntime, key: &str, name: &str) -> bool {
+    let mut file = match fs::open(rt, name) {
+        Ok(file) => file,
+        Err(error) => {
+            let _ = eprintln!(rt; "ccsl-show: {key}={name}: opening failed: {error}");
+            return true;
+        }
+    };
+    let mut piece = [0u8; 1];
+    match file.read(&mut piece) {
+        Ok(_) => false,
+        Err(error) => {
+            let _ = eprintln!(rt; "ccsl-show: {key}={name}: reading failed: {error}");
+            true
+        }
+    }
+}
+
+// The folder that a file is to lie in.
+fn folder_of(name: &str) -> &str {
+    match name.rsplit_once('/') {
+        Some(("", _)) => "/",
+        Some((folder, _)) => folder,
+        None => ".",
+    }
+}
+
+// Says what the system says of a file that is to be written, if it says something.
+fn put_unwritten(rt: &HostRuntime, key: &str, name: &str) -> bool {
+    if let Err(error) = fs::metadata(rt, folder_of(name)) {
+        let _ = eprintln!(rt; "ccsl-show: {key}={name}: its folder: {error}");
+        return true;
+    }
+    match fs::metadata(rt, name) {
+        Ok(found) => {
+            if found.is_dir() {
+                let _ = eprintln!(rt; "ccsl-show: {key}={name}: writing failed: it is a folder");
+                return true;
+            }
+            false
+        }
+        Err(_) => false,
+    }
+}
+
+// Says which file failed, where the system still says so.
+fn put_failure(rt: &HostRuntime, words: &[CommandWord]) {
+    let command = match words.first() {
+        Some(word) => word.as_str(),
+        None => "",
+    };
+    let mut is_said = false;
+    for key in ["spec", "trace", "cert"] {
+        if let Some(name) = value_of(words, key) {
+            let says = if is_written(command, key) {
+                put_unwritten(rt, key, name)
+            } else {
+                put_unread(rt, key, name)
+            };
+            is_said = is_said || says;
+        }
+    }
+    if !is_said {
+        let _ = eprintln!(rt; "ccsl-show: a file failed");
+    }
+}
+
+fn main(rt: HostRuntime) -> ExitCode {
+    let asked = match asked_or_status(&rt) {
+        Ok(asked) => asked,
+        Err(status) => return ExitCode::from(status),
+    };
+    let words = asked.words.as_slice();
+    if let Some(text) = told(words) {
+        let _ = rt.print(text);
+        return ExitCode::from(0);
+    }
+    let Ok(keys) = drawn_keys(&rt) else {
+        let _ = eprintln!(rt; "ccsl-show: no random numbers");
+        return ExitCode::from(5);
+    };
+    let again = Again {
+        spec: is_again(&rt, words, "spec"),
+        trace: is_again(&rt, words, "trace"),
+    };
+    let mut out = FileWorld::new(&rt, rt.alloc());
+    let mut world = Heard::new(rt.alloc(), FileWorld::new(&rt, rt.alloc()), Silent);
+    let outcome = run(
+        &rt,
+        rt.alloc(),
+        keys,
+        words,
+        asked.own(),
+        again,
+        &mut world,
+        &mut out,
+        &NoGate,
+    );
+    // A reader that has gone, as `head`, wants to hear no more.
+    if !world.world.has_lost_reader() {
+        complain(&rt, words, &outcome);
+    }
+    ExitCode::from(outcome.status)
+}

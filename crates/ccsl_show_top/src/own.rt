@@ -1,0 +1,68 @@
+//! The words that are this program's own.
+
+use ccsl_base::{CommandWord, Memory};
+use ccsl_show::Own;
+use std::alloc::Global;
+
+/// The words for `ccsl`, and what the others ask for.
+#[derive(Drop)]
+pub struct Asked {
+    pub words: Vec<CommandWord>,
+    waves: Option<String>,
+    picture: Option<String>,
+}
+
+fn text_of(text: &Option<String>) -> Option<&str> {
+    match text {
+        Some(text) => Some(text.as_str()),
+        None => None,
+    }
+}
+
+fn copied(alloc: Global, text: &str) -> Result<String, Memory> {
+    Ok(String::from_str(alloc, text)?)
+}
+
+// The value of a key in a word.
+fn value_of<'a>(word: &'a str, key: &str) -> Option<&'a str> {
+    match word.split_once('=') {
+        Some((name, value)) if name == key && !value.is_empty() => Some(value),
+        _ => None,
+    }
+}
+
+impl Asked {
+    pub fn new(alloc: Global) -> Asked {
+        Asked {
+            words: Vec::new(alloc),
+            waves: None,
+            picture: None,
+        }
+    }
+
+    /// One more word. A key of this program's own is taken once; a second one is left to `ccsl`, which refuses it.
+    pub fn add(&mut self, alloc: Global, word: CommandWord) -> Result<(), Memory> {
+        if self.waves.is_none()
+            && let Some(name) = value_of(word.as_str(), "waves")
+        {
+            self.waves = Some(copied(alloc, name)?);
+            return Ok(());
+        }
+        if self.picture.is_none()
+            && let Some(name) = value_of(word.as_str(), "picture")
+        {
+            self.picture = Some(copied(alloc, name)?);
+            return Ok(());
+        }
+        self.words.push(word)?;
+        Ok(())
+    }
+
+    /// What is asked for beside the answer.
+    pub fn own(&self) -> Own<'_> {
+        Own {
+            waves: text_of(&self.waves),
+            picture: text_of(&self.picture),
+        }
+    }
+}
