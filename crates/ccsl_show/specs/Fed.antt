@@ -5,8 +5,6 @@ use Rattle.ccsl_edge.specs.World.{State, Told}
 use Rattle.ccsl_vcd.specs.declared.limits.Limits.{Limits}
 use Rattle.ccsl_vcd.specs.Binding.{Wanted}
 use Rattle.ccsl_trace.specs.Feeding.{Feeding, Feeds}
-use Rattle.ccsl_trace.specs.declared.next.Next.{Next}
-use Rattle.ccsl_trace.specs.declared.next.Next.TheVariants.{Bound, Rows, Ended}
 
 -- it has taken some bytes since some state of the world, and handed out some rows
 pub record IsFed (told : Told) (now : State) (feed : Feeding) : Type 0 where
@@ -15,9 +13,3 @@ pub record IsFed (told : Told) (now : State) (feed : Feeding) : Type 0 where
   pub start : State
   pub rows : List Row
   pub feeds : Feeds told wanted limits start now feed rows
-
--- the trace has not ended, and so it may be asked for more
-abbrev pub GoesOn : Told → State → Next → Feeding → Type 0
-GoesOn told now Bound feed = IsFed told now feed
-GoesOn told now Rows feed = IsFed told now feed
-GoesOn told now (Ended n) feed = Unit {0}

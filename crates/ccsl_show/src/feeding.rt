@@ -1,10 +1,10 @@
 //! The rows of a trace, block by block.
 
-ghost use Rattle.std.specs.Prelude.{IfOk};
-ghost use Rattle.ccsl_show.specs.Fed.{IsFed, GoesOn};
+ghost use Rattle.std.specs.Prelude.{◌≡◌, true, IfOk};
+ghost use Rattle.ccsl_show.specs.Fed.{IsFed};
 
 use crate::stop::Stop;
-use ccsl_base::{HashKeys, MAX_FILE_BYTES, MAX_SCOPES, MAX_VARS};
+use ccsl_base::{HashKeys, MAX_FILE_BYTES, MAX_SCOPES, MAX_VARS, Memory};
 use ccsl_edge::World;
 use ccsl_kernel::System;
 use ccsl_trace::{Feed, Next};
@@ -27,16 +27,23 @@ pub(crate) fn open<W: World>(
 ) -> Result<Feed, Stop>
     ensures { IfOk result (λ feed. IsFed W.told (W.state world.now) feed) }
 {
-    Ok(Feed::open(alloc, keys, system, &LIMITS)?)
+    match Feed::open(alloc, keys, system, &LIMITS) {
+        Ok(feed) => Ok(feed),
+        Err(Memory) => Err(Stop::Memory),
+    }
 }
 
-/// Reads on, and answers what the block has.
-pub(crate) fn next<W: World>(feed: &mut Feed, world: &mut W) -> Result<Next, Stop>
+/// Reads on, and answers whether more is to come behind what the block has.
+pub(crate) fn next<W: World>(feed: &mut Feed, world: &mut W) -> Result<bool, Stop>
     requires { IsFed W.told (W.state world.old) feed.old }
-    ensures { IfOk result (λ next. GoesOn W.told (W.state world.new) next feed.new) }
+    ensures { IfOk result (λ more. more ≡ true → IsFed W.told (W.state world.new) feed.new) }
 {
     match feed.next(world) {
-        Ok(next) => Ok(next),
+        Ok(next) => match next {
+            Next::Bound => Ok(true),
+            Next::Rows => Ok(true),
+            Next::Ended(_) => Ok(false),
+        },
         Err(fault) => Err(Stop::from(fault)),
     }
 }

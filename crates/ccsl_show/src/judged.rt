@@ -9,14 +9,13 @@ use crate::feeding::{next, open};
 use crate::follow::Follow;
 use crate::heading::{read_header, scale_of};
 use crate::stop::Stop;
-use ccsl_base::{ClockSet, HashKeys, Memory};
+use ccsl_base::{ClockSet, HashKeys, MAX_CLOCKS, Memory};
 use ccsl_causes::{Step, clock_name, put_cause, put_constraint, put_pending};
 use ccsl_edge::{Slot, World};
 use ccsl_kernel::System;
 use ccsl_page::{Column, Page, Piece, Scale, put_ticks};
 use ccsl_scopes::Header;
 use ccsl_state::Part;
-use ccsl_trace::Next;
 
 /// The most steps that are drawn in front of the one at fault.
 const DRAWN: usize = 10;
@@ -38,9 +37,9 @@ pub(crate) fn follow<'s, W: World>(
     let mut follow = Follow::open(case.alloc, case.system, last)?;
     let mut feed = open(case.alloc, keys, world, case.system)?;
     for _ in 0..u64::MAX {
-        let next = next(&mut feed, world)?;
+        let more = next(&mut feed, world)?;
         follow.take_all(feed.block())?;
-        if follow.is_over() || matches!(next, Next::Ended(_)) {
+        if !more || follow.is_over() {
             break;
         }
     }
@@ -52,7 +51,7 @@ fn clocks_of(system: &System, item: u32) -> ClockSet {
     let mut clocks = ClockSet::empty();
     if item < system.definitions() {
         let clock = system.scope().declared.saturating_add(item);
-        if clock < 1024 {
+        if clock < MAX_CLOCKS {
             clocks.insert(clock);
         }
         return clocks;
@@ -60,7 +59,7 @@ fn clocks_of(system: &System, item: u32) -> ClockSet {
     let number = item - system.definitions();
     if number < system.constraints() {
         let constraint = system.constraint(number);
-        if constraint.left < 1024 && constraint.right < 1024 {
+        if constraint.left < MAX_CLOCKS && constraint.right < MAX_CLOCKS {
             clocks.insert(constraint.left);
             clocks.insert(constraint.right);
         }
@@ -86,7 +85,7 @@ fn rows_of(case: &Case<'_>, own: &ClockSet) -> Result<Vec<u32>, Memory> {
 fn set_of(rows: &[u32]) -> ClockSet {
     let mut set = ClockSet::empty();
     for clock in rows {
-        if *clock < 1024 {
+        if *clock < MAX_CLOCKS {
             set.insert(*clock);
         }
     }

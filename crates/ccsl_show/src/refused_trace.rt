@@ -83,7 +83,8 @@ fn search<W: World>(alloc: Global, world: &mut W, name: &str, at: u64) -> Result
     requires { W.allows Trace name.now }
 {
     world.open_in(Slot::Trace, name)?;
-    let mut piece = vec![in alloc; 0u8; PIECE]?;
+    let mut buffer = vec![in alloc; 0u8; PIECE]?;
+    let piece = buffer.as_mut_slice();
     let mut search = Search {
         left: at,
         place: Place { line: 1, column: 1 },
@@ -95,7 +96,7 @@ fn search<W: World>(alloc: Global, world: &mut W, name: &str, at: u64) -> Result
         if search.is_over {
             break;
         }
-        let count = world.read(Slot::Trace, piece.as_mut_slice())?;
+        let count = world.read(Slot::Trace, piece)?;
         if count == 0 {
             break;
         }

@@ -14,7 +14,6 @@ use ccsl_causes::clock_name;
 use ccsl_edge::{Slot, World, write_all};
 use ccsl_kernel::System;
 use ccsl_page::{Page, Piece};
-use ccsl_trace::Next;
 use std::alloc::Global;
 
 /// How many bytes are written at once.
@@ -111,9 +110,9 @@ fn write_steps<W: World, O: World>(
     let mut follow = Follow::open(case.alloc, case.system, None)?;
     let mut feed = open(case.alloc, keys, world, case.system)?;
     for _ in 0..u64::MAX {
-        let next = next(&mut feed, world)?;
+        let more = next(&mut feed, world)?;
         put_block(out, page, &mut follow, feed.block())?;
-        if matches!(next, Next::Ended(_)) {
+        if !more {
             break;
         }
     }

@@ -7,17 +7,58 @@ use ccsl_pool::NoGate;
 use ccsl_show::{Again, Stop};
 use ccsl_show_top::{Asked, Heard, Listen, Outcome, run, told};
 use std::alloc::AllocError;
-use std::io::Read;
+use std::io::{IsTerminal, Read};
+use std::os::unix::fs::MetadataExt;
 use std::process::ExitCode;
 use std::random::RandomSource;
+use std::time::Instant;
 use std::{env, fs, io};
 
-// Nothing is said of what is read.
+/// Says on standard error how far the reading of a trace is, once that has taken two seconds.
 #[derive(Drop)]
-struct Silent;
+struct Progress<'a> {
+    rt: &'a HostRuntime,
+    start: Option<Instant>,
+    // how many bytes the trace has, and how many were read, once or once more
+    size: u64,
+    read: u64,
+    // after how many seconds it spoke last
+    spoke: u64,
+}
 
-impl Listen for Silent {
-    fn read(&mut self, _slot: Slot, _count: usize) {}
+impl Progress<'_> {
+    fn say(&self, seconds: u64) {
+        let size = self.size.max(1);
+        let (read, again) = if self.read > size {
+            (self.read - size, " once more")
+        } else {
+            (self.read, "")
+        };
+        let read = read.min(size);
+        let percent = read.saturating_mul(100) / size;
+        let left = (size - read).saturating_mul(seconds) / self.read.max(1);
+        let _ = eprintln!(self.rt; "ccsl-show: {percent}% read{again}, about {left} s to go");
+    }
+}
+
+impl Listen for Progress<'_> {
+    fn read(&mut self, slot: Slot, count: usize) {
+        if slot != Slot::Trace {
+            return;
+        }
+        self.read = self.read.saturating_add(count as u64);
+        let Some(start) = self.start else {
+            return;
+        };
+        let Ok(gone) = start.elapsed(self.rt) else {
+            return;
+        };
+        let seconds = gone.as_secs();
+        if seconds >= self.spoke.saturating_add(2) {
+            self.spoke = seconds;
+            self.say(seconds);
+        }
+    }
 }
 
 // The words behind the program's name.
@@ -83,7 +124,7 @@ fn asked_or_status(rt: &HostRuntime) -> Result<Asked, u8> {
 }
 
 // Says on standard error why not all was done.
-fn complain(rt: &HostRuntime, words: &[CommandWord], outcome: &Outcome) {
+fn complain(rt: &HostRuntime, words: &[CommandWord], outcome: Outcome) {
     if outcome.status == 5 {
         put_failure(rt, words);
     }
@@ -93,6 +134,43 @@ fn complain(rt: &HostRuntime, words: &[CommandWord], outcome: &Outcome) {
     if outcome.shown == Err(Stop::Fault) {
         let _ = eprintln!(rt; "ccsl-show: a file failed, or is another than before");
     }
+}
+
+// How many bytes the file of a key has.
+fn size_of_file(rt: &HostRuntime, words: &[CommandWord], key: &str) -> u64 {
+    match value_of(words, key) {
+        Some(name) => match fs::metadata(rt, name) {
+            Ok(found) => found.len(),
+            Err(_) => 0,
+        },
+        None => 0,
+    }
+}
+
+// Whether two names lead to one file.
+fn is_one_file(rt: &HostRuntime, one: &str, other: &str) -> bool {
+    if one == other {
+        return true;
+    }
+    match (fs::metadata(rt, one), fs::metadata(rt, other)) {
+        (Ok(a), Ok(b)) => a.dev() == b.dev() && a.ino() == b.ino(),
+        _ => false,
+    }
+}
+
+// Whether a file that is to be written beside the answer is one of the others.
+fn is_taken(rt: &HostRuntime, words: &[CommandWord], file: Option<&str>) -> bool {
+    let Some(file) = file else {
+        return false;
+    };
+    for key in ["spec", "trace", "cert"] {
+        if let Some(name) = value_of(words, key)
+            && is_one_file(rt, name, file)
+        {
+            return true;
+        }
+    }
+    false
 }
 
 // Whether a command writes the file of a key.
@@ -172,29 +250,72 @@ fn put_failure(rt: &HostRuntime, words: &[CommandWord]) {
     }
 }
 
+// What is told before an answer: in a session at a terminal what it takes.
+fn greet(rt: &HostRuntime, words: &[CommandWord]) {
+    if let Some(first) = words.first()
+        && first.as_str() == "session"
+        && rt.stdin().is_terminal()
+    {
+        let _ = eprintln!(rt;
+            "ccsl-show: lines are: fire NAME.., step, allowed, back, trace; control-D ends"
+        );
+    }
+}
+
+// Which of the files can be read once more.
+fn again(rt: &HostRuntime, words: &[CommandWord]) -> Again {
+    Again {
+        spec: is_again(rt, words, "spec"),
+        trace: is_again(rt, words, "trace"),
+    }
+}
+
+// What says how far the reading of the trace is.
+fn progress<'a>(rt: &'a HostRuntime, words: &[CommandWord]) -> Progress<'a> {
+    Progress {
+        rt,
+        start: Instant::now(rt).ok(),
+        size: size_of_file(rt, words, "trace"),
+        read: 0,
+        spoke: 0,
+    }
+}
+
+// The status where the words ask for no answer.
+fn told_or_refused(rt: &HostRuntime, asked: &Asked) -> Option<u8> {
+    let words = asked.words.as_slice();
+    if let Some(text) = told(words) {
+        let _ = rt.print(text);
+        return Some(0);
+    }
+    let own = asked.own();
+    if is_taken(rt, words, own.waves) || is_taken(rt, words, own.picture) {
+        let _ = eprintln!(rt; "ccsl-show: waves= or picture= names a file of the other words");
+        return Some(2);
+    }
+    None
+}
+
 fn main(rt: HostRuntime) -> ExitCode {
     let asked = match asked_or_status(&rt) {
         Ok(asked) => asked,
         Err(status) => return ExitCode::from(status),
     };
-    let words = asked.words.as_slice();
-    if let Some(text) = told(words) {
-        let _ = rt.print(text);
-        return ExitCode::from(0);
+    if let Some(status) = told_or_refused(&rt, &asked) {
+        return ExitCode::from(status);
     }
     let Ok(keys) = drawn_keys(&rt) else {
         let _ = eprintln!(rt; "ccsl-show: no random numbers");
         return ExitCode::from(5);
     };
-    let again = Again {
-        spec: is_again(&rt, words, "spec"),
-        trace: is_again(&rt, words, "trace"),
-    };
-    let mut out = FileWorld::new(&rt, rt.alloc());
-    let mut world = Heard::new(rt.alloc(), FileWorld::new(&rt, rt.alloc()), Silent);
+    let (words, alloc) = (asked.words.as_slice(), rt.alloc());
+    greet(&rt, words);
+    let mut out = FileWorld::new(&rt, alloc);
+    let mut world = Heard::new(alloc, FileWorld::new(&rt, alloc), progress(&rt, words));
+    let again = again(&rt, words);
     let outcome = run(
         &rt,
-        rt.alloc(),
+        alloc,
         keys,
         words,
         asked.own(),
@@ -205,7 +326,7 @@ fn main(rt: HostRuntime) -> ExitCode {
     );
     // A reader that has gone, as `head`, wants to hear no more.
     if !world.world.has_lost_reader() {
-        complain(&rt, words, &outcome);
+        complain(&rt, words, outcome);
     }
     ExitCode::from(outcome.status)
 }

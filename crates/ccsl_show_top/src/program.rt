@@ -12,7 +12,7 @@ use ccsl_command::words as command_line;
 use ccsl_edge::{Slot, World, write_all};
 use ccsl_page::Page;
 use ccsl_pool::Gate;
-use ccsl_show::{Again, Asking, Own, Stop, said, show};
+use ccsl_show::{Again, Asking, Own, Said, Stop, said, show};
 use std::alloc::Global;
 use std::thread::Threads;
 
@@ -38,6 +38,31 @@ fn show_behind<W: World, O: World>(
     shown
 }
 
+// What stands behind the answer with this status, where there is one.
+fn shown_behind<W: World, O: World, L: Listen>(
+    asking: Asking<'_>,
+    world: &mut Heard<W, L>,
+    out: &mut O,
+    words: &[CommandWord],
+    status: u8,
+) -> Result<(), Stop>
+    requires allowed { (slot : Slot) (name : List ℕ) → W.allows slot name }
+    requires all { (slot : Slot) (name : List ℕ) → O.allows slot name }
+{
+    if status == 5 || status == 6 {
+        return Ok(());
+    }
+    let report = Vec::from_slice(asking.alloc, world.said())?;
+    let asking = Asking {
+        alloc: asking.alloc,
+        keys: asking.keys,
+        own: asking.own,
+        again: asking.again,
+        said: said(report.as_slice()),
+    };
+    show_behind(&asking, world, out, words)
+}
+
 /// What a run has come to: the exit status of `ccsl`, and whether all was shown that there is.
 #[derive(Clone, Copy, Debug, PartialEq, Eq)]
 pub struct Outcome {
@@ -60,29 +85,17 @@ pub fn run<R: Threads + Sync, W: World, O: World, L: Listen, G: Gate>(
 ) -> Outcome
     requires allowed { (slot : Slot) (name : List ℕ) → W.allows slot name }
     requires all { (slot : Slot) (name : List ℕ) → O.allows slot name }
+    // The first that is reported, and the status, are those of `ccsl`.
     ensures { (mid : State) × Headline W.told words.now result.status (W.state world.old.world) mid }
 {
     let status = ccsl_top::run(rt, alloc, keys, words, world, gate);
-    if status == 5 || status == 6 {
-        return Outcome {
-            status,
-            shown: Ok(()),
-        };
-    }
-    let mut report = Vec::new(alloc);
-    if report.extend_from_slice(world.said()).is_err() {
-        return Outcome {
-            status,
-            shown: Err(Stop::Memory),
-        };
-    }
     let asking = Asking {
         alloc,
         keys,
         own,
         again,
-        said: said(report.as_slice()),
+        said: Said::Other,
     };
-    let shown = show_behind(&asking, &mut world.world, out, words);
+    let shown = shown_behind(asking, world, out, words, status);
     Outcome { status, shown }
 }
