@@ -78,8 +78,11 @@ impl<'a> Case<'a> {
     ) -> Result<(), Memory> {
         let trail = origins(self.alloc, self.library, self.file, self.wanted(item))?;
         for (i, origin) in trail.iter().enumerate() {
-            let is_last = i.saturating_add(1) == trail.len();
-            self.put_origin(page, *origin, if is_last { said } else { &[] })?;
+            if i.saturating_add(1) == trail.len() {
+                self.put_origin(page, *origin, said)?;
+            } else {
+                self.put_origin(page, *origin, &[])?;
+            }
         }
         Ok(())
     }

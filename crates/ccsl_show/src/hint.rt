@@ -18,7 +18,7 @@ enum Met {
     Symbol(u8),
 }
 
-fn met(token: Option<&Token>) -> Met {
+fn kind_of(token: Option<&Token>) -> Met {
     match token {
         None => Met::Nothing,
         Some(token) => match &token.kind {
@@ -42,7 +42,7 @@ fn index_at(tokens: &[Token], at: usize) -> usize {
 // The token so many places in front of another.
 fn before(tokens: &[Token], index: usize, places: usize) -> Met {
     match index.checked_sub(places) {
-        Some(i) => met(tokens.get(i)),
+        Some(i) => kind_of(tokens.get(i)),
         None => Met::Nothing,
     }
 }
@@ -104,7 +104,7 @@ fn ends_operand(previous: Met) -> bool {
 fn follows_operator(tokens: &[Token], index: usize) -> bool {
     let mut depth = 0u32;
     for i in (0..index.min(tokens.len())).rev() {
-        match met(tokens.get(i)) {
+        match kind_of(tokens.get(i)) {
             Met::Symbol(b')') => depth = depth.saturating_add(1),
             Met::Symbol(b'(') => {
                 if depth == 0 {
@@ -132,7 +132,7 @@ fn put_reserved(page: &mut Page, word: Reserved) -> Result<(), Memory> {
 fn is_first_version(tokens: &[Token]) -> bool {
     match tokens {
         [first, second, ..] => {
-            met(Some(first)) == Met::Word(Reserved::Ccsl)
+            kind_of(Some(first)) == Met::Word(Reserved::Ccsl)
                 && matches!(second.kind, TokenKind::Num(1))
         }
         _ => false,
@@ -187,7 +187,7 @@ fn put_syntax(page: &mut Page, tokens: &[Token], index: usize) -> Result<(), Mem
     if index == 0 {
         return page.put(&[Piece::Text("a specification begins with `ccsl 1;` or `ccsl 2;`")]);
     }
-    match met(tokens.get(index)) {
+    match kind_of(tokens.get(index)) {
         Met::Nothing => page.put(&[Piece::Text("the text ends too early: is a `}` missing?")]),
         Met::Word(word) => put_word(page, tokens, index, word),
         Met::Name => put_name(page, tokens, index),

@@ -24,7 +24,7 @@ const DRAWN: usize = 10;
 const ROWS: usize = 16;
 
 /// Follows a trace to its last row, or to a last step.
-pub(crate) fn follow<'s, W: World>(
+pub(crate) fn followed<'s, W: World>(
     keys: HashKeys,
     world: &mut W,
     case: &Case<'s>,
@@ -165,6 +165,15 @@ fn ticks_word(count: u64) -> &'static str {
     if count == 1 { " tick" } else { " ticks" }
 }
 
+// What stands in front of the variable of a clock that is declared, or defined.
+fn bound_word(is_declared: bool) -> &'static str {
+    if is_declared {
+        ", is "
+    } else {
+        ", recorded as "
+    }
+}
+
 // A clock with its ticks, and the variable that it is bound to.
 fn put_clock(
     page: &mut Page,
@@ -185,12 +194,8 @@ fn put_clock(
     if let Some((header, bindings)) = bound
         && let Some(variable) = bindings.of(header, clock)
     {
-        let text = if clock < case.system.scope().declared {
-            ", is "
-        } else {
-            ", recorded as "
-        };
-        page.put(&[Piece::Text(text)])?;
+        let is_declared = clock < case.system.scope().declared;
+        page.put(&[Piece::Text(bound_word(is_declared))])?;
         put_path(case.alloc, page, variable)?;
     }
     page.put_line(&[])
@@ -293,7 +298,7 @@ pub(crate) fn show_broken<W: World>(
 {
     let header = read_header(case.alloc, keys, world, name)?;
     let scale = header_scale(&header);
-    let follow = follow(keys, world, case, name, Some(step))?;
+    let follow = followed(keys, world, case, name, Some(step))?;
     let rows = rows_of(case, &clocks_of(case.system, item))?;
     put_fault(page, case, item, &follow, scale)?;
     let columns = follow.window(&set_of(rows.as_slice()), DRAWN)?;
@@ -348,7 +353,7 @@ pub(crate) fn show_run<W: World>(
 {
     let header = read_header(case.alloc, keys, world, name)?;
     let scale = header_scale(&header);
-    let follow = follow(keys, world, case, name, None)?;
+    let follow = followed(keys, world, case, name, None)?;
     let rows = written_clocks(case)?;
     put_clocks(page, case, rows.as_slice(), &follow, header.as_ref())?;
     put_silent(page, case, &follow)?;

@@ -13,11 +13,11 @@ mod judged;
 mod picture;
 mod refused_trace;
 pub mod said;
-mod show;
 pub mod stop;
 mod text;
+mod traced;
 mod waves;
 
 pub use behind::{Again, Asking, Own, show};
-pub use said::{Said, said};
+pub use said::{Said, read_report};
 pub use stop::Stop;

@@ -79,7 +79,7 @@ impl Search {
     }
 }
 
-fn search<W: World>(alloc: Global, world: &mut W, name: &str, at: u64) -> Result<Search, Stop>
+fn searched<W: World>(alloc: Global, world: &mut W, name: &str, at: u64) -> Result<Search, Stop>
     requires { W.allows Trace name.now }
 {
     world.open_in(Slot::Trace, name)?;
@@ -147,7 +147,7 @@ pub(crate) fn show_refused_trace<W: World>(
 ) -> Result<(), Stop>
     requires { W.allows Trace name.now }
 {
-    let search = search(alloc, world, name, at)?;
+    let search = searched(alloc, world, name, at)?;
     let said = match foreign(search.front.as_slice()) {
         Some(said) => said,
         None => known(kind),

@@ -158,7 +158,7 @@ fn of_line<'a>(line: &'a [u8], rest: &'a [u8]) -> Option<Said<'a>> {
 }
 
 /// What a report said.
-pub fn said(report: &[u8]) -> Said<'_> {
+pub fn read_report(report: &[u8]) -> Said<'_> {
     let (line, rest) = parted(report, b'\n');
     of_line(line, rest).unwrap_or(Said::Other)
 }

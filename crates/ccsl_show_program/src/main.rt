@@ -62,7 +62,7 @@ impl Listen for Progress<'_> {
 }
 
 // The words behind the program's name.
-fn asked(rt: &HostRuntime) -> io::Result<Asked> {
+fn asked_words(rt: &HostRuntime) -> io::Result<Asked> {
     let mut asked = Asked::new(rt.alloc());
     for word in env::args(rt)?.skip(1) {
         if asked.add(rt.alloc(), CommandWord::new(word)).is_err() {
@@ -110,7 +110,7 @@ fn is_again(rt: &HostRuntime, words: &[CommandWord], key: &str) -> bool {
 
 // The words, or the status where there are none to be had.
 fn asked_or_status(rt: &HostRuntime) -> Result<Asked, u8> {
-    match asked(rt) {
+    match asked_words(rt) {
         Ok(asked) => Ok(asked),
         Err(error) => {
             if error.kind() == io::ErrorKind::OutOfMemory {
@@ -263,7 +263,7 @@ fn greet(rt: &HostRuntime, words: &[CommandWord]) {
 }
 
 // Which of the files can be read once more.
-fn again(rt: &HostRuntime, words: &[CommandWord]) -> Again {
+fn again_of(rt: &HostRuntime, words: &[CommandWord]) -> Again {
     Again {
         spec: is_again(rt, words, "spec"),
         trace: is_again(rt, words, "trace"),
@@ -271,7 +271,7 @@ fn again(rt: &HostRuntime, words: &[CommandWord]) -> Again {
 }
 
 // What says how far the reading of the trace is.
-fn progress<'a>(rt: &'a HostRuntime, words: &[CommandWord]) -> Progress<'a> {
+fn listener<'a>(rt: &'a HostRuntime, words: &[CommandWord]) -> Progress<'a> {
     Progress {
         rt,
         start: Instant::now(rt).ok(),
@@ -311,8 +311,8 @@ fn main(rt: HostRuntime) -> ExitCode {
     let (words, alloc) = (asked.words.as_slice(), rt.alloc());
     greet(&rt, words);
     let mut out = FileWorld::new(&rt, alloc);
-    let mut world = Heard::new(alloc, FileWorld::new(&rt, alloc), progress(&rt, words));
-    let again = again(&rt, words);
+    let mut world = Heard::new(alloc, FileWorld::new(&rt, alloc), listener(&rt, words));
+    let again = again_of(&rt, words);
     let outcome = run(
         &rt,
         alloc,

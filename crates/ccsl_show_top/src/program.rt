@@ -1,6 +1,6 @@
 //! The program's one call.
 
-ghost use Rattle.std.specs.Prelude.{◌×◌, ℕ, List};
+ghost use Rattle.std.specs.Prelude.{ℕ, List};
 ghost use Rattle.ccsl_edge.specs.declared.slot.Slot.{Slot};
 ghost use Rattle.ccsl_edge.specs.World.{State};
 ghost use Rattle.ccsl_top.specs.Headline.{Headline};
@@ -12,7 +12,7 @@ use ccsl_command::words as command_line;
 use ccsl_edge::{Slot, World, write_all};
 use ccsl_page::Page;
 use ccsl_pool::Gate;
-use ccsl_show::{Again, Asking, Own, Said, Stop, said, show};
+use ccsl_show::{Again, Asking, Own, Said, Stop, read_report, show};
 use std::alloc::Global;
 use std::thread::Threads;
 
@@ -58,7 +58,7 @@ fn shown_behind<W: World, O: World, L: Listen>(
         keys: asking.keys,
         own: asking.own,
         again: asking.again,
-        said: said(report.as_slice()),
+        said: read_report(report.as_slice()),
     };
     show_behind(&asking, world, out, words)
 }

@@ -1,5 +1,4 @@
 -- The feed may be asked for more, and the file stays open.
-use Rattle.std.proofs.Common.{◌×◌}
 use Rattle.ccsl_show.specs.Fed.{IsFed}
 use Rattle.ccsl_show.specs.Writing.{IsOpen}
 use Rattle.ccsl_show.proofs.waves.write_steps.Given as goal
