@@ -1,1 +1,5 @@
 pub mod Lexing
+pub mod Ahead
+pub mod Bits
+pub mod Story
+pub mod Paths

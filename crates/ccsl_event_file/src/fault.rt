@@ -34,18 +34,33 @@ pub enum EventFault {
 }
 
 impl From<AllocError> for EventFault {
+    ghost use Rattle.std.specs.Prelude.{◌≡◌};
+    ghost use Rattle.ccsl_event_file.specs.declared.fault.EventFault.TheVariants.{Memory};
+
+    ghost from_gives = { λ _ e. e ≡ Memory };
+
     fn from(_error: AllocError) -> EventFault {
         EventFault::Memory
     }
 }
 
 impl<T: Drop> From<AllocFailed<T>> for EventFault {
+    ghost use Rattle.std.specs.Prelude.{◌≡◌};
+    ghost use Rattle.ccsl_event_file.specs.declared.fault.EventFault.TheVariants.{Memory};
+
+    ghost from_gives = { λ _ e. e ≡ Memory };
+
     fn from(_failed: AllocFailed<T>) -> EventFault {
         EventFault::Memory
     }
 }
 
 impl From<Memory> for EventFault {
+    ghost use Rattle.std.specs.Prelude.{◌≡◌};
+    ghost use Rattle.ccsl_event_file.specs.declared.fault.EventFault.TheVariants as faults;
+
+    ghost from_gives = { λ _ e. e ≡ faults.Memory };
+
     fn from(_error: Memory) -> EventFault {
         EventFault::Memory
     }

@@ -4,6 +4,7 @@
 pub mod event;
 pub mod fault;
 pub(crate) mod parser;
+pub(crate) mod path;
 pub(crate) mod statement;
 pub(crate) mod token;
 pub(crate) mod value;

@@ -1,18 +1,21 @@
-//! Reading the parts of a statement.
+//! Reading the tokens of a statement.
 
-use crate::event::{Condition, Located};
+ghost use Rattle.std.specs.Prelude.{◌≡◌, ◌≤◌, ◌<◌, IsTrue, false, length};
+ghost use Rattle.ccsl_event_file.specs.Fronts.{seen, is_blank};
+ghost use Rattle.ccsl_event_file.specs.File.{is_word, is_mark, text_of};
+ghost use Rattle.ccsl_event_file.specs.Parsing.{ahead, place_of, next_token, behind_next, Takes, Expects, ReadsValue};
+
 use crate::fault::EventFault;
 use crate::token::{Token, skip_blank, token_at_front};
-use crate::value::{of_letters, of_word};
-use ccsl_base::decimal;
-use ccsl_scopes::{Path, Select};
 use std::alloc::Global;
 
 /// The text that is left to read. No white space stands at its front.
 pub(crate) struct Parser<'a> {
-    alloc: Global,
-    len: usize,
-    rest: &'a [u8],
+    pub(crate) alloc: Global,
+    pub(crate) len: usize,
+    pub(crate) rest: &'a [u8],
+    ghost bare: { is_blank rest.now ≡ false },
+    ghost within: { length rest.now ≤ len },
 }
 
 impl Drop for Parser<'_> {
@@ -26,7 +29,10 @@ impl Drop for Parser<'_> {
 }
 
 impl<'a> Parser<'a> {
-    pub(crate) fn new(alloc: Global, text: &'a [u8]) -> Parser<'a> {
+    pub(crate) fn new(alloc: Global, text: &'a [u8]) -> Parser<'a>
+        ensures len { result.len ≡ length text.now }
+        ensures ahead { ahead result.len result.rest.now ≡ ahead (length text.now) text.now }
+    {
         Parser {
             alloc,
             len: text.len(),
@@ -34,141 +40,102 @@ impl<'a> Parser<'a> {
         }
     }
 
-    pub(crate) fn allocator(&self) -> Global {
-        self.alloc
-    }
-
     /// The place of the next token.
-    pub(crate) fn at(&self) -> u64 {
-        self.len.saturating_sub(self.rest.len()) as u64
+    pub(crate) fn at(&self) -> u64
+        ensures { result ≡ place_of self.now.len (ahead self.now.len self.now.rest.now) }
+    {
+        (self.len - self.rest.len()) as u64
     }
 
-    /// At most so many tokens are left.
-    pub(crate) fn most(&self) -> usize {
-        self.rest.len()
-    }
-
-    pub(crate) fn syntax(&self) -> EventFault {
+    pub(crate) fn syntax(&self) -> EventFault
+        ensures { result ≡ EventFault.Syntax (place_of self.now.len (ahead self.now.len self.now.rest.now)) }
+    {
         EventFault::Syntax { at: self.at() }
     }
 
-    pub(crate) fn peek(&self) -> Token<'a> {
+    pub(crate) fn peek(&self) -> Token<'a>
+        ensures { seen result ≡ next_token (ahead self.now.len self.now.rest.now) }
+    {
         token_at_front(self.rest).0
     }
 
-    pub(crate) fn advance(&mut self) {
+    pub(crate) fn advance(&mut self)
+        ensures len { self.new.len ≡ self.old.len }
+        ensures ahead { ahead self.new.len self.new.rest.now ≡ behind_next (ahead self.old.len self.old.rest.now) }
+        ensures shorter { 0 < length self.old.rest.now → length self.new.rest.now < length self.old.rest.now }
+        ensures within { length self.new.rest.now ≤ length self.old.rest.now }
+    {
         self.rest = skip_blank(token_at_front(self.rest).1);
     }
 
-    /// Takes the next token where it is this one.
-    pub(crate) fn takes(&mut self, token: Token<'_>) -> bool {
-        if self.peek() != token {
-            return false;
+    /// Takes the next token where it is this mark.
+    pub(crate) fn takes_mark(&mut self, mark: u8) -> bool
+        ensures len { self.new.len ≡ self.old.len }
+        ensures takes { Takes result (is_mark mark) (ahead self.old.len self.old.rest.now) (ahead self.new.len self.new.rest.now) }
+        ensures shorter { IsTrue result → length self.new.rest.now < length self.old.rest.now }
+        ensures within { length self.new.rest.now ≤ length self.old.rest.now }
+    {
+        match self.peek() {
+            Token::Mark(next) if next == mark => {
+                self.advance();
+                true
+            }
+            _ => false,
         }
-        self.advance();
-        true
     }
 
-    /// The next token, which has to be this one.
-    pub(crate) fn expect(&mut self, token: Token<'_>) -> Result<(), EventFault> {
-        if self.takes(token) {
+    /// The next token, which has to be this mark.
+    pub(crate) fn expect_mark(&mut self, mark: u8) -> Result<(), EventFault>
+        ensures len { self.new.len ≡ self.old.len }
+        ensures expects { Expects result (is_mark mark) self.old.len (ahead self.old.len self.old.rest.now) (ahead self.new.len self.new.rest.now) }
+        ensures within { length self.new.rest.now ≤ length self.old.rest.now }
+    {
+        if self.takes_mark(mark) {
+            return Ok(());
+        }
+        Err(self.syntax())
+    }
+
+    /// Takes the next token where it is this word.
+    pub(crate) fn takes_word(&mut self, text: &[u8]) -> bool
+        ensures len { self.new.len ≡ self.old.len }
+        ensures takes { Takes result (is_word text.now) (ahead self.old.len self.old.rest.now) (ahead self.new.len self.new.rest.now) }
+        ensures shorter { IsTrue result → length self.new.rest.now < length self.old.rest.now }
+        ensures within { length self.new.rest.now ≤ length self.old.rest.now }
+    {
+        match self.peek() {
+            Token::Word(next) if next == text => {
+                self.advance();
+                true
+            }
+            _ => false,
+        }
+    }
+
+    /// The next token, which has to be this word.
+    pub(crate) fn expect_word(&mut self, text: &[u8]) -> Result<(), EventFault>
+        ensures len { self.new.len ≡ self.old.len }
+        ensures expects { Expects result (is_word text.now) self.old.len (ahead self.old.len self.old.rest.now) (ahead self.new.len self.new.rest.now) }
+        ensures within { length self.new.rest.now ≤ length self.old.rest.now }
+    {
+        if self.takes_word(text) {
             return Ok(());
         }
         Err(self.syntax())
     }
 
     /// The next token, which has to be a word.
-    pub(crate) fn word(&mut self) -> Result<&'a [u8], EventFault> {
-        let Token::Word(word) = self.peek() else {
-            return Err(self.syntax());
-        };
-        self.advance();
-        Ok(word)
-    }
-
-    // A part of a path. Blanks between quotes are left out, since no name in a dump has one.
-    fn part(&mut self, parts: &mut Vec<u8>) -> Result<(), EventFault> {
+    pub(crate) fn word(&mut self) -> Result<&'a [u8], EventFault>
+        ensures len { self.new.len ≡ self.old.len }
+        ensures reads { ReadsValue result text_of (λ text. text.now) self.old.len (ahead self.old.len self.old.rest.now) (ahead self.new.len self.new.rest.now) }
+        ensures within { length self.new.rest.now ≤ length self.old.rest.now }
+    {
         match self.peek() {
-            Token::Word(word) => parts.extend_from_slice(word)?,
-            Token::Quoted(text) => {
-                for b in text {
-                    if *b != b' ' {
-                        parts.push(*b)?;
-                    }
-                }
+            Token::Word(text) => {
+                self.advance();
+                Ok(text)
             }
-            _ => return Err(self.syntax()),
+            _ => Err(self.syntax()),
         }
-        self.advance();
-        Ok(())
-    }
-
-    fn index(&mut self) -> Result<u32, EventFault> {
-        let fault = self.syntax();
-        match decimal(self.word()?, u64::from(u32::MAX - 1)) {
-            Some(value) => Ok(value as u32),
-            None => Err(fault),
-        }
-    }
-
-    fn select(&mut self) -> Result<Select, EventFault> {
-        if !self.takes(Token::Mark(b'[')) {
-            return Ok(Select::Whole);
-        }
-        let left = self.index()?;
-        let select = if self.takes(Token::Mark(b':')) {
-            Select::Range(left, self.index()?)
-        } else {
-            Select::Bit(left)
-        };
-        self.expect(Token::Mark(b']'))?;
-        Ok(select)
-    }
-
-    pub(crate) fn path(&mut self) -> Result<Located, EventFault> {
-        let at = self.at();
-        let mut parts = Vec::new(self.alloc);
-        self.part(&mut parts)?;
-        for _ in 0..self.most() {
-            if !self.takes(Token::Mark(b'.')) {
-                break;
-            }
-            parts.push(b' ')?;
-            self.part(&mut parts)?;
-        }
-        let select = self.select()?;
-        Ok(Located {
-            at,
-            path: Path { parts, select },
-        })
-    }
-
-    fn value(&mut self) -> Result<Vec<u8>, EventFault> {
-        let read = match self.peek() {
-            Token::Word(word) => of_word(self.alloc, word)?,
-            Token::Letters(letters) => of_letters(self.alloc, letters)?,
-            _ => None,
-        };
-        let Some(letters) = read else {
-            return Err(self.syntax());
-        };
-        self.advance();
-        Ok(letters)
-    }
-
-    pub(crate) fn condition(&mut self) -> Result<Condition, EventFault> {
-        let path = self.path()?;
-        let is_equal = self.takes(Token::Equal);
-        if !is_equal {
-            self.expect(Token::Unequal)?;
-        }
-        let at = self.at();
-        let letters = self.value()?;
-        Ok(Condition {
-            path,
-            is_equal,
-            at,
-            letters,
-        })
     }
 }

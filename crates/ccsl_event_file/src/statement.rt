@@ -3,7 +3,6 @@
 use crate::event::{Condition, Event, Trigger};
 use crate::fault::EventFault;
 use crate::parser::Parser;
-use crate::token::Token;
 use ccsl_base::{HashKeys, MAX_CLOCKS, Names, is_name};
 use std::alloc::Global;
 
@@ -20,10 +19,10 @@ fn trigger(parser: &mut Parser<'_>) -> Result<Trigger, EventFault> {
 }
 
 fn conditions(parser: &mut Parser<'_>) -> Result<Vec<Condition>, EventFault> {
-    let mut conditions = Vec::new(parser.allocator());
+    let mut conditions = Vec::new(parser.alloc);
     let mut joint = b"when".as_slice();
-    for _ in 0..parser.most() {
-        if !parser.takes(Token::Word(joint)) {
+    for _ in 0..parser.rest.len() {
+        if !parser.takes_word(joint) {
             break;
         }
         conditions.push(parser.condition()?)?;
@@ -46,11 +45,11 @@ fn name<'a>(parser: &mut Parser<'a>, names: &mut Names<HashKeys>) -> Result<&'a 
 }
 
 fn statement(parser: &mut Parser<'_>, names: &mut Names<HashKeys>) -> Result<Event, EventFault> {
-    let name = Vec::from_slice(parser.allocator(), name(parser, names)?)?;
-    parser.expect(Token::Mark(b'='))?;
+    let name = Vec::from_slice(parser.alloc, name(parser, names)?)?;
+    parser.expect_mark(b'=')?;
     let trigger = trigger(parser)?;
     let conditions = conditions(parser)?;
-    parser.expect(Token::Mark(b';'))?;
+    parser.expect_mark(b';')?;
     Ok(Event {
         name,
         trigger,
@@ -61,13 +60,13 @@ fn statement(parser: &mut Parser<'_>, names: &mut Names<HashKeys>) -> Result<Eve
 /// What a whole file of events says, or its first fault. The keys hash the names.
 pub fn read_events(alloc: Global, keys: HashKeys, text: &[u8]) -> Result<Vec<Event>, EventFault> {
     let mut parser = Parser::new(alloc, text);
-    parser.expect(Token::Word(b"events"))?;
-    parser.expect(Token::Word(b"1"))?;
-    parser.expect(Token::Mark(b';'))?;
+    parser.expect_word(b"events")?;
+    parser.expect_word(b"1")?;
+    parser.expect_mark(b';')?;
     let mut names = Names::with_hasher(alloc, keys);
     let mut events = Vec::new(alloc);
-    for _ in 0..parser.most() {
-        if parser.peek() == Token::End {
+    for _ in 0..parser.rest.len() {
+        if parser.rest.is_empty() {
             break;
         }
         events.push(statement(&mut parser, &mut names)?)?;

@@ -1,6 +1,6 @@
 //! The tokens of a file of events.
 
-ghost use Rattle.std.specs.Prelude.{◌≡◌, ◌<◌, ◌==◌, ◌||◌, not, false, take, drop, Some, position, IfSome, length};
+ghost use Rattle.std.specs.Prelude.{◌≡◌, ◌<◌, ◌≤◌, ◌==◌, ◌||◌, not, false, take, drop, Some, position, IfSome, length};
 ghost use Rattle.ccsl_event_file.specs.Tokens.{is_white, is_word_byte, is_letter, up_to, begins_with, begins_remark, quoted_piece, letters_piece, piece_at};
 ghost use Rattle.ccsl_event_file.specs.Fronts.{seen, IsFront, IsBehindBlank};
 
@@ -42,8 +42,8 @@ fn is_letter_of_value(b: u8) -> bool
     b"01xXzZuUwWlLhH-".contains(&b)
 }
 
-// A text in two parts, by what stands behind the first of its bytes.
-fn cut(text: &[u8], size: usize) -> (&[u8], &[u8])
+//// So many bytes at the front of a text, and those behind them.
+pub(crate) fn cut(text: &[u8], size: usize) -> (&[u8], &[u8])
     ensures front { result.0.now ≡ take size text.now }
     ensures behind { result.1.now ≡ drop size text.now }
 {
@@ -151,7 +151,8 @@ fn sign(first: u8, rest: &[u8]) -> (Token<'_>, &[u8])
 
 /// The token at the front of some text, and the text behind it.
 pub(crate) fn token_at_front(text: &[u8]) -> (Token<'_>, &[u8])
-    ensures { IsFront text.now result.0 result.1.now }
+    ensures front { IsFront text.now result.0 result.1.now }
+    ensures within { length result.1.now ≤ length text.now }
 {
     if text.is_empty() {
         return (Token::End, text);

@@ -4,8 +4,8 @@ use Rattle.ccsl_event_file.specs.Tokens.{is_word_byte, up_to}
 use Rattle.ccsl_event_file.proofs.Lexing.{front_word}
 use Rattle.ccsl_event_file.proofs.token.token_at_front.Goals as goal
 
-pub returns : goal.returns
-returns c =
+pub returns-clause-front : goal.returns-clause-front
+returns-clause-front c =
     let cut = c.cut.ensures.behind in
     let size = c.unwrap_or-more.ensures ∙ ap (λ n. unwrap_or n (length c.cut.result.1.now)) c.end_of_word.ensures.value
         ∙ ap (up_to (λ b. not (is_word_byte b))) cut in
