@@ -78,9 +78,9 @@ bare (b ∷ bs) e w = rw (e, w) refl
 pub stops : (whole text tail : List ℕ) (is_remark : Bool) → tail ≡ drop 1 text → is_remark ≡ false → begins_remark (get_or text 0 0) tail ≡ false
     → is_white (get_or text 0 0) ≡ false → AreSame whole (amid is_remark) text → length text ≤ length whole → IsBehindBlank whole text
 stops whole text tail is_remark cut e slash white same shorter = record {
-    same = λ len. ap (λ r. tokens_in len (amid r) text) (sym e) ∙ same len;
-    bare = bare text (ap (begins_remark (get_or text 0 0)) (sym cut) ∙ slash) white;
-    shorter = shorter
+  same = λ len. ap (λ r. tokens_in len (amid r) text) (sym e) ∙ same len;
+  bare = bare text (ap (begins_remark (get_or text 0 0)) (sym cut) ∙ slash) white;
+  shorter = shorter;
 }
 
 pub ends : (whole text : List ℕ) (is_remark : Bool) → (length text == 0) ≡ true → AreSame whole (amid is_remark) text → length text ≤ length whole → IsBehindBlank whole text

@@ -12,7 +12,6 @@ use Rattle.ccsl_event_file.specs.File.{Path, Condition, path, Draft, Use, trigge
 use Rattle.ccsl_event_file.specs.Parsing.{place_of, next_is, next_value, TakesOne, ReadsOne, next_token, behind_next, part_seen, value_seen, PutsPart, IsValueFault, IsFault, is_condition}
 use Rattle.ccsl_event_file.proofs.Story.{taken, same, ExpectsAt, expected, unexpected, valued, unvalued}
 
-
 -- behind a part: whether a dot is next, and whether a bracket is
 abbrev part_says : Draft → ℕ → List ℕ → Placed → Bool → Bool → Said
 part_says d at parts t is_dot is_open =

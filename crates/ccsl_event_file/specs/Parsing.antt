@@ -133,4 +133,3 @@ is_condition (condition_of trigger conditions) = true
 
 abbrev pub conditions_in : List conditions.Condition → List Condition
 conditions_in cs = map condition_in cs
-

@@ -71,7 +71,8 @@ impl<'a> Parser<'a> {
     /// Takes the next token where it is this mark.
     pub(crate) fn takes_mark(&mut self, mark: u8) -> bool
         ensures len { self.new.len ≡ self.old.len }
-        ensures takes { Takes result (is_mark mark) (ahead self.old.len self.old.rest.now) (ahead self.new.len self.new.rest.now) }
+        ensures takes { Takes result (is_mark mark)
+            (ahead self.old.len self.old.rest.now) (ahead self.new.len self.new.rest.now) }
         ensures shorter { IsTrue result → length self.new.rest.now < length self.old.rest.now }
         ensures within { length self.new.rest.now ≤ length self.old.rest.now }
     {
@@ -87,7 +88,8 @@ impl<'a> Parser<'a> {
     /// The next token, which has to be this mark.
     pub(crate) fn expect_mark(&mut self, mark: u8) -> Result<(), EventFault>
         ensures len { self.new.len ≡ self.old.len }
-        ensures expects { Expects result (is_mark mark) self.old.len (ahead self.old.len self.old.rest.now) (ahead self.new.len self.new.rest.now) }
+        ensures expects { Expects result (is_mark mark) self.old.len
+            (ahead self.old.len self.old.rest.now) (ahead self.new.len self.new.rest.now) }
         ensures within { length self.new.rest.now ≤ length self.old.rest.now }
     {
         if self.takes_mark(mark) {
@@ -99,7 +101,8 @@ impl<'a> Parser<'a> {
     /// Takes the next token where it is this word.
     pub(crate) fn takes_word(&mut self, text: &[u8]) -> bool
         ensures len { self.new.len ≡ self.old.len }
-        ensures takes { Takes result (is_word text.now) (ahead self.old.len self.old.rest.now) (ahead self.new.len self.new.rest.now) }
+        ensures takes { Takes result (is_word text.now)
+            (ahead self.old.len self.old.rest.now) (ahead self.new.len self.new.rest.now) }
         ensures shorter { IsTrue result → length self.new.rest.now < length self.old.rest.now }
         ensures within { length self.new.rest.now ≤ length self.old.rest.now }
     {
@@ -115,7 +118,8 @@ impl<'a> Parser<'a> {
     /// The next token, which has to be this word.
     pub(crate) fn expect_word(&mut self, text: &[u8]) -> Result<(), EventFault>
         ensures len { self.new.len ≡ self.old.len }
-        ensures expects { Expects result (is_word text.now) self.old.len (ahead self.old.len self.old.rest.now) (ahead self.new.len self.new.rest.now) }
+        ensures expects { Expects result (is_word text.now) self.old.len
+            (ahead self.old.len self.old.rest.now) (ahead self.new.len self.new.rest.now) }
         ensures within { length self.new.rest.now ≤ length self.old.rest.now }
     {
         if self.takes_word(text) {
@@ -127,7 +131,8 @@ impl<'a> Parser<'a> {
     /// The next token, which has to be a word.
     pub(crate) fn word(&mut self) -> Result<&'a [u8], EventFault>
         ensures len { self.new.len ≡ self.old.len }
-        ensures reads { ReadsValue result text_of (λ text. text.now) self.old.len (ahead self.old.len self.old.rest.now) (ahead self.new.len self.new.rest.now) }
+        ensures reads { ReadsValue result text_of (λ text. text.now) self.old.len
+            (ahead self.old.len self.old.rest.now) (ahead self.new.len self.new.rest.now) }
         ensures within { length self.new.rest.now ≤ length self.old.rest.now }
     {
         match self.peek() {

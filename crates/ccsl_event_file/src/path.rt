@@ -48,7 +48,8 @@ fn put_part(next: Token<'_>, parts: &mut Vec<u8>) -> Result<bool, Memory>
 impl Parser<'_> {
     fn part(&mut self, parts: &mut Vec<u8>) -> Result<(), EventFault>
         ensures len { self.new.len ≡ self.old.len }
-        ensures reads { IsPart result self.old.len parts.old.items parts.new.items (ahead self.old.len self.old.rest.now) (ahead self.new.len self.new.rest.now) }
+        ensures reads { IsPart result self.old.len parts.old.items parts.new.items
+            (ahead self.old.len self.old.rest.now) (ahead self.new.len self.new.rest.now) }
         ensures within { length self.new.rest.now ≤ length self.old.rest.now }
     {
         if !put_part(self.peek(), parts)? {
@@ -60,7 +61,8 @@ impl Parser<'_> {
 
     fn index(&mut self) -> Result<u32, EventFault>
         ensures len { self.new.len ≡ self.old.len }
-        ensures reads { ReadsValue result index_of (λ n. n) self.old.len (ahead self.old.len self.old.rest.now) (ahead self.new.len self.new.rest.now) }
+        ensures reads { ReadsValue result index_of (λ n. n) self.old.len
+            (ahead self.old.len self.old.rest.now) (ahead self.new.len self.new.rest.now) }
         ensures within { length self.new.rest.now ≤ length self.old.rest.now }
     {
         let Token::Word(word) = self.peek() else {
@@ -78,7 +80,9 @@ impl Parser<'_> {
     // The end of what stands in brackets.
     fn bracket(&mut self, select: Select) -> Result<Select, EventFault>
         ensures len { self.new.len ≡ self.old.len }
-        ensures reads { (d : Draft) (at : ℕ) (parts : List ℕ) → Reads result self.old.len (bracket d (path at parts select)) (ahead self.old.len self.old.rest.now) (λ select. behind_path d (path at parts select)) (ahead self.new.len self.new.rest.now) }
+        ensures reads { (d : Draft) (at : ℕ) (parts : List ℕ) →
+            Reads result self.old.len (bracket d (path at parts select)) (ahead self.old.len self.old.rest.now)
+            (λ select. behind_path d (path at parts select)) (ahead self.new.len self.new.rest.now) }
         ensures within { length self.new.rest.now ≤ length self.old.rest.now }
     {
         self.expect_mark(b']')?;
@@ -88,7 +92,9 @@ impl Parser<'_> {
     // What stands in brackets, behind the first number.
     fn range(&mut self, left: u32) -> Result<Select, EventFault>
         ensures len { self.new.len ≡ self.old.len }
-        ensures reads { (d : Draft) (at : ℕ) (parts : List ℕ) → Reads result self.old.len (behind_left d at parts left) (ahead self.old.len self.old.rest.now) (λ select. behind_path d (path at parts select)) (ahead self.new.len self.new.rest.now) }
+        ensures reads { (d : Draft) (at : ℕ) (parts : List ℕ) →
+            Reads result self.old.len (behind_left d at parts left) (ahead self.old.len self.old.rest.now)
+            (λ select. behind_path d (path at parts select)) (ahead self.new.len self.new.rest.now) }
         ensures within { length self.new.rest.now ≤ length self.old.rest.now }
     {
         if !self.takes_mark(b':') {
@@ -101,7 +107,10 @@ impl Parser<'_> {
     // What stands in brackets behind the parts of a path, if anything does.
     fn select(&mut self) -> Result<Select, EventFault>
         ensures len { self.new.len ≡ self.old.len }
-        ensures reads { (d : Draft) (at : ℕ) (parts : List ℕ) → next_is (is_mark 46) (ahead self.old.len self.old.rest.now) ≡ false → Reads result self.old.len (behind_part d at parts) (ahead self.old.len self.old.rest.now) (λ select. behind_path d (path at parts select)) (ahead self.new.len self.new.rest.now) }
+        ensures reads { (d : Draft) (at : ℕ) (parts : List ℕ) →
+            next_is (is_mark 46) (ahead self.old.len self.old.rest.now) ≡ false →
+            Reads result self.old.len (behind_part d at parts) (ahead self.old.len self.old.rest.now)
+            (λ select. behind_path d (path at parts select)) (ahead self.new.len self.new.rest.now) }
         ensures within { length self.new.rest.now ≤ length self.old.rest.now }
     {
         if !self.takes_mark(b'[') {
@@ -131,7 +140,8 @@ impl Parser<'_> {
 
     // The letters of the next token, if it is a value.
     fn letters(&self) -> Result<Option<Vec<u8>>, Memory>
-        ensures { IfOk result (λ v. option_map (λ letters. letters.items) v ≡ value_seen (next_token (ahead self.now.len self.now.rest.now))) }
+        ensures { IfOk result (λ v. option_map (λ letters. letters.items) v
+            ≡ value_seen (next_token (ahead self.now.len self.now.rest.now))) }
     {
         match self.peek() {
             Token::Word(word) => of_word(self.alloc, word),
@@ -142,7 +152,8 @@ impl Parser<'_> {
 
     fn value(&mut self) -> Result<Vec<u8>, EventFault>
         ensures len { self.new.len ≡ self.old.len }
-        ensures reads { ReadsValue result value_of (λ v. v.items) self.old.len (ahead self.old.len self.old.rest.now) (ahead self.new.len self.new.rest.now) }
+        ensures reads { ReadsValue result value_of (λ v. v.items) self.old.len
+            (ahead self.old.len self.old.rest.now) (ahead self.new.len self.new.rest.now) }
         ensures within { length self.new.rest.now ≤ length self.old.rest.now }
     {
         match self.letters()? {
@@ -157,7 +168,8 @@ impl Parser<'_> {
     // Whether two are to be equal.
     fn comparison(&mut self) -> Result<bool, EventFault>
         ensures len { self.new.len ≡ self.old.len }
-        ensures reads { ReadsValue result comparison_of (λ is. is) self.old.len (ahead self.old.len self.old.rest.now) (ahead self.new.len self.new.rest.now) }
+        ensures reads { ReadsValue result comparison_of (λ is. is) self.old.len
+            (ahead self.old.len self.old.rest.now) (ahead self.new.len self.new.rest.now) }
         ensures within { length self.new.rest.now ≤ length self.old.rest.now }
     {
         let is_equal = match self.peek() {

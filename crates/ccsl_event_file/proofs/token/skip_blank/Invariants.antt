@@ -5,8 +5,8 @@ use Rattle.ccsl_event_file.proofs.token.skip_blank.Given as goal
 
 abbrev pub invariant-blank : goal.invariant-blank
 invariant-blank l = record {
-    same : (len : ℕ) → tokens_in len (amid l.is_remark) l.rest ≡ tokens_in len (token 0) l.fn.text;
-    shorter : length l.rest ≤ length l.fn.text
+  same : (len : ℕ) → tokens_in len (amid l.is_remark) l.rest ≡ tokens_in len (token 0) l.fn.text;
+  shorter : length l.rest ≤ length l.fn.text;
 }
 
 abbrev pub decreases-blank : goal.decreases-blank

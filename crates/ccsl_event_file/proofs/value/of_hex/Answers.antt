@@ -11,7 +11,7 @@ loop-digit-preserved c =
     let hex = hex-some (get_or digits i 0) c.in-Some.value c.in-Some.ensures in
     let put : c.put_bits.new.letters.items ≡ extended c.loop-digit.letters.items (bits 4 c.in-Some.value) = c.in_ok-put_bits.ensures in
     record {
-        all = all-more i digits (omega arith) hex.0 ∙ c.loop-digit.invariant.all;
-        same = put_digit i digits c.loop-digit.letters.items c.put_bits.new.letters.items (omega arith)
-            (put ∙ ap (λ v. extended c.loop-digit.letters.items (bits 4 v)) hex.1) ∙ c.loop-digit.invariant.same
+      all = all-more i digits (omega arith) hex.0 ∙ c.loop-digit.invariant.all;
+      same = put_digit i digits c.loop-digit.letters.items c.put_bits.new.letters.items (omega arith)
+          (put ∙ ap (λ v. extended c.loop-digit.letters.items (bits 4 v)) hex.1) ∙ c.loop-digit.invariant.same;
     }

@@ -6,6 +6,6 @@ use Rattle.ccsl_event_file.proofs.value.of_hex.Given as goal
 
 abbrev pub invariant-loop-digit : goal.invariant-loop-digit
 invariant-loop-digit l = record {
-    all : list_all is_hex (drop l.digit-index l.digits) ≡ list_all is_hex l.digits;
-    same : extended l.letters.items (flat_map hex_bits (drop l.digit-index l.digits)) ≡ without_zeros (flat_map hex_bits l.digits)
+  all : list_all is_hex (drop l.digit-index l.digits) ≡ list_all is_hex l.digits;
+  same : extended l.letters.items (flat_map hex_bits (drop l.digit-index l.digits)) ≡ without_zeros (flat_map hex_bits l.digits);
 }

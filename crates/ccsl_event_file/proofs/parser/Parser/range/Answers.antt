@@ -26,9 +26,9 @@ returns-in_err-right-clause-reads c =
     let other = c.takes_mark.new.self.len in
     let now = ahead other c.takes_mark.new.self.rest.now in
     rw (p.1, p.2) (λ d at parts.
-        moved c.in_err-right.field-0.0 (story len (behind_left d at parts c.args.left) old) (story other (right d at parts c.args.left) now)
-        (colon d at parts len c.args.left old now c.if-not-takes_mark.ensures.takes ∙ ap (λ n. story n (right d at parts c.args.left) now) (sym c.if-not-takes_mark.ensures.len))
-        (no_second d at parts c.in_err-right.field-0.0 other c.args.left now c.in_err-right.ensures.reads))
+    moved c.in_err-right.field-0.0 (story len (behind_left d at parts c.args.left) old) (story other (right d at parts c.args.left) now)
+    (colon d at parts len c.args.left old now c.if-not-takes_mark.ensures.takes ∙ ap (λ n. story n (right d at parts c.args.left) now) (sym c.if-not-takes_mark.ensures.len))
+    (no_second d at parts c.in_err-right.field-0.0 other c.args.left now c.in_err-right.ensures.reads))
 
 pub returns-clause-reads : goal.returns-clause-reads
 returns-clause-reads c = λ d at parts.

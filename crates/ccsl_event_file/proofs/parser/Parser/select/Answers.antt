@@ -22,9 +22,9 @@ returns-in_err-left-clause-reads c =
     let other = c.takes_mark.new.self.len in
     let now = ahead other c.takes_mark.new.self.rest.now in
     rw (p.1, p.2) (λ d at parts absent.
-        moved c.in_err-left.field-0.0 (story len (behind_part d at parts) old) (story other (left d at parts) now)
-        (opens d at parts len old now absent c.if-not-takes_mark.ensures.takes ∙ ap (λ n. story n (left d at parts) now) (sym c.if-not-takes_mark.ensures.len))
-        (no_first d at parts c.in_err-left.field-0.0 other now c.in_err-left.ensures.reads))
+    moved c.in_err-left.field-0.0 (story len (behind_part d at parts) old) (story other (left d at parts) now)
+    (opens d at parts len old now absent c.if-not-takes_mark.ensures.takes ∙ ap (λ n. story n (left d at parts) now) (sym c.if-not-takes_mark.ensures.len))
+    (no_first d at parts c.in_err-left.field-0.0 other now c.in_err-left.ensures.reads))
 
 pub returns-clause-reads : goal.returns-clause-reads
 returns-clause-reads c = λ d at parts absent.
