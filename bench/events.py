@@ -4,14 +4,18 @@
 
 The first is made of a record of each event, the second of a rise of each wire, the third of 16 nets, the fourth of a clock, of
 changes of vectors and of values of some of their bits, the last of a clock, an event and two nets. What is written is thrown away.
+A time is the processor time of a whole process, the best of so many, in turn with the other's. Beside it stands the most memory
+that it held, on the trace and on its first tenth.
 """
 import os
 import sys
 
 from figures import note
-from reader import HERE, ROUNDS, TRACES, seconds
+from measured import built, measured
+from reader import ROUNDS, SIZE, TRACES
+from traces import made
 
-PROGRAM = os.path.join(HERE, "..", "crates", "ccsl_events_program", "out", "ccsl_events_program")
+PROGRAM = built("ccsl_events_program")
 WANTED = 3
 
 
@@ -34,21 +38,21 @@ def main():
     program = sys.argv[2] if len(sys.argv) > 2 else PROGRAM
     os.makedirs(folder, exist_ok=True)
     for name, make, *_rest in TRACES:
-        path = os.path.join(folder, name + ".vcd")
-        if not os.path.exists(path):
-            make(path)
+        path = made(folder, name, make, SIZE)
         with open(path + ".events", "w") as file:
             file.write("events 1;\n" + "\n".join(EVENTS[name]) + "\n")
-        best, said = [float("inf")] * 2, ""
+        with open(path, "rb") as whole, open(path + ".tenth", "wb") as tenth:
+            tenth.write(whole.read(SIZE // 10))
+        words = [program, f"events={path}.events", "out=/dev/null"]
+        part = measured([*words, f"trace={path}.tenth"])
+        ours, others = [], []
         for _ in range(ROUNDS):
-            commands = [[program, f"events={path}.events", f"trace={path}", "out=/dev/null"], ["vcd2fst", path, path + ".fst"]]
-            for k, command in enumerate(commands):
-                out, time = seconds(command)
-                best[k] = min(best[k], time)
-                said = out if k == 0 else said
-        print(f"{name}: {said}; {best[0]:.3f} s, {os.path.getsize(path) / best[0] / 1e6:.0f} MB/s; "
-              f"vcd2fst {best[1] / best[0]:.1f} times (wanted {WANTED})")
-        note("ccsl_events", name, "vcd2fst", processor=best[1] / best[0], wanted=WANTED)
+            ours.append(measured([*words, f"trace={path}"]))
+            others.append(measured(["vcd2fst", path, path + ".fst"]))
+        best, other = min(run.processor for run in ours), min(run.processor for run in others)
+        print(f"{name}: {ours[0].said}; {best:.3f} s, {os.path.getsize(path) / best / 1e6:.0f} MB/s; "
+              f"vcd2fst {other / best:.1f} times (wanted {WANTED}); {ours[0].memory:.0f} MB, on a tenth {part.memory:.0f}")
+        note("ccsl_events", name, "vcd2fst", processor=other / best, wanted=WANTED)
 
 
 if __name__ == "__main__":
