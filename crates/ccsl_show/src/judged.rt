@@ -174,6 +174,10 @@ fn bound_word(is_declared: bool) -> &'static str {
     }
 }
 
+fn put_text(page: &mut Page, text: &str) -> Result<(), Memory> {
+    page.put(&[Piece::Text(text)])
+}
+
 // A clock with its ticks, and the variable that it is bound to.
 fn put_clock(
     page: &mut Page,
@@ -183,19 +187,21 @@ fn put_clock(
     margin: usize,
     bound: Option<(&Header, &Bindings)>,
 ) -> Result<(), Memory> {
-    let name = clock_name(case.system, clock);
-    page.put(&[Piece::Text("  "), Piece::Name(name)])?;
-    page.fill(b' ', margin.saturating_sub(name.len()))?;
     page.put(&[
         Piece::Text("  "),
-        Piece::Number(count),
-        Piece::Text(ticks_word(count)),
+        Piece::Name(clock_name(case.system, clock)),
     ])?;
+    page.fill(
+        b' ',
+        margin.saturating_sub(clock_name(case.system, clock).len()),
+    )?;
+    page.put(&[Piece::Text("  "), Piece::Number(count)])?;
+    put_text(page, ticks_word(count))?;
     if let Some((header, bindings)) = bound
         && let Some(variable) = bindings.of(header, clock)
     {
         let is_declared = clock < case.system.scope().declared;
-        page.put(&[Piece::Text(bound_word(is_declared))])?;
+        put_text(page, bound_word(is_declared))?;
         put_path(case.alloc, page, variable)?;
     }
     page.put_line(&[])
