@@ -2,8 +2,8 @@ use Rattle.ccsl_command.specs.Opened.{files_opened}
 use Rattle.ccsl_show_top.proofs.Allowed.{all-allowed}
 use Rattle.ccsl_show_top.proofs.program.run.Goals as goal
 
-pub run-status-requires : goal.run-status-requires
-run-status-requires g c = all-allowed g.W.World.allows c.requires.allowed (files_opened c.args.words.now)
+pub run-status-requires-after_bounds : goal.run-status-requires-after_bounds
+run-status-requires-after_bounds g c = λ κs lives. all-allowed g.W.World.allows c.requires.allowed (files_opened c.args.words.now)
 
 pub returns : goal.returns
 returns g c = (g.W.World.state c.run-status.new.world.world, c.run-status.ensures)
