@@ -102,7 +102,8 @@ fn is_again(rt: &HostRuntime, words: &[CommandWord], key: &str) -> bool {
         Some("/dev/stdin") => false,
         Some(name) => match fs::metadata(rt, name) {
             Ok(found) => found.is_file(),
-            Err(_) => false,
+            // it is still to be written
+            Err(_) => true,
         },
         None => true,
     }
