@@ -4,6 +4,5 @@ pub mod Frames
 pub mod OneSlot
 pub mod Reading
 pub mod Slots
-pub mod Untold
 pub mod Writing
 pub mod Sources

@@ -12,8 +12,7 @@ use Rattle.ccsl_edge.specs.declared.steady.Source.{Source}
 use Rattle.ccsl_edge.specs.Order.{index_of}
 use Rattle.ccsl_edge.specs.World.{SlotState, held}
 use Rattle.ccsl_edge.specs.Calls.{ChangesOnly, OpensIn, Takes, OpensOut, Closes}
-use Rattle.ccsl_edge.specs.SlotTable.{slot_in, unused}
-use Rattle.ccsl_edge.specs.FileSystem.{file_state}
+use Rattle.ccsl_edge.specs.SlotTable.{slot_in, unused, file_state}
 use Rattle.ccsl_edge.specs.Steady.{tells_left, content_at, slot_of_source}
 use Rattle.ccsl_edge.proofs.Files.{position-None}
 use Rattle.ccsl_edge.proofs.OneSlot.{SetsSlot, SetsSlot-at, Takes-at}

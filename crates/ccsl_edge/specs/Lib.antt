@@ -6,5 +6,4 @@ pub mod Counts
 pub mod Calls
 pub mod SlotTable
 pub mod Memory
-pub mod FileSystem
 pub mod Steady

@@ -24,7 +24,7 @@ pub enum Slot {
 
 impl Slot {
     /// Its place in a table of all the slots.
-    pub(crate) fn index(self) -> usize
+    pub fn index(self) -> usize
         ensures { result ≡ index_of self }
     {
         self as usize

@@ -5,7 +5,7 @@ ghost use Rattle.ccsl_edge.specs.Slots.{IsInput, IsInputFile, IsOutput, IsOutput
 ghost use Rattle.ccsl_edge.specs.World.{held};
 ghost use Rattle.ccsl_edge.specs.Calls.{Fails, OpensIn, Takes, OpensOut, Adds, Closes};
 ghost use Rattle.ccsl_edge.specs.SlotTable.{slot_in};
-ghost use Rattle.ccsl_edge.specs.FileSystem.{file_state};
+ghost use Rattle.ccsl_edge.specs.SlotTable.{file_state};
 ghost use Rattle.ccsl_edge.specs.Steady.{steady_at_start, tells_left, content_at, slot_of_source};
 
 use crate::held::{HeldFile, position_of};

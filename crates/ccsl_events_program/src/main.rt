@@ -1,73 +1,47 @@
 //! The program: it hands the real words and the real files to `run`, and says on standard error why there is no answer.
 #![tactic(auto)]
 
-use ccsl_base::{CommandWord, HashKeys};
-use ccsl_edge::FileWorld;
-use ccsl_events_top::run;
-use std::alloc::AllocError;
+use ccsl_events_top::{Answer, run};
+use ccsl_files::{FileWorld, NoAnswer, command_words, random_keys};
 use std::io::Write;
 use std::process::ExitCode;
-use std::random::RandomSource;
-use std::{env, io};
-
-// The words behind the program's name.
-fn command_words(rt: &HostRuntime) -> io::Result<Vec<CommandWord>> {
-    let mut words = Vec::new(rt.alloc());
-    for word in env::args(rt)?.skip(1) {
-        if words.push(CommandWord::new(word)).is_err() {
-            return Err(io::Error::from(AllocError));
-        }
-    }
-    Ok(words)
-}
-
-// Keys that no file can be made for.
-fn drawn_keys(rt: &HostRuntime) -> io::Result<HashKeys> {
-    let mut first = [0; 8];
-    let mut second = [0; 8];
-    rt.fill_bytes(&mut first)?;
-    rt.fill_bytes(&mut second)?;
-    Ok(HashKeys {
-        first: u64::from_le_bytes(first),
-        second: u64::from_le_bytes(second),
-    })
-}
 
 // On standard error.
 fn say(rt: &HostRuntime, bytes: &[u8]) {
     let _ = rt.stderr().write_all(bytes);
 }
 
-fn main(rt: HostRuntime) -> ExitCode {
-    let words = match command_words(&rt) {
-        Ok(words) => words,
-        Err(error) => {
-            if error.kind() == io::ErrorKind::OutOfMemory {
-                let _ = eprintln!(rt; "ccsl-events: no memory");
-                return ExitCode::from(6);
-            }
-            let _ = eprintln!(rt; "ccsl-events: a word is not UTF-8");
-            return ExitCode::from(2);
-        }
-    };
-    let Ok(keys) = drawn_keys(&rt) else {
-        let _ = eprintln!(rt; "ccsl-events: no random numbers");
-        return ExitCode::from(5);
-    };
-    let mut world = FileWorld::new(&rt, rt.alloc());
-    let answer = run(rt.alloc(), keys, words.as_slice(), &mut world);
-    say(&rt, answer.line.as_slice());
+fn say_answer(rt: &HostRuntime, answer: &Answer) {
+    say(rt, answer.line.as_slice());
     if !answer.hint.is_empty() {
         let _ = eprint!(rt; "candidates:");
-        say(&rt, answer.hint.as_slice());
+        say(rt, answer.hint.as_slice());
         let _ = eprintln!(rt; "");
+    }
+}
+
+fn status_of(rt: &HostRuntime) -> Result<u8, NoAnswer> {
+    let words = command_words(rt)?;
+    let keys = random_keys(rt)?;
+    let mut world = FileWorld::new(rt, rt.alloc());
+    let answer = run(rt.alloc(), keys, words.as_slice(), &mut world);
+    say_answer(rt, &answer);
+    if answer.status == 6 {
+        return Err(NoAnswer::NoMemory);
     }
     // A reader that has gone, as `head`, wants to hear no more.
     if answer.status == 5 && !world.has_lost_reader() {
-        let _ = eprintln!(rt; "ccsl-events: a file failed");
+        return Err(NoAnswer::FileFailed);
     }
-    if answer.status == 6 {
-        let _ = eprintln!(rt; "ccsl-events: no memory");
+    Ok(answer.status)
+}
+
+fn main(rt: HostRuntime) -> ExitCode {
+    match status_of(&rt) {
+        Ok(status) => ExitCode::from(status),
+        Err(fault) => {
+            let _ = eprintln!(rt; "ccsl-events: {fault}");
+            ExitCode::from(fault.status())
+        }
     }
-    ExitCode::from(answer.status)
 }

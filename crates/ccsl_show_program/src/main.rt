@@ -2,7 +2,8 @@
 #![tactic(auto)]
 
 use ccsl_base::{CommandWord, HashKeys};
-use ccsl_edge::{FileWorld, Slot};
+use ccsl_edge::Slot;
+use ccsl_files::FileWorld;
 use ccsl_pool::NoGate;
 use ccsl_show::{Again, Stop};
 use ccsl_show_top::{Asked, Heard, Listen, Outcome, run, told};

@@ -1,7 +1,8 @@
 //! The world of the real files over a system that reads short and fails in mid-stream.
 
 use crate::edge::fake::{FakeFile, FakeSystem, Moves};
-use ccsl_edge::{Close, Failed, FileWorld, ReadFault, Slot, World, read_all, write_all};
+use ccsl_edge::{Failed, ReadFault, Slot, World, read_all, write_all};
+use ccsl_files::{Close, FileWorld};
 use std::alloc::Global;
 use std::cell::Cell;
 use std::io::{Input, Print};

@@ -1,6 +1,6 @@
 //! A system whose files read short and fail in mid-stream, for tests of the real files' world.
 
-use ccsl_edge::Close;
+use ccsl_files::Close;
 use std::alloc::Allocator;
 use std::cell::Cell;
 use std::fmt::Display;

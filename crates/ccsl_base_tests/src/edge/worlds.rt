@@ -1,9 +1,10 @@
 //! The worlds at work: what a proof can't see of them.
 
 use ccsl_edge::{
-    CallKind, Failed, FileWorld, HeldFile, MemoryWorld, ReadFault, Slot, SteadyWorld, World,
-    read_all, write_all,
+    CallKind, Failed, HeldFile, MemoryWorld, ReadFault, Slot, SteadyWorld, World, read_all,
+    write_all,
 };
+use ccsl_files::FileWorld;
 use std::alloc::{AllocError, Global};
 use std::test::Fail;
 use std::{env, fs};

@@ -4,7 +4,8 @@ use Rattle.ccsl_edge.specs.declared.slot.Slot.{Slot}
 use Rattle.ccsl_edge.specs.Order.{index_of}
 use Rattle.ccsl_edge.specs.World.{SlotState}
 use Rattle.ccsl_edge.specs.Calls.{OpensIn, Takes, OpensOut, Adds, Closes}
-use Rattle.ccsl_edge.specs.FileSystem.{tells_nothing, file_state}
+use Rattle.ccsl_edge.specs.SlotTable.{file_state}
+use Rattle.ccsl_files.specs.FileSystem.{tells_nothing}
 use Rattle.ccsl_edge.proofs.OneSlot.{SetsSlot-at}
 
 -- what is not told says nothing

@@ -8,7 +8,7 @@ use crate::closing::{Close, finished};
 use crate::file_id::FileId;
 use crate::replacement::Replacement;
 use crate::target::NamedTarget;
-use crate::world::Failed;
+use ccsl_edge::Failed;
 use std::fs::OpenFile;
 use std::io::{Print, Read, Write};
 use std::marker::Model;

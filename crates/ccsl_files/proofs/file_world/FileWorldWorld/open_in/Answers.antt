@@ -1,7 +1,7 @@
 use Rattle.std.proofs.Common.{◌≡◌, [], length, arith}
 use Rattle.ccsl_edge.proofs.OneSlot.{Fails-at}
-use Rattle.ccsl_edge.proofs.Untold.{OpensOut-untold}
-use Rattle.ccsl_edge.proofs.file_world.FileWorldWorld.open_out.Goals as goal
+use Rattle.ccsl_files.proofs.Untold.{OpensIn-untold}
+use Rattle.ccsl_files.proofs.file_world.FileWorldWorld.open_in.Goals as goal
 
 pub returns-in_default-clause-err : goal.returns-in_default-clause-err
 returns-in_default-clause-err g c =
@@ -11,4 +11,4 @@ returns-in_default-clause-err g c =
 pub returns-clause-ok : goal.returns-clause-ok
 returns-clause-ok g c =
     let long : length c.self.inside.slots ≡ 7 = omega arith in
-    rw (← c.self.view_is) (OpensOut-untold _ c.args.slot _ _ _ _ c.index.ensures long (rw c.give_up.ensures at c.open_out.ensures))
+    rw (← c.self.view_is) (OpensIn-untold _ c.args.slot _ _ _ _ c.index.ensures long c.open_in.ensures)

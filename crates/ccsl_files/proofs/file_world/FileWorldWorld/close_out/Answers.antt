@@ -1,7 +1,7 @@
 use Rattle.std.proofs.Common.{◌≡◌, [], length, arith}
 use Rattle.ccsl_edge.proofs.OneSlot.{Fails-at}
-use Rattle.ccsl_edge.proofs.Untold.{Closes-untold}
-use Rattle.ccsl_edge.proofs.file_world.FileWorldWorld.close_out.Goals as goal
+use Rattle.ccsl_files.proofs.Untold.{Closes-untold}
+use Rattle.ccsl_files.proofs.file_world.FileWorldWorld.close_out.Goals as goal
 
 pub returns-then-is_err-clause-err : goal.returns-then-is_err-clause-err
 returns-then-is_err-clause-err g c =

@@ -2,9 +2,9 @@ use Rattle.std.proofs.Common.{◌≡◌, ◌≤◌, ◌∙◌, sym, [], length, 
 use Rattle.std.specs.Counts.{IsPrefixLen}
 use Rattle.std.proofs.lemmas.Result.{IfOk-at_ok}
 use Rattle.ccsl_edge.proofs.OneSlot.{Fails-at}
-use Rattle.ccsl_edge.proofs.Untold.{Takes-untold}
-use Rattle.ccsl_edge.proofs.file_world.FileWorldWorld.read.Goals as goal
-use Rattle.ccsl_edge.proofs.file_world.FileWorldWorld.read.Goals.{in-Input, in_default}
+use Rattle.ccsl_files.proofs.Untold.{Takes-untold}
+use Rattle.ccsl_files.proofs.file_world.FileWorldWorld.read.Goals as goal
+use Rattle.ccsl_files.proofs.file_world.FileWorldWorld.read.Goals.{in-Input, in_default}
 
 pub returns-in_default-answer-clause-err : goal.returns-in_default-answer-clause-err
 returns-in_default-answer-clause-err g c =

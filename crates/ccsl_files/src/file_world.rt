@@ -2,14 +2,13 @@
 //! told, and no clause speaks of it.
 
 ghost use Rattle.std.specs.Prelude.{◌≡◌, ⊤};
-ghost use Rattle.ccsl_edge.specs.SlotTable.{slots_at_start};
-ghost use Rattle.ccsl_edge.specs.FileSystem.{file_state, tells_nothing};
+ghost use Rattle.ccsl_edge.specs.SlotTable.{slots_at_start, file_state};
+ghost use Rattle.ccsl_files.specs.FileSystem.{tells_nothing};
 
 use crate::channel::{Channel, End};
 use crate::closing::Close;
 use crate::opening::{open_sink, open_source};
-use crate::slot::Slot;
-use crate::world::{Failed, World};
+use ccsl_edge::{Failed, Slot, World};
 use std::alloc::Global;
 use std::io::{Input, Print, Read};
 use std::marker::Model;

@@ -1,7 +1,7 @@
 use Rattle.std.proofs.Common.{◌≡◌, [], length, arith}
 use Rattle.ccsl_edge.proofs.OneSlot.{Fails-at}
-use Rattle.ccsl_edge.proofs.Untold.{Adds-untold}
-use Rattle.ccsl_edge.proofs.file_world.FileWorldWorld.write.Goals as goal
+use Rattle.ccsl_files.proofs.Untold.{Adds-untold}
+use Rattle.ccsl_files.proofs.file_world.FileWorldWorld.write.Goals as goal
 
 pub returns-then-count-eq0-clause-err : goal.returns-then-count-eq0-clause-err
 returns-then-count-eq0-clause-err g c =
