@@ -19,10 +19,5 @@ pub mod Fit
 pub mod Fitting
 pub mod Verdict
 pub mod FirstViolation
-pub mod Course
-pub mod Since
-pub mod Operators
 pub mod Deep
-pub mod Held
 pub mod AcceptedPieces
-pub mod Columns

@@ -7,7 +7,8 @@ ghost use Rattle.ccsl_kernel.specs.Syntax.{item_count};
 
 use ccsl_base::{ClockSet, Memory};
 use ccsl_formula::Formula;
-use ccsl_kernel::{System, plain_formula};
+use ccsl_kernel::System;
+use ccsl_plain::plain_formula;
 use ccsl_small_systems::postfix::set_of;
 use ccsl_state::States;
 use std::alloc::Global;

@@ -2,7 +2,8 @@
 
 use crate::alike::followed;
 use ccsl_base::{ClockSet, Memory};
-use ccsl_kernel::{RelationKind, System, plain_formula};
+use ccsl_kernel::{RelationKind, System};
+use ccsl_plain::plain_formula;
 use ccsl_small_systems::parts::{assembled, constraints, related};
 use std::alloc::Global;
 use std::test::*;

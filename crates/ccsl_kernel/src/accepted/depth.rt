@@ -19,11 +19,12 @@ fn is_nested(e: &Expr, limit: u32) -> bool
 {
     match e {
         Expr::Name(_) | Expr::Call { .. } | Expr::Never => true,
-        _ if limit == 0 => false,
-        Expr::Delay(a, _) | Expr::Await(a, _) | Expr::Filter(a, _) => is_nested(a, limit - 1),
-        Expr::Binary(_, a, d) | Expr::Delayed(a, _, d) => {
-            is_nested(a, limit - 1) && is_nested(d, limit - 1)
+        Expr::Delay(a, _) | Expr::Await(a, _) | Expr::Filter(a, _) => {
+            1 <= limit && is_nested(a, limit - 1)
         }
-        Expr::If(_, a, d) => { 1 < limit && is_nested(a, limit - 1) && is_nested(d, limit - 1) }
+        Expr::Binary(_, a, d) | Expr::Delayed(a, _, d) => {
+            1 <= limit && is_nested(a, limit - 1) && is_nested(d, limit - 1)
+        }
+        Expr::If(_, a, d) => { 2 <= limit && is_nested(a, limit - 1) && is_nested(d, limit - 1) }
     }
 }

@@ -24,11 +24,9 @@ pub struct Nameable<'a> {
 fn has_kind(params: &[ParamKind], i: u32, kind: ParamKind) -> bool
     ensures { IsTrue result ↔ (slice_get params.now i ≡ Some kind) }
 {
-    match (params.get(i as usize), kind) {
-        (Some(ParamKind::Clock), ParamKind::Clock)
-        | (Some(ParamKind::Number), ParamKind::Number)
-        | (Some(ParamKind::Word), ParamKind::Word) => true,
-        _ => false,
+    match params.get(i as usize) {
+        Some(own) => *own == kind,
+        None => false,
     }
 }
 

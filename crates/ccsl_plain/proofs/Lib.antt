@@ -1,0 +1,5 @@
+pub mod Follows
+pub mod TickWords
+pub mod OpenCalls
+pub mod DeathTable
+pub mod WalkSteps
