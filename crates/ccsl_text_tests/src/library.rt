@@ -1,4 +1,0 @@
-//! Specifications behind the library.
-
-mod members;
-mod printed;

@@ -1,3 +1,0 @@
-//! Every line of report, as users read it.
-
-mod texts;

@@ -1,3 +1,0 @@
-//! Headers and the bindings that they give.
-
-mod headers;

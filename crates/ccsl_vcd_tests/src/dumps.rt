@@ -1,3 +1,0 @@
-//! Written traces: their text, and the room that they take.
-
-mod traces;

@@ -1,3 +1,0 @@
-//! Tokens of texts, over several cuttings.
-
-mod cuttings;
