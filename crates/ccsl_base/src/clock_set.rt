@@ -186,6 +186,7 @@ impl ClockSet {
             && (self.words[(clock / u64::BITS) as usize] >> (clock % u64::BITS)) & 1 == 1
     }
 
+    /// Whether it has no members.
     #[inline(always)]
     pub fn is_empty(&self) -> bool
         ensures { IsTrue result ↔ (self.now ≡ []) }

@@ -19,12 +19,14 @@ impl Model for CommandWord {
 }
 
 impl CommandWord {
+    /// The word of a text.
     pub fn new(text: String) -> CommandWord
         ensures { result ≡ string_bytes text }
     {
         CommandWord { text }
     }
 
+    /// Its text.
     pub fn as_str(&self) -> &str
         ensures { result.now ≡ self.now }
     {

@@ -1,4 +1,14 @@
-//! The small types that every layer shares: sets of clocks, rows of a trace, lists, texts and names.
+//! The small types that every layer shares: sets of clocks, rows of a trace, lists, texts, names and the limits.
+//!
+//! A clock is a number below `MAX_CLOCKS`; its name stands in a table, `Names`. A step is the set of the clocks that
+//! tick in it, and a `Row` is such a set with the time at which it was recorded, in the trace's own unit:
+//!
+//!     let mut step = ClockSet::empty();
+//!     step.insert(3);
+//!     step.insert(70);
+//!     for clock in step.members() { .. }     // 3, and then 70
+//!
+//! What a caller hands over by a number is within its limit by contract, so a call here has no error but `Memory`.
 #![tactic(auto)]
 
 pub mod clock_set;

@@ -16,6 +16,7 @@ pub fn is_letter(b: u8) -> bool
     matches!(b, b'A'..=b'Z' | b'a'..=b'z' | b'_')
 }
 
+/// Whether a byte is a decimal digit, `0` to `9`.
 pub fn is_digit(b: u8) -> bool
     ensures { result ≡ is_digit b }
 {

@@ -81,12 +81,14 @@ impl<S: BuildHasher> Names<S> {
         self.texts.as_slice()[i as usize].as_slice()
     }
 
+    /// The number of names, which is that of the next one.
     pub fn len(&self) -> u32
         ensures { result ≡ length self.now }
     {
         self.texts.len() as u32
     }
 
+    /// Whether there is no name.
     pub fn is_empty(&self) -> bool
         ensures { IsTrue result ↔ (self.now ≡ []) }
     {

@@ -49,6 +49,7 @@ impl Block {
         Ok(Block { rows, len: 0 })
     }
 
+    /// Adds a row behind the others. It takes no memory.
     #[inline(always)]
     pub fn push(&mut self, row: Row)
         requires { length self.old.rows < self.old.room }
@@ -75,6 +76,7 @@ impl Block {
         self.len += 1;
     }
 
+    /// Whether there is no room for another row.
     #[inline(always)]
     pub fn is_full(&self) -> bool
         ensures full { IsTrue result ↔ (length self.now.rows ≡ self.now.room) }
@@ -83,6 +85,7 @@ impl Block {
         self.len == self.rows.len()
     }
 
+    /// The number of rows.
     #[inline(always)]
     pub fn len(&self) -> usize
         ensures { result ≡ length self.now.rows }
@@ -90,6 +93,7 @@ impl Block {
         self.len
     }
 
+    /// Whether it has no rows.
     #[inline(always)]
     pub fn is_empty(&self) -> bool
         ensures { IsTrue result ↔ (self.now.rows ≡ []) }
@@ -97,6 +101,7 @@ impl Block {
         self.len == 0
     }
 
+    /// Row number `i`, from 0.
     #[inline(always)]
     pub fn row(&self, i: usize) -> &Row
         requires { i < length self.now.rows }

@@ -1,4 +1,13 @@
 //! Which code of a trace each clock of a system is bound to.
+//!
+//! A clock is bound to the variable of its name in the outermost scope that has one; a variable counts where it is
+//! one bit or an event.
+//!
+//!     let mut binder = Binder::open(alloc, keys, &system)?;
+//!     binder.declare(depth, kind, size, code, reference)?;   // once for each `$var`
+//!     let binding = binder.close()?;         // or the first declared clock that is unbound or ambiguous
+//!
+//! A defined clock may be bound too, and need not. The codes are hashed by keys that no file can know.
 #![tactic(auto)]
 
 pub mod binder;

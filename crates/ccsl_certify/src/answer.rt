@@ -14,7 +14,8 @@ use ccsl_vcd::VcdFault;
 pub enum Replayed<'s> {
     /// A run of so many steps, and the states after it.
     Run { steps: u64, states: States<'s> },
-    /// No run: the least step at which an item is violated, with its row's time, and the least item there.
+    /// No run: the least step at which an item is violated, with its row's time in the trace's own unit, and the least
+    /// item there.
     NotRun { step: u64, time: u64, item: u32 },
 }
 

@@ -29,6 +29,7 @@ impl FileName {
         Ok(FileName { text })
     }
 
+    /// The name, as it was given.
     pub fn as_str(&self) -> &str
         ensures { result.now ≡ self.now }
     {

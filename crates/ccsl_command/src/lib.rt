@@ -1,4 +1,14 @@
 //! The words of a command line: which command they are, with which values, or what is wrong with them.
+//!
+//! Each word behind the command is `key=value`, in any order, each key once:
+//!
+//!     match words(alloc, list)? {
+//!         Command::Judge { spec, trace, workers } => ..,
+//!         ..
+//!     }
+//!
+//! `Usage` is the first fault, by the place of its word, and a missing key where all words are right. No file is
+//! opened here.
 #![tactic(auto)]
 
 mod build;

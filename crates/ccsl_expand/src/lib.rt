@@ -1,4 +1,13 @@
 //! The expansion of a file behind a library: names replaced by numbers, and calls of relations by their bodies.
+//!
+//! A call at line 3 of the system, `alternates(a, b);`, gives the lines of its body with the labels `alternates@3`,
+//! and its hidden clock the name `alternates@3.next`. Declared clocks have the first numbers, then the system's
+//! definitions, then the hidden ones:
+//!
+//!     let parts = expand(alloc, &library, &file)?;
+//!
+//! It is called for a file without a fault, whose totals are counted already, and wants nothing but memory.
+//! Expressions are not unfolded: a call of an expression stays a call, to a group of the system.
 #![tactic(auto)]
 
 mod argument;

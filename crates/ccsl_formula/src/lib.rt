@@ -1,4 +1,11 @@
 //! The formulas of a step: truth under a set of clocks, and the strong Kleene value under a partial assignment.
+//!
+//! A variable is a clock's number, and is true where that clock ticks. The constructors fold constants alone, so that
+//! the shape of a formula is that of its definition:
+//!
+//!     let f = and(alloc, Formula::Var(0), not(alloc, Formula::Var(1))?)?;
+//!     f.eval(&step)                          // whether 0 ticks and 1 does not
+//!     f.kleene(&Partial::empty())            // Truth3::Unknown
 #![tactic(auto)]
 
 pub mod fold;

@@ -12,12 +12,14 @@ pub enum Truth3 {
 }
 
 impl Truth3 {
+    /// The known value.
     pub fn known_as(value: bool) -> Truth3
         ensures { result ≡ known_as value }
     {
         if value { Truth3::Yes } else { Truth3::No }
     }
 
+    /// What is unknown stays so.
     pub fn not(self) -> Truth3
         ensures { result ≡ not3 self }
     {
@@ -28,6 +30,7 @@ impl Truth3 {
         }
     }
 
+    /// `No` where one is, whatever the other.
     pub fn and(self, other: Truth3) -> Truth3
         ensures { result ≡ and3 self other }
     {
@@ -38,6 +41,7 @@ impl Truth3 {
         }
     }
 
+    /// `Yes` where one is, whatever the other.
     pub fn or(self, other: Truth3) -> Truth3
         ensures { result ≡ or3 self other }
     {
@@ -48,6 +52,7 @@ impl Truth3 {
         }
     }
 
+    /// Unknown where one of them is.
     pub fn iff(self, other: Truth3) -> Truth3
         ensures { result ≡ iff3 self other }
     {

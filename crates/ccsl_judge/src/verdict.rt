@@ -14,7 +14,7 @@ use ccsl_relate::Violation;
 pub enum Verdict {
     /// So many rows, none of which violates an item.
     Run(u64),
-    /// The first row that violates an item, from 0, its time, and the first item that it violates.
+    /// The first row that violates an item, from 0, its time in the trace's own unit, and the first item that it violates.
     Violated { step: u64, time: u64, item: u32 },
 }
 

@@ -44,6 +44,7 @@ impl Place {
 }
 
 impl NumPrim {
+    /// The number that it stands for among the values of a group's parameters; 0 where the parameter is none.
     pub fn number(&self, actuals: &[Actual]) -> u32
         ensures { result ≡ prim_of self.now actuals.now }
     {
@@ -58,6 +59,7 @@ impl NumPrim {
 }
 
 impl NumTerm {
+    /// The sum, from the left, in which no difference falls below 0 and no sum rises above the greatest number.
     pub fn number(&self, actuals: &[Actual]) -> u32
         ensures { result ≡ number_of self.now actuals.now }
     {
@@ -139,6 +141,7 @@ impl Suffix {
 }
 
 impl WordPlace {
+    /// The word that it stands for, from an offset on.
     pub fn suffix(&self, words: &[Word], actuals: &[Actual]) -> Suffix
         requires place { PlaceFits words.now self.now }
         requires actuals { ActualsFit words.now actuals.now }
@@ -157,6 +160,7 @@ impl WordPlace {
 }
 
 impl Value {
+    /// What an argument stands for among the values of the caller's parameters.
     pub fn actual(&self, words: &[Word], actuals: &[Actual]) -> Actual
         requires value { ValueFits words.now self.now }
         requires actuals { ActualsFit words.now actuals.now }
@@ -175,6 +179,7 @@ impl Value {
 }
 
 impl ExprTest {
+    /// Whether the test of an `if` holds for these values, which it does from the birth on or never.
     pub fn holds(&self, words: &[Word], actuals: &[Actual]) -> bool
         requires test { TestFits words.now self.now }
         requires actuals { ActualsFit words.now actuals.now }

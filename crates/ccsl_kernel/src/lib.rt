@@ -1,4 +1,14 @@
 //! Systems, and what their expressions mean over the whole history.
+//!
+//! A `System` has names, declared clocks, groups of expressions that may call one another, definitions and
+//! constraints, all by number. Each system is accepted: what it names is there and of its kind. The meaning stands in
+//! `specs`: `Table` has one row an operator, `Lives` says when an expression is born and ends, `Items` what a
+//! definition and a constraint ask of a step, `Runs` which steps are a run, `Verdict` where one is violated first.
+//!
+//!     system.definitions()                   // how many; definition i defines clock `declared + i`
+//!     system.constraint(0).kind              // RelationKind::Precedes
+//!
+//! ccsl_state computes it step by step, and ccsl_plain as it is written.
 #![tactic(auto)]
 
 mod accepted;

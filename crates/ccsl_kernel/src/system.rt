@@ -90,12 +90,14 @@ impl System {
         self.parts.written
     }
 
+    /// The number of definitions, which are the clocks from `declared` on.
     pub fn definitions(&self) -> u32
         ensures { result ≡ length self.now.definitions }
     {
         self.parts.definitions.members().len() as u32
     }
 
+    /// The number of constraints.
     pub fn constraints(&self) -> u32
         ensures { result ≡ length self.now.constraints }
     {
@@ -135,6 +137,7 @@ impl System {
         &self.parts.definitions.members()[i as usize]
     }
 
+    /// Constraint number `j`, from 0: item number `definitions + j`.
     pub fn constraint(&self, j: u32) -> &Constraint
         requires { j < length self.now.constraints }
         ensures constraint { slice_get self.now.constraints j ≡ Some result.now }
@@ -143,6 +146,7 @@ impl System {
         &self.parts.constraints.members()[j as usize]
     }
 
+    /// The groups of expressions that may be called, each of members that may call one another.
     pub fn groups(&self) -> &[Group]
         ensures groups { map plain_group result.now ≡ self.now.groups }
         ensures accepted { IsAccepted self.now }

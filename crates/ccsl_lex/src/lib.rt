@@ -1,4 +1,11 @@
 //! The lexer of a specification's text: its tokens, longest from the left, or its first lexical fault.
+//!
+//!     tokens(alloc, b"a<b+12")?              // the name a, `<`, the name b, `+`, the number 12
+//!
+//! Blanks, tabs, line feeds and carriage returns part tokens, and `//` begins a remark to the end of its line. A
+//! token has the offsets of its first byte and of the byte behind it. A name has at most 64 bytes, a number is at
+//! most 4,294,967,295, and a text in quotes has no line feed; where one of these fails the offset of the token's
+//! first byte is told.
 #![tactic(auto)]
 
 mod byte;

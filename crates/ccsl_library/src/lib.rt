@@ -1,5 +1,13 @@
-//! The library: the relation `alternates` and the expressions `periodic`, `skip` and `filter_by`, that every specification
-//! may use.
+//! The library: the relation `alternates` and the expressions `periodic`, `skip` and `filter_by`, that every
+//! specification may use.
+//!
+//! It is a text of the language itself, `TEXT`, and is read as any other:
+//!
+//!     let library = library(alloc)?;
+//!     let system = elaborate(alloc, &file, &library)?;
+//!
+//! Laws say what its members mean, as that `periodic(c, n)` ticks with each n-th tick of `c`, and that the library is
+//! accepted by itself.
 #![tactic(auto)]
 
 pub mod laws;

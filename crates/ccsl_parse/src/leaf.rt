@@ -14,6 +14,7 @@ use ccsl_base::Text;
 use ccsl_lex::{Reserved, Token, TokenKind};
 use std::alloc::{AllocError, Global};
 
+/// Whether a token is this reserved word.
 pub fn is_word(token: &Token, word: Reserved) -> bool
     ensures { result ≡ is_word word (terminal token.now) }
 {
@@ -23,6 +24,7 @@ pub fn is_word(token: &Token, word: Reserved) -> bool
     }
 }
 
+/// Whether a token is the symbol of this byte.
 pub fn is_symbol(token: &Token, byte: u8) -> bool
     ensures { result ≡ is_symbol byte (terminal token.now) }
 {
@@ -32,12 +34,14 @@ pub fn is_symbol(token: &Token, byte: u8) -> bool
     }
 }
 
+/// Whether a token is a name.
 pub fn is_name(token: &Token) -> bool
     ensures { result ≡ is_name (terminal token.now) }
 {
     matches!(&token.kind, TokenKind::Name(_))
 }
 
+/// Whether the next token is there, and is this reserved word.
 pub fn begins_word(tokens: &[Token], word: Reserved) -> bool
     ensures { result ≡ begins (is_word word) (terminals tokens.now) }
 {
@@ -47,6 +51,7 @@ pub fn begins_word(tokens: &[Token], word: Reserved) -> bool
     }
 }
 
+/// Whether the next token is there, and is the symbol of this byte.
 pub fn begins_symbol(tokens: &[Token], byte: u8) -> bool
     ensures { result ≡ begins (is_symbol byte) (terminals tokens.now) }
 {
@@ -56,6 +61,7 @@ pub fn begins_symbol(tokens: &[Token], byte: u8) -> bool
     }
 }
 
+/// Whether the next token is there, and is a name.
 pub fn begins_name(tokens: &[Token]) -> bool
     ensures { result ≡ begins is_name (terminals tokens.now) }
 {
@@ -167,6 +173,7 @@ pub fn before_symbol<'a, T: Drop>(
     Ok((value, rest))
 }
 
+/// A text of its own with the same bytes.
 pub fn copied(alloc: Global, text: &Text) -> Result<Text, AllocError>
     ensures { IfOk result (λ copy. copy ≡ text.now) }
 {

@@ -1,4 +1,12 @@
 //! The parser of a specification's tokens: their tree, or the first fault.
+//!
+//!     let found = tokens(alloc, text)?;
+//!     let file = parse(alloc, found.as_slice())?;
+//!
+//! A fault has the offset of the first token with which no text of the grammar goes on, or of the text's end;
+//! `TooDeep` comes where an expression stands at level 129. A reader of a part takes tokens and gives back its tree
+//! with those that are left: `expr_at` reads an expression, `param_at` a parameter. Its stack grows with the levels
+//! alone.
 #![tactic(auto)]
 
 mod argument;

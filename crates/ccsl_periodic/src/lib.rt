@@ -1,5 +1,10 @@
-//! Periodic filters for all lengths: where a relation between two filters of one clock fails, what a filter of a filter is,
-//! and the canonical spelling of a word.
+//! Periodic filters for all lengths: where a relation between two filters of one clock fails, what a filter of a
+//! filter is, and the canonical spelling of a word.
+//!
+//!     compare(&left, &right, Between::Precedes)   // the first tick at which it fails, or that it never does
+//!     on(alloc, &left, &right)?              // the word that filters as `left` and then `right` do
+//!
+//! Both words are infinite. A relation is decided within the longer prefix and one common period.
 #![tactic(auto)]
 
 pub mod between;

@@ -20,6 +20,7 @@ pub struct Turn {
 }
 
 impl Turn {
+    /// The turn of two words.
     pub fn of(left: &Word, right: &Word) -> Turn
         requires left_infinite { is_finite left.now ≡ false }
         requires right_infinite { is_finite right.now ≡ false }

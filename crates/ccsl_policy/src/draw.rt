@@ -28,7 +28,7 @@ impl Model for Draw {
 }
 
 impl Draw {
-    /// No word is taken.
+    /// The words of a seed, from the first on: those of PCG XSH RR 64/32 in one stream.
     pub fn new(seed: u64) -> Draw
         ensures { StandsFor result seed 0 }
     {
@@ -37,7 +37,7 @@ impl Draw {
         }
     }
 
-    /// So many words are taken.
+    /// The same with so many words taken already. It costs no more for many than for few.
     pub fn at(seed: u64, taken: u64) -> Draw
         ensures { StandsFor result seed taken }
     {

@@ -69,6 +69,7 @@ fn put_operand(page: &mut Page, tree: &Tree) -> Result<(), Memory>
     }
 }
 
+/// Puts an expression, in parentheses where the grammar asks for them.
 #[cycle(expression)]
 #[tactic(auto, using(crate::proofs::Steps::after_append, crate::proofs::Steps::number_step))]
 pub fn put_expression(page: &mut Page, tree: &Tree) -> Result<(), Memory>

@@ -30,6 +30,7 @@ impl Page {
     ghost use Rattle.ccsl_grammar.specs.Terminals as t;
     ghost use Rattle.ccsl_print.specs.Pages.{PlainPage, empty_page, blank_if, step, begun, ended};
 
+    /// A page with nothing on it.
     pub fn new(alloc: Global) -> Page
         ensures { result ≡ empty_page }
     {
@@ -63,6 +64,7 @@ impl Page {
         Ok(())
     }
 
+    /// Puts a reserved word, parted from what stands before it.
     #[tactic(auto, unfolding(crate::specs::Pages::step))]
     pub fn word(&mut self, word: Reserved) -> Result<(), Memory>
         ensures { OnOk result (self.new ≡ step self.old (t.word word)) }
@@ -71,6 +73,7 @@ impl Page {
         self.put(parted, Edge::Other, word.spelling())
     }
 
+    /// Puts a symbol, with the blanks that belong to it.
     #[tactic(auto, unfolding(crate::specs::Pages::step))]
     pub fn symbol(&mut self, symbol: u8) -> Result<(), Memory>
         ensures { OnOk result (self.new ≡ step self.old (t.symbol symbol)) }
@@ -79,6 +82,7 @@ impl Page {
         self.put(parted, Edge::behind(symbol), &[symbol])
     }
 
+    /// Puts a name.
     #[tactic(auto, unfolding(crate::specs::Pages::step))]
     pub fn name(&mut self, name: &Spot) -> Result<(), Memory>
         ensures { OnOk result (self.new ≡ step self.old (t.name name.now)) }
@@ -87,6 +91,7 @@ impl Page {
         self.put(parted, Edge::Named, name.name.bytes())
     }
 
+    /// Puts a number, without leading zeros.
     #[tactic(auto, unfolding(crate::specs::Pages::step))]
     pub fn number(&mut self, number: u32) -> Result<(), Memory>
         ensures { OnOk result (self.new ≡ step self.old (t.number 0 number)) }
@@ -95,6 +100,7 @@ impl Page {
         self.put(parted, Edge::Other, Buffer::new().format(number).as_bytes())
     }
 
+    /// Puts a text in quotes.
     #[tactic(auto, unfolding(crate::specs::Pages::step))]
     pub fn quoted(&mut self, bytes: &Text) -> Result<(), Memory>
         ensures { OnOk result (self.new ≡ step self.old (t.quoted 0 bytes.now)) }
@@ -118,6 +124,7 @@ impl Page {
         Ok(())
     }
 
+    /// Ends a line.
     #[tactic(auto, unfolding(crate::specs::Pages::ended))]
     pub fn end_line(&mut self) -> Result<(), Memory>
         ensures { OnOk result (self.new ≡ ended self.old) }

@@ -17,6 +17,7 @@ use ccsl_base::{Memory, Seq};
 use ccsl_lex::Reserved;
 use std::alloc::Global;
 
+/// Puts the line of the version.
 #[tactic(auto, using(crate::proofs::Steps::number_step))]
 pub fn put_version(page: &mut Page, version: u32) -> Result<(), Memory>
     ensures { OnOk result (page.new ≡ line_after page.old
@@ -39,6 +40,7 @@ fn put_system_head(page: &mut Page) -> Result<(), Memory>
     page.end_line()
 }
 
+/// Puts the system, with a line for each of its lines.
 #[tactic(auto, using(crate::proofs::Steps::lines_append, crate::proofs::Steps::slines_lined))]
 pub fn put_system(page: &mut Page, lines: &Seq<SystemLine>) -> Result<(), Memory>
     ensures { OnOk result (page.new ≡ lines_after page.old

@@ -47,6 +47,7 @@ fn put_rest(page: &mut Page, rest: &[(Sign, Prim)]) -> Result<(), Memory>
     Ok(())
 }
 
+/// Puts a number's term: a sum, with its signs.
 #[tactic(auto, using(crate::proofs::Steps::after_append))]
 pub fn put_term(page: &mut Page, term: &Term) -> Result<(), Memory>
     ensures { OnOk result (page.new ≡ after page.old (term_spelled term.now)) }
@@ -62,6 +63,7 @@ fn put_named(page: &mut Page, word: Reserved, name: &Spot) -> Result<(), Memory>
     page.name(name)
 }
 
+/// Puts a word's term: a name, or what `tail` leaves of it.
 #[tactic(auto, using(crate::proofs::Steps::quoted_step))]
 pub fn put_wterm(page: &mut Page, word: &WordTerm) -> Result<(), Memory>
     ensures { OnOk result (page.new ≡ after page.old (wterm_spelled word.now)) }
@@ -73,6 +75,7 @@ pub fn put_wterm(page: &mut Page, word: &WordTerm) -> Result<(), Memory>
     }
 }
 
+/// Puts what `if` asks.
 #[tactic(auto, using(crate::proofs::Steps::after_append))]
 pub fn put_test(page: &mut Page, test: &Test) -> Result<(), Memory>
     ensures { OnOk result (page.new ≡ after page.old (test_spelled test.now)) }

@@ -1,6 +1,7 @@
 //! Where an item is violated.
 
-/// A row at which an item is violated: the row's number, from 0, its time, and the number of the item.
+/// A row at which an item is violated: the row's number, from 0, its time in the trace's own unit, and the number of
+/// the item.
 #[derive(Clone, Copy, Debug, PartialEq, Eq)]
 pub struct Violation {
     pub step: u64,

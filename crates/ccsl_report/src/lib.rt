@@ -1,4 +1,9 @@
 //! Every line that the program reports: its text, and the calls that make it.
+//!
+//!     run_yes(alloc, 12)?                    // "run: yes, 12 steps\n"
+//!
+//! Each text is defined in `specs/Texts.antt`, word for word, and each call makes exactly that. Numbers are decimal,
+//! offsets are counted in bytes from 0, lines of a certificate from 1. The only error is want of memory.
 #![tactic(auto)]
 
 pub mod answer;

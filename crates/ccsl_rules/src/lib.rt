@@ -1,5 +1,10 @@
-//! The rules of the language beyond its grammar: what a file must obey, how it is refused, and the system that an accepted
-//! file stands for. Here are the definitions and their laws; `ccsl_elaborate` computes them.
+//! The rules of the language beyond its grammar: what a file must obey, how it is refused, and the system that an
+//! accepted file stands for. Here are the definitions and their laws; `ccsl_elaborate` computes them.
+//!
+//! Each rule is a sentence over the whole file, as "a name is declared once in its space" or "calls go at most eight
+//! levels deep". `Refusal` is the fault with the least place, and at one place the first in the order of its
+//! variants; the totals of clocks, constraints and cells come behind all places. `Expansion` says what the calls of a
+//! faultless file unfold to, line by line.
 #![tactic(auto)]
 
 pub mod laws;

@@ -1,4 +1,11 @@
-//! A design is tried step by step: lines of standard input are answered on the report, over a run whose steps can be taken back.
+//! A design is tried step by step: lines of standard input are answered on the report, over a run whose steps can be
+//! taken back.
+//!
+//!     fire req ack      step      allowed      back 2      trace      quit
+//!
+//! A line is answered before more is read. A session ends at `quit` and at the end of the input; its run has at most
+//! 100,000 steps. An error is a failed read or write, or want of memory; what was reported then is a front of the
+//! transcript.
 #![tactic(auto)]
 
 pub mod answer;

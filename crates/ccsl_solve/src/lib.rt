@@ -1,5 +1,13 @@
-//! A solver for the formulas of a step: a set of clocks that satisfies them, the best one by a list of wishes,
-//! or the lines of a certificate that there is none. It learns a clause at each conflict.
+//! A solver for the formulas of a step: a set of clocks that satisfies them, the best one by a list of wishes, or the
+//! lines of a certificate that there is none. It learns a clause at each conflict.
+//!
+//!     match solve(alloc, formulas, &scope, &Partial::empty())? {
+//!         Answer::Step(set) => ..,           // not empty, and true of all formulas
+//!         Answer::Refuted(lines) => ..,      // each follows from the formulas and those before it
+//!     }
+//!
+//! The guide, which says where to look next, has no contract: what it proposes is tested before it counts.
+//! `docs/SOLVER.md` says how it works.
 #![tactic(auto)]
 
 pub mod conflict;

@@ -1,4 +1,13 @@
 //! Name spaces: which declaration a name stands for.
+//!
+//! A space is filled in the order of the text, and keeps for each name its first declaration; a later one is a
+//! duplicate, and is told by its place:
+//!
+//!     let mut space = Space::new(alloc);
+//!     space.add(name, since, Kind::Clock)?;  // false where the name is there
+//!     space.find(b"req")                     // the declaration, with the place from which on it may be used
+//!
+//! There is one space a group of parameters, one a relation, one for the system, and one for what can be called.
 #![tactic(auto)]
 
 pub mod callee;

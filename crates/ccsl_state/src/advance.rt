@@ -29,7 +29,8 @@ use crate::tail::own_call;
 use ccsl_base::{ClockSet, MAX_CELLS, MAX_DELAY, MAX_LEVELS};
 use ccsl_kernel::{Actual, Expr, ExprOp};
 
-/// Rewrites the region of an expression.
+/// Rewrites the region of an expression by a step: whether it ticks in it, whether it is dead behind it, and how many
+/// cells the region has. It takes no memory.
 #[cycle(advance)]
 #[tactic(auto, using(crate::proofs::Places::inner_stands, crate::proofs::Evals::one_eval, crate::proofs::Evals::two_eval, crate::proofs::Evals::pair_eval))]
 pub fn advanced<'s>(

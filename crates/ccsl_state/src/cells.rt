@@ -58,6 +58,7 @@ pub fn suffix_at(words: &[Word], word: u32, cell: u64) -> Suffix
     Suffix { word, offset }
 }
 
+/// Whether an operator is `then`, whose right operand is born behind the left one.
 pub fn is_then(op: ExprOp) -> bool
     ensures { result ≡ is_then op }
 {

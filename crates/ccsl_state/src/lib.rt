@@ -1,4 +1,14 @@
 //! The states of a system in a fixed row of cells.
+//!
+//! After some steps all that counts of a history is how far each expression is: counts, places in words, what a
+//! `delayed` holds. A state keeps these in cells that are taken once, a region for each definition; a step rewrites
+//! them in place and takes no memory.
+//!
+//!     let mut states = States::open(alloc, &system)?;
+//!     let step = states.advance(&declared);  // the full step: declared and defined clocks
+//!     states.formula_of(alloc, item)         // what an item asks of the next step
+//!
+//! `Part` follows some definitions alone, and visits only those that hear something. `docs/STATES.md` has the layout.
 #![tactic(auto)]
 
 mod advance;

@@ -117,7 +117,8 @@ fn joined(
     }
 }
 
-/// The formula of an expression.
+/// The formula that an expression asks of the next step, read from its region of a row. It is as large as the tree
+/// that is left of the expression.
 #[cycle(tell)]
 #[tactic(auto, using(crate::proofs::Places::inner_stands))]
 pub fn told(

@@ -1,4 +1,12 @@
 //! The tokens of a value change dump, over any cutting of its bytes.
+//!
+//! Tokens are parted by blanks and line ends, whatever pieces the bytes come in; a token has at most 65,536 bytes.
+//!
+//!     let fed = tokenizer.feed_run(piece)?;  // bytes taken, and the span of a token that ended
+//!     tokenizer.token()                      // its bytes, until more is fed
+//!     tokenizer.finish()                     // the last one, which may end with the file
+//!
+//! An error is `TokenTooLong`, with the offset of the token's first byte, as soon as it has one byte too many.
 #![tactic(auto)]
 
 pub mod laws;
