@@ -2,7 +2,6 @@
 # first where it is not built, or a source is newer. The script says which by these, reads this file and calls run_program "$@".
 #     crate        the program's crate
 #     file_keys    the words that name files, as "spec trace cert"
-#     proof_time   how long it takes to prove all crates
 set -u
 top=$(cd "$(dirname "${BASH_SOURCE[0]}")/.." && pwd)
 command_name=$(basename "$0")
@@ -55,28 +54,96 @@ side_by_side() {
     [ "$count" -ge 1 ] && echo "$count" || echo 1
 }
 
-# says of each crate of rt's report that it is done
+# whether a crate's library is built, and no source of it has changed since
+is_kept() {
+    local stamp="$top/crates/$1/out/rlib/stamp"
+    [ -e "$stamp" ] && [ -z "$(find "$top/crates/$1/src" "$top/crates/$1/specs" "$top/crates/$1/proofs" -newer "$stamp" -print -quit 2>/dev/null)" ]
+}
+
+# the crates that are still to be proved: those that are not kept, and all that use one of them
+crates_to_prove() {
+    local name
+    for name in $(crates); do is_kept "$name" || echo "$name"; done |
+        awk -F: '
+            FNR == NR { open[$1] = 1; next }
+            /^[a-z]/ { uses[$1] = $2 }
+            function is_open(name, parts, count, i) {
+                if (name in known) return known[name]
+                known[name] = (name in open)
+                count = split(uses[name], parts, " ")
+                for (i = 1; i <= count; i++) if ((parts[i] in uses) && is_open(parts[i])) known[name] = 1
+                return known[name]
+            }
+            END { for (name in uses) if (is_open(name)) print name }' - "$top/crates.txt" |
+        grep -Fxf <(crates)
+}
+
+# how many seconds the proofs of these crates, a name a line, take side by side, by packaging/proof-seconds: all of them shared out,
+# but no less than the longest chain of crates each of which uses the one before
+seconds_of() {
+    awk -F'[: ]+' -v lanes="$1" '
+        FILENAME == "-" || FILENAME == "" { wanted[$1] = 1; next }
+        FILENAME == ARGV[2] { if ($1 in wanted) { cost[$1] = $2; total += $2 }; next }
+        /^[a-z]/ { names[$1] = $0 }
+        function ends(name, parts, count, i, first) {
+            if (name in end) return end[name]
+            count = split(names[name], parts, "[: ]+")
+            for (i = 2; i <= count; i++) if ((parts[i] in names) && ends(parts[i]) > first) first = ends(parts[i])
+            return end[name] = first + cost[name]
+        }
+        END {
+            for (name in names) if (ends(name) > longest) longest = ends(name)
+            shared = total / lanes
+            printf "%d\n", (shared > longest ? shared : longest)
+        }' - "$top/packaging/proof-seconds" "$top/crates.txt"
+}
+
+# seconds in words
+time_in_words() {
+    if [ "$1" -lt 90 ]; then echo "a minute"; else echo "$((($1 + 30) / 60)) minutes"; fi
+}
+
+# says of each crate of rt's report that it is done, and how long the others will take by the speed so far
 show_progress() {
-    local all done=0 line
-    all=$(crates | wc -l)
+    local lanes=$1 all wanted left line done=0
+    left=$(crates_to_prove)
+    all=$(wc -l <<<"$left")
+    wanted=$(seconds_of "$lanes" <<<"$left")
+    SECONDS=0
     while IFS= read -r line; do
         case "$line" in
             "== summary") break ;;
-            "== "*) done=$((done + 1)); say "$done of $all crates, $((SECONDS / 60)) minutes gone: ${line#== }" ;;
+            "== "*)
+                grep -Fxq "${line#== }" <<<"$left" || continue
+                done=$((done + 1))
+                left=$(grep -Fxv "${line#== }" <<<"$left")
+                say "$done of $all crates, $((SECONDS / 60)) minutes gone, $(left_in_words "$wanted" "$(seconds_of "$lanes" <<<"$left")"): ${line#== }"
+                ;;
         esac
     done
     cat >/dev/null
 }
 
+# how long is left, where so many seconds were reckoned for all and so many for what is left: by the speed of what is done, once
+# that is a tenth
+left_in_words() {
+    local all=$1 left=$2 done=$(($1 - $2))
+    if [ "$done" -gt $((all / 10)) ]; then left=$((left * SECONDS / done)); fi
+    echo "about $(time_in_words "$left") left"
+}
+
 build() {
-    local log status sum
+    local log status sum lanes left
     sum=$(sum_of_sources)
     log=$(mktemp)
-    say "the program is proved before it is built: $(crates | wc -l) crates, $(side_by_side) side by side."
-    say "From nothing this takes $proof_time; what is done is kept if you stop it."
+    lanes=$(side_by_side)
+    left=$(crates_to_prove)
+    say "the program is proved before it is built: $(wc -l <<<"$left") of $(crates | wc -l) crates are to be proved, $lanes side by side."
+    say "This takes about $(time_in_words "$(seconds_of "$lanes" <<<"$left")") where nothing else runs; what is done is kept if you stop it."
     say "To run at once without the proofs: ./$command_name --unproved WORDS.."
     say "A quick pass over all sources comes first."
-    (cd "$top/crates/$crate" && rt all check --jobs "$(side_by_side)") 2>&1 </dev/null | tee "$log" | show_progress
+    # rt keeps a place for a crate that waits for others, so there are twice as many places as crates that are proved at once
+    (cd "$top/crates/$crate" && rt all check --jobs "$((2 * lanes))") 2>&1 </dev/null | tee "$log" | show_progress "$lanes"
     status=${PIPESTATUS[0]}
     if [ "$status" -eq 0 ]; then (cd "$top/crates/$crate" && rt run -- check) >"$log" 2>&1 </dev/null; fi
     if [ "$status" -ne 0 ] || [ ! -e "$program.stamp" ]; then
