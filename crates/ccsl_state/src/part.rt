@@ -126,20 +126,4 @@ impl<'s> Part<'s> {
         );
         step.copy_from(&self.passage.step);
     }
-
-    /// Goes on by the full step that a set of declared clocks gives, and answers what of that step is declared or followed.
-    pub fn advance(&mut self, declared: &ClockSet) -> ClockSet
-        requires { are_below self.old.system.declared declared.now ≡ true }
-        ensures system { self.new.system ≡ self.old.system }
-        ensures followed { self.new.followed ≡ self.old.followed }
-        ensures cells { length self.new.row ≡ length self.old.row }
-        ensures step { (T : List Step) → PartStandsFor self.old T →
-            result ≡ part_of self.old (full_step self.old.system T declared.now) }
-        ensures stands { (T : List Step) → PartStandsFor self.old T → length T + 1 < 2 ^ 64 →
-            PartStandsFor self.new (T ++ full_step self.old.system T declared.now ∷ []) }
-    {
-        let mut step = declared.copy();
-        self.go_on(&mut step);
-        step
-    }
 }

@@ -50,7 +50,8 @@ fn agrees(
     for _ in 0..8 {
         let ticks = drawn(generator, declared);
         let whole = states.advance(&ticks);
-        let step = part.advance(&ticks);
+        let mut step = ticks.copy();
+        part.go_on(&mut step);
         if !is_portion(&step, &whole, part.followed(), declared) {
             return Ok(false);
         }
