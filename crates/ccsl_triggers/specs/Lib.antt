@@ -1,2 +1,3 @@
 pub mod Triggers
 pub mod Output
+pub mod Sized

@@ -37,6 +37,10 @@ fn put_time(time: u64, out: &mut Vec<u8>) -> Result<(), Memory>
 fn put_tick(name: u32, out: &mut Vec<u8>) -> Result<(), Memory>
     ensures { OnOk result (out.new.items ≡ out.old.items ++ tick_line name) }
 {
+    if name < 94 {
+        out.extend_from_slice(&[b'1', code_byte(name), b'\n'])?;
+        return Ok(());
+    }
     out.push(b'1')?;
     put_code(name, out)?;
     out.push(b'\n')?;

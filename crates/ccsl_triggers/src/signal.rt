@@ -1,7 +1,8 @@
 //! The values of a variable that triggers read.
 
-ghost use Rattle.std.specs.Prelude.{◌≡◌, ◌||◌, not, true, false, OnOk};
+ghost use Rattle.std.specs.Prelude.{◌≡◌, ◌||◌, not, map, Some, false, OnOk};
 ghost use Rattle.std.specs.Option.{option_copied};
+ghost use Rattle.ccsl_triggers.specs.Sized.{lower, filler, sized};
 ghost use Rattle.ccsl_triggers.specs.Triggers.{value_before, value_after};
 
 use ccsl_base::Memory;
@@ -37,17 +38,29 @@ impl Drop for Signal {
     }
 }
 
-// What extends a value on the left: 0 in front of 0 and 1, else the same letter.
-fn filler(letters: &[u8]) -> u8 {
+// What extends a value on the left.
+fn filler(letters: &[u8]) -> u8
+    ensures { result ≡ filler letters.now }
+{
     match letters.first() {
         Some(b'1') => b'0',
-        Some(b) => *b | 32,
+        Some(b) => *b,
         None => b'0',
     }
 }
 
-// Letters of a size, in lower case: extended on the left where there are fewer, and the last ones where there are more.
-fn put(letters: &[u8], size: usize, value: &mut Vec<u8>) -> Result<(), Memory> {
+fn make_lower(letters: &mut [u8])
+    ensures { letters.new ≡ map lower letters.old }
+{
+    for b in letters {
+        *b |= 32;
+    }
+}
+
+// Letters of a size, in lower case.
+fn put(letters: &[u8], size: usize, value: &mut Vec<u8>) -> Result<(), Memory>
+    ensures { OnOk result (value.new.items ≡ sized size letters.now) }
+{
     value.clear();
     if letters.len() < size {
         value.resize(size - letters.len(), filler(letters))?;
@@ -55,9 +68,7 @@ fn put(letters: &[u8], size: usize, value: &mut Vec<u8>) -> Result<(), Memory> {
     } else {
         value.extend_from_slice(&letters[letters.len() - size..])?;
     }
-    for b in value.as_mut_slice() {
-        *b |= 32;
-    }
+    make_lower(value.as_mut_slice());
     Ok(())
 }
 
@@ -101,7 +112,8 @@ impl Signal {
     /// Takes a value. It is a record of an event, unless it stands in a dump block.
     #[inline(always)]
     pub fn set(&mut self, letters: &[u8], is_dumped: bool) -> Result<(), Memory>
-        ensures value { OnOk result (self.new.has_after ≡ true) }
+        ensures value { OnOk result (value_after self.new ≡ Some (sized self.old.size letters.now)) }
+        ensures size { OnOk result (self.new.size ≡ self.old.size) }
         ensures heard { OnOk result (self.new.heard ≡ (self.old.heard || not is_dumped)) }
         ensures before { OnOk result (value_before self.new ≡ value_before self.old) }
     {
@@ -125,7 +137,10 @@ impl Signal {
         ensures heard { OnOk result (self.new.heard ≡ false) }
     {
         self.before.clear();
-        self.before.extend_from_slice(self.after.as_slice())?;
+        match self.after.as_slice() {
+            [one] => self.before.push(*one)?,
+            letters => self.before.extend_from_slice(letters)?,
+        }
         self.has_before = self.has_after;
         self.heard = false;
         self.touched = false;
