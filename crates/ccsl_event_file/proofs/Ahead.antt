@@ -39,3 +39,10 @@ pub some : (len : ℕ) (rest : List ℕ) (t : Token) → Some t ≡ next_token (
 unfolding tokens_in
 some len [] t e = absurd (cc)
 some len (b ∷ bs) t e = omega arith
+
+cons-nil : {X : Type 0} (x : X) (xs : List X) → x ∷ xs ≡ [] → ⊥
+cons-nil x xs e = cc
+
+pub not_over : (len : ℕ) (rest : List ℕ) → is_blank rest ≡ false → 0 < length rest → ahead len rest ≡ [] → ⊥
+not_over len [] bare longer e = absurd (omega (arith, longer))
+not_over len (b ∷ bs) bare longer e = cons-nil _ _ (sym (ahead_is len b bs bare) ∙ e)

@@ -3,3 +3,4 @@ pub mod Ahead
 pub mod Bits
 pub mod Story
 pub mod Paths
+pub mod Statements

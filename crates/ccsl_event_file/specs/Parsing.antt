@@ -8,7 +8,11 @@ use Rattle.ccsl_event_file.specs.declared.event.Trigger.TheVariants as t
 use Rattle.ccsl_event_file.specs.declared.fault.EventFault.{EventFault}
 use Rattle.ccsl_event_file.specs.declared.fault.EventFault.TheVariants as faults
 use Rattle.ccsl_event_file.specs.Tokens.{Token, word, Placed, token, tokens_in}
-use Rattle.ccsl_event_file.specs.File.{Path, Condition, Trigger, Event, rise, fall, change, becomes, record_of, path, event, Place, Reading, fault, events, story, part_of, Use, trigger_of, becoming, condition_of}
+use Rattle.ccsl_event_file.specs.declared.statement.Moment.{Moment}
+use Rattle.ccsl_event_file.specs.declared.statement.Moment.TheVariants as m
+use Rattle.ccsl_event_file.specs.declared.statement.Kind.{Kind}
+use Rattle.ccsl_event_file.specs.declared.statement.Kind.TheVariants as k
+use Rattle.ccsl_event_file.specs.File.{Path, Condition, Trigger, Event, rise, fall, change, becomes, record_of, path, event, Place, keyword, statement, sign, kind, behind, Reading, fault, events, story, part_of, Use, trigger_of, becoming, condition_of, names_of}
 use Rattle.ccsl_event_file.specs.Values.{value_of}
 
 -- ## What the code has, as it is said
@@ -133,3 +137,37 @@ is_condition (condition_of trigger conditions) = true
 
 abbrev pub conditions_in : List conditions.Condition → List Condition
 conditions_in cs = map condition_in cs
+
+-- ## Statements
+
+abbrev pub made_of : Moment → Path → Trigger
+made_of m.Rise p = rise p
+made_of m.Fall p = fall p
+made_of m.Change p = change p
+made_of m.Record p = record_of p
+
+abbrev pub use_of_kind : Kind → Use
+use_of_kind (k.Of moment) = trigger_of (made_of moment)
+use_of_kind k.Becomes = becoming
+
+abbrev pub ReadsTrigger : Result triggers.Trigger EventFault → ℕ → List Placed → List Placed → Type 0
+ReadsTrigger result len old new =
+    (es : List Event) (name : List ℕ) → Reads result len (kind es name) old (λ t. behind es (event name (trigger_in t) [])) new
+
+-- the conditions behind a trigger
+abbrev pub ReadsConditions : {C : Type 0} → Result C EventFault → (C → List Condition) → ℕ → List Placed → List Placed → Type 0
+ReadsConditions result of len old new =
+    (es : List Event) (name : List ℕ) (t : Trigger) →
+    Reads result len (behind es (event name t [])) old (λ cs. behind es (event name t (of cs))) new
+
+-- a name behind events of these names
+abbrev pub ReadsName : {N : Type 0} → Result N EventFault → (N → List ℕ) → List (List ℕ) → ℕ → List Placed → List Placed → Type 0
+ReadsName result of names len old new =
+    (es : List Event) → names ≡ names_of es → Reads result len (statement es) old (λ name. sign es (of name)) new
+
+abbrev pub ReadsStatement : Result code.Event EventFault → List (List ℕ) → ℕ → List Placed → List Placed → Type 0
+ReadsStatement result names len old new =
+    (es : List Event) → names ≡ names_of es → Reads result len (statement es) old (λ e. statement (es ++ event_in e ∷ [])) new
+
+abbrev pub ReadsHead : {X : Type 0} → Result X EventFault → ℕ → List Placed → List Placed → Type 0
+ReadsHead result len old new = Reads result len keyword old (λ _. statement []) new

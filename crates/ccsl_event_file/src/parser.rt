@@ -1,6 +1,6 @@
 //! Reading the tokens of a statement.
 
-ghost use Rattle.std.specs.Prelude.{◌≡◌, ◌≤◌, ◌<◌, IsTrue, false, length};
+ghost use Rattle.std.specs.Prelude.{◌≡◌, ◌≤◌, ◌<◌, IsTrue, OnOk, false, length};
 ghost use Rattle.ccsl_event_file.specs.Fronts.{seen, is_blank};
 ghost use Rattle.ccsl_event_file.specs.File.{is_word, is_mark, text_of};
 ghost use Rattle.ccsl_event_file.specs.Parsing.{ahead, place_of, next_token, behind_next, Takes, Expects, ReadsValue};
@@ -133,6 +133,7 @@ impl<'a> Parser<'a> {
         ensures len { self.new.len ≡ self.old.len }
         ensures reads { ReadsValue result text_of (λ text. text.now) self.old.len
             (ahead self.old.len self.old.rest.now) (ahead self.new.len self.new.rest.now) }
+        ensures shorter { OnOk result (length self.new.rest.now < length self.old.rest.now) }
         ensures within { length self.new.rest.now ≤ length self.old.rest.now }
     {
         match self.peek() {

@@ -1,10 +1,10 @@
 //! Reading paths and conditions.
 
-ghost use Rattle.std.specs.Prelude.{◌≡◌, ◌≤◌, ◌++◌, ◌==◌, [], ℕ, List, IfOk, OnOk, false, not, filter, length, is_some, option_map};
+ghost use Rattle.std.specs.Prelude.{◌≡◌, ◌≤◌, ◌++◌, ◌==◌, [], ℕ, List, IfOk, OnOk, true, false, not, filter, length, is_some, option_map};
 ghost use Rattle.std.specs.Option.{unwrap_or};
 ghost use Rattle.ccsl_event_file.specs.Fronts.{seen};
-ghost use Rattle.ccsl_event_file.specs.File.{Draft, behind_part, behind_left, bracket, behind_path, path, is_mark, index_of, comparison_of};
-ghost use Rattle.ccsl_event_file.specs.Parsing.{ahead, next_is, next_token, part_seen, value_seen, IsPart, Reads, ReadsValue};
+ghost use Rattle.ccsl_event_file.specs.File.{Draft, first_part, behind_part, behind_left, bracket, behind_path, behind, path, with_condition, is_mark, index_of, comparison_of};
+ghost use Rattle.ccsl_event_file.specs.Parsing.{ahead, next_is, next_token, part_seen, value_seen, path_in, condition_in, is_condition, IsPart, Reads, ReadsValue};
 ghost use Rattle.ccsl_event_file.specs.Values.{value_of};
 
 use crate::event::{Condition, Located};
@@ -120,17 +120,33 @@ impl Parser<'_> {
         self.range(left)
     }
 
-    pub(crate) fn path(&mut self) -> Result<Located, EventFault> {
+    // The parts of a path behind the first, each put behind the others.
+    fn more_parts(&mut self, parts: &mut Vec<u8>) -> Result<(), EventFault>
+        ensures len { self.new.len ≡ self.old.len }
+        ensures reads { (d : Draft) (at : ℕ) →
+            Reads result self.old.len (behind_part d at parts.old.items) (ahead self.old.len self.old.rest.now)
+            (λ _. behind_part d at parts.new.items) (ahead self.new.len self.new.rest.now) }
+        ensures ended { OnOk result (next_is (is_mark 46) (ahead self.new.len self.new.rest.now) ≡ false) }
+        ensures within { length self.new.rest.now ≤ length self.old.rest.now }
+    {
+        'parts: while self.takes_mark(b'.') {
+            parts.push(b' ')?;
+            self.part(parts)?;
+        }
+        Ok(())
+    }
+
+    pub(crate) fn path(&mut self) -> Result<Located, EventFault>
+        ensures len { self.new.len ≡ self.old.len }
+        ensures reads { (d : Draft) →
+            Reads result self.old.len (first_part d) (ahead self.old.len self.old.rest.now)
+            (λ located. behind_path d (path_in located)) (ahead self.new.len self.new.rest.now) }
+        ensures within { length self.new.rest.now ≤ length self.old.rest.now }
+    {
         let at = self.at();
         let mut parts = Vec::new(self.alloc);
         self.part(&mut parts)?;
-        for _ in 0..self.rest.len() {
-            if !self.takes_mark(b'.') {
-                break;
-            }
-            parts.push(b' ')?;
-            self.part(&mut parts)?;
-        }
+        self.more_parts(&mut parts)?;
         let select = self.select()?;
         Ok(Located {
             at,
@@ -181,7 +197,14 @@ impl Parser<'_> {
         Ok(is_equal)
     }
 
-    pub(crate) fn condition(&mut self) -> Result<Condition, EventFault> {
+    pub(crate) fn condition(&mut self) -> Result<Condition, EventFault>
+        ensures len { self.new.len ≡ self.old.len }
+        ensures reads { (d : Draft) → is_condition d.use_of ≡ true →
+            Reads result self.old.len (first_part d) (ahead self.old.len self.old.rest.now)
+            (λ condition. behind d.events (with_condition d (condition_in condition) d.use_of))
+            (ahead self.new.len self.new.rest.now) }
+        ensures within { length self.new.rest.now ≤ length self.old.rest.now }
+    {
         let path = self.path()?;
         let is_equal = self.comparison()?;
         let at = self.at();
