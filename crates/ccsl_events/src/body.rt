@@ -1,12 +1,14 @@
 //! The tokens of a dump's body.
 
-ghost use Rattle.std.specs.Prelude.{◌≤◌, length, IfOk};
+ghost use Rattle.std.specs.Prelude.{◌≤◌, ◌+◌, length, IfOk};
 
+use crate::codes::{Entry, code_at_front};
 use crate::output::FULL;
 use crate::values::Values;
 use ccsl_base::{MAX_TOKEN_BYTES, Memory, decimal};
 use ccsl_vcd::VcdFault;
-use ccsl_vcd_lex::run_end;
+use ccsl_vcd_lex::{is_space, run_end};
+use core::dec2flt::read_digits;
 use std::alloc::Global;
 
 /// What is done where values are not recorded for a while.
@@ -63,8 +65,21 @@ fn is_letter(b: u8) -> bool {
     b == b'0' || b == b'1' || b"01xXzZuUwWlLhH-".contains(&b)
 }
 
+/// A number of digits of which any value fits 64 bits.
+const DIGITS: usize = 19;
+
+// Whether all are letters of the values 0 and 1.
+#[inline(always)]
+fn are_bits(text: &[u8]) -> bool {
+    let mut others = 0;
+    for b in text {
+        others |= (*b & 0xfe) ^ b'0';
+    }
+    others == 0
+}
+
 fn are_letters(text: &[u8]) -> bool {
-    text.iter().all(|b| is_letter(*b))
+    are_bits(text) || text.iter().all(|b| is_letter(*b))
 }
 
 impl Body {
@@ -95,10 +110,8 @@ impl Body {
         Ok(())
     }
 
-    fn time(&mut self, at: u64, digits: &[u8], out: &mut Vec<u8>) -> Result<(), VcdFault> {
-        let Some(time) = decimal(digits, u64::MAX) else {
-            return Err(VcdFault::BadTime { at });
-        };
+    #[inline(always)]
+    fn time(&mut self, at: u64, time: u64, out: &mut Vec<u8>) -> Result<(), VcdFault> {
         if time < self.present {
             return Err(VcdFault::TimeBack {
                 at,
@@ -175,10 +188,12 @@ impl Body {
     }
 
     // A token in a change's place.
-    #[inline(always)]
-    fn change(&mut self, at: u64, text: &[u8], out: &mut Vec<u8>) -> Result<(), VcdFault> {
+    fn word(&mut self, at: u64, text: &[u8], out: &mut Vec<u8>) -> Result<(), VcdFault> {
         match text {
-            [b'#', digits @ ..] => self.time(at, digits, out),
+            [b'#', digits @ ..] => match decimal(digits, u64::MAX) {
+                Some(time) => self.time(at, time, out),
+                None => Err(VcdFault::BadTime { at }),
+            },
             [b'$', ..] => self.command(at, text),
             [b'b' | b'B', letters @ ..] => self.vector(at, letters),
             [b'r' | b'R', _, ..] | [b's' | b'S', ..] => self.skip(),
@@ -202,7 +217,7 @@ impl Body {
     }
 
     fn skipped_code(&mut self, at: u64, code: &[u8]) -> Result<(), VcdFault> {
-        if !self.values.is_declared(code) {
+        if self.values.codes.find(code) == Entry::Undeclared {
             return Err(VcdFault::UnknownCode { at });
         }
         self.amid = Amid::Changes;
@@ -217,20 +232,91 @@ impl Body {
     }
 
     /// Takes a token that ended, at a place.
-    #[inline(always)]
     pub(crate) fn hear(&mut self, at: u64, text: &[u8], out: &mut Vec<u8>) -> Result<(), VcdFault> {
         match self.amid {
-            Amid::Changes => self.change(at, text, out),
+            Amid::Changes => self.word(at, text, out),
             Amid::Remark => self.remark(text),
             Amid::Code => self.vector_code(at, text),
             Amid::CodeSkipped => self.skipped_code(at, text),
         }
     }
 
-    // Takes what stands at the front of some bytes: a byte of white space, or a token and the white space behind it. It answers
-    // how many bytes that are, and none where no token ends there.
+    // A time at the front of some bytes, behind its `#`. Like the next two it answers how many bytes are taken from the token's
+    // first to the white space behind it, and none where it does nothing.
     #[inline(always)]
-    fn step(&mut self, at: u64, bytes: &[u8], out: &mut Vec<u8>) -> Result<usize, VcdFault>
+    fn short_time(&mut self, at: u64, bytes: &[u8], out: &mut Vec<u8>) -> Result<usize, VcdFault>
+        ensures { IfOk result (λ taken. taken ≤ length bytes.now + 1) }
+    {
+        let (count, time) = read_digits(bytes, 0, 0);
+        if count == 0 || count > DIGITS || count >= bytes.len() || !is_space(bytes[count]) {
+            return Ok(0);
+        }
+        self.time(at, time, out)?;
+        Ok(count + 2)
+    }
+
+    // A change to one letter, of a short code.
+    #[inline(always)]
+    fn short_change(&mut self, letter: u8, bytes: &[u8]) -> Result<usize, Memory>
+        ensures { IfOk result (λ taken. taken ≤ length bytes.now + 1) }
+    {
+        let Some(code) = code_at_front(bytes) else {
+            return Ok(0);
+        };
+        let known = self.values.codes.at(code.place);
+        if !self
+            .values
+            .change_known(known, &[letter], self.is_dumping, self.is_on)?
+        {
+            return Ok(0);
+        }
+        Ok(code.len + 2)
+    }
+
+    // A change to several letters, of a short code. It is a call, so that the loop over changes of bits stays small.
+    #[inline(never)]
+    fn short_vector(&mut self, bytes: &[u8]) -> Result<usize, Memory>
+        ensures { IfOk result (λ taken. taken ≤ length bytes.now + 1) }
+    {
+        let end = run_end(bytes, 0);
+        if end == 0 || end >= bytes.len() || end >= MAX_TOKEN_BYTES {
+            return Ok(0);
+        }
+        let letters = &bytes[..end];
+        let Some(code) = code_at_front(&bytes[end + 1..]) else {
+            return Ok(0);
+        };
+        let known = self.values.codes.at(code.place);
+        if !are_letters(letters)
+            || !self
+                .values
+                .change_known(known, letters, self.is_dumping, self.is_on)?
+        {
+            return Ok(0);
+        }
+        Ok(end + code.len + 3)
+    }
+
+    // Takes a token of those that a dump has most, if one stands at the front of some bytes.
+    #[inline(always)]
+    fn frequent(&mut self, at: u64, bytes: &[u8], out: &mut Vec<u8>) -> Result<usize, VcdFault>
+        ensures { IfOk result (λ taken. taken ≤ length bytes.now) }
+    {
+        if self.amid != Amid::Changes {
+            return Ok(0);
+        }
+        match bytes {
+            [b'#', digits @ ..] => self.short_time(at, digits, out),
+            [b'b', letters @ ..] => Ok(self.short_vector(letters)?),
+            [letter, code @ ..] if is_letter(*letter) => Ok(self.short_change(*letter, code)?),
+            _ => Ok(0),
+        }
+    }
+
+    // Takes whatever stands at the front of some bytes: a byte of white space, or a token and the white space behind it. It
+    // answers how many bytes that are, and none where no token ends there.
+    #[inline(never)]
+    fn token(&mut self, at: u64, bytes: &[u8], out: &mut Vec<u8>) -> Result<usize, VcdFault>
         ensures { IfOk result (λ taken. taken ≤ length bytes.now) }
     {
         let end = run_end(bytes, 0);
@@ -244,6 +330,17 @@ impl Body {
             self.hear(at, &bytes[..end], out)?;
         }
         Ok(end + 1)
+    }
+
+    #[inline(always)]
+    fn step(&mut self, at: u64, bytes: &[u8], out: &mut Vec<u8>) -> Result<usize, VcdFault>
+        ensures { IfOk result (λ taken. taken ≤ length bytes.now) }
+    {
+        let taken = self.frequent(at, bytes, out)?;
+        if taken > 0 {
+            return Ok(taken);
+        }
+        self.token(at, bytes, out)
     }
 
     /// Takes the tokens that lie whole in a piece, and stops where the output is full. It answers how many bytes they have.

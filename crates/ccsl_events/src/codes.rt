@@ -1,8 +1,9 @@
 //! The declared codes, and which of them are kept.
 
-ghost use Rattle.std.specs.Prelude.{◌<◌};
+ghost use Rattle.std.specs.Prelude.{◌<◌, length, IfSome};
 
 use ccsl_base::{HashKeys, Memory, Names};
+use ccsl_vcd_lex::is_space;
 use std::alloc::Global;
 
 /// The places of codes of one to three bytes: 94 + 94^2 + 94^3.
@@ -49,16 +50,60 @@ fn digit(b: u8) -> usize
     (b as usize).saturating_sub(33)
 }
 
+// The place of a code of two bytes in the table, and of one with three. That of one byte is its digit.
+#[inline(always)]
+fn place_of_two(a: u8, b: u8) -> usize
+    ensures { result < 25_000 }
+{
+    digit(a) + 94 * (digit(b) + 1)
+}
+
+#[inline(always)]
+fn place_of_three(a: u8, b: u8, c: u8) -> usize {
+    place_of_two(a, b) + 8836 * (digit(c) + 1)
+}
+
 // The place of a code in the table, or its length for one that has none.
 #[inline(always)]
 fn place(code: &[u8]) -> usize {
     match code {
         [a] if is_visible(*a) => digit(*a),
-        [a, b] if is_visible(*a) && is_visible(*b) => digit(*a) + 94 * (digit(*b) + 1),
+        [a, b] if is_visible(*a) && is_visible(*b) => place_of_two(*a, *b),
         [a, b, c] if is_visible(*a) && is_visible(*b) && is_visible(*c) => {
-            digit(*a) + 94 * (digit(*b) + 1) + 8836 * (digit(*c) + 1)
+            place_of_three(*a, *b, *c)
         }
         _ => SHORT,
+    }
+}
+
+/// How many bytes a code has, and its place in the table.
+#[derive(Clone, Copy, Debug)]
+pub(crate) struct Placed {
+    pub len: usize,
+    pub place: usize,
+}
+
+/// The code of one to three bytes at the front of some bytes, with white space behind it.
+#[inline(always)]
+pub(crate) fn code_at_front(bytes: &[u8]) -> Option<Placed>
+    ensures { IfSome result (λ code. code.len < length bytes.now) }
+{
+    match bytes {
+        [a, b, ..] if is_visible(*a) && is_space(*b) => Some(Placed {
+            len: 1,
+            place: digit(*a),
+        }),
+        [a, b, c, ..] if is_visible(*a) && is_visible(*b) && is_space(*c) => Some(Placed {
+            len: 2,
+            place: place_of_two(*a, *b),
+        }),
+        [a, b, c, d, ..] if is_visible(*a) && is_visible(*b) && is_visible(*c) && is_space(*d) => {
+            Some(Placed {
+                len: 3,
+                place: place_of_three(*a, *b, *c),
+            })
+        }
+        _ => None,
     }
 }
 
@@ -95,11 +140,20 @@ impl Codes {
         }
     }
 
+    /// What is known of the code of a place.
     #[inline(always)]
+    pub(crate) fn at(&self, place: usize) -> Entry {
+        if place < self.short.len() {
+            self.short[place]
+        } else {
+            Entry::Undeclared
+        }
+    }
+
     pub(crate) fn find(&self, code: &[u8]) -> Entry {
         let place = place(code);
-        if place < self.short.len() {
-            return self.short[place];
+        if place < SHORT {
+            return self.at(place);
         }
         self.find_long(code)
     }

@@ -52,13 +52,24 @@ impl Values {
         Ok(())
     }
 
-    /// Whether a code is declared.
-    pub(crate) fn is_declared(&self, code: &[u8]) -> bool {
-        self.codes.find(code) != Entry::Undeclared
+    /// A change of the value of a code, of which this is known, to these letters. It answers whether the code is declared.
+    #[inline(always)]
+    pub(crate) fn change_known(
+        &mut self,
+        known: Entry,
+        letters: &[u8],
+        is_dumped: bool,
+        is_kept: bool,
+    ) -> Result<bool, Memory> {
+        match known {
+            Entry::Undeclared => return Ok(false),
+            Entry::Used(first) if is_kept => self.set(first, letters, is_dumped)?,
+            Entry::Used(_) | Entry::Unused => {}
+        }
+        Ok(true)
     }
 
     /// A change of a code's value to these letters.
-    #[inline(always)]
     pub(crate) fn change(
         &mut self,
         at: u64,
@@ -67,47 +78,40 @@ impl Values {
         is_dumped: bool,
         is_kept: bool,
     ) -> Result<(), VcdFault> {
-        match self.codes.find(code) {
-            Entry::Undeclared => Err(VcdFault::UnknownCode { at }),
-            Entry::Unused => Ok(()),
-            Entry::Used(first) => {
-                if is_kept {
-                    self.set(first, letters, is_dumped)?;
-                }
-                Ok(())
-            }
+        let known = self.codes.find(code);
+        if self.change_known(known, letters, is_dumped, is_kept)? {
+            return Ok(());
         }
+        Err(VcdFault::UnknownCode { at })
     }
 
-    // The names whose triggers read a variable that changed.
-    fn concerned(&self) -> ClockSet {
-        let mut names = ClockSet::empty();
-        for number in self.touched.as_slice() {
-            if let Some(users) = self.users.get(*number) {
-                for name in users.as_slice() {
-                    if *name < MAX_CLOCKS {
-                        names.insert(*name);
-                    }
+    // Puts the names in a set that happen at the present time and whose triggers read a variable.
+    #[inline(always)]
+    fn put_happening(&self, variable: usize, names: &mut ClockSet) {
+        let Some(users) = self.users.get(variable) else {
+            return;
+        };
+        for name in users.as_slice() {
+            if let Some(watch) = self.watches.get(*name as usize) {
+                if *name < MAX_CLOCKS && watch.happens(self.signals.as_slice()) {
+                    names.insert(*name);
                 }
             }
         }
-        names
     }
 
     // The names that happen at the present time.
+    #[inline(always)]
     fn happening(&self) -> ClockSet {
         let mut names = ClockSet::empty();
-        for name in self.concerned().members() {
-            if let Some(watch) = self.watches.get(name as usize) {
-                if name < MAX_CLOCKS && watch.happens(self.signals.as_slice()) {
-                    names.insert(name);
-                }
-            }
+        for number in self.touched.as_slice() {
+            self.put_happening(*number, &mut names);
         }
         names
     }
 
     /// The present time is over: its row is appended, if it has one. It answers whether it has.
+    #[inline(never)]
     pub(crate) fn settle(&mut self, time: u64, out: &mut Vec<u8>) -> Result<bool, Memory> {
         if self.touched.is_empty() {
             return Ok(false);

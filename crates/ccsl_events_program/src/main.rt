@@ -12,7 +12,7 @@ fn say(rt: &HostRuntime, bytes: &[u8]) {
 }
 
 fn say_answer(rt: &HostRuntime, answer: &Answer) {
-    say(rt, answer.line.as_slice());
+    say(rt, answer.line.bytes());
     if !answer.hint.is_empty() {
         let _ = eprint!(rt; "candidates:");
         say(rt, answer.hint.as_slice());

@@ -81,7 +81,7 @@ fn make<W: World>(
 // The report goes to standard output where that is no trace.
 fn report<W: World>(world: &mut W, words: &[CommandWord], mut answer: Answer) -> Answer {
     if value_of(Key::Out, words).is_some() {
-        if write_all(world, Slot::Report, answer.line.as_slice()).is_err() {
+        if write_all(world, Slot::Report, answer.line.bytes()).is_err() {
             answer.status = 5;
         }
         answer.line.clear();
