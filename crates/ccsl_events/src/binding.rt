@@ -3,7 +3,7 @@
 use crate::body::{Body, Gaps};
 use crate::codes::{Codes, Entry};
 use crate::values::Values;
-use ccsl_base::{HashKeys, Memory, Names};
+use ccsl_base::{ClockSet, HashKeys, Memory, Names};
 use ccsl_event_file::{Condition, Event, EventFault, Located, Trigger as Wanted};
 use ccsl_scopes::{Header, Kind, Resolution, Target, Variable, put_candidates, resolve};
 use ccsl_triggers::{Goal, Part, Signal, Trigger, Watch};
@@ -259,6 +259,8 @@ fn body(
         users: binder.users,
         watches,
         touched,
+        names: ClockSet::empty(),
+        none: ClockSet::empty(),
     };
     Body::new(alloc, values, gaps)
 }

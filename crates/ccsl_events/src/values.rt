@@ -1,9 +1,13 @@
 //! The variables that triggers read, by the changes of a dump.
 
+ghost use Rattle.std.specs.Prelude.{OnOk};
+ghost use Rattle.ccsl_events.specs.Written.{Wrote};
+
 use crate::codes::{Codes, Entry};
 use ccsl_base::{ClockSet, MAX_CLOCKS, Memory};
 use ccsl_triggers::{Signal, Watch, put_row};
 use ccsl_vcd::VcdFault;
+use itoa::Buffer;
 
 /// What is kept of the dump's values, and what is read of them.
 pub(crate) struct Values {
@@ -14,6 +18,9 @@ pub(crate) struct Values {
     pub watches: Vec<Watch>,
     /// the variables that changed at the present time
     pub touched: Vec<usize>,
+    /// the names that happened at the last time that is over, and no names
+    pub names: ClockSet,
+    pub none: ClockSet,
 }
 
 // By hand and not derived: to the prover, an early return then drops one by a single call.
@@ -25,7 +32,37 @@ impl Drop for Values {
             users: _users,
             watches: _watches,
             touched: _touched,
+            names: _names,
+            none: _none,
         } = self;
+    }
+}
+
+// Puts the names in a set that happen at the present time, of those whose triggers read a variable.
+#[inline(always)]
+fn put_names_of(users: &[u32], watches: &[Watch], signals: &[Signal], names: &mut ClockSet) {
+    for name in users {
+        if let Some(watch) = watches.get(*name as usize) {
+            if *name < MAX_CLOCKS && watch.happens(signals) {
+                names.insert(*name);
+            }
+        }
+    }
+}
+
+// The same of variables, by their numbers.
+#[inline(always)]
+fn put_names(
+    variables: &[usize],
+    users: &[Vec<u32>],
+    watches: &[Watch],
+    signals: &[Signal],
+    names: &mut ClockSet,
+) {
+    for number in variables {
+        if let Some(users) = users.get(*number) {
+            put_names_of(users.as_slice(), watches, signals, names);
+        }
     }
 }
 
@@ -85,39 +122,26 @@ impl Values {
         Err(VcdFault::UnknownCode { at })
     }
 
-    // Puts the names in a set that happen at the present time and whose triggers read a variable.
-    #[inline(always)]
-    fn put_happening(&self, variable: usize, names: &mut ClockSet) {
-        let Some(users) = self.users.get(variable) else {
-            return;
-        };
-        for name in users.as_slice() {
-            if let Some(watch) = self.watches.get(*name as usize) {
-                if *name < MAX_CLOCKS && watch.happens(self.signals.as_slice()) {
-                    names.insert(*name);
-                }
-            }
-        }
-    }
-
-    // The names that happen at the present time.
-    #[inline(always)]
-    fn happening(&self) -> ClockSet {
-        let mut names = ClockSet::empty();
-        for number in self.touched.as_slice() {
-            self.put_happening(*number, &mut names);
-        }
-        names
-    }
-
     /// The present time is over: its row is appended, if it has one. It answers whether it has.
     #[inline(never)]
-    pub(crate) fn settle(&mut self, time: u64, out: &mut Vec<u8>) -> Result<bool, Memory> {
+    pub(crate) fn settle(&mut self, time: u64, out: &mut Vec<u8>) -> Result<bool, Memory>
+        ensures { OnOk result (Wrote time out.old.items out.new.items) }
+    {
         if self.touched.is_empty() {
             return Ok(false);
         }
-        let names = self.happening();
-        put_row(time, &names, out)?;
+        // They are made before the names are looked for: a copy of bytes that were only just stored has to wait for them.
+        let mut buffer = Buffer::new();
+        let digits = buffer.format(time).as_bytes();
+        self.names.copy_from(&self.none);
+        put_names(
+            self.touched.as_slice(),
+            self.users.as_slice(),
+            self.watches.as_slice(),
+            self.signals.as_slice(),
+            &mut self.names,
+        );
+        put_row(digits, &self.names, out)?;
         for number in self.touched.as_slice() {
             if *number < self.signals.len() {
                 let signal = &mut self.signals[*number];
@@ -125,7 +149,7 @@ impl Values {
             }
         }
         self.touched.clear();
-        Ok(!names.is_empty())
+        Ok(!self.names.is_empty())
     }
 
     /// Values are not recorded any more.

@@ -4,7 +4,6 @@ ghost use Rattle.std.specs.Prelude.{◌≡◌, ◌++◌, OnOk};
 ghost use Rattle.ccsl_triggers.specs.Output.{code_byte, code_of, time_line, tick_line, tick_lines, row_text};
 
 use ccsl_base::{ClockSet, Memory};
-use itoa::Buffer;
 
 fn code_byte(i: u32) -> u8
     ensures { result ≡ code_byte i }
@@ -25,11 +24,11 @@ pub fn put_code(name: u32, out: &mut Vec<u8>) -> Result<(), Memory>
     Ok(())
 }
 
-fn put_time(time: u64, out: &mut Vec<u8>) -> Result<(), Memory>
-    ensures { OnOk result (out.new.items ≡ out.old.items ++ time_line time) }
+fn put_time(digits: &[u8], out: &mut Vec<u8>) -> Result<(), Memory>
+    ensures { OnOk result (out.new.items ≡ out.old.items ++ time_line digits.now) }
 {
     out.push(b'#')?;
-    out.extend_from_slice(Buffer::new().format(time).as_bytes())?;
+    out.extend_from_slice(digits)?;
     out.push(b'\n')?;
     Ok(())
 }
@@ -56,13 +55,13 @@ fn put_ticks(names: &ClockSet, out: &mut Vec<u8>) -> Result<(), Memory>
     Ok(())
 }
 
-/// Appends the row of a time: its line, and one for each name that happens, if any does.
-pub fn put_row(time: u64, names: &ClockSet, out: &mut Vec<u8>) -> Result<(), Memory>
-    ensures { OnOk result (out.new.items ≡ out.old.items ++ row_text time names.now) }
+/// Appends the row of a time with these digits: its line, and one for each name that happens, if any does.
+pub fn put_row(digits: &[u8], names: &ClockSet, out: &mut Vec<u8>) -> Result<(), Memory>
+    ensures { OnOk result (out.new.items ≡ out.old.items ++ row_text digits.now names.now) }
 {
     if names.is_empty() {
         return Ok(());
     }
-    put_time(time, out)?;
+    put_time(digits, out)?;
     put_ticks(names, out)
 }
