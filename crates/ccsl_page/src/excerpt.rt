@@ -1,6 +1,7 @@
 //! A line of a text with a mark under a part of it.
 
 use crate::page::{Page, Piece};
+use crate::paint::Paint;
 use crate::place::{Place, line_around, place_of};
 use ccsl_base::Memory;
 use itoa::Buffer;
@@ -63,11 +64,14 @@ fn put_mark(page: &mut Page, marked: &Marked<'_>, said: &[Piece<'_>]) -> Result<
     page.put(&[Piece::Text(" | ")])?;
     put_indent(page, &marked.line[..from])?;
     let left = marked.line.len() - from;
+    page.paint(Paint::Fault)?;
     page.fill(b'^', marked.count.min(left).max(1))?;
-    if !said.is_empty() {
+    if said.iter().any(|piece| !piece.is_empty()) {
         page.put(&[Piece::Text(" ")])?;
     }
-    page.put_line(said)
+    page.put(said)?;
+    page.paint(Paint::Plain)?;
+    page.put_line(&[])
 }
 
 /// Puts the place of a file as `FILE:LINE:COLUMN`, then its line, and under `count` bytes of that from the place on, one at least,
@@ -80,13 +84,16 @@ pub fn put_line_at(
     count: usize,
     said: &[Piece<'_>],
 ) -> Result<(), Memory> {
-    page.put_line(&[
+    page.paint(Paint::Place)?;
+    page.put(&[
         Piece::Text(file),
         Piece::Text(":"),
         Piece::Number(place.line),
         Piece::Text(":"),
         Piece::Number(place.column),
     ])?;
+    page.paint(Paint::Plain)?;
+    page.put_line(&[])?;
     let marked = Marked {
         number: place.line,
         line: &line[..line.len().min(MOST)],

@@ -4,6 +4,7 @@ ghost use Rattle.std.specs.Prelude.{◌≡◌, ◌++◌, [], OnOk};
 ghost use Rattle.std.specs.List.{concat};
 ghost use Rattle.ccsl_page.specs.Pieces.{piece_text, piece_texts, line};
 
+use crate::paint::Paint;
 use ccsl_base::Memory;
 use itoa::Buffer;
 use std::alloc::Global;
@@ -17,10 +18,22 @@ pub enum Piece<'a> {
     Number(u64),
 }
 
+impl Piece<'_> {
+    /// Whether it has no bytes.
+    pub fn is_empty(&self) -> bool {
+        match self {
+            Piece::Text(text) => text.is_empty(),
+            Piece::Name(name) => name.is_empty(),
+            Piece::Number(_) => false,
+        }
+    }
+}
+
 /// A text that grows. Contracts see its bytes.
 #[derive(Drop)]
 pub struct Page {
     text: Vec<u8>,
+    is_coloured: bool,
 }
 
 impl Model for Page {
@@ -32,11 +45,23 @@ impl Model for Page {
 }
 
 impl Page {
+    /// A page without colours.
     pub fn new(alloc: Global) -> Page
         ensures { result ≡ [] }
     {
         Page {
             text: Vec::new(alloc),
+            is_coloured: false,
+        }
+    }
+
+    /// A page for a terminal, with the codes of its colours, or without.
+    pub fn coloured(alloc: Global, is_coloured: bool) -> Page
+        ensures { result ≡ [] }
+    {
+        Page {
+            text: Vec::new(alloc),
+            is_coloured,
         }
     }
 
@@ -83,6 +108,14 @@ impl Page {
     {
         self.put(pieces)?;
         self.text.extend_from_slice(b"\n")?;
+        Ok(())
+    }
+
+    /// What is put from here on has this colour, where the page has colours.
+    pub fn paint(&mut self, paint: Paint) -> Result<(), Memory> {
+        if self.is_coloured {
+            self.text.extend_from_slice(paint.code().as_bytes())?;
+        }
         Ok(())
     }
 

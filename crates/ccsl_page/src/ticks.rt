@@ -1,6 +1,7 @@
 //! Ticks as rows: a line for each clock, a column for each step.
 
 use crate::page::{Page, Piece};
+use crate::paint::Paint;
 use crate::time::Scale;
 use ccsl_base::{ClockSet, Memory, Names};
 use itoa::Buffer;
@@ -60,6 +61,15 @@ fn put_cell(
     }
 }
 
+// What stands behind a column; a bracket is the last of what is at fault.
+fn put_end(page: &mut Page, end: &str) -> Result<(), Memory> {
+    page.put(&[Piece::Text(end)])?;
+    if end == "]" {
+        page.paint(Paint::Plain)?;
+    }
+    Ok(())
+}
+
 // A row. The marked step stands in brackets, and no blank stands at the end.
 fn put_cells(
     page: &mut Page,
@@ -70,13 +80,16 @@ fn put_cells(
 ) -> Result<(), Memory> {
     let mut end = " ";
     for column in columns {
-        page.put(&[Piece::Text(end)])?;
+        put_end(page, end)?;
         let is_marked = marked == Some(column.step);
+        if is_marked {
+            page.paint(Paint::Fault)?;
+        }
         put_cell(page, column, scale, cell, if is_marked { "[" } else { " " })?;
         end = if is_marked { "]" } else { " " };
     }
     if end == "]" {
-        page.put(&[Piece::Text(end)])?;
+        put_end(page, end)?;
     }
     Ok(())
 }

@@ -2,6 +2,9 @@
 
 use crate::page::Piece;
 
+/// How many units of time there are.
+const UNITS: usize = 6;
+
 /// A unit of time.
 #[derive(Clone, Copy, Debug, PartialEq, Eq)]
 pub enum TimeUnit {
@@ -13,10 +16,12 @@ pub enum TimeUnit {
     Femtosecond,
 }
 
-/// How long a trace's unit of time is: 1, 10 or 100 of a unit. Without one, times are numbers alone.
+/// How long a trace's unit of time is, 1, 10 or 100 of a unit, and the unit in which times are shown, which is so many thousands of
+/// thousands of that one. Without a unit, times are numbers alone.
 #[derive(Clone, Copy, Debug, PartialEq, Eq)]
 pub struct Scale {
     pub times: u64,
+    pub thousands: u32,
     pub unit: Option<TimeUnit>,
 }
 
@@ -78,6 +83,7 @@ impl Scale {
     /// Of times without a unit.
     pub const BARE: Scale = Scale {
         times: 1,
+        thousands: 0,
         unit: None,
     };
 
@@ -87,10 +93,12 @@ impl Scale {
         match TimeUnit::named(without_blank(rest)) {
             Some(unit) => Scale {
                 times,
+                thousands: 0,
                 unit: Some(unit),
             },
             None => Scale {
                 times: 1,
+                thousands: 0,
                 unit: None,
             },
         }
@@ -98,7 +106,38 @@ impl Scale {
 
     /// A time in this scale, as a number of its unit.
     pub fn number(self, time: u64) -> u64 {
-        time.saturating_mul(self.times)
+        let mut number = time.saturating_mul(self.times);
+        for _ in 0..self.thousands {
+            number /= 1000;
+        }
+        number
+    }
+
+    // The scale with the next longer unit, where each of these times is whole in it.
+    fn longer(self, times: &[u64]) -> Option<Scale> {
+        let unit = self.unit?.longer()?;
+        if times.iter().any(|time| self.number(*time) % 1000 != 0) {
+            return None;
+        }
+        Some(Scale {
+            times: self.times,
+            thousands: self.thousands.saturating_add(1),
+            unit: Some(unit),
+        })
+    }
+
+    /// The scale with the longest unit in which each of these times is whole. Where all are 0 it stays.
+    pub fn fitted(self, times: &[u64]) -> Scale {
+        let mut scale = self;
+        if times.iter().all(|time| *time == 0) {
+            return scale;
+        }
+        for _ in 0..UNITS {
+            if let Some(longer) = scale.longer(times) {
+                scale = longer;
+            }
+        }
+        scale
     }
 
     /// The name of the unit, behind a blank, or nothing.
