@@ -1,7 +1,8 @@
 //! How often each clock has ticked.
 
-ghost use Rattle.std.specs.Prelude.{◌≡◌, IfOk, length, replicate, slice_index_or};
-ghost use Rattle.ccsl_causes.specs.Counted.{counted, counted_from};
+ghost use Rattle.std.specs.Prelude.{◌≡◌, ◌<◌, ℕ, IfOk, length, replicate, slice_index_or};
+ghost use Rattle.ccsl_base.specs.Clocks.{ticks_in};
+ghost use Rattle.ccsl_causes.specs.Counted.{counted};
 
 use ccsl_base::{ClockSet, Memory};
 use std::alloc::Global;
@@ -21,13 +22,6 @@ impl Model for Counts {
     ghost view = { λ c. c.ticks.items };
 
     ghost invariant = { λ c. length c.ticks.items < 2 ^ 32 };
-}
-
-// One more where the clock ticks.
-fn counted(tick: bool, count: u64) -> u64
-    ensures { result ≡ counted tick count }
-{
-    if tick { count.saturating_add(1) } else { count }
 }
 
 impl Counts {
@@ -50,12 +44,17 @@ impl Counts {
         }
     }
 
-    /// A step is made.
+    /// A step is made. Only the counts of the clocks that tick in it are visited.
     pub fn count(&mut self, step: &ClockSet)
-        ensures { self.new ≡ counted_from 0 step.now self.old }
+        ensures clocks { length self.new ≡ length self.old }
+        ensures counts { (x : ℕ) → x < length self.old →
+            slice_index_or self.new x 0 ≡ counted (ticks_in x step.now) (slice_index_or self.old x 0) }
     {
-        for i in 0..self.ticks.len() {
-            self.ticks[i] = counted(step.has(i as u32), self.ticks[i]);
+        for clock in step.members() {
+            let at = clock as usize;
+            if at < self.ticks.len() {
+                self.ticks[at] = self.ticks[at].saturating_add(1);
+            }
         }
     }
 }

@@ -6,8 +6,8 @@ ghost use Rattle.ccsl_causes.specs.Counted.{counted, lessened};
 
 use crate::names::clock_name;
 use ccsl_base::{ClockSet, Memory};
-use ccsl_kernel::{RelationKind, System};
-use ccsl_page::{Page, Piece, Scale};
+use ccsl_kernel::{Constraint, RelationKind, System};
+use ccsl_page::{Page, Paint, Piece, Scale};
 use std::alloc::Global;
 
 /// A precedence between two clocks that are written in the system: how far the left one is ahead, and since when.
@@ -41,10 +41,11 @@ impl Lead {
     }
 }
 
-/// The precedences of a system.
+/// The precedences of a system, and which of them each clock is a side of.
 #[derive(Drop)]
 pub struct Leads {
     leads: Vec<Lead>,
+    sides: Vec<Vec<usize>>,
 }
 
 fn is_precedence(kind: RelationKind) -> bool {
@@ -55,30 +56,68 @@ fn is_precedence(kind: RelationKind) -> bool {
     }
 }
 
+// The precedence between the two clocks of a constraint, if it is one between clocks that are written in the system.
+fn lead_of(system: &System, constraint: &Constraint) -> Option<Lead> {
+    let is_written = constraint.left < system.written() && constraint.right < system.written();
+    if !is_precedence(constraint.kind) || !is_written {
+        return None;
+    }
+    Some(Lead {
+        left: constraint.left,
+        right: constraint.right,
+        ahead: 0,
+        since: 0,
+    })
+}
+
 impl Leads {
     /// Those between two clocks that are written in the system, before the first step.
     pub fn new(alloc: Global, system: &System) -> Result<Leads, Memory> {
-        let mut leads = Vec::new(alloc);
+        let mut sides = Vec::new(alloc);
+        for _ in 0..system.written() {
+            sides.push(Vec::new(alloc))?;
+        }
+        let mut found = Leads {
+            leads: Vec::new(alloc),
+            sides,
+        };
         for j in 0..system.constraints() {
-            let constraint = system.constraint(j);
-            let is_written = constraint.left < system.written()
-                && constraint.right < system.written();
-            if is_precedence(constraint.kind) && is_written {
-                leads.push(Lead {
-                    left: constraint.left,
-                    right: constraint.right,
-                    ahead: 0,
-                    since: 0,
-                })?;
+            if let Some(lead) = lead_of(system, system.constraint(j)) {
+                found.add(lead)?;
             }
         }
-        Ok(Leads { leads })
+        Ok(found)
     }
 
-    /// A step is made.
+    fn add(&mut self, lead: Lead) -> Result<(), Memory> {
+        let number = self.leads.len();
+        for clock in [lead.left, lead.right] {
+            if let Some(side) = self.sides.get_mut(clock as usize) {
+                side.push(number)?;
+            }
+        }
+        self.leads.push(lead)?;
+        Ok(())
+    }
+
+    // A clock ticks in a step. Where the left clock ticks, what the right one does is counted with it.
+    fn hear(&mut self, clock: u32, step: &ClockSet, time: u64) {
+        let Some(side) = self.sides.get(clock as usize) else {
+            return;
+        };
+        for number in side {
+            if let Some(lead) = self.leads.get_mut(*number)
+                && (clock == lead.left || !step.has(lead.left))
+            {
+                *lead = lead.after(step, time);
+            }
+        }
+    }
+
+    /// A step is made. Only the precedences of the clocks that tick in it are visited.
     pub fn count(&mut self, step: &ClockSet, time: u64) {
-        for lead in self.leads.as_mut_slice() {
-            *lead = lead.after(step, time);
+        for clock in step.members() {
+            self.hear(clock, step, time);
         }
     }
 
@@ -87,18 +126,33 @@ impl Leads {
     }
 }
 
+// The longest unit in which the times are whole since which left clocks are ahead.
+fn fitted(alloc: Global, leads: &Leads, scale: Scale) -> Result<Scale, Memory> {
+    let mut times = Vec::new(alloc);
+    for lead in leads.list() {
+        if lead.ahead > 0 {
+            times.push(lead.since)?;
+        }
+    }
+    Ok(scale.fitted(times.as_slice()))
+}
+
 /// Puts the precedences whose left clock is ahead, a line each.
 pub fn put_pending(
+    alloc: Global,
     page: &mut Page,
     system: &System,
     leads: &Leads,
     scale: Scale,
 ) -> Result<(), Memory> {
+    let scale = fitted(alloc, leads, scale)?;
     for lead in leads.list() {
         if lead.ahead > 0 {
             let [number, blank, unit] = scale.pieces(lead.since);
+            page.paint(Paint::Notice)?;
+            page.put(&[Piece::Text("  pending: ")])?;
+            page.paint(Paint::Plain)?;
             page.put_line(&[
-                Piece::Text("  pending: "),
                 Piece::Name(clock_name(system, lead.left)),
                 Piece::Text(" is "),
                 Piece::Number(lead.ahead),
