@@ -1,0 +1,10 @@
+-- All that was done is reading.
+use Rattle.ccsl_edge.specs.Counts.{SameCounts}
+use Rattle.ccsl_follow.specs.OnlyReads.{OnlyReads}
+use Rattle.ccsl_follow.proofs.search.searched.Given as goal
+
+abbrev pub invariant-loop : goal.invariant-loop
+invariant-loop g l = record {
+  reads : OnlyReads (g.W.World.state l.fn.world) (g.W.World.state l.world);
+  calm : SameCounts (g.W.World.state l.fn.world) (g.W.World.state l.world);
+}

@@ -1,0 +1,3 @@
+pub mod Fed
+pub mod OnlyReads
+pub mod Following

@@ -1,0 +1,20 @@
+//! The files of an answer, read once more, and a trace, followed over its steps.
+#![tactic(auto)]
+
+pub mod feeding;
+pub mod follow;
+pub mod heading;
+pub mod kept;
+pub mod reading;
+pub mod search;
+pub mod steps;
+pub mod stop;
+pub mod text;
+
+pub use follow::{Follow, followed};
+pub use heading::{read_header, scale_of};
+pub use kept::Kept;
+pub use search::{Search, searched};
+pub use steps::Steps;
+pub use stop::Stop;
+pub use text::{TextFault, Understood, read_text, understand};
