@@ -1,7 +1,11 @@
 //! Walking over lines in the order in which they are expanded.
 
-ghost use Rattle.std.specs.Prelude.{◌≡◌, ◌==◌, ◌<◌, ◌-◌, IfSome};
-ghost use Rattle.ccsl_origin.specs.Offsets.{offset_of};
+ghost use Rattle.std.specs.Prelude.{◌≡◌, ◌==◌, ◌<◌, ◌-◌, ◌∷◌, ◌++◌, List, true, false, IfOk, IfSome};
+ghost use Rattle.ccsl_ast.specs.declared.line.RelationLine.{RelationLine};
+ghost use Rattle.ccsl_origin.specs.declared.origin.Origin.{Origin};
+ghost use Rattle.ccsl_origin.specs.declared.origin.Home.TheVariants.{Specification};
+ghost use Rattle.ccsl_origin.specs.Offsets.{offset_of, origin_of};
+ghost use Rattle.ccsl_origin.specs.Passing.{is_definition, past_definition, is_constraint, past_constraint};
 
 use crate::origin::{Home, Origin, Wanted};
 use ccsl_ast::{Definition, RelationLine, Spot};
@@ -91,8 +95,12 @@ impl Walk {
         }
     }
 
-    // Whether a definition in a body, or in the system, is the wanted item.
-    fn is_definition(&mut self, is_hidden: bool) -> bool {
+    // Whether a definition in a body, or in the system, is the wanted item. If not, it is passed.
+    fn is_definition(&mut self, is_hidden: bool) -> bool
+        ensures is { result ≡ is_definition is_hidden self.old.wanted }
+        ensures left { self.new.wanted ≡ past_definition is_hidden self.old.wanted }
+        ensures trail { self.new.trail.items ≡ self.old.trail.items }
+    {
         match &mut self.wanted {
             Wanted::Written(left) if !is_hidden => passed(left),
             Wanted::Hidden(left) if is_hidden => passed(left),
@@ -100,7 +108,12 @@ impl Walk {
         }
     }
 
-    fn is_constraint(&mut self) -> bool {
+    // Whether a constraint is the wanted item. If not, it is passed.
+    fn is_constraint(&mut self) -> bool
+        ensures is { result ≡ is_constraint self.old.wanted }
+        ensures left { self.new.wanted ≡ past_constraint self.old.wanted }
+        ensures trail { self.new.trail.items ≡ self.old.trail.items }
+    {
         match &mut self.wanted {
             Wanted::Constraint(left) => passed(left),
             _ => false,
@@ -116,7 +129,11 @@ impl Walk {
         is_hidden: bool,
         home: Home,
         line: &RelationLine,
-    ) -> Result<bool, Memory> {
+    ) -> Result<bool, Memory>
+        ensures found { IfOk result (λ found. found ≡ true →
+            (more : List Origin) × (self.new.trail.items ≡ self.old.trail.items ++ origin_of home line.now ∷ more)) }
+        ensures passed { IfOk result (λ found. found ≡ false → self.new.trail.items ≡ self.old.trail.items) }
+    {
         self.trail.push(Origin {
             home,
             at: offset_of(line),
@@ -143,7 +160,11 @@ impl Walk {
         limit: usize,
         home: Home,
         lines: &[RelationLine],
-    ) -> Result<bool, Memory> {
+    ) -> Result<bool, Memory>
+        ensures found { IfOk result (λ found. found ≡ true → (line : RelationLine) × (more : List Origin) ×
+            (self.new.trail.items ≡ self.old.trail.items ++ origin_of home line ∷ more)) }
+        ensures passed { IfOk result (λ found. found ≡ false → self.new.trail.items ≡ self.old.trail.items) }
+    {
         for line in lines {
             if self.is_from(blocks, limit, true, home, line)? {
                 return Ok(true);
@@ -157,7 +178,11 @@ impl Walk {
         &mut self,
         blocks: &[Block<'_>],
         line: &RelationLine,
-    ) -> Result<bool, Memory> {
+    ) -> Result<bool, Memory>
+        ensures found { IfOk result (λ found. found ≡ true → (more : List Origin) ×
+            (self.new.trail.items ≡ self.old.trail.items ++ origin_of Specification line.now ∷ more)) }
+        ensures passed { IfOk result (λ found. found ≡ false → self.new.trail.items ≡ self.old.trail.items) }
+    {
         self.is_from(blocks, blocks.len(), false, Home::Specification, line)
     }
 }
