@@ -1,19 +1,22 @@
 //! What is shown behind an answer, from its files on.
 
-ghost use Rattle.std.specs.Prelude.{ℕ, List};
+ghost use Rattle.std.specs.Prelude.{ℕ, List, OnOk};
 ghost use Rattle.ccsl_edge.specs.declared.slot.Slot.{Slot};
+ghost use Rattle.ccsl_edge.specs.Counts.{SameCounts};
+ghost use Rattle.ccsl_follow.specs.OnlyReads.{OnlyReads};
 
 use crate::case::Case;
-use crate::judged::View;
 use crate::picture::put_picture;
 use crate::said::Said;
-use crate::stop::Stop;
-use crate::text::{Understood, read_text, show_refused, understand};
+use crate::save_file::{write_file, write_save_file};
+use crate::text::show_refused;
 use crate::traced::{Files, put_once, show_trace};
-use crate::waves::{write_file, write_save_file, write_waves};
+use crate::view::View;
+use crate::waves::write_waves;
 use ccsl_base::HashKeys;
 use ccsl_command::Command;
 use ccsl_edge::World;
+use ccsl_follow::{Stop, Understood, read_text, understand};
 use ccsl_page::{Page, Piece};
 use std::alloc::Global;
 
@@ -34,11 +37,12 @@ pub struct Asking<'a> {
     pub said: Said<'a>,
 }
 
-/// What is asked for beside the answer: the file of the trace with all computed clocks, and that of the drawing.
+/// What is asked for beside the answer: the file of the trace with all computed clocks, that of the drawing, and colours.
 #[derive(Clone, Copy)]
 pub struct Own<'a> {
     pub waves: Option<&'a str>,
     pub picture: Option<&'a str>,
+    pub is_coloured: bool,
 }
 
 // The files that a command names, where it has a specification.
@@ -77,6 +81,8 @@ fn write_viewed<W: World, O: World>(
 ) -> Result<(), Stop>
     requires allowed { (slot : Slot) (name : List ℕ) → W.allows slot name }
     requires all { (slot : Slot) (name : List ℕ) → O.allows slot name }
+    ensures reads { OnlyReads (W.state world.old) (W.state world.new) }
+    ensures calm { OnOk result (SameCounts (W.state world.old) (W.state world.new)) }
 {
     let Some(file) = asking.own.waves else {
         return Ok(());
@@ -86,18 +92,7 @@ fn write_viewed<W: World, O: World>(
         None => None,
     };
     write_waves(asking.keys, world, out, case, trace, timescale, file)?;
-    let marker = match view.marked {
-        Some((_, time)) => Some(time),
-        None => None,
-    };
-    write_save_file(
-        case.alloc,
-        out,
-        case.system,
-        file,
-        view.rows.as_slice(),
-        marker,
-    )?;
+    write_save_file(case.alloc, out, case.system, file, view)?;
     page.put_line(&[
         Piece::Text("  waves: gtkwave "),
         Piece::Text(file),
@@ -121,21 +116,8 @@ fn write_drawn<O: World>(
     let Some(file) = asking.own.picture else {
         return Ok(());
     };
-    let marked = match view.marked {
-        Some((step, _)) => Some(step),
-        None => None,
-    };
     let mut drawing = Page::new(case.alloc);
-    let (rows, columns) = (view.rows.as_slice(), view.columns.as_slice());
-    put_picture(
-        &mut drawing,
-        case.alloc,
-        case.system,
-        rows,
-        columns,
-        view.scale,
-        marked,
-    )?;
+    put_picture(&mut drawing, case.alloc, case.system, view)?;
     write_file(out, file, drawing.bytes())?;
     page.put_line(&[Piece::Text("  picture: "), Piece::Text(file)])?;
     Ok(())
@@ -152,6 +134,8 @@ fn show_case<W: World, O: World>(
 ) -> Result<(), Stop>
     requires allowed { (slot : Slot) (name : List ℕ) → W.allows slot name }
     requires all { (slot : Slot) (name : List ℕ) → O.allows slot name }
+    ensures reads { OnlyReads (W.state world.old) (W.state world.new) }
+    ensures calm { OnOk result (SameCounts (W.state world.old) (W.state world.new)) }
 {
     let Some(trace) = files.trace else {
         return Ok(());
@@ -161,11 +145,11 @@ fn show_case<W: World, O: World>(
         return Ok(());
     }
     let shown = show_trace(asking.keys, world, case, page, files, trace, asking.said)?;
-    if let Some(view) = shown {
-        write_viewed(asking, world, out, case, page, trace, &view)?;
-        write_drawn(asking, out, case, page, &view)?;
-    }
-    Ok(())
+    let Some(view) = shown else {
+        return Ok(());
+    };
+    write_viewed(asking, world, out, case, page, trace, &view)?;
+    write_drawn(asking, out, case, page, &view)
 }
 
 // What is shown behind an answer on these files.
@@ -178,6 +162,8 @@ fn show_files<W: World, O: World>(
 ) -> Result<(), Stop>
     requires allowed { (slot : Slot) (name : List ℕ) → W.allows slot name }
     requires all { (slot : Slot) (name : List ℕ) → O.allows slot name }
+    ensures reads { OnlyReads (W.state world.old) (W.state world.new) }
+    ensures calm { OnOk result (SameCounts (W.state world.old) (W.state world.new)) }
 {
     if !asking.again.spec {
         put_once(page, "the specification")?;
@@ -219,6 +205,8 @@ pub fn show<W: World, O: World>(
 ) -> Result<(), Stop>
     requires allowed { (slot : Slot) (name : List ℕ) → W.allows slot name }
     requires all { (slot : Slot) (name : List ℕ) → O.allows slot name }
+    ensures reads { OnlyReads (W.state world.old) (W.state world.new) }
+    ensures calm { OnOk result (SameCounts (W.state world.old) (W.state world.new)) }
 {
     match files_of(command) {
         Some(files) => show_files(asking, world, out, page, files),

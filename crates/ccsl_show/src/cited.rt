@@ -1,12 +1,16 @@
 //! The items that block every step, with the lines of a certificate that cite them.
 
+ghost use Rattle.std.specs.Prelude.{OnOk};
 ghost use Rattle.ccsl_edge.specs.declared.slot.Slot.TheVariants.{Cert};
+ghost use Rattle.ccsl_edge.specs.Counts.{SameCounts};
+ghost use Rattle.ccsl_follow.specs.OnlyReads.{OnlyReads};
 
 use crate::case::Case;
 use crate::said::{item, number, parted};
-use crate::stop::Stop;
 use ccsl_base::Memory;
-use ccsl_edge::{ReadFault, Slot, World, read_all};
+use ccsl_edge::{Slot, World};
+use ccsl_follow::Stop;
+use ccsl_follow::reading::read_file;
 use ccsl_page::{Page, Piece, Place, put_line_at};
 
 /// The most bytes of a certificate that is shown.
@@ -24,13 +28,10 @@ pub(crate) fn read_cert<W: World>(
     name: &str,
 ) -> Result<Option<Vec<u8>>, Stop>
     requires { W.allows Cert name.now }
+    ensures reads { OnlyReads (W.state world.old) (W.state world.new) }
+    ensures calm { OnOk result (SameCounts (W.state world.old) (W.state world.new)) }
 {
-    world.open_in(Slot::Cert, name)?;
-    match read_all(case.alloc, world, Slot::Cert, MOST) {
-        Ok(text) => Ok(Some(text)),
-        Err(ReadFault::TooLong) => Ok(None),
-        Err(fault) => Err(Stop::from(fault)),
-    }
+    read_file(case.alloc, world, Slot::Cert, name, MOST)
 }
 
 // The item that a line of a certificate cites, and what follows its number.

@@ -1,7 +1,7 @@
 //! What was met where a text is refused, and what to write.
 
-use crate::text::TextFault;
 use ccsl_base::{Memory, Reserved};
+use ccsl_follow::TextFault;
 use ccsl_lex::{LexFault, Token, TokenKind};
 use ccsl_page::{Page, Piece};
 use ccsl_parse::ParseFault;

@@ -1,81 +1,96 @@
 //! Ticks as a drawing.
 
+use crate::drawing::{put_path, put_rect, put_text};
+use crate::view::View;
 use ccsl_base::Memory;
 use ccsl_causes::clock_name;
 use ccsl_kernel::System;
 use ccsl_page::{Column, Page, Piece, Scale};
+use std::alloc::Global;
 
-/// How wide a column is, how high a row, and how wide a letter.
-const WIDE: u64 = 56;
-
+/// How high a row is, how wide a letter, and how much room stands beside a text.
 const HIGH: u64 = 26;
 
 const LETTER: u64 = 8;
 
+const BESIDE: u64 = 16;
+
+/// A step as it is drawn: its number and time as texts, where its column begins, and how wide that is.
+#[derive(Drop)]
+struct Drawn {
+    step: Page,
+    time: Page,
+    from: u64,
+    wide: u64,
+}
+
+impl Drawn {
+    fn middle(&self) -> u64 {
+        self.from.saturating_add(self.wide / 2)
+    }
+
+    fn end(&self) -> u64 {
+        self.from.saturating_add(self.wide)
+    }
+}
+
+fn wide(text: &[u8]) -> u64 {
+    (text.len() as u64).saturating_mul(LETTER).saturating_add(BESIDE)
+}
+
+// A column that begins here: it is as wide as the widest of its texts.
+fn laid_out(alloc: Global, column: &Column, scale: Scale, from: u64) -> Result<Drawn, Memory> {
+    let mut step = Page::new(alloc);
+    step.put(&[Piece::Number(column.step)])?;
+    let mut time = Page::new(alloc);
+    time.put(&scale.pieces(column.time))?;
+    let wide = wide(step.bytes()).max(wide(time.bytes()));
+    Ok(Drawn {
+        step,
+        time,
+        from,
+        wide,
+    })
+}
+
+// The columns, one beside the other.
+fn all_drawn(
+    alloc: Global,
+    columns: &[Column],
+    scale: Scale,
+    margin: u64,
+) -> Result<Vec<Drawn>, Memory> {
+    let mut list = Vec::new(alloc);
+    let mut from = margin;
+    for column in columns {
+        let next = laid_out(alloc, column, scale, from)?;
+        from = next.end();
+        list.push(next)?;
+    }
+    Ok(list)
+}
+
 // The room for the names.
 fn margin_of(system: &System, rows: &[u32]) -> u64 {
-    let mut longest = 4usize;
+    let mut margin = wide(b"step");
     for clock in rows {
-        longest = longest.max(clock_name(system, *clock).len());
+        margin = margin.max(wide(clock_name(system, *clock)));
     }
-    (longest as u64).saturating_mul(LETTER).saturating_add(24)
+    margin
 }
 
-// The middle of a column, or of a row.
-fn place(margin: u64, number: usize, size: u64) -> u64 {
-    (number as u64)
-        .saturating_mul(size)
-        .saturating_add(margin)
-        .saturating_add(size / 2)
-}
-
-// A letter that is written otherwise in this kind of file.
-fn put_escaped(page: &mut Page, text: &[u8]) -> Result<(), Memory> {
-    for byte in text {
-        match *byte {
-            b'<' => page.put(&[Piece::Text("&lt;")])?,
-            b'>' => page.put(&[Piece::Text("&gt;")])?,
-            b'&' => page.put(&[Piece::Text("&amp;")])?,
-            byte => page.fill(byte, 1)?,
-        }
-    }
-    Ok(())
-}
-
-fn put_text(page: &mut Page, x: u64, y: u64, anchor: &str, text: &[u8]) -> Result<(), Memory> {
-    page.put(&[
-        Piece::Text("<text x=\""),
-        Piece::Number(x),
-        Piece::Text("\" y=\""),
-        Piece::Number(y),
-        Piece::Text("\" text-anchor=\""),
-        Piece::Text(anchor),
-        Piece::Text("\">"),
-    ])?;
-    put_escaped(page, text)?;
-    page.put_line(&[Piece::Text("</text>")])
+// The line on which the text of a row stands, the steps and times aside.
+fn line_of(row: usize) -> u64 {
+    (row as u64).saturating_mul(HIGH).saturating_add(HIGH * 2 + 18)
 }
 
 // A tick, or the line on which none stands.
 fn put_tick(page: &mut Page, x: u64, y: u64, ticks: bool, class: &str) -> Result<(), Memory> {
-    let (top, width) = if ticks {
-        (y.saturating_sub(9), "3")
+    if ticks {
+        put_path(page, class, "3", x, y, y.saturating_sub(9))
     } else {
-        (y.saturating_sub(2), "1")
-    };
-    page.put_line(&[
-        Piece::Text("<path class=\""),
-        Piece::Text(class),
-        Piece::Text("\" stroke-width=\""),
-        Piece::Text(width),
-        Piece::Text("\" d=\"M"),
-        Piece::Number(x),
-        Piece::Text(" "),
-        Piece::Number(y),
-        Piece::Text("V"),
-        Piece::Number(top),
-        Piece::Text("\"/>"),
-    ])
+        put_path(page, class, "1", x, y, y.saturating_sub(2))
+    }
 }
 
 fn put_row(
@@ -83,58 +98,28 @@ fn put_row(
     system: &System,
     clock: u32,
     y: u64,
-    margin: u64,
     columns: &[Column],
+    list: &[Drawn],
 ) -> Result<(), Memory> {
     let class = if clock < system.scope().declared {
         "recorded"
     } else {
         "computed"
     };
-    put_text(page, 8, y, "start", clock_name(system, clock))?;
-    for (i, column) in columns.iter().enumerate() {
-        put_tick(
-            page,
-            place(margin, i, WIDE),
-            y,
-            column.ticks.has(clock),
-            class,
-        )?;
+    put_text(page, BESIDE / 2, y, "start", clock_name(system, clock))?;
+    for (column, drawn) in columns.iter().zip(list.iter()) {
+        put_tick(page, drawn.middle(), y, column.ticks.has(clock), class)?;
     }
     Ok(())
 }
 
-// A field behind the step at fault.
-fn put_field(page: &mut Page, x: u64, height: u64) -> Result<(), Memory> {
-    page.put_line(&[
-        Piece::Text("<rect x=\""),
-        Piece::Number(x),
-        Piece::Text("\" y=\"0\" width=\""),
-        Piece::Number(WIDE),
-        Piece::Text("\" height=\""),
-        Piece::Number(height),
-        Piece::Text("\" fill=\"#fbd5d5\"/>"),
-    ])
-}
-
 // The steps and times above the rows.
-fn put_head(
-    page: &mut Page,
-    alloc: std::alloc::Global,
-    margin: u64,
-    columns: &[Column],
-    scale: Scale,
-) -> Result<(), Memory> {
-    put_text(page, 8, 18, "start", b"step")?;
-    put_text(page, 8, 18 + HIGH, "start", b"time")?;
-    for (i, column) in columns.iter().enumerate() {
-        let x = place(margin, i, WIDE);
-        let mut step = Page::new(alloc);
-        step.put(&[Piece::Number(column.step)])?;
-        put_text(page, x, 18, "middle", step.bytes())?;
-        let mut time = Page::new(alloc);
-        time.put(&scale.pieces(column.time))?;
-        put_text(page, x, 18 + HIGH, "middle", time.bytes())?;
+fn put_head(page: &mut Page, list: &[Drawn]) -> Result<(), Memory> {
+    put_text(page, BESIDE / 2, 18, "start", b"step")?;
+    put_text(page, BESIDE / 2, 18 + HIGH, "start", b"time")?;
+    for drawn in list {
+        put_text(page, drawn.middle(), 18, "middle", drawn.step.bytes())?;
+        put_text(page, drawn.middle(), 18 + HIGH, "middle", drawn.time.bytes())?;
     }
     Ok(())
 }
@@ -153,40 +138,40 @@ fn put_start(page: &mut Page, width: u64, height: u64) -> Result<(), Memory> {
     page.put_line(&[Piece::Text("<rect width=\"100%\" height=\"100%\" fill=\"#fff\"/>")])
 }
 
-/// Puts these columns and rows as a drawing in SVG. Computed clocks are blue and broken lines, recorded ones dark; the marked step
-/// stands on a field.
-pub(crate) fn put_picture(
-    page: &mut Page,
-    alloc: std::alloc::Global,
-    system: &System,
-    rows: &[u32],
-    columns: &[Column],
-    scale: Scale,
-    marked: Option<u64>,
-) -> Result<(), Memory> {
-    let margin = margin_of(system, rows);
-    let width = (columns.len() as u64)
-        .saturating_mul(WIDE)
-        .saturating_add(margin)
-        .saturating_add(12);
-    let height = (rows.len() as u64)
-        .saturating_add(2)
-        .saturating_mul(HIGH)
-        .saturating_add(8);
-    put_start(page, width, height)?;
-    for (i, column) in columns.iter().enumerate() {
-        if marked == Some(column.step) {
-            put_field(
-                page,
-                place(margin, i, WIDE).saturating_sub(WIDE / 2),
-                height,
-            )?;
+// A field behind the step at fault.
+fn put_field(page: &mut Page, view: &View, list: &[Drawn], height: u64) -> Result<(), Memory> {
+    let Some((step, _)) = view.marked else {
+        return Ok(());
+    };
+    for (column, drawn) in view.columns.iter().zip(list.iter()) {
+        if column.step == step {
+            put_rect(page, drawn.from, drawn.wide, height, "#fbd5d5")?;
         }
     }
-    put_head(page, alloc, margin, columns, scale)?;
-    for (i, clock) in rows.iter().enumerate() {
-        let y = place(18 + HIGH, i, HIGH).saturating_add(HIGH / 2);
-        put_row(page, system, *clock, y, margin, columns)?;
+    Ok(())
+}
+
+/// Puts the columns and rows of a view as a drawing in SVG. Computed clocks are blue and broken lines, recorded ones dark; the marked
+/// step stands on a field.
+pub(crate) fn put_picture(
+    page: &mut Page,
+    alloc: Global,
+    system: &System,
+    view: &View,
+) -> Result<(), Memory> {
+    let margin = margin_of(system, view.rows.as_slice());
+    let columns = view.columns.as_slice();
+    let list = all_drawn(alloc, columns, view.scale, margin)?;
+    let width = match list.last() {
+        Some(drawn) => drawn.end(),
+        None => margin,
+    };
+    let height = line_of(view.rows.len()).saturating_sub(8);
+    put_start(page, width, height)?;
+    put_field(page, view, list.as_slice(), height)?;
+    put_head(page, list.as_slice())?;
+    for (i, clock) in view.rows.iter().enumerate() {
+        put_row(page, system, *clock, line_of(i), columns, list.as_slice())?;
     }
     page.put_line(&[Piece::Text("</svg>")])
 }

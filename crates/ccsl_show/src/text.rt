@@ -1,104 +1,11 @@
-//! The text of a specification, read once more, and why it is refused.
-
-ghost use Rattle.ccsl_edge.specs.declared.slot.Slot.TheVariants.{Spec};
+//! Why the text of a specification is refused.
 
 use crate::hint::put_hint;
-use crate::stop::Stop;
-use ccsl_ast::File;
-use ccsl_base::{MAX_SPEC_BYTES, Memory};
-use ccsl_edge::{Slot, World, read_all};
-use ccsl_elaborate::elaborate;
-use ccsl_kernel::System;
-use ccsl_lex::{LexFault, Token, tokens};
-use ccsl_library::library;
+use ccsl_base::Memory;
+use ccsl_follow::TextFault;
+use ccsl_lex::{Token, tokens};
 use ccsl_page::{Page, Piece, put_excerpt};
-use ccsl_parse::{ParseFault, parse};
-use ccsl_rules::Refusal;
 use std::alloc::Global;
-
-/// Reads the whole text.
-pub(crate) fn read_text<W: World>(alloc: Global, world: &mut W, name: &str) -> Result<Vec<u8>, Stop>
-    requires { W.allows Spec name.now }
-{
-    world.open_in(Slot::Spec, name)?;
-    Ok(read_all(alloc, world, Slot::Spec, MAX_SPEC_BYTES)?)
-}
-
-/// What refuses a text: what it says, and where.
-#[derive(Clone, Copy, Debug, PartialEq, Eq)]
-pub(crate) enum TextFault {
-    Token(LexFault),
-    Syntax(ParseFault),
-    Refused(Refusal),
-}
-
-/// A text as a tree and a system, or what refuses it.
-#[derive(Drop)]
-pub(crate) enum Understood {
-    Accepted {
-        file: File,
-        library: File,
-        system: System,
-    },
-    Refused(TextFault),
-}
-
-fn elaborated(alloc: Global, file: File) -> Result<Understood, Memory> {
-    let library = library(alloc)?;
-    match elaborate(alloc, &file, &library) {
-        Ok(system) => Ok(Understood::Accepted {
-            file,
-            library,
-            system,
-        }),
-        Err(refusal) => Ok(Understood::Refused(TextFault::Refused(refusal))),
-    }
-}
-
-/// Understands a text.
-pub(crate) fn understand(alloc: Global, text: &[u8]) -> Result<Understood, Memory> {
-    let tokens = match tokens(alloc, text) {
-        Ok(tokens) => tokens,
-        Err(fault) => return Ok(Understood::Refused(TextFault::Token(fault))),
-    };
-    match parse(alloc, tokens.as_slice()) {
-        Ok(file) => elaborated(alloc, file),
-        Err(fault) => Ok(Understood::Refused(TextFault::Syntax(fault))),
-    }
-}
-
-impl TextFault {
-    /// The byte at which the text is refused. None where that is a total.
-    fn at(self) -> Option<usize> {
-        match self {
-            TextFault::Token(fault) => match fault {
-                LexFault::BadByte(at)
-                | LexFault::NameTooLong(at)
-                | LexFault::NumberTooLarge(at)
-                | LexFault::OpenText(at) => Some(at),
-                LexFault::Memory => None,
-            },
-            TextFault::Syntax(fault) => match fault {
-                ParseFault::Syntax(at) | ParseFault::TooDeep(at) => Some(at),
-                ParseFault::Memory => None,
-            },
-            TextFault::Refused(refusal) => match refusal {
-                Refusal::Duplicate(at)
-                | Refusal::Unknown(at)
-                | Refusal::Later(at)
-                | Refusal::WrongKind(at)
-                | Refusal::Unguarded(at)
-                | Refusal::TooTall(at)
-                | Refusal::Arguments(at)
-                | Refusal::BadWord(at) => Some(at),
-                Refusal::TooManyClocks(_)
-                | Refusal::TooManyConstraints(_)
-                | Refusal::StateTooLarge(_)
-                | Refusal::Memory => None,
-            },
-        }
-    }
-}
 
 // How many bytes the token has that begins at a place, one at least.
 fn token_len(found: &[Token], at: usize) -> usize {

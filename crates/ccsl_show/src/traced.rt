@@ -1,19 +1,21 @@
 //! What is shown behind an answer.
 
-ghost use Rattle.std.specs.Prelude.{ℕ, List};
+ghost use Rattle.std.specs.Prelude.{ℕ, List, OnOk};
 ghost use Rattle.ccsl_edge.specs.declared.slot.Slot.{Slot};
 ghost use Rattle.ccsl_edge.specs.declared.slot.Slot.TheVariants as slots;
+ghost use Rattle.ccsl_edge.specs.Counts.{SameCounts};
+ghost use Rattle.ccsl_follow.specs.OnlyReads.{OnlyReads};
 
 use crate::binding::{put_event, put_near};
 use crate::case::Case;
 use crate::cited::{put_bad_line, put_blocking, put_cited, read_cert};
-use crate::heading::read_header;
-use crate::judged::{View, show_broken, show_run};
+use crate::judged::{show_broken, show_run};
 use crate::refused_trace::show_refused_trace;
 use crate::said::{Named, Said};
-use crate::stop::Stop;
+use crate::view::View;
 use ccsl_base::{HashKeys, Memory};
 use ccsl_edge::World;
+use ccsl_follow::{Stop, read_header};
 use ccsl_page::{Page, Piece};
 
 /// The files of an answer, by their names, and which of them can be read once more.
@@ -34,6 +36,8 @@ fn show_unbound<W: World>(
     clock: &[u8],
 ) -> Result<(), Stop>
     requires allowed { W.allows slots.Trace name.now }
+    ensures reads { OnlyReads (W.state world.old) (W.state world.new) }
+    ensures calm { OnOk result (SameCounts (W.state world.old) (W.state world.new)) }
 {
     let Some(header) = read_header(case.alloc, keys, world, name)? else {
         return Ok(());
@@ -53,6 +57,8 @@ fn show_violation<W: World>(
     step: u64,
 ) -> Result<Option<View>, Stop>
     requires allowed { W.allows slots.Trace name.now }
+    ensures reads { OnlyReads (W.state world.old) (W.state world.new) }
+    ensures calm { OnOk result (SameCounts (W.state world.old) (W.state world.new)) }
 {
     match case.item_of(item) {
         Some(item) => Ok(Some(show_broken(keys, world, case, page, name, item, step)?)),
@@ -60,26 +66,56 @@ fn show_violation<W: World>(
     }
 }
 
-// The items that a certificate shows to block every step, behind what is shown of the run.
+// The certificate of an answer, if it names one that is short enough to be shown.
+fn read_named<W: World>(
+    world: &mut W,
+    case: &Case<'_>,
+    cert: Option<&str>,
+) -> Result<Option<Vec<u8>>, Stop>
+    requires allowed { (slot : Slot) (name : List ℕ) → W.allows slot name }
+    ensures reads { OnlyReads (W.state world.old) (W.state world.new) }
+    ensures calm { OnOk result (SameCounts (W.state world.old) (W.state world.new)) }
+{
+    match cert {
+        Some(name) => read_cert(case, world, name),
+        None => Ok(None),
+    }
+}
+
+// The items that block every step, by an answer's lines, or by the lines of a certificate.
+fn put_blocked(
+    page: &mut Page,
+    case: &Case<'_>,
+    lines: &[u8],
+    cert: Option<&[u8]>,
+) -> Result<(), Memory> {
+    match cert {
+        Some(cert) if lines.is_empty() => put_cited(page, case, cert),
+        cert => put_blocking(page, case, lines, cert),
+    }
+}
+
+// The items that a certificate shows to block every step, and the run in front of them.
 fn show_blocked<W: World>(
+    keys: HashKeys,
     world: &mut W,
     case: &Case<'_>,
     page: &mut Page,
     files: Files<'_>,
+    name: &str,
     lines: &[u8],
-) -> Result<(), Stop>
+) -> Result<View, Stop>
     requires allowed { (slot : Slot) (name : List ℕ) → W.allows slot name }
+    ensures reads { OnlyReads (W.state world.old) (W.state world.new) }
+    ensures calm { OnOk result (SameCounts (W.state world.old) (W.state world.new)) }
 {
-    let cert = match files.cert {
-        Some(name) => read_cert(case, world, name)?,
+    let cert = read_named(world, case, files.cert)?;
+    let cert = match &cert {
+        Some(text) => Some(text.as_slice()),
         None => None,
     };
-    match (&cert, lines.is_empty()) {
-        (Some(cert), true) => put_cited(page, case, cert.as_slice())?,
-        (Some(cert), false) => put_blocking(page, case, lines, Some(cert.as_slice()))?,
-        (None, _) => put_blocking(page, case, lines, None)?,
-    }
-    Ok(())
+    put_blocked(page, case, lines, cert)?;
+    show_run(keys, world, case, page, name)
 }
 
 fn show_bad_line<W: World>(
@@ -90,12 +126,16 @@ fn show_bad_line<W: World>(
     line: u64,
 ) -> Result<(), Stop>
     requires allowed { (slot : Slot) (name : List ℕ) → W.allows slot name }
+    ensures reads { OnlyReads (W.state world.old) (W.state world.new) }
+    ensures calm { OnOk result (SameCounts (W.state world.old) (W.state world.new)) }
 {
-    if let Some(name) = files.cert
-        && let Some(cert) = read_cert(case, world, name)?
-    {
-        put_bad_line(page, case, name, cert.as_slice(), line)?;
-    }
+    let Some(name) = files.cert else {
+        return Ok(());
+    };
+    let Some(cert) = read_cert(case, world, name)? else {
+        return Ok(());
+    };
+    put_bad_line(page, case, name, cert.as_slice(), line)?;
     Ok(())
 }
 
@@ -110,6 +150,8 @@ pub(crate) fn show_trace<W: World>(
     said: Said<'_>,
 ) -> Result<Option<View>, Stop>
     requires allowed { (slot : Slot) (name : List ℕ) → W.allows slot name }
+    ensures reads { OnlyReads (W.state world.old) (W.state world.new) }
+    ensures calm { OnOk result (SameCounts (W.state world.old) (W.state world.new)) }
 {
     match said {
         Said::Run(_) => Ok(Some(show_run(keys, world, case, page, name)?)),
@@ -124,14 +166,24 @@ pub(crate) fn show_trace<W: World>(
             show_unbound(keys, world, case, page, name, clock)?;
             Ok(None)
         }
-        Said::Blocked(lines) => {
-            show_blocked(world, case, page, files, lines)?;
-            Ok(Some(show_run(keys, world, case, page, name)?))
-        }
-        Said::Deadlock(_) => {
-            show_blocked(world, case, page, files, b"")?;
-            Ok(Some(show_run(keys, world, case, page, name)?))
-        }
+        Said::Blocked(lines) => Ok(Some(show_blocked(
+            keys,
+            world,
+            case,
+            page,
+            files,
+            name,
+            lines,
+        )?)),
+        Said::Deadlock(_) => Ok(Some(show_blocked(
+            keys,
+            world,
+            case,
+            page,
+            files,
+            name,
+            b"",
+        )?)),
         Said::BadLine(line) => {
             show_bad_line(world, case, page, files, line)?;
             Ok(None)

@@ -1,20 +1,20 @@
 //! A trace of all clocks, the computed ones too, for a viewer.
 
-ghost use Rattle.std.specs.Prelude.{ℕ, List, OnOk};
-ghost use Rattle.ccsl_edge.specs.declared.slot.Slot.{Slot};
-ghost use Rattle.ccsl_edge.specs.declared.slot.Slot.TheVariants.{Trace, TraceOut, CertOut};
+ghost use Rattle.std.specs.Prelude.{OnOk};
+ghost use Rattle.ccsl_edge.specs.declared.slot.Slot.TheVariants.{Trace, TraceOut};
+ghost use Rattle.ccsl_edge.specs.Counts.{SameCounts};
+ghost use Rattle.ccsl_follow.specs.OnlyReads.{OnlyReads};
 ghost use Rattle.ccsl_show.specs.Writing.{IsOpen};
 
 use crate::case::Case;
-use crate::feeding::{next, open};
-use crate::follow::Follow;
-use crate::stop::Stop;
-use ccsl_base::{Block, ClockSet, HashKeys, Memory};
+use ccsl_base::{Block, ClockSet, HashKeys, MAX_CLOCKS, Memory};
 use ccsl_causes::clock_name;
 use ccsl_edge::{Slot, World, write_all};
+use ccsl_follow::feeding::{next_rows, open_feed};
+use ccsl_follow::reading::open_file;
+use ccsl_follow::{Steps, Stop};
 use ccsl_kernel::System;
 use ccsl_page::{Page, Piece};
-use std::alloc::Global;
 
 /// How many bytes are written at once.
 const FULL: usize = 65_536;
@@ -79,7 +79,7 @@ fn flush<O: World>(out: &mut O, page: &mut Page) -> Result<(), Stop>
 fn put_block<O: World>(
     out: &mut O,
     page: &mut Page,
-    follow: &mut Follow<'_>,
+    steps: &mut Steps<'_>,
     block: &Block,
 ) -> Result<(), Stop>
     requires open { IsOpen (O.state out.old) }
@@ -87,13 +87,24 @@ fn put_block<O: World>(
 {
     for i in 0..block.len() {
         let row = block.row(i);
-        let ticks = follow.take(row)?;
-        put_step(page, row.time, &ticks)?;
+        steps.go_on(&row.ticks);
+        put_step(page, row.time, steps.step())?;
         if page.bytes().len() >= FULL {
             flush(out, page)?;
         }
     }
     flush(out, page)
+}
+
+// All clocks of a system.
+fn all_clocks(system: &System) -> ClockSet {
+    let mut clocks = ClockSet::empty();
+    for clock in 0..system.scope().named {
+        if clock < MAX_CLOCKS {
+            clocks.insert(clock);
+        }
+    }
+    clocks
 }
 
 // Writes the steps of the trace that is open.
@@ -106,12 +117,14 @@ fn write_steps<W: World, O: World>(
 ) -> Result<(), Stop>
     requires open { IsOpen (O.state out.old) }
     ensures open { OnOk result (IsOpen (O.state out.new)) }
+    ensures reads { OnlyReads (W.state world.old) (W.state world.new) }
+    ensures calm { OnOk result (SameCounts (W.state world.old) (W.state world.new)) }
 {
-    let mut follow = Follow::open(case.alloc, case.system, None)?;
-    let mut feed = open(case.alloc, keys, world, case.system)?;
+    let mut steps = Steps::open(case.alloc, case.system, &all_clocks(case.system))?;
+    let mut feed = open_feed(case.alloc, keys, world, case.system)?;
     for _ in 0..u64::MAX {
-        let more = next(&mut feed, world)?;
-        put_block(out, page, &mut follow, feed.block())?;
+        let more = next_rows(&mut feed, world)?;
+        put_block(out, page, &mut steps, feed.block())?;
         if !more {
             break;
         }
@@ -131,74 +144,14 @@ pub(crate) fn write_waves<W: World, O: World>(
 ) -> Result<(), Stop>
     requires trace { W.allows Trace trace.now }
     requires file { O.allows TraceOut file.now }
+    ensures reads { OnlyReads (W.state world.old) (W.state world.new) }
+    ensures calm { OnOk result (SameCounts (W.state world.old) (W.state world.new)) }
 {
-    world.open_in(Slot::Trace, trace)?;
+    open_file(world, Slot::Trace, trace)?;
     out.open_out(Slot::TraceOut, file)?;
     let mut page = Page::new(case.alloc);
     put_header(&mut page, case.system, timescale)?;
     write_steps(keys, world, out, case, &mut page)?;
     out.close_out(Slot::TraceOut)?;
     Ok(())
-}
-
-// A save file of gtkwave: the dump's name, the marker, and the signals in their order.
-fn put_save_file(
-    page: &mut Page,
-    system: &System,
-    file: &str,
-    rows: &[u32],
-    marker: Option<u64>,
-) -> Result<(), Memory> {
-    page.put_line(&[
-        Piece::Text("[dumpfile] \""),
-        Piece::Text(file),
-        Piece::Text("\""),
-    ])?;
-    page.put_line(&[Piece::Text("[timestart] 0")])?;
-    page.put(&[Piece::Text("*-4.000000 ")])?;
-    match marker {
-        Some(time) => page.put(&[Piece::Number(time)])?,
-        None => page.put(&[Piece::Text("-1")])?,
-    }
-    for _ in 0..26 {
-        page.put(&[Piece::Text(" -1")])?;
-    }
-    page.put_line(&[])?;
-    page.put_line(&[Piece::Text("[treeopen] ccsl.")])?;
-    page.put_line(&[Piece::Text("@28")])?;
-    for clock in rows {
-        page.put_line(&[
-            Piece::Text("ccsl."),
-            Piece::Name(clock_name(system, *clock)),
-        ])?;
-    }
-    Ok(())
-}
-
-/// Writes a file whole.
-pub(crate) fn write_file<O: World>(out: &mut O, name: &str, bytes: &[u8]) -> Result<(), Stop>
-    requires { O.allows CertOut name.now }
-{
-    out.open_out(Slot::CertOut, name)?;
-    write_all(out, Slot::CertOut, bytes)?;
-    out.close_out(Slot::CertOut)?;
-    Ok(())
-}
-
-/// Writes the save file beside a trace for a viewer.
-pub(crate) fn write_save_file<O: World>(
-    alloc: Global,
-    out: &mut O,
-    system: &System,
-    file: &str,
-    rows: &[u32],
-    marker: Option<u64>,
-) -> Result<(), Stop>
-    requires allowed { (slot : Slot) (name : List ℕ) → O.allows slot name }
-{
-    let mut name = String::from_str(alloc, file)?;
-    name.push_str(".gtkw")?;
-    let mut page = Page::new(alloc);
-    put_save_file(&mut page, system, file, rows, marker)?;
-    write_file(out, name.as_str(), page.bytes())
 }

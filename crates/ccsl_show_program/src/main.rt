@@ -4,9 +4,10 @@
 use ccsl_base::{CommandWord, HashKeys};
 use ccsl_edge::Slot;
 use ccsl_files::FileWorld;
+use ccsl_follow::Stop;
 use ccsl_pool::NoGate;
-use ccsl_show::{Again, Stop};
-use ccsl_show_top::{Asked, Heard, Listen, Outcome, run, told};
+use ccsl_show::Again;
+use ccsl_show_top::{Asked, Colour, Heard, Help, Helped, Listen, Outcome, SESSION, run, told};
 use std::alloc::AllocError;
 use std::io::{IsTerminal, Read};
 use std::os::unix::fs::MetadataExt;
@@ -15,7 +16,7 @@ use std::random::RandomSource;
 use std::time::Instant;
 use std::{env, fs, io};
 
-/// Says on standard error how far the reading of a trace is, once that has taken two seconds.
+/// Says on standard error how far the reading of a trace is, or a simulation, once that has taken two seconds.
 #[derive(Drop)]
 struct Progress<'a> {
     rt: &'a HostRuntime,
@@ -23,12 +24,29 @@ struct Progress<'a> {
     // how many bytes the trace has, and how many were read, once or once more
     size: u64,
     read: u64,
+    // how many steps were asked for, and how many were made
+    asked: u64,
+    made: u64,
     // after how many seconds it spoke last
     spoke: u64,
 }
 
+/// How many steps are made before the clock is looked at again.
+const STEPS_A_LOOK: u64 = 256;
+
 impl Progress<'_> {
-    fn say(&self, seconds: u64) {
+    // How many seconds are gone, where it is time to speak.
+    fn due(&mut self) -> Option<u64> {
+        let gone = self.start?.elapsed(self.rt).ok()?;
+        let seconds = gone.as_secs();
+        if seconds < self.spoke.saturating_add(2) {
+            return None;
+        }
+        self.spoke = seconds;
+        Some(seconds)
+    }
+
+    fn say_read(&self, seconds: u64) {
         let size = self.size.max(1);
         let (read, again) = if self.read > size {
             (self.read - size, " once more")
@@ -40,6 +58,13 @@ impl Progress<'_> {
         let left = (size - read).saturating_mul(seconds) / self.read.max(1);
         let _ = eprintln!(self.rt; "ccsl-show: {percent}% read{again}, about {left} s to go");
     }
+
+    fn say_made(&self, seconds: u64) {
+        let made = self.made.min(self.asked);
+        let percent = made.saturating_mul(100) / self.asked.max(1);
+        let left = (self.asked - made).saturating_mul(seconds) / made.max(1);
+        let _ = eprintln!(self.rt; "ccsl-show: {percent}% of the steps made, about {left} s to go");
+    }
 }
 
 impl Listen for Progress<'_> {
@@ -48,16 +73,25 @@ impl Listen for Progress<'_> {
             return;
         }
         self.read = self.read.saturating_add(count as u64);
-        let Some(start) = self.start else {
+        if let Some(seconds) = self.due() {
+            self.say_read(seconds);
+        }
+    }
+
+    // A step is written at once, and begins with its time.
+    fn wrote(&mut self, slot: Slot, bytes: &[u8]) {
+        if slot != Slot::TraceOut {
             return;
-        };
-        let Ok(gone) = start.elapsed(self.rt) else {
+        }
+        self.size = self.size.saturating_add(bytes.len() as u64);
+        if bytes.first() != Some(&b'#') {
             return;
-        };
-        let seconds = gone.as_secs();
-        if seconds >= self.spoke.saturating_add(2) {
-            self.spoke = seconds;
-            self.say(seconds);
+        }
+        self.made = self.made.saturating_add(1);
+        if self.made % STEPS_A_LOOK == 0
+            && let Some(seconds) = self.due()
+        {
+            self.say_made(seconds);
         }
     }
 }
@@ -252,15 +286,31 @@ fn put_failure(rt: &HostRuntime, words: &[CommandWord]) {
     }
 }
 
-// What is told before an answer: in a session at a terminal what it takes.
+/// Says on standard error what a session takes.
+#[derive(Drop)]
+struct SessionHelp<'a> {
+    rt: &'a HostRuntime,
+    // whether a person is there, who may ask
+    is_asked: bool,
+}
+
+impl Help for SessionHelp<'_> {
+    fn is_there(&self) -> bool {
+        self.is_asked
+    }
+
+    fn help(&mut self) {
+        let _ = eprintln!(self.rt; "{SESSION}");
+    }
+}
+
+// What is told before an answer: in a session at a terminal how to ask what it takes.
 fn greet(rt: &HostRuntime, words: &[CommandWord]) {
     if let Some(first) = words.first()
         && first.as_str() == "session"
         && rt.stdin().is_terminal()
     {
-        let _ = eprintln!(rt;
-            "ccsl-show: lines are: fire NAME.., step, allowed, back, trace; control-D ends"
-        );
+        let _ = eprintln!(rt; "ccsl-show: `help` says what a session takes; control-D ends it");
     }
 }
 
@@ -272,14 +322,48 @@ fn again_of(rt: &HostRuntime, words: &[CommandWord]) -> Again {
     }
 }
 
-// What says how far the reading of the trace is.
+// How many steps the words ask for.
+fn steps_of(words: &[CommandWord]) -> u64 {
+    match value_of(words, "steps") {
+        Some(text) => text.parse::<u64>().unwrap_or(0),
+        None => 0,
+    }
+}
+
+// How many bytes of a trace are there to be read. What a simulation writes is none yet.
+fn size_of_trace(rt: &HostRuntime, words: &[CommandWord]) -> u64 {
+    if steps_of(words) > 0 {
+        0
+    } else {
+        size_of_file(rt, words, "trace")
+    }
+}
+
+// What says how far the reading of the trace is, or the simulation.
 fn listener<'a>(rt: &'a HostRuntime, words: &[CommandWord]) -> Progress<'a> {
     Progress {
         rt,
         start: Instant::now(rt).ok(),
-        size: size_of_file(rt, words, "trace"),
+        size: size_of_trace(rt, words),
         read: 0,
+        asked: steps_of(words),
+        made: 0,
         spoke: 0,
+    }
+}
+
+// Whether colours are shown: by the words, by NO_COLOR, and where standard output is a terminal.
+fn is_coloured(rt: &HostRuntime, colour: Colour) -> bool {
+    match colour {
+        Colour::Always => true,
+        Colour::Never => false,
+        Colour::Terminal => {
+            let is_refused = match env::var(rt, "NO_COLOR") {
+                Ok(text) => !text.is_empty(),
+                Err(_) => false,
+            };
+            !is_refused && rt.stdout().is_terminal()
+        }
     }
 }
 
@@ -290,7 +374,7 @@ fn told_or_refused(rt: &HostRuntime, asked: &Asked) -> Option<u8> {
         let _ = rt.print(text);
         return Some(0);
     }
-    let own = asked.own();
+    let own = asked.own(false);
     if is_taken(rt, words, own.waves) || is_taken(rt, words, own.picture) {
         let _ = eprintln!(rt; "ccsl-show: waves= or picture= names a file of the other words");
         return Some(2);
@@ -313,21 +397,26 @@ fn main(rt: HostRuntime) -> ExitCode {
     let (words, alloc) = (asked.words.as_slice(), rt.alloc());
     greet(&rt, words);
     let mut out = FileWorld::new(&rt, alloc);
-    let mut world = Heard::new(alloc, FileWorld::new(&rt, alloc), listener(&rt, words));
+    let helper = SessionHelp {
+        rt: &rt,
+        is_asked: rt.stdin().is_terminal(),
+    };
+    let files = Helped::new(FileWorld::new(&rt, alloc), helper);
+    let mut world = Heard::new(alloc, files, listener(&rt, words));
     let again = again_of(&rt, words);
     let outcome = run(
         &rt,
         alloc,
         keys,
         words,
-        asked.own(),
+        asked.own(is_coloured(&rt, asked.colour())),
         again,
         &mut world,
         &mut out,
         &NoGate,
     );
     // A reader that has gone, as `head`, wants to hear no more.
-    if !world.world.has_lost_reader() {
+    if !world.world.world.has_lost_reader() {
         complain(&rt, words, outcome);
     }
     ExitCode::from(outcome.status)

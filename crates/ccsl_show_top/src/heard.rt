@@ -5,9 +5,11 @@ ghost use Rattle.std.specs.Prelude.{◌≡◌};
 use ccsl_edge::{Failed, Slot, World};
 use std::alloc::Global;
 
-/// What is told of bytes as they are read.
+/// What is told of bytes as they are read and written.
 pub trait Listen {
     fn read(&mut self, slot: Slot, count: usize);
+
+    fn wrote(&mut self, slot: Slot, bytes: &[u8]);
 }
 
 /// The most bytes of a report that are kept.
@@ -73,6 +75,7 @@ impl<W: World, L: Listen> World for Heard<W, L> {
         if slot == Slot::Report {
             self.keep(&bytes[..count]);
         }
+        self.listener.wrote(slot, &bytes[..count]);
         Ok(count)
     }
 

@@ -3,10 +3,12 @@
 
 pub mod heard;
 pub mod help;
+pub mod helped;
 pub mod own;
 pub mod program;
 
 pub use heard::{Heard, Listen};
-pub use help::told;
-pub use own::Asked;
+pub use help::{SESSION, told};
+pub use helped::{Help, Helped};
+pub use own::{Asked, Colour};
 pub use program::{Outcome, run};

@@ -4,12 +4,33 @@ use ccsl_base::{CommandWord, Memory};
 use ccsl_show::Own;
 use std::alloc::Global;
 
+/// When colours are shown.
+#[derive(Clone, Copy, Debug, PartialEq, Eq)]
+pub enum Colour {
+    Always,
+    Never,
+    /// where standard output is a terminal
+    Terminal,
+}
+
+impl Colour {
+    fn named(name: &str) -> Option<Colour> {
+        match name {
+            "always" => Some(Colour::Always),
+            "never" => Some(Colour::Never),
+            "auto" => Some(Colour::Terminal),
+            _ => None,
+        }
+    }
+}
+
 /// The words for `ccsl`, and what the others ask for.
 #[derive(Drop)]
 pub struct Asked {
     pub words: Vec<CommandWord>,
     waves: Option<String>,
     picture: Option<String>,
+    colour: Option<Colour>,
 }
 
 fn text_of(text: &Option<String>) -> Option<&str> {
@@ -37,6 +58,7 @@ impl Asked {
             words: Vec::new(alloc),
             waves: None,
             picture: None,
+            colour: None,
         }
     }
 
@@ -54,15 +76,28 @@ impl Asked {
             self.picture = Some(copied(alloc, name)?);
             return Ok(());
         }
+        if self.colour.is_none()
+            && let Some(name) = value_of(word.as_str(), "color")
+            && let Some(colour) = Colour::named(name)
+        {
+            self.colour = Some(colour);
+            return Ok(());
+        }
         self.words.push(word)?;
         Ok(())
     }
 
+    /// When colours are to be shown: where standard output is a terminal, unless the words say otherwise.
+    pub fn colour(&self) -> Colour {
+        self.colour.unwrap_or(Colour::Terminal)
+    }
+
     /// What is asked for beside the answer.
-    pub fn own(&self) -> Own<'_> {
+    pub fn own(&self, is_coloured: bool) -> Own<'_> {
         Own {
             waves: text_of(&self.waves),
             picture: text_of(&self.picture),
+            is_coloured,
         }
     }
 }

@@ -1,20 +1,58 @@
 //! The program's one call.
 
-ghost use Rattle.std.specs.Prelude.{ℕ, List};
+ghost use Rattle.std.specs.Prelude.{◌≡◌, ◌⊎◌, ℕ, List, IsTrue, OnOk};
+ghost use Rattle.std.specs.Result.{is_ok};
 ghost use Rattle.ccsl_edge.specs.declared.slot.Slot.{Slot};
-ghost use Rattle.ccsl_edge.specs.World.{State};
-ghost use Rattle.ccsl_top.specs.Headline.{Headline};
+ghost use Rattle.ccsl_edge.specs.Counts.{SameCounts};
+ghost use Rattle.ccsl_follow.specs.OnlyReads.{OnlyReads};
+ghost use Rattle.ccsl_show_top.specs.Follows.{Follows, Shows};
 
 use crate::heard::{Heard, Listen};
 use crate::help::put_usage;
 use ccsl_base::{CommandWord, HashKeys};
 use ccsl_command::words as command_line;
 use ccsl_edge::{Slot, World, write_all};
+use ccsl_follow::Stop;
 use ccsl_page::Page;
 use ccsl_pool::Gate;
-use ccsl_show::{Again, Asking, Own, Said, Stop, read_report, show};
+use ccsl_show::{Again, Asking, Own, Said, read_report, show};
 use std::alloc::Global;
 use std::thread::Threads;
+
+// Puts on a page what stands behind an answer.
+fn put_behind<W: World, O: World>(
+    asking: &Asking<'_>,
+    world: &mut W,
+    out: &mut O,
+    page: &mut Page,
+    words: &[CommandWord],
+) -> Result<(), Stop>
+    requires allowed { (slot : Slot) (name : List ℕ) → W.allows slot name }
+    requires all { (slot : Slot) (name : List ℕ) → O.allows slot name }
+    ensures reads { OnlyReads (W.state world.old) (W.state world.new) }
+    ensures calm { OnOk result (SameCounts (W.state world.old) (W.state world.new)) }
+{
+    match command_line(asking.alloc, words) {
+        Ok(command) => show(asking, world, out, page, &command),
+        Err(_usage) => Ok(put_usage(page, words)?),
+    }
+}
+
+// Reports a page, whatever kept it from being whole.
+fn report_page<W: World>(
+    world: &mut W,
+    page: &Page,
+    shown: Result<(), Stop>,
+) -> Result<(), Stop>
+    ensures follows { Follows W.told (W.state world.old) (W.state world.new) }
+    ensures calm { OnOk result (SameCounts (W.state world.old) (W.state world.new)) }
+    ensures shown { OnOk result (IsTrue (is_ok shown)) }
+{
+    match write_all(world, Slot::Report, page.bytes()) {
+        Ok(()) => shown,
+        Err(_failed) => Err(Stop::Fault),
+    }
+}
 
 // Shows what stands behind an answer.
 fn show_behind<W: World, O: World>(
@@ -25,17 +63,12 @@ fn show_behind<W: World, O: World>(
 ) -> Result<(), Stop>
     requires allowed { (slot : Slot) (name : List ℕ) → W.allows slot name }
     requires all { (slot : Slot) (name : List ℕ) → O.allows slot name }
+    ensures follows { Follows W.told (W.state world.old) (W.state world.new) }
+    ensures calm { OnOk result (SameCounts (W.state world.old) (W.state world.new)) }
 {
-    let mut page = Page::new(asking.alloc);
-    let shown = match command_line(asking.alloc, words) {
-        Ok(command) => show(asking, world, out, &mut page, &command),
-        Err(_usage) => {
-            put_usage(&mut page, words)?;
-            Ok(())
-        }
-    };
-    write_all(world, Slot::Report, page.bytes())?;
-    shown
+    let mut page = Page::coloured(asking.alloc, asking.own.is_coloured);
+    let shown = put_behind(asking, world, out, &mut page, words);
+    report_page(world, &page, shown)
 }
 
 // What stands behind the answer with this status, where there is one.
@@ -48,6 +81,9 @@ fn shown_behind<W: World, O: World, L: Listen>(
 ) -> Result<(), Stop>
     requires allowed { (slot : Slot) (name : List ℕ) → W.allows slot name }
     requires all { (slot : Slot) (name : List ℕ) → O.allows slot name }
+    ensures follows { Follows W.told (W.state world.old.world) (W.state world.new.world) }
+    ensures ends { (status ≡ 5) ⊎ (status ≡ 6) → W.state world.new.world ≡ W.state world.old.world }
+    ensures calm { OnOk result (SameCounts (W.state world.old.world) (W.state world.new.world)) }
 {
     if status == 5 || status == 6 {
         return Ok(());
@@ -85,8 +121,7 @@ pub fn run<R: Threads + Sync, W: World, O: World, L: Listen, G: Gate>(
 ) -> Outcome
     requires allowed { (slot : Slot) (name : List ℕ) → W.allows slot name }
     requires all { (slot : Slot) (name : List ℕ) → O.allows slot name }
-    // The first that is reported, and the status, are those of `ccsl`.
-    ensures { (mid : State) × Headline W.told words.now result.status (W.state world.old.world) mid }
+    ensures { Shows W.told words.now result.status (is_ok result.shown) (W.state world.old.world) (W.state world.new.world) }
 {
     let status = ccsl_top::run(rt, alloc, keys, words, world, gate);
     let asking = Asking {
