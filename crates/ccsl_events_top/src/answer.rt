@@ -39,7 +39,10 @@ fn put_usage(page: &mut Page, fault: Usage) -> Result<(), Memory>
         Usage::UnknownKey(i) => put_counted(page, "words: unknown key in word ", i as u64),
         Usage::Repeated(i) => put_counted(page, "words: repeated key in word ", i as u64),
         Usage::BadValue(i) => put_counted(page, "words: bad value in word ", i as u64),
-        Usage::Missing(key) => page.put_line(&[Piece::Text("words: missing "), Piece::Text(key.text())]),
+        Usage::Missing(key) => page.put_line(&[
+            Piece::Text("words: missing "),
+            Piece::Text(key.text()),
+        ]),
         Usage::SameName => page.put_line(&[Piece::Text("words: same name")]),
     }
 }
