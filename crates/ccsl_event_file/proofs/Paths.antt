@@ -8,7 +8,7 @@ use Rattle.ccsl_event_file.specs.declared.fault.EventFault.{EventFault}
 use Rattle.ccsl_event_file.specs.declared.fault.EventFault.TheVariants as faults
 use Rattle.ccsl_event_file.specs.Tokens.{Token, Placed}
 use Rattle.ccsl_event_file.specs.Values.{value_of}
-use Rattle.ccsl_event_file.specs.File.{Path, Condition, path, Draft, Use, trigger_of, becoming, condition_of, Place, first_part, part, behind_part, left, behind_left, right, bracket, behind_path, value, behind, Said, goes, syntax, expects, is_mark, part_of, with_part, index_of, with_left, with_right, comparison_of, compares, path_says, with_condition, with_value, says, story}
+use Rattle.ccsl_event_file.specs.File.{Path, Condition, path, Draft, Use, trigger_of, becoming, condition_of, first_part, part, behind_part, left, behind_left, right, bracket, behind_path, value, behind, Said, goes, syntax, expects, is_mark, part_of, with_part, index_of, with_left, with_right, comparison_of, compares, path_says, with_condition, with_value, says, story}
 use Rattle.ccsl_event_file.specs.Parsing.{place_of, next_is, next_value, TakesOne, ReadsOne, next_token, behind_next, part_seen, value_seen, PutsPart, IsValueFault, IsFault, is_condition}
 use Rattle.ccsl_event_file.proofs.Story.{taken, same, ExpectsAt, expected, unexpected, valued, unvalued}
 

@@ -1,6 +1,6 @@
 -- How a token leads on in a statement, and in front of the first one.
-use Rattle.std.proofs.Common.{◌≡◌, ◌<◌, ◌≤◌, ◌&&◌, nat_lt, ◌==◌, arith, rules, tests, ℕ, List, [], ◌∷◌, ◌++◌, length, map, Bool, true, false, Option, Some, None, Result, Ok, Err, cond, codes, refl, sym, ap, ◌∙◌, subst}
-use Rattle.std.proofs.lemmas.Bool.{false≢true, lt-ltb, le-ltb}
+use Rattle.std.proofs.Common.{◌≡◌, ◌<◌, ◌≤◌, ◌&&◌, nat_lt, ◌==◌, arith, rules, tests, ℕ, List, [], ◌∷◌, ◌++◌, length, Bool, true, false, Option, Some, None, Result, Ok, Err, cond, codes, refl, sym, ap, ◌∙◌, subst}
+use Rattle.std.proofs.lemmas.Bool.{lt-ltb, le-ltb}
 use Rattle.std.proofs.lemmas.List.{length-map}
 use Rattle.ccsl_base.specs.declared.limits.TheConstants.{MAX_CLOCKS}
 use Rattle.ccsl_base.specs.Name.{is_name}
@@ -9,7 +9,7 @@ use Rattle.ccsl_base.specs.Names.{is_among}
 use Rattle.ccsl_event_file.specs.declared.fault.EventFault.{EventFault}
 use Rattle.ccsl_event_file.specs.declared.fault.EventFault.TheVariants as faults
 use Rattle.ccsl_event_file.specs.Tokens.{tokens_in, Token, word, quoted, letters, equal, unequal, mark, Placed}
-use Rattle.ccsl_event_file.specs.File.{Path, Condition, Trigger, Event, event, draft, Use, trigger_of, condition_of, Place, keyword, version, head_end, statement, sign, kind, first_part, behind_path, behind, Said, goes, refused, told, syntax, expects, is_word, is_mark, may_be_named, names_of, named, use_of_token, used, text_of, joint, says, story, reading, events, fault}
+use Rattle.ccsl_event_file.specs.File.{Path, Condition, Trigger, Event, event, draft, Use, trigger_of, condition_of, keyword, version, head_end, statement, sign, kind, first_part, behind_path, behind, Said, goes, refused, told, syntax, expects, is_word, is_mark, may_be_named, names_of, named, use_of_token, used, text_of, joint, says, story, reading, events, fault}
 use Rattle.ccsl_event_file.specs.Parsing.{ahead, place_of, next_is, next_value, TakesOne, ReadsOne, IsValueFault, IsFault, Expects, Reads}
 use Rattle.ccsl_event_file.proofs.Story.{moved, taken, same, stops, Refuses, ExpectsAt, expected, unexpected, valued, unvalued}
 

@@ -1,10 +1,9 @@
 -- What the next token makes of a place.
-use Rattle.std.proofs.Common.{◌≡◌, ℕ, List, [], ◌∷◌, ◌++◌, Bool, true, false, Option, Some, None, Result, Ok, Err, cond, refl, sym, ap, ◌∙◌, subst}
-use Rattle.std.proofs.lemmas.Bool.{false≢true}
+use Rattle.std.proofs.Common.{◌≡◌, ℕ, List, [], ◌∷◌, Bool, false, Option, Some, None, Result, Ok, Err, refl, sym, ap, ◌∙◌, subst}
 use Rattle.ccsl_event_file.specs.declared.fault.EventFault.{EventFault}
 use Rattle.ccsl_event_file.specs.declared.fault.EventFault.TheVariants as faults
 use Rattle.ccsl_event_file.specs.Tokens.{Token, Placed}
-use Rattle.ccsl_event_file.specs.File.{Place, Said, goes, refused, syntax, expects, says, Reading, fault, ends, told, story}
+use Rattle.ccsl_event_file.specs.File.{Place, goes, syntax, expects, says, Reading, fault, ends, told, story}
 use Rattle.ccsl_event_file.specs.Parsing.{place_of, next_is, next_value, TakesOne, ReadsOne, IsValueFault, IsFault, Reads}
 
 -- a fault of what is the same reading

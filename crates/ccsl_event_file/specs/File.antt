@@ -12,7 +12,7 @@ use Rattle.ccsl_scopes.specs.declared.select.Select.{Select}
 use Rattle.ccsl_scopes.specs.declared.select.Select.TheVariants.{Whole, Bit, Range}
 use Rattle.ccsl_event_file.specs.declared.fault.EventFault.{EventFault}
 use Rattle.ccsl_event_file.specs.declared.fault.EventFault.TheVariants as faults
-use Rattle.ccsl_event_file.specs.Tokens.{Token, word, quoted, letters, equal, unequal, mark, Placed, tokens}
+use Rattle.ccsl_event_file.specs.Tokens.{Token, word, quoted, equal, unequal, mark, Placed, tokens}
 use Rattle.ccsl_event_file.specs.Values.{value_of}
 
 -- ## What is said

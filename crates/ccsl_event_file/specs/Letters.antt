@@ -1,5 +1,5 @@
 -- What the code makes of letters.
-use Rattle.std.specs.Prelude.{ℕ, ◌-◌, ◌+◌, List, [], ◌∷◌, ◌++◌, Option, Some, None, if◌then◌else◌}
+use Rattle.std.specs.Prelude.{ℕ, List, [], ◌∷◌, ◌++◌, Option, Some, None, if◌then◌else◌}
 use Rattle.ccsl_event_file.specs.Values.{without_zeros, is_hex, hex_value}
 
 abbrev pub hex_digit : ℕ → Option ℕ

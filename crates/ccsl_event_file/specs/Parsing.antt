@@ -7,7 +7,7 @@ use Rattle.ccsl_event_file.specs.declared.event.Event as code
 use Rattle.ccsl_event_file.specs.declared.event.Trigger.TheVariants as t
 use Rattle.ccsl_event_file.specs.declared.fault.EventFault.{EventFault}
 use Rattle.ccsl_event_file.specs.declared.fault.EventFault.TheVariants as faults
-use Rattle.ccsl_event_file.specs.Tokens.{Token, word, Placed, token, tokens_in}
+use Rattle.ccsl_event_file.specs.Tokens.{Token, Placed, token, tokens_in}
 use Rattle.ccsl_event_file.specs.declared.statement.Moment.{Moment}
 use Rattle.ccsl_event_file.specs.declared.statement.Moment.TheVariants as m
 use Rattle.ccsl_event_file.specs.declared.statement.Kind.{Kind}

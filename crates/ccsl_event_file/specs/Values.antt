@@ -1,9 +1,9 @@
 -- The values that a file of events writes: letters, the first on the left. A number has those of its bits without zeros in front.
-use Rattle.std.specs.Prelude.{ℕ, zero, suc, ◌+◌, ◌-◌, ◌/◌, ◌%◌, ◌^◌, List, [], ◌∷◌, drop, Bool, true, false, Option, Some, None, nat_le, ◌==◌, ◌&&◌, ◌||◌, if◌then◌else◌, map, bit_or, option_map}
+use Rattle.std.specs.Prelude.{ℕ, zero, suc, ◌-◌, ◌/◌, ◌%◌, ◌^◌, List, [], ◌∷◌, drop, Bool, false, Option, Some, None, nat_le, ◌==◌, ◌&&◌, ◌||◌, if◌then◌else◌, map, bit_or, option_map}
 use Rattle.std.specs.List.{list_all, flat_map}
 use Rattle.ccsl_base.specs.Letters.{is_digit}
 use Rattle.ccsl_base.specs.Decimal.{number_up_to}
-use Rattle.ccsl_event_file.specs.Tokens.{Token, word, quoted, letters, equal, unequal, mark}
+use Rattle.ccsl_event_file.specs.Tokens.{Token, word, letters}
 
 -- the letter of a number's last bit
 abbrev pub bit : ℕ → ℕ

@@ -1,6 +1,6 @@
 use Rattle.std.proofs.lemmas.Result.{err_from_is_err_and}
-use Rattle.std.proofs.Common.{[], refl, sym, ap, ◌∙◌, codes}
-use Rattle.ccsl_event_file.specs.File.{keyword, version, head_end, statement, is_word, is_mark, story}
+use Rattle.std.proofs.Common.{refl, sym, ap, ◌∙◌, codes}
+use Rattle.ccsl_event_file.specs.File.{keyword, version, head_end, is_word, story}
 use Rattle.ccsl_event_file.specs.Parsing.{ahead}
 use Rattle.ccsl_event_file.proofs.Story.{moved, expected, unexpected}
 use Rattle.ccsl_event_file.proofs.Statements.{at_keyword, at_version, head_closes}

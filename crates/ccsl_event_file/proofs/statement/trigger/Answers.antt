@@ -1,6 +1,6 @@
 use Rattle.std.proofs.lemmas.Result.{err_from_is_err_and}
 use Rattle.std.proofs.Common.{[], refl, sym, ap, ◌∙◌, subst}
-use Rattle.ccsl_event_file.specs.File.{kind, first_part, behind_path, behind, draft, event, trigger_of, becoming, becomes, use_of_token, story}
+use Rattle.ccsl_event_file.specs.File.{kind, first_part, behind, draft, event, trigger_of, becoming, becomes, use_of_token, story}
 use Rattle.ccsl_event_file.specs.Parsing.{ahead, path_in, condition_in, made_of, use_of_kind, ReadsOne}
 use Rattle.ccsl_event_file.proofs.Story.{moved}
 use Rattle.ccsl_event_file.proofs.Statements.{kinds, no_kind, is_made}

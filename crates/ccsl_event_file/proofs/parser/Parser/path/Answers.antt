@@ -1,5 +1,5 @@
 use Rattle.std.proofs.lemmas.Result.{err_from_is_err_and}
-use Rattle.std.proofs.Common.{◌≡◌, [], sym, ap, ◌∙◌, subst}
+use Rattle.std.proofs.Common.{sym, ap, ◌∙◌, subst}
 use Rattle.ccsl_event_file.specs.File.{path, first_part, behind_part, behind_path, story}
 use Rattle.ccsl_event_file.specs.Parsing.{ahead, place_of, PutsPart}
 use Rattle.ccsl_event_file.proofs.Story.{moved}
