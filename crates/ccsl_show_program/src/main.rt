@@ -7,7 +7,7 @@ use ccsl_files::FileWorld;
 use ccsl_follow::Stop;
 use ccsl_pool::NoGate;
 use ccsl_show::Again;
-use ccsl_show_top::{Asked, Colour, Heard, Help, Helped, Listen, Outcome, SESSION, run, told};
+use ccsl_show_top::{Asked, Colour, Heard, Listen, Outcome, SESSION, run, told};
 use std::alloc::AllocError;
 use std::io::{IsTerminal, Read};
 use std::os::unix::fs::MetadataExt;
@@ -286,31 +286,13 @@ fn put_failure(rt: &HostRuntime, words: &[CommandWord]) {
     }
 }
 
-/// Says on standard error what a session takes.
-#[derive(Drop)]
-struct SessionHelp<'a> {
-    rt: &'a HostRuntime,
-    // whether a person is there, who may ask
-    is_asked: bool,
-}
-
-impl Help for SessionHelp<'_> {
-    fn is_there(&self) -> bool {
-        self.is_asked
-    }
-
-    fn help(&mut self) {
-        let _ = eprintln!(self.rt; "{SESSION}");
-    }
-}
-
-// What is told before an answer: in a session at a terminal how to ask what it takes.
+// What is told before an answer: in a session at a terminal what it takes.
 fn greet(rt: &HostRuntime, words: &[CommandWord]) {
     if let Some(first) = words.first()
         && first.as_str() == "session"
         && rt.stdin().is_terminal()
     {
-        let _ = eprintln!(rt; "ccsl-show: `help` says what a session takes; control-D ends it");
+        let _ = eprintln!(rt; "{SESSION}");
     }
 }
 
@@ -397,12 +379,7 @@ fn main(rt: HostRuntime) -> ExitCode {
     let (words, alloc) = (asked.words.as_slice(), rt.alloc());
     greet(&rt, words);
     let mut out = FileWorld::new(&rt, alloc);
-    let helper = SessionHelp {
-        rt: &rt,
-        is_asked: rt.stdin().is_terminal(),
-    };
-    let files = Helped::new(FileWorld::new(&rt, alloc), helper);
-    let mut world = Heard::new(alloc, files, listener(&rt, words));
+    let mut world = Heard::new(alloc, FileWorld::new(&rt, alloc), listener(&rt, words));
     let again = again_of(&rt, words);
     let outcome = run(
         &rt,
@@ -416,7 +393,7 @@ fn main(rt: HostRuntime) -> ExitCode {
         &NoGate,
     );
     // A reader that has gone, as `head`, wants to hear no more.
-    if !world.world.world.has_lost_reader() {
+    if !world.world.has_lost_reader() {
         complain(&rt, words, outcome);
     }
     ExitCode::from(outcome.status)

@@ -1,5 +1,7 @@
 -- Reading, and then a report that goes on.
-use Rattle.std.proofs.Common.{◌≡◌, ◌≢◌, ◌≤◌, ◌⊎◌, ℕ, List, [], ◌++◌, take, Bool, true, false, IsTrue, inl, inr, refl, sym, ap, ◌∙◌, subst, arith, append-nil}
+use Rattle.std.proofs.Common.{◌≡◌, ◌≢◌, ◌≤◌, ◌⊎◌, ℕ, List, [], ◌++◌, take, Bool, true, false, IsTrue, inl, inr, Result, Ok, Err, refl, sym, ap, ◌∙◌, subst, arith, append-nil}
+use Rattle.std.specs.Prelude.{OnOk}
+use Rattle.std.specs.Result.{is_ok}
 use Rattle.ccsl_edge.specs.declared.slot.Slot.{Slot}
 use Rattle.ccsl_edge.specs.declared.slot.Slot.TheVariants.{Report}
 use Rattle.ccsl_edge.specs.World.{State, SlotState, Told}
@@ -63,3 +65,11 @@ follows-reads told s t u p q =
           ∙ ap (λ (x : SlotState). record x { left = (u.slot_of slot).left; faults = (u.slot_of slot).faults }) (p.here slot);
       rises = λ slot. omega (arith, p.rises slot, q.rises slot);
     }
+
+pub on-ok : {T E : Type 0} → (r : Result T E) (P Q : Type 0) → (P → Q) → OnOk r P → OnOk r Q
+on-ok (Ok x) P Q f h = f h
+on-ok (Err e) P Q f h = h
+
+pub when-ok : {T E : Type 0} → (r : Result T E) (P : Type 0) → OnOk r P → is_ok r ≡ true → P
+when-ok (Ok x) P h is = h
+when-ok (Err e) P h is = absurd (cc)

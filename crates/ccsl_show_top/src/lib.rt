@@ -3,12 +3,10 @@
 
 pub mod heard;
 pub mod help;
-pub mod helped;
 pub mod own;
 pub mod program;
 
 pub use heard::{Heard, Listen};
 pub use help::{SESSION, told};
-pub use helped::{Help, Helped};
 pub use own::{Asked, Colour};
 pub use program::{Outcome, run};

@@ -1,6 +1,6 @@
 //! The program's one call.
 
-ghost use Rattle.std.specs.Prelude.{◌≡◌, ◌⊎◌, ℕ, List, IsTrue, OnOk};
+ghost use Rattle.std.specs.Prelude.{◌≡◌, ◌⊎◌, ℕ, List, OnOk};
 ghost use Rattle.std.specs.Result.{is_ok};
 ghost use Rattle.ccsl_edge.specs.declared.slot.Slot.{Slot};
 ghost use Rattle.ccsl_edge.specs.Counts.{SameCounts};
@@ -38,23 +38,18 @@ fn put_behind<W: World, O: World>(
     }
 }
 
-// Reports a page, whatever kept it from being whole.
-fn report_page<W: World>(
-    world: &mut W,
-    page: &Page,
-    shown: Result<(), Stop>,
-) -> Result<(), Stop>
+// Reports a page.
+fn report_page<W: World>(world: &mut W, page: &Page) -> Result<(), Stop>
     ensures follows { Follows W.told (W.state world.old) (W.state world.new) }
     ensures calm { OnOk result (SameCounts (W.state world.old) (W.state world.new)) }
-    ensures shown { OnOk result (IsTrue (is_ok shown)) }
 {
     match write_all(world, Slot::Report, page.bytes()) {
-        Ok(()) => shown,
+        Ok(()) => Ok(()),
         Err(_failed) => Err(Stop::Fault),
     }
 }
 
-// Shows what stands behind an answer.
+// Shows what stands behind an answer, up to where something kept it from being whole.
 fn show_behind<W: World, O: World>(
     asking: &Asking<'_>,
     world: &mut W,
@@ -68,7 +63,8 @@ fn show_behind<W: World, O: World>(
 {
     let mut page = Page::coloured(asking.alloc, asking.own.is_coloured);
     let shown = put_behind(asking, world, out, &mut page, words);
-    report_page(world, &page, shown)
+    report_page(world, &page)?;
+    shown
 }
 
 // What stands behind the answer with this status, where there is one.

@@ -1,6 +1,6 @@
-use Rattle.std.proofs.Common.{refl}
 use Rattle.ccsl_command.specs.Opened.{files_opened}
 use Rattle.ccsl_show_top.proofs.Allowed.{all-allowed}
+use Rattle.ccsl_show_top.proofs.Following.{when-ok}
 use Rattle.ccsl_show_top.proofs.program.run.Goals as goal
 
 pub run-status-requires-after_bounds : goal.run-status-requires-after_bounds
@@ -12,5 +12,5 @@ returns g c = record {
   answers = c.run-status.ensures;
   follows = c.shown_behind-shown.ensures.follows;
   ends = c.shown_behind-shown.ensures.ends;
-  calm = ?;
+  calm = when-ok _ _ c.shown_behind-shown.ensures.calm;
 }
