@@ -52,10 +52,10 @@ module _ (step old rest now : List ℕ) (c : ℕ) (is : IsCounting step old (c �
       by x below true e =
           let same = eqb-true x c e in
           let here : counted (ticks_in c rest) (get_or (set now c (next_count (get_or now c 0))) c 0) ≡ next_count (get_or now c 0) =
-              ap (λ t. counted t (get_or (set now c (next_count (get_or now c 0))) c 0)) (not-behind c rest is.order)
-              ∙ get_or-set_same now c (next_count (get_or now c 0)) 0 inside in
+          ap (λ t. counted t (get_or (set now c (next_count (get_or now c 0))) c 0)) (not-behind c rest is.order)
+          ∙ get_or-set_same now c (next_count (get_or now c 0)) 0 inside in
           let before : counted (ticks_in c (c ∷ rest)) (get_or now c 0) ≡ next_count (get_or now c 0) =
-              ap (λ t. counted t (get_or now c 0)) (first c rest) in
+          ap (λ t. counted t (get_or now c 0)) (first c rest) in
           rw same (here ∙ sym before ∙ is.counts c (rw (← same) below))
       by x below false e =
           let apart : x ≢ c = λ same. (let clash : false ≡ true = sym e ∙ eq-eqb x c same in cc) in

@@ -53,7 +53,12 @@ impl Kept {
     }
 
     /// The last of the kept steps in which one of some clocks ticks, so many at most, the last one first.
-    pub fn last(&self, alloc: Global, clocks: &ClockSet, most: usize) -> Result<Vec<Column>, Memory> {
+    pub fn last(
+        &self,
+        alloc: Global,
+        clocks: &ClockSet,
+        most: usize,
+    ) -> Result<Vec<Column>, Memory> {
         let mut chosen = Vec::new(alloc);
         for back in 1..=self.made.min(KEPT) {
             let place = self.made.saturating_sub(back) % KEPT;

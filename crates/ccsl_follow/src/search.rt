@@ -84,12 +84,7 @@ impl Search {
 }
 
 /// Looks for byte number `at` of a trace.
-pub fn searched<W: World>(
-    alloc: Global,
-    world: &mut W,
-    name: &str,
-    at: u64,
-) -> Result<Search, Stop>
+pub fn searched<W: World>(alloc: Global, world: &mut W, name: &str, at: u64) -> Result<Search, Stop>
     requires { W.allows Trace name.now }
     ensures reads { OnlyReads (W.state world.old) (W.state world.new) }
     ensures calm { OnOk result (SameCounts (W.state world.old) (W.state world.new)) }

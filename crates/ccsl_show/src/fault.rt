@@ -31,7 +31,12 @@ fn put_item(page: &mut Page, case: &Case<'_>, item: u32) -> Result<(), Memory> {
 }
 
 // Why a definition fails in a step.
-fn put_differing(page: &mut Page, case: &Case<'_>, item: u32, ticks: &ClockSet) -> Result<(), Memory> {
+fn put_differing(
+    page: &mut Page,
+    case: &Case<'_>,
+    item: u32,
+    ticks: &ClockSet,
+) -> Result<(), Memory> {
     let clock = case.system.scope().declared.saturating_add(item);
     let text = if ticks.has(clock) {
         " ticks here by its definition, and is recorded not to"
@@ -106,4 +111,3 @@ pub(crate) fn put_fault(
     }
     page.put_line(&[])
 }
-

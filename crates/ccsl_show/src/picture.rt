@@ -35,7 +35,9 @@ impl Drawn {
 }
 
 fn wide(text: &[u8]) -> u64 {
-    (text.len() as u64).saturating_mul(LETTER).saturating_add(BESIDE)
+    (text.len() as u64)
+        .saturating_mul(LETTER)
+        .saturating_add(BESIDE)
 }
 
 // A column that begins here: it is as wide as the widest of its texts.
@@ -81,7 +83,9 @@ fn margin_of(system: &System, rows: &[u32]) -> u64 {
 
 // The line on which the text of a row stands, the steps and times aside.
 fn line_of(row: usize) -> u64 {
-    (row as u64).saturating_mul(HIGH).saturating_add(HIGH * 2 + 18)
+    (row as u64)
+        .saturating_mul(HIGH)
+        .saturating_add(HIGH * 2 + 18)
 }
 
 // A tick, or the line on which none stands.
@@ -119,7 +123,13 @@ fn put_head(page: &mut Page, list: &[Drawn]) -> Result<(), Memory> {
     put_text(page, BESIDE / 2, 18 + HIGH, "start", b"time")?;
     for drawn in list {
         put_text(page, drawn.middle(), 18, "middle", drawn.step.bytes())?;
-        put_text(page, drawn.middle(), 18 + HIGH, "middle", drawn.time.bytes())?;
+        put_text(
+            page,
+            drawn.middle(),
+            18 + HIGH,
+            "middle",
+            drawn.time.bytes(),
+        )?;
     }
     Ok(())
 }

@@ -60,12 +60,7 @@ fn put_markers(page: &mut Page, view: &View) -> Result<(), Memory> {
 }
 
 // The dump's name, what is looked at, the marker, and the signals in their order.
-fn put_save_file(
-    page: &mut Page,
-    system: &System,
-    file: &str,
-    view: &View,
-) -> Result<(), Memory> {
+fn put_save_file(page: &mut Page, system: &System, file: &str, view: &View) -> Result<(), Memory> {
     page.put_line(&[
         Piece::Text("[dumpfile] \""),
         Piece::Text(file),

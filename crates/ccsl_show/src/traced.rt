@@ -167,23 +167,9 @@ pub(crate) fn show_trace<W: World>(
             Ok(None)
         }
         Said::Blocked(lines) => Ok(Some(show_blocked(
-            keys,
-            world,
-            case,
-            page,
-            files,
-            name,
-            lines,
+            keys, world, case, page, files, name, lines,
         )?)),
-        Said::Deadlock(_) => Ok(Some(show_blocked(
-            keys,
-            world,
-            case,
-            page,
-            files,
-            name,
-            b"",
-        )?)),
+        Said::Deadlock(_) => Ok(Some(show_blocked(keys, world, case, page, files, name, b"")?)),
         Said::BadLine(line) => {
             show_bad_line(world, case, page, files, line)?;
             Ok(None)

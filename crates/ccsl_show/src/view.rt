@@ -28,7 +28,12 @@ pub(crate) fn header_scale(header: Option<&Header>) -> Scale {
 // What the header of a trace says of its unit of time.
 fn timescale_of(alloc: Global, header: Option<&Header>) -> Result<Option<Vec<u8>>, Memory> {
     match header {
-        Some(Header { timescale: Some(text), .. }) => Ok(Some(Vec::from_slice(alloc, text.as_slice())?)),
+        Some(
+            Header {
+                timescale: Some(text),
+                ..
+            },
+        ) => Ok(Some(Vec::from_slice(alloc, text.as_slice())?)),
         _ => Ok(None),
     }
 }

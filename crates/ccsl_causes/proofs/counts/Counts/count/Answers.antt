@@ -11,6 +11,6 @@ loop-clock-preserved-then-at-len c =
     let rest = c.next.new.self in
     let is = subst (λ r. IsCounting c.args.step.now c.args.self.now r now) c.in-Some.ensures.steps c.loop-clock.invariant in
     let inside : clock < length now = omega arith in
-    let next : c.saturating_add.result ≡ min (get_or now clock 0 + 1) (2 ^ 64 - 1) = 
-        c.saturating_add.ensures ∙ ap (λ n. min (n + 1) (2 ^ 64 - 1)) (c.index.ensures ∙ get_or_default now clock c.index.result.now 0 inside) in
+    let next : c.saturating_add.result ≡ min (get_or now clock 0 + 1) (2 ^ 64 - 1) =
+    c.saturating_add.ensures ∙ ap (λ n. min (n + 1) (2 ^ 64 - 1)) (c.index.ensures ∙ get_or_default now clock c.index.result.now 0 inside) in
     subst (λ n. IsCounting c.args.step.now c.args.self.now rest (slice_set now clock n)) (sym next) (counting-one c.args.step.now c.args.self.now rest now clock is inside)

@@ -14,8 +14,8 @@ go_on-requires c =
     let own = c.self.inside.part.system in
     let ticks = c.args.ticks.now in
     let is : c.copy_difference.new.self ≡ declared_part own ticks =
-        declared-are own c.self.inside.undeclared ticks c.copy_difference.new.self c.self.invariant c.members.ensures.ascending c.members.ensures.below c.members-2.ensures.ascending
-        (λ x. ap (ticks_in x) c.copy_difference.ensures ∙ ticks_in-difference ticks c.self.inside.undeclared x) in
+    declared-are own c.self.inside.undeclared ticks c.copy_difference.new.self c.self.invariant c.members.ensures.ascending c.members.ensures.below c.members-2.ensures.ascending
+    (λ x. ap (ticks_in x) c.copy_difference.ensures ∙ ticks_in-difference ticks c.self.inside.undeclared x) in
     subst (λ s. are_below own.declared s ≡ true) (sym is) (below-below own.declared ticks)
 
 pub returns-clause-step : goal.returns-clause-step
@@ -23,19 +23,19 @@ returns-clause-step c =
     let own = c.self.inside.part.system in
     let ticks = c.args.ticks.now in
     let is : c.copy_difference.new.self ≡ declared_part own ticks =
-        declared-are own c.self.inside.undeclared ticks c.copy_difference.new.self c.self.invariant c.members.ensures.ascending c.members.ensures.below c.members-2.ensures.ascending
-        (λ x. ap (ticks_in x) c.copy_difference.ensures ∙ ticks_in-difference ticks c.self.inside.undeclared x) in
+    declared-are own c.self.inside.undeclared ticks c.copy_difference.new.self c.self.invariant c.members.ensures.ascending c.members.ensures.below c.members-2.ensures.ascending
+    (λ x. ap (ticks_in x) c.copy_difference.ensures ∙ ticks_in-difference ticks c.self.inside.undeclared x) in
     subst (λ (v : Following). (T : List Step) → PartStandsFor v.part T → c.go_on.new.step ≡ part_of v.part (full_step v.part.system T (declared_part v.part.system ticks)))
-        c.self.view_is
-        (λ T stands. c.go_on.ensures.step T stands ∙ ap (λ s. part_of c.self.inside.part (full_step own T s)) is)
+    c.self.view_is
+    (λ T stands. c.go_on.ensures.step T stands ∙ ap (λ s. part_of c.self.inside.part (full_step own T s)) is)
 
 pub returns-clause-stands : goal.returns-clause-stands
 returns-clause-stands c =
     let own = c.self.inside.part.system in
     let ticks = c.args.ticks.now in
     let is : c.copy_difference.new.self ≡ declared_part own ticks =
-        declared-are own c.self.inside.undeclared ticks c.copy_difference.new.self c.self.invariant c.members.ensures.ascending c.members.ensures.below c.members-2.ensures.ascending
-        (λ x. ap (ticks_in x) c.copy_difference.ensures ∙ ticks_in-difference ticks c.self.inside.undeclared x) in
+    declared-are own c.self.inside.undeclared ticks c.copy_difference.new.self c.self.invariant c.members.ensures.ascending c.members.ensures.below c.members-2.ensures.ascending
+    (λ x. ap (ticks_in x) c.copy_difference.ensures ∙ ticks_in-difference ticks c.self.inside.undeclared x) in
     subst (λ (v : Following). (T : List Step) → PartStandsFor v.part T → length T + 1 < 2 ^ 64 → PartStandsFor c.go_on.new.self (T ++ full_step v.part.system T (declared_part v.part.system ticks) ∷ []))
-        c.self.view_is
-        (λ T stands few. subst (λ s. PartStandsFor c.go_on.new.self (T ++ full_step own T s ∷ [])) is (c.go_on.ensures.stands T stands few))
+    c.self.view_is
+    (λ T stands few. subst (λ s. PartStandsFor c.go_on.new.self (T ++ full_step own T s ∷ [])) is (c.go_on.ensures.stands T stands few))
