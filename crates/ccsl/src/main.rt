@@ -1,32 +1,34 @@
 //! The program: it hands the real words and the real files to `run`, and says on standard error why there is no answer.
 #![tactic(auto)]
 
+use ccsl_base::{CommandWord, HashKeys};
 use ccsl_files::{FileWorld, NoAnswer, command_words, random_keys};
 use ccsl_pool::NoGate;
 use ccsl_top::run;
 use std::process::ExitCode;
 
-fn status_of(rt: &HostRuntime) -> Result<u8, NoAnswer> {
-    let words = command_words(rt)?;
-    let keys = random_keys(rt)?;
-    let mut world = FileWorld::new(rt, rt.alloc());
-    let status = run(rt, rt.alloc(), keys, words.as_slice(), &mut world, &NoGate);
-    if status == 6 {
-        return Err(NoAnswer::NoMemory);
-    }
-    // A reader that has gone, as `head`, wants to hear no more.
-    if status == 5 && !world.has_lost_reader() {
-        return Err(NoAnswer::FileFailed);
-    }
-    Ok(status)
+fn words_and_keys(rt: &HostRuntime) -> Result<(Vec<CommandWord>, HashKeys), NoAnswer> {
+    Ok((command_words(rt)?, random_keys(rt)?))
+}
+
+fn end_without_answer(rt: &HostRuntime, fault: NoAnswer) -> ExitCode {
+    let _ = eprintln!(rt; "ccsl: {fault}");
+    ExitCode::from(fault.status())
 }
 
 fn main(rt: HostRuntime) -> ExitCode {
-    match status_of(&rt) {
-        Ok(status) => ExitCode::from(status),
-        Err(fault) => {
-            let _ = eprintln!(rt; "ccsl: {fault}");
-            ExitCode::from(fault.status())
-        }
+    let (words, keys) = match words_and_keys(&rt) {
+        Ok(found) => found,
+        Err(fault) => return end_without_answer(&rt, fault),
+    };
+    let mut world = FileWorld::new(&rt, rt.alloc());
+    let status = run(&rt, rt.alloc(), keys, words.as_slice(), &mut world, &NoGate);
+    if status == 6 {
+        return end_without_answer(&rt, NoAnswer::NoMemory);
     }
+    // A reader that has gone, as `head`, wants to hear no more.
+    if status == 5 && !world.has_lost_reader() {
+        return end_without_answer(&rt, NoAnswer::FileFailed);
+    }
+    ExitCode::from(status)
 }

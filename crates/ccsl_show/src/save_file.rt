@@ -13,8 +13,8 @@ use ccsl_kernel::System;
 use ccsl_page::{Page, Piece};
 use std::alloc::Global;
 
-/// How wide gtkwave draws its waves at least.
-const PIXELS: u64 = 512;
+/// How many frames of 200 pixels gtkwave shows at least. By a zoom of -z a frame is 2 to the z units of time.
+const FRAMES: u64 = 3;
 
 // From which time to which the steps of a view reach, with some room in front and behind.
 fn range_of(view: &View) -> (u64, u64) {
@@ -30,13 +30,13 @@ fn range_of(view: &View) -> (u64, u64) {
     (first.saturating_sub(room), last.saturating_add(room))
 }
 
-// How often a unit of time is halved, or doubled, until so many are a pixel that the range is seen whole.
+// How often the units of a frame are doubled until the range is seen whole.
 fn put_zoom(page: &mut Page, range: u64) -> Result<(), Memory> {
     let mut doubled = 0u64;
-    let mut pixels = PIXELS;
-    for step in 1..=50 {
-        if pixels < range {
-            pixels = pixels.saturating_mul(2);
+    let mut shown = FRAMES;
+    for step in 1..=62 {
+        if shown < range {
+            shown = shown.saturating_mul(2);
             doubled = step;
         }
     }

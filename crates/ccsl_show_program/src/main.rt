@@ -1,20 +1,18 @@
 //! The program: it hands the real words and the real files to `run`, which reports and shows.
 #![tactic(auto)]
 
-use ccsl_base::{CommandWord, HashKeys};
+use ccsl_base::CommandWord;
 use ccsl_edge::Slot;
-use ccsl_files::FileWorld;
+use ccsl_files::{FileWorld, NoAnswer, command_words, random_keys};
 use ccsl_follow::Stop;
 use ccsl_pool::NoGate;
 use ccsl_show::Again;
 use ccsl_show_top::{Asked, Colour, Heard, Listen, Outcome, SESSION, run, told};
-use std::alloc::AllocError;
 use std::io::{IsTerminal, Read};
 use std::os::unix::fs::MetadataExt;
 use std::process::ExitCode;
-use std::random::RandomSource;
 use std::time::Instant;
-use std::{env, fs, io};
+use std::{env, fs};
 
 /// Says on standard error how far the reading of a trace is, or a simulation, once that has taken two seconds.
 #[derive(Drop)]
@@ -97,26 +95,14 @@ impl Listen for Progress<'_> {
 }
 
 // The words behind the program's name.
-fn asked_words(rt: &HostRuntime) -> io::Result<Asked> {
+fn asked_words(rt: &HostRuntime) -> Result<Asked, NoAnswer> {
     let mut asked = Asked::new(rt.alloc());
-    for word in env::args(rt)?.skip(1) {
-        if asked.add(rt.alloc(), CommandWord::new(word)).is_err() {
-            return Err(io::Error::from(AllocError));
+    for word in command_words(rt)? {
+        if asked.add(rt.alloc(), word).is_err() {
+            return Err(NoAnswer::NoMemory);
         }
     }
     Ok(asked)
-}
-
-// Keys that no file can be made for.
-fn drawn_keys(rt: &HostRuntime) -> io::Result<HashKeys> {
-    let mut first = [0; 8];
-    let mut second = [0; 8];
-    rt.fill_bytes(&mut first)?;
-    rt.fill_bytes(&mut second)?;
-    Ok(HashKeys {
-        first: u64::from_le_bytes(first),
-        second: u64::from_le_bytes(second),
-    })
 }
 
 // The value of a key.
@@ -141,21 +127,6 @@ fn is_again(rt: &HostRuntime, words: &[CommandWord], key: &str) -> bool {
             Err(_) => true,
         },
         None => true,
-    }
-}
-
-// The words, or the status where there are none to be had.
-fn asked_or_status(rt: &HostRuntime) -> Result<Asked, u8> {
-    match asked_words(rt) {
-        Ok(asked) => Ok(asked),
-        Err(error) => {
-            if error.kind() == io::ErrorKind::OutOfMemory {
-                let _ = eprintln!(rt; "ccsl-show: no memory");
-                return Err(6);
-            }
-            let _ = eprintln!(rt; "ccsl-show: a word is not UTF-8");
-            Err(2)
-        }
     }
 }
 
@@ -364,30 +335,34 @@ fn told_or_refused(rt: &HostRuntime, asked: &Asked) -> Option<u8> {
     None
 }
 
+fn end_without_answer(rt: &HostRuntime, fault: NoAnswer) -> ExitCode {
+    let _ = eprintln!(rt; "ccsl-show: {fault}");
+    ExitCode::from(fault.status())
+}
+
 fn main(rt: HostRuntime) -> ExitCode {
-    let asked = match asked_or_status(&rt) {
+    let asked = match asked_words(&rt) {
         Ok(asked) => asked,
-        Err(status) => return ExitCode::from(status),
+        Err(fault) => return end_without_answer(&rt, fault),
     };
     if let Some(status) = told_or_refused(&rt, &asked) {
         return ExitCode::from(status);
     }
-    let Ok(keys) = drawn_keys(&rt) else {
-        let _ = eprintln!(rt; "ccsl-show: no random numbers");
-        return ExitCode::from(5);
+    let keys = match random_keys(&rt) {
+        Ok(keys) => keys,
+        Err(fault) => return end_without_answer(&rt, fault),
     };
     let (words, alloc) = (asked.words.as_slice(), rt.alloc());
     greet(&rt, words);
     let mut out = FileWorld::new(&rt, alloc);
     let mut world = Heard::new(alloc, FileWorld::new(&rt, alloc), listener(&rt, words));
-    let again = again_of(&rt, words);
     let outcome = run(
         &rt,
         alloc,
         keys,
         words,
         asked.own(is_coloured(&rt, asked.colour())),
-        again,
+        again_of(&rt, words),
         &mut world,
         &mut out,
         &NoGate,
