@@ -79,23 +79,38 @@ crates_to_prove() {
 }
 
 # how many seconds the proofs of these crates, a name a line, take side by side, by packaging/proof-seconds: all of them shared out,
-# but no less than the longest chain of crates each of which uses the one before
+# but no less than the longest chain of crates each of which uses the one before. With the seconds that went by since crates of so
+# much were to be proved, by the speed so far, where the first crates that wait for no other are taken to be half done.
 seconds_of() {
-    awk -F'[: ]+' -v lanes="$1" '
+    awk -F'[: ]+' -v lanes="$1" -v gone="${2-0}" -v begun="${3-0}" '
         FILENAME == "-" || FILENAME == "" { wanted[$1] = 1; next }
         FILENAME == ARGV[2] { if ($1 in wanted) { cost[$1] = $2; total += $2 }; next }
-        /^[a-z]/ { names[$1] = $0 }
-        function ends(name, parts, count, i, first) {
+        /^[a-z]/ { names[$1] = $0; order[++count] = $1 }
+        function waits(name, parts, n, i) {
+            n = split(names[name], parts, "[: ]+")
+            for (i = 2; i <= n; i++) if (parts[i] in wanted) return 1
+        }
+        function ends(name, parts, n, i, first) {
             if (name in end) return end[name]
-            count = split(names[name], parts, "[: ]+")
-            for (i = 2; i <= count; i++) if ((parts[i] in names) && ends(parts[i]) > first) first = ends(parts[i])
+            n = split(names[name], parts, "[: ]+")
+            for (i = 2; i <= n; i++) if ((parts[i] in names) && ends(parts[i]) > first) first = ends(parts[i])
             return end[name] = first + cost[name]
         }
         END {
+            for (i = 1; gone && i <= count && running < lanes; i++)
+                if ((order[i] in wanted) && !waits(order[i])) { running++; half[order[i]] = cost[order[i]] / 2 }
+            for (name in half) { cost[name] -= half[name]; done += half[name] }
+            shared = (total - done) / lanes
+            done += begun - total
             for (name in names) if (ends(name) > longest) longest = ends(name)
-            shared = total / lanes
-            printf "%d\n", (shared > longest ? shared : longest)
+            pace = (gone && done > 0) ? gone * lanes / done : 1
+            printf "%d\n", (shared > longest ? shared : longest) * pace
         }' - "$top/packaging/proof-seconds" "$top/crates.txt"
+}
+
+# the processor seconds of these crates, a name a line, by packaging/proof-seconds
+processor_seconds_of() {
+    awk 'FILENAME == "-" { wanted[$1] = 1; next } $1 in wanted { total += $2 } END { print total + 0 }' - "$top/packaging/proof-seconds"
 }
 
 # seconds in words
@@ -105,10 +120,10 @@ time_in_words() {
 
 # says of each crate of rt's report that it is done, and how long the others will take by the speed so far
 show_progress() {
-    local lanes=$1 all wanted left line done=0
+    local lanes=$1 all begun left line done=0
     left=$(crates_to_prove)
     all=$(wc -l <<<"$left")
-    wanted=$(seconds_of "$lanes" <<<"$left")
+    begun=$(processor_seconds_of <<<"$left")
     SECONDS=0
     while IFS= read -r line; do
         case "$line" in
@@ -117,19 +132,11 @@ show_progress() {
                 grep -Fxq "${line#== }" <<<"$left" || continue
                 done=$((done + 1))
                 left=$(grep -Fxv "${line#== }" <<<"$left")
-                say "$done of $all crates, $((SECONDS / 60)) minutes gone, $(left_in_words "$wanted" "$(seconds_of "$lanes" <<<"$left")"): ${line#== }"
+                say "$done of $all crates, $((SECONDS / 60)) minutes gone, about $(time_in_words "$(seconds_of "$lanes" "$SECONDS" "$begun" <<<"$left")") left: ${line#== }"
                 ;;
         esac
     done
     cat >/dev/null
-}
-
-# how long is left, where so many seconds were reckoned for all and so many for what is left: by the speed of what is done, once
-# that is a tenth
-left_in_words() {
-    local all=$1 left=$2 done=$(($1 - $2))
-    if [ "$done" -gt $((all / 10)) ]; then left=$((left * SECONDS / done)); fi
-    echo "about $(time_in_words "$left") left"
 }
 
 build() {
@@ -141,9 +148,8 @@ build() {
     say "the program is proved before it is built: $(wc -l <<<"$left") of $(crates | wc -l) crates are to be proved, $lanes side by side."
     say "This takes about $(time_in_words "$(seconds_of "$lanes" <<<"$left")") where nothing else runs; what is done is kept if you stop it."
     say "To run at once without the proofs: ./$command_name --unproved WORDS.."
-    say "A quick pass over all sources comes first."
     # rt keeps a place for a crate that waits for others, so there are twice as many places as crates that are proved at once
-    (cd "$top/crates/$crate" && rt all check --jobs "$((2 * lanes))") 2>&1 </dev/null | tee "$log" | show_progress "$lanes"
+    (cd "$top/crates/$crate" && "$top/packaging/prove" --jobs "$((2 * lanes))") 2>&1 </dev/null | tee "$log" | show_progress "$lanes"
     status=${PIPESTATUS[0]}
     if [ "$status" -eq 0 ]; then (cd "$top/crates/$crate" && rt run -- check) >"$log" 2>&1 </dev/null; fi
     if [ "$status" -ne 0 ] || [ ! -e "$program.stamp" ]; then
