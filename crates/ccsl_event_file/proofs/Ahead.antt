@@ -1,20 +1,16 @@
 -- The next token of a text at whose front no white space stands.
 use Rattle.std.proofs.Common.{◌≡◌, ◌<◌, ℕ, ◌-◌, ◌||◌, List, [], ◌∷◌, length, drop, Bool, true, false, Option, Some, refl, sym, ap, ◌∙◌, arith}
-use Rattle.std.proofs.lemmas.Bool.{false≢true}
+use Rattle.std.proofs.lemmas.Bool.{false≢true, or_parts}
 use Rattle.ccsl_event_file.specs.Tokens.{Token, placed, tokens_in, piece_at, begins_remark, is_white}
 use Rattle.ccsl_event_file.specs.Fronts.{is_blank, IsFrontOf, IsBehindBlank}
 use Rattle.ccsl_event_file.specs.Parsing.{ahead, place_of, next_token, behind_next}
 use Rattle.ccsl_event_file.proofs.Lexing.{at_token, behind}
 
-neither : (a b : Bool) → (a || b) ≡ false → (a ≡ false) × (b ≡ false)
-neither true b e = absurd (false≢true (sym e))
-neither false b e = (refl, e)
-
 -- its first token and those behind it
 ahead_is : (len b : ℕ) (bs : List ℕ) → is_blank (b ∷ bs) ≡ false
     → ahead len (b ∷ bs) ≡ placed (len - length (b ∷ bs)) (piece_at b bs).token ∷ ahead len (drop (piece_at b bs).more bs)
 ahead_is len b bs bare =
-    let no = neither (begins_remark b bs) (is_white b) bare in
+    let no = or_parts (begins_remark b bs) (is_white b) bare in
     at_token len b bs no.0 no.1
     ∙ ap (λ ts. placed (len - length (b ∷ bs)) (piece_at b bs).token ∷ ts) (behind len (piece_at b bs).more bs)
 

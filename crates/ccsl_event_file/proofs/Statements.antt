@@ -2,6 +2,7 @@
 use Rattle.std.proofs.Common.{◌≡◌, ◌<◌, ◌≤◌, ◌&&◌, nat_lt, ◌==◌, arith, rules, tests, ℕ, List, [], ◌∷◌, ◌++◌, length, Bool, true, false, Option, Some, None, Result, Ok, Err, cond, codes, refl, sym, ap, ◌∙◌, subst}
 use Rattle.std.proofs.lemmas.Bool.{lt-ltb, le-ltb}
 use Rattle.std.proofs.lemmas.List.{length-map}
+use Rattle.std.proofs.Math.Bool.{and-false}
 use Rattle.ccsl_base.specs.declared.limits.TheConstants.{MAX_CLOCKS}
 use Rattle.ccsl_base.specs.Name.{is_name}
 use Rattle.ccsl_base.specs.Added.{IsAdded}
@@ -167,10 +168,6 @@ over len es (b ∷ bs) h = absurd (search (rules, tests))
 
 pub may_not : (es : List Event) (name : List ℕ) → is_name name ≡ false → may_be_named es name ≡ false
 may_not es name h = ap (λ b. b && nat_lt (length es) MAX_CLOCKS) h
-
-and-false : (b : Bool) → (b && false) ≡ false
-and-false true = refl
-and-false false = refl
 
 pub too_many : (es : List Event) (names : List (List ℕ)) (name : List ℕ) → names ≡ names_of es → MAX_CLOCKS ≤ length names → may_be_named es name ≡ false
 too_many es names name is h =

@@ -1,1 +1,6 @@
-pub mod Written
+pub mod Dump
+pub mod Places
+pub mod Meant
+pub mod Keeping
+pub mod Standing
+pub mod Run

@@ -1,11 +1,18 @@
 //! The tokens of a dump's body.
 
-ghost use Rattle.std.specs.Prelude.{◌≤◌, ◌+◌, length, IfOk};
+ghost use Rattle.std.specs.Prelude.{◌≡◌, ◌≤◌, ◌+◌, ℕ, List, [], ◌∷◌, length, take, true, IfOk};
+ghost use Rattle.ccsl_vcd_lex.specs.Tokens.{token};
+ghost use Rattle.ccsl_vcd.specs.Words.{is_scalar, dump};
+ghost use Rattle.ccsl_events.specs.Dump.{Plan, Place, remark, code_of, code_skipped, goes, changed, passed, time_says, block_says, gap_says, end_says, word_says, token_says, may_end};
+ghost use Rattle.ccsl_events.specs.Standing.{Stands, Answers};
+ghost use Rattle.ccsl_events.specs.Run.{Runs, Takes};
+ghost use Rattle.ccsl_events.specs.Meant.{meant};
 
 use crate::codes::{Entry, code_at_front};
 use crate::output::FULL;
 use crate::values::Values;
-use ccsl_base::{MAX_TOKEN_BYTES, Memory, decimal};
+use crate::word::{Word, are_letters, is_letter, is_text, word_of};
+use ccsl_base::{MAX_TOKEN_BYTES, Memory};
 use ccsl_vcd::VcdFault;
 use ccsl_vcd_lex::{is_space, run_end};
 use core::dec2flt::read_digits;
@@ -60,27 +67,8 @@ impl Drop for Body {
     }
 }
 
-#[inline(always)]
-fn is_letter(b: u8) -> bool {
-    b == b'0' || b == b'1' || b"01xXzZuUwWlLhH-".contains(&b)
-}
-
 /// A number of digits of which any value fits 64 bits.
 const DIGITS: usize = 19;
-
-// Whether all are letters of the values 0 and 1.
-#[inline(always)]
-fn are_bits(text: &[u8]) -> bool {
-    let mut others = 0;
-    for b in text {
-        others |= (*b & 0xfe) ^ b'0';
-    }
-    others == 0
-}
-
-fn are_letters(text: &[u8]) -> bool {
-    are_bits(text) || text.iter().all(|b| is_letter(*b))
-}
 
 impl Body {
     pub(crate) fn new(alloc: Global, values: Values, gaps: Gaps) -> Result<Body, Memory> {
@@ -103,7 +91,9 @@ impl Body {
     }
 
     /// The present time is over: its row is appended, if it has one.
-    pub fn settle(&mut self, out: &mut Vec<u8>) -> Result<(), VcdFault> {
+    pub fn settle(&mut self, out: &mut Vec<u8>) -> Result<(), VcdFault>
+        ensures { (plan : Plan) (p : Place) → Stands plan p self.old → Answers plan p.written (goes (passed plan p)) result self.new out.old.items out.new.items }
+    {
         if self.values.settle(self.present, out)? {
             self.times = self.times.saturating_add(1);
         }
@@ -111,7 +101,9 @@ impl Body {
     }
 
     #[inline(always)]
-    fn time(&mut self, at: u64, time: u64, out: &mut Vec<u8>) -> Result<(), VcdFault> {
+    fn time(&mut self, at: u64, time: u64, out: &mut Vec<u8>) -> Result<(), VcdFault>
+        ensures { (plan : Plan) (p : Place) → Stands plan p self.old → Answers plan p.written (time_says plan p at time) result self.new out.old.items out.new.items }
+    {
         if time < self.present {
             return Err(VcdFault::TimeBack {
                 at,
@@ -126,7 +118,9 @@ impl Body {
         Ok(())
     }
 
-    fn begin_block(&mut self, at: u64) -> Result<(), VcdFault> {
+    fn begin_block(&mut self, at: u64) -> Result<(), VcdFault>
+        ensures { (plan : Plan) (p : Place) → Stands plan p self.old → Answers plan p.written (block_says p at) result self.new [] [] }
+    {
         if self.is_dumping {
             return Err(VcdFault::UnknownCommand { at });
         }
@@ -134,17 +128,23 @@ impl Body {
         Ok(())
     }
 
-    fn begin_gap(&mut self, at: u64) -> Result<(), VcdFault> {
+    fn begin_gap(&mut self, at: u64) -> Result<(), VcdFault>
+        ensures { (plan : Plan) (p : Place) → Stands plan p self.old → Answers plan p.written (gap_says plan p at) result self.new [] [] }
+    {
         self.begin_block(at)?;
-        if self.gaps == Gaps::Refuse {
-            return Err(VcdFault::Gap { at });
+        match self.gaps {
+            Gaps::Refuse => Err(VcdFault::Gap { at }),
+            Gaps::Skip => {
+                self.is_on = false;
+                self.values.forget();
+                Ok(())
+            }
         }
-        self.is_on = false;
-        self.values.forget();
-        Ok(())
     }
 
-    fn end_block(&mut self, at: u64) -> Result<(), VcdFault> {
+    fn end_block(&mut self, at: u64) -> Result<(), VcdFault>
+        ensures { (plan : Plan) (p : Place) → Stands plan p self.old → Answers plan p.written (end_says p at) result self.new [] [] }
+    {
         if !self.is_dumping {
             return Err(VcdFault::UnknownCommand { at });
         }
@@ -152,60 +152,71 @@ impl Body {
         Ok(())
     }
 
-    #[inline(never)]
-    fn command(&mut self, at: u64, text: &[u8]) -> Result<(), VcdFault> {
-        match text {
-            b"$comment" => {
-                self.amid = Amid::Remark;
-                Ok(())
-            }
-            b"$dumpvars" | b"$dumpall" => self.begin_block(at),
-            b"$dumpon" => {
-                self.is_on = true;
-                self.begin_block(at)
-            }
-            b"$dumpoff" => self.begin_gap(at),
-            b"$end" => self.end_block(at),
-            _ => Err(VcdFault::UnknownCommand { at }),
+    // A command that begins a block of values: all of it but `$dumpoff`.
+    fn block(&mut self, at: u64, text: &[u8]) -> Result<(), VcdFault>
+        ensures { (plan : Plan) (p : Place) → Stands plan p self.old → Answers plan p.written (word_says plan p (token at text.now) dump) result self.new [] [] }
+    {
+        if is_text(text, b"$dumpon") {
+            self.is_on = true;
         }
+        self.begin_block(at)
     }
 
     // A vector, whose code is the next token.
-    fn vector(&mut self, at: u64, letters: &[u8]) -> Result<(), VcdFault> {
-        if letters.is_empty() || !are_letters(letters) {
-            return Err(VcdFault::BadChange { at });
-        }
+    fn vector(&mut self, letters: &[u8]) -> Result<(), VcdFault>
+        ensures { (plan : Plan) (p : Place) → Stands plan p self.old →
+            Answers plan p.written (goes (record p { amid = code_of letters.now })) result self.new [] [] }
+    {
         self.letters.clear();
         self.letters.extend_from_slice(letters)?;
         self.amid = Amid::Code;
         Ok(())
     }
 
-    // A value that is skipped, whose code is the next token.
-    fn skip(&mut self) -> Result<(), VcdFault> {
-        self.amid = Amid::CodeSkipped;
-        Ok(())
+    // A change to one letter: the letter, and the code behind it.
+    fn scalar(&mut self, at: u64, letter: u8, code: &[u8]) -> Result<(), VcdFault>
+        ensures { (plan : Plan) (p : Place) → Stands plan p self.old → self.old.amid ≡ Amid.Changes →
+            Answers plan p.written (changed plan p at code.now (letter ∷ [])) result self.new [] [] }
+    {
+        self.values
+            .change(at, code, &[letter], self.is_dumping, self.is_on)
     }
 
-    // A token in a change's place.
-    fn word(&mut self, at: u64, text: &[u8], out: &mut Vec<u8>) -> Result<(), VcdFault> {
-        match text {
-            [b'#', digits @ ..] => match decimal(digits, u64::MAX) {
-                Some(time) => self.time(at, time, out),
-                None => Err(VcdFault::BadTime { at }),
+    // A word in a change's place, and its token.
+    fn say(&mut self, at: u64, word: Word, text: &[u8], out: &mut Vec<u8>) -> Result<(), VcdFault>
+        ensures { (plan : Plan) (p : Place) → Stands plan p self.old → self.old.amid ≡ Amid.Changes →
+            Answers plan p.written (word_says plan p (token at text.now) (meant word text.now)) result self.new out.old.items out.new.items }
+    {
+        match word {
+            Word::Time(time) => self.time(at, time, out),
+            Word::Scalar => match text {
+                [letter, code @ ..] => self.scalar(at, *letter, code),
+                [] => Err(VcdFault::BadChange { at }),
             },
-            [b'$', ..] => self.command(at, text),
-            [b'b' | b'B', letters @ ..] => self.vector(at, letters),
-            [b'r' | b'R', _, ..] | [b's' | b'S', ..] => self.skip(),
-            [letter, code @ ..] if is_letter(*letter) && !code.is_empty() => {
-                self.values
-                    .change(at, code, &[*letter], self.is_dumping, self.is_on)
+            Word::Vector => match text {
+                [_, letters @ ..] => self.vector(letters),
+                [] => Err(VcdFault::BadChange { at }),
+            },
+            Word::Skipped => {
+                self.amid = Amid::CodeSkipped;
+                Ok(())
             }
-            _ => Err(VcdFault::BadChange { at }),
+            Word::Comment => {
+                self.amid = Amid::Remark;
+                Ok(())
+            }
+            Word::Block => self.block(at, text),
+            Word::Gap => self.begin_gap(at),
+            Word::End => self.end_block(at),
+            Word::BadTime => Err(VcdFault::BadTime { at }),
+            Word::BadChange => Err(VcdFault::BadChange { at }),
+            Word::Unknown => Err(VcdFault::UnknownCommand { at }),
         }
     }
 
-    fn vector_code(&mut self, at: u64, code: &[u8]) -> Result<(), VcdFault> {
+    fn vector_code(&mut self, at: u64, code: &[u8]) -> Result<(), VcdFault>
+        ensures { (plan : Plan) (p : Place) → Stands plan p self.old → Answers plan p.written (changed plan p at code.now self.old.letters.items) result self.new [] [] }
+    {
         self.amid = Amid::Changes;
         self.values.change(
             at,
@@ -216,7 +227,9 @@ impl Body {
         )
     }
 
-    fn skipped_code(&mut self, at: u64, code: &[u8]) -> Result<(), VcdFault> {
+    fn skipped_code(&mut self, at: u64, code: &[u8]) -> Result<(), VcdFault>
+        ensures { (plan : Plan) (p : Place) → Stands plan p self.old → Answers plan p.written (token_says plan p (token at code.now) code_skipped) result self.new [] [] }
+    {
         if self.values.codes.find(code) == Entry::Undeclared {
             return Err(VcdFault::UnknownCode { at });
         }
@@ -224,17 +237,21 @@ impl Body {
         Ok(())
     }
 
-    fn remark(&mut self, text: &[u8]) -> Result<(), VcdFault> {
-        if text == b"$end".as_slice() {
+    fn remark(&mut self, text: &[u8]) -> Result<(), VcdFault>
+        ensures { (at : ℕ) (plan : Plan) (p : Place) → Stands plan p self.old → Answers plan p.written (token_says plan p (token at text.now) remark) result self.new [] [] }
+    {
+        if is_text(text, b"$end") {
             self.amid = Amid::Changes;
         }
         Ok(())
     }
 
     /// Takes a token that ended, at a place.
-    pub(crate) fn hear(&mut self, at: u64, text: &[u8], out: &mut Vec<u8>) -> Result<(), VcdFault> {
+    pub(crate) fn hear(&mut self, at: u64, text: &[u8], out: &mut Vec<u8>) -> Result<(), VcdFault>
+        ensures { (plan : Plan) (p : Place) → Stands plan p self.old → Answers plan p.written (token_says plan p (token at text.now) p.amid) result self.new out.old.items out.new.items }
+    {
         match self.amid {
-            Amid::Changes => self.word(at, text, out),
+            Amid::Changes => self.say(at, word_of(text), text, out),
             Amid::Remark => self.remark(text),
             Amid::Code => self.vector_code(at, text),
             Amid::CodeSkipped => self.skipped_code(at, text),
@@ -245,7 +262,9 @@ impl Body {
     // first to the white space behind it, and none where it does nothing.
     #[inline(always)]
     fn short_time(&mut self, at: u64, bytes: &[u8], out: &mut Vec<u8>) -> Result<usize, VcdFault>
-        ensures { IfOk result (λ taken. taken ≤ length bytes.now + 1) }
+        ensures within { IfOk result (λ taken. taken ≤ length bytes.now + 1) }
+        ensures takes { (plan : Plan) (p : Place) → Stands plan p self.old → self.old.amid ≡ Amid.Changes →
+            Takes plan p at (35 ∷ bytes.now) result self.new out.old.items out.new.items }
     {
         let (count, time) = read_digits(bytes, 0, 0);
         if count == 0 || count > DIGITS || count >= bytes.len() || !is_space(bytes[count]) {
@@ -258,7 +277,9 @@ impl Body {
     // A change to one letter, of a short code.
     #[inline(always)]
     fn short_change(&mut self, letter: u8, bytes: &[u8]) -> Result<usize, Memory>
-        ensures { IfOk result (λ taken. taken ≤ length bytes.now + 1) }
+        ensures within { IfOk result (λ taken. taken ≤ length bytes.now + 1) }
+        ensures runs { IfOk result (λ taken. (at : ℕ) (plan : Plan) (p : Place) (out : List ℕ) → Stands plan p self.old →
+            self.old.amid ≡ Amid.Changes → is_scalar letter ≡ true → Runs plan p at (take taken (letter ∷ bytes.now)) self.new out out) }
     {
         let Some(code) = code_at_front(bytes) else {
             return Ok(0);
@@ -276,7 +297,9 @@ impl Body {
     // A change to several letters, of a short code. It is a call, so that the loop over changes of bits stays small.
     #[inline(never)]
     fn short_vector(&mut self, bytes: &[u8]) -> Result<usize, Memory>
-        ensures { IfOk result (λ taken. taken ≤ length bytes.now + 1) }
+        ensures within { IfOk result (λ taken. taken ≤ length bytes.now + 1) }
+        ensures runs { IfOk result (λ taken. (at : ℕ) (plan : Plan) (p : Place) (out : List ℕ) → Stands plan p self.old →
+            self.old.amid ≡ Amid.Changes → Runs plan p at (take taken (98 ∷ bytes.now)) self.new out out) }
     {
         let end = run_end(bytes, 0);
         if end == 0 || end >= bytes.len() || end >= MAX_TOKEN_BYTES {
@@ -300,7 +323,9 @@ impl Body {
     // Takes a token of those that a dump has most, if one stands at the front of some bytes.
     #[inline(always)]
     fn frequent(&mut self, at: u64, bytes: &[u8], out: &mut Vec<u8>) -> Result<usize, VcdFault>
-        ensures { IfOk result (λ taken. taken ≤ length bytes.now) }
+        ensures within { IfOk result (λ taken. taken ≤ length bytes.now) }
+        ensures takes { (plan : Plan) (p : Place) → Stands plan p self.old →
+            Takes plan p at bytes.now result self.new out.old.items out.new.items }
     {
         if self.amid != Amid::Changes {
             return Ok(0);
@@ -317,7 +342,9 @@ impl Body {
     // answers how many bytes that are, and none where no token ends there.
     #[inline(never)]
     fn token(&mut self, at: u64, bytes: &[u8], out: &mut Vec<u8>) -> Result<usize, VcdFault>
-        ensures { IfOk result (λ taken. taken ≤ length bytes.now) }
+        ensures within { IfOk result (λ taken. taken ≤ length bytes.now) }
+        ensures takes { (plan : Plan) (p : Place) → Stands plan p self.old →
+            Takes plan p at bytes.now result self.new out.old.items out.new.items }
     {
         let end = run_end(bytes, 0);
         if end > MAX_TOKEN_BYTES {
@@ -334,7 +361,9 @@ impl Body {
 
     #[inline(always)]
     fn step(&mut self, at: u64, bytes: &[u8], out: &mut Vec<u8>) -> Result<usize, VcdFault>
-        ensures { IfOk result (λ taken. taken ≤ length bytes.now) }
+        ensures within { IfOk result (λ taken. taken ≤ length bytes.now) }
+        ensures takes { (plan : Plan) (p : Place) → Stands plan p self.old →
+            Takes plan p at bytes.now result self.new out.old.items out.new.items }
     {
         let taken = self.frequent(at, bytes, out)?;
         if taken > 0 {
@@ -366,7 +395,9 @@ impl Body {
     }
 
     /// Whether the dump may end here.
-    pub(crate) fn may_end(&self) -> bool {
+    pub(crate) fn may_end(&self) -> bool
+        ensures { (plan : Plan) (p : Place) → Stands plan p self.now → result ≡ may_end p }
+    {
         self.amid == Amid::Changes && !self.is_dumping
     }
 }

@@ -1,10 +1,12 @@
 //! The declared codes, and which of them are kept.
 
-ghost use Rattle.std.specs.Prelude.{◌<◌, length, IfSome};
+ghost use Rattle.std.specs.Prelude.{◌≡◌, ◌<◌, ◌≤◌, ℕ, List, [], ◌∷◌, length, true, IfSome, IfOk, slice_index_or};
+ghost use Rattle.ccsl_events.specs.Places.{entry_of, is_visible, place_of, IsCode};
 
 use ccsl_base::{HashKeys, Memory, Names};
 use ccsl_vcd_lex::is_space;
 use std::alloc::Global;
+use std::marker::Model;
 
 /// The places of codes of one to three bytes: 94 + 94^2 + 94^3.
 const SHORT: usize = 839_514;
@@ -38,36 +40,62 @@ impl Drop for Codes {
     }
 }
 
+impl Model for Codes {
+    ghost use Rattle.ccsl_events.specs.Places.{Known, IsTable};
+
+    ghost Value = { Known };
+
+    ghost view = { λ c. record { names = c.names; entries = c.entries.items } };
+
+    ghost invariant = { λ c. IsTable c.short.items (record { names = c.names; entries = c.entries.items }) };
+}
+
 #[inline(always)]
-fn is_visible(b: u8) -> bool {
+fn is_visible(b: u8) -> bool
+    ensures { result ≡ is_visible b }
+{
     b >= 33 && b <= 126
 }
 
+// The place of a code of one byte in the table, and of one with two and with three.
 #[inline(always)]
-fn digit(b: u8) -> usize
-    ensures { result < 256 }
+fn place_of_one(a: u8) -> usize
+    requires { is_visible a ≡ true }
+    ensures value { result ≡ place_of (a ∷ []) }
+    ensures within { result < 94 }
 {
-    (b as usize).saturating_sub(33)
+    a as usize - 33
 }
 
-// The place of a code of two bytes in the table, and of one with three. That of one byte is its digit.
 #[inline(always)]
 fn place_of_two(a: u8, b: u8) -> usize
-    ensures { result < 25_000 }
+    requires first { is_visible a ≡ true }
+    requires second { is_visible b ≡ true }
+    ensures value { result ≡ place_of (a ∷ b ∷ []) }
+    ensures within { result < 8930 }
 {
-    digit(a) + 94 * (digit(b) + 1)
+    place_of_one(a) + 94 * (b as usize - 32)
 }
 
 #[inline(always)]
-fn place_of_three(a: u8, b: u8, c: u8) -> usize {
-    place_of_two(a, b) + 8836 * (digit(c) + 1)
+fn place_of_three(a: u8, b: u8, c: u8) -> usize
+    requires first { is_visible a ≡ true }
+    requires second { is_visible b ≡ true }
+    requires third { is_visible c ≡ true }
+    ensures value { result ≡ place_of (a ∷ b ∷ c ∷ []) }
+    ensures within { result < SHORT }
+{
+    place_of_two(a, b) + 8836 * (c as usize - 32)
 }
 
 // The place of a code in the table, or its length for one that has none.
 #[inline(always)]
-fn place(code: &[u8]) -> usize {
+fn place(code: &[u8]) -> usize
+    ensures value { result ≡ place_of code.now }
+    ensures within { result ≤ SHORT }
+{
     match code {
-        [a] if is_visible(*a) => digit(*a),
+        [a] if is_visible(*a) => place_of_one(*a),
         [a, b] if is_visible(*a) && is_visible(*b) => place_of_two(*a, *b),
         [a, b, c] if is_visible(*a) && is_visible(*b) && is_visible(*c) => {
             place_of_three(*a, *b, *c)
@@ -86,12 +114,12 @@ pub(crate) struct Placed {
 /// The code of one to three bytes at the front of some bytes, with white space behind it.
 #[inline(always)]
 pub(crate) fn code_at_front(bytes: &[u8]) -> Option<Placed>
-    ensures { IfSome result (λ code. code.len < length bytes.now) }
+    ensures { IfSome result (λ code. IsCode code.len code.place bytes.now) }
 {
     match bytes {
         [a, b, ..] if is_visible(*a) && is_space(*b) => Some(Placed {
             len: 1,
-            place: digit(*a),
+            place: place_of_one(*a),
         }),
         [a, b, c, ..] if is_visible(*a) && is_visible(*b) && is_space(*c) => Some(Placed {
             len: 2,
@@ -107,14 +135,24 @@ pub(crate) fn code_at_front(bytes: &[u8]) -> Option<Placed>
     }
 }
 
+// A table of so many places, where no code is declared.
+fn undeclared(alloc: Global, count: usize) -> Result<Vec<Entry>, Memory>
+    ensures len { IfOk result (λ table. length table.items ≡ count) }
+    ensures none { IfOk result (λ table. (i : ℕ) → slice_index_or table.items i Entry.Undeclared ≡ Entry.Undeclared) }
+{
+    Ok(vec![in alloc; Entry::Undeclared; count]?)
+}
+
 impl Codes {
     /// These codes, each with what is known of it, by its number.
     pub(crate) fn new(
         alloc: Global,
         names: Names<HashKeys>,
         entries: Vec<Entry>,
-    ) -> Result<Codes, Memory> {
-        let mut short = vec![in alloc; Entry::Undeclared; SHORT]?;
+    ) -> Result<Codes, Memory>
+        ensures { IfOk result (λ c. c ≡ record { names = names; entries = entries.items }) }
+    {
+        let mut short = undeclared(alloc, SHORT)?;
         for i in 0..names.len() {
             let place = place(names.get(i));
             if place < short.len() && (i as usize) < entries.len() {
@@ -128,21 +166,11 @@ impl Codes {
         })
     }
 
-    // A code that is not in the table.
-    #[inline(never)]
-    fn find_long(&self, code: &[u8]) -> Entry {
-        let Some(i) = self.names.find(code) else {
-            return Entry::Undeclared;
-        };
-        match self.entries.get(i as usize) {
-            Some(entry) => *entry,
-            None => Entry::Undeclared,
-        }
-    }
-
     /// What is known of the code of a place.
     #[inline(always)]
-    pub(crate) fn at(&self, place: usize) -> Entry {
+    pub(crate) fn at(&self, place: usize) -> Entry
+        ensures { (code : List ℕ) → place_of code < SHORT → place ≡ place_of code → result ≡ entry_of self.now code }
+    {
         if place < self.short.len() {
             self.short[place]
         } else {
@@ -150,11 +178,17 @@ impl Codes {
         }
     }
 
-    pub(crate) fn find(&self, code: &[u8]) -> Entry {
-        let place = place(code);
-        if place < SHORT {
-            return self.at(place);
+    /// What is known of a code, by its text.
+    #[inline(never)]
+    pub(crate) fn find(&self, code: &[u8]) -> Entry
+        ensures { result ≡ entry_of self.now code.now }
+    {
+        let Some(i) = self.names.find(code) else {
+            return Entry::Undeclared;
+        };
+        match self.entries.get(i as usize) {
+            Some(entry) => *entry,
+            None => Entry::Undeclared,
         }
-        self.find_long(code)
     }
 }

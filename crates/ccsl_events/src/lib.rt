@@ -7,6 +7,7 @@ pub(crate) mod codes;
 pub mod output;
 pub mod reader;
 pub(crate) mod values;
+pub(crate) mod word;
 
 pub use binding::{Refused, bind};
 pub use body::{Body, Gaps};

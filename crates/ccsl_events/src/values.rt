@@ -1,7 +1,11 @@
 //! The variables that triggers read, by the changes of a dump.
 
-ghost use Rattle.std.specs.Prelude.{OnOk};
-ghost use Rattle.ccsl_events.specs.Written.{Wrote};
+ghost use Rattle.std.specs.Prelude.{◌≡◌, ◌<◌, ◌⊎◌, ℕ, List, IfErr, false, true, if◌then◌else◌, ◌++◌, [], Some, OnOk, IfOk, length, map};
+ghost use Rattle.ccsl_triggers.specs.Held.{held, settle_held, forget_held};
+ghost use Rattle.ccsl_triggers.specs.Views.{View, no_view, at_rest};
+ghost use Rattle.ccsl_events.specs.Dump.{Plan, is_declared, heard_in, row_of};
+ghost use Rattle.ccsl_triggers.specs.Triggers.{view_at};
+ghost use Rattle.ccsl_events.specs.Keeping.{fires, with_names, users_of, with_users, replaced, held_at, settle_each, kept, set_one, set_chain, is_known, SameTables, Knows, Keeps};
 
 use crate::codes::{Codes, Entry};
 use ccsl_base::{ClockSet, MAX_CLOCKS, Memory};
@@ -38,15 +42,41 @@ impl Drop for Values {
     }
 }
 
+// Whether the event with a number happens at the present time.
+#[inline(always)]
+fn fires(name: u32, watches: &[Watch], signals: &[Signal]) -> bool
+    ensures value { result ≡ fires watches.now (view_at signals.now) name }
+    ensures below { result ≡ true → name < MAX_CLOCKS }
+{
+    if name >= MAX_CLOCKS {
+        return false;
+    }
+    match watches.get(name as usize) {
+        Some(watch) => watch.happens(signals),
+        None => false,
+    }
+}
+
 // Puts the names in a set that happen at the present time, of those whose triggers read a variable.
 #[inline(always)]
-fn put_names_of(users: &[u32], watches: &[Watch], signals: &[Signal], names: &mut ClockSet) {
+fn put_names_of(users: &[u32], watches: &[Watch], signals: &[Signal], names: &mut ClockSet)
+    ensures { names.new ≡ with_names users.now watches.now (view_at signals.now) names.old }
+{
     for name in users {
-        if let Some(watch) = watches.get(*name as usize) {
-            if *name < MAX_CLOCKS && watch.happens(signals) {
-                names.insert(*name);
-            }
+        if fires(*name, watches, signals) {
+            names.insert(*name);
         }
+    }
+}
+
+// The names whose triggers read a variable.
+#[inline(always)]
+fn users_of(users: &[Vec<u32>], number: usize) -> &[u32]
+    ensures { result.now ≡ users_of users.now number }
+{
+    match users.get(number) {
+        Some(names) => names.as_slice(),
+        None => &[],
     }
 }
 
@@ -58,33 +88,83 @@ fn put_names(
     watches: &[Watch],
     signals: &[Signal],
     names: &mut ClockSet,
-) {
+)
+    ensures { names.new ≡ with_users variables.now users.now watches.now (view_at signals.now) names.old }
+{
     for number in variables {
-        if let Some(users) = users.get(*number) {
-            put_names_of(users.as_slice(), watches, signals, names);
-        }
+        put_names_of(users_of(users, *number), watches, signals, names);
     }
 }
 
+fn forget_all(signals: &mut [Signal])
+    ensures { map held signals.new ≡ map forget_held (map held signals.old) }
+{
+    for signal in signals {
+        signal.forget();
+    }
+}
+
+#[inline(always)]
+fn settle_one(number: usize, signals: &mut [Signal]) -> Result<(), Memory>
+    ensures { OnOk result (map held signals.new ≡ replaced number settle_held (map held signals.old)) }
+{
+    if number < signals.len() {
+        let signal = &mut signals[number];
+        signal.settle()?;
+    }
+    Ok(())
+}
+
+// Settles the variables with these numbers.
+#[inline(always)]
+fn settle_all(numbers: &[usize], signals: &mut [Signal]) -> Result<(), Memory>
+    ensures { OnOk result (map held signals.new ≡ settle_each numbers.now (map held signals.old)) }
+{
+    for number in numbers {
+        settle_one(*number, signals)?;
+    }
+    Ok(())
+}
+
 impl Values {
+    // A value of one variable. It answers the next one of the same code.
+    #[inline(always)]
+    fn set_one(
+        &mut self,
+        number: usize,
+        letters: &[u8],
+        is_dumped: bool,
+    ) -> Result<Option<usize>, Memory>
+        requires { number < length self.old.signals.items }
+        ensures kept { OnOk result (kept self.new ≡ set_one number letters.now is_dumped (kept self.old)) }
+        ensures next { IfOk result (λ next. next ≡ (held_at (map held self.old.signals.items) number).next) }
+        ensures same { OnOk result (SameTables self.old self.new) }
+    {
+        let signal = &mut self.signals[number];
+        signal.set(letters, is_dumped)?;
+        let next = signal.next;
+        if !signal.touched {
+            signal.touched = true;
+            self.touched.push(number)?;
+        }
+        Ok(next)
+    }
+
     // A value of a variable, and of those of the same code and another size.
     #[inline(always)]
-    fn set(&mut self, first: u32, letters: &[u8], is_dumped: bool) -> Result<(), Memory> {
+    fn set(&mut self, first: u32, letters: &[u8], is_dumped: bool) -> Result<(), Memory>
+        ensures kept { OnOk result (kept self.new ≡ set_chain (length self.old.signals.items) (Some first) letters.now is_dumped (kept self.old)) }
+        ensures same { OnOk result (SameTables self.old self.new) }
+    {
         let mut next = Some(first as usize);
-        for _ in 0..self.signals.len() {
+        'variables: for _count in 0..self.signals.len() {
             let Some(number) = next else {
-                break;
+                return Ok(());
             };
             if number >= self.signals.len() {
-                break;
+                return Ok(());
             }
-            let signal = &mut self.signals[number];
-            signal.set(letters, is_dumped)?;
-            next = signal.next;
-            if !signal.touched {
-                signal.touched = true;
-                self.touched.push(number)?;
-            }
+            next = self.set_one(number, letters, is_dumped)?;
         }
         Ok(())
     }
@@ -97,7 +177,13 @@ impl Values {
         letters: &[u8],
         is_dumped: bool,
         is_kept: bool,
-    ) -> Result<bool, Memory> {
+    ) -> Result<bool, Memory>
+        ensures declared { IfOk result (λ is_there. is_there ≡ is_known known) }
+        ensures keeps { OnOk result ((plan : Plan) (views : ℕ → View) (code : List ℕ) → Keeps plan views self.old →
+            Knows plan (map held self.old.signals.items) code known → is_known known ≡ true →
+            Keeps plan (if is_kept then heard_in plan code letters.now is_dumped views else views) self.new) }
+        ensures still { IfOk result (λ is_there. is_there ≡ false → self.new ≡ self.old) }
+    {
         match known {
             Entry::Undeclared => return Ok(false),
             Entry::Used(first) if is_kept => self.set(first, letters, is_dumped)?,
@@ -114,7 +200,12 @@ impl Values {
         letters: &[u8],
         is_dumped: bool,
         is_kept: bool,
-    ) -> Result<(), VcdFault> {
+    ) -> Result<(), VcdFault>
+        ensures kept { OnOk result ((plan : Plan) (views : ℕ → View) → Keeps plan views self.old →
+            (is_declared plan code.now ≡ true) × Keeps plan (if is_kept then heard_in plan code.now letters.now is_dumped views else views) self.new) }
+        ensures refused { IfErr result (λ f. (f ≡ VcdFault.Memory) ⊎ ((f ≡ VcdFault.UnknownCode at) ×
+            ((plan : Plan) (views : ℕ → View) → Keeps plan views self.old → is_declared plan code.now ≡ false))) }
+    {
         let known = self.codes.find(code);
         if self.change_known(known, letters, is_dumped, is_kept)? {
             return Ok(());
@@ -125,7 +216,10 @@ impl Values {
     /// The present time is over: its row is appended, if it has one. It answers whether it has.
     #[inline(never)]
     pub(crate) fn settle(&mut self, time: u64, out: &mut Vec<u8>) -> Result<bool, Memory>
-        ensures { OnOk result (Wrote time out.old.items out.new.items) }
+        ensures row { OnOk result ((plan : Plan) (views : ℕ → View) → Keeps plan views self.old →
+            out.new.items ≡ out.old.items ++ row_of plan time views) }
+        ensures keeps { OnOk result ((plan : Plan) (views : ℕ → View) → Keeps plan views self.old →
+            Keeps plan (λ n. at_rest (views n)) self.new) }
     {
         if self.touched.is_empty() {
             return Ok(false);
@@ -142,20 +236,15 @@ impl Values {
             &mut self.names,
         );
         put_row(digits, &self.names, out)?;
-        for number in self.touched.as_slice() {
-            if *number < self.signals.len() {
-                let signal = &mut self.signals[*number];
-                signal.settle()?;
-            }
-        }
+        settle_all(self.touched.as_slice(), self.signals.as_mut_slice())?;
         self.touched.clear();
         Ok(!self.names.is_empty())
     }
 
     /// Values are not recorded any more.
-    pub(crate) fn forget(&mut self) {
-        for signal in self.signals.as_mut_slice() {
-            signal.forget();
-        }
+    pub(crate) fn forget(&mut self)
+        ensures { (plan : Plan) (views : ℕ → View) → Keeps plan views self.old → Keeps plan (λ n. no_view) self.new }
+    {
+        forget_all(self.signals.as_mut_slice());
     }
 }

@@ -1,3 +1,5 @@
+pub mod Sized
+pub mod Views
 pub mod Triggers
 pub mod Output
-pub mod Sized
+pub mod Held

@@ -3,6 +3,7 @@
 use Rattle.std.specs.Prelude.{ℕ, ◌-◌, List, [], ◌∷◌, length, Bool, true, false, not, Option, Some, None, ◌&&◌, ◌||◌, if◌then◌else◌, bytes_eq, codes, slice_get, slice_range}
 use Rattle.std.specs.List.{list_all}
 use Rattle.ccsl_scopes.specs.declared.select.Bits.{Bits}
+use Rattle.ccsl_triggers.specs.Views.{View, no_view}
 use Rattle.ccsl_triggers.specs.declared.signal.Signal.{Signal}
 use Rattle.ccsl_triggers.specs.declared.watch.Part.{Part}
 use Rattle.ccsl_triggers.specs.declared.watch.Goal.{Goal}
@@ -10,12 +11,23 @@ use Rattle.ccsl_triggers.specs.declared.watch.Watch.{Watch}
 use Rattle.ccsl_triggers.specs.declared.watch.Trigger.{Trigger}
 use Rattle.ccsl_triggers.specs.declared.watch.Trigger.TheVariants.{Rise, Fall, Change, Becomes, Record}
 
--- the values of a variable before a time and after it, where it has one
+-- the letters of a variable that is kept, before a time and after it
 abbrev pub value_before : Signal → Option (List ℕ)
 value_before s = if s.has_before then Some s.before.items else None
 
 abbrev pub value_after : Signal → Option (List ℕ)
 value_after s = if s.has_after then Some s.after.items else None
+
+abbrev pub view_of : Signal → View
+view_of s = record { before = value_before s; after = value_after s; heard = s.heard }
+
+-- what is seen of the variable with a number, among those that are kept
+abbrev pub view_in : Option Signal → View
+view_in None = no_view
+view_in (Some s) = view_of s
+
+abbrev pub view_at : List Signal → ℕ → View
+view_at ss n = view_in (slice_get ss n)
 
 -- some letters of a value, counted from the right
 abbrev pub part : Bits → List ℕ → List ℕ
@@ -47,36 +59,36 @@ of_values test None after = false
 of_values test (Some b) None = false
 of_values test (Some b) (Some a) = test b a
 
-abbrev pub of_signal : (List ℕ → List ℕ → Bool) → Option Signal → Bool
-of_signal test None = false
-of_signal test (Some s) = of_values test (value_before s) (value_after s)
+abbrev pub of_view : (List ℕ → List ℕ → Bool) → View → Bool
+of_view test s = of_values test s.before s.after
 
 abbrev pub of_part : (List ℕ → List ℕ → Bool) → Bits → List ℕ → List ℕ → Bool
 of_part test b before after = test (part b before) (part b after)
 
-abbrev pub was_heard : Option Signal → Bool
-was_heard None = false
-was_heard (Some s) = s.heard
+-- the variable that a trigger reads
+abbrev pub variable_of : Trigger → ℕ
+variable_of (Rise p) = p.signal
+variable_of (Fall p) = p.signal
+variable_of (Change p) = p.signal
+variable_of (Becomes g) = g.part.signal
+variable_of (Record n) = n
 
-abbrev pub sets_off : Trigger → List Signal → Bool
-sets_off (Rise p) ss = of_signal (of_part rises p.bits) (slice_get ss p.signal)
-sets_off (Fall p) ss = of_signal (of_part falls p.bits) (slice_get ss p.signal)
-sets_off (Change p) ss = of_signal (of_part differs p.bits) (slice_get ss p.signal)
-sets_off (Becomes g) ss = of_signal (begins g) (slice_get ss g.part.signal)
-sets_off (Record n) ss = was_heard (slice_get ss n)
+-- by what is seen of each variable
+abbrev pub sets_off : Trigger → (ℕ → View) → Bool
+sets_off (Rise p) v = of_view (of_part rises p.bits) (v p.signal)
+sets_off (Fall p) v = of_view (of_part falls p.bits) (v p.signal)
+sets_off (Change p) v = of_view (of_part differs p.bits) (v p.signal)
+sets_off (Becomes g) v = of_view (begins g) (v g.part.signal)
+sets_off (Record n) v = (v n).heard
 
 -- a condition held before the time; none does on a variable without a value
 abbrev pub met_by : Goal → Option (List ℕ) → Bool
 met_by g None = false
 met_by g (Some before) = meets g before
 
-abbrev pub held_on : Goal → Option Signal → Bool
-held_on g None = false
-held_on g (Some s) = met_by g (value_before s)
-
-abbrev pub held_before : List Signal → Goal → Bool
-held_before ss g = held_on g (slice_get ss g.part.signal)
+abbrev pub held_before : (ℕ → View) → Goal → Bool
+held_before v g = met_by g (v g.part.signal).before
 
 -- A NAME HAPPENS: it is set off at the time, and its conditions held before it
-abbrev pub happens : Watch → List Signal → Bool
-happens w ss = sets_off w.trigger ss && list_all (held_before ss) w.conditions.items
+abbrev pub happens : Watch → (ℕ → View) → Bool
+happens w v = sets_off w.trigger v && list_all (held_before v) w.conditions.items

@@ -1,9 +1,10 @@
 //! The values of a variable that triggers read.
 
-ghost use Rattle.std.specs.Prelude.{◌≡◌, ◌||◌, not, map, Some, false, OnOk};
+ghost use Rattle.std.specs.Prelude.{◌≡◌, map, IfOk, OnOk};
 ghost use Rattle.std.specs.Option.{option_copied};
 ghost use Rattle.ccsl_triggers.specs.Sized.{lower, filler, sized};
 ghost use Rattle.ccsl_triggers.specs.Triggers.{value_before, value_after};
+ghost use Rattle.ccsl_triggers.specs.Held.{held, new_held, set_held, settle_held, forget_held};
 
 use ccsl_base::Memory;
 use std::alloc::Global;
@@ -74,7 +75,9 @@ fn put(letters: &[u8], size: usize, value: &mut Vec<u8>) -> Result<(), Memory>
 
 impl Signal {
     /// A variable without a value. The room for its letters is taken here.
-    pub fn new(alloc: Global, size: usize) -> Result<Signal, Memory> {
+    pub fn new(alloc: Global, size: usize) -> Result<Signal, Memory>
+        ensures { IfOk result (λ s. held s ≡ new_held size) }
+    {
         let before = Vec::with_capacity(alloc, size)?;
         let after = Vec::with_capacity(alloc, size)?;
         Ok(Signal {
@@ -112,10 +115,7 @@ impl Signal {
     /// Takes a value. It is a record of an event, unless it stands in a dump block.
     #[inline(always)]
     pub fn set(&mut self, letters: &[u8], is_dumped: bool) -> Result<(), Memory>
-        ensures value { OnOk result (value_after self.new ≡ Some (sized self.old.size letters.now)) }
-        ensures size { OnOk result (self.new.size ≡ self.old.size) }
-        ensures heard { OnOk result (self.new.heard ≡ (self.old.heard || not is_dumped)) }
-        ensures before { OnOk result (value_before self.new ≡ value_before self.old) }
+        ensures { OnOk result (held self.new ≡ set_held letters.now is_dumped (held self.old)) }
     {
         match letters {
             [one] if self.size == 1 => {
@@ -132,9 +132,7 @@ impl Signal {
     /// The present time is over.
     #[inline(always)]
     pub fn settle(&mut self) -> Result<(), Memory>
-        ensures before { OnOk result (value_before self.new ≡ value_after self.old) }
-        ensures after { OnOk result (value_after self.new ≡ value_after self.old) }
-        ensures heard { OnOk result (self.new.heard ≡ false) }
+        ensures { OnOk result (held self.new ≡ settle_held (held self.old)) }
     {
         self.before.clear();
         match self.after.as_slice() {
@@ -149,9 +147,7 @@ impl Signal {
 
     /// Values are not recorded any more.
     pub fn forget(&mut self)
-        ensures before { self.new.has_before ≡ false }
-        ensures after { self.new.has_after ≡ false }
-        ensures heard { self.new.heard ≡ false }
+        ensures { held self.new ≡ forget_held (held self.old) }
     {
         self.has_before = false;
         self.has_after = false;

@@ -2,7 +2,7 @@
 
 ghost use Rattle.std.specs.Prelude.{◌≡◌};
 ghost use Rattle.std.specs.List.{list_all};
-ghost use Rattle.ccsl_triggers.specs.Triggers.{value_before, value_after, part, rises, falls, differs, meets, begins, of_values, of_part, sets_off, held_before, happens};
+ghost use Rattle.ccsl_triggers.specs.Triggers.{value_before, value_after, part, rises, falls, differs, meets, begins, of_values, of_part, view_at, variable_of, sets_off, held_before, happens};
 
 use crate::signal::Signal;
 use ccsl_scopes::Bits;
@@ -108,7 +108,7 @@ impl Goal {
     }
 
     fn held_before(&self, signals: &[Signal]) -> bool
-        ensures { result ≡ held_before signals.now self.now }
+        ensures { result ≡ held_before (view_at signals.now) self.now }
     {
         let Some(signal) = signals.get(self.part.signal) else {
             return false;
@@ -160,7 +160,9 @@ impl Part {
 
 impl Trigger {
     /// The number of the variable that it reads.
-    pub fn signal(&self) -> usize {
+    pub fn signal(&self) -> usize
+        ensures { result ≡ variable_of self.now }
+    {
         match self {
             Trigger::Rise(part) | Trigger::Fall(part) | Trigger::Change(part) => part.signal,
             Trigger::Becomes(goal) => goal.part.signal,
@@ -169,7 +171,7 @@ impl Trigger {
     }
 
     fn sets_off(&self, signals: &[Signal]) -> bool
-        ensures { result ≡ sets_off self.now signals.now }
+        ensures { result ≡ sets_off self.now (view_at signals.now) }
     {
         match self {
             Trigger::Rise(part) => match signals.get(part.signal) {
@@ -198,7 +200,7 @@ impl Trigger {
 
 // Whether all conditions held before the present time.
 fn were_met(conditions: &[Goal], signals: &[Signal]) -> bool
-    ensures { result ≡ list_all (held_before signals.now) conditions.now }
+    ensures { result ≡ list_all (held_before (view_at signals.now)) conditions.now }
 {
     for goal in conditions {
         if !goal.held_before(signals) {
@@ -211,7 +213,7 @@ fn were_met(conditions: &[Goal], signals: &[Signal]) -> bool
 impl Watch {
     /// Whether the name happens at the present time.
     pub fn happens(&self, signals: &[Signal]) -> bool
-        ensures { result ≡ happens self.now signals.now }
+        ensures { result ≡ happens self.now (view_at signals.now) }
     {
         if !self.trigger.sets_off(signals) {
             return false;

@@ -1,0 +1,12 @@
+mod Letters
+mod Slices
+mod Settling
+mod Chains
+mod Kept
+mod Names
+mod Standing
+mod Run
+mod Quick
+mod Tables
+mod Changes
+mod Examples

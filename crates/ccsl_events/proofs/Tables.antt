@@ -1,0 +1,204 @@
+-- Codes in a table.
+use Rattle.std.proofs.Common.{◌≡◌, ℕ, zero, suc, ◌+◌, ◌-◌, ◌*◌, ◌<◌, ◌≤◌, List, [], ◌∷◌, length, Bool, true, false, ◌&&◌, nat_le, nat_lt, not, ◌||◌, bytes_eq, replicate, Option, Some, None, cond, if◌then◌else◌, slice_get, slice_set, slice_index_or, refl, sym, ap, subst, ◌∙◌, arith, lt-ltb, le-ltb, ⊎_elim, ◌⊎◌, inl, inr}
+use Rattle.std.proofs.lemmas.List.{get_or-set_same, get_or-set_other, length-set}
+use Rattle.std.proofs.lemmas.Bool.{and_parts, cases_eq, cases_lt, leb-true, not-true, or_right}
+use Rattle.std.specs.List.{position_or_len}
+use Rattle.std.proofs.lemmas.Option.{slice_get_within, slice_get_past}
+use Rattle.ccsl_base.specs.Names.{is_among, find_name, are_distinct}
+use Rattle.ccsl_base.proofs.Tables.{find_name-there, bytes_eq-true, bytes_eq-refl}
+use Rattle.ccsl_events.specs.declared.codes.Entry.{Entry}
+use Rattle.ccsl_events.specs.declared.codes.Entry.TheVariants.{Undeclared}
+use Rattle.ccsl_events.specs.Places.{entry_in, entry_at, is_visible, SHORT, place_of, IsTable}
+
+-- the digits of a code
+abbrev Digit : ℕ → Type 0
+Digit a = (33 ≤ a) × (a ≤ 126)
+
+digit : (a : ℕ) → is_visible a ≡ true → Digit a
+digit a h = let p = and_parts (nat_le 33 a) (nat_le a 126) h in (leb-true 33 a p.0, leb-true a 126 p.1)
+
+abbrev Shown : ℕ → List ℕ → Type 0
+Shown p [] = ⊥
+Shown p (a ∷ []) = Digit a × (p ≡ a - 33)
+Shown p (a ∷ b ∷ []) = Digit a × Digit b × (p ≡ a - 33 + 94 * (b - 32))
+Shown p (a ∷ b ∷ c ∷ []) = Digit a × Digit b × Digit c × (p ≡ a - 33 + 94 * (b - 32) + 8836 * (c - 32))
+Shown p (a ∷ b ∷ c ∷ d ∷ more) = ⊥
+
+by-value : (b : Bool) (P : Type 0) → (b ≡ true → P) → (b ≡ false → P) → P
+by-value b P yes_ no_ = (elim b as (λ v. b ≡ v → P) [ true ↦ yes_ | false ↦ no_ ]) refl
+
+-- what stands below the length has digits
+shown : (text : List ℕ) → place_of text < SHORT → Shown (place_of text) text
+shown [] l = absurd (omega arith)
+shown (a ∷ []) l = by-value (is_visible a) _ (λ e. (digit a e, ap (λ w. cond w (a - 33) SHORT) e)) (λ e. absurd (let k : SHORT < SHORT = rw e at l in omega arith))
+shown (a ∷ b ∷ []) l =
+    by-value (is_visible a && is_visible b) _
+    (λ e. let p = and_parts (is_visible a) (is_visible b) e in (digit a p.0, digit b p.1, ap (λ w. cond w (a - 33 + 94 * (b - 32)) SHORT) e))
+    (λ e. absurd (let k : SHORT < SHORT = rw e at l in omega arith))
+shown (a ∷ b ∷ c ∷ []) l =
+    by-value (is_visible a && (is_visible b && is_visible c)) _
+    (λ e.
+    let p = and_parts (is_visible a) (is_visible b && is_visible c) e in
+    let q = and_parts (is_visible b) (is_visible c) p.1 in
+    (digit a p.0, digit b q.0, digit c q.1, ap (λ w. cond w (a - 33 + 94 * (b - 32) + 8836 * (c - 32)) SHORT) e))
+    (λ e. absurd (let k : SHORT < SHORT = rw e at l in omega arith))
+shown (a ∷ b ∷ c ∷ d ∷ more) l = absurd (omega arith)
+
+-- no two codes have one place
+same-text : (p : ℕ) (s t : List ℕ) → Shown p s → Shown p t → s ≡ t
+same-text p [] t h g = absurd h
+same-text p (a ∷ b ∷ c ∷ d ∷ more) t h g = absurd h
+same-text p (a ∷ []) [] h g = absurd g
+same-text p (a ∷ []) (x ∷ []) h g = let e : a ≡ x = omega (arith, h.0.0, h.0.1, h.1, g.0.0, g.0.1, g.1) in ap (λ n. n ∷ []) e
+same-text p (a ∷ []) (x ∷ y ∷ []) h g = absurd (omega (arith, h.0.0, h.0.1, h.1, g.0.0, g.0.1, g.1.0, g.1.1, g.2))
+same-text p (a ∷ []) (x ∷ y ∷ z ∷ []) h g = absurd (omega (arith, h.0.0, h.0.1, h.1, g.0.0, g.0.1, g.1.0, g.1.1, g.2.0, g.2.1, g.3))
+same-text p (a ∷ []) (x ∷ y ∷ z ∷ w ∷ more) h g = absurd g
+same-text p (a ∷ b ∷ []) [] h g = absurd g
+same-text p (a ∷ b ∷ []) (x ∷ []) h g = absurd (omega (arith, h.0.0, h.0.1, h.1.0, h.1.1, h.2, g.0.0, g.0.1, g.1))
+same-text p (a ∷ b ∷ []) (x ∷ y ∷ []) h g =
+    let e : b ≡ y = omega (arith, h.0.0, h.0.1, h.1.0, h.1.1, h.2, g.0.0, g.0.1, g.1.0, g.1.1, g.2) in
+    let f : a ≡ x = omega (arith, e, h.0.0, h.2, g.0.0, g.2) in
+    rw (e, f) refl
+same-text p (a ∷ b ∷ []) (x ∷ y ∷ z ∷ []) h g = absurd (omega (arith, h.0.0, h.0.1, h.1.0, h.1.1, h.2, g.0.0, g.0.1, g.1.0, g.1.1, g.2.0, g.2.1, g.3))
+same-text p (a ∷ b ∷ []) (x ∷ y ∷ z ∷ w ∷ more) h g = absurd g
+same-text p (a ∷ b ∷ c ∷ []) [] h g = absurd g
+same-text p (a ∷ b ∷ c ∷ []) (x ∷ []) h g = absurd (omega (arith, h.0.0, h.0.1, h.1.0, h.1.1, h.2.0, h.2.1, h.3, g.0.0, g.0.1, g.1))
+same-text p (a ∷ b ∷ c ∷ []) (x ∷ y ∷ []) h g = absurd (omega (arith, h.0.0, h.0.1, h.1.0, h.1.1, h.2.0, h.2.1, h.3, g.0.0, g.0.1, g.1.0, g.1.1, g.2))
+same-text p (a ∷ b ∷ c ∷ []) (x ∷ y ∷ z ∷ []) h g =
+    let e : c ≡ z = omega (arith, h.0.0, h.0.1, h.1.0, h.1.1, h.2.0, h.2.1, h.3, g.0.0, g.0.1, g.1.0, g.1.1, g.2.0, g.2.1, g.3) in
+    let f : b ≡ y = omega (arith, e, h.0.0, h.0.1, h.1.0, h.1.1, h.2.0, h.3, g.0.0, g.0.1, g.1.0, g.1.1, g.2.0, g.3) in
+    let i : a ≡ x = omega (arith, e, f, h.0.0, h.1.0, h.2.0, h.3, g.0.0, g.1.0, g.2.0, g.3) in
+    rw (e, f, i) refl
+same-text p (a ∷ b ∷ c ∷ []) (x ∷ y ∷ z ∷ w ∷ more) h g = absurd g
+
+-- what is known of the first codes, and of no other
+abbrev pub known_below : ℕ → List Entry → Option ℕ → Entry
+known_below i entries None = Undeclared
+known_below i entries (Some number) = if nat_lt number i then entry_in (slice_get entries number) else Undeclared
+
+-- a table of the first codes
+pub record IsFront (i : ℕ) (table : List Entry) (names : List (List ℕ)) (entries : List Entry) : Type 0 where
+  pub len : length table ≡ SHORT
+  pub at : (code : List ℕ) → place_of code < SHORT → slice_index_or table (place_of code) Undeclared ≡ known_below i entries (find_name code names)
+
+-- a name is found at its place
+
+there-among : (names : List (List ℕ)) (x : ℕ) (name : List ℕ) → slice_get names x ≡ Some name → is_among name names ≡ true
+there-among [] x name e = absurd (cc)
+there-among (n ∷ ns) zero name e = let same : n ≡ name = cc in ap (λ t. t || is_among name ns) (bytes_eq-refl name n (sym same))
+there-among (n ∷ ns) (suc x) name e = or_right (bytes_eq name n) (is_among name ns) (there-among ns x name e)
+
+place-own : (names : List (List ℕ)) (x : ℕ) (name : List ℕ) → are_distinct names ≡ true → slice_get names x ≡ Some name → position_or_len (bytes_eq name) names ≡ x
+place-own [] x name d e = absurd (cc)
+place-own (n ∷ ns) zero name d e =
+    let same : n ≡ name = cc in
+    ap (λ b. cond (not b) (1 + position_or_len (bytes_eq name) ns) 0) (bytes_eq-refl name n (sym same))
+place-own (n ∷ ns) (suc x) name d e =
+    by-value (bytes_eq name n) _
+    (λ same.
+    let fresh : is_among n ns ≡ false = not-true (is_among n ns) ((and_parts (not (is_among n ns)) (are_distinct ns) d).0) in
+    let among : is_among n ns ≡ true = ap (λ w. is_among w ns) (sym (bytes_eq-true name n same)) ∙ there-among ns x name e in
+    absurd (cc))
+    (λ other.
+    let later : position_or_len (bytes_eq name) ns ≡ x = place-own ns x name ((and_parts (not (is_among n ns)) (are_distinct ns) d).1) e in
+    ap (λ b. cond (not b) (1 + position_or_len (bytes_eq name) ns) 0) other ∙ omega arith)
+
+find-own : (names : List (List ℕ)) (x : ℕ) (name : List ℕ) → are_distinct names ≡ true → slice_get names x ≡ Some name → find_name name names ≡ Some x
+find-own names x name d e =
+    ap (λ k. cond (nat_lt k (length names)) (Some k) None) (place-own names x name d e)
+    ∙ ap (λ b. cond b (Some x) None) (lt-ltb x (length names) (slice_get_within names x name e))
+
+-- the table is filled
+
+undeclared : (k i : ℕ) → slice_index_or (replicate k Undeclared) i Undeclared ≡ Undeclared
+undeclared zero i = refl
+undeclared (suc k) zero = refl
+undeclared (suc k) (suc i) = undeclared k i
+
+-- of any length
+pub all-undeclared : (k : ℕ) (table : List Entry) → table ≡ replicate k Undeclared → (i : ℕ) → slice_index_or table i Undeclared ≡ Undeclared
+all-undeclared k table e i = ap (λ t. slice_index_or t i Undeclared) e ∙ undeclared k i
+
+below-none : (entries : List Entry) (o : Option ℕ) → Undeclared ≡ known_below 0 entries o
+below-none entries None = refl
+below-none entries (Some k) = rw (le-ltb k 0 (omega arith)) refl
+
+pub front-none : (table : List Entry) (names : List (List ℕ)) (entries : List Entry) → ((i : ℕ) → slice_index_or table i Undeclared ≡ Undeclared) → length table ≡ SHORT → IsFront 0 table names entries
+front-none table names entries e l = record { len = l; at = λ code low. e (place_of code) ∙ below-none entries (find_name code names) }
+
+-- one number more is the same to a code that has another
+below-more : (i : ℕ) (entries : List Entry) (o : Option ℕ) → ((k : ℕ) → o ≡ Some k → k ≡ i → ⊥) → known_below i entries o ≡ known_below (i + 1) entries o
+below-more i entries None other = refl
+below-more i entries (Some k) other =
+    ⊎_elim
+    (λ (l : k < i). rw (lt-ltb k i l, lt-ltb k (i + 1) (omega (arith, l))) refl)
+    (λ (l : i ≤ k).
+    let ne : k ≡ i → ⊥ = other k refl in
+    rw (le-ltb k i l, le-ltb k (i + 1) (omega (arith, l, ne))) refl)
+    (cases_lt k i)
+
+-- a name of another place is another name
+other-name : (names : List (List ℕ)) (i : ℕ) (name code : List ℕ) → slice_get names i ≡ Some name → (code ≡ name → ⊥) → (k : ℕ) → find_name code names ≡ Some k → k ≡ i → ⊥
+other-name names i name code at ne k f e =
+    let there : slice_get names i ≡ Some code = ap (slice_get names) (sym e) ∙ find_name-there code names k f in
+    ne cc
+
+pub front-more : (i p : ℕ) (table : List Entry) (names : List (List ℕ)) (entries : List Entry) (name : List ℕ) (e : Entry) → IsFront i table names entries →
+    slice_get names i ≡ Some name → are_distinct names ≡ true → p ≡ place_of name → p < SHORT → slice_get entries i ≡ Some e → IsFront (i + 1) (slice_set table p e) names entries
+front-more i p table names entries name e front at distinct place low known = record {
+  len = length-set table p e ∙ front.len;
+  at = λ code l. ⊎_elim (same code l) (apart code l) (cases_eq (place_of code) p);
+}
+  where
+    same : (code : List ℕ) → place_of code < SHORT → place_of code ≡ p → slice_index_or (slice_set table p e) (place_of code) Undeclared ≡ known_below (i + 1) entries (find_name code names)
+    same code l s =
+        let name-low : place_of name < SHORT = omega (arith, place, low) in
+        let text : code ≡ name = same-text p code name (subst (λ q. Shown q code) s (shown code l)) (subst (λ q. Shown q name) (sym place) (shown name name-low)) in
+        ap (λ q. slice_index_or (slice_set table p e) q Undeclared) s
+        ∙ get_or-set_same table p e Undeclared (omega (arith, low, front.len))
+        ∙ sym (ap (λ c. known_below (i + 1) entries (find_name c names)) text
+        ∙ ap (known_below (i + 1) entries) (find-own names i name distinct at)
+        ∙ ap (λ b. if b then entry_in (slice_get entries i) else Undeclared) (lt-ltb i (i + 1) (omega arith))
+        ∙ ap entry_in known)
+
+    apart : (code : List ℕ) → place_of code < SHORT → (place_of code ≡ p → ⊥) → slice_index_or (slice_set table p e) (place_of code) Undeclared ≡ known_below (i + 1) entries (find_name code names)
+    apart code l ne =
+        get_or-set_other table p (place_of code) e Undeclared ne ∙ front.at code l
+        ∙ below-more i entries (find_name code names) (other-name names i name code at (λ t. ne (ap place_of t ∙ sym place)))
+
+pub front-past : (i p : ℕ) (table : List Entry) (names : List (List ℕ)) (entries : List Entry) (name : List ℕ) → IsFront i table names entries →
+    slice_get names i ≡ Some name → are_distinct names ≡ true → p ≡ place_of name → (SHORT ≤ p) ⊎ (length entries ≤ i) → IsFront (i + 1) table names entries
+front-past i p table names entries name front at distinct place past = record {
+  len = front.len;
+  at = λ code l. front.at code l ∙ by-value (bytes_eq code name) _ (λ e. same code l (bytes_eq-true code name e) past) (λ e. below-more i entries (find_name code names) (other-name names i name code at (λ t. differ code name e t)));
+}
+  where
+    differ : (a b : List ℕ) → bytes_eq a b ≡ false → a ≡ b → ⊥
+    differ a b e t = let yes : bytes_eq a b ≡ true = bytes_eq-refl a b t in cc
+
+    same : (code : List ℕ) → place_of code < SHORT → code ≡ name → (SHORT ≤ p) ⊎ (length entries ≤ i) → known_below i entries (find_name code names) ≡ known_below (i + 1) entries (find_name code names)
+    same code l t (inl far) = absurd (let s : place_of code ≡ p = ap place_of t ∙ sym place in omega (arith, s, l, far))
+    same code l t (inr far) =
+        ap (λ c. known_below i entries (find_name c names)) t
+        ∙ ap (known_below i entries) found
+        ∙ ap (λ b. if b then entry_in (slice_get entries i) else Undeclared) (le-ltb i i (omega arith))
+        ∙ sym (ap (λ c. known_below (i + 1) entries (find_name c names)) t
+        ∙ ap (known_below (i + 1) entries) found
+        ∙ ap (λ b. if b then entry_in (slice_get entries i) else Undeclared) (lt-ltb i (i + 1) (omega arith))
+        ∙ ap entry_in (slice_get_past entries i far))
+      where
+        found : find_name name names ≡ Some i
+        found = find-own names i name distinct at
+
+pub front-all : (n : ℕ) (table : List Entry) (names : List (List ℕ)) (entries : List Entry) → IsFront n table names entries → n ≡ length names → IsTable table (record { names = names; entries = entries })
+front-all n table names entries front e code l = front.at code l ∙ by (find_name code names) refl
+  where
+    by : (o : Option ℕ) → find_name code names ≡ o → known_below n entries o ≡ entry_at entries o
+    by None f = refl
+    by (Some k) f = let within : k < length names = slice_get_within names k code (find_name-there code names k f) in rw (lt-ltb k n (omega (arith, within, e))) refl
+
+-- what is read at a place of a list
+pub got : (es : List Entry) (i : ℕ) (e : Entry) → i < length es → e ≡ slice_index_or es i e → slice_get es i ≡ Some e
+got [] i e l g = absurd (omega (arith, l))
+got (x ∷ es) zero e l g = ap (λ v. Some v) (sym g)
+got (x ∷ es) (suc i) e l g = got es i e (omega (arith, l)) g

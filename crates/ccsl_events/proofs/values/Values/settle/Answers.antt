@@ -1,0 +1,38 @@
+use Rattle.std.proofs.Common.{◌≡◌, List, ℕ, [], ◌∷◌, ◌++◌, length, map, decimal, refl, sym, ap, ap₂, ◌∙◌, arith, eqb-true}
+use Rattle.std.proofs.lemmas.List.{with_items_is, append-nil}
+use Rattle.ccsl_triggers.specs.Held.{held}
+use Rattle.ccsl_triggers.specs.Triggers.{view_at}
+use Rattle.ccsl_triggers.specs.Output.{row_text}
+use Rattle.ccsl_events.specs.Dump.{names_at}
+use Rattle.ccsl_events.specs.Keeping.{with_users, settle_each}
+use Rattle.ccsl_events.proofs.Kept.{keeps-settled}
+use Rattle.ccsl_events.proofs.Names.{names-kept}
+use Rattle.ccsl_events.proofs.values.Values.settle.Goals as goal
+
+none-of : (xs : List ℕ) → length xs ≡ 0 → xs ≡ []
+none-of [] e = refl
+none-of (x ∷ xs) e = absurd (omega (arith, e))
+
+pub returns-then-is_empty-clause-row : goal.returns-then-is_empty-clause-row
+returns-then-is_empty-clause-row c plan views k =
+    let v = c.args.self.now in
+    let none : v.touched.items ≡ [] = none-of v.touched.items (sym v.touched.ok.0 ∙ eqb-true _ 0 (sym c.is_empty.ensures ∙ c.if-is_empty.true)) in
+    let names : [] ≡ names_at plan.watches views =
+    sym (ap (λ ns. with_users ns v.users.items v.watches.items (view_at v.signals.items) v.none) none ∙ k.none) ∙ names-kept plan views v k in
+    sym (append-nil c.args.out.now.items) ∙ ap (λ ns. c.args.out.now.items ++ row_text (decimal c.args.time) ns) names
+
+pub returns-clause-row : goal.returns-clause-row
+returns-clause-row c plan views k =
+    let v = c.args.self.now in
+    let found : c.put_names.new.names ≡ with_users v.touched.items v.users.items v.watches.items (view_at v.signals.items) v.none =
+    cc (c.put_names.ensures, c.as_slice.ensures.value, c.as_slice-2.ensures.value, c.as_slice-3.ensures.value, c.as_slice-4.ensures.value, c.copy_from.ensures) in
+    c.in_ok-put_row.ensures
+    ∙ ap₂ (λ ds ns. c.args.out.now.items ++ row_text ds ns) (c.as_bytes-digits.ensures.value ∙ c.format.ensures.text) (found ∙ names-kept plan views v k)
+
+pub returns-clause-keeps : goal.returns-clause-keeps
+returns-clause-keeps c plan views k =
+    let v = c.args.self.now in
+    let items = with_items_is v.signals c.settle_all.new.signals (c.settle_all.auto.signals ∙ ap length c.as_mut_slice.ensures.value ∙ sym v.signals.ok.0) in
+    keeps-settled plan views v _ k (record { codes = refl; users = refl; watches = refl; none = refl })
+    (ap (map held) items ∙ c.in_ok-settle_all.ensures ∙ ap₂ settle_each c.as_slice-5.ensures.value (ap (map held) c.as_mut_slice.ensures.value))
+    c.clear.ensures.items
