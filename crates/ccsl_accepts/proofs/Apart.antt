@@ -23,7 +23,7 @@ use Rattle.ccsl_kernel.specs.Syntax.{Body}
 use Rattle.ccsl_rules.proofs.Ready.{AreThere}
 use Rattle.ccsl_rules.proofs.Guarded.{left-empty, right-empty}
 use Rattle.ccsl_rules.proofs.Ordered.{all-append}
-use Rattle.ccsl_rules.proofs.Rising.{names_in}
+use Rattle.ccsl_rules.proofs.Rising.{names_in, names-append}
 use Rattle.ccsl_rules.proofs.Apart.{Without, calls-apart}
 use Rattle.ccsl_accepts.proofs.HiddenNames.{name-inner}
 use Rattle.ccsl_accepts.proofs.Distinct.{In, Distinct, in-parts, distinct-join, distinct-right, by-parts, names_of_spots, declared-once}
@@ -50,11 +50,6 @@ cancel [] x y e = e
 cancel (b ∷ p) x y e = cancel p x y (tails b (p ++ x) (p ++ y) e) where
   tails : (b : ℕ) (xs ys : List ℕ) → b ∷ xs ≡ b ∷ ys → xs ≡ ys
   tails b xs ys e = cc
-
-names-append : (xs ys : List Item) → names_in (xs ++ ys) ≡ names_in xs ++ names_in ys
-names-append [] ys = refl
-names-append (Defines path name σ k e ∷ xs) ys = ap (λ l. name ∷ l) (names-append xs ys)
-names-append (Binds path σ a r b ∷ xs) ys = names-append xs ys
 
 -- a name under a path
 pub record IsUnder (path name : List ℕ) : Type 0 where

@@ -80,7 +80,7 @@ module _ {X : Type 0} (f g : X → List (List ℕ)) where
 
 -- ## As tests
 
-other : (a b : List ℕ) → (a ≡ b → ⊥) → bytes_eq a b ≡ false
+pub other : (a b : List ℕ) → (a ≡ b → ⊥) → bytes_eq a b ≡ false
 other a b f = false_from_ne_true (bytes_eq a b) (λ e. f ((bytes_eq-Decides a b).0 e))
 
 pub not-among : (x : List ℕ) (xs : List (List ℕ)) → (In x xs → ⊥) → names.is_among x xs ≡ false

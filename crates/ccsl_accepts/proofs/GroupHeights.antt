@@ -28,6 +28,7 @@ use Rattle.ccsl_rules.proofs.Ordered.{groups_in, Good, space-good, found-all, al
 use Rattle.ccsl_accepts.proofs.Lists.{one-on}
 use Rattle.ccsl_accepts.proofs.Joined.{index-past, levels-append, levels-length, levels-front}
 use Rattle.ccsl_accepts.proofs.GroupBodies.{groups-next}
+use Rattle.ccsl_ast.proofs.Levels.{greatest-append}
 
 -- ## Lists of levels
 
@@ -48,10 +49,6 @@ index-grows : (xs ys : List ℕ) (i : ℕ) → slice_index xs i ≤ slice_index 
 index-grows [] ys i = omega arith
 index-grows (x ∷ xs) ys zero = omega arith
 index-grows (x ∷ xs) ys (suc i) = index-grows xs ys i
-
-greatest-append : (xs ys : List ℕ) → greatest (xs ++ ys) ≡ max (greatest xs) (greatest ys)
-greatest-append [] ys = omega arith
-greatest-append (x ∷ xs) ys = let r = greatest-append xs ys in omega arith
 
 map-append : (f : Spot → ℕ) (xs ys : List Spot) → map f (xs ++ ys) ≡ map f xs ++ map f ys
 map-append f [] ys = refl

@@ -12,6 +12,7 @@ use Rattle.ccsl_base.specs.declared.limits.TheConstants.{MAX_NAME_BYTES}
 use Rattle.ccsl_base.specs.KeptWords.{is_reserved}
 use Rattle.ccsl_kernel.specs.Accepted.{is_hidden, is_path_rest}
 use Rattle.ccsl_rules.specs.Unfolded.{inside, call_path}
+use Rattle.ccsl_kernel.proofs.NamesInCertificates.{inner_visible}
 
 -- ## What is seen
 
@@ -49,12 +50,8 @@ name-inner name h = word-inner name (and_parts _ _ (and_parts (is_word name && n
 inner-seen : (b : ℕ) → is_inner b ≡ true → is_visible b ≡ true
 inner-seen b h = grind (arith, nat_tests)
 
-all-seen : (bs : List ℕ) → list_all is_inner bs ≡ true → list_all is_visible bs ≡ true
-all-seen [] h = refl
-all-seen (b ∷ bs) h = let w = and_parts (is_inner b) (list_all is_inner bs) h in and_from _ _ (inner-seen b w.0) (all-seen bs w.1)
-
 pub name-seen : (name : List ℕ) → is_name name ≡ true → list_all is_visible name ≡ true
-name-seen name h = all-seen name (name-inner name h)
+name-seen name h = inner_visible name (name-inner name h)
 
 -- ## Paths
 

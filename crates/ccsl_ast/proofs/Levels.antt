@@ -4,7 +4,7 @@ use Rattle.ccsl_ast.specs.Trees.{Expression, EName, ECall, ENever, EBinary, EDel
 use Rattle.ccsl_ast.specs.Depth.{stands_in_parens, depth, operand_depth, greatest}
 use Rattle.ccsl_ast.specs.Levels.{operand_levels, levels, DepthIsGreatest}
 
-greatest-append : (xs ys : List ℕ) → greatest (xs ++ ys) ≡ max (greatest xs) (greatest ys)
+pub greatest-append : (xs ys : List ℕ) → greatest (xs ++ ys) ≡ max (greatest xs) (greatest ys)
 greatest-append [] ys = omega arith
 greatest-append (x ∷ xs) ys = let h = greatest-append xs ys in omega arith
 

@@ -22,7 +22,7 @@ above x (z ∷ ys) y h t = by-first (nat_eq y z) refl (λ r. above x ys y (and_p
     by-first false e k = k (sym (ap (λ b. b || ticks_in y ys) e) ∙ t)
 
 -- what is not above all is no member
-no-member : (x : ℕ) (ys : List ℕ) → list_all (nat_lt x) ys ≡ true → ticks_in x ys ≡ false
+pub no-member : (x : ℕ) (ys : List ℕ) → list_all (nat_lt x) ys ≡ true → ticks_in x ys ≡ false
 no-member x ys h = by-value (ticks_in x ys) refl
   where
     by-value : (b : Bool) → ticks_in x ys ≡ b → ticks_in x ys ≡ false

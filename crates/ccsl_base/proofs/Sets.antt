@@ -5,7 +5,7 @@ use Rattle.std.proofs.lemmas.Bool.{cases_eq, eq-eqb, ne_eqb, and_parts, ltb-true
 use Rattle.ccsl_base.specs.Clocks.{ticks_in, with_clock, are_below}
 use Rattle.ccsl_base.specs.Changes.{without_clock, put_clock, difference}
 
-by_case : (b : Bool) (P : Type 0) → (b ≡ true → P) → (b ≡ false → P) → P
+pub by_case : (b : Bool) (P : Type 0) → (b ≡ true → P) → (b ≡ false → P) → P
 by_case b P yes_ no_ = (elim b as (λ v. b ≡ v → P) [ true ↦ yes_ | false ↦ no_ ]) refl
 
 pub ticks_in-with_same : (c : ℕ) (ys : List ℕ) → ticks_in c (with_clock c ys) ≡ true

@@ -2,7 +2,7 @@
 use Rattle.std.proofs.Common.{◌≡◌, ℕ, ◌+◌, List, [], ◌∷◌, ◌++◌, map, Bool, true, false, not, cond, ◌||◌, ◌&&◌, Some, refl, sym, ap, ◌∙◌, get_or}
 use Rattle.std.specs.List.{list_any, position, position_or_len, slice_get}
 use Rattle.std.specs.Str.{bytes_eq}
-use Rattle.std.proofs.lemmas.Bool.{false_from_ne_true, true≢false}
+use Rattle.std.proofs.lemmas.Bool.{false_from_ne_true, true≢false, or_parts, and_parts, not-true}
 use Rattle.std.proofs.lemmas.List.{length-map, map-append}
 use Rattle.indexmap.specs.IndexSet.{insert_key}
 use Rattle.std.proofs.lemmas.List.Folds.{list_any-append}
@@ -37,24 +37,12 @@ find_name-there name names i e =
     let h = position-Some (bytes_eq name) names i [] e in
     slice_get-get_or names i [] h.0 ∙ ap (λ x. Some x) (sym (bytes_eq-true name (get_or names i []) h.1))
 
-or-false : (a b : Bool) → (a || b) ≡ false → (a ≡ false) × (b ≡ false)
-or-false true b e = cc
-or-false false b e = (refl, e)
-
-and-true : (a b : Bool) → (a && b) ≡ true → (a ≡ true) × (b ≡ true)
-and-true true b e = (refl, e)
-and-true false b e = cc
-
-not-true : (b : Bool) → not b ≡ true → b ≡ false
-not-true true e = cc
-not-true false e = refl
-
 -- distinct names and one that is not among them are distinct
 pub distinct-snoc : (names : List (List ℕ)) (name : List ℕ) → are_distinct names ≡ true → is_among name names ≡ false → are_distinct (names ++ name ∷ []) ≡ true
 distinct-snoc [] name d n = refl
 distinct-snoc (x ∷ xs) name d n =
-    let parts = and-true (not (is_among x xs)) (are_distinct xs) d in
-    let away = or-false (bytes_eq name x) (is_among name xs) n in
+    let parts = and_parts (not (is_among x xs)) (are_distinct xs) d in
+    let away = or_parts (bytes_eq name x) (is_among name xs) n in
     let fresh : is_among x (xs ++ name ∷ []) ≡ false =
     list_any-append (bytes_eq x) xs (name ∷ []) ∙ rw (not-true (is_among x xs) parts.0, bytes_eq-sym name x away.0) refl in
     rw fresh (distinct-snoc xs name parts.1 away.1)

@@ -240,4 +240,13 @@ impl ClockSet {
     {
         Members::new(&self.words[..self.used])
     }
+
+    /// The members ascend, and each is a clock. It does nothing: its contract is the law.
+    #[inline(always)]
+    pub fn ascends(&self)
+        ensures ascending { IsTrue (is_ascending self.now) }
+        ensures below { IsTrue (are_below MAX_CLOCKS self.now) }
+    {
+        let _ = &self.words;
+    }
 }

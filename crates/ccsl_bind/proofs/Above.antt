@@ -4,14 +4,12 @@ use Rattle.std.specs.List.{AllByRecursion}
 use Rattle.std.proofs.lemmas.Bool.{le-ltb}
 use Rattle.std.proofs.lemmas.Grind.{common_steps}
 use Rattle.ccsl_base.specs.Clocks.{with_clock}
+use Rattle.ccsl_vcd.proofs.RowLaws.{not-eq'}
 
 abbrev pub AllBelow : ℕ → List ℕ → Type 0
 AllBelow n xs = AllByRecursion (λ x. x < n) xs
 
-not-eq : (a b : ℕ) → a < b → nat_eq b a ≡ false
-not-eq a b h = grind (arith, common_steps)
-
 -- it goes to the end
 pub with_clock-last : (y : ℕ) (xs : List ℕ) → AllBelow y xs → with_clock y xs ≡ xs ++ y ∷ []
 with_clock-last y [] h = refl
-with_clock-last y (x ∷ xs) h = rw (le-ltb y x (omega (arith, h.0)), not-eq x y h.0) (ap (λ zs. x ∷ zs) (with_clock-last y xs h.1))
+with_clock-last y (x ∷ xs) h = rw (le-ltb y x (omega (arith, h.0)), not-eq' x y h.0) (ap (λ zs. x ∷ zs) (with_clock-last y xs h.1))

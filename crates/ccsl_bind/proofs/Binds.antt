@@ -3,7 +3,7 @@ use Rattle.std.proofs.Common.{◌≡◌, ℕ, zero, suc, ◌+◌, ◌≤◌, ◌
 use Rattle.std.specs.Prelude.{unwrap_or, is_some, bytes_eq}
 use Rattle.std.specs.Option.{option_and_then, option_map_or}
 use Rattle.std.specs.List.{list_all, slice_get}
-use Rattle.std.proofs.lemmas.Bool.{eq-eqb}
+use Rattle.std.proofs.lemmas.Bool.{eq-eqb, and_parts}
 use Rattle.std.proofs.lemmas.Grind.{common_steps}
 use Rattle.ccsl_base.specs.Names.{is_among}
 use Rattle.ccsl_base.proofs.Tables.{find_name-there}
@@ -19,6 +19,7 @@ use Rattle.ccsl_bind.specs.Candidates.{Sums, SumsUp, AllSumUp}
 use Rattle.ccsl_bind.specs.Gathered.{Refuses}
 use Rattle.ccsl_bind.specs.Slots.{text_at, bound_from, is_numbered, are_numbered, behind, clocks_from, slot_of}
 use Rattle.ccsl_bind.proofs.Codes.{among-found}
+use Rattle.ccsl_vcd.proofs.RowLaws.{not-eq, not-eq'}
 
 pub text-number : (table : List (List ℕ)) (x : List ℕ) (n : ℕ) → number_of x table ≡ Some n → text_at table n ≡ x
 text-number table x n e = ap (λ o. unwrap_or o []) (find_name-there x table n e)
@@ -98,27 +99,17 @@ number-is table c e = go (number_of (text_at table c.code) table) refl e
     go (Some n) h k = let s : n ≡ c.code = grind (arith, common_steps) in h ∙ ap (λ m. Some m) s
     go None h k = absurd (let s : c.code + 1 ≡ c.code = grind (arith, common_steps) in omega arith)
 
-both-true : (a b : Bool) → (a && b) ≡ true → (a ≡ true) × (b ≡ true)
-both-true true b h = (refl, h)
-both-true false b h = absurd (cc)
-
 pub all-declared : (clock : ℕ) (table : List (List ℕ)) (os : List (Option Candidates)) → are_numbered table os ≡ true → list_all (λ b. is_among b.code table) (bound_from clock table os) ≡ true
 all-declared clock table [] h = refl
 all-declared clock table (None ∷ os) h = all-declared (clock + 1) table os h
 all-declared clock table (Some c ∷ os) h =
-    let q = both-true (is_numbered table (Some c)) (are_numbered table os) h in
+    let q = and_parts (is_numbered table (Some c)) (are_numbered table os) h in
     ap (λ w. w && list_all (λ b. is_among b.code table) (bound_from (clock + 1) table os)) (among-found (text_at table c.code) table ∙ ap is_some (number-is table c q.0)) ∙ all-declared (clock + 1) table os q.1
 
 -- what stands at a clock's place
 abbrev pub slot_bound : ℕ → List (List ℕ) → Option Candidates → Option Bound
 slot_bound clock table None = None
 slot_bound clock table (Some c) = Some (record { clock = clock; code = text_at table c.code; event = c.event })
-
-not-eq : (a b : ℕ) → a < b → nat_eq a b ≡ false
-not-eq a b h = grind (arith, common_steps)
-
-not-eq' : (a b : ℕ) → a < b → nat_eq b a ≡ false
-not-eq' a b h = grind (arith, common_steps)
 
 none-later : (clock n : ℕ) (table : List (List ℕ)) (os : List (Option Candidates)) → n < clock → bound_to n (bound_from clock table os) ≡ None
 none-later clock n table [] h = refl
@@ -155,8 +146,8 @@ slot-past clock (suc i) table (Some c ∷ os) h =
 
 pub slot-numbered : (i : ℕ) (table : List (List ℕ)) (os : List (Option Candidates)) (c : Candidates) → are_numbered table os ≡ true → slice_get os i ≡ Some (Some c) → number_of (text_at table c.code) table ≡ Some c.code
 slot-numbered i table [] c h e = absurd (cc)
-slot-numbered zero table (o ∷ os) c h e = let s : o ≡ Some c = cc in number-is table c (ap (is_numbered table) (sym s) ∙ (both-true (is_numbered table o) (are_numbered table os) h).0)
-slot-numbered (suc i) table (o ∷ os) c h e = slot-numbered i table os c ((both-true (is_numbered table o) (are_numbered table os) h).1) e
+slot-numbered zero table (o ∷ os) c h e = let s : o ≡ Some c = cc in number-is table c (ap (is_numbered table) (sym s) ∙ (and_parts (is_numbered table o) (are_numbered table os) h).0)
+slot-numbered (suc i) table (o ∷ os) c h e = slot-numbered i table os c ((and_parts (is_numbered table o) (are_numbered table os) h).1) e
 
 past : (xs : List (Option Candidates)) (i : ℕ) → slice_get xs i ≡ None → length xs ≤ i
 past [] i e = omega arith

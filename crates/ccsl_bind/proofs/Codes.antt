@@ -5,13 +5,14 @@ use Rattle.std.specs.List.{list_any, position_or_len, slice_get}
 use Rattle.std.proofs.lemmas.Bool.{lt-ltb, eq-eqb}
 use Rattle.std.proofs.lemmas.List.Folds.{list_any-append}
 use Rattle.std.proofs.lemmas.Grind.{common_steps}
+use Rattle.std.proofs.Math.Bool.{or-true, or-false, or_assoc}
 use Rattle.ccsl_base.specs.Names.{is_among, find_name}
 use Rattle.ccsl_base.proofs.Tables.{bytes_eq-true, bytes_eq-refl, bytes_eq-sym, find_name-there}
 use Rattle.ccsl_vcd.specs.Binding.{Declaration}
 use Rattle.ccsl_vcd.specs.Body.{is_declared}
 use Rattle.ccsl_bind.specs.Codes.{put_code, codes_of, number_of}
 
-less-suc : (k n : ℕ) → nat_lt (1 + k) (suc n) ≡ nat_lt k n
+pub less-suc : (k n : ℕ) → nat_lt (1 + k) (suc n) ≡ nat_lt k n
 less-suc k n = grind (arith, common_steps)
 
 any-within : {X : Type 0} (p : X → Bool) (xs : List X) → list_any p xs ≡ nat_lt (position_or_len p xs) (length xs)
@@ -36,33 +37,21 @@ same-either x y =
       | false ↦ λ e. sym (bytes_eq-sym x y e)
     ]) refl
 
-or-true : (b : Bool) → (b || true) ≡ true
-or-true true = refl
-or-true false = refl
-
-or-none : (b : Bool) → (b || false) ≡ b
-or-none true = refl
-or-none false = refl
-
-or-both : (a b c : Bool) → ((a || b) || c) ≡ (a || (b || c))
-or-both true b c = refl
-or-both false b c = refl
-
 among-put : (code x : List ℕ) (codes : List (List ℕ)) → is_among code (put_code codes x) ≡ (is_among code codes || bytes_eq x code)
 among-put code x codes =
     (elim (is_among x codes) as (λ w. is_among x codes ≡ w → is_among code (cond w codes (codes ++ x ∷ [])) ≡ (is_among code codes || bytes_eq x code)) [
       | true ↦ λ e.
           (elim (bytes_eq x code) as (λ w. bytes_eq x code ≡ w → is_among code codes ≡ (is_among code codes || w)) [
             | true ↦ λ s. ap (λ y. is_among y codes) (sym (bytes_eq-true x code s)) ∙ e ∙ sym (or-true (is_among code codes))
-            | false ↦ λ s. sym (or-none (is_among code codes))
+            | false ↦ λ s. sym (or-false (is_among code codes))
           ]) refl
-      | false ↦ λ e. list_any-append (bytes_eq code) codes (x ∷ []) ∙ ap (λ w. is_among code codes || w) (or-none (bytes_eq code x) ∙ same-either code x)
+      | false ↦ λ e. list_any-append (bytes_eq code) codes (x ∷ []) ∙ ap (λ w. is_among code codes || w) (or-false (bytes_eq code x) ∙ same-either code x)
     ]) refl
 
 among-all : (code : List ℕ) (ds : List Declaration) (codes : List (List ℕ)) → is_among code (fold (λ cs d. put_code cs d.code) codes ds) ≡ (is_among code codes || is_declared ds code)
-among-all code [] codes = sym (or-none (is_among code codes))
+among-all code [] codes = sym (or-false (is_among code codes))
 among-all code (d ∷ ds) codes =
-    among-all code ds (put_code codes d.code) ∙ ap (λ w. w || is_declared ds code) (among-put code d.code codes) ∙ or-both (is_among code codes) (bytes_eq d.code code) (is_declared ds code)
+    among-all code ds (put_code codes d.code) ∙ ap (λ w. w || is_declared ds code) (among-put code d.code codes) ∙ or_assoc (is_among code codes) (bytes_eq d.code code) (is_declared ds code)
 
 -- A code is declared exactly where it has a number.
 pub declared-number : (ds : List Declaration) (code : List ℕ) → is_declared ds code ≡ is_some (number_of code (codes_of ds))

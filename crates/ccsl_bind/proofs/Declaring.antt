@@ -4,6 +4,8 @@ use Rattle.std.specs.Prelude.{bytes_eq}
 use Rattle.std.specs.List.{slice_get}
 use Rattle.std.proofs.Math.ListN.{set}
 use Rattle.std.proofs.lemmas.Option.{slice_get_within}
+use Rattle.std.proofs.lemmas.Bool.{and_parts, not-true}
+use Rattle.std.proofs.Math.Bool.{or-true}
 use Rattle.ccsl_base.specs.declared.limits.TheConstants.{MAX_CLOCKS}
 use Rattle.ccsl_base.specs.Names.{is_among, find_name, are_distinct}
 use Rattle.ccsl_base.specs.Added.{IsAdded}
@@ -65,18 +67,6 @@ snoc-none [] (o ∷ os) x s = absurd s
 snoc-none (n ∷ ns) [] x s = absurd s
 snoc-none (n ∷ ns) (o ∷ os) x s = (s.0, snoc-none ns os x s.1)
 
-both-true : (a b : Bool) → (a && b) ≡ true → (a ≡ true) × (b ≡ true)
-both-true true b h = (refl, h)
-both-true false b h = absurd (cc)
-
-not-true : (b : Bool) → not b ≡ true → b ≡ false
-not-true true e = absurd (cc)
-not-true false e = refl
-
-or-true : (b : Bool) → (b || true) ≡ true
-or-true true = refl
-or-true false = refl
-
 there-among : (names : List (List ℕ)) (i : ℕ) (x : List ℕ) → slice_get names i ≡ Some x → is_among x names ≡ true
 there-among [] i x e = absurd (cc)
 there-among (n ∷ ns) zero x e = let k : n ≡ x = cc in ap (λ w. w || is_among x ns) (bytes_eq-refl x n (sym k))
@@ -86,7 +76,7 @@ not-before : (names : List (List ℕ)) (i : ℕ) (x : List ℕ) → are_distinct
 not-before [] i x d e = absurd (cc)
 not-before (n ∷ ns) zero x d e = refl
 not-before (n ∷ ns) (suc i) x d e =
-    let q = both-true (not (is_among n ns)) (are_distinct ns) d in
+    let q = and_parts (not (is_among n ns)) (are_distinct ns) d in
     let away : is_among n ns ≡ false = not-true (is_among n ns) q.0 in
     let ne : bytes_eq x n ≡ false = (elim (bytes_eq x n) as (λ w. bytes_eq x n ≡ w → w ≡ false) [
       | true ↦ λ h. sym (ap (λ y. is_among y ns) (sym (bytes_eq-true x n h)) ∙ there-among ns i x e) ∙ away

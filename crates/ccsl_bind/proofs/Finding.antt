@@ -3,16 +3,13 @@ use Rattle.std.proofs.Common.{◌≡◌, ℕ, suc, ◌+◌, ◌≤◌, List, [],
 use Rattle.std.specs.Prelude.{bytes_eq, fold}
 use Rattle.std.specs.Option.{option_map}
 use Rattle.std.specs.List.{list_any, position, position_or_len}
-use Rattle.std.proofs.lemmas.Bool.{lt-ltb}
+use Rattle.std.proofs.lemmas.Bool.{lt-ltb, or_parts}
 use Rattle.std.proofs.lemmas.Grind.{common_steps, fold-append}
 use Rattle.ccsl_base.specs.Names.{is_among}
 use Rattle.ccsl_base.proofs.Tables.{bytes_eq-refl}
 use Rattle.ccsl_vcd.specs.Binding.{Declaration}
 use Rattle.ccsl_bind.specs.Codes.{put_code, codes_of, number_of}
-use Rattle.ccsl_bind.proofs.Codes.{among-found}
-
-less-suc : (k n : ℕ) → nat_lt (1 + k) (suc n) ≡ nat_lt k n
-less-suc k n = grind (arith, common_steps)
+use Rattle.ccsl_bind.proofs.Codes.{among-found, less-suc}
 
 -- the first place, element by element
 pub position-cons : {X : Type 0} (p : X → Bool) (x : X) (xs : List X) → position p (x ∷ xs) ≡ cond (p x) (Some 0) (option_map (λ i. suc i) (position p xs))
@@ -41,15 +38,11 @@ position-grow p (x ∷ xs) ys i e =
 pub find-grow : (x : List ℕ) (t ys : List (List ℕ)) (i : ℕ) → number_of x t ≡ Some i → number_of x (t ++ ys) ≡ Some i
 find-grow x t ys i e = position-grow (bytes_eq x) t ys i e
 
-or-false : (a b : Bool) → (a || b) ≡ false → (a ≡ false) × (b ≡ false)
-or-false true b e = absurd (cc)
-or-false false b e = (refl, e)
-
 -- a code that is not there yet gets the next number
 pub find-last : (x : List ℕ) (t : List (List ℕ)) → is_among x t ≡ false → number_of x (t ++ x ∷ []) ≡ Some (length t)
 find-last x [] e = position-cons (bytes_eq x) x [] ∙ ap (λ w. cond w (Some 0) (option_map (λ j. suc j) (position (bytes_eq x) []))) (bytes_eq-refl x x refl)
 find-last x (y ∷ t) e =
-    let q = or-false (bytes_eq x y) (is_among x t) e in
+    let q = or_parts (bytes_eq x y) (is_among x t) e in
     position-cons (bytes_eq x) y (t ++ x ∷ []) ∙ ap (λ w. cond w (Some 0) (option_map (λ j. suc j) (position (bytes_eq x) (t ++ x ∷ [])))) q.0
     ∙ ap (option_map (λ j. suc j)) (find-last x t q.1)
 

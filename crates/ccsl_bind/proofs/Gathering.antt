@@ -4,7 +4,7 @@ use Rattle.std.specs.Prelude.{bytes_eq}
 use Rattle.std.specs.Option.{option_map}
 use Rattle.std.specs.List.{list_all, AllByRecursion}
 use Rattle.std.proofs.Math.ListN.{set}
-use Rattle.std.proofs.lemmas.Bool.{ltb-true, ltb-false, eq-eqb}
+use Rattle.std.proofs.lemmas.Bool.{ltb-true, ltb-false, eq-eqb, and_right, not-true, and_parts}
 use Rattle.std.proofs.lemmas.List.{append-nil}
 use Rattle.std.proofs.lemmas.List.Elements.{filter-append}
 use Rattle.std.proofs.lemmas.Grind.{common_steps}
@@ -16,6 +16,7 @@ use Rattle.ccsl_bind.specs.Codes.{number_of}
 use Rattle.ccsl_bind.specs.Candidates.{with_one, noted, Sums, SumsUp, AllSumUp, may_bind}
 use Rattle.ccsl_bind.proofs.Codes.{same-number, same-either}
 use Rattle.ccsl_bind.proofs.Finding.{position-cons, not-among}
+use Rattle.ccsl_vcd.proofs.RowLaws.{not-eq'}
 
 abbrev Deep : ℕ → List Declaration → Type 0
 Deep n ds = AllByRecursion (λ e. n ≤ e.depth) ds
@@ -41,12 +42,9 @@ least-more x (y ∷ ys) d = ap (min x.depth) (least-more y ys d) ∙ assoc x.dep
 at_depth : ℕ → Declaration → Bool
 at_depth m e = nat_eq e.depth m
 
-not-eq : (a b : ℕ) → a < b → nat_eq b a ≡ false
-not-eq a b h = grind (arith, common_steps)
-
 none-at : (m n : ℕ) (ds : List Declaration) → m < n → Deep n ds → filter (λ e. nat_eq e.depth m) ds ≡ []
 none-at m n [] h a = refl
-none-at m n (d ∷ ds) h a = rw (not-eq m d.depth (omega (arith, a.0))) (none-at m n ds h a.1)
+none-at m n (d ∷ ds) h a = rw (not-eq' m d.depth (omega (arith, a.0))) (none-at m n ds h a.1)
 
 -- the outermost declarations begin with one of the least depth
 pub record First (m : ℕ) (ds : List Declaration) : Type 0 where
@@ -95,7 +93,7 @@ module _ (table : List (List ℕ)) (x : Declaration) (xs : List Declaration) (d 
   deeper l =
       let e1 : least_depth x xs ≡ k.depth = low in
       let m : min (least_depth x xs) d.depth ≡ least_depth x xs = omega arith in
-      let ne : nat_eq d.depth (least_depth x xs) ≡ false = not-eq (least_depth x xs) d.depth (omega arith) in
+      let ne : nat_eq d.depth (least_depth x xs) ≡ false = not-eq' (least_depth x xs) d.depth (omega arith) in
       let all : outermost ((x ∷ xs) ++ d ∷ []) ≡ g.one ∷ g.rest =
       whole (least_depth x xs) m ∙ ap (λ zs. zs ++ cond (nat_eq d.depth (least_depth x xs)) (d ∷ []) []) g.is ∙ ap (λ w. (g.one ∷ g.rest) ++ cond w (d ∷ []) []) ne ∙ append-nil (g.one ∷ g.rest) in
       subst (λ ds. SumsUp table ds (Some k)) (sym all) q
@@ -173,10 +171,6 @@ candidates-more name ds d w e = ap outermost (filter-append (qualifies name) ds 
 passes-by : (name : List ℕ) (ds : List Declaration) (d : Declaration) → qualifies name d ≡ false → candidates name (ds ++ d ∷ []) ≡ candidates name ds
 passes-by name ds d e = candidates-more name ds d false e ∙ ap outermost (append-nil (filter (qualifies name) ds))
 
-and-false : (a b : Bool) → b ≡ false → (a && b) ≡ false
-and-false true b e = e
-and-false false b e = refl
-
 -- that qualifies for no name
 pub all-pass : (table : List (List ℕ)) (ds : List Declaration) (d : Declaration) (names : List (List ℕ)) (os : List (Option Candidates)) → ((name : List ℕ) → is_among name names ≡ true → qualifies name d ≡ false) → AllSumUp table ds names os → AllSumUp table (ds ++ d ∷ []) names os
 all-pass table ds d [] [] h s = tt
@@ -192,16 +186,7 @@ all-pass table ds d (name ∷ names) (o ∷ os) h s = (
     or-true false = refl
 
 pub never-binds : (d : Declaration) → may_bind d.kind d.size ≡ false → (name : List ℕ) → qualifies name d ≡ false
-never-binds d e name = and-false (bytes_eq d.reference name) (may_bind d.kind d.size) e
-
--- or for the one of a number
-not-true : (b : Bool) → not b ≡ true → b ≡ false
-not-true true e = absurd (cc)
-not-true false e = refl
-
-both-true : (a b : Bool) → (a && b) ≡ true → (a ≡ true) × (b ≡ true)
-both-true true b h = (refl, h)
-both-true false b h = absurd (cc)
+never-binds d e name = and_right (bytes_eq d.reference name) (may_bind d.kind d.size) e
 
 other-name : (d : Declaration) (name : List ℕ) → bytes_eq d.reference name ≡ false → qualifies name d ≡ false
 other-name d name e = ap (λ w. w && may_bind d.kind d.size) e
@@ -220,7 +205,7 @@ pub all-noted : (table : List (List ℕ)) (ds : List Declaration) (d : Declarati
 all-noted table ds d [] os i n e b a f s = absurd (cc)
 all-noted table ds d (name ∷ names) [] i n e b a f s = absurd s
 all-noted table ds d (name ∷ names) (o ∷ os) i n e b a f s =
-    let q = both-true (not (is_among name names)) (are_distinct names) a in
+    let q = and_parts (not (is_among name names)) (are_distinct names) a in
     (elim (bytes_eq d.reference name) as (λ w. bytes_eq d.reference name ≡ w → cond w (Some 0) (option_map (λ j. suc j) (find_name d.reference names)) ≡ Some i → AllSumUp table (ds ++ d ∷ []) (name ∷ names) (set (o ∷ os) i (Some (noted (get_or (o ∷ os) i None) d.depth n (is_event d))))) [
       | true ↦ λ r h. here r (not-true (is_among name names) q.0) (let z : 0 ≡ i = cc in z)
       | false ↦ λ r h. later r (find_name d.reference names) refl (λ j g. all-noted table ds d names os j n e b q.1 g s.1) h

@@ -68,8 +68,17 @@ impl Binding {
         ensures below { IsTrue (are_below MAX_CLOCKS result.now) }
         ensures declared { IsTrue (are_declared self.now) }
     {
-        let _any = self.bound.has(0);
+        self.bound.ascends();
         &self.bound
+    }
+
+    /// The bound clocks ascend, and their codes are declared. It does nothing: its contract is the law.
+    pub fn are_declared(&self)
+        ensures ascending { IsTrue (is_ascending (map (λ b. b.clock) self.now.bound)) }
+        ensures below { IsTrue (are_below MAX_CLOCKS (map (λ b. b.clock) self.now.bound)) }
+        ensures declared { IsTrue (are_declared self.now) }
+    {
+        self.bound.ascends();
     }
 
     /// The number of a declared code, and `None` exactly where no declaration has it.

@@ -6,7 +6,7 @@ use Rattle.ccsl_kernel.specs.Lives.{Step}
 use Rattle.ccsl_kernel.specs.Runs.{full_step, declared_part}
 use Rattle.ccsl_kernel.specs.Verdict.{completed_rows}
 use Rattle.ccsl_state.specs.Held as states
-use Rattle.ccsl_relate.proofs.Blocks.{few-rows}
+use Rattle.ccsl_relate.proofs.Blocks.{few-rows, take-more}
 use Rattle.ccsl_relate.proofs.History.{X-more, X-length}
 use Rattle.ccsl_certify.specs.Replaying.{AreAfter}
 
@@ -21,13 +21,6 @@ after-more K rows row h h' d a e system goes few =
           (ap (λ (X : System). T ++ full_step X T d ∷ []) a.system ∙ ap (λ f. T ++ full_step K T f ∷ []) e ∙ sym (X-more K rows row))
           (goes T a.stands (omega (arith, X-length K rows, few)));
     }
-
-take-more : (block : List Row) (i : ℕ) (row : Row) → slice_get block i ≡ Some row → take (i + 1) block ≡ take i block ++ row ∷ []
-take-more [] i row e = absurd (cc)
-take-more (x ∷ block) zero row e = ap (λ y. y ∷ []) (let q : x ≡ row = cc in q)
-take-more (x ∷ block) (suc i) row e =
-    let k : suc i + 1 ≡ suc (i + 1) = omega arith in
-    ap (λ j. take j (x ∷ block)) k ∙ ap (λ ys. x ∷ ys) (take-more block i row e)
 
 -- one row more of a block
 pub block-more : (K K' : System) (rows block : List Row) (i : ℕ) (row : Row) (h h' : states.Held) → K' ≡ K → slice_get block i ≡ Some row → i < length block → AreAfter K (rows ++ take i block) h

@@ -23,7 +23,8 @@ use Rattle.ccsl_library.specs.Library.{the_library, name_at, clock_at, number_at
 use Rattle.ccsl_chain.specs.Chain.{clock_name, call_path, hidden_name, all_but_first, precedes, alternation, chain}
 use Rattle.ccsl_chain.specs.Text.{call_line, chain_file}
 use Rattle.ccsl_chain.proofs.Whole.{whole}
-use Rattle.ccsl_chain.proofs.NewNames.{same_clock, same_hidden, other}
+use Rattle.ccsl_chain.proofs.NewNames.{same_clock, same_hidden}
+use Rattle.ccsl_accepts.proofs.Distinct.{other}
 
 -- ## Names and their numbers
 

@@ -23,9 +23,10 @@ use Rattle.ccsl_rules.specs.Answer.{answer, elaborated}
 use Rattle.ccsl_library.specs.Library.{the_library, name_at}
 use Rattle.ccsl_chain.specs.Chain.{clock_name, chain}
 use Rattle.ccsl_chain.specs.Text.{call_line, chain_file}
-use Rattle.ccsl_chain.proofs.NewNames.{same_clock, other}
+use Rattle.ccsl_chain.proofs.NewNames.{same_clock}
 use Rattle.ccsl_chain.proofs.Accepted.{accepted}
 use Rattle.ccsl_chain.proofs.Expanded.{expanded}
+use Rattle.ccsl_accepts.proofs.Distinct.{other}
 
 module _ (where_at : ℕ → ℕ → ℕ) where
   -- the names as they stand in the line of clocks

@@ -11,9 +11,7 @@ use Rattle.std.proofs.lemmas.Fmt.{decimal_injective}
 use Rattle.ccsl_base.specs.Names.{is_among}
 use Rattle.ccsl_base.specs.Added.{IsAdded}
 use Rattle.ccsl_chain.specs.Chain.{clock_name, call_path, hidden_name}
-
-pub other : (a b : List ℕ) → (a ≡ b → ⊥) → bytes_eq a b ≡ false
-other a b f = false_from_ne_true (bytes_eq a b) (λ e. f ((bytes_eq-Decides a b).0 e))
+use Rattle.ccsl_accepts.proofs.Distinct.{other}
 
 -- a text that f makes of none of the numbers is not among those that it makes
 not_among : (f : ℕ → List ℕ) (x : List ℕ) (a k : ℕ) → ((j : ℕ) → a ≤ j → j < a + k → x ≡ f j → ⊥) → is_among x (map f (range_with_len a k)) ≡ false

@@ -15,6 +15,7 @@ pub(crate) mod place;
 pub mod plan;
 pub mod slot;
 pub mod steady;
+pub mod stop;
 pub mod whole;
 pub mod world;
 
@@ -23,5 +24,6 @@ pub use memory::MemoryWorld;
 pub use plan::CallKind;
 pub use slot::Slot;
 pub use steady::SteadyWorld;
+pub use stop::Stop;
 pub use whole::{ReadFault, read_all, write_all};
 pub use world::{Failed, World};

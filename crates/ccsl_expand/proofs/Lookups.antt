@@ -12,6 +12,7 @@ use Rattle.ccsl_rules.specs.Spaces.{Known, look}
 use Rattle.ccsl_spaces.specs.Places.{place_of, HasFirsts}
 use Rattle.ccsl_spaces.proofs.Places.{first-added, first-kept}
 use Rattle.ccsl_expand.specs.Seen.{atom_or_zero}
+use Rattle.ccsl_spaces.proofs.Looking.{bytes_eq-comm}
 
 the-some : {X : Type 0} (x y : X) → Some x ≡ Some y → x ≡ y
 the-some x y e = cc
@@ -21,9 +22,6 @@ bytes-turned true true xs ys p q = refl
 bytes-turned false false xs ys p q = refl
 bytes-turned true false xs ys p q = sym ((bytes_eq-Decides ys xs).1 (sym ((bytes_eq-Decides xs ys).0 p))) ∙ q
 bytes-turned false true xs ys p q = sym p ∙ (bytes_eq-Decides xs ys).1 (sym ((bytes_eq-Decides ys xs).0 q))
-
-pub bytes_eq-turned : (xs ys : List ℕ) → bytes_eq xs ys ≡ bytes_eq ys xs
-bytes_eq-turned xs ys = bytes-turned (bytes_eq xs ys) (bytes_eq ys xs) xs ys refl refl
 
 found-step : (b c : Bool) → b ≡ c → (n : List ℕ) (a : Atom) (as' : List Atom) (m : ℕ) (rest : Option (List ℕ × Atom)) → snd_of rest ≡ atom_or_zero (slice_get as' m) →
     snd_of (cond b (Some (n, a)) rest) ≡ atom_or_zero (slice_get (a ∷ as') (cond (not c) (1 + m) 0))
@@ -38,7 +36,7 @@ atom_of-zip [] [] name h = refl
 atom_of-zip [] (a ∷ as') name h = absurd (omega arith)
 atom_of-zip (n ∷ ns) [] name h = absurd (omega arith)
 atom_of-zip (n ∷ ns) (a ∷ as') name h =
-    found-step (bytes_eq n name) (bytes_eq name n) (bytes_eq-turned n name) n a as' (position_or_len (bytes_eq name) ns) _ (atom_of-zip ns as' name (omega arith))
+    found-step (bytes_eq n name) (bytes_eq name n) (bytes_eq-comm n name) n a as' (position_or_len (bytes_eq name) ns) _ (atom_of-zip ns as' name (omega arith))
 
 place-some : (b : Bool) (n i : ℕ) → cond b (Some n) None ≡ Some i → n ≡ i
 place-some true n i e = cc
@@ -63,7 +61,7 @@ atom_of-missing ns as' name h missing =
 place-turned : (ns : List (List ℕ)) (name : List ℕ) → position_or_len (bytes_eq name) ns ≡ position_or_len (λ x. bytes_eq x name) ns
 place-turned [] name = refl
 place-turned (n ∷ ns) name =
-    ap (λ b. cond (not b) (1 + position_or_len (bytes_eq name) ns) 0) (bytes_eq-turned name n)
+    ap (λ b. cond (not b) (1 + position_or_len (bytes_eq name) ns) 0) (bytes_eq-comm name n)
     ∙ ap (λ m. cond (not (bytes_eq n name)) (1 + m) 0) (place-turned ns name)
 
 within-step : (b : Bool) (m n : ℕ) → m ≤ n → cond b (1 + m) 0 ≤ suc n

@@ -6,6 +6,7 @@ use Rattle.ccsl_formula.specs.Truth.{Assignment}
 use Rattle.ccsl_formula.specs.Formula.{Formula, truth, in_set}
 use Rattle.ccsl_refute.specs.Meaning.{AllTrue, Solves, Blocks}
 use Rattle.ccsl_explain.specs.Core.{Satisfies, Block, AreOpen}
+use Rattle.ccsl_refute.proofs.Sound.{item-true}
 
 -- values that satisfy the formulas of some items satisfy those of fewer ones
 pub fewer : (scope : Scope) (fs : List Formula) (P Q : ℕ → Type 0) (v : Assignment) → ((j : ℕ) → Q j → P j) → Satisfies scope fs P v → Satisfies scope fs Q v
@@ -23,18 +24,13 @@ pub all-true : (fs : List Formula) (v : Assignment) → ((j : ℕ) (f : Formula)
 all-true [] v h = tt
 all-true (f ∷ fs) v h = (h zero f refl, all-true fs v (λ j g e. h (suc j) g e))
 
-pub each-true : (fs : List Formula) (v : Assignment) (j : ℕ) (f : Formula) → AllTrue fs v → slice_get fs j ≡ Some f → truth f v ≡ true
-each-true [] v j f t e = absurd (cc)
-each-true (g ∷ fs) v zero f t e = let q : g ≡ f = cc in subst (λ (h : Formula). truth h v ≡ true) q t.0
-each-true (g ∷ fs) v (suc j) f t e = each-true fs v j f t.1 e
-
 -- values that satisfy the formulas of all items
 pub solves-all : (scope : Scope) (fs : List Formula) (P : ℕ → Type 0) (v : Assignment) → ((j : ℕ) → j < length fs → P j) → Satisfies scope fs P v → Solves scope fs v
 solves-all scope fs P v h s = record { member = s.member; all = all-true fs v (λ j f e. s.each j f (h j (slice_get_within fs j f e)) e) }
 
 -- some items block only where all do
 pub all-block : (scope : Scope) (fs : List Formula) (P : ℕ → Type 0) → Block scope fs P → Blocks scope fs
-all-block scope fs P b = λ set s. b set (record { member = s.member; each = λ j f p e. each-true fs (in_set set) j f s.all e })
+all-block scope fs P b = λ set s. b set (record { member = s.member; each = λ j f p e. item-true fs (in_set set) j f s.all e })
 
 pub blocks-all : (scope : Scope) (fs : List Formula) (P : ℕ → Type 0) → ((j : ℕ) → j < length fs → P j) → Blocks scope fs → Block scope fs P
 blocks-all scope fs P h b = λ set s. b set (solves-all scope fs P (in_set set) h s)

@@ -13,7 +13,8 @@ use Rattle.ccsl_solve.specs.Posed.{AllBelow}
 use Rattle.ccsl_explain.specs.Asked.{IsAsked, HasStep}
 use Rattle.ccsl_explain.specs.Core.{Satisfies, Block, AreOpen}
 use Rattle.ccsl_explain.specs.Masked.{without, IsMasked}
-use Rattle.ccsl_explain.proofs.Items.{all-true, each-true}
+use Rattle.ccsl_explain.proofs.Items.{all-true}
+use Rattle.ccsl_refute.proofs.Sound.{item-true}
 
 pub get-other : {A : Type 0} (xs : List A) (i j : ℕ) (a : A) → j ≢ i → slice_get (slice_set xs i a) j ≡ slice_get xs j
 get-other [] i j a d = refl
@@ -50,7 +51,7 @@ solves-masked scope fs ms P v m s = record {
 }
 
 pub satisfies-masked : (scope : Scope) (fs ms : List Formula) (P : ℕ → Type 0) (v : Assignment) → IsMasked fs P ms → Solves scope ms v → Satisfies scope fs P v
-satisfies-masked scope fs ms P v m s = record { member = s.member; each = λ j f p g. each-true ms v j f s.all (m.kept j f p g) }
+satisfies-masked scope fs ms P v m s = record { member = s.member; each = λ j f p g. item-true ms v j f s.all (m.kept j f p g) }
 
 pub block-masked : (scope : Scope) (fs ms : List Formula) (P : ℕ → Type 0) → IsMasked fs P ms → Blocks scope ms → Block scope fs P
 block-masked scope fs ms P m b = λ set s. b set (solves-masked scope fs ms P (in_set set) m s)

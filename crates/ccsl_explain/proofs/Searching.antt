@@ -14,6 +14,7 @@ use Rattle.ccsl_formula.proofs.Variables.{truth-same}
 use Rattle.ccsl_refute.specs.Meaning.{AllTrue, Solves, Blocks}
 use Rattle.ccsl_explain.specs.Least.{IsLesser}
 use Rattle.ccsl_explain.specs.LeastSteps.{IsLeastStep}
+use Rattle.ccsl_refute.proofs.Existence.{first-or-none}
 
 -- each formula reads clocks below n alone
 abbrev pub EachBelow : ℕ → List Formula → Type 0
@@ -53,17 +54,6 @@ all-or-not (f ∷ fs) v = ⊎_elim
     (λ n. inr (λ a. let clash : true ≡ false = sym a.0 ∙ n in absurd (cc)))
     (cases_Bool (truth f v))
 
--- one of the first numbers passes a test, or none does
-some-or-none : (test : ℕ → Bool) (n : ℕ) → ((x : ℕ) × (x < n) × (test x ≡ true)) ⊎ ((x : ℕ) → x < n → test x ≡ false)
-some-or-none test zero = inr (λ x l. absurd (omega (arith, l)))
-some-or-none test (suc n) = ⊎_elim
-    (λ q. inl (q.0, omega (arith, q.1), q.2))
-    (λ none. ⊎_elim
-    (λ t. inl (n, omega arith, t))
-    (λ e. inr (λ x l. ⊎_elim (λ s. ap test s ∙ e) (λ d. none x (omega (arith, l, d))) (cases_eq x n)))
-    (cases_Bool (test n)))
-    (some-or-none test n)
-
 same-all : (n : ℕ) (fs : List Formula) (v w : Assignment) → EachBelow n fs → Agree n v w → AllTrue fs v → AllTrue fs w
 same-all n [] v w b a h = tt
 same-all n (f ∷ fs) v w b a h =
@@ -80,7 +70,7 @@ module _ (scope : Scope) (fs : List Formula) (low : scope.declared ≤ scope.nam
   solves-or-not v = ⊎_elim
       (λ q. ⊎_elim (λ a. inl (record { member = q; all = a })) (λ n. inr (λ s. n s.all)) (all-or-not fs v))
       (λ none. inr (λ s. let clash : true ≡ false = sym s.member.2 ∙ none s.member.0 s.member.1 in absurd (cc)))
-      (some-or-none v scope.declared)
+      (first-or-none v scope.declared)
 
   -- a set that agrees with v below k, satisfies the formulas, and is the least of all that do both
   record IsLeastFrom (k : ℕ) (v : Assignment) : Type 0 where

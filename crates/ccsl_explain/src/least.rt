@@ -42,7 +42,7 @@ fn least_step(
 {
     match solve_by(alloc, formulas, scope, &Partial::empty(), wishes)? {
         Answer::Step(set) => {
-            let _any = set.has(0);
+            set.ascends();
             Ok(set)
         }
         Answer::Refuted(_) => unreachable!(),

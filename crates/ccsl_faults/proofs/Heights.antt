@@ -7,10 +7,7 @@ use Rattle.ccsl_rules.specs.Levels.{Sort, level_in, level, levels, counted}
 use Rattle.ccsl_kernel.specs.Cells.{greatest}
 use Rattle.ccsl_faults.specs.Levels.{height_of}
 use Rattle.ccsl_faults.proofs.Walks.{drop-at}
-
-pub greatest-append : (xs ys : List ℕ) → greatest (xs ++ ys) ≡ max (greatest xs) (greatest ys)
-greatest-append [] ys = omega arith
-greatest-append (x ∷ xs) ys = ap (max x) (greatest-append xs ys) ∙ omega arith
+use Rattle.ccsl_ast.proofs.Levels.{greatest-append}
 
 pub height-append : (calls : List (Known Callee)) (seen : List ℕ) (xs ys : List Spot) → height_of calls seen (xs ++ ys) ≡ max (height_of calls seen xs) (height_of calls seen ys)
 height-append calls seen [] ys = omega arith

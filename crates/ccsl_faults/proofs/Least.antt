@@ -2,12 +2,7 @@
 use Rattle.std.proofs.Common.{◌≡◌, ℕ, List, [], ◌∷◌, ◌++◌, Bool, true, false, Option, Some, None, nat_lt, nat_eq, ◌&&◌, ◌||◌, refl, sym, ap, ◌∙◌, arith, if◌then◌else◌}
 use Rattle.std.proofs.lemmas.Bool.Decides.{nat_tests}
 use Rattle.ccsl_rules.specs.Faults.{Fault, rank, comes_before, earlier, least}
-
-lex-trans : (a b c r s t : ℕ) → (nat_lt a b || (nat_eq a b && nat_lt r s)) ≡ true → (nat_lt b c || (nat_eq b c && nat_lt s t)) ≡ true → (nat_lt a c || (nat_eq a c && nat_lt r t)) ≡ true
-lex-trans a b c r s t p q = grind (arith, nat_tests)
-
-lex-not : (a b c r s t : ℕ) → (nat_lt a b || (nat_eq a b && nat_lt r s)) ≡ false → (nat_lt b c || (nat_eq b c && nat_lt s t)) ≡ false → (nat_lt a c || (nat_eq a c && nat_lt r t)) ≡ false
-lex-not a b c r s t p q = grind (arith, nat_tests)
+use Rattle.ccsl_rules.proofs.Least.{lex-not, lex-trans}
 
 before-trans : (f g h : Fault) → comes_before g f ≡ true → comes_before h g ≡ true → comes_before h f ≡ true
 before-trans f g h p q = lex-trans h.at g.at f.at (rank h.cause) (rank g.cause) (rank f.cause) q p

@@ -25,7 +25,7 @@ is_folded-connective f g p q r s = rw (p, q, r, s)
 
 pub ruleset folds = (is_constant-plain, is_folded-connective)
 
-not-is : (b : Bool) → not b ≡ same b false
+pub not-is : (b : Bool) → not b ≡ same b false
 not-is true = refl
 not-is false = refl
 

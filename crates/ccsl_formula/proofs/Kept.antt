@@ -12,7 +12,7 @@ use Rattle.ccsl_formula.specs.Agreement.{is_open}
 use Rattle.ccsl_formula.specs.Known.{known, clocks, with_truth, joined}
 use Rattle.ccsl_formula.specs.Kept.{pairs_of, IsWithin}
 
-test_same : {A : Type 0} (x y : ℕ) (a b : A) → x ≡ y → cond (nat_eq x y) a b ≡ a
+pub test_same : {A : Type 0} (x y : ℕ) (a b : A) → x ≡ y → cond (nat_eq x y) a b ≡ a
 test_same x y a b e = ap (λ t. cond t a b) (eq-eqb x y e)
 
 test_other : {A : Type 0} (x y : ℕ) (a b : A) → x ≢ y → cond (nat_eq x y) a b ≡ b

@@ -3,14 +3,7 @@ use Rattle.std.proofs.Common.{⊎_elim, ◌≡◌, ◌≢◌, ℕ, ◌<◌, ◌�
 use Rattle.std.specs.List.{list_all}
 use Rattle.std.proofs.lemmas.Bool.{cases_lt, cases_eq, ne_eqb, and_parts, and_from}
 use Rattle.ccsl_base.specs.Clocks.{ticks_in, with_clock, is_ascending, are_below}
-
--- a clock before all members is none of them
-before_all : (x y : ℕ) (s : List ℕ) → x ≤ y → list_all (nat_lt y) s ≡ true → ticks_in x s ≡ false
-before_all x y [] l h = refl
-before_all x y (z ∷ s) l h =
-    let w = and_parts (nat_lt y z) (list_all (nat_lt y) s) h in
-    let above = ltb-true y z w.0 in
-    ap (λ t. t || ticks_in x s) (ne_eqb x z (λ e. omega (arith, above))) ∙ before_all x y s l w.1
+use Rattle.ccsl_kernel.proofs.Sets.{ticks_in-before}
 
 -- a set with one of its members is the set
 pub with_clock-member : (x : ℕ) (s : List ℕ) → is_ascending s ≡ true → ticks_in x s ≡ true → with_clock x s ≡ s
@@ -22,7 +15,7 @@ with_clock-member x (y ∷ s) a h =
     (λ (ne : x ≡ y → ⊥).
     let rest : ticks_in x s ≡ true = sym (ap (λ t. t || ticks_in x s) (ne_eqb x y ne)) ∙ h in
     ⊎_elim
-    (λ (l : x < y). let bad : true ≡ false = sym rest ∙ before_all x y s (omega arith) w.0 in absurd (cc))
+    (λ (l : x < y). let bad : true ≡ false = sym rest ∙ ticks_in-before x y s (omega arith) w.0 in absurd (cc))
     (λ (l : y ≤ x).
     ap₂ (λ t u. if t then x ∷ (y ∷ s) else if u then y ∷ s else y ∷ with_clock x s) (le-ltb x y l) (ne_eqb x y ne)
     ∙ ap (λ r. y ∷ r) (with_clock-member x s w.1 rest))

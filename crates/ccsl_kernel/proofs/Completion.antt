@@ -100,7 +100,7 @@ module _ (K : System) (T : List Step) where
       ∙ ap (λ k. below k s) (omega arith)
 
 -- a defined clock is not below the declared ones
-past_declared : (K : System) (x : ℕ) (e : Expression) → definition_of K x ≡ Some e → K.declared ≤ x
+pub past_declared : (K : System) (x : ℕ) (e : Expression) → definition_of K x ≡ Some e → K.declared ≤ x
 past_declared K x e is =
     ⊎_elim
     (λ (l : x < K.declared). let z : ⊥ = none (ap (λ t. if t then None else slice_get K.definitions (x - K.declared)) (lt-ltb x K.declared l)) is in absurd z)

@@ -37,7 +37,7 @@ inner_between b h =
 visible : (b : ℕ) → 33 ≤ b → b ≤ 126 → is_visible b ≡ true
 visible b l u = and_from (nat_le 33 b) (nat_le b 126) (le-leb 33 b l) (le-leb b 126 u)
 
-inner_visible : (bs : List ℕ) → list_all is_inner bs ≡ true → list_all is_visible bs ≡ true
+pub inner_visible : (bs : List ℕ) → list_all is_inner bs ≡ true → list_all is_visible bs ≡ true
 inner_visible [] h = refl
 inner_visible (b ∷ bs) h =
     let w = and_parts (is_inner b) (list_all is_inner bs) h in

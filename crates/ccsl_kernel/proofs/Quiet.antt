@@ -6,7 +6,8 @@ use Rattle.ccsl_words.specs.Word.{BinaryWord, letter, is_finite}
 use Rattle.ccsl_kernel.specs.Lives.{Step}
 use Rattle.ccsl_kernel.specs.Table.{Now, Operand, union_row, inter_row, minus_row, inf_row, sup_row, upto_row, upto_weakly_row, sampled_row, sampled_weakly_row, delay_row, await_row, filter_row, delayed_row}
 use Rattle.ccsl_kernel.specs.Ticks.{count, ever, waits, waits_weakly, waits_since, waits_below}
-use Rattle.ccsl_kernel.proofs.Words.{past, past_finite}
+use Rattle.ccsl_kernel.proofs.Words.{past}
+use Rattle.ccsl_words.proofs.Letters.{past_finite}
 
 -- an operand at a step s, and at the next one
 pub record Passes (s : Step) (a a' : Operand) : Type 0 where

@@ -83,7 +83,7 @@ below-none x y (z ∷ s) l h =
     let y_below = ltb-true y z w.0 in
     below-past x z s (omega (arith, y_below)) ∙ below-none x y s l w.1
 
-ticks_in-before : (x y : ℕ) (s : List ℕ) → x ≤ y → list_all (nat_lt y) s ≡ true → ticks_in x s ≡ false
+pub ticks_in-before : (x y : ℕ) (s : List ℕ) → x ≤ y → list_all (nat_lt y) s ≡ true → ticks_in x s ≡ false
 ticks_in-before x y [] l h = refl
 ticks_in-before x y (z ∷ s) l h =
     let w = and_parts (nat_lt y z) (list_all (nat_lt y) s) h in

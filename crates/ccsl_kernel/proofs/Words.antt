@@ -3,12 +3,7 @@ use Rattle.std.proofs.Common.{◌≡◌, ℕ, suc, ◌+◌, ◌-◌, ◌%◌, �
 use Rattle.std.proofs.lemmas.Bool.{cases_Bool, cases_lt, cases_eq, lt-leb, ne_eqb, le-ltb}
 use Rattle.std.proofs.Math.Nat.{add-mod_left}
 use Rattle.ccsl_words.specs.Word.{BinaryWord, letter, rest, is_finite}
-
-pub past_finite : (w : BinaryWord) (j : ℕ) → is_finite w ≡ true → length w.prefix ≤ j → letter w j ≡ false
-past_finite w j fin l = ap₂ (λ c d. cond c (get_or w.prefix j false) (cond d false (get_or w.period ((j - length w.prefix) % length w.period) false))) (le-ltb j (length w.prefix) l) fin
-
-past_infinite : (w : BinaryWord) (j : ℕ) → is_finite w ≡ false → length w.prefix ≤ j → letter w j ≡ get_or w.period ((j - length w.prefix) % length w.period) false
-past_infinite w j fin l = ap₂ (λ c d. cond c (get_or w.prefix j false) (cond d false (get_or w.period ((j - length w.prefix) % length w.period) false))) (le-ltb j (length w.prefix) l) fin
+use Rattle.ccsl_words.proofs.Letters.{past_infinite, past_finite}
 
 rest_cases : (w : BinaryWord) (o : ℕ) (fin past wrap : Bool) → is_finite w ≡ fin → nat_le (length w.prefix) o ≡ past → nat_eq (o + 1) (length w.prefix + length w.period) ≡ wrap →
     rest w o ≡ cond fin (cond past (length w.prefix) (o + 1)) (cond wrap (length w.prefix) (o + 1))

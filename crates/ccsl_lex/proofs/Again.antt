@@ -4,6 +4,7 @@ use Rattle.std.specs.List.{list_all, flat_map}
 use Rattle.std.proofs.lemmas.List.{append-nil}
 use Rattle.std.proofs.lemmas.List.Folds.{list_all-append}
 use Rattle.std.proofs.lemmas.Grind.{flat_map-append}
+use Rattle.std.proofs.lemmas.Bool.{and_parts}
 use Rattle.ccsl_base.specs.Decimal.{decimal_value}
 use Rattle.ccsl_base.specs.Letters.{is_digit}
 use Rattle.ccsl_base.specs.declared.reserved.Reserved.{Reserved}
@@ -12,7 +13,6 @@ use Rattle.ccsl_lex.specs.declared.token.TokenKind.TheVariants.{Num, Quoted, Sym
 use Rattle.ccsl_base.specs.ReservedWords.{reserved}
 use Rattle.ccsl_lex.specs.Tokens.{Piece, blank, comment, letters, digits, quoted, mark, text_of, starts, AreCut, name_or_word, token_at, tokens_of, PlainToken}
 use Rattle.ccsl_lex.specs.Laws.{IsSpelled, is_between, StandIn, TextAgain}
-use Rattle.ccsl_lex.proofs.Classes.{both}
 use Rattle.ccsl_base.proofs.ReservedWords.{reserved_spells}
 
 word_spelled : (bytes : List ℕ) (found : Option Reserved) → reserved bytes ≡ found → IsSpelled (name_or_word bytes found) bytes
@@ -53,7 +53,7 @@ stand_in from [] gap g c = record { pieces = gap; whole = append-nil (flat_map t
 stand_in from (blank b ∷ ps) gap g c = skipped from gap (blank b) ps (stand_in from ps (gap ++ blank b ∷ []) (between_more gap (blank b) g c.0.is) c.1)
 stand_in from (comment bs ∷ ps) gap g c = skipped from gap (comment bs) ps (stand_in from ps (gap ++ comment bs ∷ []) (between_more gap (comment bs) g c.0.is) c.1)
 stand_in from (letters bs ∷ ps) gap g c = taken from gap (letters bs) ps (name_or_word bs (reserved bs)) g (word_spelled bs (reserved bs) refl) (stand_in ((from + length (flat_map text_of gap)) + length bs) ps [] refl c.1)
-stand_in from (digits bs ∷ ps) gap g c = taken from gap (digits bs) ps (Num (decimal_value bs)) g ((both (starts is_digit bs) (list_all is_digit bs) c.0.is).1, refl) (stand_in ((from + length (flat_map text_of gap)) + length bs) ps [] refl c.1)
+stand_in from (digits bs ∷ ps) gap g c = taken from gap (digits bs) ps (Num (decimal_value bs)) g ((and_parts (starts is_digit bs) (list_all is_digit bs) c.0.is).1, refl) (stand_in ((from + length (flat_map text_of gap)) + length bs) ps [] refl c.1)
 stand_in from (quoted bs ∷ ps) gap g c = taken from gap (quoted bs) ps (Quoted bs) g refl (stand_in ((from + length (flat_map text_of gap)) + length (text_of (quoted bs))) ps [] refl c.1)
 stand_in from (mark b ∷ ps) gap g c = taken from gap (mark b) ps (Symbol b) g refl (stand_in ((from + length (flat_map text_of gap)) + 1) ps [] refl c.1)
 

@@ -2,7 +2,7 @@
 use Rattle.std.proofs.Common.{◌≡◌, ℕ, zero, suc, ◌+◌, ◌≤◌, ◌<◌, Bool, true, false, List, [], ◌∷◌, ◌++◌, length, take, drop, get_or, Option, Some, None, refl, sym, ap, subst, inl, inr, arith, length-drop, leb}
 use Rattle.std.specs.Prelude.{◌⊎◌}
 use Rattle.std.specs.List.{prefix_len}
-use Rattle.std.proofs.lemmas.Bool.{leb-true, leb-false}
+use Rattle.std.proofs.lemmas.Bool.{leb-true, leb-false, cases_Bool}
 use Rattle.std.proofs.lemmas.Bool.Decides.{eqb_tells}
 use Rattle.ccsl_base.specs.declared.limits.TheConstants.{MAX_NAME_BYTES, MAX_NUMBER}
 use Rattle.ccsl_base.specs.Decimal.{decimal_value}
@@ -25,13 +25,8 @@ data InFront (at : ℕ) (rest : List ℕ) : Type 0 where
   piece : (len : ℕ) (kind : Option TokenKind) → Found rest len kind → InFront at rest
   fault : (e : LexFault) → ((text : List ℕ) → CutAt text at rest → IsFirstFault e text) → InFront at rest
 
--- a test answers one way or the other
-answer : (t : Bool) → (t ≡ true) ⊎ (t ≡ false)
-answer true = inl refl
-answer false = inr refl
-
 above : (m n : ℕ) → (n < m) ⊎ (m ≤ n)
-above m n = elim (answer (leb m n)) [ inl l ↦ inr (leb-true m n l) | inr l ↦ inl (leb-false m n l) ]
+above m n = elim (cases_Bool (leb m n)) [ inl l ↦ inr (leb-true m n l) | inr l ↦ inl (leb-false m n l) ]
 
 name_in : (at : ℕ) (text : List ℕ) → starts is_letter text ≡ true → (found : Option Reserved) → reserved (take (prefix_len is_inner text) text) ≡ found → prefix_len is_inner text ≤ MAX_NAME_BYTES → InFront at text
 name_in at text h None r l = piece (prefix_len is_inner text) _ (found_name text h l r)
@@ -73,16 +68,16 @@ slash_in at (b ∷ rest) = elim (eqb_tells 47 b) [
 
 front_of : (at b : ℕ) (rest : List ℕ) → InFront at (b ∷ rest)
 front_of at b rest =
-    elim (answer (is_white b)) [
+    elim (cases_Bool (is_white b)) [
       | inl h ↦ piece 1 None (found_blank b rest h)
       | inr w ↦
-          elim (answer (is_letter b)) [
+          elim (cases_Bool (is_letter b)) [
             | inl h ↦ letters_in at (b ∷ rest) h
             | inr l ↦
-                elim (answer (is_digit b)) [
+                elim (cases_Bool (is_digit b)) [
                   | inl h ↦ digits_in at (b ∷ rest) h
                   | inr d ↦
-                      elim (answer (is_mark b)) [
+                      elim (cases_Bool (is_mark b)) [
                         | inl h ↦ piece 1 _ (found_mark b rest h)
                         | inr m ↦
                             elim (eqb_tells b 34) [

@@ -2,13 +2,9 @@
 use Rattle.std.proofs.Common.{◌≡◌, ℕ, Bool, true, false, ◌&&◌, ◌||◌, not, cond, List, [], ◌∷◌, ◌++◌, refl, sym, ap, ◌∙◌, inl, inr, arith, leb, eqb}
 use Rattle.std.specs.Prelude.{nat_eq, ◌⊎◌, codes}
 use Rattle.std.specs.List.{list_all, list_any}
-use Rattle.std.proofs.lemmas.Bool.{eqb-true, leb-true}
+use Rattle.std.proofs.lemmas.Bool.{eqb-true, leb-true, and_parts, false_from_ne_true}
 use Rattle.ccsl_base.specs.Letters.{is_letter, is_digit, is_inner}
 use Rattle.ccsl_lex.specs.Tokens.{Piece, blank, comment, letters, digits, quoted, mark, text_of, starts, is_piece, is_white, is_mark, is_bad}
-
-pub both : (a b : Bool) → (a && b) ≡ true → (a ≡ true) × (b ≡ true)
-both true b h = (refl, h)
-both false b h = absurd cc
 
 pub clash : (x : Bool) → x ≡ true → x ≡ false → ⊥
 clash x t f = let e : true ≡ false = sym t ∙ f in cc
@@ -17,16 +13,12 @@ or_true : (a b : Bool) → (a || b) ≡ true → (a ≡ true) ⊎ (b ≡ true)
 or_true true b h = inl refl
 or_true false b h = inr h
 
-not_true : (x : Bool) → (x ≡ true → ⊥) → x ≡ false
-not_true true h = absurd (h refl)
-not_true false h = refl
-
 -- a test that all members of a list fail is false of each byte in the list
 apart : (test : ℕ → Bool) (b : ℕ) (cs : List ℕ) → list_any (nat_eq b) cs ≡ true → list_all (λ c. not (test c)) cs ≡ true → test b ≡ false
 apart test b [] h f = absurd cc
 apart test b (c ∷ cs) h f = elim (or_true (nat_eq b c) (list_any (nat_eq b) cs) h) [
-  | inl e ↦ ap test (eqb-true b c e) ∙ fails (test c) (both (not (test c)) (list_all (λ c. not (test c)) cs) f).0
-  | inr i ↦ apart test b cs i (both (not (test c)) (list_all (λ c. not (test c)) cs) f).1
+  | inl e ↦ ap test (eqb-true b c e) ∙ fails (test c) (and_parts (not (test c)) (list_all (λ c. not (test c)) cs) f).0
+  | inr i ↦ apart test b cs i (and_parts (not (test c)) (list_all (λ c. not (test c)) cs) f).1
 ]
   where
     fails : (t : Bool) → not t ≡ true → t ≡ false
@@ -35,14 +27,14 @@ apart test b (c ∷ cs) h f = elim (or_true (nat_eq b c) (list_any (nat_eq b) cs
 
 letter_digit : (b : ℕ) → is_letter b ≡ true → is_digit b ≡ true → ⊥
 letter_digit b h d =
-    let p = both (leb 48 b) (leb b 57) d in
+    let p = and_parts (leb 48 b) (leb b 57) d in
     let low = leb-true 48 b p.0 in
     let high = leb-true b 57 p.1 in
     elim (or_true ((leb 65 b && leb b 90) || (leb 97 b && leb b 122)) (eqb b 95) h) [
       | inr i ↦ let q = eqb-true b 95 i in omega arith
       | inl i ↦ elim (or_true (leb 65 b && leb b 90) (leb 97 b && leb b 122) i) [
-        | inl j ↦ let q = leb-true 65 b (both (leb 65 b) (leb b 90) j).0 in omega arith
-        | inr j ↦ let q = leb-true 97 b (both (leb 97 b) (leb b 122) j).0 in omega arith
+        | inl j ↦ let q = leb-true 65 b (and_parts (leb 65 b) (leb b 90) j).0 in omega arith
+        | inr j ↦ let q = leb-true 97 b (and_parts (leb 97 b) (leb b 122) j).0 in omega arith
       ]
     ]
 
@@ -63,7 +55,7 @@ class_of (quoted bytes) = 4
 class_of (comment bytes) = 5
 
 white_no : (test : ℕ → Bool) (b : ℕ) → test b ≡ true → list_all (λ c. not (test c)) (32 ∷ 9 ∷ 10 ∷ 13 ∷ []) ≡ true → is_white b ≡ false
-white_no test b h f = not_true (is_white b) (λ w. clash (test b) h (apart test b (32 ∷ 9 ∷ 10 ∷ 13 ∷ []) w f))
+white_no test b h f = false_from_ne_true (is_white b) (λ w. clash (test b) h (apart test b (32 ∷ 9 ∷ 10 ∷ 13 ∷ []) w f))
 
 white_shape : (b : ℕ) → is_white b ≡ true → shape b ≡ 0
 unfolding shape
@@ -75,7 +67,7 @@ letter_shape b h = rw (white_no is_letter b h refl, h) refl
 
 digit_shape : (b : ℕ) → is_digit b ≡ true → shape b ≡ 2
 unfolding shape
-digit_shape b h = rw (white_no is_digit b h refl, not_true (is_letter b) (λ l. letter_digit b l h), h) refl
+digit_shape b h = rw (white_no is_digit b h refl, false_from_ne_true (is_letter b) (λ l. letter_digit b l h), h) refl
 
 mark_shape : (b : ℕ) → is_mark b ≡ true → shape b ≡ 3
 unfolding shape
@@ -87,9 +79,9 @@ unfolding class_at shape
 class_is (blank b) r h = white_shape b h
 class_is (comment bytes) r h = refl
 class_is (letters []) r h = absurd cc
-class_is (letters (b ∷ bytes)) r h = letter_shape b (both (is_letter b) (list_all is_inner (b ∷ bytes)) h).0
+class_is (letters (b ∷ bytes)) r h = letter_shape b (and_parts (is_letter b) (list_all is_inner (b ∷ bytes)) h).0
 class_is (digits []) r h = absurd cc
-class_is (digits (b ∷ bytes)) r h = digit_shape b (both (is_digit b) (list_all is_digit (b ∷ bytes)) h).0
+class_is (digits (b ∷ bytes)) r h = digit_shape b (and_parts (is_digit b) (list_all is_digit (b ∷ bytes)) h).0
 class_is (quoted bytes) r h = refl
 class_is (mark b) r h = mark_shape b h
 

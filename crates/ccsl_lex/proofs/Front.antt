@@ -33,7 +33,7 @@ module _ (first test : ℕ → Bool) (belongs : (b : ℕ) → first b ≡ true �
   run_starts [] h = absurd cc
   run_starts (b ∷ bs) h = let s : 1 + prefix_len test bs ≡ suc (prefix_len test bs) = omega arith in rw (belongs b h, s) h
 
-letter_inner : (b : ℕ) → is_letter b ≡ true → is_inner b ≡ true
+pub letter_inner : (b : ℕ) → is_letter b ≡ true → is_inner b ≡ true
 letter_inner b h = rw h refl
 
 letters_word : (b : ℕ) (bytes : List ℕ) → is_piece (letters (b ∷ bytes)) ≡ true → is_word (b ∷ bytes) ≡ true
@@ -112,7 +112,7 @@ module _ (text : List ℕ) (h : starts is_digit text ≡ true) where
     past = lt-leb (decimal_value (take (prefix_len is_digit text) text)) MAX_NUMBER l;
   }
 
-never_starts : (rest : List ℕ) → starts (λ c. false) rest ≡ false
+pub never_starts : (rest : List ℕ) → starts (λ c. false) rest ≡ false
 never_starts [] = refl
 never_starts (b ∷ bs) = refl
 

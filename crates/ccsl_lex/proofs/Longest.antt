@@ -1,19 +1,20 @@
 -- A piece that stands in front of a list is the longest in front of it, and the only one that stands there.
 use Rattle.std.proofs.Common.{◌≡◌, ℕ, ◌≤◌, Bool, true, false, List, [], ◌∷◌, ◌++◌, length, refl, sym, ap, ◌∙◌, arith, append_assoc, length-append}
 use Rattle.std.specs.List.{list_all}
+use Rattle.std.proofs.lemmas.Bool.{and_parts}
 use Rattle.ccsl_base.specs.Letters.{is_letter, is_digit, is_inner}
 use Rattle.ccsl_base.specs.Quoted.{is_quotable}
 use Rattle.ccsl_lex.specs.Tokens.{Piece, blank, comment, letters, digits, quoted, mark, text_of, starts, is_piece, is_remark, Stands}
 use Rattle.ccsl_lex.specs.Laws.{NoneLonger}
-use Rattle.ccsl_lex.proofs.Classes.{both, clash, class_of, class_at, class_is}
+use Rattle.ccsl_lex.proofs.Classes.{clash, class_of, class_at, class_is}
 
 -- a run in front of a list is no longer than one behind which stands no byte of the kind
 pub run_longest : (test : ℕ → Bool) (bs r cs s : List ℕ) → starts test r ≡ false → list_all test cs ≡ true → bs ++ r ≡ cs ++ s → length cs ≤ length bs
 run_longest test bs r [] s f h e = omega arith
-run_longest test [] r (c ∷ cs) s f h e = absurd (clash (test c) (both (test c) (list_all test cs) h).0 (ap (starts test) (sym e) ∙ f))
+run_longest test [] r (c ∷ cs) s f h e = absurd (clash (test c) (and_parts (test c) (list_all test cs) h).0 (ap (starts test) (sym e) ∙ f))
 run_longest test (b ∷ bs) r (c ∷ cs) s f h e =
     let t : bs ++ r ≡ cs ++ s = cc in
-    let l : length cs ≤ length bs = run_longest test bs r cs s f (both (test c) (list_all test cs) h).1 t in
+    let l : length cs ≤ length bs = run_longest test bs r cs s f (and_parts (test c) (list_all test cs) h).1 t in
     omega arith
 
 longer_in_class : (p q : Piece) (rest behind : List ℕ) → class_of p ≡ class_of q → Stands p rest → is_piece q ≡ true → text_of p ++ rest ≡ text_of q ++ behind → length (text_of q) ≤ length (text_of p)
@@ -21,8 +22,8 @@ longer_in_class (blank b) (blank c) rest behind k s h e = omega arith
 longer_in_class (comment bs) (comment cs) rest behind k s h e =
     let t : bs ++ rest ≡ cs ++ behind = cc in
     let l : length cs ≤ length bs = run_longest is_remark bs rest cs behind s.longest h t in omega arith
-longer_in_class (letters bs) (letters cs) rest behind k s h e = run_longest is_inner bs rest cs behind s.longest (both (starts is_letter cs) (list_all is_inner cs) h).1 e
-longer_in_class (digits bs) (digits cs) rest behind k s h e = run_longest is_digit bs rest cs behind s.longest (both (starts is_digit cs) (list_all is_digit cs) h).1 e
+longer_in_class (letters bs) (letters cs) rest behind k s h e = run_longest is_inner bs rest cs behind s.longest (and_parts (starts is_letter cs) (list_all is_inner cs) h).1 e
+longer_in_class (digits bs) (digits cs) rest behind k s h e = run_longest is_digit bs rest cs behind s.longest (and_parts (starts is_digit cs) (list_all is_digit cs) h).1 e
 longer_in_class (quoted bs) (quoted cs) rest behind k s h e =
     let t : (bs ++ 34 ∷ []) ++ rest ≡ (cs ++ 34 ∷ []) ++ behind = cc in
     let l : length cs ≤ length bs = run_longest is_quotable bs (34 ∷ rest) cs (34 ∷ behind) refl h (sym (append_assoc bs (34 ∷ []) rest) ∙ t ∙ append_assoc cs (34 ∷ []) behind) in

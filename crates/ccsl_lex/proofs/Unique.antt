@@ -1,16 +1,17 @@
--- A text has at most one list of tokens, at most one first fault, and not both.
+-- A text has at most one list of tokens, at most one first fault, and not and_parts.
 use Rattle.std.proofs.Common.{◌≡◌, ℕ, ◌≤◌, Bool, true, false, ◌||◌, List, [], ◌∷◌, ◌++◌, length, refl, sym, ap, ◌∙◌, inl, inr, arith, append_assoc}
 use Rattle.std.specs.Prelude.{nat_eq, ◌⊎◌}
 use Rattle.std.specs.List.{list_all, flat_map}
 use Rattle.std.proofs.lemmas.List.{append-nil}
 use Rattle.std.proofs.lemmas.List.Folds.{list_all-append}
+use Rattle.std.proofs.lemmas.Bool.{and_parts, or_right}
 use Rattle.ccsl_base.specs.Letters.{is_letter, is_digit, is_inner}
 use Rattle.ccsl_lex.specs.declared.fault.LexFault.{LexFault}
 use Rattle.ccsl_lex.specs.declared.fault.LexFault.TheVariants.{BadByte, NameTooLong, NumberTooLarge, OpenText, Memory}
 use Rattle.ccsl_base.specs.Quoted.{is_quotable}
 use Rattle.ccsl_lex.specs.Tokens.{Piece, blank, comment, letters, digits, quoted, mark, text_of, starts, is_piece, Stands, AreCut, is_white, is_mark, fits, PlainToken, tokens_of, AreTokens, CutAt, is_bad, IsBad, IsOpen, IsPastLimit, IsFirstFault}
 use Rattle.ccsl_lex.specs.Found.{UnlessMemory}
-use Rattle.ccsl_lex.proofs.Classes.{both, clash, class_of, class_at, class_is, bad_class, quote_class, piece_some}
+use Rattle.ccsl_lex.proofs.Classes.{clash, class_of, class_at, class_is, bad_class, quote_class, piece_some}
 use Rattle.ccsl_lex.proofs.Longest.{first_same, run_longest, split_same}
 
 -- no piece within the limits stands in front of r, and r is not empty
@@ -39,7 +40,7 @@ ahead (p ∷ ps) r (q ∷ qs) s c d e =
     ahead_cons p q ps qs r s n.0 (ahead ps r qs s c.1 d.1 n.1)
 
 fit_in : (qs : List Piece) (m : Piece) (ms ps : List Piece) → ps ≡ qs ++ m ∷ ms → list_all fits ps ≡ true → fits m ≡ true
-fit_in qs m ms ps e h = (both (fits m) (list_all fits ms) (both (list_all fits qs) (list_all fits (m ∷ ms)) (sym (list_all-append fits qs (m ∷ ms)) ∙ ap (list_all fits) (sym e) ∙ h)).1).0
+fit_in qs m ms ps e h = (and_parts (fits m) (list_all fits ms) (and_parts (list_all fits qs) (list_all fits (m ∷ ms)) (sym (list_all-append fits qs (m ∷ ms)) ∙ ap (list_all fits) (sym e) ∙ h)).1).0
 
 pub one_tokens : (text : List ℕ) (ts us : List PlainToken) → AreTokens text ts → AreTokens text us → ts ≡ us
 one_tokens text ts us a b = one_as (ahead a.pieces [] b.pieces [] a.cut b.cut (ap (λ z. z ++ []) (sym a.whole ∙ b.whole)))
@@ -75,22 +76,18 @@ past_limit_is_broken kind r h = record {
 past_limit_class : (kind : List ℕ → Piece) (r : List ℕ) (h : IsPastLimit kind r) → class_at r ≡ class_of (kind h.bytes)
 past_limit_class kind r h = ap class_at h.whole ∙ class_is (kind h.bytes) h.behind h.stands.is
 
-or_right : (a b : Bool) → b ≡ true → (a || b) ≡ true
-or_right true b h = refl
-or_right false b h = h
-
 -- no piece begins with a bad byte
 good_front : (m : Piece) (z : List ℕ) → is_piece m ≡ true → is_bad (text_of m ++ z) ≡ false
 good_front (blank b) z h = rw h refl
 good_front (comment bytes) z h = refl
 good_front (letters []) z h = absurd cc
 good_front (letters (b ∷ bytes)) z h =
-    let l = (both (is_letter b) (list_all is_inner (b ∷ bytes)) h).0 in
+    let l = (and_parts (is_letter b) (list_all is_inner (b ∷ bytes)) h).0 in
     let o : (is_white b || is_letter b) ≡ true = or_right (is_white b) (is_letter b) l in
     rw o refl
 good_front (digits []) z h = absurd cc
 good_front (digits (b ∷ bytes)) z h =
-    let l = (both (is_digit b) (list_all is_digit (b ∷ bytes)) h).0 in
+    let l = (and_parts (is_digit b) (list_all is_digit (b ∷ bytes)) h).0 in
     let o : (is_white b || is_letter b || is_digit b) ≡ true = or_right (is_white b || is_letter b) (is_digit b) l in
     rw o refl
 good_front (quoted bytes) z h = refl

@@ -1,7 +1,7 @@
 -- The pieces of a text, cut off one by one.
 use Rattle.std.proofs.Common.{◌≡◌, ℕ, zero, suc, List, [], ◌∷◌, append-nil, length, drop, Bool, true, false, not, ◌&&◌, flat_map, refl, ap, ◌∙◌, if◌then◌else◌}
 use Rattle.std.specs.List.{take_while}
-use Rattle.std.proofs.lemmas.Bool.{and_parts}
+use Rattle.std.proofs.lemmas.Bool.{and_parts, not-true}
 use Rattle.ccsl_base.specs.Letters.{is_letter, is_digit, is_inner}
 use Rattle.ccsl_lex.specs.Tokens.{Piece, blank, letters, digits, mark, text_of, is_white, is_piece, goes_on, starts, AreCut}
 
@@ -22,10 +22,6 @@ pieces (suc most) (b ∷ bytes) = let p = first b bytes in p ∷ pieces most (dr
 abbrev pub are_cut : List Piece → Bool
 are_cut [] = true
 are_cut (p ∷ ps) = (is_piece p && not (starts (goes_on p) (flat_map text_of ps))) && are_cut ps
-
-not-true : (b : Bool) → not b ≡ true → b ≡ false
-not-true false e = refl
-not-true true e = absurd (cc)
 
 pub cut : (ps : List Piece) → are_cut ps ≡ true → AreCut ps []
 cut [] e = tt

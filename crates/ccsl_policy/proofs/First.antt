@@ -6,12 +6,13 @@ use Rattle.ccsl_formula.specs.declared.scope.Scope.{Scope}
 use Rattle.ccsl_formula.specs.Truth.{Assignment}
 use Rattle.ccsl_formula.specs.Formula.{Formula, in_set}
 use Rattle.ccsl_refute.specs.Meaning.{Solves}
-use Rattle.ccsl_refute.proofs.Cases.{by_cases}
 use Rattle.ccsl_policy.specs.declared.policies.Policy.{Policy}
 use Rattle.ccsl_policy.specs.declared.policies.Policy.TheVariants.{Min, Max}
 use Rattle.ccsl_policy.specs.Priority.{word_of, comes_before, preferred}
 use Rattle.ccsl_policy.specs.Chosen.{IsChosen}
 use Rattle.ccsl_policy.proofs.Order.{before-trans, before-other}
+use Rattle.ccsl_base.proofs.Sets.{by_case}
+use Rattle.ccsl_solve.proofs.Best.{either}
 
 -- the sets differ at this clock, and at none with a higher priority
 pub record IsFirst (n : ℕ) (words : List ℕ) (s t : Assignment) : Type 0 where
@@ -19,12 +20,6 @@ pub record IsFirst (n : ℕ) (words : List ℕ) (s t : Assignment) : Type 0 wher
   pub below : clock < n
   pub differ : s clock ≡ not (t clock)
   pub before : (d : ℕ) → d < n → comes_before words d clock ≡ true → s d ≡ t d
-
-same_or_not : (a b : Bool) → (a ≡ b) ⊎ (a ≡ not b)
-same_or_not true true = inl refl
-same_or_not true false = inr refl
-same_or_not false true = inr refl
-same_or_not false false = inl refl
 
 last-or : (n d : ℕ) → d < suc n → (d < n) ⊎ (d ≡ n)
 last-or n d l = ⊎_elim inr (λ e. let m : d < n = omega arith in inl m) (cases_eq d n)
@@ -47,7 +42,7 @@ first-or-same (suc n) words s t =
     ⊎_elim
     (λ e. inl (more-first n words s t f (λ b. e)))
     (λ x.
-    by_cases (comes_before words n f.clock) (IsFirst (suc n) words s t ⊎ ((d : ℕ) → d < suc n → s d ≡ t d))
+    by_case (comes_before words n f.clock) (IsFirst (suc n) words s t ⊎ ((d : ℕ) → d < suc n → s d ≡ t d))
     (λ b.
     inl
     (record {
@@ -59,7 +54,7 @@ first-or-same (suc n) words s t =
           (λ e. let bad : true ≡ false = sym h ∙ ap (λ y. comes_before words y n) e ∙ before-other words n in absurd (cc)) (last-or n d l);
     }))
     (λ b. inl (more-first n words s t f (λ h. let bad : true ≡ false = sym h ∙ b in absurd (cc)))))
-    (same_or_not (s n) (t n)))
+    (either (s n) (t n)))
     (λ all.
     ⊎_elim
     (λ e. inr (λ d l. ⊎_elim (λ m. all d m) (λ q. ap s q ∙ e ∙ ap t (sym q)) (last-or n d l)))
@@ -73,7 +68,7 @@ first-or-same (suc n) words s t =
           ⊎_elim (λ m. all d m)
           (λ e. let bad : true ≡ false = sym h ∙ ap (λ y. comes_before words y n) e ∙ before-other words n in absurd (cc)) (last-or n d l);
     }))
-    (same_or_not (s n) (t n)))
+    (either (s n) (t n)))
     (first-or-same n words s t)
 
 -- an admissible set that has the preferred value at the first clock at which it differs from the chosen one
@@ -82,7 +77,7 @@ not-preferred : (scope : Scope) (fs : List Formula) (policy : Policy) (words s :
 not-preferred scope fs policy words s t h g f p =
     h.best t g (record { clock = f.clock; declared = f.below; differ = f.differ; preferred = p; before = f.before })
 
-both-ways : (a b : Bool) → (a ≡ true → b ≡ true) → a ≡ not b → a ≡ false
+pub both-ways : (a b : Bool) → (a ≡ true → b ≡ true) → a ≡ not b → a ≡ false
 both-ways true b h e = let yes : b ≡ true = h refl in let bad : true ≡ false = e ∙ ap not yes in absurd (cc)
 both-ways false b h e = refl
 
@@ -94,7 +89,7 @@ minimal scope fs words s t h g within c l e =
     (λ all. all c l ∙ e)
     (first-or-same scope.declared words t (in_set s))
 
-from-not : (a b : Bool) → (b ≡ true → a ≡ true) → a ≡ not b → a ≡ true
+pub from-not : (a b : Bool) → (b ≡ true → a ≡ true) → a ≡ not b → a ≡ true
 from-not true b h e = refl
 from-not false true h e = h refl
 from-not false false h e = e
@@ -125,7 +120,7 @@ unique scope fs policy words r s h g c l =
     let back : IsFirst scope.declared words (in_set s) (in_set r) =
     record { clock = f.clock; below = f.below; differ = swapped (ticks_in f.clock r) (ticks_in f.clock s) f.differ; before = λ d m b. sym (f.before d m b) } in
     absurd (not-preferred scope fs policy words r (in_set s) h g.solves back (swapped-preferred (ticks_in f.clock r) (ticks_in f.clock s) p f.differ e)))
-    (same_or_not (ticks_in f.clock r) p))
+    (either (ticks_in f.clock r) p))
     (λ all. all c l)
     (first-or-same scope.declared words (in_set r) (in_set s))
   where

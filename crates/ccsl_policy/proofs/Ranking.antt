@@ -6,7 +6,6 @@ use Rattle.std.specs.Cmp.{IsStrictWeakOrder, nat_cmp_total, then_total, on_total
 use Rattle.std.proofs.lemmas.List.Sorted.{ranks_by, sorted_far}
 use Rattle.std.specs.declared.cmp.Ordering.TheVariants.{Less, Equal, Greater}
 use Rattle.std.proofs.lemmas.List.Elements.{All-push, All-head, All-tail, All-get_or, Contains-append_left, Contains-push}
-use Rattle.ccsl_refute.proofs.Cases.{by_cases}
 use Rattle.std.proofs.lemmas.Option.{slice_get-get_or, get_or_from_slice_get}
 use Rattle.std.proofs.lemmas.Bool.{cases_eq, lt-ltb, le-ltb, ltb-true, ltb-false, eq-eqb}
 use Rattle.ccsl_formula.specs.declared.scope.Scope.{Scope}
@@ -23,6 +22,7 @@ use Rattle.ccsl_policy.specs.Better.{IsBetter}
 use Rattle.ccsl_policy.specs.Chosen.{IsChosen}
 use Rattle.ccsl_policy.specs.Ranks.{IsRank, IsRanked, wish}
 use Rattle.ccsl_policy.proofs.Order.{is-before}
+use Rattle.ccsl_base.proofs.Sets.{by_case}
 
 -- the first n clocks, each behind its word
 abbrev pub ranks_to : List ℕ → ℕ → List (ℕ × ℕ)
@@ -60,14 +60,14 @@ not-less : (r q : ℕ × ℕ) → less r q ≡ false → (q.0 < r.0) ⊎ ((q.0 �
 not-less r q h =
     ⊎_elim
     (λ e.
-    by_cases (nat_lt r.1 q.1) ((q.0 < r.0) ⊎ ((q.0 ≡ r.0) × (q.1 ≤ r.1)))
+    by_case (nat_lt r.1 q.1) ((q.0 < r.0) ⊎ ((q.0 ≡ r.0) × (q.1 ≤ r.1)))
     (λ l.
     let bad : true ≡ false =
     sym (ap (λ o. is_lt (ordering_then o (nat_cmp r.1 q.1))) (cmp-equal r.0 q.0 e) ∙ ap is_lt (cmp-less r.1 q.1 (ltb-true r.1 q.1 l))) ∙ h in
     absurd (cc))
     (λ l. inr (sym e, ltb-false r.1 q.1 l)))
     (λ d.
-    by_cases (nat_lt r.0 q.0) ((q.0 < r.0) ⊎ ((q.0 ≡ r.0) × (q.1 ≤ r.1)))
+    by_case (nat_lt r.0 q.0) ((q.0 < r.0) ⊎ ((q.0 ≡ r.0) × (q.1 ≤ r.1)))
     (λ l.
     let bad : true ≡ false = sym (ap (λ o. is_lt (ordering_then o (nat_cmp r.1 q.1))) (cmp-less r.0 q.0 (ltb-true r.0 q.0 l))) ∙ h in
     absurd (cc))
@@ -80,7 +80,7 @@ same-not true false e = refl
 same-not false true e = refl
 same-not false false e = absurd (cc)
 
-same-self : (a b : Bool) → a ≡ b → same a b ≡ true
+pub same-self : (a b : Bool) → a ≡ b → same a b ≡ true
 same-self true true e = refl
 same-self true false e = absurd (cc)
 same-self false true e = absurd (cc)

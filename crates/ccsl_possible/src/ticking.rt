@@ -34,8 +34,7 @@ fn set_with(
 {
     match solve(alloc, formulas, scope, &fixed_at(clock))? {
         Answer::Step(set) => {
-            // its members ascend
-            set.members();
+            set.ascends();
             Ok(Some(set))
         }
         Answer::Refuted(_lines) => Ok(None),
@@ -83,7 +82,6 @@ pub(crate) fn may_tick(
             clocks.insert(clock);
         }
     }
-    // its members ascend
-    clocks.members();
+    clocks.ascends();
     Ok(clocks)
 }

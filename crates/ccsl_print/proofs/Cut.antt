@@ -18,6 +18,7 @@ use Rattle.ccsl_grammar.specs.Canonical.{TextLine}
 use Rattle.ccsl_print.specs.CanonicalText.{written, touches, laid, line_text}
 use Rattle.ccsl_print.specs.ReadsBack.{plain_terminal}
 use Rattle.ccsl_print.proofs.Pieces.{piece_of, written_is, is_kept, ReadsAs, reads_as, mark_apart}
+use Rattle.ccsl_lex.proofs.Front.{never_starts}
 
 -- ---- the pieces of lines
 
@@ -92,13 +93,9 @@ first_fine t ps ts r h f = record {
       ∙ ap (λ z. bare t ∷ z) (f.read end);
 }
 
-never_goes : (z : List ℕ) → starts (λ c. false) z ≡ false
-never_goes [] = refl
-never_goes (b ∷ bs) = refl
-
 blank_fine : (b : ℕ) (ps : List Piece) (ts : List Terminal) → is_piece (blank b) ≡ true → b < 128 → Fine ps ts → Fine (blank b ∷ ps) ts
 blank_fine b ps ts h s f = record {
-  cut = (record { is = h; longest = never_goes (bytes_of ps ++ []) }, f.cut);
+  cut = (record { is = h; longest = never_starts (bytes_of ps ++ []) }, f.cut);
   fit = f.fit;
   ascii = IsAscii-cons b (bytes_of ps) s f.ascii;
   read = λ at. f.read (at + 1);
@@ -116,16 +113,16 @@ digit_apart (b ∷ bs) h = right (is_letter b) (is_digit b) h
 
 ends : (t : Terminal) (z : List ℕ) → starts is_inner z ≡ false → starts (goes_on (piece_of t)) z ≡ false
 ends (word w) z h = h
-ends (symbol b) z h = never_goes z
+ends (symbol b) z h = never_starts z
 ends (name x) z h = h
 ends (number at n) z h = digit_apart z h
-ends (quoted at bytes) z h = never_goes z
+ends (quoted at bytes) z h = never_starts z
 
 -- what touches the token before it, or is touched, keeps the two apart
 apart : (t u : Terminal) (z : List ℕ) → touches t u ≡ true → is_kept u ≡ true → starts (goes_on (piece_of t)) (text_of (piece_of u) ++ z) ≡ false
 apart t (symbol c) z h k = ends t (c ∷ z) (mark_apart c k)
-apart (symbol b) u z h k = never_goes (text_of (piece_of u) ++ z)
-apart (quoted at bytes) u z h k = never_goes (text_of (piece_of u) ++ z)
+apart (symbol b) u z h k = never_starts (text_of (piece_of u) ++ z)
+apart (quoted at bytes) u z h k = never_starts (text_of (piece_of u) ++ z)
 apart (word v) (word w) z h k = absurd cc
 apart (word v) (name x) z h k = absurd cc
 apart (word v) (number at n) z h k = absurd cc

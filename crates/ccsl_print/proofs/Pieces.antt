@@ -30,6 +30,7 @@ use Rattle.ccsl_grammar.specs.Terminals.{Terminal, word, symbol, name, number, q
 use Rattle.ccsl_grammar.specs.Bare.{bare}
 use Rattle.ccsl_grammar.proofs.Spelled.{is_mark as is_grammar_mark}
 use Rattle.ccsl_print.specs.CanonicalText.{written}
+use Rattle.ccsl_lex.proofs.Front.{letter_inner}
 
 abbrev pub piece_of : Terminal → Piece
 piece_of (word v) = letters (spelling v)
@@ -83,9 +84,6 @@ inner_small b h = or_parts (is_letter b) (is_digit b) (letter_small b) (digit_sm
 
 quotable_small : (b : ℕ) → is_quotable b ≡ true → b < 128
 quotable_small b h = let q = leb-true b 126 (and_parts (leb b 126) (not (nat_eq b 34)) (and_parts (leb 32 b) (leb b 126 && not (nat_eq b 34)) h).1).0 in omega arith
-
-letter_inner : (b : ℕ) → is_letter b ≡ true → is_inner b ≡ true
-letter_inner b h = ap (λ z. z || is_digit b) h
 
 -- ---- words and names
 

@@ -2,7 +2,7 @@
 -- or of the clause that a declared clock ticks, and the line of a lesser one follows from those of the two that know one clock more.
 use Rattle.std.proofs.Common.{◌≡◌, ◌⊎◌, ℕ, zero, suc, ◌<◌, ◌≤◌, List, [], ◌∷◌, ◌++◌, length, Bool, true, false, not, ◌&&◌, ◌||◌, cond, Option, Some, None, refl, sym, ap, ap₂, ◌∙◌, ⊎_elim, inl, inr, subst, arith, slice_get, append_assoc, append-nil, nat_eq, nat_lt}
 use Rattle.std.specs.List.{All}
-use Rattle.std.proofs.lemmas.Bool.{cases_eq, and_parts, and_from, eq-eqb, ne_eqb, lt-ltb}
+use Rattle.std.proofs.lemmas.Bool.{cases_eq, and_parts, and_from, eq-eqb, ne_eqb, lt-ltb, or_parts}
 use Rattle.std.proofs.lemmas.List.Elements.{All-head, All-tail}
 use Rattle.ccsl_base.specs.Clocks.{ticks_in, is_ascending, are_below}
 use Rattle.ccsl_base.specs.Bits.{members_where}
@@ -25,7 +25,7 @@ use Rattle.ccsl_refute.specs.Meaning.{AllTrue}
 use Rattle.ccsl_refute.specs.Existence.{HasCertificate, IsUnsolved}
 
 -- one of the first numbers passes a test, or none does
-first-or-none : (test : ℕ → Bool) (n : ℕ) → ((x : ℕ) × (x < n) × (test x ≡ true)) ⊎ ((x : ℕ) → x < n → test x ≡ false)
+pub first-or-none : (test : ℕ → Bool) (n : ℕ) → ((x : ℕ) × (x < n) × (test x ≡ true)) ⊎ ((x : ℕ) → x < n → test x ≡ false)
 first-or-none test zero = inr (λ x l. absurd (omega (arith, l)))
 first-or-none test (suc n) = by-test (test n) refl (first-or-none test n)
   where
@@ -66,21 +66,17 @@ other-value p x b l e =
     not-same : x ≡ l.clock → nat_eq x l.clock ≡ false → ⊥
     not-same s f = let clash : true ≡ false = sym (eq-eqb x l.clock s) ∙ f in absurd (cc)
 
-or-none : (a b : Bool) → (a || b) ≡ false → (a ≡ false) × (b ≡ false)
-or-none true b e = absurd (cc)
-or-none false b e = (refl, e)
-
 others-false : (p : Part) (x : ℕ) (b : Bool) (ls : List Lit) → names x ls ≡ false → all_false (with_value p x b) ls ≡ all_false p ls
 others-false p x b [] e = refl
 others-false p x b (l ∷ ls) e =
-    let q = or-none (nat_eq x l.clock) (names x ls) e in
+    let q = or_parts (nat_eq x l.clock) (names x ls) e in
     ap₂ (λ t r. is_no t && r) (other-value p x b l q.0) (others-false p x b ls q.1)
 
 -- a clock that no literal names is open
 unnamed-open : (x : ℕ) (ls : List Lit) → names x ls ≡ false → falsified ls x ≡ Open
 unnamed-open x [] e = refl
 unnamed-open x (l ∷ ls) e =
-    let q = or-none (nat_eq x l.clock) (names x ls) e in
+    let q = or_parts (nat_eq x l.clock) (names x ls) e in
     ap (λ c. cond c (known_as (not l.positive)) (falsified ls x)) q.0 ∙ unnamed-open x ls q.1
 
 -- a literal over clock m, and its value where the clock has the other one

@@ -26,9 +26,9 @@ use Rattle.ccsl_refute.specs.Text.{placed, is_line_feed, without_returns, lines_
 use Rattle.ccsl_refute.specs.Reading.{literal_of, literal, read_first, read_literals, read_numbers, before_from, after_from, read_hints, item_line, derived_line, read_tokens, read_more, read_line, read_lines}
 use Rattle.ccsl_refute.specs.Writing.{spaced, name_of, literal_text, line_text, lines_text}
 use Rattle.ccsl_refute.specs.LineLiterals.{literals}
-use Rattle.ccsl_refute.proofs.Cases.{by_cases}
 use Rattle.ccsl_refute.proofs.Lines.{followed}
 use Rattle.ccsl_refute.proofs.Words.{is_word, are_words, tokens-spaced, line-clear, line-kept}
+use Rattle.ccsl_base.proofs.Sets.{by_case}
 
 -- a name is found at its place
 
@@ -43,7 +43,7 @@ place-own (n ∷ ns) zero name d e =
     let same : n ≡ name = cc in
     ap (λ b. cond (not b) (1 + position_or_len (bytes_eq name) ns) 0) (bytes_eq-refl name n (sym same))
 place-own (n ∷ ns) (suc x) name d e =
-    by_cases (bytes_eq name n) _
+    by_case (bytes_eq name n) _
     (λ same.
     let fresh : is_among n ns ≡ false = not-true (is_among n ns) ((and_parts (not (is_among n ns)) (are_distinct ns) d).0) in
     let among : is_among n ns ≡ true = ap (λ w. is_among w ns) (sym (bytes_eq-true name n same)) ∙ there-among ns x name e in
@@ -168,7 +168,7 @@ module _ (names : List (List ℕ)) (distinct : are_distinct names ≡ true) (pro
       let is : name ≡ name_of names x = sym (unwrap_or-slice_get names x []) in
       let good : is_cert_name name ≡ true = each-name names x name proper there in
       let found : find_name name names ≡ Some x = find-own names x name distinct below there in
-      by_cases l.positive _
+      by_case l.positive _
       (λ yes_. subst (λ w. Reads names l w) (is ∙ sym (ap (λ b. cond b (name_of names x) (45 ∷ name_of names x)) yes_))
       (record {
         back = name-read names x name good found ∙ ap (λ (b : Bool). Some (record { clock = x; positive = b })) (sym yes_);

@@ -20,6 +20,7 @@ use Rattle.ccsl_refute.specs.Meaning.{AllTrue, Solves}
 use Rattle.ccsl_refute.specs.Clauses.{holds, ClausesHold}
 use Rattle.ccsl_refute.proofs.Cases.{not_both}
 use Rattle.ccsl_refute.proofs.Lists.{snoc-get}
+use Rattle.ccsl_formula.proofs.Folds.{not-is}
 
 other-sign : (a b : Bool) → same a b ≡ false → a ≡ not b
 other-sign true true e = e
@@ -27,7 +28,7 @@ other-sign true false e = refl
 other-sign false true e = refl
 other-sign false false e = sym e
 
-same-sign : (a b : Bool) → same a b ≡ true → a ≡ b
+pub same-sign : (a b : Bool) → same a b ≡ true → a ≡ b
 same-sign true true e = refl
 same-sign true false e = sym e
 same-sign false true e = e
@@ -60,16 +61,12 @@ same_true_right : (w : Bool) → w ≡ same w true
 same_true_right true = refl
 same_true_right false = refl
 
-same_false_right : (w : Bool) → not w ≡ same w false
-same_false_right true = refl
-same_false_right false = refl
-
 lit-fits : (v : Assignment) (p : Part) (l : Lit) → Agrees v p → Fits (lit_value p l) (same (v l.clock) l.positive)
 lit-fits v p l a =
     let w = v l.clock in
     elim l.positive as (λ b. Fits (cond b (p l.clock) (not3 (p l.clock))) (same w b)) [
       | true ↦ subst (λ x. Fits (p l.clock) x) (same_true_right w) (a.fits l.clock)
-      | false ↦ subst (λ x. Fits (not3 (p l.clock)) x) (same_false_right w) (not-fits (p l.clock) w (a.fits l.clock))
+      | false ↦ subst (λ x. Fits (not3 (p l.clock)) x) (not-is w) (not-fits (p l.clock) w (a.fits l.clock))
     ]
 
 false-lit : (v : Assignment) (p : Part) (l : Lit) → Agrees v p → lit_value p l ≡ No → same (v l.clock) l.positive ≡ false
@@ -133,7 +130,7 @@ no-closing v d lines p (j ∷ k ∷ js) h a e =
           (agrees-with v p l.clock l.positive a (same-sign (v l.clock) l.positive (unit_at-true v d lines p j l h a q))) f
     ]) refl e
 
-item-true : (fs : List Formula) (v : Assignment) (k : ℕ) (f : Formula) → AllTrue fs v → slice_get fs k ≡ Some f → truth f v ≡ true
+pub item-true : (fs : List Formula) (v : Assignment) (k : ℕ) (f : Formula) → AllTrue fs v → slice_get fs k ≡ Some f → truth f v ≡ true
 item-true [] v k f t e = absurd (cc)
 item-true (g ∷ fs) v zero f t e = let q : g ≡ f = cc in subst (λ (h : Formula). truth h v ≡ true) q t.0
 item-true (g ∷ fs) v (suc k) f t e = item-true fs v k f t.1 e

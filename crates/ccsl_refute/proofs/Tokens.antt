@@ -6,8 +6,8 @@ use Rattle.std.proofs.lemmas.Bool.{cases_lt}
 use Rattle.std.proofs.lemmas.List.{take_all, drop_all}
 use Rattle.std.proofs.lemmas.List.Sums.{passes_at_first}
 use Rattle.std.proofs.lemmas.List.Splits.{slice_split_first, slice_split-cons_yes, slice_split-cons_no}
-use Rattle.ccsl_refute.proofs.Cases.{by_cases}
 use Rattle.ccsl_refute.specs.Text.{Piece, placed, is_blank, has_bytes, tokens}
+use Rattle.ccsl_base.proofs.Sets.{by_case}
 
 -- how many elements pass from the front on
 prefix-yes : (p : ℕ → Bool) (x : ℕ) (xs : List ℕ) → p x ≡ true → prefix_len p (x ∷ xs) ≡ suc (prefix_len p xs)
@@ -19,7 +19,7 @@ prefix-no p x xs e = ap (λ b. cond b (1 + prefix_len p xs) 0) e
 prefix-within : (p : ℕ → Bool) (xs : List ℕ) → prefix_len p xs ≤ length xs
 prefix-within p [] = omega arith
 prefix-within p (x ∷ xs) =
-    by_cases (p x) _
+    by_case (p x) _
     (λ e. omega (arith, prefix-yes p x xs e, prefix-within p xs))
     (λ e. omega (arith, prefix-no p x xs e))
 
@@ -27,7 +27,7 @@ prefix-within p (x ∷ xs) =
 pub split-last : (p : ℕ → Bool) (xs : List ℕ) → length xs ≤ position_or_len p xs → slice_split p xs ≡ xs ∷ []
 split-last p [] l = refl
 split-last p (x ∷ xs) l =
-    by_cases (p x) _
+    by_case (p x) _
     (λ e. absurd (omega (arith, prefix-no (λ y. not (p y)) x xs (ap not e))))
     (λ e. slice_split-cons_no p x xs e ∙ ap (onto_first x) (split-last p xs (omega (arith, prefix-yes (λ y. not (p y)) x xs (ap not e)))))
 
@@ -40,7 +40,7 @@ tokens-blank at b bs e =
 tokens-skip : (at : ℕ) (xs : List ℕ) (n : ℕ) → n ≡ prefix_len is_blank xs → tokens at xs ≡ tokens (at + n) (drop n xs)
 tokens-skip at [] n e = ap (tokens (at + n)) (sym (drop_all n [] (omega arith)))
 tokens-skip at (x ∷ xs) n e =
-    by_cases (is_blank x) _
+    by_case (is_blank x) _
     (λ blank.
     let m = prefix_len is_blank xs in
     let more : n ≡ suc m = e ∙ prefix-yes is_blank x xs blank in
@@ -58,7 +58,7 @@ tokens-skip at (x ∷ xs) n e =
 no-word : (xs : List ℕ) → prefix_len (λ b. not (is_blank b)) (drop (prefix_len is_blank xs) xs) ≡ 0 → drop (prefix_len is_blank xs) xs ≡ []
 no-word [] e = refl
 no-word (x ∷ xs) e =
-    by_cases (is_blank x) _
+    by_case (is_blank x) _
     (λ blank.
     let more = prefix-yes is_blank x xs blank in
     let rest : drop (prefix_len is_blank (x ∷ xs)) (x ∷ xs) ≡ drop (prefix_len is_blank xs) xs = ap (λ k. drop k (x ∷ xs)) more in

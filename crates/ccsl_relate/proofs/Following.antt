@@ -1,7 +1,7 @@
 -- What is followed for some items: the clocks that they read, and all that these lead to.
 use Rattle.std.proofs.Common.{◌≡◌, ℕ, ◌+◌, ◌-◌, ◌<◌, List, [], ◌∷◌, Bool, true, false, ◌||◌, ◌&&◌, All, Some, nat_eq, nat_lt, length, slice_get, get_or, refl, sym, ap, ◌∙◌, subst, arith, eq-eqb, lt-ltb, le-ltb}
 use Rattle.std.specs.List.{list_all, list_any}
-use Rattle.std.proofs.lemmas.Bool.{and_parts, and_from, eqb-true}
+use Rattle.std.proofs.lemmas.Bool.{and_parts, and_from, eqb-true, or_left, or_right}
 use Rattle.std.proofs.lemmas.Option.{slice_get_within, get_or_from_slice_get}
 use Rattle.ccsl_base.specs.declared.limits.TheConstants.{MAX_CLOCKS}
 use Rattle.ccsl_base.specs.Clocks.{ticks_in, with_clock}
@@ -12,7 +12,6 @@ use Rattle.ccsl_kernel.specs.Lives.{Step}
 use Rattle.ccsl_kernel.proofs.EachOne.{each_at}
 use Rattle.ccsl_kernel.proofs.Sets.{ticks_in-with_clock}
 use Rattle.ccsl_state.specs.Reach.{Includes, is_within}
-use Rattle.ccsl_state.proofs.WithinLaws.{or_left, or_right}
 use Rattle.ccsl_relate.specs.declared.watched.Related.{Related}
 use Rattle.ccsl_relate.specs.declared.watched.Watched.{Watched}
 use Rattle.ccsl_relate.specs.declared.watched.Watched.TheVariants.{Nothing, Definition, Relation}

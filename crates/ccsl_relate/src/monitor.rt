@@ -10,7 +10,7 @@ ghost use Rattle.ccsl_relate.specs.Following.{FollowsNoMore};
 use crate::alone::first_in;
 use crate::readers::Readers;
 use crate::states::states_for;
-use crate::steps::{first_violated, is_set, rows_are_sets, undeclared};
+use crate::steps::{first_violated, rows_are_sets, undeclared};
 use crate::touched::readers_of;
 use crate::violation::Violation;
 use crate::watched::{Watched, open_all};
@@ -98,7 +98,7 @@ impl<'s> Monitor<'s> {
     {
         let kept = open_all(alloc, system, start, count, recorded)?;
         let readers = readers_of(alloc, kept.as_slice())?;
-        system.names();
+        system.is_accepted();
         let states = states_for(alloc, system, kept.as_slice())?;
         Ok(Monitor {
             system,
@@ -120,7 +120,7 @@ impl<'s> Monitor<'s> {
         ensures { (recorded : List ℕ) (rows : List Row) → StandsFor recorded self.old rows → length rows + 1 < 2 ^ 64 →
             IsNext recorded self.old self.new rows row.now result }
     {
-        is_set(&row.ticks);
+        row.ticks.ascends();
         if self.first.is_some() {
             return self.first;
         }

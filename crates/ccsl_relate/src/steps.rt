@@ -2,8 +2,6 @@
 
 ghost use Rattle.std.specs.Prelude.{◌≡◌, ℕ, ◌+◌, ◌<◌, ◌^◌, List, [], ◌∷◌, ◌++◌, false, length, map, Some, All, IsTrue, IfSome, IfNone};
 ghost use Rattle.std.specs.Option.{ForSome};
-ghost use Rattle.ccsl_base.specs.declared.limits.TheConstants.{MAX_CLOCKS};
-ghost use Rattle.ccsl_base.specs.Clocks.{is_ascending, are_below};
 ghost use Rattle.ccsl_kernel.specs.Syntax.{System};
 ghost use Rattle.ccsl_kernel.specs.Lives.{Step};
 ghost use Rattle.ccsl_kernel.specs.Runs.{full_step, declared_part};
@@ -29,21 +27,12 @@ pub(crate) fn undeclared(system: &System) -> ClockSet
     clocks
 }
 
-/// The members of a set are in ascending order.
-#[inline(always)]
-pub(crate) fn is_set(ticks: &ClockSet)
-    ensures ascending { IsTrue (is_ascending ticks.now) }
-    ensures below { IsTrue (are_below MAX_CLOCKS ticks.now) }
-{
-    ticks.members();
-}
-
 /// Each row of a block is a set.
 pub(crate) fn rows_are_sets(block: &Block)
     ensures { IsTrue (are_sets block.now.rows) }
 {
     for i in 0..block.len() {
-        is_set(&block.row(i).ticks);
+        block.row(i).ticks.ascends();
     }
 }
 
@@ -53,8 +42,8 @@ fn put_declared(declared: &mut ClockSet, ticks: &ClockSet, undeclared: &ClockSet
     ensures { (K : System) → IsUndeclared K undeclared.now → declared.new ≡ declared_part K ticks.now }
 {
     declared.copy_difference(ticks, undeclared);
-    is_set(ticks);
-    is_set(declared);
+    ticks.ascends();
+    declared.ascends();
 }
 
 // Puts into a set what is known of the step that a row with these ticks completes. The states go on by it.

@@ -112,7 +112,7 @@ pub(crate) fn open_all(
     ensures keeps { IfOk result (λ kept. Each (Keeps system.now recorded.now []) start kept.items) }
     ensures count { IfOk result (λ kept. length kept.items ≡ count) }
 {
-    system.items();
+    system.is_accepted();
     let mut kept = Vec::with_capacity(alloc, count as usize)?;
     for place in 0..count {
         kept.push(Watched::open(system, start + place, recorded))?;

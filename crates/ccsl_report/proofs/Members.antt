@@ -8,6 +8,7 @@ use Rattle.ccsl_kernel.specs.Syntax.{System}
 use Rattle.ccsl_report.specs.declared.line.Part.{Part}
 use Rattle.ccsl_report.specs.Line.{line}
 use Rattle.std.specs.List.{concat}
+use Rattle.std.proofs.Math.Bool.{or-true}
 use Rattle.ccsl_report.specs.Parts.{part_text, part_texts}
 use Rattle.ccsl_report.specs.Texts.{item_pieces, behind_blanks, parted, explain_member_text}
 
@@ -21,10 +22,6 @@ joined_push (q ∷ parts) p =
 joined_append : (ps qs : List (List ℕ)) → concat (ps ++ qs) ≡ concat ps ++ concat qs
 joined_append [] qs = refl
 joined_append (p ∷ ps) qs = ap (λ t. p ++ t) (joined_append ps qs) ∙ sym (append_assoc p (concat ps) (concat qs))
-
-or-true : (b : Bool) → (b || true) ≡ true
-or-true true = refl
-or-true false = refl
 
 -- every member has a name
 abbrev pub AllNamed : System → List ℕ → Type 0

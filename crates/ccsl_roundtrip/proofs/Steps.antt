@@ -2,7 +2,7 @@
 use Rattle.std.proofs.Common.{◌≡◌, ◌≢◌, ℕ, zero, suc, ◌+◌, ◌<◌, ◌≤◌, List, [], ◌∷◌, All, Bool, true, false, cond, ◌&&◌, length, filter, take, nat_lt, IsTrue, refl, sym, ap, ◌∙◌, subst, arith, lt-ltb, le-ltb, ⊎_elim}
 use Rattle.std.specs.List.{list_all}
 use Rattle.std.proofs.lemmas.List.Elements.{All-from_get_or}
-use Rattle.std.proofs.lemmas.Bool.{cases_lt}
+use Rattle.std.proofs.lemmas.Bool.{cases_lt, and_parts}
 use Rattle.ccsl_base.specs.Clocks.{is_ascending, are_below}
 use Rattle.ccsl_kernel.specs.Syntax.{System}
 use Rattle.ccsl_kernel.specs.Lives.{Step, step_at}
@@ -26,15 +26,11 @@ hidden-part m n l (x ∷ xs) e = ⊎_elim (λ h. absurd (shown (nat_lt x n) (lt-
     rest h more = ap (λ t. cond t (x ∷ filter (λ x. nat_lt x m) xs) (filter (λ x. nat_lt x m) xs)) (le-ltb x m (omega (arith, h, l)))
         ∙ more (sym (ap (λ t. cond t (x ∷ filter (λ x. nat_lt x n) xs) (filter (λ x. nat_lt x n) xs)) (le-ltb x n h)) ∙ e)
 
-both-true : (a b : Bool) → (a && b) ≡ true → (a ≡ true) × (b ≡ true)
-both-true true b e = (refl, e)
-both-true false b e = let clash : false ≡ true = e in absurd (cc)
-
 -- a step of a list of named sets is one
 named-step : (K : System) (T : List Step) (n : ℕ) → n < length T → list_all (is_named K) T ≡ true → is_named K (step_at T n) ≡ true
 named-step K [] n l e = absurd (omega (arith, l))
-named-step K (s ∷ T) zero l e = (both-true (is_named K s) (list_all (is_named K) T) e).0
-named-step K (s ∷ T) (suc n) l e = named-step K T n (omega (arith, l)) (both-true (is_named K s) (list_all (is_named K) T) e).1
+named-step K (s ∷ T) zero l e = (and_parts (is_named K s) (list_all (is_named K) T) e).0
+named-step K (s ∷ T) (suc n) l e = named-step K T n (omega (arith, l)) (and_parts (is_named K s) (list_all (is_named K) T) e).1
 
 all-steps : (P : Step → Type 0) (T : List Step) → ((n : ℕ) → n < length T → P (step_at T n)) → All P T
 all-steps P T each = All-from_get_or P T [] (λ i l. each i l)
@@ -67,11 +63,11 @@ module _ (K : System) (low : K.declared ≤ K.written) (p : Policy) (solve : Adm
   pub shows : All (IsShown K) (simulation K p seed steps)
   unfolding T
   shows = all-steps (IsShown K) (simulation K p seed steps) (λ n l. record {
-    set = (both-true (is_ascending (step_at T n)) (are_below (K.declared + length K.definitions) (step_at T n)) (named-step K T n l (runs seed steps).named)).0;
+    set = (and_parts (is_ascending (step_at T n)) (are_below (K.declared + length K.definitions) (step_at T n)) (named-step K T n l (runs seed steps).named)).0;
     ticks = λ e. ticks-at n l (hidden-part K.declared K.written low (step_at T n) e);
   })
 
   pub ascends : All (λ (step : Step). IsTrue (is_ascending step)) (simulation K p seed steps)
   unfolding T
   ascends = all-steps (λ step. IsTrue (is_ascending step)) (simulation K p seed steps)
-      (λ n l. (both-true (is_ascending (step_at T n)) (are_below (K.declared + length K.definitions) (step_at T n)) (named-step K T n l (runs seed steps).named)).0)
+      (λ n l. (and_parts (is_ascending (step_at T n)) (are_below (K.declared + length K.definitions) (step_at T n)) (named-step K T n l (runs seed steps).named)).0)

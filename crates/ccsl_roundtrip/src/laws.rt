@@ -21,8 +21,8 @@ const LIMITS: Limits = Limits {
 pub fn simulated_traces_are_runs(system: &System)
     ensures { SimulatedTracesAreRuns system.now }
 {
-    system.names();
-    read_back(system, &LIMITS);
+    system.is_accepted();
+    read_back(system, LIMITS);
     texts_fit(system);
     runs_complete();
     verdict_is_first();

@@ -9,7 +9,7 @@ use Rattle.ccsl_rules.specs.Spaces.{Known, Callee, member, look, parts_space, ca
 use Rattle.ccsl_rules.specs.Texts.{texts, block_texts}
 use Rattle.ccsl_rules.specs.Resolved.{Tables}
 use Rattle.ccsl_rules.specs.Expansion.{kind_in, part_bodies, groups_of}
-use Rattle.ccsl_rules.proofs.Ordered.{found-all, all-append}
+use Rattle.ccsl_rules.proofs.Ordered.{found-all, all-append, same-group}
 
 abbrev kinds : List Param → List ParamKind
 kinds ps = map (λ p. kind_in p.kind) ps
@@ -47,9 +47,6 @@ match-append (DGroup members ∷ bs) cs (x ∷ G) H a b = (a.0, match-append bs 
 abbrev InParts : ℕ → ℕ → List Body → Known Callee → Type 0
 InParts g n x c = (group number : ℕ) → c.what.role ≡ member group number → (group ≡ g) × (n ≤ number) × ((d : ℕ) → number ≡ n + d → (b : Body) × (slice_get x d ≡ Some b) × (b.params ≡ kinds c.what.params))
 
-group-same : (a b c d : ℕ) → member a b ≡ member c d → a ≡ c
-group-same a b c d e = cc
-
 number-same : (a b c d : ℕ) → member a b ≡ member c d → b ≡ d
 number-same a b c d e = cc
 
@@ -67,7 +64,7 @@ parts-in : (block g n : ℕ) (ps : List PlainMember) (x : List Body) → MatchPa
 parts-in block g n [] x m = tt
 parts-in block g n (p ∷ ps) [] m = absurd m
 parts-in block g n (p ∷ ps) (y ∷ x) m =
-    ((λ group number r. let same = number-same g n group number r in (sym (group-same g n group number r), omega arith, at-place number same)), one-more g n y x (parts_space block g (n + 1) ps) (parts-in block g (n + 1) ps x m.1))
+    ((λ group number r. let same = number-same g n group number r in (sym (same-group g n group number r), omega arith, at-place number same)), one-more g n y x (parts_space block g (n + 1) ps) (parts-in block g (n + 1) ps x m.1))
   where
     at-place : (number : ℕ) → n ≡ number → (d : ℕ) → number ≡ n + d → (b : Body) × (slice_get (y ∷ x) d ≡ Some b) × (b.params ≡ kinds p.params)
     at-place number same zero e = (y, refl, m.0)

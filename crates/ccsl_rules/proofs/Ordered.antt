@@ -30,7 +30,7 @@ pub found-all : (P : Known Callee → Type 0) (test : Known Callee → Bool) (xs
 found-all P test [] k a e = absurd (cc)
 found-all P test (x ∷ xs) k a e = here-or-later P x k (test x) (find test xs) a.0 (found-all P test xs k a.1) e
 
-same-group : (a b c d : ℕ) → member a b ≡ member c d → a ≡ c
+pub same-group : (a b c d : ℕ) → member a b ≡ member c d → a ≡ c
 same-group a b c d e = cc
 
 parts-good : (h g block group number : ℕ) (ps : List PlainMember) → (block < h → group < g) → (block ≡ h → group ≡ g) → AllByRecursion (Good h g) (parts_space block group number ps)

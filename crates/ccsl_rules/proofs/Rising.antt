@@ -70,7 +70,7 @@ names_in [] = []
 names_in (Defines path name σ k e ∷ xs) = name ∷ names_in xs
 names_in (Binds path σ a r b ∷ xs) = names_in xs
 
-names-append : (xs ys : List Item) → names_in (xs ++ ys) ≡ names_in xs ++ names_in ys
+pub names-append : (xs ys : List Item) → names_in (xs ++ ys) ≡ names_in xs ++ names_in ys
 names-append [] ys = refl
 names-append (Defines path name σ k e ∷ xs) ys = ap (λ l. name ∷ l) (names-append xs ys)
 names-append (Binds path σ a r b ∷ xs) ys = names-append xs ys

@@ -7,10 +7,7 @@ use Rattle.std.proofs.lemmas.Bool.{cases_lt}
 use Rattle.std.proofs.lemmas.Option.{slice_get_within, same_Some}
 use Rattle.ccsl_base.specs.Names.{is_among, find_name}
 use Rattle.ccsl_base.proofs.Tables.{find_name-there}
-
--- either value of a test, with the equation
-pub by_test : (b : Bool) (P : Type 0) → (b ≡ true → P) → (b ≡ false → P) → P
-by_test b P yes_ no_ = (elim b as (λ v. b ≡ v → P) [ true ↦ yes_ | false ↦ no_ ]) refl
+use Rattle.ccsl_base.proofs.Sets.{by_case}
 
 module _ {X : Type 0} (p : X → Bool) where
   position-yes : (x : X) (xs : List X) → p x ≡ true → position p (x ∷ xs) ≡ Some 0
@@ -37,7 +34,7 @@ module _ {X : Type 0} (p : X → Bool) where
   pub some-place : (xs : List X) → is_some (position p xs) ≡ list_any p xs
   some-place [] = refl
   some-place (x ∷ xs) =
-      by_test (p x) _
+      by_case (p x) _
       (λ e. ap is_some (position-yes x xs e) ∙ sym (ap (λ b. b || list_any p xs) e))
       (λ e. ap is_some (position-no x xs e) ∙ mapped (position p xs) ∙ some-place xs ∙ sym (ap (λ b. b || list_any p xs) e))
     where
@@ -67,7 +64,7 @@ pub position-take : {X : Type 0} (p : X → Bool) (n : ℕ) (xs : List X) → po
 position-take p zero xs = if_below-none (position p xs)
 position-take p (suc n) [] = refl
 position-take p (suc n) (x ∷ xs) =
-    by_test (p x) _
+    by_case (p x) _
     (λ e. position-yes p x (take n xs) e ∙ sym (ap (if_below (suc n)) (position-yes p x xs e) ∙ ap (λ b. cond b (Some 0) None) (lt-ltb 0 (suc n) (omega arith))))
     (λ e.
     position-no p x (take n xs) e

@@ -13,8 +13,10 @@ use Rattle.ccsl_kernel.specs.Runs.{is_declared}
 use Rattle.ccsl_kernel.proofs.Sets.{ticks_in-with_clock}
 use Rattle.ccsl_session.specs.Asked.{Asked, Fire, Unknown, declared_names, are_clocks, with_found, set_of, asked_with}
 use Rattle.ccsl_session.specs.Reading.{read_clocks}
-use Rattle.ccsl_session.proofs.Found.{by_test, if_below, position-take, found-among, found-within, found-one}
-use Rattle.ccsl_session.proofs.Sets.{with_clock-swap, with_clock-some, list_all-with, with_clock-ascending}
+use Rattle.ccsl_session.proofs.Found.{if_below, position-take, found-among, found-within, found-one}
+use Rattle.ccsl_session.proofs.Sets.{with_clock-swap, with_clock-some}
+use Rattle.ccsl_base.proofs.Sets.{by_case}
+use Rattle.ccsl_state.proofs.Visiting.{all_with, with_ascends}
 
 -- the declared clock of a name, by its number among all clocks
 pub declared-found : (K : System) (name : List ℕ) (o : Option ℕ) → o ≡ find_name name K.names → find_name name (declared_names K) ≡ if_below K.declared o
@@ -64,7 +66,7 @@ module _ (K : System) where
 
       same_number : (y : ℕ) → clock_of other ≡ Some y → nat_eq y x ≡ bytes_eq name other
       same_number y f =
-          by_test (bytes_eq name other) _
+          by_case (bytes_eq name other) _
           (λ t. let one : Some y ≡ Some x = sym f ∙ sym (ap clock_of (bytes_eq-true name other t)) ∙ e in let at : y ≡ x = cc in eq-eqb y x at ∙ sym t)
           (λ t. ne_eqb y x (λ at. true≢false (sym (bytes_eq-refl name other (found-one name other (declared_names K) x e (f ∙ ap (λ k. Some k) at))) ∙ t)) ∙ sym t)
 
@@ -114,7 +116,7 @@ module _ (K : System) where
           (ap (λ (b : Bool). if (are_distinct (name ∷ names) && (b && list_all is_clock names)) && (true && are_new s names) then Some (onto s names) else None) (no-clock name e)
           ∙ ap (λ (b : Bool). if b then Some (onto s names) else None) (shut (is_among name names) (are_distinct names) (list_all is_clock names) (true && are_new s names)))
       on rest (Some x) e =
-          by_test (ticks_in x s) _
+          by_case (ticks_in x s) _
           (λ t.
           ap (λ (b : Bool). if b then None else read_clocks K (with_clock x s) names) t
           ∙ sym
@@ -183,8 +185,8 @@ module _ (K : System) where
   found-declared None s low h = h
   found-declared (Some x) s low h =
       let w = and_parts (is_ascending s) (are_below K.declared s) h in
-      and_from (is_ascending (with_clock x s)) (are_below K.declared (with_clock x s)) (with_clock-ascending x s w.0)
-      (list_all-with (λ y. nat_lt y K.declared) x s (lt-ltb x K.declared (low x refl)) w.1)
+      and_from (is_ascending (with_clock x s)) (are_below K.declared (with_clock x s)) (with_ascends x s w.0)
+      (all_with (λ y. nat_lt y K.declared) x s (lt-ltb x K.declared (low x refl)) w.1)
 
   pub set_of-declared : (names : List (List ℕ)) → is_declared K (set_of K names) ≡ true
   set_of-declared [] = refl

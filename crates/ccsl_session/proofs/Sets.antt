@@ -3,6 +3,7 @@ use Rattle.std.proofs.Common.{◌≡◌, ◌≢◌, ◌⊎◌, inl, inr, ℕ, �
 use Rattle.std.specs.List.{list_all}
 use Rattle.std.proofs.lemmas.Bool.{cases_order, ne_eqb, and_parts, and_from, ltb-true}
 use Rattle.ccsl_base.specs.Clocks.{with_clock, is_ascending}
+use Rattle.ccsl_state.proofs.Visiting.{all_with, with_ascends, all_less}
 
 with-before : (x y : ℕ) (s : List ℕ) → x < y → with_clock x (y ∷ s) ≡ x ∷ (y ∷ s)
 with-before x y s l = ap (λ t. if t then x ∷ (y ∷ s) else if nat_eq x y then y ∷ s else y ∷ with_clock x s) (lt-ltb x y l)
@@ -57,41 +58,5 @@ with_clock-some x (y ∷ s) e =
     (λ o. ⊎_elim
     (λ l. let z : x ∷ (y ∷ s) ≡ [] = sym (with-before x y s l) ∙ e in cc)
     (λ l. let z : y ∷ with_clock x s ≡ [] = sym (with-after x y s l) ∙ e in cc)
-    o)
-    (cases_order x y)
-
--- what holds of each member holds with one more of which it holds
-pub list_all-with : (p : ℕ → Bool) (x : ℕ) (s : List ℕ) → p x ≡ true → list_all p s ≡ true → list_all p (with_clock x s) ≡ true
-list_all-with p x [] h g = and_from (p x) true h refl
-list_all-with p x (y ∷ s) h g =
-    let w = and_parts (p y) (list_all p s) g in
-    ⊎_elim
-    (λ e. ap (list_all p) (with-same x y s e) ∙ g)
-    (λ o. ⊎_elim
-    (λ l. ap (list_all p) (with-before x y s l) ∙ and_from (p x) (list_all p (y ∷ s)) h g)
-    (λ l. ap (list_all p) (with-after x y s l) ∙ and_from (p y) (list_all p (with_clock x s)) w.0 (list_all-with p x s h w.1))
-    o)
-    (cases_order x y)
-
-above : (x y : ℕ) (s : List ℕ) → x < y → list_all (nat_lt y) s ≡ true → list_all (nat_lt x) s ≡ true
-above x y [] l h = refl
-above x y (z ∷ s) l h =
-    let w = and_parts (nat_lt y z) (list_all (nat_lt y) s) h in
-    let over = ltb-true y z w.0 in
-    and_from (nat_lt x z) (list_all (nat_lt x) s) (lt-ltb x z (omega (arith, over))) (above x y s l w.1)
-
-pub with_clock-ascending : (x : ℕ) (s : List ℕ) → is_ascending s ≡ true → is_ascending (with_clock x s) ≡ true
-with_clock-ascending x [] h = refl
-with_clock-ascending x (y ∷ s) h =
-    let w = and_parts (list_all (nat_lt y) s) (is_ascending s) h in
-    ⊎_elim
-    (λ e. ap is_ascending (with-same x y s e) ∙ h)
-    (λ o. ⊎_elim
-    (λ l.
-    ap is_ascending (with-before x y s l)
-    ∙ and_from (list_all (nat_lt x) (y ∷ s)) (is_ascending (y ∷ s)) (and_from (nat_lt x y) (list_all (nat_lt x) s) (lt-ltb x y l) (above x y s l w.0)) h)
-    (λ l.
-    ap is_ascending (with-after x y s l)
-    ∙ and_from (list_all (nat_lt y) (with_clock x s)) (is_ascending (with_clock x s)) (list_all-with (nat_lt y) x s (lt-ltb y x l) w.0) (with_clock-ascending x s w.1))
     o)
     (cases_order x y)

@@ -19,8 +19,8 @@ use Rattle.ccsl_possible.specs.Laws.{UnforbiddenSetsAreAdmissible}
 use Rattle.ccsl_session.specs.Asked.{Asked, Nothing, Fire, Next, Back, Allowed, Trace, Quit, Long, Unknown, tokens, are_clocks, set_of, asked_alone, asked_with, asked_words, asked}
 use Rattle.ccsl_session.specs.Answers.{is_full, fired, next_set, stepped, after}
 use Rattle.ccsl_session.specs.Laws.{IsStack, empty, pushed}
-use Rattle.ccsl_session.proofs.Found.{by_test}
 use Rattle.ccsl_session.proofs.NamedSets.{set_of-declared, set_of-some}
+use Rattle.ccsl_base.proofs.Sets.{by_case}
 
 -- ONE SET MORE
 pub completed-snoc : (K : System) (R : List Step) (s : Step) → completed K (R ++ s ∷ []) ≡ completed K R ++ full_step K (completed K R) s ∷ []
@@ -75,7 +75,7 @@ module _ (K : System) where
 
   with-askable : (word name : List ℕ) (names : List (List ℕ)) → IsAskable K (asked_with K word (name ∷ names))
   with-askable word name names =
-      by_test (bytes_eq word (codes "fire") && are_clocks K (name ∷ names)) _
+      by_case (bytes_eq word (codes "fire") && are_clocks K (name ∷ names)) _
       (λ t.
       subst (λ (b : Bool). IsAskable K (if b then Fire (set_of K (name ∷ names)) else Unknown)) (sym t)
       (set_of-some K name names (and_parts (bytes_eq word (codes "fire")) (are_clocks K (name ∷ names)) t).1, set_of-declared K (name ∷ names)))

@@ -18,8 +18,8 @@ use Rattle.ccsl_lines.specs.Given.{IsPrompt, at_once, late, Gives, Breaks, Follo
 use Rattle.ccsl_lines.specs.Laws.{GivenLinesAreTaken, FewBytesAreRead, SearchEndsNoLine}
 use Rattle.ccsl_session.specs.declared.answer.Ended.{Ended}
 use Rattle.ccsl_session.specs.declared.answer.Ended.TheVariants.{Quit, EndOfInput, TooLong}
-use Rattle.ccsl_session.specs.declared.answer.SessionFault.{SessionFault}
-use Rattle.ccsl_session.specs.declared.answer.SessionFault.TheVariants.{Fault, Memory}
+use Rattle.ccsl_edge.specs.declared.stop.Stop.{Stop}
+use Rattle.ccsl_edge.specs.declared.stop.Stop.TheVariants.{Fault, Memory}
 use Rattle.ccsl_session.specs.declared.asked.Asked.{Asked as Found}
 use Rattle.ccsl_session.specs.declared.world.Heard.TheVariants.{Asks}
 use Rattle.ccsl_session.specs.declared.world.Heard.TheVariants as heard
@@ -30,9 +30,9 @@ use Rattle.ccsl_session.specs.Session.{session_text}
 use Rattle.ccsl_session.specs.Rest.{IsAskedFor}
 use Rattle.ccsl_session.specs.Leaving.{HasEnded, IsCut}
 use Rattle.ccsl_session.specs.Going.{quits_at, Goes, Turns, IsHeard, Hears, NotWritten}
-use Rattle.ccsl_session.proofs.Found.{by_test}
 use Rattle.ccsl_session.proofs.Resting.{asked-none, asked-more, rest-none}
 use Rattle.ccsl_session.proofs.Saying.{says-nothing, counts-same, says-read, says-write, counts-read, counts-write, read-fails, write-fails, reads-only, adds-only}
+use Rattle.ccsl_base.proofs.Sets.{by_case}
 
 nothing-left : (bs rest : List ℕ) → [] ≡ bs ++ rest → rest ≡ []
 nothing-left [] rest e = sym e
@@ -94,7 +94,7 @@ module _ (told : Told) (K : System) (policy : Policy) (seed limit : ℕ) (old : 
   abbrev Ends : State → Ended → Type 0
   Ends now e = HasEnded told K policy seed limit old now e
 
-  abbrev Cut : State → SessionFault → Type 0
+  abbrev Cut : State → Stop → Type 0
   Cut now fault = IsCut told K policy seed limit old now fault
 
   abbrev all_lines : List Line
@@ -164,7 +164,7 @@ module _ (told : Told) (K : System) (policy : Policy) (seed limit : ℕ) (old : 
 
       no-more : h'.ended ≡ true → IsTrue told.left → (later.slot_of Input).left ≡ []
       no-more e t =
-          by_test h.ended _
+          by_case h.ended _
           (λ b. nothing-left gives.bytes (later.slot_of Input).left (sym (g.ended b t) ∙ gives.reads.taken t))
           (λ b. gives.ends e b t)
 
@@ -178,7 +178,7 @@ module _ (told : Told) (K : System) (policy : Policy) (seed limit : ℕ) (old : 
           on : IsPrompt h.pending gives.bytes → IsAskedFor limit (g.bytes ++ gives.bytes)
           on (at_once none) = same none
           on (late before piece all few unended) =
-              by_test h.ended _
+              by_case h.ended _
               (λ b. same (nothing-read gives.bytes (later.slot_of Input).left (sym (g.ended b t) ∙ gives.reads.taken t)))
               (λ b.
               subst (λ bs. IsAskedFor limit (g.bytes ++ bs)) (sym all)
@@ -359,7 +359,7 @@ module _ (told : Told) (K : System) (policy : Policy) (seed limit : ℕ) (old : 
     pub answered : (line : Line) (S : List Step) (end : Option Ended) → GoesTo now h' R (line ∷ []) → Adds told Report (answer K policy seed R (asked K line)) now later →
         S ≡ after K policy seed R (asked K line) → end ≡ (if is_quit (asked K line) then Some Quit else None) → Turns told K policy seed limit old later h' S end
     answered line S end g w sets ends =
-        by_test (is_quit (asked K line)) _
+        by_case (is_quit (asked K line)) _
         (λ quit.
         subst (λ (x : Option Ended). Turns told K policy seed limit old later h' S x) (sym (ends ∙ ap (λ (b : Bool). if b then Some Quit else None) quit))
         (quits-there now h' R line g later w quit))
@@ -367,7 +367,7 @@ module _ (told : Told) (K : System) (policy : Policy) (seed limit : ℕ) (old : 
         subst (λ (x : Option Ended). Turns told K policy seed limit old later h' S x) (sym (ends ∙ ap (λ (b : Bool). if b then Some Quit else None) not_quit))
         (subst (λ T. GoesTo later h' T []) (sym sets) (replies now h' R line g later w not_quit)))
 
-    pub unanswered : (line : Line) (fault : SessionFault) → GoesTo now h' R (line ∷ []) → NotWritten told (answer K policy seed R (asked K line)) now later fault → Cut later fault
+    pub unanswered : (line : Line) (fault : Stop) → GoesTo now h' R (line ∷ []) → NotWritten told (answer K policy seed R (asked K line)) now later fault → Cut later fault
     unanswered line Fault g w = write-cut now h' R line g later w
     unanswered line Memory g e = subst (λ s. Cut s Memory) (sym e) (memory-cut now h' R (line ∷ []) g)
 

@@ -14,8 +14,8 @@ use Rattle.ccsl_lines.specs.Held.{Held, StandsFor}
 use Rattle.ccsl_lines.specs.Given.{Gives}
 use Rattle.ccsl_session.specs.declared.answer.Ended.{Ended}
 use Rattle.ccsl_session.specs.declared.answer.Ended.TheVariants as ended
-use Rattle.ccsl_session.specs.declared.answer.SessionFault.{SessionFault}
-use Rattle.ccsl_session.specs.declared.answer.SessionFault.TheVariants.{Fault, Memory}
+use Rattle.ccsl_edge.specs.declared.stop.Stop.{Stop}
+use Rattle.ccsl_edge.specs.declared.stop.Stop.TheVariants.{Fault, Memory}
 use Rattle.ccsl_session.specs.declared.answers.Session.{Session}
 use Rattle.ccsl_session.specs.declared.world.Heard.{Heard}
 use Rattle.ccsl_session.specs.declared.world.Heard.TheVariants.{Asks, Ends}
@@ -77,9 +77,9 @@ pub record Replies (told : Told) (asked : Asked) (session later : Session) (old 
   pub ends : end ≡ (if is_quit asked then Some ended.Quit else None)
 
 -- a front of it is, or nothing
-abbrev pub NotWritten : Told → List ℕ → State → State → SessionFault → Type 0
+abbrev pub NotWritten : Told → List ℕ → State → State → Stop → Type 0
 NotWritten told text old new Fault = AddsFront told Report text old new
 NotWritten told text old new Memory = new ≡ old
 
-abbrev pub RepliesNot : Told → Asked → Session → State → State → SessionFault → Type 0
+abbrev pub RepliesNot : Told → Asked → Session → State → State → Stop → Type 0
 RepliesNot told asked session = NotWritten told (answer (system_of session) session.policy session.seed (sets_of session) asked)

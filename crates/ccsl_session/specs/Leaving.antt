@@ -6,8 +6,8 @@ use Rattle.ccsl_edge.specs.World.{State, Told, Rose}
 use Rattle.ccsl_kernel.specs.Syntax.{System}
 use Rattle.ccsl_policy.specs.declared.policies.Policy.{Policy}
 use Rattle.ccsl_session.specs.declared.answer.Ended.{Ended}
-use Rattle.ccsl_session.specs.declared.answer.SessionFault.{SessionFault}
-use Rattle.ccsl_session.specs.declared.answer.SessionFault.TheVariants.{Fault, Memory}
+use Rattle.ccsl_edge.specs.declared.stop.Stop.{Stop}
+use Rattle.ccsl_edge.specs.declared.stop.Stop.TheVariants.{Fault, Memory}
 use Rattle.ccsl_session.specs.Session.{session_text, ended_by}
 use Rattle.ccsl_session.specs.Rest.{LeavesRest}
 
@@ -39,12 +39,12 @@ module _ (told : Told) (K : System) (policy : Policy) (seed limit : ℕ) (old ne
     pub input : (old.slot_of Input).faults ≤ (new.slot_of Input).faults
     pub report : (old.slot_of Report).faults ≤ (new.slot_of Report).faults
 
-  abbrev pub IsCause : SessionFault → Type 0
+  abbrev pub IsCause : Stop → Type 0
   IsCause Fault = Fails
   IsCause Memory = SameCounts
 
   -- a front of the answers was written
-  pub record IsCut (fault : SessionFault) : Type 0 where
+  pub record IsCut (fault : Stop) : Type 0 where
     pub text : List ℕ
     pub says : Says text
     pub cause : IsCause fault

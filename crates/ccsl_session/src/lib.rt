@@ -18,7 +18,7 @@ mod token;
 mod trace;
 pub mod world;
 
-pub use answer::{Ended, SessionFault};
+pub use answer::Ended;
 pub use world::session;
 
 /// The most steps of a session's run.

@@ -43,7 +43,7 @@ impl<'s> Stack<'s> {
         ensures sets { IfOk result (λ stack. stack.sets.items ≡ []) }
         ensures stands { IfOk result Stands }
     {
-        system.names();
+        system.is_accepted();
         let states = States::open(alloc, system)?;
         let mut copies = Vec::new(alloc);
         copies.push(states.copy(alloc)?)?;

@@ -15,7 +15,7 @@ pub(crate) fn trace(alloc: Global, system: &System, sets: &[ClockSet]) -> Result
     requires { length sets.now < 2 ^ 64 }
     ensures { IfOk result (λ text. text.items ≡ vcd_text system.now (completed system.now sets.now)) }
 {
-    system.names();
+    system.is_accepted();
     let mut text = header(alloc, system)?;
     let mut states = States::open(alloc, system)?;
     for n in 0..sets.len() {

@@ -11,11 +11,11 @@ ghost use Rattle.ccsl_session.specs.Stack.{Stands};
 ghost use Rattle.ccsl_session.specs.Answering.{system_of, sets_of, SameTask};
 ghost use Rattle.ccsl_session.specs.Going.{Goes, Turns, is_line, Hears, Replies, RepliesNot};
 
-use crate::answer::{Ended, SessionFault};
+use crate::answer::Ended;
 use crate::answers::Session;
 use crate::asked::{Asked, read};
 use crate::laws::lines_leave_stacks;
-use ccsl_edge::{Failed, Slot, World, write_all};
+use ccsl_edge::{Failed, Slot, Stop, World, write_all};
 use ccsl_kernel::System;
 use ccsl_lines::laws::{few_bytes_are_read, given_lines_are_taken, search_ends_no_line};
 use ccsl_lines::{LineReader, Next};
@@ -51,7 +51,7 @@ fn reply<W: World>(
     world: &mut W,
     session: &mut Session<'_>,
     asked: Asked,
-) -> Result<Option<Ended>, SessionFault>
+) -> Result<Option<Ended>, Stop>
     requires stands { Stands session.old.stack }
     requires stack { IsStack (system_of session.old) (sets_of session.old) }
     ensures task { SameTask session.old session.new }
@@ -75,7 +75,7 @@ fn turn<W: World>(
     world: &mut W,
     lines: &mut LineReader,
     session: &mut Session<'_>,
-) -> Result<Option<Ended>, SessionFault>
+) -> Result<Option<Ended>, Stop>
     requires stands { Stands session.old.stack }
     requires stack { IsStack (system_of session.old) (sets_of session.old) }
     ensures task { SameTask session.old session.new }
@@ -107,7 +107,7 @@ fn run<W: World>(
     world: &mut W,
     lines: &mut LineReader,
     session: &mut Session<'_>,
-) -> Result<Ended, SessionFault>
+) -> Result<Ended, Stop>
     requires stands { Stands session.old.stack }
     requires stack { IsStack (system_of session.old) (sets_of session.old) }
     ensures ended { IfOk result (λ ended. (limit : ℕ) →
@@ -138,7 +138,7 @@ pub fn session<W: World>(
     policy: Policy,
     seed: u64,
     limit: u64,
-) -> Result<Ended, SessionFault>
+) -> Result<Ended, Stop>
     ensures ended { IfOk result (λ ended.
         HasEnded W.told system.now policy seed limit (W.state world.old) (W.state world.new) ended) }
     ensures cut { IfErr result (λ fault.

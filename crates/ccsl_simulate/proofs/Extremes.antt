@@ -11,7 +11,7 @@ use Rattle.ccsl_items.specs.Laws.{IsNamedRun}
 use Rattle.ccsl_items.proofs.Solutions.{admissible_solution, solution_full}
 use Rattle.ccsl_policy.specs.declared.policies.Policy.{Policy}
 use Rattle.ccsl_policy.specs.declared.policies.Policy.TheVariants.{Min, Max}
-use Rattle.ccsl_policy.proofs.First.{IsFirst, first-or-same}
+use Rattle.ccsl_policy.proofs.First.{IsFirst, first-or-same, both-ways, from-not}
 use Rattle.ccsl_simulate.specs.Simulation.{words_of_step, simulation}
 use Rattle.ccsl_simulate.specs.Laws.{IsBest, IsSimulation}
 use Rattle.ccsl_simulate.specs.Ends.{IsPart, declared_at, IsMinimalStep, IsMaximalStep}
@@ -22,22 +22,13 @@ use Rattle.ccsl_simulate.proofs.SetsBelow.{IsSetBelow, one_set}
 set-below : (K : System) (T : List Step) (s : Step) → IsAdmissible K T s → IsSetBelow K.declared s
 set-below K T s a = let d = and_parts (is_ascending s) (are_below K.declared s) a.declared in record { ascending = d.0; below = d.1 }
 
-left-out : (a b : Bool) → (a ≡ true → b ≡ true) → a ≡ not b → a ≡ false
-left-out true b h e = let yes : b ≡ true = h refl in let clash : true ≡ false = e ∙ ap not yes in absurd (cc)
-left-out false b h e = refl
-
-let-in : (a b : Bool) → (b ≡ true → a ≡ true) → a ≡ not b → a ≡ true
-let-in true b h e = refl
-let-in false true h e = h refl
-let-in false false h e = e
-
 -- an admissible set that is part of the best one under min is that one, and so is one that it is part of under max
 module _ (K : System) (words : List ℕ) (T : List Step) (r s : Step) (a : IsAdmissible K T r) where
   least-is : IsBest K Min words T s → IsPart r s → r ≡ s
   least-is b h = one_set K.declared r s (set-below K T r a) (set-below K T s b.admissible)
       (⊎_elim
       (λ (f : IsFirst K.declared words (in_set r) (in_set s)).
-      absurd (b.best r a (record { clock = f.clock; declared = f.below; differ = f.differ; preferred = left-out (ticks_in f.clock r) (ticks_in f.clock s) (h f.clock) f.differ; before = f.before })))
+      absurd (b.best r a (record { clock = f.clock; declared = f.below; differ = f.differ; preferred = both-ways (ticks_in f.clock r) (ticks_in f.clock s) (h f.clock) f.differ; before = f.before })))
       (λ same. same)
       (first-or-same K.declared words (in_set r) (in_set s)))
 
@@ -45,7 +36,7 @@ module _ (K : System) (words : List ℕ) (T : List Step) (r s : Step) (a : IsAdm
   most-is b h = one_set K.declared r s (set-below K T r a) (set-below K T s b.admissible)
       (⊎_elim
       (λ (f : IsFirst K.declared words (in_set r) (in_set s)).
-      absurd (b.best r a (record { clock = f.clock; declared = f.below; differ = f.differ; preferred = let-in (ticks_in f.clock r) (ticks_in f.clock s) (h f.clock) f.differ; before = f.before })))
+      absurd (b.best r a (record { clock = f.clock; declared = f.below; differ = f.differ; preferred = from-not (ticks_in f.clock r) (ticks_in f.clock s) (h f.clock) f.differ; before = f.before })))
       (λ same. same)
       (first-or-same K.declared words (in_set r) (in_set s)))
 

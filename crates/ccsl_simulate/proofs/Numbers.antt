@@ -3,6 +3,7 @@ use Rattle.std.proofs.Common.{⊎_elim, ◌≡◌, ℕ, zero, suc, ◌<◌, ◌�
 use Rattle.std.specs.List.{list_all, list_any}
 use Rattle.std.proofs.lemmas.List.Folds.{list_all-append, list_any-append}
 use Rattle.std.proofs.lemmas.Bool.{cases_lt, and_parts, and_from}
+use Rattle.std.proofs.Math.Bool.{or-true}
 use Rattle.ccsl_kernel.specs.Lives.{steps}
 use Rattle.ccsl_kernel.proofs.Steps.{steps-suc}
 
@@ -24,10 +25,6 @@ all_below f (suc n) h =
     all-suc f n
     ∙ and_from (list_all f (steps 0 n)) (f n && true) (all_below f n (λ i l. h i (omega arith))) (and_from (f n) true (h n (omega arith)) refl)
 
-or_true : (b : Bool) → (b || true) ≡ true
-or_true true = refl
-or_true false = refl
-
 any-suc : (f : ℕ → Bool) (n : ℕ) → list_any f (steps 0 (suc n)) ≡ (list_any f (steps 0 n) || (f n || false))
 any-suc f n = ap (list_any f) (steps-suc 0 n (omega arith)) ∙ list_any-append f (steps 0 n) (n ∷ [])
 
@@ -37,7 +34,7 @@ some_below f (suc n) i l h =
     any-suc f n
     ∙ ⊎_elim
     (λ (m : i < n). ap (λ b. b || (f n || false)) (some_below f n i m h))
-    (λ (m : n ≤ i). let at : n ≡ i = omega arith in ap (λ b. list_any f (steps 0 n) || (b || false)) (ap f at ∙ h) ∙ or_true (list_any f (steps 0 n)))
+    (λ (m : n ≤ i). let at : n ≡ i = omega arith in ap (λ b. list_any f (steps 0 n) || (b || false)) (ap f at ∙ h) ∙ or-true (list_any f (steps 0 n)))
     (cases_lt i n)
 
 pub any_below : (f : ℕ → Bool) (n : ℕ) → list_any f (steps 0 n) ≡ true → (i : ℕ) × (i < n) × (f i ≡ true)

@@ -23,8 +23,8 @@ use Rattle.ccsl_items.specs.Formulas.{item_formulas, scope_of}
 use Rattle.ccsl_policy.specs.declared.policies.Policy.{Policy}
 use Rattle.ccsl_policy.specs.Chosen.{IsChosen, IsDeadlock}
 use Rattle.ccsl_policy.specs.Generator as generator
-use Rattle.ccsl_simulate.specs.declared.answer.SimFault.{SimFault}
-use Rattle.ccsl_simulate.specs.declared.answer.SimFault.TheVariants.{Fault, Memory}
+use Rattle.ccsl_edge.specs.declared.stop.Stop.{Stop}
+use Rattle.ccsl_edge.specs.declared.stop.Stop.TheVariants.{Fault, Memory}
 use Rattle.ccsl_simulate.specs.declared.simulator.Turn.TheVariants.{Goes, Ends}
 use Rattle.ccsl_simulate.specs.declared.simulator.Simulator.{Simulator}
 use Rattle.ccsl_simulate.specs.Simulation.{words_of_step, simulation}
@@ -95,7 +95,7 @@ module _ (seed n : ℕ) (old mid : Simulator) (task : SameTask old mid) (kept : 
       pub turn-goes : Adds told TraceOut (step_text n mid.system.now set) t u → TurnDoes told K old.policy seed n t u Goes
       turn-goes w = record { step = set; next = next; adds = subst (λ bs. Adds told TraceOut bs t u) at-mid w }
 
-      pub step-fails : (fault : SimFault) → WriteFails told TraceOut (step_text n mid.system.now set) t u fault → TurnFails told K old.policy seed n t u fault
+      pub step-fails : (fault : Stop) → WriteFails told TraceOut (step_text n mid.system.now set) t u fault → TurnFails told K old.policy seed n t u fault
       step-fails Fault w = inl (record { step = set; next = next; adds = subst (λ bs. AddsFront told TraceOut bs t u) at-mid w })
       step-fails Memory w = w
 
@@ -121,7 +121,7 @@ module _ (seed n : ℕ) (old mid : Simulator) (task : SameTask old mid) (kept : 
         adds = subst (λ bs. Adds told CertOut bs t u) at-lines w;
       }
 
-      pub lines-fail : (fault : SimFault) → WriteFails told CertOut (lines_text mid.system.now.names lines) t u fault → TurnFails told K old.policy seed n t u fault
+      pub lines-fail : (fault : Stop) → WriteFails told CertOut (lines_text mid.system.now.names lines) t u fault → TurnFails told K old.policy seed n t u fault
       lines-fail Fault w = inr (record {
         lines = lines;
         stopped = record { ends = stopped-there K s.accepted old.policy seed n s.steps lines d; certificate = d.certificate };

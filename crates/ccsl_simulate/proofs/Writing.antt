@@ -15,8 +15,8 @@ use Rattle.ccsl_vcd_write.specs.Text.{step_text, steps_text, header_text, vcd_te
 use Rattle.ccsl_vcd_write.proofs.Growing.{trace-snoc}
 use Rattle.ccsl_items.specs.Formulas.{item_formulas, scope_of}
 use Rattle.ccsl_policy.specs.declared.policies.Policy.{Policy}
-use Rattle.ccsl_simulate.specs.declared.answer.SimFault.{SimFault}
-use Rattle.ccsl_simulate.specs.declared.answer.SimFault.TheVariants.{Fault, Memory}
+use Rattle.ccsl_edge.specs.declared.stop.Stop.{Stop}
+use Rattle.ccsl_edge.specs.declared.stop.Stop.TheVariants.{Fault, Memory}
 use Rattle.ccsl_simulate.specs.Simulation.{simulation}
 use Rattle.ccsl_simulate.specs.Outcome.{IsFull, IsBlocked, IsDeadlock, FailsAtCertificate, IsCutShort, IsUndone}
 use Rattle.ccsl_simulate.specs.Going.{IsStopped, WritesStep, FailsAtStep, WritesLines, FailsAtLines, TurnFails}
@@ -134,6 +134,6 @@ module _ (told : Told) (K : System) (policy : Policy) (seed steps : ℕ) (s : St
         }
 
     -- a turn that failed leaves a run undone
-    pub undone-there : (fault : SimFault) → TurnFails told K policy seed n t u fault → IsUndone told K policy seed steps s u fault
+    pub undone-there : (fault : Stop) → TurnFails told K policy seed n t u fault → IsUndone told K policy seed steps s u fault
     undone-there Fault q = fails-there q
     undone-there Memory e = cut-there e

@@ -15,8 +15,8 @@ use Rattle.ccsl_vcd_write.specs.Text.{step_text}
 use Rattle.ccsl_items.specs.Formulas.{item_formulas, scope_of}
 use Rattle.ccsl_policy.specs.declared.policies.Policy.{Policy}
 use Rattle.ccsl_policy.specs.Generator as generator
-use Rattle.ccsl_simulate.specs.declared.answer.SimFault.{SimFault}
-use Rattle.ccsl_simulate.specs.declared.answer.SimFault.TheVariants.{Fault, Memory}
+use Rattle.ccsl_edge.specs.declared.stop.Stop.{Stop}
+use Rattle.ccsl_edge.specs.declared.stop.Stop.TheVariants.{Fault, Memory}
 use Rattle.ccsl_simulate.specs.declared.simulator.Turn.{Turn}
 use Rattle.ccsl_simulate.specs.declared.simulator.Turn.TheVariants.{Goes, Ends}
 use Rattle.ccsl_simulate.specs.declared.simulator.Simulator.{Simulator}
@@ -40,7 +40,7 @@ pub record SameTask (old new : Simulator) : Type 0 where
   pub policy : new.policy ≡ old.policy
 
 -- some bytes were not written: a write failed behind a front of them, or before it memory was wanted
-abbrev pub WriteFails : Told → Slot → List ℕ → State → State → SimFault → Type 0
+abbrev pub WriteFails : Told → Slot → List ℕ → State → State → Stop → Type 0
 WriteFails told slot bytes old new Fault = AddsFront told slot bytes old new
 WriteFails told slot bytes old new Memory = new ≡ old
 
@@ -81,6 +81,6 @@ module _ (told : Told) (K : System) (policy : Policy) (seed n : ℕ) where
     TurnDoes Goes = WritesStep
     TurnDoes Ends = WritesLines
 
-    abbrev pub TurnFails : SimFault → Type 0
+    abbrev pub TurnFails : Stop → Type 0
     TurnFails Fault = FailsAtStep ⊎ FailsAtLines
     TurnFails Memory = new ≡ old

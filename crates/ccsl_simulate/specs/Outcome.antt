@@ -12,8 +12,8 @@ use Rattle.ccsl_items.specs.Formulas.{item_formulas, scope_of}
 use Rattle.ccsl_policy.specs.declared.policies.Policy.{Policy}
 use Rattle.ccsl_simulate.specs.declared.answer.Done.{Done}
 use Rattle.ccsl_simulate.specs.declared.answer.Done.TheVariants.{Full, Deadlock}
-use Rattle.ccsl_simulate.specs.declared.answer.SimFault.{SimFault}
-use Rattle.ccsl_simulate.specs.declared.answer.SimFault.TheVariants.{Fault, Memory}
+use Rattle.ccsl_edge.specs.declared.stop.Stop.{Stop}
+use Rattle.ccsl_edge.specs.declared.stop.Stop.TheVariants.{Fault, Memory}
 use Rattle.ccsl_simulate.specs.Simulation.{simulation}
 
 module _ (told : Told) (K : System) (policy : Policy) (seed steps : ℕ) (old new : State) where
@@ -58,6 +58,6 @@ module _ (told : Told) (K : System) (policy : Policy) (seed steps : ℕ) (old ne
     pub trace : Adds told TraceOut (take count trace_text) old new
 
   -- A fault is a write that failed, of the trace, or behind it of the certificate. Memory is wanted behind a front of the trace.
-  abbrev pub IsUndone : SimFault → Type 0
+  abbrev pub IsUndone : Stop → Type 0
   IsUndone Fault = AddsFront told TraceOut trace_text old new ⊎ FailsAtCertificate
   IsUndone Memory = IsCutShort

@@ -15,5 +15,5 @@ pub mod laws;
 mod simulator;
 pub mod world;
 
-pub use answer::{Done, SimFault};
+pub use answer::Done;
 pub use world::simulate;

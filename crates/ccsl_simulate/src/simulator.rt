@@ -18,9 +18,8 @@ ghost use Rattle.ccsl_simulate.specs.declared.simulator.Turn.TheVariants as turn
 ghost use Rattle.ccsl_simulate.specs.Simulation.{words_of_step};
 ghost use Rattle.ccsl_simulate.specs.Going.{run_of, Stands, SameTask, WriteFails, TurnDoes, TurnFails};
 
-use crate::answer::SimFault;
 use ccsl_base::{ClockSet, Memory, Seq};
-use ccsl_edge::{Slot, World, write_all};
+use ccsl_edge::{Slot, Stop, World, write_all};
 use ccsl_formula::Formula;
 use ccsl_items::put_formulas;
 use ccsl_kernel::System;
@@ -66,7 +65,7 @@ impl<'s> Simulator<'s> {
     {
         let text = header(alloc, system)?;
         let states = States::open(alloc, system)?;
-        system.names();
+        system.is_accepted();
         Ok(Simulator {
             alloc,
             system,
@@ -98,12 +97,7 @@ impl<'s> Simulator<'s> {
     }
 
     // Goes on by a set, and writes it as step number `n`.
-    fn write_step<W: World>(
-        &mut self,
-        world: &mut W,
-        n: u64,
-        set: &ClockSet,
-    ) -> Result<Turn, SimFault>
+    fn write_step<W: World>(&mut self, world: &mut W, n: u64, set: &ClockSet) -> Result<Turn, Stop>
         requires { IsTrue ((W.state world.old).slot_of TraceOut).is_open }
         ensures set { IsTrue (is_ascending set.now) }
         ensures task { SameTask self.old self.new }
@@ -117,7 +111,7 @@ impl<'s> Simulator<'s> {
         ensures fails { IfErr result (λ fault. WriteFails W.told TraceOut (step_text n self.old.system.now set.now)
             (W.state world.old) (W.state world.new) fault) }
     {
-        set.has(0);
+        set.ascends();
         self.states.advance(set);
         self.text.clear();
         step(n, set, self.system, &mut self.text)?;
@@ -126,7 +120,7 @@ impl<'s> Simulator<'s> {
     }
 
     // Writes the lines that show that no step is left.
-    fn write_lines<W: World>(&self, world: &mut W, lines: &Seq<Line>) -> Result<Turn, SimFault>
+    fn write_lines<W: World>(&self, world: &mut W, lines: &Seq<Line>) -> Result<Turn, Stop>
         requires opened { IsTrue ((W.state world.old).slot_of CertOut).is_open }
         requires below { All (λ line. AreBelow (length self.now.system.now.names) (literals line)) lines.now }
         ensures ends { IfOk result (λ turn. turn ≡ turns.Ends) }
@@ -141,7 +135,7 @@ impl<'s> Simulator<'s> {
     }
 
     /// Adds step number `n` and writes it, or writes that there is none.
-    pub(crate) fn turn<W: World>(&mut self, world: &mut W, n: u64) -> Result<Turn, SimFault>
+    pub(crate) fn turn<W: World>(&mut self, world: &mut W, n: u64) -> Result<Turn, Stop>
         requires trace { IsTrue ((W.state world.old).slot_of TraceOut).is_open }
         requires cert { IsTrue ((W.state world.old).slot_of CertOut).is_open }
         requires few { n + 1 < 2 ^ 64 }

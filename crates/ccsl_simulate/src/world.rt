@@ -6,15 +6,15 @@ ghost use Rattle.ccsl_vcd_write.specs.Text.{header_text};
 ghost use Rattle.ccsl_simulate.specs.Going.{Stands};
 ghost use Rattle.ccsl_simulate.specs.Outcome.{IsDone, IsUndone};
 
-use crate::answer::{Done, SimFault};
+use crate::answer::Done;
 use crate::simulator::{Simulator, Turn};
-use ccsl_edge::{Slot, World, write_all};
+use ccsl_edge::{Slot, Stop, World, write_all};
 use ccsl_kernel::System;
 use ccsl_policy::Policy;
 use std::alloc::Global;
 
 // Writes the header, and then step after step.
-fn run<W: World>(world: &mut W, sim: &mut Simulator<'_>, steps: u64) -> Result<Done, SimFault>
+fn run<W: World>(world: &mut W, sim: &mut Simulator<'_>, steps: u64) -> Result<Done, Stop>
     requires trace { IsTrue ((W.state world.old).slot_of TraceOut).is_open }
     requires cert { IsTrue ((W.state world.old).slot_of CertOut).is_open }
     requires header { sim.old.text.items ≡ header_text sim.old.system.now }
@@ -44,7 +44,7 @@ pub fn simulate<W: World>(
     policy: Policy,
     seed: u64,
     steps: u64,
-) -> Result<Done, SimFault>
+) -> Result<Done, Stop>
     requires trace { IsTrue ((W.state world.old).slot_of TraceOut).is_open }
     requires cert { IsTrue ((W.state world.old).slot_of CertOut).is_open }
     ensures done { IfOk result (λ done.

@@ -23,8 +23,9 @@ use Rattle.ccsl_solve.specs.Better.{is_better}
 use Rattle.ccsl_solve.specs.Conflict.{IsClause}
 use Rattle.ccsl_solve.specs.Finds.{AllYes, IsBestModel}
 use Rattle.ccsl_solve.specs.Answers.{IsStep, IsBestStep, IsRefuted}
-use Rattle.ccsl_solve.proofs.Tests.{test_same, known-not_open}
+use Rattle.ccsl_solve.proofs.Tests.{known-not_open}
 use Rattle.ccsl_solve.proofs.Units.{denial-fails}
+use Rattle.ccsl_formula.proofs.Kept.{test_same}
 
 fits-yes : (t : Truth3) → Fits t (is_yes t)
 fits-yes Yes = inr refl

@@ -12,16 +12,17 @@ use Rattle.ccsl_refute.specs.Validity.{are_valid}
 use Rattle.ccsl_refute.specs.Meaning.{Solves}
 use Rattle.ccsl_refute.specs.Below.{AreBelow}
 use Rattle.ccsl_refute.proofs.Sound.{agrees-with, no-closing, valid-clauses, no-refuted as item-refuted}
-use Rattle.ccsl_solve.specs.declared.reason.Reason.{Reason}
-use Rattle.ccsl_solve.specs.declared.reason.Reason.TheVariants.{Item, Clause}
+use Rattle.ccsl_guide.specs.declared.reason.Reason.{Reason}
+use Rattle.ccsl_guide.specs.declared.reason.Reason.TheVariants.{Item, Clause}
 use Rattle.ccsl_solve.specs.Under.{Under, is_yes, filled}
 use Rattle.ccsl_solve.specs.Better.{is_better}
 use Rattle.ccsl_solve.specs.Reasons.{refutes}
 use Rattle.ccsl_solve.specs.Conflict.{IsConflict}
 use Rattle.ccsl_solve.specs.Plan.{AreSettled, IsTry, IsCause}
 use Rattle.ccsl_solve.specs.Finds.{IsBestModel}
-use Rattle.ccsl_solve.proofs.Tests.{test_same, test_other}
+use Rattle.ccsl_solve.proofs.Tests.{test_other}
 use Rattle.ccsl_solve.proofs.Parts.{under-self, under-trans, under-known, under-with}
+use Rattle.ccsl_formula.proofs.Kept.{test_same}
 
 -- sets that are the same at each clock of the wishes
 not-better : (ws : List Lit) (s t : Assignment) → ((i : ℕ) (l : Lit) → slice_get ws i ≡ Some l → s l.clock ≡ t l.clock) → is_better ws s t ≡ false
@@ -91,7 +92,7 @@ pub no-conflict : (scope : Scope) (fs : List Formula) (lines : List Line) (p q :
     IsConflict scope lines p q hints → Agrees t p → Solves scope fs t → ⊥
 no-conflict scope fs lines p q hints t v c a s = no-closing t scope.declared lines p hints (valid-clauses scope fs lines t s v) a (c.closing p c.within (under-self p))
 
-either : (a b : Bool) → (a ≡ b) ⊎ (a ≡ not b)
+pub either : (a b : Bool) → (a ≡ b) ⊎ (a ≡ not b)
 either true true = inl refl
 either true false = inr refl
 either false true = inr refl

@@ -17,11 +17,11 @@ use Rattle.ccsl_solve.specs.Conflict.{IsClause, IsConflict, IsDenial, Extends}
 use Rattle.ccsl_solve.proofs.Units.{denial-fails, fails-under}
 use Rattle.ccsl_solve.proofs.Lines.{line-more, line-last, valid-snoc}
 
-or-left : (a b : Bool) → (a || b) ≡ false → a ≡ false
+pub or-left : (a b : Bool) → (a || b) ≡ false → a ≡ false
 or-left false b e = refl
 or-left true b e = e
 
-or-right : (a b : Bool) → (a || b) ≡ false → b ≡ false
+pub or-right : (a b : Bool) → (a || b) ≡ false → b ≡ false
 or-right false b e = e
 or-right true b e = absurd (cc)
 

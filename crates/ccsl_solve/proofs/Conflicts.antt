@@ -15,11 +15,12 @@ use Rattle.ccsl_refute.specs.Validity.{clause, unit_at, unit_line, closes, is_va
 use Rattle.ccsl_refute.proofs.Closing.{closes-unit}
 use Rattle.ccsl_solve.specs.Under.{Under}
 use Rattle.ccsl_solve.specs.Conflict.{IsClause, IsConflict, IsDenial, Extends}
-use Rattle.ccsl_solve.proofs.Tests.{test_same, test_other, open_or_not, open-test}
+use Rattle.ccsl_solve.proofs.Tests.{test_other, open_or_not, open-test}
 use Rattle.ccsl_solve.proofs.Parts.{under-self, under-trans, under-known, under-with, under-left}
 use Rattle.ccsl_solve.proofs.Units.{unit-of}
 use Rattle.ccsl_solve.proofs.Lines.{closes-more, valid-snoc}
 use Rattle.ccsl_solve.proofs.Clauses.{clause-more, clause-last}
+use Rattle.ccsl_formula.proofs.Kept.{test_same}
 
 pub conflict-more : (scope : Scope) (lines new : List Line) (p q : Part) (hints : List ℕ) → Extends lines new → IsConflict scope lines p q hints → IsConflict scope new p q hints
 conflict-more scope lines new p q hints x c = record {

@@ -1,8 +1,8 @@
 -- The literals that deny the values of clocks.
-use Rattle.std.proofs.Common.{◌≡◌, ℕ, ◌<◌, ◌≤◌, List, [], ◌∷◌, map, Bool, true, false, not, ◌&&◌, ◌||◌, cond, nat_eq, nat_lt, refl, sym, ap, ◌∙◌, arith}
+use Rattle.std.proofs.Common.{◌≡◌, ℕ, ◌<◌, ◌≤◌, List, [], ◌∷◌, map, Bool, true, false, not, ◌&&◌, ◌||◌, cond, nat_eq, nat_lt, refl, sym, ap, ◌∙◌}
 use Rattle.std.proofs.Math.Path.{fun_ext}
 use Rattle.std.specs.List.{list_all}
-use Rattle.std.proofs.lemmas.Bool.{eq-eqb, ne_eqb, lt-ltb, ltb-true, ltb-false, and_parts}
+use Rattle.std.proofs.lemmas.Bool.{eq-eqb, lt-ltb, ltb-true, ltb-false, and_parts, or_right}
 use Rattle.ccsl_base.specs.Clocks.{ticks_in, is_ascending}
 use Rattle.ccsl_formula.specs.Truth.{known_as}
 use Rattle.ccsl_formula.specs.Agreement.{is_open}
@@ -12,6 +12,7 @@ use Rattle.ccsl_refute.specs.Literals.{falsified, names, are_proper}
 use Rattle.ccsl_solve.specs.Under.{IsInside}
 use Rattle.ccsl_solve.specs.Conflict.{IsDenial, denied}
 use Rattle.ccsl_solve.proofs.Tests.{not-not, open-known}
+use Rattle.ccsl_base.proofs.Ascending.{no-member}
 
 -- a clock has a value where it is one of the clocks that have one
 clock-known : (ps : List (ℕ × Bool)) (x : ℕ) → ticks_in x (clocks ps) ≡ not (is_open (known ps x))
@@ -30,17 +31,6 @@ denied-names : (ps : List (ℕ × Bool)) (x : ℕ) → names x (map denied ps) �
 denied-names [] x = refl
 denied-names (p ∷ ps) x = ap (λ t. nat_eq x p.0 || t) (denied-names ps x)
 
-later-absent : (x : ℕ) (ys : List ℕ) → list_all (nat_lt x) ys ≡ true → ticks_in x ys ≡ false
-later-absent x [] a = refl
-later-absent x (y ∷ ys) a =
-    let parts = and_parts (nat_lt x y) (list_all (nat_lt x) ys) a in
-    let less : x < y = ltb-true x y parts.0 in
-    ap (λ t. t || ticks_in x ys) (ne_eqb x y (λ e. omega arith)) ∙ later-absent x ys parts.1
-
-or-second : (a b : Bool) → b ≡ true → (a || b) ≡ true
-or-second true b e = refl
-or-second false b e = e
-
 denied-proper : (n : ℕ) (ps : List (ℕ × Bool)) → is_ascending (clocks ps) ≡ true → ((x : ℕ) → ticks_in x (clocks ps) ≡ true → x < n) →
     are_proper n (map denied ps) ≡ true
 denied-proper n [] a b = refl
@@ -48,8 +38,8 @@ denied-proper n (p ∷ ps) a b =
     let parts = and_parts (list_all (nat_lt p.0) (clocks ps)) (is_ascending (clocks ps)) a in
     ap (λ t. t && (not (names p.0 (map denied ps)) && are_proper n (map denied ps)))
     (lt-ltb p.0 n (b p.0 (ap (λ t. t || ticks_in p.0 (clocks ps)) (eq-eqb p.0 p.0 refl))))
-    ∙ ap (λ t. not t && are_proper n (map denied ps)) (denied-names ps p.0 ∙ later-absent p.0 (clocks ps) parts.0)
-    ∙ denied-proper n ps parts.1 (λ x t. b x (or-second (nat_eq x p.0) (ticks_in x (clocks ps)) t))
+    ∙ ap (λ t. not t && are_proper n (map denied ps)) (denied-names ps p.0 ∙ no-member p.0 (clocks ps) parts.0)
+    ∙ denied-proper n ps parts.1 (λ x t. b x (or_right (nat_eq x p.0) (ticks_in x (clocks ps)) t))
 
 -- the literals that deny the clocks that have a value
 pub denies : (n : ℕ) (ps : List (ℕ × Bool)) (ls : List Lit) → is_ascending (clocks ps) ≡ true → IsInside n (known ps) → ls ≡ map denied ps →

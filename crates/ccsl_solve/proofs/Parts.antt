@@ -7,7 +7,8 @@ use Rattle.ccsl_formula.specs.Truth.{known_as, Part, with_value}
 use Rattle.ccsl_formula.specs.Agreement.{is_open}
 use Rattle.ccsl_formula.specs.Known.{with_truth}
 use Rattle.ccsl_solve.specs.Under.{Under, IsInside, open_count}
-use Rattle.ccsl_solve.proofs.Tests.{test_same, test_other, open-known}
+use Rattle.ccsl_solve.proofs.Tests.{test_other, open-known}
+use Rattle.ccsl_formula.proofs.Kept.{test_same}
 
 pub under-self : (p : Part) → Under p p
 under-self p = record { at = λ x. inr refl }

@@ -10,13 +10,13 @@ use Rattle.ccsl_refute.specs.declared.line.Line.{Line}
 use Rattle.ccsl_solve.specs.declared.conflict.Conflict.{Conflict}
 use Rattle.ccsl_solve.specs.declared.plan.Plan.{Plan}
 use Rattle.ccsl_solve.specs.declared.plan.Plan.TheVariants.{Complete, Try}
-use Rattle.ccsl_solve.specs.declared.reason.Reason.{Reason}
-use Rattle.ccsl_solve.specs.declared.reason.Reason.TheVariants.{Item, Clause}
+use Rattle.ccsl_guide.specs.declared.reason.Reason.{Reason}
+use Rattle.ccsl_guide.specs.declared.reason.Reason.TheVariants.{Item, Clause}
 use Rattle.ccsl_solve.specs.Under.{IsInside, open_count}
 use Rattle.ccsl_solve.specs.Reasons.{refutes}
 use Rattle.ccsl_solve.specs.Conflict.{IsConflict, Extends}
 use Rattle.ccsl_solve.specs.Plan.{IsTry, IsPlan, AreSettled}
-use Rattle.ccsl_solve.specs.Finds.{Finds, IsBestModel}
+use Rattle.ccsl_solve.specs.Finds.{Finds, FindsWith, IsBestModel}
 use Rattle.ccsl_solve.proofs.Best.{settled-with}
 use Rattle.ccsl_solve.proofs.Parts.{undone, fewer-open, inside-with}
 use Rattle.ccsl_solve.proofs.Lines.{fails-extended}
@@ -56,6 +56,19 @@ pub found-conflict : (scope : Scope) (fs : List Formula) (ws : List Lit) (lines 
 found-conflict scope fs ws lines p q m o c s e f =
     let both = subst (λ (k : Option Conflict). Finds scope fs ws lines q m k) e f in
     (both.0, subst (λ (r : Part). IsConflict scope lines r (known c.part.value) (reverse c.hints.items)) s both.1)
+
+-- what a search with a literal as well found
+pub model-with : (scope : Scope) (fs : List Formula) (ws : List Lit) (lines : List Line) (p p1 m : Part) (l : Lit) (o : Option Conflict) → p1 ≡ p → o ≡ None →
+    FindsWith scope fs ws lines p1 l m o → IsBestModel scope fs ws (with_value p l.clock l.positive) m
+model-with scope fs ws lines p p1 m l o s e f =
+    subst (λ (r : Part). IsBestModel scope fs ws (with_value r l.clock l.positive) m) s (subst (λ (k : Option Conflict). FindsWith scope fs ws lines p1 l m k) e f)
+
+pub conflict-with : (scope : Scope) (fs : List Formula) (ws : List Lit) (lines : List Line) (p p1 m : Part) (l : Lit) (o : Option Conflict) (c : Conflict) →
+    p1 ≡ p → o ≡ Some c → FindsWith scope fs ws lines p1 l m o →
+    (m ≡ p) × IsConflict scope lines (with_value p l.clock l.positive) (known c.part.value) (reverse c.hints.items)
+conflict-with scope fs ws lines p p1 m l o c s e f =
+    let both = subst (λ (k : Option Conflict). FindsWith scope fs ws lines p1 l m k) e f in
+    (both.0 ∙ s, subst (λ (r : Part). IsConflict scope lines (with_value r l.clock l.positive) (known c.part.value) (reverse c.hints.items)) s both.1)
 
 -- what is left of a half of the search that found a conflict: the values are as before, and the conflict is with one value more
 pub half : (scope : Scope) (fs : List Formula) (ws : List Lit) (lines : List Line) (p p1 q m r : Part) (x : ℕ) (b : Bool) (o : Option Conflict) (c : Conflict) →

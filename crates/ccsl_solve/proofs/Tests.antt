@@ -1,13 +1,10 @@
 -- What a test of two clocks picks, and whether a truth value is open.
 use Rattle.std.proofs.Common.{◌≡◌, ◌≢◌, ◌⊎◌, ℕ, Bool, true, false, not, cond, nat_eq, refl, ap, inl, inr}
-use Rattle.std.proofs.lemmas.Bool.{eq-eqb, ne_eqb}
+use Rattle.std.proofs.lemmas.Bool.{ne_eqb}
 use Rattle.ccsl_formula.specs.declared.truth3.Truth3.{Truth3}
 use Rattle.ccsl_formula.specs.declared.truth3.Truth3.TheVariants.{Yes, No, Open}
 use Rattle.ccsl_formula.specs.Truth.{known_as}
 use Rattle.ccsl_formula.specs.Agreement.{is_open}
-
-pub test_same : {A : Type 0} (x y : ℕ) (a b : A) → x ≡ y → cond (nat_eq x y) a b ≡ a
-test_same x y a b e = ap (λ t. cond t a b) (eq-eqb x y e)
 
 pub test_other : {A : Type 0} (x y : ℕ) (a b : A) → (x ≡ y → ⊥) → cond (nat_eq x y) a b ≡ b
 test_other x y a b n = ap (λ t. cond t a b) (ne_eqb x y n)

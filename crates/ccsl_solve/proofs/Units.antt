@@ -1,6 +1,6 @@
 -- What a clause gives under a partial assignment.
 use Rattle.std.proofs.Common.{◌≡◌, ◌≢◌, ℕ, List, [], ◌∷◌, Bool, true, false, not, ◌&&◌, cond, Some, None, nat_lt, refl, sym, ap, ap₂, ◌∙◌, ⊎_elim, inl, inr}
-use Rattle.std.proofs.lemmas.Bool.{cases_eq, and_parts}
+use Rattle.std.proofs.lemmas.Bool.{cases_eq, and_parts, not-true}
 use Rattle.ccsl_formula.specs.declared.truth3.Truth3.{Truth3}
 use Rattle.ccsl_formula.specs.declared.truth3.Truth3.TheVariants.{Yes, No, Open}
 use Rattle.ccsl_formula.specs.Truth.{known_as, not3, Part}
@@ -10,8 +10,9 @@ use Rattle.ccsl_refute.specs.Literals.{falsified, is_no, lit_value, all_false, u
 use Rattle.ccsl_refute.proofs.Proper.{named-known}
 use Rattle.ccsl_refute.proofs.Sound.{is-no}
 use Rattle.ccsl_solve.specs.Under.{Under}
-use Rattle.ccsl_solve.proofs.Tests.{test_same, test_other, known-not_open}
+use Rattle.ccsl_solve.proofs.Tests.{test_other, known-not_open}
 use Rattle.ccsl_solve.proofs.Parts.{under-known}
+use Rattle.ccsl_formula.proofs.Kept.{test_same}
 
 -- a literal whose clock has the value that makes it false
 lit-no : (r : Part) (l : Lit) → r l.clock ≡ known_as (not l.positive) → lit_value r l ≡ No
@@ -26,10 +27,6 @@ falsified-here l ls = test_same l.clock l.clock (known_as (not l.positive)) (fal
 
 falsified-there : (l : Lit) (ls : List Lit) (y : ℕ) → (y ≡ l.clock → ⊥) → falsified (l ∷ ls) y ≡ falsified ls y
 falsified-there l ls y n = test_other y l.clock (known_as (not l.positive)) (falsified ls y) n
-
-not-true : (b : Bool) → not b ≡ true → b ≡ false
-not-true true e = sym e
-not-true false e = refl
 
 head-fresh : (n : ℕ) (l : Lit) (ls : List Lit) → are_proper n (l ∷ ls) ≡ true → names l.clock ls ≡ false
 head-fresh n l ls a = not-true (names l.clock ls) (and_parts _ _ (and_parts (nat_lt l.clock n) _ a).1).0

@@ -2,7 +2,7 @@
 use Rattle.std.specs.Prelude.{ℕ, List, [], ◌∷◌, reverse, false, ◌≡◌, ◌<◌, Option, Some, None}
 use Rattle.ccsl_formula.specs.declared.scope.Scope.{Scope}
 use Rattle.ccsl_formula.specs.declared.truth3.Truth3.TheVariants.{Yes}
-use Rattle.ccsl_formula.specs.Truth.{Part, Assignment}
+use Rattle.ccsl_formula.specs.Truth.{Part, Assignment, with_value}
 use Rattle.ccsl_formula.specs.Agreement.{Agrees}
 use Rattle.ccsl_formula.specs.Known.{known}
 use Rattle.ccsl_formula.specs.Formula.{Formula, kleene}
@@ -30,3 +30,9 @@ pub record IsBestModel (scope : Scope) (formulas : List Formula) (wishes : List 
 abbrev pub Finds : Scope → List Formula → List Lit → List Line → Part → Part → Option Conflict → Type 0
 Finds scope formulas wishes lines p m None = IsBestModel scope formulas wishes p m
 Finds scope formulas wishes lines p m (Some c) = (m ≡ p) × IsConflict scope lines p (known c.part.value) (reverse c.hints.items)
+
+-- the same of a search with a literal that is true as well
+abbrev pub FindsWith : Scope → List Formula → List Lit → List Line → Part → Lit → Part → Option Conflict → Type 0
+FindsWith scope formulas wishes lines p l m None = IsBestModel scope formulas wishes (with_value p l.clock l.positive) m
+FindsWith scope formulas wishes lines p l m (Some c) =
+    (m ≡ p) × IsConflict scope lines (with_value p l.clock l.positive) (known c.part.value) (reverse c.hints.items)

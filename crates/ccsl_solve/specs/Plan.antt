@@ -6,7 +6,7 @@ use Rattle.ccsl_formula.specs.Truth.{Part, with_value}
 use Rattle.ccsl_formula.specs.Formula.{Formula}
 use Rattle.ccsl_refute.specs.declared.line.Lit.{Lit}
 use Rattle.ccsl_refute.specs.declared.line.Line.{Line}
-use Rattle.ccsl_solve.specs.declared.reason.Reason.{Reason}
+use Rattle.ccsl_guide.specs.declared.reason.Reason.{Reason}
 use Rattle.ccsl_solve.specs.declared.plan.Plan.{Plan}
 use Rattle.ccsl_solve.specs.declared.plan.Plan.TheVariants.{Broken, Complete, Try}
 use Rattle.ccsl_solve.specs.Reasons.{refutes}

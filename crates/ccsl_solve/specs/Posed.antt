@@ -8,7 +8,7 @@ use Rattle.ccsl_refute.specs.declared.line.Line.{Line}
 use Rattle.ccsl_refute.specs.Literals.{positives}
 use Rattle.ccsl_refute.specs.Validity.{are_valid}
 use Rattle.ccsl_refute.specs.Below.{AreBelow}
-use Rattle.ccsl_solve.specs.declared.problem.Problem.{Problem}
+use Rattle.ccsl_guide.specs.declared.problem.Problem.{Problem}
 
 -- each variable of each formula is below n
 abbrev pub AllBelow : ℕ → List Formula → Type 0

@@ -5,8 +5,8 @@ use Rattle.ccsl_formula.specs.Truth.{Part}
 use Rattle.ccsl_formula.specs.Formula.{Formula}
 use Rattle.ccsl_refute.specs.declared.line.Line.{Line}
 use Rattle.ccsl_refute.specs.Validity.{fails_at, is_refuted}
-use Rattle.ccsl_solve.specs.declared.reason.Reason.{Reason}
-use Rattle.ccsl_solve.specs.declared.reason.Reason.TheVariants.{Item, Clause}
+use Rattle.ccsl_guide.specs.declared.reason.Reason.{Reason}
+use Rattle.ccsl_guide.specs.declared.reason.Reason.TheVariants.{Item, Clause}
 
 -- whether the reason refutes the values
 abbrev pub refutes : Scope → List Formula → List Line → Part → Reason → Bool

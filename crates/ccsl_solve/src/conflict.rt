@@ -9,9 +9,9 @@ ghost use Rattle.ccsl_solve.specs.Under.{Under, IsInside};
 ghost use Rattle.ccsl_solve.specs.Conflict.{IsClause, IsConflict, IsDenial, Extends};
 ghost use Rattle.ccsl_solve.specs.Posed.{AreValid};
 
-use crate::problem::Problem;
 use ccsl_base::{Memory, Seq};
 use ccsl_formula::Partial;
+use ccsl_guide::Problem;
 use ccsl_refute::{Line, Lit};
 use std::alloc::Global;
 

@@ -7,9 +7,9 @@ ghost use Rattle.ccsl_formula.specs.Known.{known};
 ghost use Rattle.ccsl_formula.specs.Plain.{plain};
 ghost use Rattle.ccsl_solve.specs.Under.{Under};
 
-use crate::values::{Operands, valued};
 use ccsl_base::Memory;
 use ccsl_formula::{Formula, Partial, Truth3};
+use ccsl_guide::{Operands, valued};
 
 /// Values of `part` that alone refute a formula which `part` refutes.
 pub fn explained(

@@ -6,22 +6,15 @@
 //!         Answer::Refuted(lines) => ..,      // each follows from the formulas and those before it
 //!     }
 //!
-//! The guide, which says where to look next, has no contract: what it proposes is tested before it counts.
+//! Where to look next says ccsl_guide, which has no contract: what it proposes is tested before it counts.
 //! `docs/SOLVER.md` says how it works.
 #![tactic(auto)]
 
 pub mod conflict;
 pub mod explain;
-pub mod guide;
-pub mod look;
-pub mod order;
 pub mod plan;
-pub mod problem;
-pub mod readers;
 pub mod reason;
 pub mod search;
 pub mod solver;
-pub mod values;
-pub mod watches;
 
 pub use solver::{Answer, solve, solve_by};

@@ -11,11 +11,10 @@ ghost use Rattle.ccsl_refute.specs.declared.line.Lit.{Lit};
 ghost use Rattle.ccsl_solve.specs.Reasons.{refutes};
 ghost use Rattle.ccsl_solve.specs.Plan.{AreSettled, IsPlan};
 
-use crate::guide::{Guide, Hint};
-use crate::problem::Problem;
-use crate::reason::{Reason, refutes};
+use crate::reason::refutes;
 use ccsl_base::Memory;
 use ccsl_formula::{Partial, Truth3};
+use ccsl_guide::{Guide, Hint, Problem, Reason};
 use ccsl_refute::{Line, Lit};
 
 /// The next step of a search.

@@ -1,4 +1,4 @@
-//! What refutes some values by itself, and the line that says so.
+//! Whether a reason refutes some values, and the line that says so.
 
 ghost use Rattle.std.specs.Prelude.{◌≡◌, true, IfOk, OnOk, slice_get};
 ghost use Rattle.ccsl_formula.specs.Known.{known};
@@ -10,21 +10,12 @@ ghost use Rattle.ccsl_solve.specs.Conflict.{IsClause, Extends};
 
 use crate::conflict::{Clash, denial};
 use crate::explain::explained;
-use crate::guide::Guide;
-use crate::problem::Problem;
-use crate::values::Operands;
 use ccsl_base::{Memory, Seq};
 use ccsl_formula::Partial;
+use ccsl_guide::{Guide, Operands, Problem, Reason};
 use ccsl_refute::Line;
 use ccsl_refute::checker::{assumed, fails_at, is_refuted};
 use ccsl_refute::clause::clause_of;
-
-/// What may refute some values: the formula of an item, from 0, or the clause of a line, from 1.
-#[derive(Clone, Copy)]
-pub enum Reason {
-    Item(u32),
-    Clause(u64),
-}
 
 /// Whether the reason refutes the values.
 pub fn refutes(problem: &Problem, lines: &[Line], part: &Partial, reason: Reason) -> bool

@@ -13,15 +13,14 @@ ghost use Rattle.ccsl_solve.specs.Posed.{IsPosed, AreValid, asked};
 ghost use Rattle.ccsl_solve.specs.Reasons.{refutes};
 ghost use Rattle.ccsl_solve.specs.Conflict.{IsConflict, Extends};
 ghost use Rattle.ccsl_solve.specs.Plan.{AreSettled};
-ghost use Rattle.ccsl_solve.specs.Finds.{Finds};
+ghost use Rattle.ccsl_solve.specs.Finds.{Finds, FindsWith};
 
 use crate::conflict::{Clash, Conflict, learned, resolved};
-use crate::guide::Guide;
 use crate::plan::{Plan, is_open_at, planned};
-use crate::problem::Problem;
-use crate::reason::{Reason, clash};
+use crate::reason::clash;
 use ccsl_base::Memory;
 use ccsl_formula::{Formula, Partial};
+use ccsl_guide::{Guide, Problem, Reason};
 use ccsl_refute::checker::is_refuted;
 use ccsl_refute::clause::all_false;
 use ccsl_refute::{Line, Lit};
@@ -167,8 +166,78 @@ fn against(
     Ok(conflict)
 }
 
+/// Searches where a literal is true as well: gives the other clocks values that are best with it, or gives the conflict, and `part` is
+/// as before.
+#[cycle(search)]
+fn search_with(
+    problem: &Problem,
+    lines: &mut Vec<Line>,
+    guide: &mut Guide,
+    part: &mut Partial,
+    lit: Lit,
+    from: usize,
+) -> Result<Option<Conflict>, Memory>
+    requires posed { IsPosed problem.now }
+    requires valid { AreValid problem.now lines.old.items }
+    requires inside { IsInside problem.now.scope.named (known part.old) }
+    requires settled { AreSettled problem.now.wishes.now from (known part.old) }
+    requires named { lit.clock < problem.now.scope.named }
+    requires free { known part.old lit.clock ≡ Open }
+    ensures valid { OnOk result (AreValid problem.now lines.new.items) }
+    ensures extends { OnOk result (Extends lines.old.items lines.new.items) }
+    ensures finds { IfOk result (λ found. FindsWith problem.now.scope (asked problem.now) problem.now.wishes.now lines.new.items (known part.old) lit (known part.new) found) }
+{
+    part.set(lit.clock, lit.positive);
+    let Some(conflict) = search(problem, lines, guide, part, from)? else {
+        return Ok(None);
+    };
+    part.forget(lit.clock);
+    Ok(Some(conflict))
+}
+
+/// Searches with the negation of a literal, behind the conflict with it that uses its clock: what is learned of it is a line.
+#[cycle(search)]
+fn search_against(
+    problem: &Problem,
+    lines: &mut Vec<Line>,
+    guide: &mut Guide,
+    part: &mut Partial,
+    lit: Lit,
+    from: usize,
+    first: Conflict,
+) -> Result<Option<Conflict>, Memory>
+    requires posed { IsPosed problem.now }
+    requires valid { AreValid problem.now lines.old.items }
+    requires inside { IsInside problem.now.scope.named (known part.old) }
+    requires settled { AreSettled problem.now.wishes.now from (known part.old) }
+    requires named { lit.clock < problem.now.scope.named }
+    requires free { known part.old lit.clock ≡ Open }
+    requires conflict { IsConflict problem.now.scope lines.old.items (with_value (known part.old) lit.clock lit.positive) (known first.part.value) (reverse first.hints.items) }
+    requires has { known first.part.value lit.clock ≢ Open }
+    ensures valid { OnOk result (AreValid problem.now lines.new.items) }
+    ensures extends { OnOk result (Extends lines.old.items lines.new.items) }
+    ensures finds { IfOk result (λ found. Finds problem.now.scope (asked problem.now) problem.now.wishes.now lines.new.items (known part.old) (known part.new) found) }
+{
+    let other = Lit {
+        clock: lit.clock,
+        positive: !lit.positive,
+    };
+    let line = learned(problem, lines, &first)?;
+    guide.flipped(problem, lines, part, lit, line)?;
+    let Some(second) = search_with(problem, lines, guide, part, other, from)? else {
+        return Ok(None);
+    };
+    if is_free_of(&second.part, lit.clock) {
+        return Ok(Some(second));
+    }
+    let clash = first.into_clash(line);
+    let conflict = resolved(problem, lines, part, lit, clash, second)?;
+    Ok(Some(conflict))
+}
+
 /// Gives all clocks values, those that `part` has among them, so that a declared clock ticks and all formulas are true,
 /// and no other values that do so are better; or gives the conflict, and `part` is as before.
+#[cycle(search)]
 pub fn search(
     problem: &Problem,
     lines: &mut Vec<Line>,
@@ -193,11 +262,9 @@ pub fn search(
         Plan::Try(lit, by, from) => (lit, by, from),
     };
     guide.assigned(lit)?;
-    part.set(lit.clock, lit.positive);
-    let Some(first) = search(problem, lines, guide, part, from)? else {
+    let Some(first) = search_with(problem, lines, guide, part, lit, from)? else {
         return Ok(None);
     };
-    part.forget(lit.clock);
     if is_free_of(&first.part, lit.clock) {
         return Ok(Some(first));
     }
@@ -205,17 +272,5 @@ pub fn search(
         let conflict = against(problem, lines, guide, part, lit, reason, first)?;
         return Ok(Some(conflict));
     }
-    let line = learned(problem, lines, &first)?;
-    guide.flipped(problem, lines, part, lit, line)?;
-    part.set(lit.clock, !lit.positive);
-    let Some(second) = search(problem, lines, guide, part, from)? else {
-        return Ok(None);
-    };
-    part.forget(lit.clock);
-    if is_free_of(&second.part, lit.clock) {
-        return Ok(Some(second));
-    }
-    let clash = first.into_clash(line);
-    let conflict = resolved(problem, lines, part, lit, clash, second)?;
-    Ok(Some(conflict))
+    search_against(problem, lines, guide, part, lit, from, first)
 }

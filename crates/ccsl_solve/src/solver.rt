@@ -14,11 +14,10 @@ ghost use Rattle.ccsl_solve.specs.Finds.{Finds};
 ghost use Rattle.ccsl_solve.specs.Answers.{Answers, AnswersBest, IsRefuted};
 
 use crate::conflict::{Conflict, derived};
-use crate::guide::Guide;
-use crate::problem::Problem;
 use crate::search::search;
 use ccsl_base::{ClockSet, MAX_CLOCKS, Memory, Seq};
 use ccsl_formula::{Formula, Partial, Scope, Truth3};
+use ccsl_guide::{Guide, Problem};
 use ccsl_refute::clause::positives;
 use ccsl_refute::{Line, Lit};
 use std::alloc::Global;

@@ -3,7 +3,8 @@ use Rattle.std.proofs.Common.{◌≡◌, ℕ, zero, suc, ◌+◌, ◌<◌, ◌�
 use Rattle.std.specs.Prelude.{MatchOption, IfSome}
 use Rattle.std.specs.List.{list_any, list_all}
 use Rattle.std.proofs.lemmas.List.{length-set, get_or_default, get_or-set_same, get_or-set_other}
-use Rattle.std.proofs.lemmas.Bool.{cases_eq, cases_lt, ne_eqb, and_parts, or_cases}
+use Rattle.std.proofs.lemmas.Bool.{cases_eq, cases_lt, ne_eqb, and_parts, or_cases, or_left, or_right}
+use Rattle.std.proofs.Math.Bool.{or_assoc}
 use Rattle.ccsl_base.specs.Clocks.{ticks_in, with_clock, is_ascending}
 use Rattle.ccsl_base.specs.Changes.{put_clock}
 use Rattle.ccsl_base.proofs.Ascending.{above}
@@ -20,7 +21,6 @@ use Rattle.ccsl_state.specs.declared.follow.Passage.{Passage}
 use Rattle.ccsl_state.specs.States.{put}
 use Rattle.ccsl_state.specs.Regions.{trees_from}
 use Rattle.ccsl_state.specs.Visits.{IsVisited, IsEntered, is_waiting}
-use Rattle.ccsl_state.proofs.WithinLaws.{or_left, or_right}
 use Rattle.ccsl_state.proofs.Visiting.{IsVisit}
 
 -- THE FIRST MEMBER of an ascending list is the least
@@ -108,15 +108,11 @@ module _ (sets : List (List ℕ)) (unsettled : List ℕ) (s : Step) (waiting : L
 abbrev pub IsHearing : List (List ℕ) → List ℕ → Step → List ℕ → List ℕ → Type 0
 IsHearing sets unsettled s left waiting = (p : ℕ) → (ticks_in p waiting || list_any (λ y. ticks_in p (slice_index_or sets y [])) left) ≡ is_waiting sets unsettled s p
 
-or_move : (a b c : Bool) → ((a || b) || c) ≡ (a || (b || c))
-or_move true b c = refl
-or_move false b c = refl
-
 pub hear_more : (sets : List (List ℕ)) (unsettled : List ℕ) (s : Step) (y : ℕ) (left waiting waiting' : List ℕ) → IsHearing sets unsettled s (y ∷ left) waiting →
     ((p : ℕ) → ticks_in p waiting' ≡ (ticks_in p waiting || ticks_in p (slice_index_or sets y []))) → IsHearing sets unsettled s left waiting'
 hear_more sets unsettled s y left waiting waiting' h more p =
     ap (λ t. t || list_any (λ y. ticks_in p (slice_index_or sets y [])) left) (more p)
-    ∙ or_move (ticks_in p waiting) (ticks_in p (slice_index_or sets y [])) (list_any (λ y. ticks_in p (slice_index_or sets y [])) left)
+    ∙ or_assoc (ticks_in p waiting) (ticks_in p (slice_index_or sets y [])) (list_any (λ y. ticks_in p (slice_index_or sets y [])) left)
     ∙ h p
 
 pub hear_all : (sets : List (List ℕ)) (unsettled : List ℕ) (s : Step) (waiting : List ℕ) → IsHearing sets unsettled s [] waiting → (p : ℕ) → ticks_in p waiting ≡ is_waiting sets unsettled s p

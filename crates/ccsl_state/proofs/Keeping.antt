@@ -1,6 +1,7 @@
 -- What a node keeps is what its row counts over all ticks, in fewer steps than a count can hold.
 use Rattle.std.proofs.Common.{◌≡◌, ℕ, zero, suc, ◌+◌, ◌-◌, ◌<◌, ◌≤◌, List, [], ◌∷◌, ◌++◌, map, length, get_or, le-ltb, lt-ltb, eq-eqb, ⊎_elim, Bool, true, false, not, ◌&&◌, ◌||◌, refl, sym, ap, ap₂, ◌∙◌, arith, nat_lt, nat_eq, nat_le, le-leb, zero-add, replicate, if◌then◌else◌}
 use Rattle.std.proofs.lemmas.Bool.{cases_lt, cases_eq, ne_eqb}
+use Rattle.std.proofs.Math.Bool.{or_assoc, or-false}
 use Rattle.ccsl_formula.specs.Formula.{Formula, FFalse}
 use Rattle.ccsl_words.specs.Word.{BinaryWord, letter, rest, is_finite}
 use Rattle.ccsl_words.proofs.Letters.{letter-rest, rest_at_end, rest_before_end}
@@ -157,20 +158,16 @@ trailing a d t u (i ∷ is) h k =
 pub sup_is : IsTwo (Trailing 0 0) sup_row
 sup_is = record { at = λ t u is f g x y h. ap (λ o. record { formula = two_formula o f g; dead = two_dead o x y }) (trailing 0 0 t u is (omega (arith, h)) (omega (arith, h)) ∙ ap₂ Trailing (zero-add (count (map t is))) (zero-add (count (map u is)))) }
 
-or_or : (x y z : Bool) → ((x || y) || z) ≡ (x || (y || z))
-or_or true y z = refl
-or_or false y z = refl
-
 pub ending : (s : Bool) (t u : ℕ → Bool) (is : List ℕ) → two_after (Ending s) t u is ≡ Ending (s || ever (map u is))
 ending s t u [] = ap Ending (elim s as (λ s. s ≡ (s || false)) [ true ↦ refl | false ↦ refl ])
-ending s t u (i ∷ is) = ending (s || u i) t u is ∙ ap Ending (or_or s (u i) (ever (map u is)))
+ending s t u (i ∷ is) = ending (s || u i) t u is ∙ ap Ending (or_assoc s (u i) (ever (map u is)))
 
 pub upto_is : IsTwo (Ending false) upto_row
 upto_is = record { at = λ t u is f g x y h. ap (λ o. record { formula = two_formula o f g; dead = two_dead o x y }) (ending false t u is) }
 
 pub ending_weakly : (s : Bool) (t u : ℕ → Bool) (is : List ℕ) → two_after (EndingWeakly s) t u is ≡ EndingWeakly (s || ever (map u is))
 ending_weakly s t u [] = ap EndingWeakly (elim s as (λ s. s ≡ (s || false)) [ true ↦ refl | false ↦ refl ])
-ending_weakly s t u (i ∷ is) = ending_weakly (s || u i) t u is ∙ ap EndingWeakly (or_or s (u i) (ever (map u is)))
+ending_weakly s t u (i ∷ is) = ending_weakly (s || u i) t u is ∙ ap EndingWeakly (or_assoc s (u i) (ever (map u is)))
 
 pub upto_weakly_is : IsTwo (EndingWeakly false) upto_weakly_row
 upto_weakly_is = record { at = λ t u is f g x y h. ap (λ o. record { formula = two_formula o f g; dead = two_dead o x y }) (ending_weakly false t u is) }
@@ -328,10 +325,6 @@ any_below-waits m t u (i ∷ is) =
     any_below-or m (λ j. t i && nat_eq (count (map u is)) j) (λ j. waits_since j (map t is) (map u is))
     ∙ ap₂ (λ x y. x || y) (any_below-one m (count (map u is)) (t i)) (any_below-waits m t u is)
 
-or_none : (x : Bool) → (x || false) ≡ x
-or_none true = refl
-or_none false = refl
-
 pub delayed_is : (m : ℕ) → 1 ≤ m → IsTwo (Lagging m (replicate m false)) (delayed_row m)
 delayed_is m pos = record {
   at = λ t u is f g x y h.
@@ -340,7 +333,7 @@ delayed_is m pos = record {
       let mark : (j : ℕ) → j < m → get_or q j false ≡ waits_since j (map t is) (map u is) = λ j l.
       get_marks (replicate m false) t u is j (omega (arith, length-falses m))
       ∙ ap (λ z. waits_since j (map t is) (map u is) || z) (none_set (count (map u is)) m j)
-      ∙ or_none (waits_since j (map t is) (map u is)) in
+      ∙ or-false (waits_since j (map t is) (map u is)) in
       ap (λ o. record { formula = two_formula o f g; dead = two_dead o x y }) (lagging m (replicate m false) t u is)
       ∙ ap₂ (λ (l e : Bool). record { formula = if l then g else FFalse; dead = y || (x && not e) }) (mark (m - 1) (omega (arith, pos)))
       (any_below-set q (λ j. waits_since j (map t is) (map u is)) (λ j l. mark j (omega (arith, len))) ∙ ap (λ k. any_below k (λ j. waits_since j (map t is) (map u is))) len ∙ any_below-waits m t u is);

@@ -1,6 +1,6 @@
 -- What has gone on by its own ticks has gone on by the full step: by induction over the clocks, since a definition reads lower ones.
 use Rattle.std.proofs.Common.{◌≡◌, ℕ, zero, suc, ◌+◌, ◌-◌, ◌<◌, ◌≤◌, ◌^◌, ⊎_elim, List, [], ◌∷◌, ◌++◌, length, filter, Bool, true, false, ◌&&◌, ◌||◌, Option, Some, None, slice_get, nat_eq, nat_lt, if◌then◌else◌, refl, sym, ap, ap₂, subst, ◌∙◌, arith, length-append, lt-ltb, eq-eqb}
-use Rattle.std.proofs.lemmas.Bool.{cases_lt, cases_eq, ne_eqb, and_parts, and_from, or_cases, ltb-true}
+use Rattle.std.proofs.lemmas.Bool.{cases_lt, cases_eq, ne_eqb, and_parts, and_from, or_cases, ltb-true, or_left, or_right}
 use Rattle.std.proofs.lemmas.Option.{get_or_from_slice_get}
 use Rattle.ccsl_base.specs.Clocks.{ticks_in, is_ascending, are_below}
 use Rattle.ccsl_base.proofs.Ascending.{part-ascends, same-members}
@@ -24,7 +24,7 @@ use Rattle.ccsl_state.specs.Reach.{IsClosed, is_within}
 use Rattle.ccsl_state.specs.Quiet.{named_by, reads}
 use Rattle.ccsl_state.specs.Part.{HeldPart, followed_tree, part_of, PartStandsFor}
 use Rattle.ccsl_state.specs.Passing.{tree_number, IsFollowed, IsPassed, AreKept}
-use Rattle.ccsl_state.proofs.WithinLaws.{or_left, or_right, tick_same, dead_same, next_same}
+use Rattle.ccsl_state.proofs.WithinLaws.{tick_same, dead_same, next_same}
 use Rattle.ccsl_state.proofs.StateLaws.{states_opened, tree_step, length-step, tree_dead, states_mean, states_derive}
 use Rattle.ccsl_state.proofs.WholeLaws.{derived-keeps}
 use Rattle.ccsl_state.proofs.QuietLaws.{bodies_closed, opening_reads}

@@ -1,6 +1,7 @@
 -- A tree that hears nothing tells nothing and stays, for each operator.
 use Rattle.std.proofs.Common.{◌≡◌, ℕ, ◌+◌, ◌-◌, List, [], ◌∷◌, length, Bool, true, false, not, ◌&&◌, ◌||◌, Some, slice_get, slice_index_or, nat_eq, nat_le, nat_lt, if◌then◌else◌, refl, sym, ap, ap₂, ◌∙◌}
-use Rattle.std.proofs.lemmas.Bool.{and_parts, and_from}
+use Rattle.std.proofs.lemmas.Bool.{and_parts, and_from, not-true}
+use Rattle.std.proofs.Math.Bool.{and-false, or-false, and-true}
 use Rattle.ccsl_formula.specs.Formula.{eval}
 use Rattle.ccsl_words.specs.Word.{letter}
 use Rattle.ccsl_kernel.specs.declared.expr.Place.{Place}
@@ -26,22 +27,10 @@ both : (c : Bool) → (if c then false else false) ≡ false
 both true = refl
 both false = refl
 
-neither : (c : Bool) → (c && false) ≡ false
-neither true = refl
-neither false = refl
-
-or_none : (c : Bool) → (c || false) ≡ c
-or_none true = refl
-or_none false = refl
-
-and_all : (c : Bool) → (c && true) ≡ c
-and_all true = refl
-and_all false = refl
-
 one_silent : (o : One) → one_ticks o false ≡ false
-one_silent (Delaying m ticks) = neither (nat_le m ticks)
-one_silent (Awaiting m ticks) = neither (nat_eq (ticks + 1) m)
-one_silent (Filtering w o) = neither (letter w o)
+one_silent (Delaying m ticks) = and-false (nat_le m ticks)
+one_silent (Awaiting m ticks) = and-false (nat_eq (ticks + 1) m)
+one_silent (Filtering w o) = and-false (letter w o)
 
 three : (c d : Bool) → (if c then false else if d then false else false) ≡ false
 three true d = refl
@@ -74,10 +63,10 @@ two_still Meeting = refl
 two_still Lessening = refl
 two_still (Leading a d) = refl
 two_still (Trailing a d) = refl
-two_still (Ending seen) = ap Ending (or_none seen)
-two_still (EndingWeakly seen) = ap EndingWeakly (or_none seen)
-two_still (Sampling waiting) = ap Sampling (and_all waiting)
-two_still (SamplingWeakly waiting) = ap SamplingWeakly (and_all waiting)
+two_still (Ending seen) = ap Ending (or-false seen)
+two_still (EndingWeakly seen) = ap EndingWeakly (or-false seen)
+two_still (Sampling waiting) = ap Sampling (and-true waiting)
+two_still (SamplingWeakly waiting) = ap SamplingWeakly (and-true waiting)
 two_still (Lagging m waiting) = ap (Lagging m) (unmarked waiting)
 
 -- NOTHING HEARD, NOTHING TOLD
@@ -87,10 +76,6 @@ tells_nothing s TNever h = refl
 tells_nothing s (TOne o a) h = one_eval s o (formula_of a) ∙ ap (one_ticks o) (tells_nothing s a h) ∙ one_silent o
 tells_nothing s (TTwo o a d) h = two_eval s o (formula_of a) (formula_of d) ∙ ap₂ (two_ticks o) (tells_nothing s a h.0) (tells_nothing s d h.1) ∙ two_silent o
 tells_nothing s (TThen a d ρ) h = tells_nothing s a h.0
-
-not_true : (c : Bool) → not c ≡ true → c ≡ false
-not_true true h = let z : ⊥ = cc in absurd z
-not_true false h = refl
 
 module _ (K : System) (s : Step) (gone : ℕ → Bool) where
   -- NOTHING HEARD, NOTHING MOVED
@@ -104,7 +89,7 @@ module _ (K : System) (s : Step) (gone : ℕ → Bool) where
       ∙ ap₂ (TTwo o) (stays a h.0 w.0) (stays d h.1 w.1)
   stays (TThen a d ρ) h settled =
       let w = and_parts (not (dead_of gone a)) (is_settled gone a) settled in
-      ap (λ a'. then_or_right K (dead_of gone a') a' d ρ) (stays a h.0 w.1) ∙ ap (λ c. then_or_right K c a d ρ) (not_true (dead_of gone a) w.0)
+      ap (λ a'. then_or_right K (dead_of gone a') a' d ρ) (stays a h.0 w.1) ∙ ap (λ c. then_or_right K c a d ρ) (not-true (dead_of gone a) w.0)
 
   -- UNSETTLED LASTS ONE STEP
   pub settles : (t : Tree) → BearsSettled K gone t → is_settled gone (next K s gone t) ≡ true

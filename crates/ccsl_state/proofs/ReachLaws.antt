@@ -1,6 +1,6 @@
 -- What a pass over the definitions, from the last one down, has reached.
 use Rattle.std.proofs.Common.{◌≡◌, ℕ, ◌+◌, ◌-◌, ◌<◌, ◌≤◌, List, Bool, true, false, ◌||◌, Some, None, slice_get, nat_lt, if◌then◌else◌, refl, sym, ap, ◌∙◌, arith, ⊎_elim, ltb-false}
-use Rattle.std.proofs.lemmas.Bool.{or_cases, cases_eq}
+use Rattle.std.proofs.lemmas.Bool.{or_cases, cases_eq, or_left, or_right}
 use Rattle.std.proofs.lemmas.Option.{slice_get_within}
 use Rattle.ccsl_base.specs.Clocks.{ticks_in}
 use Rattle.ccsl_kernel.specs.Syntax.{Expression, System, definition_of}
@@ -9,15 +9,8 @@ use Rattle.ccsl_kernel.proofs.AcceptedParts.{accepted_scoped}
 use Rattle.ccsl_kernel.proofs.Definitions.{definitions-are}
 use Rattle.ccsl_state.specs.Within.{NamesWithin}
 use Rattle.ccsl_state.specs.Reach.{names_clock, Includes, IsClosed}
-use Rattle.ccsl_state.proofs.WithinLaws.{or_left, or_right, named_below, names_within}
-
--- a defined clock is not a declared one
-pub defined_past : (K : System) (x : ℕ) (e : Expression) → definition_of K x ≡ Some e → K.declared ≤ x
-defined_past K x e is = on (nat_lt x K.declared) refl is
-  where
-    on : (t : Bool) → nat_lt x K.declared ≡ t → (if t then None else slice_get K.definitions (x - K.declared)) ≡ Some e → K.declared ≤ x
-    on true l is = let z : ⊥ = cc in absurd z
-    on false l is = ltb-false x K.declared l
+use Rattle.ccsl_state.proofs.WithinLaws.{named_below, names_within}
+use Rattle.ccsl_kernel.proofs.Completion.{past_declared}
 
 module _ (K : System) (ok : IsAccepted K) where
   -- a definition names lower clocks, so few as there are

@@ -1,7 +1,7 @@
 -- A STEP THAT VISITS ONLY WHAT HEARS SOMETHING: a definition that waits for its visit is untouched, and one that does not is done.
 use Rattle.std.proofs.Common.{◌≡◌, ℕ, zero, suc, ◌+◌, ◌<◌, ◌≤◌, ◌⊎◌, inl, inr, ⊎_elim, List, [], ◌∷◌, length, Bool, true, false, not, ◌&&◌, ◌||◌, Option, Some, None, slice_get, slice_set, slice_index_or, nat_eq, nat_lt, if◌then◌else◌, eq-eqb, lt-ltb, ltb-false, refl, sym, ap, ap₂, subst, ◌∙◌, arith}
 use Rattle.std.specs.List.{list_all}
-use Rattle.std.proofs.lemmas.Bool.{cases_eq, ne_eqb, and_parts, and_from, or_cases, ltb-true}
+use Rattle.std.proofs.lemmas.Bool.{cases_eq, ne_eqb, and_parts, and_from, or_cases, ltb-true, cases_Bool, or_parts, not-false}
 use Rattle.std.proofs.lemmas.Option.{slice_get_within}
 use Rattle.ccsl_base.specs.Clocks.{ticks_in, with_clock, is_ascending, are_below}
 use Rattle.ccsl_base.specs.Changes.{put_clock}
@@ -38,10 +38,6 @@ tree_set_len [] i t = refl
 tree_set_len (u ∷ ts) zero t = refl
 tree_set_len (u ∷ ts) (suc i) t = ap suc (tree_set_len ts i t)
 
-true_or_false : (b : Bool) → (b ≡ true) ⊎ (b ≡ false)
-true_or_false true = inl refl
-true_or_false false = inr refl
-
 not_both : (b : Bool) → b ≡ true → b ≡ false → ⊥
 not_both b p q = let e : true ≡ false = sym p ∙ q in cc
 
@@ -53,27 +49,19 @@ put_other : (t : Bool) (x y : ℕ) (s : List ℕ) → (y ≡ x → ⊥) → tick
 put_other true x y s ne = ticks_in-with_other x y s ne
 put_other false x y s ne = refl
 
-or_false_parts : (a b : Bool) → (a || b) ≡ false → (a ≡ false) × (b ≡ false)
-or_false_parts true b h = let z : ⊥ = cc in absurd z
-or_false_parts false b h = (refl, h)
-
 and_false : (a b : Bool) → (a && b) ≡ false → b ≡ true → a ≡ false
 and_false true b h is = let z : ⊥ = (let e : true ≡ false = sym is ∙ h in cc) in absurd z
 and_false false b h is = refl
 
-not_false : (b : Bool) → not b ≡ false → b ≡ true
-not_false true h = refl
-not_false false h = let z : ⊥ = cc in absurd z
-
 -- ONE MEMBER MORE of an ascending list
-all_less : (x y : ℕ) (ys : List ℕ) → x < y → list_all (nat_lt y) ys ≡ true → list_all (nat_lt x) ys ≡ true
+pub all_less : (x y : ℕ) (ys : List ℕ) → x < y → list_all (nat_lt y) ys ≡ true → list_all (nat_lt x) ys ≡ true
 all_less x y [] l h = refl
 all_less x y (z ∷ ys) l h =
     let w = and_parts (nat_lt y z) (list_all (nat_lt y) ys) h in
     let m = ltb-true y z w.0 in
     and_from (nat_lt x z) (list_all (nat_lt x) ys) (lt-ltb x z (omega (arith, l, m))) (all_less x y ys l w.1)
 
-all_with : (p : ℕ → Bool) (x : ℕ) (ys : List ℕ) → p x ≡ true → list_all p ys ≡ true → list_all p (with_clock x ys) ≡ true
+pub all_with : (p : ℕ → Bool) (x : ℕ) (ys : List ℕ) → p x ≡ true → list_all p ys ≡ true → list_all p (with_clock x ys) ≡ true
 all_with p x [] is h = and_from (p x) true is refl
 all_with p x (y ∷ ys) is h = on (nat_lt x y) (nat_eq x y) (all_with p x ys is (and_parts (p y) (list_all p ys) h).1)
   where
@@ -82,7 +70,7 @@ all_with p x (y ∷ ys) is h = on (nat_lt x y) (nat_eq x y) (all_with p x ys is 
     on false true rest = h
     on false false rest = and_from (p y) (list_all p (with_clock x ys)) (and_parts (p y) (list_all p ys) h).0 rest
 
-with_ascends : (x : ℕ) (ys : List ℕ) → is_ascending ys ≡ true → is_ascending (with_clock x ys) ≡ true
+pub with_ascends : (x : ℕ) (ys : List ℕ) → is_ascending ys ≡ true → is_ascending (with_clock x ys) ≡ true
 with_ascends x [] h = refl
 with_ascends x (y ∷ ys) h = let w = and_parts (list_all (nat_lt y) ys) (is_ascending ys) h in on (nat_lt x y) (nat_eq x y) refl refl w (with_ascends x ys w.1)
   where
@@ -188,7 +176,7 @@ module _ (K : System) (ok : IsAccepted K) (F : List ℕ) where
           unheard i followed quiet y read = ⊎_elim
               (λ (e : y ≡ K.declared + j).
               let read' : reads K i (K.declared + j) ≡ true = ap (reads K i) (sym e) ∙ read in
-              let w = or_false_parts (ticks_in i waiting && not (nat_eq j i)) (told && ticks_in i (slice_index_or readers (K.declared + j) [])) (sym (v.waiting_is i) ∙ quiet) in
+              let w = or_parts (ticks_in i waiting && not (nat_eq j i)) (told && ticks_in i (slice_index_or readers (K.declared + j) [])) (sym (v.waiting_is i) ∙ quiet) in
               let n = v.told_is (and_false told (ticks_in i (slice_index_or readers (K.declared + j) [])) w.1 (no_reader i (K.declared + j) followed read')) in (
                 ap (λ k. ticks_in k step) e ∙ here.tick ∙ sym n.0 ∙ sym step_here ∙ ap (λ k. ticks_in k step') (sym e),
                 ap (λ k. ticks_in k gone) e ∙ sym n.1 ∙ sym gone_here ∙ ap (λ k. ticks_in k gone') (sym e),
@@ -228,7 +216,7 @@ module _ (K : System) (ok : IsAccepted K) (F : List ℕ) where
                 tree = the_tree ∙ same.1;
                 dead = gone_here ∙ same.2 ∙ ap (dead_of (gone_in gone')) (sym the_tree);
                 settled = λ h.
-                    let so : settled ≡ true = not_false settled (sym (ticks_in-put_same j (not settled) unsettled) ∙ ap (ticks_in j) (sym v.unsettled_is) ∙ h) in
+                    let so : settled ≡ true = not-false settled (sym (ticks_in-put_same j (not settled) unsettled) ∙ ap (ticks_in j) (sym v.unsettled_is) ∙ h) in
                     ap (is_settled (gone_in gone')) the_tree ∙ sym same.3 ∙ ap (λ t. is_settled (gone_in gone) (next K step (gone_in gone) t)) (sym here.tree) ∙ v.settled_is so;
               }
 
@@ -273,7 +261,7 @@ module _ (K : System) (ok : IsAccepted K) (F : List ℕ) where
 
           waited : (i : ℕ) → (i ≡ j → ⊥) → ticks_in i waiting' ≡ false → ticks_in i waiting ≡ false
           waited i ne quiet =
-              let w = or_false_parts (ticks_in i waiting && not (nat_eq j i)) (told && ticks_in i (slice_index_or readers (K.declared + j) [])) (sym (v.waiting_is i) ∙ quiet) in
+              let w = or_parts (ticks_in i waiting && not (nat_eq j i)) (told && ticks_in i (slice_index_or readers (K.declared + j) [])) (sym (v.waiting_is i) ∙ quiet) in
               and_false (ticks_in i waiting) (not (nat_eq j i)) w.0 (ap not (ne_eqb j i (λ e. ne (sym e))))
 
           -- A VISIT MORE
@@ -339,13 +327,13 @@ module _ (K : System) (ok : IsAccepted K) (F : List ℕ) where
           waits_not i quiet = ⊎_elim
               (λ (h : ticks_in i unsettled ≡ true). absurd (not_both (ticks_in i waiting) (unsettled_wait i h) quiet))
               (λ (h : ticks_in i unsettled ≡ false). h)
-              (true_or_false (ticks_in i unsettled))
+              (cases_Bool (ticks_in i unsettled))
 
           silent_clock : (i : ℕ) → IsFollowed K F i → ticks_in i waiting ≡ false → (y : ℕ) → reads K i y ≡ true → ticks_in y s ≡ false
           silent_clock i f quiet y read = ⊎_elim
               (λ (h : ticks_in y s ≡ true). absurd (not_both (ticks_in i waiting) (heard i y h (no_reader i y f read)) quiet))
               (λ (h : ticks_in y s ≡ false). h)
-              (true_or_false (ticks_in y s))
+              (cases_Bool (ticks_in y s))
 
           unheard : (i : ℕ) → IsFollowed K F i → ticks_in i waiting ≡ false → TreeWithin (λ y. ticks_in y s ≡ false) (tree_number old i)
           unheard i f quiet = tree_more (λ y. reads K i y ≡ true) (λ y. ticks_in y s ≡ false) (silent_clock i f quiet) (tree_number old i) (within i f)

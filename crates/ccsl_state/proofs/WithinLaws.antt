@@ -1,7 +1,7 @@
 -- An expression and a tree that name clocks with P only. What is born of them and what a step makes of them names no others, and
 -- steps and deaths that are the same for these clocks are all one to them.
 use Rattle.std.proofs.Common.{◌≡◌, ℕ, zero, suc, ◌<◌, List, [], ◌∷◌, map, length, get_or, Bool, true, false, ◌||◌, Option, Some, None, nat_le, refl, sym, ap, ap₂, ◌∙◌, arith, if◌then◌else◌, ⊎_elim, eqb-true, eq-eqb}
-use Rattle.std.proofs.lemmas.Bool.{or_cases}
+use Rattle.std.proofs.lemmas.Bool.{or_cases, or_left, or_right}
 use Rattle.ccsl_base.specs.Clocks.{ticks_in}
 use Rattle.ccsl_formula.specs.Formula.{eval}
 use Rattle.ccsl_words.specs.Word.{BinaryWord}
@@ -20,14 +20,6 @@ use Rattle.ccsl_state.specs.Grown.{grown}
 use Rattle.ccsl_state.specs.Within.{PlaceWithin, ArgsWithin, NamesWithin, ActualsWithin, TreeWithin}
 use Rattle.ccsl_state.specs.Reach.{place_names, arguments_name, names_clock}
 use Rattle.ccsl_state.proofs.Evals.{one_eval, two_eval}
-
-pub or_left : (a b : Bool) → a ≡ true → (a || b) ≡ true
-or_left true b h = refl
-or_left false b h = let z : ⊥ = cc in absurd z
-
-pub or_right : (a b : Bool) → b ≡ true → (a || b) ≡ true
-or_right true b h = refl
-or_right false b h = h
 
 -- WHAT IS BELOW A BOUND names lower clocks
 module _ (X y : ℕ) where

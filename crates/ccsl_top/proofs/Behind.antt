@@ -1,5 +1,6 @@
 -- Commands that read a specification first: its refusal, and what is answered behind it.
 use Rattle.std.proofs.Common.{◌≡◌, ◌≢◌, ℕ, List, [], ◌∷◌, Bool, true, false, ◌||◌, Contains, Result, Ok, IsTrue, ⊎_elim, refl, sym, ap, ◌∙◌, subst, arith}
+use Rattle.std.proofs.lemmas.Bool.{or_left}
 use Rattle.ccsl_edge.specs.declared.slot.Slot.{Slot}
 use Rattle.ccsl_edge.specs.declared.slot.Slot.TheVariants.{Spec, Trace}
 use Rattle.ccsl_edge.specs.World.{State, Told, held, file_at}
@@ -10,8 +11,8 @@ use Rattle.ccsl_command.specs.Meaning.{meaning}
 use Rattle.ccsl_command.specs.Opened.{Opened, files_meant, files_opened, files_of}
 use Rattle.ccsl_kernel.specs.Syntax.{System}
 use Rattle.ccsl_spec.specs.Specifications.{IsSystemOf, IsRefusedWith}
-use Rattle.ccsl_top.specs.declared.files.Stop.{Stop}
-use Rattle.ccsl_top.specs.declared.files.Stop.TheVariants.{Fault, Memory}
+use Rattle.ccsl_edge.specs.declared.stop.Stop.{Stop}
+use Rattle.ccsl_edge.specs.declared.stop.Stop.TheVariants.{Fault, Memory}
 use Rattle.ccsl_top.specs.declared.reply.Reply.{Reply}
 use Rattle.ccsl_top.specs.declared.reply.Status.TheVariants.{SpecRefused}
 use Rattle.ccsl_top.specs.Outcome.{Outcome, outcome}
@@ -23,17 +24,13 @@ use Rattle.ccsl_top.specs.Changes.{Uses, Reads}
 use Rattle.ccsl_top.specs.Reading.{only, Breaks, IsStop}
 use Rattle.ccsl_top.specs.Headline.{IsTold, input_of, by_spec, by_file, LeavesTrace, unopened, kept, untouched}
 use Rattle.ccsl_top.specs.Answered.{code_of, plain_reply, AreClosed, Leaves, Answered, Faulted, Starved, IsUnanswered, StopsAt}
-use Rattle.ccsl_top.proofs.Slots.{is_slot-self, is_slot-same, is_slot-other, both-ways, output-differs}
+use Rattle.ccsl_top.proofs.Slots.{is_slot-self, is_slot-same, is_slot-other, output-differs, not_both}
 use Rattle.ccsl_top.proofs.Effects.{uses-changed, uses-stay, uses-then}
 use Rattle.ccsl_top.proofs.Reaching.{opened-used, reach-read, reach-spec, three-known}
 
 -- a specification of a name, and what stands in the list of opened files behind it
 abbrev pub with_spec : List ℕ → List Opened → List Opened
 with_spec spec behind = record { slot = Spec; name = spec } ∷ behind
-
-pub first-opens : (a b : Bool) → a ≡ true → (a || b) ≡ true
-first-opens true b e = refl
-first-opens false b e = both-ways false e refl
 
 -- the words mean a command that opens a specification and these files behind it, and answers so on its system
 module _ (told : Told) (words : List (List ℕ)) (c : Command) (means : meaning words ≡ Ok c)
@@ -47,7 +44,7 @@ module _ (told : Told) (words : List (List ℕ)) (c : Command) (means : meaning 
   opened-slot slot e = ap (λ fs. opens fs slot) opened-files ∙ e
 
   spec-opened : opens (files_opened words) Spec ≡ true
-  spec-opened = opened-slot Spec (first-opens (is_slot Spec Spec) (opens behind Spec) (is_slot-self Spec))
+  spec-opened = opened-slot Spec (or_left (is_slot Spec Spec) (opens behind Spec) (is_slot-self Spec))
 
   -- what is told to these words is told
   pub behind-told : {P : Type 0} → (IsTrue told.files → IsTrue told.left → P) → IsTold told words → P
@@ -57,7 +54,7 @@ module _ (told : Told) (words : List (List ℕ)) (c : Command) (means : meaning 
   pub closed-none : ((slot : Slot) → is_output slot ≡ true → opens behind slot ≡ false) → (status : ℕ) (u : State) → AreClosed words status u
   closed-none none status u _ slot out opened =
       let unspec : is_slot Spec slot ≡ false = is_slot-other Spec slot (output-differs Spec slot refl out) in
-      both-ways (opens (files_opened words) slot) opened (ap (λ fs. opens fs slot) opened-files ∙ ap (λ b. b || opens behind slot) unspec ∙ none slot out)
+      not_both (opens (files_opened words) slot) opened (ap (λ fs. opens fs slot) opened-files ∙ ap (λ b. b || opens behind slot) unspec ∙ none slot out)
 
   pub among-answers : (status : ℕ) → Contains (answers_of (Ok c)) status → Contains (answers_of (meaning words)) status
   among-answers status known = subst (λ m. Contains (answers_of m) status) (sym means) known
@@ -76,7 +73,7 @@ module _ (told : Told) (words : List (List ℕ)) (c : Command) (means : meaning 
   }
 
   spec-within : (slot : Slot) → only Spec slot ≡ true → (is_slot Spec slot || opens behind slot) ≡ true
-  spec-within slot e = first-opens (is_slot Spec slot) (opens behind slot) e
+  spec-within slot e = or_left (is_slot Spec slot) (opens behind slot) e
 
   module _ (s t : State) where
     -- a reading that did not end

@@ -33,8 +33,8 @@ use Rattle.ccsl_certify.specs.declared.answer.CertifyFault.TheVariants as fault
 use Rattle.ccsl_certify.specs.Replaying.{IsTrace}
 use Rattle.ccsl_certify.specs.Certified.{Answers, IsCertified, IsUncertified}
 use Rattle.ccsl_report.specs.Texts.{trace_text, cert_text, cert_too_long_text}
-use Rattle.ccsl_top.specs.declared.files.Stop.{Stop}
-use Rattle.ccsl_top.specs.declared.files.Stop.TheVariants as stop
+use Rattle.ccsl_edge.specs.declared.stop.Stop.{Stop}
+use Rattle.ccsl_edge.specs.declared.stop.Stop.TheVariants as stop
 use Rattle.ccsl_top.specs.declared.reply.Reply.{Reply}
 use Rattle.ccsl_top.specs.Outcome.{Outcome, outcome}
 use Rattle.ccsl_top.specs.Opening.{is_slot, is_output, opens}
@@ -44,7 +44,7 @@ use Rattle.ccsl_top.specs.Changes.{Uses, Reads}
 use Rattle.ccsl_top.specs.Reading.{only, Breaks}
 use Rattle.ccsl_top.specs.Answered.{code_of, IsReadStatus, AnswersTo, StopsAt}
 use Rattle.ccsl_top.specs.Certifying.{HasItem, verdict_outcome, Gives, IsReplyOn, both, CertifyAnswers, BothBreak, IsBothStop}
-use Rattle.ccsl_top.proofs.Slots.{both-ways, is_slot-same, is_slot-differs, same-input}
+use Rattle.ccsl_top.proofs.Slots.{is_slot-same, is_slot-differs, same-input, not_both}
 use Rattle.ccsl_top.proofs.Effects.{by-test, uses-changed, uses-rises, uses-then, reads-then, reads-only, breaks-only}
 use Rattle.ccsl_top.proofs.Opened.{fails-breaks}
 use Rattle.ccsl_top.proofs.Verdicts.{violated-item}
@@ -103,7 +103,7 @@ module _ (a b : Slot → Bool) (within : (slot : Slot) → a slot ≡ true → b
     files = u.files;
     here = λ slot _. uses-changed a x y u slot;
     rises = λ slot _. uses-rises a x y u slot;
-    others = λ slot no. u.others slot (by-test (a slot) (λ yes. both-ways (b slot) (within slot yes) no) (λ n. n));
+    others = λ slot no. u.others slot (by-test (a slot) (λ yes. not_both (b slot) (within slot yes) no) (λ n. n));
   }
 
   reads-within : Reads a x y → Reads b x y

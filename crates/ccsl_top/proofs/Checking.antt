@@ -5,8 +5,8 @@ use Rattle.ccsl_edge.specs.World.{State, Told, held}
 use Rattle.ccsl_command.specs.declared.command.Command.TheVariants as command
 use Rattle.ccsl_kernel.specs.Syntax.{System}
 use Rattle.ccsl_spec.specs.Specifications.{IsSystemOf}
-use Rattle.ccsl_top.specs.declared.files.Stop.{Stop}
-use Rattle.ccsl_top.specs.declared.files.Stop.TheVariants.{Memory}
+use Rattle.ccsl_edge.specs.declared.stop.Stop.{Stop}
+use Rattle.ccsl_edge.specs.declared.stop.Stop.TheVariants.{Memory}
 use Rattle.ccsl_top.specs.declared.reply.Reply.{Reply}
 use Rattle.ccsl_top.specs.Check.{check_outcome}
 use Rattle.ccsl_top.specs.Changes.{Reads}

@@ -13,8 +13,8 @@ use Rattle.ccsl_command.specs.Opened.{files_meant, files_of, files_opened}
 use Rattle.ccsl_command.specs.declared.table.RelationName.TheVariants as name
 use Rattle.ccsl_periodic.specs.declared.between.Between.{Between}
 use Rattle.ccsl_periodic.specs.declared.between.Between.TheVariants.{Precedes, Subclock, Excludes}
-use Rattle.ccsl_top.specs.declared.files.Stop.{Stop}
-use Rattle.ccsl_top.specs.declared.files.Stop.TheVariants.{Memory}
+use Rattle.ccsl_edge.specs.declared.stop.Stop.{Stop}
+use Rattle.ccsl_edge.specs.declared.stop.Stop.TheVariants.{Memory}
 use Rattle.ccsl_top.specs.declared.reply.Reply.{Reply}
 use Rattle.ccsl_top.specs.Trial.{trial_outcome}
 use Rattle.ccsl_top.specs.Outcome.{Outcome}
@@ -23,9 +23,9 @@ use Rattle.ccsl_top.specs.Statuses.{answers_of}
 use Rattle.ccsl_top.specs.Opening.{opens}
 use Rattle.ccsl_top.specs.Program.{IsOutcome, IsOutcomeOf, usage_outcome}
 use Rattle.ccsl_top.specs.Headline.{input_of, kept, untouched, unopened}
-use Rattle.ccsl_top.specs.Answered.{code_of, plain_reply, Leaves, Answered, Starved, IsUnanswered, AnswersTo, StopsAt}
-use Rattle.ccsl_top.proofs.Slots.{both-ways}
+use Rattle.ccsl_top.specs.Answered.{code_of, plain_reply, Leaves, Answered, Starved, IsUnanswered}
 use Rattle.ccsl_top.proofs.Effects.{reads-none, uses-stay}
+use Rattle.ccsl_top.proofs.Slots.{not_both}
 
 -- a reply that stands for an outcome of a command that opens no file
 abbrev IsAnswer : Command → Reply → Type 0
@@ -34,7 +34,7 @@ IsAnswer c reply = ((content : List ℕ → List ℕ) (input : List ℕ) → IsO
 module _ (told : Told) (words : List (List ℕ)) (s : State) where
   leaves-none : Leaves told words (λ slot. false) s s
   leaves-none = record {
-    opened = λ slot e. both-ways false e refl;
+    opened = λ slot e. not_both false e refl;
     stays = uses-stay told (files_opened words) (λ slot. false) s s (reads-none s).uses;
     whole = λ _ _ name. kept refl;
     fronts = λ _ _ slot out. untouched refl;
@@ -48,8 +48,8 @@ module _ (told : Told) (words : List (List ℕ)) (s : State) where
     leaves = leaves-none;
     counts = λ slot. refl;
     known = known;
-    within = λ slot e. both-ways false e refl;
-    closed = λ _ slot _ e. both-ways (opens (files_opened words) slot) e (none slot);
+    within = λ slot e. not_both false e refl;
+    closed = λ _ slot _ e. not_both (opens (files_opened words) slot) e (none slot);
     stands = λ _. record { outcome = plain_reply reply; status_is = refl; report_is = refl; defined = record { is = is (held s.files) (input_of s); files = λ _. record {} } };
   }
 
@@ -95,14 +95,10 @@ module _ (told : Told) (s : State) where
         starved-in (Ok reply) e = e
         starved-in (Err stop) e = rw e (starved-at-once told words s)
 
-  module _ (c : Command) where
-    pub command-oks : files_of c ≡ [] → (result : Result Reply Stop) → IfOk result (λ reply. IsAnswer c reply) → IfOk result (λ reply. AnswersTo told c reply s s)
-    command-oks none (Ok reply) a = λ words means. command-answered told words s c reply a.0 a.1 none means
-    command-oks none (Err stop) a = a
-
-    pub command-errs : (result : Result Reply Stop) → IfErr result (λ stop. stop ≡ Memory) → IfErr result (λ stop. StopsAt told c stop s s)
-    command-errs (Ok reply) e = e
-    command-errs (Err stop) e = λ words means. rw e (starved-at-once told words s)
+  pub command-oks : (c : Command) (words : List (List ℕ)) → meaning words ≡ Ok c → files_of c ≡ [] → (result : Result Reply Stop) →
+      IfOk result (λ reply. IsAnswer c reply) → IfOk result (λ reply. Answered told words reply s s)
+  command-oks c words means none (Ok reply) a = command-answered told words s c reply a.0 a.1 none means
+  command-oks c words means none (Err stop) a = a
 
 -- a trial
 pub trial-outcome : (c : Command) (clocks steps seed workers : ℕ) → c ≡ command.Trial clocks steps seed workers → (result : Result Reply Stop) →

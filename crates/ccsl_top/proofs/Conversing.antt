@@ -17,7 +17,8 @@ use Rattle.ccsl_kernel.specs.Syntax.{System}
 use Rattle.ccsl_policy.specs.declared.policies.Policy.{Policy}
 use Rattle.ccsl_session.specs.declared.answer.Ended.{Ended}
 use Rattle.ccsl_session.specs.declared.answer.Ended.TheVariants.{Quit, EndOfInput, TooLong}
-use Rattle.ccsl_session.specs.declared.answer.SessionFault.TheVariants as faults
+use Rattle.ccsl_edge.specs.declared.stop.Stop.{Stop}
+use Rattle.ccsl_edge.specs.declared.stop.Stop.TheVariants as stop
 use Rattle.ccsl_session.specs.Session.{session_text, ended_by}
 use Rattle.ccsl_session.specs.Rest.{LeavesRest}
 use Rattle.ccsl_session.specs.Leaving.{Says, HasEnded, SameCounts, IsCut}
@@ -26,13 +27,14 @@ use Rattle.ccsl_top.specs.Outcome.{Outcome}
 use Rattle.ccsl_top.specs.Converse.{conversed, session_outcome}
 use Rattle.ccsl_top.specs.Simulate.{named_policy}
 use Rattle.ccsl_top.specs.Statuses.{IsStatusOf}
+use Rattle.ccsl_top.specs.Stopping.{stop_code}
 use Rattle.ccsl_top.specs.Opening.{opens, uses, is_slot, is_output, is_session, may_change}
 use Rattle.ccsl_top.specs.Program.{IsOutcome, accepted}
 use Rattle.ccsl_top.specs.Reading.{only}
 use Rattle.ccsl_top.specs.Headline.{Headline, IsTold, Answers, Reports, ReportGrows, AreHeld, FaultCause, by_report, by_input, input_of, kept, untouched}
 use Rattle.ccsl_top.specs.Conversing.{Begins}
-use Rattle.ccsl_top.proofs.Slots.{both-ways, is_slot-same, is_slot-other, is_slot-differs, output-differs}
-use Rattle.ccsl_top.proofs.Effects.{Changed, by-test, either-false, other-false, uses-changed, uses-rises}
+use Rattle.ccsl_top.proofs.Slots.{is_slot-same, is_slot-other, is_slot-differs, output-differs, not_both}
+use Rattle.ccsl_top.proofs.Effects.{Changed, by-test, uses-changed, uses-rises, or-left, or-right}
 use Rattle.ccsl_top.proofs.Reaching.{reach-read}
 use Rattle.ccsl_top.proofs.Writing.{on-output}
 use Rattle.ccsl_top.proofs.Behind.{is-outcome, behind-told}
@@ -124,10 +126,10 @@ module _ (told : Told) (words : List (List ℕ)) (K : System) (policy : Policy) 
     closed-apart slot e =
         let opened : opens (files_opened words) slot ≡ (is_slot Spec slot || false) = ap (λ m. opens (files_meant m) slot) b.means in
         let asks : is_session (meaning words) ≡ true = ap is_session b.means in
-        let a : (is_slot Spec slot || false) ≡ false = sym opened ∙ either-false (opens (files_opened words) slot) (is_session (meaning words) && is_slot slot Input) e in
+        let a : (is_slot Spec slot || false) ≡ false = sym opened ∙ or-left (opens (files_opened words) slot) (is_session (meaning words) && is_slot slot Input) e in
         let i : (true && is_slot slot Input) ≡ false =
-        sym (ap (λ x. x && is_slot slot Input) asks) ∙ other-false (opens (files_opened words) slot) (is_session (meaning words) && is_slot slot Input) e in
-        (is_slot-differs Spec slot (either-false (is_slot Spec slot) false a), λ same. is_slot-differs slot Input i (sym same))
+        sym (ap (λ x. x && is_slot slot Input) asks) ∙ or-right (opens (files_opened words) slot) (is_session (meaning words) && is_slot slot Input) e in
+        (is_slot-differs Spec slot (or-left (is_slot Spec slot) false a), λ same. is_slot-differs slot Input i (sym same))
 
     clash : (d : Command) → meaning words ≡ Ok d → c ≡ d
     clash d e = let same : (let R : Result Command Usage = Ok c in R) ≡ Ok d = sym b.means ∙ e in cc
@@ -139,7 +141,7 @@ module _ (told : Told) (words : List (List ℕ)) (K : System) (policy : Policy) 
     unreached : (status : ℕ) → status ≢ 3 → (slot : Slot) → may_change words status slot ≡ false → (slot ≢ Spec) × (slot ≢ Input)
     unreached status three slot e = by-test (is_output slot)
         (λ out. (output-differs Spec slot refl out, output-differs Input slot refl out))
-        (λ out. closed-apart slot (by-test (uses words slot) (λ yes. both-ways (may_change words status slot) (reach-read words slot status three out yes) e) (λ no. no)))
+        (λ out. closed-apart slot (by-test (uses words slot) (λ yes. not_both (may_change words status slot) (reach-read words slot status three out yes) e) (λ no. no)))
 
     -- no output slot is opened
     none-opened : (slot : Slot) → is_output slot ≡ true → opens (files_opened words) slot ≡ false
@@ -156,14 +158,14 @@ module _ (told : Told) (words : List (List ℕ)) (K : System) (policy : Policy) 
       counts_rise = t.rises;
       counts_stay = counts;
       fault_cause = cause;
-      unreported = λ _ e. both-ways (is_session (meaning words)) (ap is_session b.means) e;
-      silent = λ _ e. both-ways (is_session (meaning words)) (ap is_session b.means) e;
+      unreported = λ _ e. not_both (is_session (meaning words)) (ap is_session b.means) e;
+      silent = λ _ e. not_both (is_session (meaning words)) (ap is_session b.means) e;
       front = λ tells e. inr (front tells e);
       early = λ _ _ spec trace workers e. absurd (never-judged spec trace workers e);
       whole = λ _ _ name. kept (ap (λ fs. file_at fs name) t.files);
       fronts = λ _ _ slot out. untouched (ap (λ x. x.written)
           (t.others slot (output-differs Spec slot refl out) (output-differs Input slot refl out) (output-differs Report slot refl out)));
-      closed = λ _ slot out opened. both-ways (opens (files_opened words) slot) opened (none-opened slot out);
+      closed = λ _ slot out opened. not_both (opens (files_opened words) slot) opened (none-opened slot out);
       rest = λ l. inr (t.rest l);
       stays = λ slot n e. let apart = unreached status three slot e in t.others slot apart.0 apart.1 n;
       unwritten = λ _ _ name. ap (λ fs. file_at fs name) t.files;
@@ -252,12 +254,10 @@ module _ (told : Told) (words : List (List ℕ)) (K : System) (policy : Policy) 
     cut-front : (said : List ℕ) → ((n : ℕ) × (said ≡ take n text)) → (n : ℕ) × (said ≡ take n (conversed ended text).report)
     cut-front said p = let m = conversed-front ended text p.0 in (m.0, p.1 ∙ m.1)
 
-    pub session-starved : IsCut told K policy seed MAX_FILE_BYTES begun now faults.Memory → Headline told words 6 start now
-    session-starved cut =
+    pub session-cut : (why : Stop) → IsCut told K policy seed MAX_FILE_BYTES begun now why → Headline told words (stop_code why) start now
+    session-cut stop.Memory cut =
         starved now cut.text (calm now cut.text cut.says cut.cause cut.rest) (same-counts now cut.text cut.says cut.cause) (λ l. cut-front cut.text (cut.front l))
-
-    pub session-faulted : IsCut told K policy seed MAX_FILE_BYTES begun now faults.Fault → Headline told words 5 start now
-    session-faulted cut =
+    session-cut stop.Fault cut =
         faulted now cut.text (talk now cut.text cut.says cut.cause.input cut.cause.report cut.rest) (⊎_elim
         (λ r. by_input b.spec b.name seed b.means (λ f l. (K, b.system f l))
         (subst (λ (x : SlotState). Rose x.faults (now.slot_of Input).faults) input-same r))

@@ -9,8 +9,8 @@ use Rattle.ccsl_command.specs.Meaning.{meaning}
 use Rattle.ccsl_command.specs.Opened.{Opened, files_meant, files_opened}
 use Rattle.ccsl_kernel.specs.Syntax.{System}
 use Rattle.ccsl_spec.specs.Specifications.{IsSystemOf}
-use Rattle.ccsl_top.specs.declared.files.Stop.{Stop}
-use Rattle.ccsl_top.specs.declared.files.Stop.TheVariants as stop
+use Rattle.ccsl_edge.specs.declared.stop.Stop.{Stop}
+use Rattle.ccsl_edge.specs.declared.stop.Stop.TheVariants as stop
 use Rattle.ccsl_top.specs.declared.reply.Reply.{Reply}
 use Rattle.ccsl_top.specs.Outcome.{Output, Outcome}
 use Rattle.ccsl_top.specs.Opening.{opens, writes, is_slot, is_output}
@@ -21,8 +21,8 @@ use Rattle.ccsl_top.specs.Reading.{only}
 use Rattle.ccsl_top.specs.Headline.{IsTold, input_of, IsDefinedOutput, explained, IsFrontOn, by_file, untouched}
 use Rattle.ccsl_top.specs.Answered.{code_of, plain_reply, Leaves, Answered, Faulted, IsUnanswered, AnswersTo, StopsAt}
 use Rattle.ccsl_top.specs.Explaining.{WritesSome, WritesWhole, WritesBreak, IsBlocked, TraceAnswers, unwritten, written, IsTraceStop}
-use Rattle.ccsl_top.proofs.Slots.{both-ways, is_slot-same, is_slot-self, is_slot-differs, same-input}
-use Rattle.ccsl_top.proofs.Effects.{by-test, either-false, other-false, uses-changed, uses-rises, reads-then}
+use Rattle.ccsl_top.proofs.Slots.{is_slot-same, is_slot-self, is_slot-differs, same-input, not_both}
+use Rattle.ccsl_top.proofs.Effects.{by-test, uses-changed, uses-rises, reads-then, or-left, or-right}
 use Rattle.ccsl_top.proofs.Outputs.{whole-moves, front-moves}
 use Rattle.ccsl_top.proofs.Reaching.{opened-used, reach-all}
 use Rattle.ccsl_top.proofs.Behind.{is-outcome, behind-told, among-answers, read-answered, read-faulted, read-starved}
@@ -51,7 +51,7 @@ module _ (told : Told) (words : List (List ℕ)) (spec trace cert : List ℕ) (m
     where
       first-opens : (a b : Bool) → a ≡ true → (a || b) ≡ true
       first-opens true b e = refl
-      first-opens false b e = both-ways false e refl
+      first-opens false b e = not_both false e refl
 
   no-trial : (name file : List ℕ) (workers : ℕ) → c ≡ command.Judge name file workers → ⊥
   no-trial name file workers e = absurd (cc)
@@ -98,18 +98,18 @@ module _ (told : Told) (words : List (List ℕ)) (spec trace cert : List ℕ) (m
 
     module _ (some : WritesSome told (cert_output K cert all.lines) all.between u) where
       cert-unwritten : (slot : Slot) → is_output slot ≡ false → slot ≢ CertOut
-      cert-unwritten slot out same = both-ways (is_output CertOut) refl (ap is_output (sym same) ∙ out)
+      cert-unwritten slot out same = not_both (is_output CertOut) refl (ap is_output (sym same) ∙ out)
 
       stays : Stays told (files_opened words) used s u
       stays = record {
-        unwritten = λ _ e. both-ways (used CertOut) refl e;
+        unwritten = λ _ e. not_both (used CertOut) refl e;
         files = λ f w name e.
             let n : writes opened name ≡ false = sym (ap (λ fs. writes fs name) words-open) ∙ e in
-            some.files f w name (name-apart cert name (either-false (bytes_eq cert name) false n)) ∙ sym (file-same name);
+            some.files f w name (name-apart cert name (or-left (bytes_eq cert name) false n)) ∙ sym (file-same name);
         inputs = λ slot out. subst (λ x. x ≡ record (s.slot_of slot) { left = x.left; faults = x.faults }) (sym (some.others slot (cert-unwritten slot out)))
             (uses-changed (λ x. only Spec x || only Trace x) s mid both.uses slot);
-        others = λ slot e. some.others slot (is_slot-differs CertOut slot (other-false (only Spec slot || only Trace slot) (only CertOut slot) e))
-            ∙ both.uses.others slot (either-false (only Spec slot || only Trace slot) (only CertOut slot) e);
+        others = λ slot e. some.others slot (is_slot-differs CertOut slot (or-right (only Spec slot || only Trace slot) (only CertOut slot) e))
+            ∙ both.uses.others slot (or-left (only Spec slot || only Trace slot) (only CertOut slot) e);
         rises = λ slot. let a = uses-rises (λ x. only Spec x || only Trace x) s mid both.uses slot in let b = some-rises slot in omega (arith, a, b);
       }
         where
@@ -143,7 +143,7 @@ module _ (told : Told) (words : List (List ℕ)) (spec trace cert : List ℕ) (m
   certificate-closed : (all : IsBlocked told K cert trace t u (WritesWhole told)) (slot : Slot) → is_output slot ≡ true → opens (files_opened words) slot ≡ true →
       (u.slot_of slot).is_open ≡ false
   certificate-closed all slot out = on-output (λ x. opens (files_opened words) x ≡ true → (u.slot_of x).is_open ≡ false)
-      (λ e. both-ways (opens opened TraceOut) (sym (ap (λ fs. opens fs TraceOut) words-open) ∙ e) refl)
+      (λ e. not_both (opens opened TraceOut) (sym (ap (λ fs. opens fs TraceOut) words-open) ∙ e) refl)
       (λ _. all.writes.closed) slot out
 
   -- the certificate was written

@@ -1,5 +1,6 @@
 -- A trace that was opened and judged.
 use Rattle.std.proofs.Common.{◌≡◌, ◌⊎◌, ℕ, List, [], ◌∷◌, true, false, Result, Ok, Err, IfOk, IfErr, IsTrue, ⊎_elim, inr, refl, sym, ap, ◌∙◌, subst}
+use Rattle.std.proofs.lemmas.Bool.{or_left}
 use Rattle.ccsl_edge.specs.declared.slot.Slot.{Slot}
 use Rattle.ccsl_edge.specs.declared.slot.Slot.TheVariants.{Spec, Trace}
 use Rattle.ccsl_edge.specs.World.{State, Told, held}
@@ -19,8 +20,8 @@ use Rattle.ccsl_top.specs.Outcome.{Outcome, outcome}
 use Rattle.ccsl_top.specs.Judge.{LIMITS, judged, judge_outcome, verdict_outcome, behind_fault}
 use Rattle.ccsl_top.specs.Changes.{Reads}
 use Rattle.ccsl_top.specs.Reading.{only, Breaks}
-use Rattle.ccsl_top.specs.declared.files.Stop.{Stop}
-use Rattle.ccsl_top.specs.declared.files.Stop.TheVariants as stop
+use Rattle.ccsl_edge.specs.declared.stop.Stop.{Stop}
+use Rattle.ccsl_edge.specs.declared.stop.Stop.TheVariants as stop
 use Rattle.ccsl_top.specs.declared.reply.Reply.{Reply}
 use Rattle.ccsl_top.specs.Opening.{is_slot, is_output, opens}
 use Rattle.ccsl_top.specs.Headline.{EndsNearHeader, LeavesTrace, unopened, near_header}
@@ -30,7 +31,7 @@ use Rattle.ccsl_top.proofs.Slots.{is_slot-self, same-input}
 use Rattle.ccsl_top.proofs.Reaching.{read-known}
 use Rattle.ccsl_top.proofs.Writing.{on-output}
 use Rattle.ccsl_top.proofs.Opened.{opened-reads, opened-breaks, opened-taken}
-use Rattle.ccsl_top.proofs.Behind.{first-opens, closed-none, read-answered, read-faulted, read-starved}
+use Rattle.ccsl_top.proofs.Behind.{closed-none, read-answered, read-faulted, read-starved}
 
 module _ (told : Told) (K : System) (trace : List ℕ) (s t u : State) (opens : OpensIn told Trace trace s t) where
   module _ (v : Verdict) (is : IsJudged told K LIMITS t u v) where
@@ -73,7 +74,7 @@ module _ (told : Told) (spec trace : List ℕ) (workers : ℕ) (s t : State) (re
 
   within : (slot : Slot) → only Trace slot ≡ true → opens behind slot ≡ true
   unfolding behind
-  within slot e = first-opens (is_slot Trace slot) false e
+  within slot e = or_left (is_slot Trace slot) false e
 
   unwritten : (slot : Slot) → is_output slot ≡ true → opens behind slot ≡ false
   unfolding behind

@@ -11,6 +11,7 @@ pub mod Opened
 pub mod Judging
 pub mod Commands
 pub mod Behind
+pub mod Specified
 pub mod Checking
 pub mod Verdicts
 pub mod Certifying

@@ -2,6 +2,7 @@
 use Rattle.std.proofs.Common.{◌≡◌, ◌⊎◌, ℕ, suc, ◌+◌, ◌<◌, ◌≤◌, ◌^◌, List, [], ◌∷◌, ◌++◌, length, Bool, true, false, ◌&&◌, nat_lt, inl, inr, refl, sym, ◌∙◌, subst, arith, append-nil, ltb-true}
 use Rattle.std.specs.List.{AllByRecursion, list_all}
 use Rattle.std.proofs.lemmas.List.Elements.{recursion_from_All}
+use Rattle.std.proofs.lemmas.Bool.{and_parts}
 use Rattle.ccsl_base.specs.Clocks.{is_ascending}
 use Rattle.ccsl_formula.specs.declared.scope.Scope.{Scope}
 use Rattle.ccsl_formula.specs.Formula.{Formula}
@@ -14,15 +15,11 @@ use Rattle.ccsl_explain.specs.Core.{IsCore}
 use Rattle.ccsl_explain.specs.Explained.{AreLeast}
 use Rattle.ccsl_top.specs.Explain.{member_lines}
 use Rattle.ccsl_top.specs.Explaining.{AreMembers}
-use Rattle.ccsl_top.proofs.Slots.{both-ways}
-
-both-hold : (a b : Bool) → (a && b) ≡ true → (a ≡ true) × (b ≡ true)
-both-hold true b e = (refl, e)
-both-hold false b e = both-ways false e refl
+use Rattle.ccsl_top.proofs.Slots.{not_both}
 
 -- the lines of a certificate are valid
 pub valid-lines : (scope : Scope) (formulas : List Formula) (lines : List Line) → is_certificate scope formulas lines ≡ true → are_valid scope formulas lines ≡ true
-valid-lines scope formulas lines e = (both-hold (are_valid scope formulas lines) (ends_empty scope.declared lines) e).0
+valid-lines scope formulas lines e = (and_parts (are_valid scope formulas lines) (ends_empty scope.declared lines) e).0
 
 -- every number is at least low and below n
 abbrev AreBetween : ℕ → ℕ → List ℕ → Type 0
@@ -32,14 +29,14 @@ AreBetween low n (x ∷ xs) = (low ≤ x) × (x < n) × AreBetween low n xs
 above : (x n : ℕ) (xs : List ℕ) → list_all (nat_lt x) xs ≡ true → AllByRecursion (λ y. y < n) xs → AreBetween (suc x) n xs
 above x n [] e h = tt
 above x n (y ∷ ys) e h =
-    let p = both-hold (nat_lt x y) (list_all (nat_lt x) ys) e in
+    let p = and_parts (nat_lt x y) (list_all (nat_lt x) ys) e in
     let l : x < y = ltb-true x y p.0 in
     (omega (arith, l), h.0, above x n ys p.1 h.1)
 
 few-between : (low n : ℕ) (xs : List ℕ) → low ≤ n → is_ascending xs ≡ true → AllByRecursion (λ y. y < n) xs → AreBetween low n xs → length xs + low ≤ n
 few-between low n [] l e h b = omega (arith, l)
 few-between low n (x ∷ xs) l e h b =
-    let p = both-hold (list_all (nat_lt x) xs) (is_ascending xs) e in
+    let p = and_parts (list_all (nat_lt x) xs) (is_ascending xs) e in
     let below = b.1 in
     let least = b.0 in
     let rest = few-between (suc x) n xs (omega (arith, below)) p.1 h.1 (above x n xs p.0 h.1) in

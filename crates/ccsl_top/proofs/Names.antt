@@ -1,6 +1,7 @@
 -- The two files that `simulate` writes have different names.
 use Rattle.std.proofs.Common.{◌≡◌, ◌≢◌, ℕ, List, [], ◌∷◌, Bool, true, false, not, ◌&&◌, ◌||◌, Option, Some, None, Result, Ok, Err, find, cond, refl, sym, ◌∙◌, bytes_eq}
 use Rattle.std.proofs.lemmas.Slice.Eq.{bytes_eq-Decides}
+use Rattle.std.proofs.lemmas.Bool.{not-false}
 use Rattle.ccsl_command.specs.declared.table.CommandName.{CommandName}
 use Rattle.ccsl_command.specs.declared.table.CommandName.TheVariants as name
 use Rattle.ccsl_command.specs.declared.table.Key.{Key}
@@ -12,7 +13,7 @@ use Rattle.ccsl_command.specs.declared.usage.Usage.{Usage}
 use Rattle.ccsl_command.specs.declared.usage.Usage.TheVariants as usage
 use Rattle.ccsl_command.specs.Pairs.{is_given, value_of}
 use Rattle.ccsl_command.specs.Meaning.{meaning, named_meaning, pairs_meaning, first_fault, first_missing, have_same_value, has_same_name, command_of, command_named}
-use Rattle.ccsl_top.proofs.Slots.{both-ways}
+use Rattle.ccsl_top.proofs.Slots.{not_both}
 
 -- a key of those that all stand there stands there
 pub none-first : (f : Key → Bool) (k : Key) (ks : List Key) → find f (k ∷ ks) ≡ None → (f k ≡ false) × (find f ks ≡ None)
@@ -22,19 +23,15 @@ none-first f k ks e = by-test (f k) refl e
     by-test true is e = let clash : Some k ≡ None = e in absurd (cc)
     by-test false is e = (is, e)
 
-pub not-not : (b : Bool) → not b ≡ false → b ≡ true
-not-not true e = refl
-not-not false e = both-ways true refl e
-
 last-of-three : (a b c : Bool) → ((a || b) || c) ≡ false → c ≡ false
-last-of-three true b c e = both-ways true refl e
-last-of-three false true c e = both-ways true refl e
+last-of-three true b c e = not_both true refl e
+last-of-three false true c e = not_both true refl e
 last-of-three false false c e = e
 
 values-differ : (a b c : Bool) → a ≡ true → b ≡ true → ((a && b) && c) ≡ false → c ≡ false
 values-differ true true c _ _ e = e
-values-differ false b c e _ _ = both-ways false e refl
-values-differ true false c _ e _ = both-ways false e refl
+values-differ false b c e _ _ = not_both false e refl
+values-differ true false c _ e _ = not_both false e refl
 
 module _ (spec : List ℕ) (policy : PolicyName) (seed steps : ℕ) (trace cert : List ℕ) where
   abbrev wanted : Command
@@ -50,7 +47,7 @@ module _ (spec : List ℕ) (policy : PolicyName) (seed steps : ℕ) (trace cert 
       let d = none-first f key.Steps (key.Trace ∷ key.Cert ∷ []) c.1 in
       let t = none-first f key.Trace (key.Cert ∷ []) d.1 in
       let u = none-first f key.Cert [] t.1 in
-      (not-not (is_given key.Trace pairs) t.0, not-not (is_given key.Cert pairs) u.0)
+      (not-false (is_given key.Trace pairs) t.0, not-false (is_given key.Cert pairs) u.0)
 
   command-differs : (n : CommandName) (pairs : List (List ℕ)) → first_missing n pairs ≡ None → has_same_name pairs ≡ false → command_of n pairs ≡ wanted → trace ≢ cert
   command-differs name.Check pairs missing differ e = let clash : command.Check (value_of key.Spec pairs) ≡ wanted = e in absurd (cc)
@@ -67,7 +64,7 @@ module _ (spec : List ℕ) (policy : PolicyName) (seed steps : ℕ) (trace cert 
       (last-of-three (have_same_value key.Spec key.Trace pairs) (have_same_value key.Spec key.Cert pairs) (have_same_value key.Trace key.Cert pairs) differ) in
       let trace-is : value_of key.Trace pairs ≡ trace = cc in
       let cert-is : value_of key.Cert pairs ≡ cert = cc in
-      λ same. both-ways (bytes_eq (value_of key.Trace pairs) (value_of key.Cert pairs))
+      λ same. not_both (bytes_eq (value_of key.Trace pairs) (value_of key.Cert pairs))
       ((bytes_eq-Decides (value_of key.Trace pairs) (value_of key.Cert pairs)).1 (trace-is ∙ same ∙ sym cert-is)) apart
 
   pairs-differ : (n : CommandName) (pairs : List (List ℕ)) (fault : Option Usage) (missing : Option Key) → first_missing n pairs ≡ missing →

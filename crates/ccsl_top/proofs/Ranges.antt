@@ -1,6 +1,6 @@
 -- The numbers of `trial` are within their ranges.
 use Rattle.std.proofs.Common.{◌≡◌, ℕ, ◌+◌, ◌≤◌, List, [], ◌∷◌, ◌++◌, Bool, true, false, not, ◌&&◌, ◌||◌, Option, Some, None, is_some, unwrap_or, Result, Ok, Err, find, cond, nat_le, refl, sym, ap, ◌∙◌, subst, bytes_eq}
-use Rattle.std.proofs.lemmas.Bool.{leb-true}
+use Rattle.std.proofs.lemmas.Bool.{leb-true, not-false, and_parts}
 use Rattle.std.proofs.lemmas.Slice.Eq.{bytes_eq-Decides}
 use Rattle.ccsl_base.specs.Decimal.{decimal_value}
 use Rattle.ccsl_command.specs.declared.TheConstants.{MAX_TRIAL_STEPS, MIN_TRIAL_CLOCKS, MAX_TRIAL_CLOCKS}
@@ -17,18 +17,14 @@ use Rattle.ccsl_command.specs.Values.{Range, range_of, is_number, is_within, num
 use Rattle.ccsl_command.specs.Pairs.{is_pair, key_part, value_part, key_of, has_key, is_given, value_of}
 use Rattle.ccsl_command.specs.Meaning.{meaning, named_meaning, pairs_meaning, key_fault, word_fault, first_fault, first_missing, has_same_name, command_of, command_named, number_of}
 use Rattle.std.specs.Option.{option_or}
-use Rattle.ccsl_top.proofs.Slots.{both-ways}
-use Rattle.ccsl_top.proofs.Names.{none-first, not-not}
+use Rattle.ccsl_top.proofs.Names.{none-first}
+use Rattle.ccsl_top.proofs.Slots.{not_both}
 
 -- the numbers that a trial may have
 pub record IsTrial (clocks steps : ℕ) : Type 0 where
   pub least : MIN_TRIAL_CLOCKS ≤ clocks
   pub most : clocks ≤ MAX_TRIAL_CLOCKS
   pub few : steps ≤ MAX_TRIAL_STEPS
-
-both-hold : (a b : Bool) → (a && b) ≡ true → (a ≡ true) × (b ≡ true)
-both-hold true b e = (refl, e)
-both-hold false b e = both-ways false e refl
 
 -- a number that is read is within its range
 in-range : (range : Range) (text : List ℕ) → is_some (number_in range text) ≡ true →
@@ -38,10 +34,10 @@ in-range range text e = by-test (is_within range text) refl e
     by-test : (t : Bool) → is_within range text ≡ t → is_some (cond t (Some (decimal_value text)) None) ≡ true →
         (range.least ≤ unwrap_or (cond t (Some (decimal_value text)) None) 0) × (unwrap_or (cond t (Some (decimal_value text)) None) 0 ≤ range.most)
     by-test true is e =
-        let a = both-hold (is_number text && nat_le range.least (decimal_value text)) (nat_le (decimal_value text) range.most) is in
-        let b = both-hold (is_number text) (nat_le range.least (decimal_value text)) a.0 in
+        let a = and_parts (is_number text && nat_le range.least (decimal_value text)) (nat_le (decimal_value text) range.most) is in
+        let b = and_parts (is_number text) (nat_le range.least (decimal_value text)) a.0 in
         (leb-true range.least (decimal_value text) b.1, leb-true (decimal_value text) range.most a.1)
-    by-test false is e = both-ways false e refl
+    by-test false is e = not_both false e refl
 
 -- no fault of two
 neither : (a b : Option Usage) → option_or a b ≡ None → (a ≡ None) × (b ≡ None)
@@ -52,7 +48,7 @@ module _ (n : CommandName) (k : Key) (keyed : (word : List ℕ) → has_key k wo
   -- a word with the key that is not at fault has a value of it
   word-value : (earlier : List (List ℕ)) (i : ℕ) (word : List ℕ) → has_key k word ≡ true → word_fault n earlier i word ≡ None → is_value n k (value_part word) ≡ true
   word-value earlier i word has e =
-      let pair = (both-hold (is_pair word) (bytes_eq (key_text k) (key_part word)) has).0 in
+      let pair = (and_parts (is_pair word) (bytes_eq (key_text k) (key_part word)) has).0 in
       let fine : key_fault n earlier i word (key_of n word) ≡ None = sym (ap (λ t. cond t (key_fault n earlier i word (key_of n word)) (Some (usage.NotPair i))) pair) ∙ e in
       of-key (is_given k earlier) (is_value n k (value_part word)) (sym (ap (key_fault n earlier i word) (keyed word has)) ∙ fine)
     where
@@ -62,7 +58,7 @@ module _ (n : CommandName) (k : Key) (keyed : (word : List ℕ) → has_key k wo
       of-key false false e = let clash : (let O : Option Usage = Some (usage.BadValue i) in O) ≡ None = e in absurd (cc)
 
   given-value : (pairs earlier : List (List ℕ)) (i : ℕ) → first_fault n earlier i pairs ≡ None → is_given k pairs ≡ true → is_value n k (value_of k pairs) ≡ true
-  given-value [] earlier i e given = both-ways false given refl
+  given-value [] earlier i e given = not_both false given refl
   given-value (word ∷ words) earlier i e given =
       let fine = neither (word_fault n earlier i word) (first_fault n (earlier ++ word ∷ []) (i + 1) words) e in
       by-test (has_key k word) refl given fine.0 (λ g. given-value words (earlier ++ word ∷ []) (i + 1) fine.1 g)
@@ -74,7 +70,7 @@ module _ (n : CommandName) (k : Key) (keyed : (word : List ℕ) → has_key k wo
 
 -- the key of a word is the one that its text says
 text-is : (k : Key) (word : List ℕ) → has_key k word ≡ true → key_text k ≡ key_part word
-text-is k word has = (bytes_eq-Decides (key_text k) (key_part word)).0 (both-hold (is_pair word) (bytes_eq (key_text k) (key_part word)) has).1
+text-is k word has = (bytes_eq-Decides (key_text k) (key_part word)).0 (and_parts (is_pair word) (bytes_eq (key_text k) (key_part word)) has).1
 
 clocks-keyed : (word : List ℕ) → has_key key.Clocks word ≡ true → key_of name.Trial word ≡ Some key.Clocks
 clocks-keyed word has = ap (λ text. find (λ k. bytes_eq (key_text k) text) (keys_of name.Trial)) (sym (text-is key.Clocks word has))
@@ -91,7 +87,7 @@ module _ (clocks steps seed workers : ℕ) where
       let f : Key → Bool = λ k. not (is_given k pairs) in
       let a = none-first f key.Clocks (key.Steps ∷ key.Seed ∷ key.Workers ∷ []) e in
       let b = none-first f key.Steps (key.Seed ∷ key.Workers ∷ []) a.1 in
-      (not-not (is_given key.Clocks pairs) a.0, not-not (is_given key.Steps pairs) b.0)
+      (not-false (is_given key.Clocks pairs) a.0, not-false (is_given key.Steps pairs) b.0)
 
   command-ranges : (n : CommandName) (pairs : List (List ℕ)) → first_fault n [] 1 pairs ≡ None → first_missing n pairs ≡ None → command_of n pairs ≡ wanted → IsTrial clocks steps
   command-ranges name.Check pairs fine missing e = let clash : command.Check (value_of key.Spec pairs) ≡ wanted = e in absurd (cc)

@@ -1,6 +1,6 @@
 -- How far a run with a status reaches, and which statuses come.
 use Rattle.std.proofs.Common.{◌≡◌, ◌≢◌, ℕ, suc, List, [], ◌∷◌, Bool, true, false, not, ◌||◌, ◌&&◌, nat_eq, cond, Contains, Result, Ok, Err, refl, sym, ap, ◌∙◌, subst, arith}
-use Rattle.std.proofs.lemmas.Bool.{ne_eqb}
+use Rattle.std.proofs.lemmas.Bool.{ne_eqb, and_from, or_left}
 use Rattle.ccsl_edge.specs.declared.slot.Slot.{Slot}
 use Rattle.ccsl_edge.specs.declared.slot.Slot.TheVariants.{Spec, Input}
 use Rattle.ccsl_command.specs.declared.command.Command.{Command}
@@ -13,25 +13,17 @@ use Rattle.ccsl_top.specs.declared.reply.Status.TheVariants.{Done, No, WordsRefu
 use Rattle.ccsl_top.specs.Statuses.{answers_of}
 use Rattle.ccsl_top.specs.Opening.{opens, uses, is_slot, is_output, is_session, reaches, may_change}
 use Rattle.ccsl_top.specs.Answered.{code_of, IsReadStatus}
-use Rattle.ccsl_top.proofs.Slots.{both-ways, is_slot-self}
+use Rattle.ccsl_top.proofs.Slots.{is_slot-self, not_both}
 use Rattle.ccsl_top.proofs.Effects.{by-test}
 
 never-and : (b : Bool) → not (b && false) ≡ true
 never-and true = refl
 never-and false = refl
 
-both-true : (a b : Bool) → a ≡ true → b ≡ true → (a && b) ≡ true
-both-true true b e f = f
-both-true false b e f = e
-
-first-true : (a b : Bool) → a ≡ true → (a || b) ≡ true
-first-true true b e = refl
-first-true false b e = both-ways false e refl
-
 module _ (words : List (List ℕ)) (slot : Slot) where
   -- what is opened is used
   pub opened-used : opens (files_opened words) slot ≡ true → uses words slot ≡ true
-  opened-used e = first-true (opens (files_opened words) slot) (is_session (meaning words) && is_slot slot Input) e
+  opened-used e = or_left (opens (files_opened words) slot) (is_session (meaning words) && is_slot slot Input) e
 
   module _ (status : ℕ) where
     behind-spec : status ≢ 3 → reaches status slot ≡ not ((nat_eq status 1 || nat_eq status 4) && is_output slot)
@@ -39,22 +31,22 @@ module _ (words : List (List ℕ)) (slot : Slot) where
 
     -- every slot that is used, but behind a status of refusal
     pub reach-all : status ≢ 1 → status ≢ 3 → status ≢ 4 → uses words slot ≡ true → may_change words status slot ≡ true
-    reach-all one three four u = both-true (uses words slot) (reaches status slot) u
+    reach-all one three four u = and_from (uses words slot) (reaches status slot) u
         (behind-spec three ∙ ap (λ b. not ((b || nat_eq status 4) && is_output slot)) (ne_eqb status 1 one)
         ∙ ap (λ b. not ((false || b) && is_output slot)) (ne_eqb status 4 four))
 
     -- every slot that is read, but behind a refused specification
     pub reach-read : status ≢ 3 → is_output slot ≡ false → uses words slot ≡ true → may_change words status slot ≡ true
-    reach-read three out u = both-true (uses words slot) (reaches status slot) u
+    reach-read three out u = and_from (uses words slot) (reaches status slot) u
         (behind-spec three ∙ ap (λ o. not ((nat_eq status 1 || nat_eq status 4) && o)) out ∙ never-and (nat_eq status 1 || nat_eq status 4))
 
     pub unused-all : status ≢ 1 → status ≢ 3 → status ≢ 4 → may_change words status slot ≡ false → uses words slot ≡ false
     unused-all one three four e =
-        by-test (uses words slot) (λ yes. both-ways (may_change words status slot) (reach-all one three four yes) e) (λ no. no)
+        by-test (uses words slot) (λ yes. not_both (may_change words status slot) (reach-all one three four yes) e) (λ no. no)
 
 -- the specification, behind every status
 pub reach-spec : (words : List (List ℕ)) (status : ℕ) → opens (files_opened words) Spec ≡ true → may_change words status Spec ≡ true
-reach-spec words status e = both-true (uses words Spec) (reaches status Spec) (opened-used words Spec e) (by-test (nat_eq status 3)
+reach-spec words status e = and_from (uses words Spec) (reaches status Spec) (opened-used words Spec e) (by-test (nat_eq status 3)
     (λ yes. ap (λ b. cond b (is_slot Spec Spec) (not ((nat_eq status 1 || nat_eq status 4) && is_output Spec))) yes ∙ is_slot-self Spec)
     (λ no. ap (λ b. cond b (is_slot Spec Spec) (not ((nat_eq status 1 || nat_eq status 4) && is_output Spec))) no ∙ never-and (nat_eq status 1 || nat_eq status 4)))
 

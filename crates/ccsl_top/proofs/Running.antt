@@ -23,8 +23,8 @@ use Rattle.ccsl_trace.specs.Traces.{IsRefused, IsNearHeader}
 use Rattle.ccsl_trace.specs.Traces as traces
 use Rattle.ccsl_certify.specs.Replaying.{IsTrace, AreAfter}
 use Rattle.ccsl_report.specs.Texts.{trace_text, broken_text, explain_blocked_text}
-use Rattle.ccsl_top.specs.declared.files.Stop.{Stop}
-use Rattle.ccsl_top.specs.declared.files.Stop.TheVariants as stop
+use Rattle.ccsl_edge.specs.declared.stop.Stop.{Stop}
+use Rattle.ccsl_edge.specs.declared.stop.Stop.TheVariants as stop
 use Rattle.ccsl_top.specs.declared.reply.Reply.{Reply}
 use Rattle.ccsl_top.specs.Outcome.{Outcome, outcome}
 use Rattle.ccsl_top.specs.Judge.{LIMITS}

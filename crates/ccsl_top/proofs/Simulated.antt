@@ -16,8 +16,8 @@ use Rattle.ccsl_policy.specs.declared.policies.Policy.{Policy}
 use Rattle.ccsl_simulate.specs.declared.answer.Done.{Done}
 use Rattle.ccsl_simulate.specs.declared.answer.Done.TheVariants.{Full, Deadlock}
 use Rattle.ccsl_report.specs.Texts.{simulated_text, deadlocked_text}
-use Rattle.ccsl_top.specs.declared.files.Stop.{Stop}
-use Rattle.ccsl_top.specs.declared.files.Stop.TheVariants as stop
+use Rattle.ccsl_edge.specs.declared.stop.Stop.{Stop}
+use Rattle.ccsl_edge.specs.declared.stop.Stop.TheVariants as stop
 use Rattle.ccsl_top.specs.declared.reply.Reply.{Reply}
 use Rattle.ccsl_top.specs.Outcome.{Output, Outcome}
 use Rattle.ccsl_top.specs.Opening.{opens, writes, is_slot, is_output}
@@ -30,26 +30,26 @@ use Rattle.ccsl_top.specs.Statuses.{answers_of}
 use Rattle.ccsl_top.specs.Headline.{IsTold, input_of, FaultCause, IsDefinedOutput, simulated, by_file}
 use Rattle.ccsl_top.specs.Answered.{code_of, Leaves, Stands, Answered, Faulted, Starved, IsUnanswered, AnswersTo, StopsAt}
 use Rattle.ccsl_top.specs.Simulating.{IsDoneReply, WritesSome, WritesBoth, WriteBreaks, WriteStarves, IsWriteStop}
-use Rattle.ccsl_top.proofs.Slots.{both-ways}
-use Rattle.ccsl_top.proofs.Effects.{either-false, other-false, uses-changed, uses-rises}
+use Rattle.ccsl_top.proofs.Effects.{uses-changed, uses-rises, or-left, or-right}
 use Rattle.ccsl_top.proofs.Outputs.{whole-moves, front-moves}
 use Rattle.ccsl_top.proofs.Reaching.{opened-used, reach-all}
 use Rattle.ccsl_top.proofs.Behind.{is-outcome, behind-told, among-answers}
 use Rattle.ccsl_top.proofs.Names.{names-differ}
 use Rattle.ccsl_top.proofs.Writing.{on-output}
+use Rattle.ccsl_top.proofs.Slots.{not_both}
 
 -- two names that differ from one
 apart-first : (a b : Bool) → (a || (b || false)) ≡ false → a ≡ false
-apart-first true b e = both-ways true refl e
+apart-first true b e = not_both true refl e
 apart-first false b e = refl
 
 apart-second : (a b : Bool) → (a || (b || false)) ≡ false → b ≡ false
-apart-second true b e = both-ways true refl e
-apart-second false true e = both-ways true refl e
+apart-second true b e = not_both true refl e
+apart-second false true e = not_both true refl e
 apart-second false false e = refl
 
 pub name-apart : (a b : List ℕ) → bytes_eq a b ≡ false → b ≢ a
-name-apart a b e same = both-ways (bytes_eq a b) ((bytes_eq-Decides a b).1 (sym same)) e
+name-apart a b e same = not_both (bytes_eq a b) ((bytes_eq-Decides a b).1 (sym same)) e
 
 -- the outcome of a run of so many steps, by how it ended
 abbrev code : Bool → ℕ
@@ -120,7 +120,7 @@ module _ (told : Told) (words : List (List ℕ)) (spec : List ℕ) (policy : Pol
     stays : Stays told (files_opened words) used s u
     unfolding used
     stays = record {
-      unwritten = λ e _. both-ways (used TraceOut) refl e;
+      unwritten = λ e _. not_both (used TraceOut) refl e;
       files = λ f w name e.
           let n : writes opened name ≡ false = sym (ap (λ fs. writes fs name) words-open) ∙ e in
           some.others f w name
@@ -129,7 +129,7 @@ module _ (told : Told) (words : List (List ℕ)) (spec : List ℕ) (policy : Pol
           ∙ sym (file-same name);
       inputs = λ slot out. subst (λ x. x ≡ record (s.slot_of slot) { left = x.left; faults = x.faults }) (sym (some.alone.others slot out)) (uses-changed (only Spec) s t reads.uses slot);
       others = λ slot e.
-          some.alone.others slot (other-false (only Spec slot) (is_output slot) e) ∙ reads.uses.others slot (either-false (only Spec slot) (is_output slot) e);
+          some.alone.others slot (or-right (only Spec slot) (is_output slot) e) ∙ reads.uses.others slot (or-left (only Spec slot) (is_output slot) e);
       rises = λ slot. let a = uses-rises (only Spec) s t reads.uses slot in let b = some.alone.rises slot in omega (arith, a, b);
     }
 

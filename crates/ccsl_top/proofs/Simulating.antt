@@ -11,15 +11,14 @@ use Rattle.ccsl_refute.specs.Writing.{lines_text}
 use Rattle.ccsl_vcd_write.specs.Text.{vcd_text}
 use Rattle.ccsl_simulate.specs.declared.answer.Done.{Done}
 use Rattle.ccsl_simulate.specs.declared.answer.Done.TheVariants.{Full, Deadlock}
-use Rattle.ccsl_simulate.specs.declared.answer.SimFault.{SimFault}
-use Rattle.ccsl_simulate.specs.declared.answer.SimFault.TheVariants as faults
+use Rattle.ccsl_edge.specs.declared.stop.Stop.{Stop}
+use Rattle.ccsl_edge.specs.declared.stop.Stop.TheVariants as stop
 use Rattle.ccsl_simulate.specs.Outcome.{IsDone, IsUndone}
 use Rattle.ccsl_top.specs.Outcome.{Output}
 use Rattle.ccsl_top.specs.Opening.{is_output}
 use Rattle.ccsl_top.specs.Simulate.{run, IsCertificate, none, lines, IsOutput, of_trace, of_certificate, trace_output, cert_output}
 use Rattle.ccsl_top.specs.Changes.{WritesAlone}
 use Rattle.ccsl_top.specs.Headline.{IsKeptOrWhole, kept, whole, IsFrontOn, untouched, part}
-use Rattle.ccsl_top.specs.Stopping.{of_simulation}
 use Rattle.ccsl_top.specs.Simulating.{IsEnd, WritesSome, WritesBoth, WriteBreaks, WriteStarves, IsWriteStop}
 use Rattle.ccsl_top.proofs.Effects.{alone-none, alone-then}
 use Rattle.ccsl_top.proofs.Outputs.{whole-moves, front-moves}
@@ -165,14 +164,11 @@ module _ (told : Told) (K : System) (p : Policy) (seed steps : ℕ) (trace cert 
           }
 
         -- a simulation that was not written
-        undone-stops : (fault : SimFault) → IsUndone told K p seed steps b c fault → IsWriteStop told K p seed steps trace cert s c (of_simulation fault)
+        pub undone-stops : (fault : Stop) → IsUndone told K p seed steps b c fault → IsWriteStop told K p seed steps trace cert s c fault
         unfolding text
-        undone-stops faults.Fault u = ⊎_elim front-stops
+        undone-stops stop.Fault u = ⊎_elim front-stops
             (λ f. cert-stops (lines_text K.names f.lines) (lines f.lines (rw f.blocked.count f.blocked.short) f.blocked.certificate refl) f.written f.blocked.trace f.text) u
-        undone-stops faults.Memory u = cut-starves u.count u.trace
-
-        pub simulation-stops : (fault : SimFault) → IsUndone told K p seed steps b c fault → IsWriteStop told K p seed steps trace cert s c (of_simulation fault)
-        simulation-stops fault u = undone-stops fault u
+        undone-stops stop.Memory u = cut-starves u.count u.trace
 
         -- BOTH TEXTS were written
         pub record Texts (done : Done) : Type 0 where

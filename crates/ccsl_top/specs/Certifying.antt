@@ -9,8 +9,8 @@ use Rattle.ccsl_certify.specs.declared.answer.CertVerdict.TheVariants.{Yes, NotR
 use Rattle.ccsl_certify.specs.declared.answer.CertifyFault.{CertifyFault}
 use Rattle.ccsl_certify.specs.declared.answer.CertifyFault.TheVariants as fault
 use Rattle.ccsl_report.specs.Texts.{trace_text, cert_text, cert_too_long_text, cert_valid_text, broken_text, cert_no_line_text}
-use Rattle.ccsl_top.specs.declared.files.Stop.{Stop}
-use Rattle.ccsl_top.specs.declared.files.Stop.TheVariants as stop
+use Rattle.ccsl_edge.specs.declared.stop.Stop.{Stop}
+use Rattle.ccsl_edge.specs.declared.stop.Stop.TheVariants as stop
 use Rattle.ccsl_top.specs.declared.reply.Reply.{Reply}
 use Rattle.ccsl_top.specs.Outcome.{Outcome, outcome}
 use Rattle.ccsl_top.specs.Certify.{certify_outcome}

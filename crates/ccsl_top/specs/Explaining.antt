@@ -10,8 +10,8 @@ use Rattle.ccsl_refute.specs.declared.line.Line.{Line}
 use Rattle.ccsl_items.specs.Formulas.{scope_of}
 use Rattle.ccsl_explain.specs.Explained.{IsPossible, IsExplained}
 use Rattle.ccsl_report.specs.Texts.{explain_open_text}
-use Rattle.ccsl_top.specs.declared.files.Stop.{Stop}
-use Rattle.ccsl_top.specs.declared.files.Stop.TheVariants as stop
+use Rattle.ccsl_edge.specs.declared.stop.Stop.{Stop}
+use Rattle.ccsl_edge.specs.declared.stop.Stop.TheVariants as stop
 use Rattle.ccsl_top.specs.declared.reply.Reply.{Reply}
 use Rattle.ccsl_top.specs.Outcome.{Output, Outcome, outcome}
 use Rattle.ccsl_top.specs.Explain.{cert_output, blocked_outcome, IsExplainOutcome}

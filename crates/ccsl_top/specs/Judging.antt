@@ -8,8 +8,8 @@ use Rattle.ccsl_trace.specs.declared.fault.TraceFault.TheVariants as fault
 use Rattle.ccsl_judge.specs.declared.verdict.Verdict.{Verdict}
 use Rattle.ccsl_judge.specs.Judged.{plain}
 use Rattle.ccsl_report.specs.Texts.{trace_text}
-use Rattle.ccsl_top.specs.declared.files.Stop.{Stop}
-use Rattle.ccsl_top.specs.declared.files.Stop.TheVariants as stop
+use Rattle.ccsl_edge.specs.declared.stop.Stop.{Stop}
+use Rattle.ccsl_edge.specs.declared.stop.Stop.TheVariants as stop
 use Rattle.ccsl_top.specs.declared.reply.Reply.{Reply}
 use Rattle.ccsl_top.specs.Outcome.{outcome}
 use Rattle.ccsl_top.specs.Judge.{verdict_outcome}

@@ -15,6 +15,7 @@ pub mod Opening
 pub mod Effects
 pub mod Changes
 pub mod Reading
+pub mod Specified
 pub mod Stopping
 pub mod Answered
 pub mod Headline

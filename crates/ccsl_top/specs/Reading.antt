@@ -4,8 +4,8 @@ use Rattle.ccsl_edge.specs.declared.slot.Slot.{Slot}
 use Rattle.ccsl_edge.specs.World.{State, Told, held}
 use Rattle.ccsl_spec.specs.declared.specification.Specification.{Specification}
 use Rattle.ccsl_spec.specs.Found.{IsRead}
-use Rattle.ccsl_top.specs.declared.files.Stop.{Stop}
-use Rattle.ccsl_top.specs.declared.files.Stop.TheVariants.{Fault, Memory}
+use Rattle.ccsl_edge.specs.declared.stop.Stop.{Stop}
+use Rattle.ccsl_edge.specs.declared.stop.Stop.TheVariants.{Fault, Memory}
 use Rattle.ccsl_top.specs.Opening.{is_slot}
 use Rattle.ccsl_top.specs.Effects.{RoseAt}
 use Rattle.ccsl_top.specs.Changes.{Uses, Reads}

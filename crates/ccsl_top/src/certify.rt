@@ -1,23 +1,19 @@
 //! The command `certify`.
 
 ghost use Rattle.std.specs.Prelude.{IfOk, IfErr};
-ghost use Rattle.ccsl_edge.specs.declared.slot.Slot.TheVariants.{Spec, Trace, Cert};
-ghost use Rattle.ccsl_command.specs.declared.command.Command.TheVariants as command;
+ghost use Rattle.ccsl_edge.specs.declared.slot.Slot.TheVariants.{Trace, Cert};
 ghost use Rattle.ccsl_top.specs.Certifying.{HasItem, IsReplyOn, CertifyAnswers, IsBothStop};
-ghost use Rattle.ccsl_top.specs.Answered.{AnswersTo, StopsAt};
 
-use crate::files::{LIMITS, Stop};
+use crate::files::LIMITS;
 use crate::reply::{Reply, Status};
-use crate::specification::read_specification;
 use ccsl_base::HashKeys;
 use ccsl_certify::{CertVerdict, CertifyFault};
-use ccsl_edge::{Slot, World};
+use ccsl_edge::{Slot, Stop, World};
 use ccsl_kernel::System;
 use ccsl_refute::laws::first_bad_line_is_first;
 use ccsl_report::{
     cert_no_line, cert_no_run, cert_refused, cert_too_long, cert_valid, trace_refused,
 };
-use ccsl_spec::Specification;
 use std::alloc::Global;
 
 // The reply on what checking a certificate has come to.
@@ -46,8 +42,8 @@ fn reply_on(
     Ok(Reply { status, line })
 }
 
-// Checks the certificate of a name behind the trace of a name, against a system.
-fn certify_files<W: World>(
+/// Checks the certificate of a name behind the trace of a name, against a system.
+pub(crate) fn certify<W: World>(
     alloc: Global,
     keys: HashKeys,
     world: &mut W,
@@ -66,30 +62,4 @@ fn certify_files<W: World>(
     first_bad_line_is_first();
     let certified = ccsl_certify::certify(alloc, keys, world, system, &LIMITS);
     reply_on(alloc, certified, system)
-}
-
-/// Checks the certificate of a name behind the trace of a name, against the specification of a name.
-pub(crate) fn certify<W: World>(
-    alloc: Global,
-    keys: HashKeys,
-    world: &mut W,
-    spec: &str,
-    trace: &str,
-    cert: &str,
-) -> Result<Reply, Stop>
-    requires spec { W.allows Spec spec.now }
-    requires trace { W.allows Trace trace.now }
-    requires cert { W.allows Cert cert.now }
-    ensures answers { IfOk result (λ reply. AnswersTo W.told
-        (command.Certify spec.now trace.now cert.now) reply (W.state world.old) (W.state world.new)) }
-    ensures stop { IfErr result (λ stop. StopsAt W.told
-        (command.Certify spec.now trace.now cert.now) stop (W.state world.old) (W.state world.new)) }
-{
-    match read_specification(alloc, world, spec)? {
-        Specification::Accepted(system) => certify_files(alloc, keys, world, &system, trace, cert),
-        Specification::Refused(line) => Ok(Reply {
-            status: Status::SpecRefused,
-            line,
-        }),
-    }
 }

@@ -2,8 +2,7 @@
 
 ghost use Rattle.std.specs.Prelude.{◌≡◌, ◌++◌, ◌<◌, ◌^◌, ℕ, List, true, map, All, IfOk, IfErr, OnOk, OnErr, length};
 ghost use Rattle.ccsl_base.specs.Clocks.{ticks_in};
-ghost use Rattle.ccsl_edge.specs.declared.slot.Slot.TheVariants.{Spec, Trace, CertOut};
-ghost use Rattle.ccsl_command.specs.declared.command.Command.TheVariants as command;
+ghost use Rattle.ccsl_edge.specs.declared.slot.Slot.TheVariants.{Trace, CertOut};
 ghost use Rattle.ccsl_kernel.specs.Syntax.{item_count};
 ghost use Rattle.ccsl_kernel.specs.Accepted.{IsAccepted};
 ghost use Rattle.ccsl_kernel.specs.Lives.{Step};
@@ -19,14 +18,12 @@ ghost use Rattle.ccsl_explain.specs.Explains.{Explains};
 ghost use Rattle.ccsl_report.specs.Texts.{explain_blocked_text, explain_member_text};
 ghost use Rattle.ccsl_top.specs.Explain.{member_lines, cert_output};
 ghost use Rattle.ccsl_top.specs.Explaining.{AreMembers, file_of, WritesWhole, WritesBreak, IsWriteStop, BlockedAnswers, RunAnswers, IsRunStop, TraceAnswers, IsTraceStop};
-ghost use Rattle.ccsl_top.specs.Answered.{AnswersTo, StopsAt};
 
-use crate::files::{LIMITS, Stop};
+use crate::files::LIMITS;
 use crate::reply::{Reply, Status};
-use crate::specification::read_specification;
 use ccsl_base::{ClockSet, HashKeys, Memory};
 use ccsl_certify::{ReplayFault, Replayed, replay};
-use ccsl_edge::{Failed, Slot, World, write_all};
+use ccsl_edge::{Failed, Slot, Stop, World, write_all};
 use ccsl_explain::Explained;
 use ccsl_formula::Formula;
 use ccsl_items::put_formulas;
@@ -34,7 +31,6 @@ use ccsl_kernel::System;
 use ccsl_refute::laws::valid_lines_name_clocks;
 use ccsl_refute::{Line, write};
 use ccsl_report::{explain_blocked, explain_member, explain_no_run, explain_open, trace_refused};
-use ccsl_spec::Specification;
 use ccsl_state::States;
 use std::alloc::Global;
 
@@ -202,8 +198,9 @@ fn explain_run<W: World>(
     explain_formulas(alloc, world, system, cert, steps, &formulas)
 }
 
-// Explains what follows the trace of a name, against a system.
-fn explain_trace<W: World>(
+/// Says which items of a system block every step behind the trace of a name, and writes a certificate that cites no other item. It
+/// is opened only where items block.
+pub(crate) fn explain<W: World>(
     alloc: Global,
     keys: HashKeys,
     world: &mut W,
@@ -233,32 +230,5 @@ fn explain_trace<W: World>(
         }),
         Err(ReplayFault::Fault) => Err(Stop::Fault),
         Err(ReplayFault::Memory) => Err(Stop::Memory),
-    }
-}
-
-/// Says which items block every step behind the trace of a name, against the specification of a name, and writes a certificate that
-/// cites no other item. It is opened only where items block.
-pub(crate) fn explain<W: World>(
-    alloc: Global,
-    keys: HashKeys,
-    world: &mut W,
-    spec: &str,
-    trace: &str,
-    cert: &str,
-) -> Result<Reply, Stop>
-    requires spec { W.allows Spec spec.now }
-    requires trace { W.allows Trace trace.now }
-    requires cert { W.allows CertOut cert.now }
-    ensures answers { IfOk result (λ reply. AnswersTo W.told
-        (command.Explain spec.now trace.now cert.now) reply (W.state world.old) (W.state world.new)) }
-    ensures stop { IfErr result (λ stop. StopsAt W.told
-        (command.Explain spec.now trace.now cert.now) stop (W.state world.old) (W.state world.new)) }
-{
-    match read_specification(alloc, world, spec)? {
-        Specification::Accepted(system) => explain_trace(alloc, keys, world, &system, trace, cert),
-        Specification::Refused(line) => Ok(Reply {
-            status: Status::SpecRefused,
-            line,
-        }),
     }
 }

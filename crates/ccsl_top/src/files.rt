@@ -4,11 +4,9 @@ ghost use Rattle.std.specs.Prelude.{◌≡◌, IfOk, IfErr, option_map};
 ghost use Rattle.ccsl_edge.specs.Slots.{IsInputFile};
 ghost use Rattle.ccsl_top.specs.Changes.{Reads};
 ghost use Rattle.ccsl_top.specs.Reading.{only, IsFile, IsStop};
-ghost use Rattle.ccsl_top.specs.Stopping.{stop_code};
 
-use ccsl_base::{MAX_FILE_BYTES, MAX_SCOPES, MAX_VARS, Memory};
-use ccsl_edge::{Failed, ReadFault, Slot, World, read_all};
-use ccsl_simulate::SimFault;
+use ccsl_base::{MAX_FILE_BYTES, MAX_SCOPES, MAX_VARS};
+use ccsl_edge::{ReadFault, Slot, Stop, World, read_all};
 use ccsl_vcd::Limits;
 use std::alloc::Global;
 
@@ -18,63 +16,6 @@ pub(crate) const LIMITS: Limits = Limits {
     vars: MAX_VARS,
     scopes: MAX_SCOPES,
 };
-
-/// Why there is no answer.
-#[derive(Clone, Copy)]
-pub(crate) enum Stop {
-    /// A call of the world failed.
-    Fault,
-    /// No memory was to be had.
-    Memory,
-}
-
-impl Stop {
-    /// The program's exit status.
-    pub(crate) fn code(self) -> u8
-        ensures { result ≡ stop_code self }
-    {
-        match self {
-            Stop::Fault => 5,
-            Stop::Memory => 6,
-        }
-    }
-}
-
-impl From<Memory> for Stop {
-    ghost use Rattle.std.specs.Prelude.{◌≡◌};
-    ghost use Rattle.ccsl_top.specs.declared.files.Stop.TheVariants.{Memory as NoMemory};
-
-    ghost from_gives = { λ _ stop. stop ≡ NoMemory };
-
-    fn from(_memory: Memory) -> Stop {
-        Stop::Memory
-    }
-}
-
-impl From<Failed> for Stop {
-    ghost use Rattle.std.specs.Prelude.{◌≡◌};
-    ghost use Rattle.ccsl_top.specs.declared.files.Stop.TheVariants.{Fault};
-
-    ghost from_gives = { λ _ stop. stop ≡ Fault };
-
-    fn from(_failed: Failed) -> Stop {
-        Stop::Fault
-    }
-}
-
-impl From<SimFault> for Stop {
-    ghost use Rattle.std.specs.Prelude.{◌≡◌};
-    ghost use Rattle.ccsl_top.specs.Stopping.{of_simulation};
-
-    ghost from_gives = { λ fault stop. stop ≡ of_simulation fault };
-
-    fn from(fault: SimFault) -> Stop {
-        match fault {
-            SimFault::Fault => Stop::Fault,
-            SimFault::Memory => Stop::Memory,
-        }
-    }
-}
 
 /// Reads the whole file of a name through a slot. It answers `None` where the file has more than `limit` bytes.
 pub(crate) fn read_file<W: World>(

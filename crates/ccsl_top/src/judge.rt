@@ -1,27 +1,24 @@
 //! The command `judge`.
 
 ghost use Rattle.std.specs.Prelude.{◌≡◌, ◌+◌, ◌≤◌, IfOk, IfErr, IsTrue, vec_len, vec_capacity, []};
-ghost use Rattle.ccsl_edge.specs.declared.slot.Slot.TheVariants.{Spec, Trace};
+ghost use Rattle.ccsl_edge.specs.declared.slot.Slot.TheVariants.{Trace};
 ghost use Rattle.ccsl_edge.specs.World.{held};
-ghost use Rattle.ccsl_command.specs.declared.command.Command.TheVariants as command;
 ghost use Rattle.ccsl_judge.specs.Judged.{HasItem};
 ghost use Rattle.ccsl_report.specs.Room.{room};
 ghost use Rattle.ccsl_top.specs.Judge.{judge_outcome};
 ghost use Rattle.ccsl_top.specs.Changes.{Reads};
 ghost use Rattle.ccsl_top.specs.Reading.{only};
 ghost use Rattle.ccsl_top.specs.Judging.{IsReplyOn, IsTraceStop};
-ghost use Rattle.ccsl_top.specs.Answered.{plain_reply, IsReadStatus, AnswersTo, StopsAt};
+ghost use Rattle.ccsl_top.specs.Answered.{plain_reply, IsReadStatus};
 
-use crate::files::{LIMITS, Stop};
+use crate::files::LIMITS;
 use crate::reply::{Reply, Status};
-use crate::specification::read_specification;
 use ccsl_base::{HashKeys, Memory};
-use ccsl_edge::{Slot, World};
+use ccsl_edge::{Slot, Stop, World};
 use ccsl_judge::{JudgeFault, Verdict};
 use ccsl_kernel::System;
 use ccsl_pool::Gate;
 use ccsl_report::{judge_room, put_no_run, put_run, put_trace_fault};
-use ccsl_spec::Specification;
 use std::alloc::Global;
 use std::thread::Threads;
 
@@ -64,8 +61,8 @@ fn reply_on(
     Ok(Reply { status, line })
 }
 
-// Judges the trace of a name against a system.
-fn judge_trace<R: Threads + Sync, W: World, G: Gate>(
+/// Judges the trace of a name against a system. The line of report has its room before the trace is read.
+pub(crate) fn judge<R: Threads + Sync, W: World, G: Gate>(
     rt: &R,
     alloc: Global,
     keys: HashKeys,
@@ -97,33 +94,4 @@ fn judge_trace<R: Threads + Sync, W: World, G: Gate>(
         &LIMITS,
     );
     reply_on(judged, system, line)
-}
-
-/// Judges the trace of a name against the specification of a name. The line of report has its room before the trace is read.
-pub(crate) fn judge<R: Threads + Sync, W: World, G: Gate>(
-    rt: &R,
-    alloc: Global,
-    keys: HashKeys,
-    world: &mut W,
-    spec: &str,
-    trace: &str,
-    workers: u32,
-    gate: &G,
-) -> Result<Reply, Stop>
-    requires spec { W.allows Spec spec.now }
-    requires trace { W.allows Trace trace.now }
-    ensures answers { IfOk result (λ reply. AnswersTo W.told
-        (command.Judge spec.now trace.now workers) reply (W.state world.old) (W.state world.new)) }
-    ensures stop { IfErr result (λ stop. StopsAt W.told
-        (command.Judge spec.now trace.now workers) stop (W.state world.old) (W.state world.new)) }
-{
-    match read_specification(alloc, world, spec)? {
-        Specification::Accepted(system) => {
-            judge_trace(rt, alloc, keys, world, &system, trace, workers, gate)
-        }
-        Specification::Refused(line) => Ok(Reply {
-            status: Status::SpecRefused,
-            line,
-        }),
-    }
 }

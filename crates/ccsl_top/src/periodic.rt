@@ -3,13 +3,13 @@
 ghost use Rattle.std.specs.Prelude.{◌≡◌, ◌≢◌, false, IfOk, IfErr};
 ghost use Rattle.ccsl_words.specs.Word.{is_finite};
 ghost use Rattle.ccsl_top.specs.Periodic.{IsWritten, IsRelated, IsFiltered, IsPeriodicOutcome};
-ghost use Rattle.ccsl_top.specs.declared.files.Stop.TheVariants as stop;
+ghost use Rattle.ccsl_edge.specs.declared.stop.Stop.TheVariants as stop;
 ghost use Rattle.ccsl_top.specs.Answered.{plain_reply};
 
-use crate::files::Stop;
 use crate::reply::{Reply, Status};
 use ccsl_base::Memory;
 use ccsl_command::RelationName;
+use ccsl_edge::Stop;
 use ccsl_periodic::{Between, OnFault, canonical, compare, on, write};
 use ccsl_report::{periodic_fails, periodic_holds, periodic_long, periodic_word};
 use ccsl_words::Word;

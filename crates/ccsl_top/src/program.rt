@@ -1,30 +1,34 @@
 //! The program: words, files, an answer and a report.
 
-ghost use Rattle.std.specs.Prelude.{◌≡◌, ◌≢◌, ℕ, List, Ok, false, IfOk, IfErr, OnOk};
+ghost use Rattle.std.specs.Prelude.{◌≡◌, ◌≢◌, ℕ, List, Ok, Some, None, false, IfOk, IfErr, OnOk};
+ghost use Rattle.ccsl_edge.specs.World.{State};
 ghost use Rattle.ccsl_command.specs.Infinite.{HasInfiniteWords};
 ghost use Rattle.ccsl_command.specs.Meaning.{meaning};
 ghost use Rattle.ccsl_command.specs.Opened.{files_of, files_opened};
 ghost use Rattle.ccsl_top.specs.Program.{usage_outcome};
 ghost use Rattle.ccsl_top.specs.Opening.{AreAllowed, is_session};
+ghost use Rattle.ccsl_top.specs.Specified.{spec_of, IsSpecified};
 ghost use Rattle.ccsl_top.specs.Answered.{plain_reply, AnswersTo, StopsAt};
 ghost use Rattle.ccsl_top.specs.Headline.{Headline};
 
 use crate::certify::certify;
 use crate::check::check;
 use crate::explain::explain;
-use crate::files::Stop;
 use crate::judge::judge;
 use crate::periodic::periodic;
 use crate::reply::{Reply, Status};
 use crate::report::report;
 use crate::session::session;
-use crate::simulate::simulate;
+use crate::simulate::{policy_named, simulate};
+use crate::specification::read_specification;
 use crate::trial::trial;
 use ccsl_base::{CommandWord, HashKeys};
 use ccsl_command::{Command, Usage, words as command_line};
-use ccsl_edge::World;
+use ccsl_edge::{Stop, World};
+use ccsl_kernel::System;
 use ccsl_pool::Gate;
 use ccsl_report::usage;
+use ccsl_spec::Specification;
 use std::alloc::Global;
 use std::thread::Threads;
 
@@ -43,91 +47,124 @@ fn refuse_words(alloc: Global, fault: &Usage) -> Result<Reply, Stop>
     })
 }
 
-// The answer to a command that is no session.
-fn answer_command<R: Threads + Sync, W: World, G: Gate>(
+// The answer to a command on the system of its specification, where it is no session.
+fn answer_on<R: Threads + Sync, W: World, G: Gate>(
     rt: &R,
     alloc: Global,
     keys: HashKeys,
     command: &Command,
+    system: &System,
     world: &mut W,
     gate: &G,
 ) -> Result<Reply, Stop>
     requires allowed { AreAllowed W.allows (files_of command.now) }
-    requires meant { (words : List (List ℕ)) × (meaning words ≡ Ok command.now) }
-    requires infinite { HasInfiniteWords command.now }
+    requires named { spec_of command.now ≢ None }
     requires no_session { is_session (Ok command.now) ≡ false }
-    ensures ok { IfOk result (λ reply. AnswersTo W.told command.now reply (W.state world.old) (W.state world.new)) }
-    ensures err { IfErr result (λ stop. StopsAt W.told command.now stop (W.state world.old) (W.state world.new)) }
+    ensures ok { (start : State) → IsSpecified W.told command.now system.now start (W.state world.old) →
+        IfOk result (λ reply. AnswersTo W.told command.now reply start (W.state world.new)) }
+    ensures err { (start : State) → IsSpecified W.told command.now system.now start (W.state world.old) →
+        IfErr result (λ stop. StopsAt W.told command.now stop start (W.state world.new)) }
 {
     match command {
-        Command::Check { spec } => check(alloc, world, spec.as_str()),
-        Command::Judge {
-            spec,
-            trace,
-            workers,
-        } => judge(
-            rt,
-            alloc,
-            keys,
-            world,
-            spec.as_str(),
-            trace.as_str(),
-            *workers,
-            gate,
-        ),
+        Command::Check { .. } => check(alloc, system),
+        Command::Judge { trace, workers, .. } => {
+            judge(
+                rt,
+                alloc,
+                keys,
+                world,
+                system,
+                trace.as_str(),
+                *workers,
+                gate,
+            )
+        }
         Command::Simulate {
-            spec,
             policy,
             seed,
             steps,
             trace,
             cert,
-        } => simulate(
-            alloc,
-            world,
-            spec.as_str(),
-            *policy,
-            *seed,
-            *steps,
-            trace.as_str(),
-            cert.as_str(),
-        ),
-        Command::Certify { spec, trace, cert } => {
-            certify(
+            ..
+        } => {
+            let policy = policy_named(*policy);
+            simulate(
                 alloc,
-                keys,
                 world,
-                spec.as_str(),
+                system,
+                policy,
+                *seed,
+                *steps,
                 trace.as_str(),
                 cert.as_str(),
             )
         }
-        Command::Trial {
-            clocks,
-            steps,
-            seed,
-            workers,
-        } => trial(rt, alloc, keys, *clocks, *steps, *seed, *workers, gate),
-        Command::Periodic {
-            left,
-            right,
-            relation,
-        } => periodic(alloc, left, right, *relation),
-        Command::Explain { spec, trace, cert } => {
-            explain(
-                alloc,
-                keys,
-                world,
-                spec.as_str(),
-                trace.as_str(),
-                cert.as_str(),
-            )
+        Command::Certify { trace, cert, .. } => {
+            certify(alloc, keys, world, system, trace.as_str(), cert.as_str())
         }
+        Command::Explain { trace, cert, .. } => {
+            explain(alloc, keys, world, system, trace.as_str(), cert.as_str())
+        }
+        Command::Trial { .. } => unreachable!(),
+        Command::Periodic { .. } => unreachable!(),
         Command::Session { .. } => unreachable!(),
     }
 }
 
-// Obeys a command, and answers the exit status: a session reports by itself.
+// Obeys a command on the system of its specification, and answers the exit status: a session reports by itself.
+fn obey_on<R: Threads + Sync, W: World, G: Gate>(
+    rt: &R,
+    alloc: Global,
+    keys: HashKeys,
+    command: &Command,
+    system: &System,
+    world: &mut W,
+    gate: &G,
+) -> u8
+    requires allowed { AreAllowed W.allows (files_of command.now) }
+    requires named { spec_of command.now ≢ None }
+    ensures { (words : List (List ℕ)) (start : State) → meaning words ≡ Ok command.now →
+        IsSpecified W.told command.now system.now start (W.state world.old) →
+        Headline W.told words result start (W.state world.new) }
+{
+    if let Command::Session { policy, seed, .. } = command {
+        return session(alloc, world, system, policy_named(*policy), *seed);
+    }
+    let answer = answer_on(rt, alloc, keys, command, system, world, gate);
+    report(world, answer)
+}
+
+// Obeys a command that names a specification, and answers the exit status.
+fn obey_specified<R: Threads + Sync, W: World, G: Gate>(
+    rt: &R,
+    alloc: Global,
+    keys: HashKeys,
+    command: &Command,
+    spec: &str,
+    world: &mut W,
+    gate: &G,
+) -> u8
+    requires allowed { AreAllowed W.allows (files_of command.now) }
+    requires named { spec_of command.now ≡ Some spec.now }
+    ensures { (words : List (List ℕ)) → meaning words ≡ Ok command.now →
+        Headline W.told words result (W.state world.old) (W.state world.new) }
+{
+    match read_specification(alloc, world, spec) {
+        Ok(Specification::Accepted(system)) => {
+            obey_on(rt, alloc, keys, command, &system, world, gate)
+        }
+        Ok(Specification::Refused(line)) => {
+            let reply = Reply {
+                status: Status::SpecRefused,
+                line,
+            };
+            report(world, Ok(reply))
+        }
+        Err(stop) => report(world, Err(stop)),
+    }
+}
+
+// Obeys a command, and answers the exit status.
 fn obey<R: Threads + Sync, W: World, G: Gate>(
     rt: &R,
     alloc: Global,
@@ -142,11 +179,30 @@ fn obey<R: Threads + Sync, W: World, G: Gate>(
     ensures { (words : List (List ℕ)) → meaning words ≡ Ok command.now →
         Headline W.told words result (W.state world.old) (W.state world.new) }
 {
-    if let Command::Session { spec, policy, seed } = command {
-        return session(alloc, world, spec.as_str(), *policy, *seed);
+    match command {
+        Command::Trial {
+            clocks,
+            steps,
+            seed,
+            workers,
+        } => {
+            let tried = trial(rt, alloc, keys, *clocks, *steps, *seed, *workers, gate);
+            report(world, tried)
+        }
+        Command::Periodic {
+            left,
+            right,
+            relation,
+        } => report(world, periodic(alloc, left, right, *relation)),
+        Command::Check { spec }
+        | Command::Simulate { spec, .. }
+        | Command::Judge { spec, .. }
+        | Command::Certify { spec, .. }
+        | Command::Explain { spec, .. }
+        | Command::Session { spec, .. } => {
+            obey_specified(rt, alloc, keys, command, spec.as_str(), world, gate)
+        }
     }
-    let answer = answer_command(rt, alloc, keys, command, world, gate);
-    report(world, answer)
 }
 
 /// Does all that the program does, and answers its exit status: 0 where it is done, 1 where a trace is no run, a certificate not valid or

@@ -2,6 +2,9 @@
 
 ghost use Rattle.std.specs.Prelude.{◌≡◌};
 ghost use Rattle.ccsl_top.specs.Answered.{code_of};
+ghost use Rattle.ccsl_top.specs.Stopping.{stop_code};
+
+use ccsl_edge::Stop;
 
 /// How an answer ends.
 #[derive(Clone, Copy, Debug, PartialEq, Eq)]
@@ -31,6 +34,16 @@ impl Status {
             Status::FileRefused => 4,
             Status::Deadlock => 8,
         }
+    }
+}
+
+/// The program's exit status where there is no answer.
+pub(crate) fn stop_code(stop: Stop) -> u8
+    ensures { result ≡ stop_code stop }
+{
+    match stop {
+        Stop::Fault => 5,
+        Stop::Memory => 6,
     }
 }
 

@@ -5,9 +5,8 @@ ghost use Rattle.ccsl_edge.specs.World.{State};
 ghost use Rattle.ccsl_top.specs.Answered.{Answered, IsUnanswered};
 ghost use Rattle.ccsl_top.specs.Headline.{Headline};
 
-use crate::files::Stop;
-use crate::reply::Reply;
-use ccsl_edge::{Slot, World, write_all};
+use crate::reply::{Reply, stop_code};
+use ccsl_edge::{Slot, Stop, World, write_all};
 
 /// Reports what the words have come to, by one call, and answers the exit status.
 pub(crate) fn report<W: World>(world: &mut W, answer: Result<Reply, Stop>) -> u8
@@ -18,7 +17,7 @@ pub(crate) fn report<W: World>(world: &mut W, answer: Result<Reply, Stop>) -> u8
 {
     let reply = match answer {
         Ok(reply) => reply,
-        Err(stop) => return stop.code(),
+        Err(stop) => return stop_code(stop),
     };
     match write_all(world, Slot::Report, reply.line.as_slice()) {
         Ok(()) => reply.status.code(),

@@ -1,11 +1,8 @@
 //! The command `session`.
 
-ghost use Rattle.std.specs.Prelude.{◌≡◌, ℕ, List, Ok};
+ghost use Rattle.std.specs.Prelude.{ℕ, List};
 ghost use Rattle.ccsl_base.specs.declared.limits.TheConstants.{MAX_FILE_BYTES};
-ghost use Rattle.ccsl_edge.specs.declared.slot.Slot.TheVariants.{Spec};
 ghost use Rattle.ccsl_edge.specs.World.{State};
-ghost use Rattle.ccsl_command.specs.declared.command.Command.TheVariants as command;
-ghost use Rattle.ccsl_command.specs.Meaning.{meaning};
 ghost use Rattle.ccsl_kernel.specs.Syntax.{System};
 ghost use Rattle.ccsl_policy.specs.declared.policies.Policy.{Policy};
 ghost use Rattle.ccsl_session.specs.declared.answer.Ended.TheVariants as ended;
@@ -13,18 +10,13 @@ ghost use Rattle.ccsl_session.specs.Leaving.{HasEnded};
 ghost use Rattle.ccsl_top.specs.Conversing.{Begins};
 ghost use Rattle.ccsl_top.specs.Headline.{Headline};
 
-use crate::reply::{Reply, Status};
-use crate::report::report;
-use crate::simulate::policy_named;
-use crate::specification::read_specification;
+use crate::reply::stop_code;
 use ccsl_base::{MAX_FILE_BYTES, Memory};
-use ccsl_command::PolicyName;
 use ccsl_edge::{Slot, World, write_all};
 use ccsl_kernel::System;
 use ccsl_policy::Policy;
 use ccsl_report::session_too_long;
-use ccsl_session::{Ended, SessionFault};
-use ccsl_spec::Specification;
+use ccsl_session::Ended;
 use std::alloc::Global;
 
 // The last line, where the input has more bytes than are taken.
@@ -44,8 +36,8 @@ fn report_too_long<W: World>(alloc: Global, world: &mut W) -> u8
     }
 }
 
-// Answers standard input, on a system.
-fn hold_session<W: World>(
+/// Answers the lines of standard input on the report, on a system, and answers the exit status.
+pub(crate) fn session<W: World>(
     alloc: Global,
     world: &mut W,
     system: &System,
@@ -60,34 +52,6 @@ fn hold_session<W: World>(
         Ok(Ended::Quit) => 0,
         Ok(Ended::EndOfInput) => 0,
         Ok(Ended::TooLong) => report_too_long(alloc, world),
-        Err(SessionFault::Fault) => 5,
-        Err(SessionFault::Memory) => 6,
-    }
-}
-
-/// Answers the lines of standard input on the report, by the specification of a name, and answers the exit status.
-pub(crate) fn session<W: World>(
-    alloc: Global,
-    world: &mut W,
-    spec: &str,
-    policy: PolicyName,
-    seed: u64,
-) -> u8
-    requires { W.allows Spec spec.now }
-    ensures { (words : List (List ℕ)) → meaning words ≡ Ok (command.Session spec.now policy seed) →
-        Headline W.told words result (W.state world.old) (W.state world.new) }
-{
-    match read_specification(alloc, world, spec) {
-        Ok(Specification::Accepted(system)) => {
-            hold_session(alloc, world, &system, policy_named(policy), seed)
-        }
-        Ok(Specification::Refused(line)) => {
-            let reply = Reply {
-                status: Status::SpecRefused,
-                line,
-            };
-            report(world, Ok(reply))
-        }
-        Err(stop) => report(world, Err(stop)),
+        Err(stop) => stop_code(stop),
     }
 }

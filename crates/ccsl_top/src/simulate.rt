@@ -1,25 +1,20 @@
 //! The command `simulate`.
 
 ghost use Rattle.std.specs.Prelude.{◌≡◌, IfOk, IfErr};
-ghost use Rattle.ccsl_edge.specs.declared.slot.Slot.TheVariants.{Spec, TraceOut, CertOut};
-ghost use Rattle.ccsl_command.specs.declared.command.Command.TheVariants as command;
+ghost use Rattle.ccsl_edge.specs.declared.slot.Slot.TheVariants.{TraceOut, CertOut};
 ghost use Rattle.ccsl_simulate.specs.declared.answer.Done.{Done as Ended};
 ghost use Rattle.ccsl_top.specs.Simulate.{named_policy};
 ghost use Rattle.ccsl_top.specs.Simulating.{IsDoneReply, WritesBoth, IsWriteStop};
-ghost use Rattle.ccsl_top.specs.Answered.{AnswersTo, StopsAt};
 
-use crate::files::Stop;
 use crate::reply::{Reply, Status};
-use crate::specification::read_specification;
 use ccsl_base::Memory;
 use ccsl_command::PolicyName;
-use ccsl_edge::{Slot, World};
+use ccsl_edge::{Slot, Stop, World};
 use ccsl_kernel::System;
 use ccsl_policy::Policy;
 use ccsl_report::{deadlocked, simulated};
 use ccsl_simulate::Done;
 use ccsl_simulate::laws::{deadlocks_have_certificates, simulation_is_one};
-use ccsl_spec::Specification;
 use std::alloc::Global;
 
 /// The policy of a name.
@@ -54,7 +49,7 @@ pub(crate) fn write_run<W: World>(
     // By these laws each simulation has a certificate, of which nothing written is a front.
     simulation_is_one();
     deadlocks_have_certificates();
-    system.names();
+    system.is_accepted();
     world.open_out(Slot::TraceOut, trace)?;
     world.open_out(Slot::CertOut, cert)?;
     let done = ccsl_simulate::simulate(alloc, world, system, policy, seed, steps)?;
@@ -79,8 +74,8 @@ fn reply_on(alloc: Global, done: Done, steps: u64) -> Result<Reply, Memory>
     }
 }
 
-// Simulates a system to the files of two names, and replies.
-fn simulate_system<W: World>(
+/// Simulates a system, and writes the trace and the certificate under two names.
+pub(crate) fn simulate<W: World>(
     alloc: Global,
     world: &mut W,
     system: &System,
@@ -99,35 +94,4 @@ fn simulate_system<W: World>(
 {
     let done = write_run(alloc, world, system, policy, seed, steps, trace, cert)?;
     Ok(reply_on(alloc, done, steps)?)
-}
-
-/// Simulates the specification of a name, and writes the trace and the certificate under two more.
-pub(crate) fn simulate<W: World>(
-    alloc: Global,
-    world: &mut W,
-    spec: &str,
-    policy: PolicyName,
-    seed: u64,
-    steps: u64,
-    trace: &str,
-    cert: &str,
-) -> Result<Reply, Stop>
-    requires spec { W.allows Spec spec.now }
-    requires trace { W.allows TraceOut trace.now }
-    requires cert { W.allows CertOut cert.now }
-    ensures answers { IfOk result (λ reply. AnswersTo W.told
-        (command.Simulate spec.now policy seed steps trace.now cert.now) reply (W.state world.old) (W.state world.new)) }
-    ensures stop { IfErr result (λ stop. StopsAt W.told
-        (command.Simulate spec.now policy seed steps trace.now cert.now) stop (W.state world.old) (W.state world.new)) }
-{
-    match read_specification(alloc, world, spec)? {
-        Specification::Accepted(system) => {
-            let policy = policy_named(policy);
-            simulate_system(alloc, world, &system, policy, seed, steps, trace, cert)
-        }
-        Specification::Refused(line) => Ok(Reply {
-            status: Status::SpecRefused,
-            line,
-        }),
-    }
 }

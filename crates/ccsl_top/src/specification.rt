@@ -5,9 +5,9 @@ ghost use Rattle.ccsl_edge.specs.declared.slot.Slot.TheVariants.{Spec};
 ghost use Rattle.ccsl_top.specs.Changes.{Reads};
 ghost use Rattle.ccsl_top.specs.Reading.{only, IsSpecOf, IsStop};
 
-use crate::files::{Stop, read_file};
+use crate::files::read_file;
 use ccsl_base::MAX_SPEC_BYTES;
-use ccsl_edge::{Slot, World};
+use ccsl_edge::{Slot, Stop, World};
 use ccsl_report::spec_too_long;
 use ccsl_spec::{Specification, read};
 use std::alloc::Global;

@@ -7,15 +7,15 @@ ghost use Rattle.ccsl_roundtrip.specs.Ticks.{ticks_written};
 ghost use Rattle.ccsl_top.specs.Trial.{trial_run, trial_outcome};
 ghost use Rattle.ccsl_chain.specs.Chain.{chain};
 ghost use Rattle.ccsl_top.specs.Trying.{drawn_run, HoldsTrace, KeepsTrace};
-ghost use Rattle.ccsl_top.specs.declared.files.Stop.TheVariants as stop;
+ghost use Rattle.ccsl_edge.specs.declared.stop.Stop.TheVariants as stop;
 ghost use Rattle.ccsl_top.specs.Answered.{plain_reply};
 
-use crate::files::{LIMITS, Stop};
+use crate::files::LIMITS;
 use crate::reply::{Reply, Status};
 use crate::simulate::write_run;
 use ccsl_base::{HashKeys, Memory};
 use ccsl_chain::chain;
-use ccsl_edge::{MemoryWorld, Slot, World};
+use ccsl_edge::{MemoryWorld, Slot, Stop, World};
 use ccsl_judge::{JudgeFault, Verdict};
 use ccsl_kernel::System;
 use ccsl_policy::Policy;

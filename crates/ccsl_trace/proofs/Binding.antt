@@ -21,6 +21,7 @@ use Rattle.ccsl_vcd_read.specs.Reading.{Reading, FewRows, Running, is_past, past
 use Rattle.ccsl_vcd_read.proofs.Taking.{so_far-within, done-within}
 use Rattle.ccsl_trace.specs.HeaderEnd.{is_body}
 use Rattle.ccsl_vcd_read.proofs.Ending.{reading-within}
+use Rattle.ccsl_vcd_read.proofs.Wanting.{no-rows}
 
 -- the clocks that some bytes bind, once they have ended the header
 abbrev pub bound_by : Wanted → Limits → List ℕ → Option (List ℕ)
@@ -137,18 +138,13 @@ pub clocks-shown : (v : p.Where) (bound : List ℕ) → shown_at v ≡ Some boun
 clocks-shown (p.header h) bound e = absurd (cc)
 clocks-shown (p.body b) bound e = ap (λ (o : Option (List ℕ)). elim o [ None ↦ [] | Some x ↦ x ]) e
 
--- where no clock is bound there is no row
-none-at : (cs : List p.Change) (ts : List ℕ) → filter has_ticks (map (row_at [] cs) ts) ≡ []
-none-at cs [] = refl
-none-at cs (t ∷ ts) = none-at cs ts
-
 none-bound : (v : p.Where) → shown_at v ≡ None → bound_at v ≡ []
 none-bound (p.header h) e = refl
 none-bound (p.body b) e = absurd (cc)
 
 rows-none : (s : Story) → shown_at s.place ≡ None → rows_of s ≡ []
 unfolding rows
-rows-none s e = ap (λ bound. rows bound s.changes) (none-bound s.place e) ∙ none-at s.changes (times s.changes)
+rows-none s e = ap (λ bound. rows bound s.changes) (none-bound s.place e) ∙ no-rows s.changes (times s.changes)
 
 pub done-none : (wanted : Wanted) (l : Limits) (bytes : List ℕ) → length bytes ≤ l.bytes → bound_by wanted l bytes ≡ None → done wanted l bytes ≡ []
 done-none wanted l bytes h e =

@@ -19,7 +19,7 @@ use Rattle.ccsl_trace.specs.Feeding.{Feeding, bound_of, waiting_in, Runs, Nears}
 use Rattle.ccsl_trace.specs.Stepping.{IsNear, EndsLate, EndsNow, Finishes}
 use Rattle.ccsl_trace.proofs.Binding.{bound_by, bound-read, clocks-shown, read-bound}
 use Rattle.ccsl_trace.proofs.Refusing.{near-of}
-use Rattle.ccsl_trace.proofs.Running.{within, fine-taken, bound-taken, past-taken, none-before, nearer-end}
+use Rattle.ccsl_trace.proofs.Running.{within, fine-taken, bound-taken, past-taken, none-before, nearer-end, some-of}
 
 -- what the reader says at the end of these bytes
 pub record Finished (wanted : Wanted) (limits : Limits) (bytes : List ℕ) (before after : Feeding) (n : Counts) : Type 0 where
@@ -44,10 +44,6 @@ is_some-map f (Some x) = refl
 none-of : (o : Option (List ℕ)) → is_some o ≡ false → o ≡ None
 none-of None e = refl
 none-of (Some x) e = absurd (cc)
-
-some-of : (o : Option (List ℕ)) → is_some o ≡ true → (bound : List ℕ) × (o ≡ Some bound)
-some-of None e = absurd (cc)
-some-of (Some x) e = (x, refl)
 
 pub unshown : {A : Type 0} (f : A → List ℕ) (o : Option A) (shown : Option (List ℕ)) → option_map f o ≡ shown → is_some o ≡ false → shown ≡ None
 unshown f o shown e h = none-of shown (sym (ap is_some e) ∙ is_some-map f o ∙ h)

@@ -15,19 +15,13 @@ use Rattle.ccsl_vcd_read.specs.Staging.{Pictures}
 use Rattle.ccsl_vcd_read.specs.Heading.{Caused, NotMemory}
 use Rattle.ccsl_vcd_read.specs.Reading.{Running, StandsFor, Pushes, HeaderSo, IsCalm, past_header}
 use Rattle.ccsl_vcd_read.proofs.StagePictures.{caused-map}
-use Rattle.ccsl_vcd_read.proofs.Taking.{running-of, so_far-within}
+use Rattle.ccsl_vcd_read.proofs.Taking.{running-of, so_far-within, no-fault}
 use Rattle.ccsl_vcd_read.proofs.Ending.{running-shown}
 use Rattle.ccsl_trace.specs.Traces.{unread}
 use Rattle.ccsl_trace.specs.Feeding.{Feeding, bound_of, waiting_in, left_of, calls_left, calls_left_from, Runs}
 use Rattle.ccsl_trace.specs.Stepping.{IsNear, Turns, RefusesAll, RefusesIt}
 use Rattle.ccsl_trace.proofs.Binding.{bound_by, bound-stays, done-none, done-few, past-shown}
 use Rattle.ccsl_trace.proofs.Refusing.{near-of, refuses-all, refuses-it}
-
--- what a reader that runs has taken has no fault
-pictures-fine : (wanted : Wanted) (l : Limits) (stage : Stage) (st : Story) → Pictures wanted l stage st → st.fault ≡ None
-pictures-fine wanted l (Header h) st q = ap (λ (s : Story). s.fault) q.told
-pictures-fine wanted l (Body b) st q = ap (λ (s : Story). s.fault) q.told
-pictures-fine wanted l Unbound st q = absurd q
 
 -- whether the clocks were bound just now
 abbrev Link : Bool → Bool → Bool → Type 0
@@ -47,7 +41,7 @@ link-of true wanted l bytes piece n h = (sym (past-shown (so_far wanted l bytes)
 link-of false wanted l bytes piece n h = sym (past-shown (so_far wanted l (bytes ++ take n piece)).place) ∙ h ∙ past-shown (so_far wanted l bytes).place
 
 -- past the header's end the clocks are bound
-some-of : (o : Option (List ℕ)) → is_some o ≡ true → (bound : List ℕ) × (o ≡ Some bound)
+pub some-of : (o : Option (List ℕ)) → is_some o ≡ true → (bound : List ℕ) × (o ≡ Some bound)
 some-of None e = absurd (cc)
 some-of (Some c) e = (c, refl)
 
@@ -80,7 +74,7 @@ module _ (wanted : Wanted) (limits : Limits) (bytes : List ℕ) (feed : Feeding)
   fine-taken =
       let n = running in
       let at : (so_far wanted feed.reading.limits r.taken).fault ≡ None =
-      ap (λ (s : Story). s.fault) (so_far-within wanted feed.reading.limits r.taken n.within) ∙ pictures-fine wanted feed.reading.limits feed.reading.stage _ n.pictures in
+      ap (λ (s : Story). s.fault) (so_far-within wanted feed.reading.limits r.taken n.within) ∙ no-fault wanted feed.reading.limits feed.reading.stage _ n.pictures in
       subst (λ (x : Limits). (so_far wanted x r.taken).fault ≡ None) r.limits_are at
 
   pub bound-taken : bound_of feed ≡ bound_by wanted limits r.taken

@@ -11,6 +11,7 @@ use Rattle.ccsl_vcd.specs.Words.{word_of, number}
 use Rattle.ccsl_vcd.specs.Binding.{bind}
 use Rattle.ccsl_vcd.specs.Reading.{story, reading, says, ends_at}
 use Rattle.ccsl_vcd.proofs.Examples.{two, limits, head}
+use Rattle.ccsl_vcd_lex.proofs.Told.{long-word}
 
 head-fresh : fresh_after true head ≡ true
 unfolding fresh_after is_white
@@ -20,9 +21,6 @@ head-fresh = refl
 head-then : (story two limits (map hear (tokens head) ++ too_long 65 ∷ [])).fault ≡ Some (faults.TokenTooLong 65)
 unfolding says bind word_of number tokens_from run is_white
 head-then = refl
-
-long-word : (at : ℕ) (text : List ℕ) → 65536 < length text → hear (token at text) ≡ too_long at
-long-word at text n = rw (lt-ltb 65536 (length text) n) refl
 
 said-long : (b : ℕ) (xs : List ℕ) → Dark (b ∷ xs) → 65536 < length (b ∷ xs) → heard (head ++ (b ∷ xs)) ≡ map hear (tokens head) ++ too_long 65 ∷ []
 said-long b xs d n =

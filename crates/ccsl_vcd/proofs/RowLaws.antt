@@ -16,10 +16,10 @@ Earlier now cs = AllByRecursion (λ c. c.time < now) cs
 abbrev pub Now : ℕ → List Change → Type 0
 Now now cs = AllByRecursion (λ c. c.time ≡ now) cs
 
-not-eq : (a b : ℕ) → a < b → nat_eq a b ≡ false
+pub not-eq : (a b : ℕ) → a < b → nat_eq a b ≡ false
 not-eq a b h = grind (arith, common_steps)
 
-not-eq' : (a b : ℕ) → a < b → nat_eq b a ≡ false
+pub not-eq' : (a b : ℕ) → a < b → nat_eq b a ≡ false
 not-eq' a b h = grind (arith, common_steps)
 
 -- the time of the last changes

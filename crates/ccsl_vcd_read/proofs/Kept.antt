@@ -4,10 +4,11 @@ use Rattle.std.specs.Prelude.{slice_get}
 use Rattle.std.specs.List.{list_all, AllByRecursion}
 use Rattle.std.proofs.lemmas.List.{take_more}
 use Rattle.std.proofs.lemmas.Bool.{and_parts, ne_eqb, ltb-true, eqb-true, cases_eq}
+use Rattle.std.proofs.Math.Bool.{or-true, or-false, and-false}
 use Rattle.ccsl_base.specs.declared.limits.TheConstants.{MAX_CLOCKS}
 use Rattle.ccsl_base.specs.Clocks.{ticks_in, with_clock, is_ascending, are_below}
 use Rattle.ccsl_base.specs.Changes.{put_clock, difference}
-use Rattle.ccsl_base.proofs.Sets.{ticks_in-with_same, ticks_in-with_other, ticks_in-put_same, ticks_in-put_other, ticks_in-difference}
+use Rattle.ccsl_base.proofs.Sets.{ticks_in-with_same, ticks_in-with_other, ticks_in-put_same, ticks_in-put_other, ticks_in-difference, by_case}
 use Rattle.ccsl_vcd_read.specs.declared.marks.Mark.{Mark}
 use Rattle.ccsl_vcd_read.specs.declared.users.Slot.{Slot}
 use Rattle.ccsl_vcd_read.specs.declared.users.User.{User}
@@ -15,15 +16,7 @@ use Rattle.ccsl_vcd_read.specs.declared.users.User.TheVariants.{Nobody, One, Man
 use Rattle.ccsl_vcd_read.specs.Marks.{put, aged, is_ticking, ticking}
 use Rattle.ccsl_vcd_read.specs.Users.{with_slot, user_of, user_in, IsMore}
 use Rattle.ccsl_vcd_read.specs.Kept.{mark_in, clocks_of, put_in, put_each, put_all, AreKept}
-use Rattle.ccsl_base.proofs.Ascending.{part-ascends, same-members}
-
-or-true : (b : Bool) → (b || true) ≡ true
-or-true true = refl
-or-true false = refl
-
-or-none : (b : Bool) → (b || false) ≡ b
-or-none true = refl
-or-none false = refl
+use Rattle.ccsl_base.proofs.Ascending.{part-ascends, same-members, no-member}
 
 -- a change of a clock's code
 
@@ -31,7 +24,7 @@ put-same : (s : Slot) (one dumped : Bool) (now : List ℕ) → ticks_in s.clock 
 put-same s one dumped now =
     elim s.event as (λ w. ticks_in s.clock (cond w (cond dumped now (with_clock s.clock now)) (put_clock s.clock one now)) ≡ cond w (ticks_in s.clock now || not dumped) one) [
       | true ↦ elim dumped as (λ w. ticks_in s.clock (cond w now (with_clock s.clock now)) ≡ (ticks_in s.clock now || not w)) [
-        | true ↦ sym (or-none (ticks_in s.clock now))
+        | true ↦ sym (or-false (ticks_in s.clock now))
         | false ↦ ticks_in-with_same s.clock now ∙ sym (or-true (ticks_in s.clock now))
       ]
       | false ↦ ticks_in-put_same s.clock one now
@@ -73,14 +66,6 @@ absent code one dumped (s ∷ ss) now x h =
     let p = split-or x s.clock (ticks_in x (clocks_of ss)) h in
     absent code one dumped ss (put_each code one dumped now s) x p.1 ∙ each-other code one dumped now s x p.0
 
--- the first of ascending clocks is not among the others
-pub not-among : (x : ℕ) (ys : List ℕ) → list_all (nat_lt x) ys ≡ true → ticks_in x ys ≡ false
-not-among x [] h = refl
-not-among x (y ∷ ys) h =
-    let p = and_parts (nat_lt x y) (list_all (nat_lt x) ys) h in
-    let l : x < y = ltb-true x y p.0 in
-    rw (ne_eqb x y (λ q. omega (arith, l, q)), not-among x ys p.1) refl
-
 -- marks of other clocks stay
 pub others-stay : (now later before : List ℕ) (c : ℕ) (slots : List Slot) → list_all (nat_lt c) (clocks_of slots) ≡ true → ((x : ℕ) → x ≢ c → ticks_in x later ≡ ticks_in x now)
     → map (mark_in later before) slots ≡ map (mark_in now before) slots
@@ -100,7 +85,7 @@ marks-put code one dumped (s ∷ ss) now before a =
     let step = put_each code one dumped now s in
     let at : Bool → Mark = λ b. record { clock = s.clock; code = s.code; event = s.event; now = b; before = ticks_in s.clock before } in
     ap₂ (λ (m : Mark) (ms : List Mark). m ∷ ms)
-    (ap at (absent code one dumped ss step s.clock (not-among s.clock (clocks_of ss) p.0)) ∙ mark-put code one dumped now before s)
+    (ap at (absent code one dumped ss step s.clock (no-member s.clock (clocks_of ss) p.0)) ∙ mark-put code one dumped now before s)
     (marks-put code one dumped ss step before p.1 ∙ ap (map (put code one dumped)) (others-stay now step before s.clock ss p.0 (λ x o. each-other code one dumped now s x o)))
 
 -- The users of a code.
@@ -164,10 +149,6 @@ user-more code (t ∷ ss) s =
     ]
 
 -- The clocks that tick.
-
-and-false : (b : Bool) → (b && false) ≡ false
-and-false true = refl
-and-false false = refl
 
 and-swap : (a b : Bool) → (a && b) ≡ (b && a)
 and-swap true true = refl
@@ -246,15 +227,12 @@ age-kept slots users events now later k h = record {
 
 -- A change keeps them.
 
-by-value : (b : Bool) (P : Type 0) → (b ≡ true → P) → (b ≡ false → P) → P
-by-value b P yes_ no_ = (elim b as (λ v. b ≡ v → P) [ true ↦ yes_ | false ↦ no_ ]) refl
-
 pub put-kept : (code : ℕ) (one dumped : Bool) (slots : List Slot) (users : List User) (events now : List ℕ) → AreKept slots users events now → AreKept slots users events (put_all code one dumped slots now)
 put-kept code one dumped slots users events now k = record {
   ascending = k.ascending;
   below = k.below;
   marked = k.marked;
-  inside = λ x t. by-value (ticks_in x (clocks_of slots)) (ticks_in x (clocks_of slots) ≡ true) (λ e. e) (λ e. k.inside x (sym (absent code one dumped slots now x e) ∙ t));
+  inside = λ x t. by_case (ticks_in x (clocks_of slots)) (ticks_in x (clocks_of slots) ≡ true) (λ e. e) (λ e. k.inside x (sym (absent code one dumped slots now x e) ∙ t));
   known = k.known;
 }
 
@@ -303,7 +281,7 @@ below-more bound (t ∷ ts) s h l =
     rw (p.0) (below-more bound ts s p.1 l)
 
 among-more : (x : ℕ) (slots : List Slot) (s : Slot) → ticks_in x (clocks_of (slots ++ s ∷ [])) ≡ (ticks_in x (clocks_of slots) || nat_eq x s.clock)
-among-more x [] s = or-none (nat_eq x s.clock)
+among-more x [] s = or-false (nat_eq x s.clock)
 among-more x (t ∷ ts) s = elim (nat_eq x t.clock) as (λ w. (w || ticks_in x (clocks_of (ts ++ s ∷ []))) ≡ ((w || ticks_in x (clocks_of ts)) || nat_eq x s.clock)) [ true ↦ refl | false ↦ among-more x ts s ]
 
 pub marks-more-in : (now before : List ℕ) (slots : List Slot) (s : Slot) → is_ascending (map (λ m. m.clock) (map (mark_in now before) slots) ++ s.clock ∷ []) ≡ true
@@ -325,7 +303,7 @@ push-kept slots users more events now before s k m l a =
       ascending = ap is_ascending (clocks-more slots s) ∙ asc;
       below = below-more MAX_CLOCKS slots s k.below (Rattle.std.proofs.lemmas.Bool.lt-ltb s.clock MAX_CLOCKS l);
       marked = events-stay events s slots (last-fresh (clocks_of slots) s.clock asc) k.marked;
-      inside = λ x t. among-more x slots s ∙ by-value (nat_eq x s.clock) ((ticks_in x (clocks_of slots) || nat_eq x s.clock) ≡ true)
+      inside = λ x t. among-more x slots s ∙ by_case (nat_eq x s.clock) ((ticks_in x (clocks_of slots) || nat_eq x s.clock) ≡ true)
           (λ e. ap (λ v. ticks_in x (clocks_of slots) || v) e ∙ or-true (ticks_in x (clocks_of slots)))
           (λ e. ap (λ v. v || nat_eq x s.clock) (k.inside x (sym (ticks_in-put_other s.clock (not s.event) x now (λ q. let z : true ≡ false = sym (eq-eqb x s.clock q) ∙ e in absurd (cc))) ∙ t)));
       known = λ code. m code ∙ ap (λ u. cond (nat_eq s.code code) (with_slot u s) u) (k.known code) ∙ sym (user-more code slots s);

@@ -3,6 +3,8 @@ use Rattle.std.proofs.Common.{◌≡◌, ℕ, List, [], ◌∷◌, ◌++◌, Boo
 use Rattle.std.specs.Prelude.{bytes_eq, unwrap_or, nat_eq}
 use Rattle.std.specs.List.{list_all}
 use Rattle.std.specs.Option.{option_or}
+use Rattle.std.proofs.Math.Bool.{or-false}
+use Rattle.std.proofs.lemmas.Bool.{and_parts}
 use Rattle.ccsl_base.specs.Names.{is_among}
 use Rattle.ccsl_vcd.specs.Binding.{Bound}
 use Rattle.ccsl_vcd.specs.Places.{Change}
@@ -11,7 +13,6 @@ use Rattle.ccsl_vcd.proofs.Marks.{last-append, last-more, event-more}
 use Rattle.ccsl_bind.specs.Codes.{number_of}
 use Rattle.ccsl_vcd_read.specs.declared.marks.Mark.{Mark}
 use Rattle.ccsl_vcd_read.specs.Marks.{put, aged, is_ticking, ticking, stands, mark_of}
-use Rattle.ccsl_vcd_read.proofs.Ticking.{and-both}
 use Rattle.ccsl_bind.proofs.Codes.{among-found, same-number}
 
 -- a clock ticks where its mark says so
@@ -64,10 +65,6 @@ marks-aged codes old cur (b ∷ bs) = rw (mark-aged codes old cur b, marks-aged 
 
 -- a change
 
-or-none : (b : Bool) → (b || false) ≡ b
-or-none true = refl
-or-none false = refl
-
 mark-put : (codes : List (List ℕ)) (old cur : List Change) (c : Change) (n m : ℕ) (b : Bound) → number_of c.code codes ≡ Some n → number_of b.code codes ≡ Some m
     → put n c.one c.dumped (mark_of codes old cur b) ≡ mark_of codes old (cur ++ c ∷ []) b
 mark-put codes old cur c n m b e f =
@@ -78,7 +75,7 @@ mark-put codes old cur c n m b e f =
     elim (bytes_eq c.code b.code) as (λ v. cond v (cond b.event (at (now b.event || not c.dumped)) (at c.one)) (at (now b.event))
     ≡ at (cond b.event (event_ticks b.code cur || (v && not c.dumped)) (stands (option_or (cond v (Some c.one) (last_value b.code cur)) (last_value b.code old))))) [
       | true ↦ elim b.event as (λ w. cond w (at (now w || not c.dumped)) (at c.one) ≡ at (cond w (event_ticks b.code cur || not c.dumped) (stands (option_or (Some c.one) (last_value b.code old))))) [ true ↦ refl | false ↦ refl ]
-      | false ↦ elim b.event as (λ w. at (now w) ≡ at (cond w (event_ticks b.code cur || false) (stands (option_or (last_value b.code cur) (last_value b.code old))))) [ true ↦ ap at (sym (or-none (event_ticks b.code cur))) | false ↦ refl ]
+      | false ↦ elim b.event as (λ w. at (now w) ≡ at (cond w (event_ticks b.code cur || false) (stands (option_or (last_value b.code cur) (last_value b.code old))))) [ true ↦ ap at (sym (or-false (event_ticks b.code cur))) | false ↦ refl ]
     ])
 
 found : (o : Option ℕ) → Rattle.std.specs.Prelude.is_some o ≡ true → (m : ℕ) × (o ≡ Some m)
@@ -89,7 +86,7 @@ pub marks-put : (codes : List (List ℕ)) (old cur : List Change) (c : Change) (
     → map (put n c.one c.dumped) (map (mark_of codes old cur) bound) ≡ map (mark_of codes old (cur ++ c ∷ [])) bound
 marks-put codes old cur c n [] e h = refl
 marks-put codes old cur c n (b ∷ bs) e h =
-    let both = and-both (is_among b.code codes) (list_all (λ x. is_among x.code codes) bs) h in
+    let both = and_parts (is_among b.code codes) (list_all (λ x. is_among x.code codes) bs) h in
     let m = found (number_of b.code codes) (sym (among-found b.code codes) ∙ both.0) in
     ap (λ x. x ∷ map (put n c.one c.dumped) (map (mark_of codes old cur) bs)) (mark-put codes old cur c n m.0 b e m.1)
     ∙ ap (λ xs. mark_of codes old (cur ++ c ∷ []) b ∷ xs) (marks-put codes old cur c n bs e both.1)

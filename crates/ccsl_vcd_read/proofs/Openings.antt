@@ -3,7 +3,7 @@ use Rattle.std.proofs.Common.{◌≡◌, ℕ, ◌+◌, ◌<◌, ◌≤◌, List,
 use Rattle.std.specs.Prelude.{is_some, unwrap_or}
 use Rattle.std.specs.Option.{option_and_then, option_map_or}
 use Rattle.std.specs.List.{list_all, AllByRecursion}
-use Rattle.std.proofs.lemmas.Bool.{ltb-true, ltb-false, lt-ltb, le-ltb}
+use Rattle.std.proofs.lemmas.Bool.{ltb-true, ltb-false, lt-ltb, le-ltb, and_parts}
 use Rattle.std.proofs.lemmas.List.{append-nil, map-append}
 use Rattle.std.proofs.lemmas.Grind.{common_steps}
 use Rattle.ccsl_base.specs.Clocks.{is_ascending, are_below}
@@ -13,8 +13,8 @@ use Rattle.ccsl_bind.specs.Codes.{number_of}
 use Rattle.ccsl_bind.specs.Bindings.{Bindings, bound_to, code_number, is_bound_event, are_declared}
 use Rattle.ccsl_vcd_read.specs.declared.marks.Mark.{Mark}
 use Rattle.ccsl_vcd_read.specs.Marks.{mark_of}
-use Rattle.ccsl_vcd_read.proofs.Ticking.{and-both}
 use Rattle.ccsl_bind.proofs.Codes.{among-found}
+use Rattle.ccsl_vcd.proofs.RowLaws.{not-eq, not-eq'}
 
 abbrev pub clocks_of : List Bound → List ℕ
 clocks_of bs = map (λ b. b.clock) bs
@@ -28,17 +28,11 @@ AllAbove n bs = AllByRecursion (λ b. n < b.clock) bs
 
 all-above : (n : ℕ) (bs : List Bound) → list_all (nat_lt n) (clocks_of bs) ≡ true → AllAbove n bs
 all-above n [] h = tt
-all-above n (b ∷ bs) h = let q = and-both (nat_lt n b.clock) (list_all (nat_lt n) (clocks_of bs)) h in (ltb-true n b.clock q.0, all-above n bs q.1)
+all-above n (b ∷ bs) h = let q = and_parts (nat_lt n b.clock) (list_all (nat_lt n) (clocks_of bs)) h in (ltb-true n b.clock q.0, all-above n bs q.1)
 
 none-below : (n m : ℕ) (bs : List Bound) → m ≤ n + 1 → AllAbove n bs → below m bs ≡ []
 none-below n m [] h a = refl
 none-below n m (b ∷ bs) h a = rw (le-ltb b.clock m (omega (arith, a.0))) (none-below n m bs h a.1)
-
-not-eq : (a b : ℕ) → a < b → nat_eq a b ≡ false
-not-eq a b h = grind (arith, common_steps)
-
-not-eq' : (a b : ℕ) → a < b → nat_eq b a ≡ false
-not-eq' a b h = grind (arith, common_steps)
 
 none-there : (n m : ℕ) (bs : List Bound) → m ≤ n → AllAbove n bs → bound_to m bs ≡ None
 none-there n m [] h a = refl
@@ -52,7 +46,7 @@ listed (Some b) = b ∷ []
 pub below-more : (n : ℕ) (bs : List Bound) → is_ascending (clocks_of bs) ≡ true → below (n + 1) bs ≡ below n bs ++ listed (bound_to n bs)
 below-more n [] h = refl
 below-more n (b ∷ bs) h =
-    let q = and-both (list_all (nat_lt b.clock) (clocks_of bs)) (is_ascending (clocks_of bs)) h in
+    let q = and_parts (list_all (nat_lt b.clock) (clocks_of bs)) (is_ascending (clocks_of bs)) h in
     let a : AllAbove b.clock bs = all-above b.clock bs q.0 in
     (elim (nat_lt b.clock n) as (λ w. nat_lt b.clock n ≡ w → below (n + 1) (b ∷ bs) ≡ cond w (b ∷ below n bs) (below n bs) ++ listed (bound_to n (b ∷ bs))) [
       | true ↦ λ e.
@@ -74,7 +68,7 @@ below-more n (b ∷ bs) h =
 
 pub below-all : (n : ℕ) (bs : List Bound) → are_below n (clocks_of bs) ≡ true → below n bs ≡ bs
 below-all n [] h = refl
-below-all n (b ∷ bs) h = let q = and-both (nat_lt b.clock n) (are_below n (clocks_of bs)) h in rw q.0 (ap (λ xs. b ∷ xs) (below-all n bs q.1))
+below-all n (b ∷ bs) h = let q = and_parts (nat_lt b.clock n) (are_below n (clocks_of bs)) h in rw q.0 (ap (λ xs. b ∷ xs) (below-all n bs q.1))
 
 pub below-none : (bs : List Bound) → below 0 bs ≡ []
 below-none [] = refl
@@ -83,7 +77,7 @@ below-none (b ∷ bs) = rw (le-ltb b.clock 0 (omega arith)) (below-none bs)
 all-filtered : (x n : ℕ) (bs : List Bound) → list_all (nat_lt x) (clocks_of bs) ≡ true → list_all (nat_lt x) (clocks_of (below n bs)) ≡ true
 all-filtered x n [] h = refl
 all-filtered x n (b ∷ bs) h =
-    let q = and-both (nat_lt x b.clock) (list_all (nat_lt x) (clocks_of bs)) h in
+    let q = and_parts (nat_lt x b.clock) (list_all (nat_lt x) (clocks_of bs)) h in
     elim (nat_lt b.clock n) as (λ w. list_all (nat_lt x) (clocks_of (cond w (b ∷ below n bs) (below n bs))) ≡ true) [
       | true ↦ rw q.0 (all-filtered x n bs q.1)
       | false ↦ all-filtered x n bs q.1
@@ -92,7 +86,7 @@ all-filtered x n (b ∷ bs) h =
 pub below-ascends : (n : ℕ) (bs : List Bound) → is_ascending (clocks_of bs) ≡ true → is_ascending (clocks_of (below n bs)) ≡ true
 below-ascends n [] h = refl
 below-ascends n (b ∷ bs) h =
-    let q = and-both (list_all (nat_lt b.clock) (clocks_of bs)) (is_ascending (clocks_of bs)) h in
+    let q = and_parts (list_all (nat_lt b.clock) (clocks_of bs)) (is_ascending (clocks_of bs)) h in
     elim (nat_lt b.clock n) as (λ w. is_ascending (clocks_of (cond w (b ∷ below n bs) (below n bs))) ≡ true) [
       | true ↦ rw (all-filtered b.clock n bs q.0) (below-ascends n bs q.1)
       | false ↦ below-ascends n bs q.1
@@ -123,7 +117,7 @@ found v n code e =
 numbered : (v : Bindings) (bs : List Bound) (n : ℕ) (b : Bound) → list_all (λ x. is_among x.code v.codes) bs ≡ true → bound_to n bs ≡ Some b → is_some (number_of b.code v.codes) ≡ true
 numbered v [] n b h e = absurd (cc)
 numbered v (x ∷ xs) n b h e =
-    let q = and-both (is_among x.code v.codes) (list_all (λ y. is_among y.code v.codes) xs) h in
+    let q = and_parts (is_among x.code v.codes) (list_all (λ y. is_among y.code v.codes) xs) h in
     (elim (nat_eq x.clock n) as (λ w. cond w (Some x) (bound_to n xs) ≡ Some b → is_some (number_of b.code v.codes) ≡ true) [
       | true ↦ λ f. let s : x ≡ b = cc in ap (λ (y : Bound). is_some (number_of y.code v.codes)) (sym s) ∙ sym (among-found x.code v.codes) ∙ q.0
       | false ↦ λ f. numbered v xs n b q.1 f

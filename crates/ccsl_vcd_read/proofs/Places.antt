@@ -4,6 +4,7 @@ use Rattle.std.proofs.lemmas.List.{get_or-set_same, get_or-set_other, take_all}
 use Rattle.std.proofs.lemmas.Bool.{and_parts, cases_eq, leb-true}
 use Rattle.ccsl_bind.specs.Codes.{number_of}
 use Rattle.ccsl_vcd_read.specs.Places.{is_visible, SHORT, place_of, AreFound}
+use Rattle.ccsl_base.proofs.Sets.{by_case}
 
 -- the digits of a code
 abbrev Digit : ℕ → Type 0
@@ -19,19 +20,16 @@ Shown p (a ∷ b ∷ []) = Digit a × Digit b × (p ≡ a - 33 + 94 * (b - 32))
 Shown p (a ∷ b ∷ c ∷ []) = Digit a × Digit b × Digit c × (p ≡ a - 33 + 94 * (b - 32) + 8836 * (c - 32))
 Shown p (a ∷ b ∷ c ∷ d ∷ more) = ⊥
 
-by-value : (b : Bool) (P : Type 0) → (b ≡ true → P) → (b ≡ false → P) → P
-by-value b P yes_ no_ = (elim b as (λ v. b ≡ v → P) [ true ↦ yes_ | false ↦ no_ ]) refl
-
 -- what stands below the length has digits
 shown : (text : List ℕ) → place_of text < SHORT → Shown (place_of text) text
 shown [] l = absurd (omega arith)
-shown (a ∷ []) l = by-value (is_visible a) _ (λ e. (digit a e, ap (λ w. cond w (a - 33) SHORT) e)) (λ e. absurd (let k : SHORT < SHORT = rw e at l in omega arith))
+shown (a ∷ []) l = by_case (is_visible a) _ (λ e. (digit a e, ap (λ w. cond w (a - 33) SHORT) e)) (λ e. absurd (let k : SHORT < SHORT = rw e at l in omega arith))
 shown (a ∷ b ∷ []) l =
-    by-value (is_visible a && is_visible b) _
+    by_case (is_visible a && is_visible b) _
     (λ e. let p = and_parts (is_visible a) (is_visible b) e in (digit a p.0, digit b p.1, ap (λ w. cond w (a - 33 + 94 * (b - 32)) SHORT) e))
     (λ e. absurd (let k : SHORT < SHORT = rw e at l in omega arith))
 shown (a ∷ b ∷ c ∷ []) l =
-    by-value (is_visible a && (is_visible b && is_visible c)) _
+    by_case (is_visible a && (is_visible b && is_visible c)) _
     (λ e.
     let p = and_parts (is_visible a) (is_visible b && is_visible c) e in
     let q = and_parts (is_visible b) (is_visible c) p.1 in

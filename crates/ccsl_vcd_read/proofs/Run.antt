@@ -2,7 +2,7 @@
 use Rattle.std.proofs.Common.{◌≡◌, ℕ, ◌+◌, ◌-◌, ◌≤◌, ◌<◌, List, [], ◌∷◌, ◌++◌, length, take, drop, get_or, Bool, true, false, not, Some, None, Result, Ok, Err, cond, zero, suc, nat_eq, ◌||◌, length-take-le, map, ◌⊎◌, inl, inr, fold, refl, sym, ap, ◌∙◌, subst, append_assoc, arith, length-append, length-drop}
 use Rattle.std.specs.List.{prefix_len}
 use Rattle.std.proofs.lemmas.List.{append-nil, take-take, take_more, drop-drop}
-use Rattle.std.proofs.lemmas.Bool.{eqb-true}
+use Rattle.std.proofs.lemmas.Bool.{eqb-true, not-true, not-false}
 use Rattle.std.proofs.Math.Seq.{take-add}
 use Rattle.ccsl_base.specs.declared.rows.Row.{Row}
 use Rattle.ccsl_vcd_lex.specs.Tokens.{is_white, Token, token, tokens_from}
@@ -104,14 +104,6 @@ runs-word b c at w (t ∷ ts) x y d n l h e = go (hear_of b at (t ∷ ts)) refl 
     go (Err f) q s = absurd s
 
 -- The front of some bytes.
-
-not-true : (b : Bool) → not b ≡ true → b ≡ false
-not-true true h = absurd (cc)
-not-true false h = refl
-
-not-false : (b : Bool) → not b ≡ false → b ≡ true
-not-false true h = refl
-not-false false h = absurd (cc)
 
 dark-front : (xs : List ℕ) → Dark (take (prefix_len is_dark xs) xs)
 dark-front [] = tt

@@ -1,7 +1,7 @@
 -- Ascending clocks, and those that tick among them.
 use Rattle.std.proofs.Common.{◌≡◌, ℕ, ◌+◌, ◌<◌, List, [], ◌∷◌, ◌++◌, length, take, drop, get_or, drop-cons, add-one, Bool, true, false, not, nat_lt, nat_eq, ◌&&◌, ◌||◌, cond, filter, map, refl, sym, ap, ◌∙◌, subst}
 use Rattle.std.specs.List.{list_all}
-use Rattle.std.proofs.lemmas.Bool.{ltb-true}
+use Rattle.std.proofs.lemmas.Bool.{ltb-true, and_parts}
 use Rattle.std.proofs.lemmas.List.{take_more, map-append, take-append-drop, append-nil, length-map}
 use Rattle.std.proofs.Math.Seq.{take-append_seam}
 use Rattle.std.proofs.lemmas.List.Elements.{filter-append}
@@ -10,20 +10,16 @@ use Rattle.ccsl_bind.proofs.Above.{AllBelow, with_clock-last}
 use Rattle.ccsl_vcd_read.specs.declared.marks.Mark.{Mark}
 use Rattle.ccsl_vcd_read.specs.Marks.{is_ticking, ticking, put}
 
-pub and-both : (a b : Bool) → (a && b) ≡ true → (a ≡ true) × (b ≡ true)
-and-both true b h = (refl, h)
-and-both false b h = absurd (cc)
-
 -- the last of ascending numbers is above the others
 last-above : (xs : List ℕ) (y : ℕ) (ys : List ℕ) → is_ascending (xs ++ y ∷ ys) ≡ true → AllBelow y xs
 last-above [] y ys h = tt
 last-above (x ∷ xs) y ys h =
-    let p = and-both (list_all (nat_lt x) (xs ++ y ∷ ys)) (is_ascending (xs ++ y ∷ ys)) h in
+    let p = and_parts (list_all (nat_lt x) (xs ++ y ∷ ys)) (is_ascending (xs ++ y ∷ ys)) h in
     (first xs p.0, last-above xs y ys p.1)
   where
     first : (zs : List ℕ) → list_all (nat_lt x) (zs ++ y ∷ ys) ≡ true → x < y
-    first [] q = ltb-true x y ((and-both (nat_lt x y) (list_all (nat_lt x) ys) q).0)
-    first (z ∷ zs) q = first zs ((and-both (nat_lt x z) (list_all (nat_lt x) (zs ++ y ∷ ys)) q).1)
+    first [] q = ltb-true x y ((and_parts (nat_lt x y) (list_all (nat_lt x) ys) q).0)
+    first (z ∷ zs) q = first zs ((and_parts (nat_lt x z) (list_all (nat_lt x) (zs ++ y ∷ ys)) q).1)
 
 ticking-below : (y : ℕ) (ms : List Mark) → AllBelow y (map (λ m. m.clock) ms) → AllBelow y (ticking ms)
 ticking-below y [] h = tt
@@ -45,8 +41,8 @@ pub record At (bound : ℕ) (ms : List Mark) (i : ℕ) (m : Mark) : Type 0 where
   pub more : take (i + 1) ms ≡ take i ms ++ m ∷ []
 
 below-at : (bound : ℕ) (xs ys : List ℕ) (y : ℕ) → are_below bound (xs ++ y ∷ ys) ≡ true → y < bound
-below-at bound [] ys y h = ltb-true y bound ((and-both (nat_lt y bound) (are_below bound ys) h).0)
-below-at bound (x ∷ xs) ys y h = below-at bound xs ys y ((and-both (nat_lt x bound) (are_below bound (xs ++ y ∷ ys)) h).1)
+below-at bound [] ys y h = ltb-true y bound ((and_parts (nat_lt y bound) (are_below bound ys) h).0)
+below-at bound (x ∷ xs) ys y h = below-at bound xs ys y ((and_parts (nat_lt x bound) (are_below bound (xs ++ y ∷ ys)) h).1)
 
 -- the clocks round a place
 clocks-at : (ms : List Mark) (i : ℕ) (d : Mark) → i < length ms

@@ -32,7 +32,7 @@ shown-none (stage.Header h) e = refl
 shown-none stage.Unbound e = refl
 shown-none (stage.Body b) e = absurd (cc)
 
-no-rows : (cs : List p.Change) (ts : List ℕ) → filter has_ticks (map (row_at [] cs) ts) ≡ []
+pub no-rows : (cs : List p.Change) (ts : List ℕ) → filter has_ticks (map (row_at [] cs) ts) ≡ []
 no-rows cs [] = refl
 no-rows cs (t ∷ ts) = no-rows cs ts
 

@@ -122,8 +122,7 @@ impl Marks {
     pub(crate) fn are_quiet(&self) -> bool
         ensures { IsTrue result ↔ (ticking self.now ≡ []) }
     {
-        // its contract says that the members ascend
-        let _ascends = self.ones.has(0);
+        self.ones.ascends();
         self.ones.is_subset(&self.earlier)
     }
 
@@ -138,7 +137,7 @@ impl Marks {
           }) ∷ [];
         } }
     {
-        let _ascends = self.ones.has(0);
+        self.ones.ascends();
         out.push_difference(time, &self.ones, &self.earlier);
     }
 

@@ -23,7 +23,7 @@ fn first_marks(alloc: Global, binding: &Binding) -> Result<Marks, Memory>
     ensures declared { OnOk result (IsTrue (are_declared binding.now)) }
 {
     let mut marks = Marks::new(alloc);
-    let _bound = binding.bound();
+    binding.are_declared();
     for clock in 0..MAX_CLOCKS {
         if let Some(code) = binding.code_of(clock) {
             let event = binding.is_event(clock);

@@ -2,7 +2,7 @@
 use Rattle.std.proofs.Common.{◌≡◌, ℕ, suc, zero, ◌+◌, List, [], ◌∷◌, ◌++◌, length, map, Bool, true, false, ◌||◌, not, nat_lt, cond, Result, Ok, refl, sym, ap, ap₂, ◌∙◌, append_assoc, filter}
 use Rattle.std.specs.List.{AllByRecursion, range_with_len}
 use Rattle.std.specs.Str.{bytes_eq}
-use Rattle.std.proofs.lemmas.Bool.{and_parts, not-true}
+use Rattle.std.proofs.lemmas.Bool.{and_parts, not-true, or_parts}
 use Rattle.std.proofs.lemmas.List.Elements.{filter-append}
 use Rattle.ccsl_base.specs.Names.{is_among, are_distinct}
 use Rattle.ccsl_base.proofs.Tables.{bytes_eq-refl, bytes_eq-sym}
@@ -24,14 +24,10 @@ pub bound-clocks : (clock n : ℕ) → map (λ b. b.clock) (bounds clock n) ≡ 
 bound-clocks clock zero = refl
 bound-clocks clock (suc n) = ap (λ (xs : List ℕ). clock ∷ xs) (bound-clocks (clock + 1) n)
 
-pub or-parts : (a b : Bool) → (a || b) ≡ false → (a ≡ false) × (b ≡ false)
-or-parts true b e = absurd (cc)
-or-parts false b e = (refl, e)
-
 others-away : (name : List ℕ) (clock : ℕ) (names : List (List ℕ)) → is_among name names ≡ false → filter (qualifies name) (declarations clock names) ≡ []
 others-away name clock [] h = refl
 others-away name clock (n ∷ names) h =
-    let p = or-parts (bytes_eq name n) (is_among name names) h in
+    let p = or_parts (bytes_eq name n) (is_among name names) h in
     rw (bytes_eq-sym name n p.0) (others-away name (clock + 1) names p.1)
 
 own-qualifies : (clock : ℕ) (name : List ℕ) → qualifies name (declaration clock name) ≡ true
@@ -44,7 +40,7 @@ AreAway ds names = AllByRecursion (λ name. filter (qualifies name) ds ≡ []) n
 away-more : (ds : List Declaration) (clock : ℕ) (name : List ℕ) (names : List (List ℕ)) → AreAway ds names → is_among name names ≡ false → AreAway (ds ++ declaration clock name ∷ []) names
 away-more ds clock name [] h f = tt
 away-more ds clock name (n ∷ names) h f =
-    let p = or-parts (bytes_eq name n) (is_among name names) f in (
+    let p = or_parts (bytes_eq name n) (is_among name names) f in (
       filter-append (qualifies n) ds (declaration clock name ∷ []) ∙ rw (h.0, p.0) refl,
       away-more ds clock name names h.1 p.1,
     )

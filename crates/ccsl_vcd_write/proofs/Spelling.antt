@@ -18,6 +18,7 @@ use Rattle.ccsl_vcd_write.proofs.Lines.{is_spelled, spaced, is_line, are_lines, 
 use Rattle.ccsl_vcd_write.proofs.CodeLaws.{code-visible, code-some, code-short}
 use Rattle.ccsl_vcd_write.proofs.HeaderStory.{var_words, vars_words}
 use Rattle.ccsl_vcd_write.proofs.BodyStory.{AreBelow, step_words, steps_words}
+use Rattle.ccsl_kernel.proofs.NamesInCertificates.{inner_visible}
 
 -- VISIBLE WORDS
 
@@ -26,12 +27,6 @@ letter-visible b h = grind (arith, common_steps)
 
 inner-visible : (b : ℕ) → is_inner b ≡ true → is_visible b ≡ true
 inner-visible b h = grind (arith, common_steps)
-
-inners-visible : (bs : List ℕ) → list_all is_inner bs ≡ true → list_all is_visible bs ≡ true
-inners-visible [] h = refl
-inners-visible (b ∷ bs) h =
-    let p = and_parts (is_inner b) (list_all is_inner bs) h in
-    ap₂ (λ s t. s && t) (inner-visible b p.0) (inners-visible bs p.1)
 
 digits-visible : (ds : List ℕ) → AllDigits 10 ds → list_all is_visible ds ≡ true
 digits-visible [] h = refl
@@ -65,7 +60,7 @@ word-spelled [] h = absurd (cc)
 word-spelled (b ∷ bs) h =
     let p = and_parts (is_word (b ∷ bs)) (nat_le (length (b ∷ bs)) 64) h in
     let q = and_parts (is_letter b) (list_all is_inner bs) p.0 in
-    spelled (b ∷ bs) (omega arith) (leb-true (length (b ∷ bs)) 64 p.1) (ap₂ (λ s t. s && t) (letter-visible b q.0) (inners-visible bs q.1))
+    spelled (b ∷ bs) (omega arith) (leb-true (length (b ∷ bs)) 64 p.1) (ap₂ (λ s t. s && t) (letter-visible b q.0) (inner_visible bs q.1))
 
 pub all-words : (names : List (List ℕ)) → list_all is_short_word names ≡ true → list_all is_word names ≡ true
 all-words [] h = refl

@@ -8,7 +8,7 @@ use Rattle.ccsl_base.specs.declared.rows.Row.{Row}
 use Rattle.ccsl_vcd.specs.Binding.{Bound}
 use Rattle.ccsl_vcd.specs.Places.{Change}
 use Rattle.ccsl_vcd.specs.Rows.{ticks, event_ticks, rows, has_ticks}
-use Rattle.ccsl_vcd.proofs.RowLaws.{Earlier, Now, rows-all}
+use Rattle.ccsl_vcd.proofs.RowLaws.{Earlier, Now, rows-all, not-eq}
 use Rattle.ccsl_vcd_write.specs.Code.{code_of}
 use Rattle.ccsl_vcd_write.proofs.CodeLaws.{codes-equal}
 use Rattle.ccsl_vcd_write.proofs.Binds.{own_bound, bounds}
@@ -44,15 +44,12 @@ pub are-below : (low high : ℕ) (xs : List ℕ) → IsWithin low high xs → Ar
 are-below low high [] h = tt
 are-below low high (x ∷ xs) h = (h.1, are-below (x + 1) high xs h.2)
 
-unequal : (x y : ℕ) → x < y → nat_eq x y ≡ false
-unequal x y h = grind (arith, common_steps)
-
 unequal' : (x y : ℕ) → y < x → nat_eq x y ≡ false
 unequal' x y h = grind (arith, common_steps)
 
 absent : (low high y : ℕ) (xs : List ℕ) → IsWithin low high xs → y < low → ticks_in y xs ≡ false
 absent low high y [] h l = refl
-absent low high y (x ∷ xs) h l = let a = h.0 in rw (unequal y x (omega arith)) (absent (x + 1) high y xs h.2 (omega arith))
+absent low high y (x ∷ xs) h l = let a = h.0 in rw (not-eq y x (omega arith)) (absent (x + 1) high y xs h.2 (omega arith))
 
 -- the bound clocks that pass a test which tells the members of a set
 picked : (test : Bound → Bool) (low high n : ℕ) (xs : List ℕ) → low + n ≡ high → IsWithin low high xs → ((y : ℕ) → low ≤ y → test (own_bound y) ≡ ticks_in y xs)

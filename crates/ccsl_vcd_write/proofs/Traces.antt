@@ -2,7 +2,7 @@
 use Rattle.std.proofs.Common.{◌≡◌, ℕ, zero, suc, ◌+◌, ◌^◌, ◌≤◌, ◌<◌, List, [], ◌∷◌, ◌++◌, length, map, take, All, true, false, ◌&&◌, ◌||◌, not, nat_lt, nat_eq, IsTrue, cond, Ok, refl, sym, ap, ap₂, ◌∙◌, arith, length-append, codes}
 use Rattle.std.specs.List.{list_all, AllByRecursion, range_with_len}
 use Rattle.std.specs.Str.{bytes_eq}
-use Rattle.std.proofs.lemmas.Bool.{and_parts, not-true, lt-ltb, le-ltb}
+use Rattle.std.proofs.lemmas.Bool.{and_parts, not-true, lt-ltb, le-ltb, or_parts}
 use Rattle.std.proofs.lemmas.List.{length-take-le, length-map}
 use Rattle.std.proofs.lemmas.Grind.{common_steps}
 use Rattle.std.proofs.lemmas.List.Elements.{All-head, All-tail}
@@ -27,7 +27,7 @@ use Rattle.ccsl_vcd_write.proofs.Lines.{placed, behind, all_words, all_words-app
 use Rattle.ccsl_vcd_write.proofs.CodeLaws.{codes-equal}
 use Rattle.ccsl_vcd_write.proofs.Stories.{goes, goes-append, at_header}
 use Rattle.ccsl_vcd_write.proofs.HeaderStory.{declarations, vars_words, version-story, timescale-story, scope-story, vars-story, upscope-story, opening-story}
-use Rattle.ccsl_vcd_write.proofs.Binds.{bounds, bound-clocks, binds, or-parts}
+use Rattle.ccsl_vcd_write.proofs.Binds.{bounds, bound-clocks, binds}
 use Rattle.ccsl_vcd_write.proofs.BodyStory.{AreBelow, steps_changes, steps_words, time_behind, steps-story}
 use Rattle.ccsl_vcd_write.proofs.StepRows.{IsTicking, within, all-from-0, are-below, plain_rows, steps-rows}
 use Rattle.ccsl_vcd_write.proofs.Spelling.{is_short_word, short-word, all-words, header_words, written_parts, trace_words, text-same, trace-spelled}
@@ -70,7 +70,7 @@ away-take : (n : ℕ) (name : List ℕ) (names : List (List ℕ)) → is_among n
 away-take zero name names h = refl
 away-take (suc n) name [] h = refl
 away-take (suc n) name (x ∷ names) h =
-    let p = or-parts (bytes_eq name x) (is_among name names) h in
+    let p = or_parts (bytes_eq name x) (is_among name names) h in
     ap₂ (λ a b. a || b) p.0 (away-take n name names p.1)
 
 distinct-take : (n : ℕ) (names : List (List ℕ)) → are_distinct names ≡ true → are_distinct (take n names) ≡ true

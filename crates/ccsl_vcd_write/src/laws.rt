@@ -15,19 +15,18 @@ use ccsl_vcd::Limits;
 
 /// A written trace that keeps to the limits is read without a fault. Every written clock is bound in it, and its rows are
 /// the steps that were written: row `k` has time `k` and the written clocks of step `k`.
-pub fn read_back(system: &System, limits: &Limits)
-    ensures read { (steps : List (List ℕ)) → IsReadable system.now limits.now steps →
-        IsRead (wanted_of system.now) limits.now (vcd_text system.now steps) }
-    ensures bound { (steps : List (List ℕ)) → IsReadable system.now limits.now steps →
+pub fn read_back(system: &System, limits: Limits)
+    ensures read { (steps : List (List ℕ)) → IsReadable system.now limits steps →
+        IsRead (wanted_of system.now) limits (vcd_text system.now steps) }
+    ensures bound { (steps : List (List ℕ)) → IsReadable system.now limits steps →
         map (λ b. b.clock)
-        (bound_at (reading (wanted_of system.now) limits.now (vcd_text system.now steps)).place)
+        (bound_at (reading (wanted_of system.now) limits (vcd_text system.now steps)).place)
         ≡ range_with_len 0 system.now.written }
-    ensures rows { (steps : List (List ℕ)) → IsReadable system.now limits.now steps →
-        recorded (wanted_of system.now) limits.now (vcd_text system.now steps)
+    ensures rows { (steps : List (List ℕ)) → IsReadable system.now limits steps →
+        recorded (wanted_of system.now) limits (vcd_text system.now steps)
         ≡ rows_of_steps system.now steps }
 {
     system.names().are_distinct();
-    let _bytes = limits.bytes;
 }
 
 /// A written trace of at most [`MAX_STEPS`] steps, each a set of clocks, has at most [`MAX_FILE_BYTES`] bytes.

@@ -3,10 +3,10 @@
 ghost use Rattle.std.specs.Prelude.{◌≤◌};
 
 use ccsl_base::MAX_SPEC_BYTES;
-use ccsl_edge::{CallKind, MemoryWorld, Slot};
+use ccsl_edge::{CallKind, MemoryWorld, Slot, Stop};
 use ccsl_kernel::System;
 use ccsl_policy::Policy;
-use ccsl_session::{Ended, SessionFault, session};
+use ccsl_session::{Ended, session};
 use ccsl_spec::{Specification, read};
 use std::alloc::Global;
 use std::test::Fail;
@@ -42,7 +42,7 @@ fn world(
 fn told(
     alloc: Global,
     world: &MemoryWorld,
-    end: Result<Ended, SessionFault>,
+    end: Result<Ended, Stop>,
 ) -> Result<String, Fail> {
     let report = Vec::from_slice(alloc, world.written(Slot::Report))?;
     let mut text = String::from_utf8(report)?;

@@ -18,5 +18,5 @@ returns c =
     let scope = c.args.scope.now in
     let fs = map plain c.args.formulas.now in
     best-least scope fs c.args.wishes.now (known c.empty.result) c.in-Step.set c.requires.wishes
-    (λ x. ap (λ (ps : List (ℕ × Bool)). known ps x) c.empty.ensures) c.has-any.ensures.ascending
+    (λ x. ap (λ (ps : List (ℕ × Bool)). known ps x) c.empty.ensures) c.ascends.ensures.ascending
     (subst (λ (a : Answer). AnswersBest scope fs c.args.wishes.now (known c.empty.result) a) c.in-Step.is c.in_ok-set.ensures)

@@ -18,7 +18,7 @@ returns-in-Step c =
     let fs = map plain c.args.formulas.now in
     let part = known c.fixed_at.result in
     let found = subst (λ (a : Answer). Answers scope fs part a) c.in-Step.is c.in_ok-set.ensures in
-    step-with scope fs c.args.clock part c.in-Step.set c.fixed_at.ensures found c.members.ensures.ascending
+    step-with scope fs c.args.clock part c.in-Step.set c.fixed_at.ensures found c.ascends.ensures.ascending
 
 pub returns-in-Refuted : goal.returns-in-Refuted
 returns-in-Refuted c =

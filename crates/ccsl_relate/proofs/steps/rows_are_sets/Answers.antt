@@ -9,7 +9,7 @@ pub loop-i-preserved : goal.loop-i-preserved
 loop-i-preserved c =
     let rows = c.args.block.now.rows in
     subst (λ rs. are_sets rs ≡ true) (sym (take-more rows c.loop-i.i c.row.result.now c.row.ensures))
-    (sets-snoc (take c.loop-i.i rows) c.row.result.now c.loop-i.invariant c.is_set.ensures.ascending)
+    (sets-snoc (take c.loop-i.i rows) c.row.result.now c.loop-i.invariant c.ascends.ensures.ascending)
 
 pub returns : goal.returns
 returns c = subst (λ rs. are_sets rs ≡ true) (take_all c.loop-i.i c.args.block.now.rows (omega arith)) c.loop-i.invariant

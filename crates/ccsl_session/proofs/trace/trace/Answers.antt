@@ -17,7 +17,7 @@ loop-n-preserved c =
     let h = c.loop-n.states in
     let new = c.advance.new.self in
     let before = c.loop-n.invariant in
-    let ok : IsAccepted h.system = subst IsAccepted (sym before.system) c.names.ensures.accepted in
+    let ok : IsAccepted h.system = subst IsAccepted (sym before.system) c.is_accepted.ensures in
     let T = completed K (take n R) in
     let full : c.advance.result ≡ full_step K T s = c.advance.ensures.step ∙ stands_derived h ok T before.stands s ∙ ap (λ (X : System). full_step X T s) before.system in
     record {

@@ -1,6 +1,13 @@
+use Rattle.std.proofs.Common.{◌+◌, ◌*◌}
 use Rattle.ccsl_formula.specs.Known.{known}
 use Rattle.ccsl_solve.specs.Under.{open_count}
 use Rattle.ccsl_solve.proofs.search.+search.Given as goal
 
+abbrev pub decreases-search_with : goal.decreases-search_with
+decreases-search_with l = 3 * open_count l.problem.now.scope.named (known l.part.now)
+
+abbrev pub decreases-search_against : goal.decreases-search_against
+decreases-search_against l = 3 * open_count l.problem.now.scope.named (known l.part.now) + 1
+
 abbrev pub decreases-search : goal.decreases-search
-decreases-search l = open_count l.problem.now.scope.named (known l.part.now)
+decreases-search l = 3 * open_count l.problem.now.scope.named (known l.part.now) + 2

@@ -3,8 +3,9 @@ use Rattle.std.proofs.Common.{◌≡◌, ◌+◌, ◌-◌, true, false, sym, ap,
 use Rattle.ccsl_base.specs.Clocks.{ticks_in}
 use Rattle.ccsl_formula.specs.declared.scope.Scope.{Scope}
 use Rattle.ccsl_kernel.specs.Plain.{plain_expr}
-use Rattle.ccsl_state.proofs.ReachLaws.{defined_past, names_few, ReachedSo, reached_past, reached_more}
+use Rattle.ccsl_state.proofs.ReachLaws.{names_few, ReachedSo, reached_past, reached_more}
 use Rattle.ccsl_state.proofs.reach.reached.Goals as goal
+use Rattle.ccsl_kernel.proofs.Completion.{past_declared}
 
 pub add_named-requires : goal.add_named-requires
 add_named-requires c = names_few c.args.system.now c.definition.ensures.accepted (c.loop-i.i - 1) (plain_expr c.definition.result.now) c.definition.ensures.definition
@@ -30,5 +31,5 @@ loop-i-preserved c =
 
 pub returns-clause-closed : goal.returns-clause-closed
 returns-clause-closed c = λ x y e is h named low.
-    let past = defined_past c.args.system.now x e is in
+    let past = past_declared c.args.system.now x e is in
     c.loop-i.invariant.closed x y e (omega arith) is h named low

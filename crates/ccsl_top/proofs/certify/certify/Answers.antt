@@ -1,39 +1,20 @@
-use Rattle.std.proofs.Common.{◌≡◌, [], ◌∷◌, refl, subst}
-use Rattle.std.proofs.lemmas.Result.{err_from_is_err_and}
-use Rattle.ccsl_edge.specs.declared.slot.Slot.TheVariants.{Trace, Cert}
-use Rattle.ccsl_command.specs.declared.command.Command.TheVariants as command
-use Rattle.ccsl_top.specs.Certify.{certify_outcome}
-use Rattle.ccsl_top.specs.Reading.{IsSpecOf}
-use Rattle.ccsl_top.proofs.Behind.{spec-refused, reading-stops}
-use Rattle.ccsl_top.proofs.Certifying.{certify-answers, certify-stops}
+use Rattle.ccsl_top.proofs.Certifying.{certified-item, certify-replies}
 use Rattle.ccsl_top.proofs.certify.certify.Goals as goal
 
-pub returns-in_err-system-clause-stop : goal.returns-in_err-system-clause-stop
-returns-in_err-system-clause-stop g c =
-    let p = err_from_is_err_and c.from_residual.result c.from_residual.ensures.1 in
-    rw (p.1, p.2)
-    (reading-stops g.W.World.told (command.Certify c.args.spec.now c.args.trace.now c.args.cert.now)
-    c.args.spec.now (record { slot = Trace; name = c.args.trace.now } ∷ record { slot = Cert; name = c.args.cert.now } ∷ []) refl
-    (λ content input K o. o ≡ certify_outcome K (content c.args.trace.now) (content c.args.cert.now)) (λ content input o is. is)
-    (g.W.World.state c.args.world.now) (g.W.World.state c.read_specification.new.world) c.in_err-system.field-0.0 c.in_err-system.ensures.stop)
+pub reply_on-requires : goal.reply_on-requires
+reply_on-requires g c = record {
+  item = certified-item g.W.World.told c.args.system.now (g.W.World.state c.open_in-2.new.self) (g.W.World.state c.certify-certified.new.world)
+      c.certify-certified.result c.certify-certified.ensures.certified;
+}
 
-pub returns-in-Accepted-clause-answers : goal.returns-in-Accepted-clause-answers
-returns-in-Accepted-clause-answers g c =
-    let spec = subst (IsSpecOf g.W.World.told (g.W.World.state c.args.world.now).files c.args.spec.now) c.in-Accepted.is c.in_ok-system.ensures.spec in
-    certify-answers g.W.World.told c.args.spec.now c.args.trace.now c.args.cert.now (g.W.World.state c.args.world.now) (g.W.World.state c.read_specification.new.world)
-    c.in_ok-system.ensures.reads c.in-Accepted.system spec (g.W.World.state c.certify_files.new.world) c.certify_files.result c.certify_files.ensures.answers
+pub returns-clause-answers : goal.returns-clause-answers
+returns-clause-answers g c =
+    (certify-replies c.first_bad_line_is_first.ensures.certificate g.W.World.told c.args.system.now c.args.trace.now c.args.cert.now
+    (g.W.World.state c.args.world.now) (g.W.World.state c.open_in.new.self) c.in_ok-open_in.ensures.ok (g.W.World.state c.open_in-2.new.self) c.in_ok-open_in-2.ensures.ok
+    (g.W.World.state c.certify-certified.new.world) c.reply_on.result c.certify-certified.result c.certify-certified.ensures.certified c.certify-certified.ensures.uncertified c.reply_on.ensures).0
 
-pub returns-in-Accepted-clause-stop : goal.returns-in-Accepted-clause-stop
-returns-in-Accepted-clause-stop g c =
-    let spec = subst (IsSpecOf g.W.World.told (g.W.World.state c.args.world.now).files c.args.spec.now) c.in-Accepted.is c.in_ok-system.ensures.spec in
-    certify-stops g.W.World.told c.args.spec.now c.args.trace.now c.args.cert.now (g.W.World.state c.args.world.now) (g.W.World.state c.read_specification.new.world)
-    c.in_ok-system.ensures.reads c.in-Accepted.system spec (g.W.World.state c.certify_files.new.world) c.certify_files.result c.certify_files.ensures.stop
-
-pub returns-in-Refused-clause-answers : goal.returns-in-Refused-clause-answers
-returns-in-Refused-clause-answers g c =
-    let spec = subst (IsSpecOf g.W.World.told (g.W.World.state c.args.world.now).files c.args.spec.now) c.in-Refused.is c.in_ok-system.ensures.spec in
-    λ words means.
-    spec-refused g.W.World.told words (command.Certify c.args.spec.now c.args.trace.now c.args.cert.now) means
-    c.args.spec.now (record { slot = Trace; name = c.args.trace.now } ∷ record { slot = Cert; name = c.args.cert.now } ∷ []) refl
-    (λ content input K o. o ≡ certify_outcome K (content c.args.trace.now) (content c.args.cert.now)) (λ content input o is. is)
-    (g.W.World.state c.args.world.now) (g.W.World.state c.read_specification.new.world) c.in_ok-system.ensures.reads _ refl spec
+pub returns-clause-stop : goal.returns-clause-stop
+returns-clause-stop g c =
+    (certify-replies c.first_bad_line_is_first.ensures.certificate g.W.World.told c.args.system.now c.args.trace.now c.args.cert.now
+    (g.W.World.state c.args.world.now) (g.W.World.state c.open_in.new.self) c.in_ok-open_in.ensures.ok (g.W.World.state c.open_in-2.new.self) c.in_ok-open_in-2.ensures.ok
+    (g.W.World.state c.certify-certified.new.world) c.reply_on.result c.certify-certified.result c.certify-certified.ensures.certified c.certify-certified.ensures.uncertified c.reply_on.ensures).1

@@ -6,13 +6,13 @@ use Rattle.ccsl_top.proofs.report.report.Goals as goal
 pub returns-in-Err : goal.returns-in-Err
 returns-in-Err g c = λ words start oks errs.
     let now = g.W.World.state c.args.world.now in
-    rw c.code.ensures
+    rw c.stop_code.ensures
     (headline-stopped g.W.World.told words start now c.in-Err.stop (IfErr-at_err (λ stop. IsUnanswered stop g.W.World.told words start now) c.in-Err.is errs))
 
 pub returns-in-Ok-write_all : goal.returns-in-Ok-write_all
 returns-in-Ok-write_all g c = λ words start oks errs.
     let now = g.W.World.state c.args.world.now in
-    rw c.code-in-Ok-write_all.ensures
+    rw c.code.ensures
     (headline-reported g.W.World.told words start c.in-Ok.reply now (g.W.World.state c.write_all.new.world)
     (IfOk-at_ok (λ reply. Answered g.W.World.told words reply start now) c.in-Ok.is oks)
     (rw c.as_slice.ensures.value at c.in-Ok-write_all.ensures.ok))

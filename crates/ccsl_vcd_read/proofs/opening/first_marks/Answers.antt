@@ -13,7 +13,7 @@ loop-clock-init c = c.new-marks.ensures ∙ sym (ap (map (mark_of c.args.binding
 
 pub push-requires-clause-later : goal.push-requires-clause-later
 push-requires-clause-later c =
-    let asc : is_ascending (map (λ b. b.clock) c.args.binding.now.bound) ≡ true = ap is_ascending (sym c.bound-bound.ensures.clocks) ∙ c.bound-bound.ensures.ascending in
+    let asc = c.are_declared.ensures.ascending in
     let f = found c.args.binding.now c.loop-clock.clock c.in-Some.code (sym c.in-Some.ensures) in
     let event = c.is_event-event.result in
     let m : Mark = record { clock = c.loop-clock.clock; code = c.in-Some.code; event = event; now = not event; before = not event } in
@@ -23,17 +23,16 @@ push-requires-clause-later c =
 
 pub loop-clock-preserved : goal.loop-clock-preserved
 loop-clock-preserved c =
-    let asc : is_ascending (map (λ b. b.clock) c.args.binding.now.bound) ≡ true = ap is_ascending (sym c.bound-bound.ensures.clocks) ∙ c.bound-bound.ensures.ascending in
+    let asc = c.are_declared.ensures.ascending in
     elim c.match-code_of.branch [
       | in-Some+in_ok-push w ↦
           let f = found c.args.binding.now c.loop-clock.clock w.in-Some.code (sym w.in-Some.ensures) in
           w.marks-is ∙ w.in_ok-push.ensures ∙ marks-more c.args.binding.now c.loop-clock.clock w.in-Some.code _ c.loop-clock.marks asc f (ap (λ v. record { clock = c.loop-clock.clock; code = w.in-Some.code; event = v; now = not v; before = not v }) w.is_event-event.ensures) c.loop-clock.invariant
       | in_default w ↦
-          w.marks-is ∙ marks-none c.args.binding.now c.loop-clock.clock c.loop-clock.marks asc c.bound-bound.ensures.declared (sym c.code_of.ensures ∙ w.in_default.is) c.loop-clock.invariant
+          w.marks-is ∙ marks-none c.args.binding.now c.loop-clock.clock c.loop-clock.marks asc c.are_declared.ensures.declared (sym c.code_of.ensures ∙ w.in_default.is) c.loop-clock.invariant
     ]
 
 pub returns-clause-marks : goal.returns-clause-marks
 returns-clause-marks c =
-    let low : are_below MAX_CLOCKS (map (λ b. b.clock) c.args.binding.now.bound) ≡ true = ap (are_below MAX_CLOCKS) (sym c.bound-bound.ensures.clocks) ∙ c.bound-bound.ensures.below in
     let n : c.loop-clock.clock ≡ MAX_CLOCKS = omega arith in
-    c.loop-clock.invariant ∙ ap (map (mark_of c.args.binding.now.codes [] [])) (ap (λ k. Rattle.ccsl_vcd_read.proofs.Openings.below k c.args.binding.now.bound) n ∙ below-all MAX_CLOCKS c.args.binding.now.bound low)
+    c.loop-clock.invariant ∙ ap (map (mark_of c.args.binding.now.codes [] [])) (ap (λ k. Rattle.ccsl_vcd_read.proofs.Openings.below k c.args.binding.now.bound) n ∙ below-all MAX_CLOCKS c.args.binding.now.bound c.are_declared.ensures.below)

@@ -15,7 +15,7 @@ returns-then-is_some c = λ recorded rows s l.
     let x = some-of c.self.inside.first (sym c.is_some.ensures ∙ c.if-is_some.true) in
     let e = ap (λ (v : Watching). v.first) c.self.view_is in
     subst (IsNext recorded c.args.self.now c.args.self.now rows c.args.row.now) (sym e)
-    (next-resting recorded c.args.self.now rows c.args.row.now s c.is_set.ensures.ascending x.0 (sym e ∙ x.1))
+    (next-resting recorded c.args.self.now rows c.args.row.now s c.ascends.ensures.ascending x.0 (sym e ∙ x.1))
 
 pub returns : goal.returns
 returns c = λ recorded rows s l.
@@ -25,13 +25,13 @@ returns c = λ recorded rows s l.
     let t = subst (λ v. StandsFor recorded v rows) (sym c.self.view_is) s in
     let value = c.as_mut_slice-kept.ensures.value in
     let step = step_known K c.self.inside.states T c.args.row.now.ticks in
-    let after = states-after recorded _ rows c.args.row.now t c.is_set.ensures.ascending n in
+    let after = states-after recorded _ rows c.args.row.now t c.ascends.ensures.ascending n in
     let count = c.in_ok-place.ensures.count ∙ ap length value in
     let written = with_items c.self.inside.kept c.first_violated.new.kept in
     let items = with_items_is c.self.inside.kept c.first_violated.new.kept (count ∙ sym c.self.inside.kept.ok.0) in
     let w : Watching = record { system = K; start = c.self.inside.start; kept = written.items; states = c.first_violated.new.states; steps = c.self.inside.steps; first = c.self.inside.first } in
     subst (λ v. IsNext recorded v w rows c.args.row.now (Some (record { step = c.self.inside.steps; time = c.args.row.now.time; item = c.self.inside.start + c.in_ok-place.place }))) c.self.view_is
-    (next-violated recorded _ rows c.args.row.now t c.is_set.ensures.ascending n w refl
+    (next-violated recorded _ rows c.args.row.now t c.ascends.ensures.ascending n w refl
     (ap length items ∙ count)
     c.in_ok-place.place
     (subst (λ ws. FailsFirst c.args.row.now.ticks step ws c.in_ok-place.place) value (c.in_ok-place.ensures.fails K T after)))
@@ -44,15 +44,15 @@ returns-in_err-place c = λ recorded rows s l.
     let t = subst (λ v. StandsFor recorded v rows) (sym c.self.view_is) s in
     let value = c.as_mut_slice-kept.ensures.value in
     let step = step_known K c.self.inside.states T c.args.row.now.ticks in
-    let after = states-after recorded _ rows c.args.row.now t c.is_set.ensures.ascending n in
-    let few = few-steps recorded _ rows c.args.row.now t c.is_set.ensures.ascending n l in
+    let after = states-after recorded _ rows c.args.row.now t c.ascends.ensures.ascending n in
+    let few = few-steps recorded _ rows c.args.row.now t c.ascends.ensures.ascending n l in
     let count = c.in_err-place.ensures.count ∙ ap length value in
     let written = with_items c.self.inside.kept c.first_violated.new.kept in
     let items = with_items_is c.self.inside.kept c.first_violated.new.kept (count ∙ sym c.self.inside.kept.ok.0) in
     let w : Watching = record { system = K; start = c.self.inside.start; kept = written.items; states = c.first_violated.new.states; steps = c.self.inside.steps; first = c.self.inside.first } in
     subst (IsNext recorded c.args.self.now w rows c.args.row.now) (sym c.from_residual.ensures)
     (subst (λ v. IsNext recorded v w rows c.args.row.now None) c.self.view_is
-    (next-obeyed recorded _ rows c.args.row.now t c.is_set.ensures.ascending n w refl
+    (next-obeyed recorded _ rows c.args.row.now t c.ascends.ensures.ascending n w refl
     (ap length items ∙ count)
     (subst (All (λ x. fails_in c.args.row.now.ticks step x ≡ false)) value (c.in_err-place.ensures.none K T after))
     (items ∙ c.in_err-place.ensures.next K T after ∙ ap (map (next_in step)) value)
@@ -66,11 +66,11 @@ first_violated-requires-clause-undeclared c =
     let n = none-of c.self.inside.first (sym c.is_some.ensures ∙ c.if-is_some.false) in
     let s = subst (λ v. StandsFor w.0 v w.1) (sym c.self.view_is) w.2 in
     undeclared-for K c.self.inside.states (completed_rows K w.1) c.self.inside.undeclared
-    (states-after w.0 _ w.1 c.args.row.now s c.is_set.ensures.ascending n) c.self.invariant.0
+    (states-after w.0 _ w.1 c.args.row.now s c.ascends.ensures.ascending n) c.self.invariant.0
 
 pub first_violated-requires-clause-room : goal.first_violated-requires-clause-room
 first_violated-requires-clause-room c =
     let w = c.requires in
     let n = none-of c.self.inside.first (sym c.is_some.ensures ∙ c.if-is_some.false) in
     let s = subst (λ v. StandsFor w.0 v w.1) (sym c.self.view_is) w.2 in
-    subst EachHasRoom (sym c.as_mut_slice-kept.ensures.value) (each-has-room w.0 _ w.1 c.args.row.now s c.is_set.ensures.ascending n w.3)
+    subst EachHasRoom (sym c.as_mut_slice-kept.ensures.value) (each-has-room w.0 _ w.1 c.args.row.now s c.ascends.ensures.ascending n w.3)

@@ -9,7 +9,7 @@ returns-clause-stands c =
     let none = run-zero c.args.system.now c.args.policy c.args.seed in
     record {
       system = c.in_ok-states.ensures.system;
-      accepted = c.names.ensures.accepted;
+      accepted = c.is_accepted.ensures;
       steps = ap length none;
       states = subst (states.StandsFor c.in_ok-states.states) (sym none) c.in_ok-states.ensures.stands;
       draw = subst (λ k. generator.StandsFor c.new.result c.args.seed k) (sym (zero-mul c.args.system.now.declared)) c.new.ensures;

@@ -1,4 +1,0 @@
-use Rattle.ccsl_solve.proofs.order.Order.next.Given as goal
-
-abbrev pub decreases-loop-self : goal.decreases-loop-self
-decreases-loop-self l = l.self.end
