@@ -4,7 +4,3 @@ use Rattle.std.specs.Prelude.{ℕ, ◌+◌, ◌^◌, ◌-◌, min, Bool, if◌th
 -- one more where the clock ticks; at the last value a count stays
 abbrev pub counted : Bool → ℕ → ℕ
 counted tick n = if tick then min (n + 1) (2 ^ 64 - 1) else n
-
--- one less where the clock ticks
-abbrev pub lessened : Bool → ℕ → ℕ
-lessened tick n = if tick then n - 1 else n

@@ -35,6 +35,7 @@ impl Counts {
     }
 
     /// How often a clock has ticked.
+    #[inline]
     pub fn of(&self, clock: u32) -> u64
         ensures { result ≡ slice_index_or self.now clock 0 }
     {
@@ -45,6 +46,7 @@ impl Counts {
     }
 
     /// A step is made. Only the counts of the clocks that tick in it are visited.
+    #[inline]
     pub fn count(&mut self, step: &ClockSet)
         ensures clocks { length self.new ≡ length self.old }
         ensures counts { (x : ℕ) → x < length self.old →

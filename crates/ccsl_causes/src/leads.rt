@@ -1,51 +1,84 @@
 //! How far the left clocks of precedences are ahead.
 
-ghost use Rattle.std.specs.Prelude.{◌≡◌, ◌==◌, if◌then◌else◌};
+ghost use Rattle.std.specs.Prelude.{◌≡◌, ◌<◌, ◌-◌, ℕ, [], length, map, slice_index_or};
 ghost use Rattle.ccsl_base.specs.Clocks.{ticks_in};
-ghost use Rattle.ccsl_causes.specs.Counted.{counted, lessened};
+ghost use Rattle.ccsl_causes.specs.Leading.{ahead, begun, led};
 
+use crate::counts::Counts;
 use crate::names::clock_name;
 use ccsl_base::{ClockSet, Memory};
 use ccsl_kernel::{Constraint, RelationKind, System};
 use ccsl_page::{Page, Paint, Piece, Scale};
 use std::alloc::Global;
+use std::marker::Model;
 
-/// A precedence between two clocks that are written in the system: how far the left one is ahead, and since when.
+/// A precedence of a left clock: its right clock, and since when the left one is ahead, where it is.
 #[derive(Clone, Copy, Debug, PartialEq, Eq)]
 pub struct Lead {
-    pub left: u32,
     pub right: u32,
-    pub ahead: u64,
     pub since: u64,
 }
 
 impl Lead {
-    // A tick of the left clock takes it further, one of the right clock back; a lead is counted from where there was none.
-    fn after(self, step: &ClockSet, time: u64) -> Lead
-        ensures left { result.left ≡ self.left }
-        ensures right { result.right ≡ self.right }
-        ensures ahead { result.ahead ≡ lessened (ticks_in self.right step.now) (counted (ticks_in self.left step.now) self.ahead) }
-        ensures since { result.since ≡ (if self.ahead == 0 then time else self.since) }
+    // By how much the left clock has ticked more often.
+    #[inline]
+    fn ahead(self, left: u32, counts: &Counts) -> u64
+        ensures { result ≡ ahead counts.now left self.right }
     {
-        let mut next = self;
-        if step.has(self.left) {
-            next.ahead = next.ahead.saturating_add(1);
+        counts.of(left).saturating_sub(counts.of(self.right))
+    }
+
+    // Its left clock ticks: where that was not ahead, the lead begins.
+    #[inline]
+    fn begin(&mut self, left: u32, time: u64, before: &Counts)
+        ensures { self.new ≡ begun before.now left time self.old }
+    {
+        if self.ahead(left, before) == 0 {
+            self.since = time;
         }
-        if step.has(self.right) {
-            next.ahead = next.ahead.saturating_sub(1);
-        }
-        if self.ahead == 0 {
-            next.since = time;
-        }
-        next
     }
 }
 
-/// The precedences of a system, and which of them each clock is a side of.
+/// The precedences of one left clock.
+#[derive(Drop)]
+struct Side {
+    leads: Vec<Lead>,
+}
+
+impl Model for Side {
+    ghost use Rattle.std.specs.Prelude.{List};
+    ghost use Rattle.ccsl_causes.specs.declared.leads.Lead.{Lead};
+
+    ghost Value = { List Lead };
+
+    ghost view = { λ s. s.leads.items };
+}
+
+impl Side {
+    // The left clock ticks.
+    #[inline]
+    fn begin(&mut self, left: u32, time: u64, before: &Counts)
+        ensures { self.new ≡ map (begun before.now left time) self.old }
+    {
+        for lead in self.leads.iter_mut() {
+            lead.begin(left, time, before);
+        }
+    }
+}
+
+/// The precedences between two clocks that are written in a system, for each left clock. Contracts see these lists.
 #[derive(Drop)]
 pub struct Leads {
-    leads: Vec<Lead>,
-    sides: Vec<Vec<usize>>,
+    sides: Vec<Side>,
+}
+
+impl Model for Leads {
+    ghost use Rattle.std.specs.Prelude.{List};
+    ghost use Rattle.ccsl_causes.specs.declared.leads.Lead.{Lead};
+
+    ghost Value = { List (List Lead) };
+
+    ghost view = { λ l. l.sides.items };
 }
 
 fn is_precedence(kind: RelationKind) -> bool {
@@ -56,114 +89,130 @@ fn is_precedence(kind: RelationKind) -> bool {
     }
 }
 
-// The precedence between the two clocks of a constraint, if it is one between clocks that are written in the system.
-fn lead_of(system: &System, constraint: &Constraint) -> Option<Lead> {
-    let is_written = constraint.left < system.written() && constraint.right < system.written();
-    if !is_precedence(constraint.kind) || !is_written {
-        return None;
-    }
-    Some(Lead {
-        left: constraint.left,
-        right: constraint.right,
-        ahead: 0,
-        since: 0,
-    })
+// Whether a constraint is a precedence between clocks that are written in the system.
+fn is_lead(system: &System, constraint: &Constraint) -> bool {
+    is_precedence(constraint.kind)
+        && constraint.left < system.written()
+        && constraint.right < system.written()
 }
 
 impl Leads {
-    /// Those between two clocks that are written in the system, before the first step.
+    /// Those of a system, before the first step.
     pub fn new(alloc: Global, system: &System) -> Result<Leads, Memory> {
         let mut sides = Vec::new(alloc);
         for _ in 0..system.written() {
-            sides.push(Vec::new(alloc))?;
+            sides.push(Side {
+                leads: Vec::new(alloc),
+            })?;
         }
-        let mut found = Leads {
-            leads: Vec::new(alloc),
-            sides,
-        };
         for j in 0..system.constraints() {
-            if let Some(lead) = lead_of(system, system.constraint(j)) {
-                found.add(lead)?;
-            }
-        }
-        Ok(found)
-    }
-
-    fn add(&mut self, lead: Lead) -> Result<(), Memory> {
-        let number = self.leads.len();
-        for clock in [lead.left, lead.right] {
-            if let Some(side) = self.sides.get_mut(clock as usize) {
-                side.push(number)?;
-            }
-        }
-        self.leads.push(lead)?;
-        Ok(())
-    }
-
-    // A clock ticks in a step. Where the left clock ticks, what the right one does is counted with it.
-    fn hear(&mut self, clock: u32, step: &ClockSet, time: u64) {
-        let Some(side) = self.sides.get(clock as usize) else {
-            return;
-        };
-        for number in side {
-            if let Some(lead) = self.leads.get_mut(*number)
-                && (clock == lead.left || !step.has(lead.left))
+            let constraint = system.constraint(j);
+            if is_lead(system, constraint)
+                && let Some(side) = sides.get_mut(constraint.left as usize)
             {
-                *lead = lead.after(step, time);
+                side.leads.push(Lead {
+                    right: constraint.right,
+                    since: 0,
+                })?;
             }
         }
+        Ok(Leads { sides })
     }
 
-    /// A step is made. Only the precedences of the clocks that tick in it are visited.
-    pub fn count(&mut self, step: &ClockSet, time: u64) {
+    /// A step is made, before which the clocks had ticked so often. Only the precedences of the left clocks that tick in it are
+    /// visited: there a lead begins where there was none.
+    #[inline]
+    pub fn hear(&mut self, step: &ClockSet, time: u64, before: &Counts)
+        ensures clocks { length self.new ≡ length self.old }
+        ensures leads { (x : ℕ) → x < length self.old →
+            slice_index_or self.new x [] ≡ led before.now time (ticks_in x step.now) x (slice_index_or self.old x []) }
+    {
         for clock in step.members() {
-            self.hear(clock, step, time);
+            let at = clock as usize;
+            if at < self.sides.len() {
+                self.sides[at].begin(clock, time, before);
+            }
         }
-    }
-
-    pub fn list(&self) -> &[Lead] {
-        self.leads.as_slice()
     }
 }
 
-// The longest unit in which the times are whole since which left clocks are ahead.
-fn fitted(alloc: Global, leads: &Leads, scale: Scale) -> Result<Scale, Memory> {
-    let mut times = Vec::new(alloc);
-    for lead in leads.list() {
-        if lead.ahead > 0 {
-            times.push(lead.since)?;
+/// A precedence whose left clock is ahead.
+#[derive(Clone, Copy)]
+struct Pending {
+    left: u32,
+    right: u32,
+    ahead: u64,
+    since: u64,
+}
+
+// Those of one left clock.
+fn add_pending(
+    list: &mut Vec<Pending>,
+    left: u32,
+    side: &Side,
+    counts: &Counts,
+) -> Result<(), Memory> {
+    for lead in &side.leads {
+        let ahead = lead.ahead(left, counts);
+        if ahead > 0 {
+            list.push(Pending {
+                left,
+                right: lead.right,
+                ahead,
+                since: lead.since,
+            })?;
         }
+    }
+    Ok(())
+}
+
+// All of them, in the order of the left clocks.
+fn all_pending(alloc: Global, leads: &Leads, counts: &Counts) -> Result<Vec<Pending>, Memory> {
+    let mut list = Vec::new(alloc);
+    let mut left = 0u32;
+    for side in &leads.sides {
+        add_pending(&mut list, left, side, counts)?;
+        left = left.saturating_add(1);
+    }
+    Ok(list)
+}
+
+// The longest unit in which the times are whole since which left clocks are ahead.
+fn fitted(alloc: Global, list: &[Pending], scale: Scale) -> Result<Scale, Memory> {
+    let mut times = Vec::new(alloc);
+    for pending in list {
+        times.push(pending.since)?;
     }
     Ok(scale.fitted(times.as_slice()))
 }
 
-/// Puts the precedences whose left clock is ahead, a line each.
+/// Puts the precedences whose left clock is ahead, by how often the clocks have ticked, a line each.
 pub fn put_pending(
     alloc: Global,
     page: &mut Page,
     system: &System,
+    counts: &Counts,
     leads: &Leads,
     scale: Scale,
 ) -> Result<(), Memory> {
-    let scale = fitted(alloc, leads, scale)?;
-    for lead in leads.list() {
-        if lead.ahead > 0 {
-            let [number, blank, unit] = scale.pieces(lead.since);
-            page.paint(Paint::Notice)?;
-            page.put(&[Piece::Text("  pending: ")])?;
-            page.paint(Paint::Plain)?;
-            page.put_line(&[
-                Piece::Name(clock_name(system, lead.left)),
-                Piece::Text(" is "),
-                Piece::Number(lead.ahead),
-                Piece::Text(" ahead of "),
-                Piece::Name(clock_name(system, lead.right)),
-                Piece::Text(" since "),
-                number,
-                blank,
-                unit,
-            ])?;
-        }
+    let list = all_pending(alloc, leads, counts)?;
+    let scale = fitted(alloc, list.as_slice(), scale)?;
+    for pending in &list {
+        let [number, blank, unit] = scale.pieces(pending.since);
+        page.paint(Paint::Notice)?;
+        page.put(&[Piece::Text("  pending: ")])?;
+        page.paint(Paint::Plain)?;
+        page.put_line(&[
+            Piece::Name(clock_name(system, pending.left)),
+            Piece::Text(" is "),
+            Piece::Number(pending.ahead),
+            Piece::Text(" ahead of "),
+            Piece::Name(clock_name(system, pending.right)),
+            Piece::Text(" since "),
+            number,
+            blank,
+            unit,
+        ])?;
     }
     Ok(())
 }

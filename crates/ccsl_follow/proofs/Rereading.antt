@@ -106,11 +106,14 @@ module _ (told : Told) (a : List ℕ) (s t u : State) (first : Reads told Trace 
     others = λ other apart. p.others other apart ∙ sym (first.only.others other apart);
   }
 
+  read-on : Reread (s.slot_of Trace) (u.slot_of Trace) → Reread (t.slot_of Trace) (u.slot_of Trace)
+  read-on p = between (s.slot_of Trace) (t.slot_of Trace) (u.slot_of Trace) first.here p
+
   pub only-on : (b : List ℕ) → Reads told Trace b s u → OnlyReads t u
-  only-on b p = by-slot Trace t u refl (only-changes p.only) (between (s.slot_of Trace) (t.slot_of Trace) (u.slot_of Trace) first.here (less-left (s.slot_of Trace) (u.slot_of Trace) p.here))
+  only-on b p = by-slot Trace t u refl (only-changes p.only) (read-on (less-left (s.slot_of Trace) (u.slot_of Trace) p.here))
 
   only-broken : (b : List ℕ) → ReadsThenFails told Trace b s u → OnlyReads t u
-  only-broken b p = by-slot Trace t u refl (only-changes p.only) (between (s.slot_of Trace) (t.slot_of Trace) (u.slot_of Trace) first.here (record { is = p.here; rises = p.rose.0 }))
+  only-broken b p = by-slot Trace t u refl (only-changes p.only) (read-on (record { is = p.here; rises = p.rose.0 }))
 
   pub only-unread : (wanted : Wanted) (limits : Limits) (fault : TraceFault) → IsUnread told wanted limits s u fault → OnlyReads t u
   only-unread wanted limits trace.Fault p = only-broken p.bytes p.reads

@@ -1,3 +1,4 @@
 pub mod Fed
 pub mod OnlyReads
 pub mod Following
+pub mod Leaving

@@ -5,7 +5,7 @@ ghost use Rattle.ccsl_edge.specs.Counts.{SameCounts};
 ghost use Rattle.ccsl_follow.specs.Fed.{IsFed};
 ghost use Rattle.ccsl_follow.specs.OnlyReads.{OnlyReads};
 
-use crate::stop::Stop;
+use crate::stop::{Stop, stop_of_trace};
 use ccsl_base::{HashKeys, MAX_FILE_BYTES, MAX_SCOPES, MAX_VARS, Memory};
 use ccsl_edge::World;
 use ccsl_kernel::System;
@@ -48,6 +48,6 @@ pub fn next_rows<W: World>(feed: &mut Feed, world: &mut W) -> Result<bool, Stop>
             Next::Rows => Ok(true),
             Next::Ended(_) => Ok(false),
         },
-        Err(fault) => Err(Stop::from(fault)),
+        Err(fault) => Err(stop_of_trace(fault)),
     }
 }

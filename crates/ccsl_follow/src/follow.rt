@@ -6,10 +6,11 @@ ghost use Rattle.ccsl_edge.specs.Counts.{SameCounts};
 ghost use Rattle.ccsl_follow.specs.OnlyReads.{OnlyReads};
 
 use crate::feeding::{next_rows, open_feed};
-use crate::kept::{Kept, copy_of};
 use crate::reading::open_file;
 use crate::steps::Steps;
 use crate::stop::Stop;
+use crate::until::{KEPT, Until};
+use crate::window::{copy_of, last_of};
 use ccsl_base::{Block, ClockSet, HashKeys, Memory, Row};
 use ccsl_causes::{Counts, Leads};
 use ccsl_edge::{Slot, World};
@@ -17,16 +18,18 @@ use ccsl_kernel::System;
 use ccsl_page::Column;
 use std::alloc::Global;
 
-/// The steps of a trace up to a last one, if there is one. A step takes no memory.
+/// The steps of a trace up to where it is left. No step but the last ones takes memory.
 pub struct Follow<'s> {
     alloc: Global,
     steps: Steps<'s>,
     pub counts: Counts,
     pub leads: Leads,
     made: u64,
-    last: Option<u64>,
-    kept: Kept,
-    /// the last step, once it came; it is not counted
+    until: Until,
+    // the first of the last steps, and those of them that were made
+    first_kept: u64,
+    kept: Vec<Column>,
+    /// the step at which the trace is left, once it came; it is not counted
     pub broken: Option<Column>,
 }
 
@@ -39,7 +42,8 @@ impl<'s> Drop for Follow<'s> {
             counts: _counts,
             leads: _leads,
             made: _,
-            last: _,
+            until: _,
+            first_kept: _,
             kept: _kept,
             broken: _broken,
         } = self;
@@ -52,7 +56,7 @@ impl<'s> Follow<'s> {
         alloc: Global,
         system: &'s System,
         clocks: &ClockSet,
-        last: Option<u64>,
+        until: Until,
     ) -> Result<Follow<'s>, Memory> {
         Ok(Follow {
             alloc,
@@ -60,8 +64,9 @@ impl<'s> Follow<'s> {
             counts: Counts::new(alloc, system.scope().named)?,
             leads: Leads::new(alloc, system)?,
             made: 0,
-            last,
-            kept: Kept::new(alloc)?,
+            until,
+            first_kept: until.first_kept(),
+            kept: Vec::new(alloc),
             broken: None,
         })
     }
@@ -71,48 +76,61 @@ impl<'s> Follow<'s> {
         self.steps.followed()
     }
 
-    /// Whether the last step came.
+    /// Whether the trace is left.
     pub fn is_over(&self) -> bool {
         self.broken.is_some()
     }
 
-    // The step that was just made is the last one.
-    fn stop(&mut self, time: u64) {
-        self.broken = Some(Column {
+    // The step that was just made.
+    fn column(&self, time: u64) -> Column {
+        Column {
             step: self.made,
             time,
             ticks: self.steps.step().copy(),
-        });
+        }
+    }
+
+    // The step that was just made is one of the last. No more are kept than there are of them, however long the trace is.
+    fn keep(&mut self, time: u64) -> Result<(), Memory> {
+        if (self.kept.len() as u64) < KEPT {
+            let column = self.column(time);
+            self.kept.push(column)?;
+        }
+        Ok(())
     }
 
     /// The next row of the trace.
-    pub fn take(&mut self, row: &Row) {
+    #[inline]
+    pub fn take(&mut self, row: &Row) -> Result<(), Memory> {
         self.steps.go_on(&row.ticks);
-        if self.last == Some(self.made) {
-            self.stop(row.time);
-            return;
+        if self.until.is_at(self.made) {
+            self.broken = Some(self.column(row.time));
+            return Ok(());
         }
         let step = self.steps.step();
+        self.leads.hear(step, row.time, &self.counts);
         self.counts.count(step);
-        self.leads.count(step, row.time);
-        self.kept.put(row.time, step);
+        if self.first_kept <= self.made {
+            self.keep(row.time)?;
+        }
         self.made = self.made.saturating_add(1);
+        Ok(())
     }
 
-    /// The rows of a block, up to the last step.
-    pub fn take_all(&mut self, block: &Block) {
+    /// The rows of a block, up to where the trace is left.
+    pub fn take_all(&mut self, block: &Block) -> Result<(), Memory> {
         for i in 0..block.len() {
             if self.is_over() {
-                return;
+                return Ok(());
             }
-            self.take(block.row(i));
+            self.take(block.row(i))?;
         }
+        Ok(())
     }
 
-    /// The last of the kept steps in which one of some clocks ticks, so many at most, and the step at which it was over.
+    /// The last steps in which one of some clocks ticks, so many at most, and the step at which the trace was left.
     pub fn window(&self, clocks: &ClockSet, most: usize) -> Result<Vec<Column>, Memory> {
-        let mut chosen = self.kept.last(self.alloc, clocks, most)?;
-        chosen.reverse();
+        let mut chosen = last_of(self.alloc, self.kept.as_slice(), clocks, most)?;
         if let Some(column) = &self.broken {
             chosen.push(copy_of(column))?;
         }
@@ -120,7 +138,7 @@ impl<'s> Follow<'s> {
     }
 }
 
-/// Follows a trace to its last row, or to a last step.
+/// Follows a trace up to where it is left.
 pub fn followed<'s, W: World>(
     alloc: Global,
     keys: HashKeys,
@@ -128,18 +146,18 @@ pub fn followed<'s, W: World>(
     system: &'s System,
     clocks: &ClockSet,
     name: &str,
-    last: Option<u64>,
+    until: Until,
 ) -> Result<Follow<'s>, Stop>
     requires { W.allows Trace name.now }
     ensures reads { OnlyReads (W.state world.old) (W.state world.new) }
     ensures calm { OnOk result (SameCounts (W.state world.old) (W.state world.new)) }
 {
     open_file(world, Slot::Trace, name)?;
-    let mut follow = Follow::open(alloc, system, clocks, last)?;
+    let mut follow = Follow::open(alloc, system, clocks, until)?;
     let mut feed = open_feed(alloc, keys, world, system)?;
     for _ in 0..u64::MAX {
         let more = next_rows(&mut feed, world)?;
-        follow.take_all(feed.block());
+        follow.take_all(feed.block())?;
         if !more || follow.is_over() {
             break;
         }

@@ -7,12 +7,11 @@ ghost use Rattle.ccsl_follow.specs.OnlyReads.{OnlyReads};
 
 use crate::feeding::LIMITS;
 use crate::reading::{open_file, read_on};
-use crate::stop::Stop;
+use crate::stop::{Stop, stop_of_header};
 use ccsl_base::{HashKeys, MAX_TOKEN_BYTES};
 use ccsl_edge::{Slot, World};
 use ccsl_page::Scale;
 use ccsl_scopes::{Header, HeaderReader};
-use ccsl_vcd::VcdFault;
 use ccsl_vcd_lex::is_space;
 use std::alloc::Global;
 
@@ -29,18 +28,19 @@ struct Heading {
 
 impl Heading {
     // The open token has ended. It answers whether that ends the header.
-    fn hear(&mut self) -> Result<bool, VcdFault> {
+    fn hear(&mut self) -> Result<bool, Stop> {
         if self.open.is_empty() {
             return Ok(false);
         }
         let at = self.taken.saturating_sub(self.open.len() as u64);
-        let is_over = self.reader.hear(at, self.open.as_slice())?;
+        let heard = self.reader.hear(at, self.open.as_slice());
+        let is_over = heard.map_err(stop_of_header)?;
         self.open.clear();
         Ok(is_over)
     }
 
     // Takes bytes up to the header's end, and answers whether that came.
-    fn take(&mut self, bytes: &[u8]) -> Result<bool, VcdFault> {
+    fn take(&mut self, bytes: &[u8]) -> Result<bool, Stop> {
         for byte in bytes {
             if is_space(*byte) {
                 if self.hear()? {

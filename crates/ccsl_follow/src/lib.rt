@@ -4,17 +4,19 @@
 pub mod feeding;
 pub mod follow;
 pub mod heading;
-pub mod kept;
 pub mod reading;
 pub mod search;
+mod states;
 pub mod steps;
 pub mod stop;
 pub mod text;
+pub mod until;
+mod window;
 
 pub use follow::{Follow, followed};
 pub use heading::{read_header, scale_of};
-pub use kept::Kept;
 pub use search::{Search, searched};
 pub use steps::Steps;
 pub use stop::Stop;
 pub use text::{TextFault, Understood, read_text, understand};
+pub use until::Until;

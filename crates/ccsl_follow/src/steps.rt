@@ -2,20 +2,21 @@
 
 ghost use Rattle.std.specs.Prelude.{◌≡◌, ℕ, ◌+◌, ◌<◌, ◌^◌, List, [], ◌∷◌, ◌++◌, true, length, IfOk};
 ghost use Rattle.ccsl_base.specs.Clocks.{ticks_in};
+ghost use Rattle.ccsl_kernel.specs.Syntax.{System};
 ghost use Rattle.ccsl_kernel.specs.Lives.{Step};
 ghost use Rattle.ccsl_kernel.specs.Runs.{full_step, declared_part};
 ghost use Rattle.ccsl_state.specs.Part.{part_of, PartStandsFor};
 ghost use Rattle.ccsl_relate.specs.Watching.{IsUndeclared};
 
+use crate::states::States;
 use ccsl_base::{ClockSet, MAX_CLOCKS, Memory};
 use ccsl_kernel::System;
-use ccsl_state::Part;
 use std::alloc::Global;
 use std::marker::Model;
 
 /// The states of the definitions that some clocks lead to, and the last step. A step takes no memory.
 pub struct Steps<'s> {
-    part: Part<'s>,
+    part: States<'s>,
     // all clocks that the system does not declare
     undeclared: ClockSet,
     step: ClockSet,
@@ -59,6 +60,16 @@ fn undeclared(system: &System) -> ClockSet
     clocks
 }
 
+// Puts the declared clocks among some into a set.
+#[inline(always)]
+fn put_declared(declared: &mut ClockSet, ticks: &ClockSet, undeclared: &ClockSet)
+    ensures { (K : System) → IsUndeclared K undeclared.now → declared.new ≡ declared_part K ticks.now }
+{
+    ticks.members();
+    declared.copy_difference(ticks, undeclared);
+    declared.members();
+}
+
 impl<'s> Steps<'s> {
     /// Before the first step. These clocks are followed, and all that their definitions lead to.
     pub fn open(alloc: Global, system: &'s System, clocks: &ClockSet) -> Result<Steps<'s>, Memory>
@@ -67,7 +78,7 @@ impl<'s> Steps<'s> {
             ticks_in x clocks.now ≡ true → ticks_in x s.part.followed ≡ true) }
         ensures stands { IfOk result (λ s. PartStandsFor s.part []) }
     {
-        let part = Part::open(alloc, system, clocks)?;
+        let part = States::open(alloc, system, clocks)?;
         Ok(Steps {
             part,
             undeclared: undeclared(system),
@@ -76,6 +87,7 @@ impl<'s> Steps<'s> {
     }
 
     /// Goes on by the full step that a row with these ticks completes.
+    #[inline(always)]
     pub fn go_on(&mut self, ticks: &ClockSet)
         ensures system { self.new.part.system ≡ self.old.part.system }
         ensures followed { self.new.part.followed ≡ self.old.part.followed }
@@ -84,9 +96,7 @@ impl<'s> Steps<'s> {
         ensures stands { (T : List Step) → PartStandsFor self.old.part T → length T + 1 < 2 ^ 64 → let K = self.old.part.system in
             PartStandsFor self.new.part (T ++ full_step K T (declared_part K ticks.now) ∷ []) }
     {
-        ticks.members();
-        self.step.copy_difference(ticks, &self.undeclared);
-        self.step.members();
+        put_declared(&mut self.step, ticks, &self.undeclared);
         self.part.go_on(&mut self.step);
     }
 

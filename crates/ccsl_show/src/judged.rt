@@ -12,7 +12,7 @@ use crate::view::{View, header_scale};
 use ccsl_base::{ClockSet, HashKeys, MAX_CLOCKS, Memory};
 use ccsl_causes::put_pending;
 use ccsl_edge::World;
-use ccsl_follow::{Follow, Stop, followed, read_header};
+use ccsl_follow::{Follow, Stop, Until, followed, read_header};
 use ccsl_kernel::System;
 use ccsl_page::{Page, put_ticks};
 use ccsl_scopes::Header;
@@ -111,7 +111,8 @@ pub(crate) fn show_broken<W: World>(
 {
     let header = read_header(case.alloc, keys, world, name)?;
     let own = clocks_of(case.system, item);
-    let follow = followed(case.alloc, keys, world, case.system, &own, name, Some(step))?;
+    let until = Until::Step(step);
+    let follow = followed(case.alloc, keys, world, case.system, &own, name, until)?;
     Ok(put_broken(page, case, item, &own, &follow, header.as_ref())?)
 }
 
@@ -138,6 +139,7 @@ fn put_run(
         case.alloc,
         page,
         case.system,
+        &follow.counts,
         &follow.leads,
         header_scale(header),
     )?;
@@ -145,13 +147,14 @@ fn put_run(
     View::new(case.alloc, rows, columns, header, follow)
 }
 
-/// Shows a trace that is a run.
+/// Shows a trace that is a run, of so many steps.
 pub(crate) fn show_run<W: World>(
     keys: HashKeys,
     world: &mut W,
     case: &Case<'_>,
     page: &mut Page,
     name: &str,
+    steps: u64,
 ) -> Result<View, Stop>
     requires { W.allows Trace name.now }
     ensures reads { OnlyReads (W.state world.old) (W.state world.new) }
@@ -160,6 +163,7 @@ pub(crate) fn show_run<W: World>(
     let header = read_header(case.alloc, keys, world, name)?;
     let rows = written_clocks(case)?;
     let own = set_of(rows.as_slice());
-    let follow = followed(case.alloc, keys, world, case.system, &own, name, None)?;
+    let until = Until::End(steps);
+    let follow = followed(case.alloc, keys, world, case.system, &own, name, until)?;
     Ok(put_run(page, case, rows, &follow, header.as_ref())?)
 }

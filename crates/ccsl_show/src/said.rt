@@ -34,8 +34,11 @@ pub enum Said<'a> {
     },
     /// a line of the certificate, from 1, is not valid
     BadLine(u64),
-    /// these lines say which items block every step
-    Blocked(&'a [u8]),
+    /// no step is left after so many, and these lines say which items block it
+    Blocked {
+        steps: u64,
+        lines: &'a [u8],
+    },
     /// no step is left after so many
     Deadlock(u64),
     Other,
@@ -151,8 +154,8 @@ fn of_line<'a>(line: &'a [u8], rest: &'a [u8]) -> Option<Said<'a>> {
         return Some(Said::Deadlock(steps));
     }
     let text = behind(line, b"explain: ")?;
-    if behind(text, b"blocked ").is_some() {
-        return Some(Said::Blocked(rest));
+    if let Some((steps, _)) = number_behind(text, b"blocked after ") {
+        return Some(Said::Blocked { steps, lines: rest });
     }
     broken(text)
 }

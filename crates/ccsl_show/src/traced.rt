@@ -104,6 +104,7 @@ fn show_blocked<W: World>(
     files: Files<'_>,
     name: &str,
     lines: &[u8],
+    steps: u64,
 ) -> Result<View, Stop>
     requires allowed { (slot : Slot) (name : List ℕ) → W.allows slot name }
     ensures reads { OnlyReads (W.state world.old) (W.state world.new) }
@@ -115,7 +116,7 @@ fn show_blocked<W: World>(
         None => None,
     };
     put_blocked(page, case, lines, cert)?;
-    show_run(keys, world, case, page, name)
+    show_run(keys, world, case, page, name, steps)
 }
 
 fn show_bad_line<W: World>(
@@ -154,7 +155,7 @@ pub(crate) fn show_trace<W: World>(
     ensures calm { OnOk result (SameCounts (W.state world.old) (W.state world.new)) }
 {
     match said {
-        Said::Run(_) => Ok(Some(show_run(keys, world, case, page, name)?)),
+        Said::Run(steps) => Ok(Some(show_run(keys, world, case, page, name, steps)?)),
         Said::Broken { step, item, .. } => {
             show_violation(keys, world, case, page, name, item, step)
         }
@@ -166,10 +167,14 @@ pub(crate) fn show_trace<W: World>(
             show_unbound(keys, world, case, page, name, clock)?;
             Ok(None)
         }
-        Said::Blocked(lines) => Ok(Some(show_blocked(
-            keys, world, case, page, files, name, lines,
-        )?)),
-        Said::Deadlock(_) => Ok(Some(show_blocked(keys, world, case, page, files, name, b"")?)),
+        Said::Blocked { steps, lines } => {
+            let shown = show_blocked(keys, world, case, page, files, name, lines, steps)?;
+            Ok(Some(shown))
+        }
+        Said::Deadlock(steps) => {
+            let shown = show_blocked(keys, world, case, page, files, name, b"", steps)?;
+            Ok(Some(shown))
+        }
         Said::BadLine(line) => {
             show_bad_line(world, case, page, files, line)?;
             Ok(None)

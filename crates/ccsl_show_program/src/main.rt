@@ -14,7 +14,8 @@ use std::process::ExitCode;
 use std::time::Instant;
 use std::{env, fs};
 
-/// Says on standard error how far the reading of a trace is, or a simulation, once that has taken two seconds.
+/// Says on standard error how far the reading of a trace is, or a simulation, once that has taken two seconds; and what the lines of
+/// a session are, behind one that it does not know.
 #[derive(Drop)]
 struct Progress<'a> {
     rt: &'a HostRuntime,
@@ -27,7 +28,11 @@ struct Progress<'a> {
     made: u64,
     // after how many seconds it spoke last
     spoke: u64,
+    is_session: bool,
 }
+
+/// What a session answers to a line that it does not know.
+const UNKNOWN: &[u8] = b"unknown\n";
 
 /// How many steps are made before the clock is looked at again.
 const STEPS_A_LOOK: u64 = 256;
@@ -76,8 +81,11 @@ impl Listen for Progress<'_> {
         }
     }
 
-    // A step is written at once, and begins with its time.
+    // A step is written at once, and begins with its time. So is an answer of a session.
     fn wrote(&mut self, slot: Slot, bytes: &[u8]) {
+        if self.is_session && slot == Slot::Report && bytes == UNKNOWN {
+            put_lines(self.rt);
+        }
         if slot != Slot::TraceOut {
             return;
         }
@@ -257,13 +265,22 @@ fn put_failure(rt: &HostRuntime, words: &[CommandWord]) {
     }
 }
 
+// Says on standard error what the lines of a session are.
+fn put_lines(rt: &HostRuntime) {
+    let _ = eprintln!(rt; "{SESSION}");
+}
+
+fn is_session(words: &[CommandWord]) -> bool {
+    match words.first() {
+        Some(first) => first.as_str() == "session",
+        None => false,
+    }
+}
+
 // What is told before an answer: in a session at a terminal what it takes.
 fn greet(rt: &HostRuntime, words: &[CommandWord]) {
-    if let Some(first) = words.first()
-        && first.as_str() == "session"
-        && rt.stdin().is_terminal()
-    {
-        let _ = eprintln!(rt; "{SESSION}");
+    if is_session(words) && rt.stdin().is_terminal() {
+        put_lines(rt);
     }
 }
 
@@ -302,6 +319,7 @@ fn listener<'a>(rt: &'a HostRuntime, words: &[CommandWord]) -> Progress<'a> {
         asked: steps_of(words),
         made: 0,
         spoke: 0,
+        is_session: is_session(words),
     }
 }
 
