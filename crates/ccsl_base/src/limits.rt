@@ -56,3 +56,24 @@ pub const MAX_WORKERS: u32 = 64;
 
 /// The most steps of a simulation.
 pub const MAX_STEPS: u64 = 10_000_000;
+
+/// The most steps of a trial.
+pub const MAX_TRIAL_STEPS: u64 = 100_000;
+
+/// The fewest clocks of a trial.
+pub const MIN_TRIAL_CLOCKS: u64 = 2;
+
+/// The most clocks of a trial.
+pub const MAX_TRIAL_CLOCKS: u64 = 512;
+
+/// The most bytes of a line of a session, its line feed not counted, a carriage return before it counted.
+pub const MAX_LINE_BYTES: usize = 65_536;
+
+/// The most bytes of a file's name in a word of the command line.
+pub const MAX_FILE_NAME: usize = 4096;
+
+/// The most digits of a number in a word of the command line.
+pub const MAX_DIGITS: usize = 20;
+
+/// The most bytes of an input that are read at once.
+pub const PIECE: usize = 65_536;

@@ -10,7 +10,7 @@ use Rattle.std.proofs.lemmas.List.Elements.{All-nil, All-cons}
 use Rattle.std.proofs.lemmas.List.FromFn.{length-map-range_with_len, get_or-map-range_with_len}
 use Rattle.ccsl_base.specs.Name.{is_name}
 use Rattle.ccsl_base.specs.declared.limits.TheConstants.{MAX_CALL_LEVELS}
-use Rattle.ccsl_command.specs.declared.TheConstants.{MAX_TRIAL_CLOCKS}
+use Rattle.ccsl_base.specs.declared.limits.TheConstants.{MAX_TRIAL_CLOCKS}
 use Rattle.ccsl_kernel.specs.declared.constraint.Constraint.{Constraint}
 use Rattle.ccsl_kernel.specs.Syntax.{System, Body, ENever, body_of}
 use Rattle.ccsl_kernel.specs.Cells.{cells, groups_cells}

@@ -1,6 +1,6 @@
 -- What the chain of alternations is worth.
 use Rattle.std.specs.Prelude.{◌≡◌, ℕ, ◌<◌, ◌≤◌, List, length, Ok}
-use Rattle.ccsl_command.specs.declared.TheConstants.{MAX_TRIAL_CLOCKS}
+use Rattle.ccsl_base.specs.declared.limits.TheConstants.{MAX_TRIAL_CLOCKS}
 use Rattle.ccsl_kernel.specs.Lives.{Step}
 use Rattle.ccsl_kernel.specs.Accepted.{IsAccepted}
 use Rattle.ccsl_kernel.specs.Runs.{IsAdmissible}

@@ -1,7 +1,7 @@
 //! The making of a chain.
 
 ghost use Rattle.std.specs.Prelude.{◌≡◌, ◌-◌, ◌*◌, ◌<◌, ◌≤◌, map, IfOk};
-ghost use Rattle.ccsl_command.specs.declared.TheConstants.{MIN_TRIAL_CLOCKS, MAX_TRIAL_CLOCKS};
+ghost use Rattle.ccsl_base.specs.declared.limits.TheConstants.{MIN_TRIAL_CLOCKS, MAX_TRIAL_CLOCKS};
 ghost use Rattle.ccsl_kernel.specs.Plain.{plain_group, plain_system};
 ghost use Rattle.ccsl_library.specs.Members.{library_groups};
 ghost use Rattle.ccsl_chain.specs.Chain.{chain};

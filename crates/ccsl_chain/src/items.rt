@@ -2,7 +2,7 @@
 
 ghost use Rattle.std.specs.Prelude.{◌≡◌, ◌+◌, ◌-◌, ◌<◌, ◌≤◌, ◌++◌, map, flat_map, length, IfOk, OnOk};
 ghost use Rattle.std.specs.List.{range_with_len};
-ghost use Rattle.ccsl_command.specs.declared.TheConstants.{MAX_TRIAL_CLOCKS};
+ghost use Rattle.ccsl_base.specs.declared.limits.TheConstants.{MAX_TRIAL_CLOCKS};
 ghost use Rattle.ccsl_kernel.specs.Plain.{plain_expr};
 ghost use Rattle.ccsl_chain.specs.Chain.{all_but_first, precedes, alternation};
 

@@ -2,7 +2,7 @@
 
 ghost use Rattle.std.specs.Prelude.{◌≡◌, ◌^◌, ◌-◌, ◌+◌, ◌<◌, ◌≤◌, ◌++◌, [], map, IfOk, OnOk};
 ghost use Rattle.std.specs.List.{range_with_len};
-ghost use Rattle.ccsl_command.specs.declared.TheConstants.{MAX_TRIAL_CLOCKS};
+ghost use Rattle.ccsl_base.specs.declared.limits.TheConstants.{MAX_TRIAL_CLOCKS};
 ghost use Rattle.ccsl_chain.specs.Chain.{clock_name, call_path, hidden_name};
 
 use ccsl_base::{Memory, Names};

@@ -6,7 +6,7 @@ use Rattle.ccsl_base.specs.Decimal.{are_digits, decimal_value}
 use Rattle.ccsl_base.specs.declared.limits.TheConstants.{MAX_WORKERS, MAX_STEPS}
 use Rattle.ccsl_words.specs.Word.{BinaryWord, is_finite}
 use Rattle.ccsl_words.specs.Spelling.{read_word}
-use Rattle.ccsl_command.specs.declared.TheConstants.{MAX_FILE_NAME, MAX_DIGITS, MAX_TRIAL_STEPS, MIN_TRIAL_CLOCKS, MAX_TRIAL_CLOCKS}
+use Rattle.ccsl_base.specs.declared.limits.TheConstants.{MAX_FILE_NAME, MAX_DIGITS, MAX_TRIAL_STEPS, MIN_TRIAL_CLOCKS, MAX_TRIAL_CLOCKS}
 use Rattle.ccsl_command.specs.declared.table.CommandName.{CommandName}
 use Rattle.ccsl_command.specs.declared.table.CommandName.TheVariants as command
 use Rattle.ccsl_command.specs.declared.table.Key.{Key}

@@ -25,17 +25,3 @@ pub use command_line::words;
 pub use file_name::FileName;
 pub use table::{CommandName, Key, PolicyName, RelationName};
 pub use usage::Usage;
-
-/// The most bytes of a file's name.
-pub const MAX_FILE_NAME: usize = 4096;
-
-/// The most digits of a number.
-pub const MAX_DIGITS: usize = 20;
-
-/// The most steps of a trial.
-pub const MAX_TRIAL_STEPS: u64 = 100_000;
-
-/// The fewest and the most clocks of a trial.
-pub const MIN_TRIAL_CLOCKS: u64 = 2;
-
-pub const MAX_TRIAL_CLOCKS: u64 = 512;

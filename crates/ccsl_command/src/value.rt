@@ -3,11 +3,11 @@
 ghost use Rattle.std.specs.Prelude.{◌≡◌, ◌≤◌, IfOk, IfSome, Some};
 ghost use Rattle.ccsl_command.specs.Values.{is_file_name, policy_of, relation_of, only_infinite, infinite_word, range_of, number_in, is_value};
 
-use crate::{
-    CommandName, Key, MAX_DIGITS, MAX_FILE_NAME, MAX_TRIAL_CLOCKS, MAX_TRIAL_STEPS,
-    MIN_TRIAL_CLOCKS, PolicyName, RelationName,
+use crate::{CommandName, Key, PolicyName, RelationName};
+use ccsl_base::{
+    MAX_DIGITS, MAX_FILE_NAME, MAX_STEPS, MAX_TRIAL_CLOCKS, MAX_TRIAL_STEPS, MAX_WORKERS,
+    MIN_TRIAL_CLOCKS, Memory, decimal,
 };
-use ccsl_base::{MAX_STEPS, MAX_WORKERS, Memory, decimal};
 use ccsl_words::{Word, WordFault};
 use std::alloc::Global;
 

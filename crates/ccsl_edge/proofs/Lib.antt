@@ -3,6 +3,7 @@ pub mod Files
 pub mod Frames
 pub mod OneSlot
 pub mod Reading
+pub mod Refilling
 pub mod Slots
 pub mod Writing
 pub mod Sources

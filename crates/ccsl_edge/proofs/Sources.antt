@@ -1,10 +1,9 @@
 -- A world in memory that never fails, in which one slot's source has changed.
-use Rattle.std.proofs.Common.{◌≡◌, ℕ, ◌+◌, ◌<◌, ◌≤◌, min, List, [], ◌∷◌, Bool, true, false, cond, map, length, take, drop, set, get_or, Option, Some, None, IsTrue, refl, sym, ap, ◌∙◌, ⊎_elim, subst, arith, nat_lt, slice_get, slice_index_or, unwrap_or, zero, suc}
-use Rattle.std.specs.List.{find, position, position_or_len}
+use Rattle.std.proofs.Common.{◌≡◌, ℕ, ◌<◌, ◌≤◌, min, List, [], ◌∷◌, true, false, cond, map, length, take, drop, set, get_or, Option, Some, None, IsTrue, refl, sym, ap, ◌∙◌, subst, nat_lt, slice_get, slice_index_or, unwrap_or, zero, suc}
+use Rattle.std.specs.List.{position, position_or_len}
 use Rattle.std.specs.Option.{option_map}
 use Rattle.std.specs.Str.{bytes_eq}
-use Rattle.std.proofs.lemmas.Bool.{cases_lt}
-use Rattle.std.proofs.lemmas.List.{map-set, length-map, drop_all, drop-drop, length-drop}
+use Rattle.std.proofs.lemmas.List.{map-set, length-map}
 use Rattle.std.proofs.lemmas.List.Folds.{find_at}
 use Rattle.std.proofs.Math.ListN.{get_or-map}
 use Rattle.ccsl_edge.specs.declared.slot.Slot.{Slot}

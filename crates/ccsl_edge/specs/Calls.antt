@@ -1,6 +1,7 @@
 -- What one call, or a row of calls, does to a world: one relation for each outcome, between the state before and
 -- the state after.
 use Rattle.std.specs.Prelude.{◌≡◌, ◌≢◌, ℕ, ◌+◌, ◌<◌, ◌≤◌, List, [], ◌++◌, length, take, IsTrue, true, false}
+use Rattle.ccsl_base.specs.declared.limits.TheConstants.{PIECE}
 use Rattle.ccsl_edge.specs.declared.slot.Slot.{Slot}
 use Rattle.ccsl_edge.specs.declared.whole.ReadFault.{ReadFault}
 use Rattle.ccsl_edge.specs.declared.whole.ReadFault.TheVariants.{Fault, TooLong, Memory}
@@ -35,6 +36,17 @@ pub record Takes (told : Told) (slot : Slot) (count : ℕ) (old new : State) (bu
   pub within : count ≤ length buf
   pub reads : Reads told slot (take count buf) old new
   pub ended : IsTrue told.left → count ≡ 0 → (old.slot_of slot).left ≡ []
+
+-- One read into an empty piece: so many of the next bytes, at most one more than may be taken, are in the piece but for that one;
+-- none were read only at the end of the input.
+pub record Refills (told : Told) (slot : Slot) (left count : ℕ) (old new : State) (piece : List ℕ) : Type 0 where
+  pub bytes : List ℕ
+  pub count_is : length bytes ≡ count
+  pub within : count ≤ left + 1
+  pub few : count ≤ PIECE
+  pub reads : Reads told slot bytes old new
+  pub piece_is : piece ≡ take left bytes
+  pub ended : IsTrue told.left → count ≡ 0 → (new.slot_of slot).left ≡ []
 
 -- These bytes were taken from the slot, and then a call failed.
 pub record ReadsThenFails (told : Told) (slot : Slot) (bytes : List ℕ) (old new : State) : Type 0 where

@@ -11,6 +11,7 @@
 
 pub mod held;
 pub mod memory;
+pub mod pending;
 pub(crate) mod place;
 pub mod plan;
 pub mod slot;
@@ -21,6 +22,7 @@ pub mod world;
 
 pub use held::HeldFile;
 pub use memory::MemoryWorld;
+pub use pending::Pending;
 pub use plan::CallKind;
 pub use slot::Slot;
 pub use steady::SteadyWorld;

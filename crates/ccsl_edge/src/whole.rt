@@ -6,6 +6,7 @@ ghost use Rattle.ccsl_edge.specs.Calls.{Adds, AddsFront, ReadsAll, ReadsUntil};
 
 use crate::slot::Slot;
 use crate::world::{Failed, World};
+use ccsl_base::PIECE;
 use std::alloc::{AllocError, Global};
 
 /// Why a slot could not be read whole.
@@ -41,9 +42,6 @@ impl From<AllocError> for ReadFault {
     }
 }
 
-/// The most bytes of the buffer that is read into.
-const BUFFER: u64 = 65536;
-
 /// Reads all the bytes that an input slot has left. It asks the world for no byte behind the first one that is
 /// past the limit. It takes memory for a buffer of at most 64 KiB, and for what it reads.
 pub fn read_all<W: World>(
@@ -58,12 +56,12 @@ pub fn read_all<W: World>(
     ensures err { IfErr result
         (λ fault. ReadsUntil fault W.told slot limit (W.state world.old) (W.state world.new)) }
 {
-    let mut buffer = vec![in alloc; 0u8; limit.min(BUFFER - 1) as usize + 1]?;
+    let mut buffer = vec![in alloc; 0u8; limit.min(PIECE as u64 - 1) as usize + 1]?;
     let buffer = buffer.as_mut_slice();
     let mut all = Vec::new(alloc);
     loop {
         let room = limit - all.len() as u64;
-        let part = &mut buffer[..room.min(BUFFER - 1) as usize + 1];
+        let part = &mut buffer[..room.min(PIECE as u64 - 1) as usize + 1];
         let count = world.read(slot, part)?;
         if count == 0 {
             return Ok(all);

@@ -5,13 +5,10 @@ ghost use Rattle.ccsl_events_top.specs.Writing.{MayWrite};
 
 use crate::files::next_piece;
 use crate::stop::Stop;
-use ccsl_base::{MAX_FILE_BYTES, Memory};
+use ccsl_base::{MAX_FILE_BYTES, Memory, PIECE};
 use ccsl_edge::World;
 use ccsl_vcd::VcdFault;
 use std::alloc::Global;
-
-/// The most bytes that are read at once.
-const PIECE: usize = 65_536;
 
 /// What was read of a dump and not taken yet. Behind its last byte stands a line feed, so that its last token ends.
 pub(crate) struct Source {

@@ -8,15 +8,12 @@ ghost use Rattle.ccsl_follow.specs.OnlyReads.{OnlyReads};
 use crate::feeding::LIMITS;
 use crate::reading::{open_file, read_on};
 use crate::stop::{Stop, stop_of_header};
-use ccsl_base::{HashKeys, MAX_TOKEN_BYTES};
+use ccsl_base::{HashKeys, MAX_TOKEN_BYTES, PIECE};
 use ccsl_edge::{Slot, World};
 use ccsl_page::Scale;
 use ccsl_scopes::{Header, HeaderReader};
 use ccsl_vcd_lex::is_space;
 use std::alloc::Global;
-
-/// How many bytes are read at once.
-pub(crate) const PIECE: usize = 65_536;
 
 /// The header so far, and the token that is open.
 #[derive(Drop)]

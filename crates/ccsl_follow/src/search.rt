@@ -5,10 +5,9 @@ ghost use Rattle.ccsl_edge.specs.declared.slot.Slot.TheVariants.{Trace};
 ghost use Rattle.ccsl_edge.specs.Counts.{SameCounts};
 ghost use Rattle.ccsl_follow.specs.OnlyReads.{OnlyReads};
 
-use crate::heading::PIECE;
 use crate::reading::{open_file, read_on};
 use crate::stop::Stop;
-use ccsl_base::Memory;
+use ccsl_base::{Memory, PIECE};
 use ccsl_edge::{Slot, World};
 use ccsl_page::Place;
 use std::alloc::Global;

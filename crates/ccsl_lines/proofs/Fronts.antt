@@ -2,7 +2,7 @@
 use Rattle.std.proofs.Common.{◌≡◌, ℕ, ◌<◌, ◌≤◌, List, [], ◌++◌, length, cond, sym, ap, ◌∙◌, ⊎_elim, arith, length-append}
 use Rattle.std.specs.Str.Lines.{strip_carriage_return}
 use Rattle.std.proofs.lemmas.Bool.{cases_lt, lt-ltb, le-ltb}
-use Rattle.ccsl_lines.specs.declared.TheConstants.{MAX_LINE_BYTES}
+use Rattle.ccsl_base.specs.declared.limits.TheConstants.{MAX_LINE_BYTES}
 use Rattle.ccsl_lines.specs.Lines.{Whole, Long, line_of}
 use Rattle.ccsl_lines.specs.Part.{front_of, added, stripped}
 

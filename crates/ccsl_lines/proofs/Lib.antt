@@ -1,5 +1,4 @@
 pub mod Looking
-pub mod Refilling
 pub mod Fronts
 pub mod Parts
 pub mod Taken

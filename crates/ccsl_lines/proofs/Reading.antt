@@ -9,7 +9,7 @@ use Rattle.ccsl_edge.specs.Calls.{Reads, Fails}
 use Rattle.ccsl_edge.proofs.Reading.{Reads-none, Reads-append, Reads-fails}
 use Rattle.ccsl_lines.specs.declared.reader.Next.{Next}
 use Rattle.ccsl_lines.specs.declared.reader.Next.TheVariants as next
-use Rattle.ccsl_lines.specs.declared.pending.TheConstants.{PIECE}
+use Rattle.ccsl_base.specs.declared.limits.TheConstants.{PIECE}
 use Rattle.ccsl_lines.specs.Lines.{Line, Whole, Long, is_line_feed}
 use Rattle.ccsl_lines.specs.Part.{stripped}
 use Rattle.ccsl_lines.specs.Held.{Held, StandsFor, going, ended, Goes, HasNoLineFeed, begun, left_of, readable, calls_left}

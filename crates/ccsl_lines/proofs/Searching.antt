@@ -1,11 +1,11 @@
 -- What is read in search of a line feed.
-use Rattle.std.proofs.Common.{◌≡◌, ℕ, ◌+◌, ◌-◌, ◌<◌, ◌≤◌, List, [], ◌++◌, length, take, false, true, sym, ap, ◌∙◌, subst, ⊎_elim, arith, append_assoc}
+use Rattle.std.proofs.Common.{◌≡◌, ℕ, ◌+◌, ◌-◌, ◌<◌, ◌≤◌, List, ◌++◌, length, take, false, true, sym, ap, ◌∙◌, ⊎_elim, arith, append_assoc}
 use Rattle.std.proofs.Math.Seq.{take-append-add, take-append_seam}
 use Rattle.std.proofs.lemmas.Bool.{cases_lt}
 use Rattle.std.proofs.lemmas.List.{append-nil, take_all, take-append-le}
 use Rattle.std.proofs.lemmas.List.Elements.{All-append, All-take}
 use Rattle.ccsl_lines.specs.Lines.{Line, is_line_feed, parts, ended_lines}
-use Rattle.ccsl_lines.specs.Held.{Held, HasNoLineFeed, Goes, StandsFor, going, ended}
+use Rattle.ccsl_lines.specs.Held.{Held, HasNoLineFeed, Goes, going, ended}
 use Rattle.ccsl_lines.specs.Laws.{SearchEndsNoLine}
 use Rattle.ccsl_lines.proofs.Parts.{lines-then-ended, ended-none}
 

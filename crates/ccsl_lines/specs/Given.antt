@@ -5,7 +5,7 @@ use Rattle.ccsl_edge.specs.World.{State, Told}
 use Rattle.ccsl_edge.specs.Calls.{Reads, ReadsThenFails}
 use Rattle.ccsl_lines.specs.declared.reader.Next.{Next}
 use Rattle.ccsl_lines.specs.declared.reader.Next.TheVariants as next
-use Rattle.ccsl_lines.specs.declared.pending.TheConstants.{PIECE}
+use Rattle.ccsl_base.specs.declared.limits.TheConstants.{PIECE}
 use Rattle.ccsl_lines.specs.Lines.{Line, Whole, Long, lines_taken}
 use Rattle.ccsl_lines.specs.Held.{Held, HasNoLineFeed, StandsFor}
 

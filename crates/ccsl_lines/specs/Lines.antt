@@ -2,7 +2,7 @@
 use Rattle.std.specs.Prelude.{ℕ, List, [], ◌∷◌, Bool, length, take, nat_eq, nat_lt, if◌then◌else◌}
 use Rattle.std.specs.List.{slice_split}
 use Rattle.std.specs.Str.Lines.{strip_carriage_return}
-use Rattle.ccsl_lines.specs.declared.TheConstants.{MAX_LINE_BYTES}
+use Rattle.ccsl_base.specs.declared.limits.TheConstants.{MAX_LINE_BYTES}
 
 -- a line: its bytes, or that they are too many
 pub data Line : Type 0 where

@@ -1,7 +1,7 @@
 -- The front of a line that is not whole yet.
 use Rattle.std.specs.Prelude.{ℕ, List, [], ◌++◌, Bool, true, false, length, nat_lt, if◌then◌else◌}
 use Rattle.std.specs.Str.Lines.{strip_carriage_return}
-use Rattle.ccsl_lines.specs.declared.TheConstants.{MAX_LINE_BYTES}
+use Rattle.ccsl_base.specs.declared.limits.TheConstants.{MAX_LINE_BYTES}
 use Rattle.ccsl_lines.specs.Lines.{Line, Whole, Long}
 
 -- what is kept of a front: its bytes, or that they are too many for a line

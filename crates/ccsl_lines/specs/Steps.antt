@@ -5,20 +5,10 @@ use Rattle.ccsl_edge.specs.World.{State, Told}
 use Rattle.ccsl_edge.specs.Calls.{Reads}
 use Rattle.ccsl_lines.specs.declared.reader.Next.{Next}
 use Rattle.ccsl_lines.specs.declared.reader.Next.TheVariants as next
-use Rattle.ccsl_lines.specs.declared.pending.TheConstants.{PIECE}
+use Rattle.ccsl_base.specs.declared.limits.TheConstants.{PIECE}
 use Rattle.ccsl_lines.specs.Lines.{Line, Whole, Long}
 use Rattle.ccsl_lines.specs.Part.{added, stripped}
 use Rattle.ccsl_lines.specs.Held.{Held, HasNoLineFeed, left_of}
-
--- so many bytes were read, of which those within what is left are pending
-pub record Refills (told : Told) (old new : State) (left count : ℕ) (pending : List ℕ) : Type 0 where
-  pub bytes : List ℕ
-  pub count_is : length bytes ≡ count
-  pub within : count ≤ left + 1
-  pub few : count ≤ PIECE
-  pub reads : Reads told Input bytes old new
-  pub pending_are : pending ≡ take left bytes
-  pub ended : IsTrue told.left → count ≡ 0 → (new.slot_of Input).left ≡ []
 
 -- the pending bytes up to a line feed were looked at
 pub record EndsLine (before after : Held) : Type 0 where

@@ -4,8 +4,7 @@ ghost use Rattle.std.specs.Prelude.{◌≡◌, ◌↔◌, [], IfOk, IsTrue};
 ghost use Rattle.ccsl_lines.specs.Lines.{Whole, Long};
 ghost use Rattle.ccsl_lines.specs.Part.{added, stripped, bytes_of};
 
-use crate::MAX_LINE_BYTES;
-use ccsl_base::Memory;
+use ccsl_base::{MAX_LINE_BYTES, Memory};
 use std::alloc::Global;
 use std::marker::Model;
 

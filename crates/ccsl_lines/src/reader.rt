@@ -9,9 +9,8 @@ ghost use Rattle.ccsl_lines.specs.Steps.{EndsLine, TakesAll, HandsOut, Finishes,
 ghost use Rattle.ccsl_lines.specs.Given.{Gives, Breaks, goes_on};
 
 use crate::part::Part;
-use crate::pending::Pending;
 use ccsl_base::Memory;
-use ccsl_edge::{Failed, World};
+use ccsl_edge::{Failed, Pending, Slot, World};
 use std::alloc::Global;
 use std::marker::Model;
 
@@ -20,7 +19,7 @@ use std::marker::Model;
 pub enum Next {
     /// A line, which the reader shows.
     Line,
-    /// A line of more than [`MAX_LINE_BYTES`](crate::MAX_LINE_BYTES) bytes.
+    /// A line of more than [`MAX_LINE_BYTES`](ccsl_base::MAX_LINE_BYTES) bytes.
     Long,
     /// The end of the input.
     Ended,
@@ -199,7 +198,7 @@ impl LineReader {
         let Some(left) = self.left else {
             return Ok(Some(Next::TooLong));
         };
-        let count = self.pending.refill(world, left)?;
+        let count = self.pending.refill(world, Slot::Input, left)?;
         if count == 0 {
             return Ok(Some(self.finish()));
         }

@@ -6,7 +6,7 @@ use Rattle.ccsl_kernel.specs.Syntax.{System}
 use Rattle.ccsl_lines.specs.Lines.{Line, Whole, Long, parts, ended_lines}
 use Rattle.ccsl_lines.specs.Held.{Held, StandsFor, HasNoLineFeed}
 use Rattle.ccsl_lines.specs.Laws.{SearchEndsNoLine}
-use Rattle.ccsl_lines.specs.declared.pending.TheConstants.{PIECE}
+use Rattle.ccsl_base.specs.declared.limits.TheConstants.{PIECE}
 use Rattle.ccsl_session.specs.Asked.{Asked, Fire, Unknown, set_of, asked, asked_words, tokens, is_quit}
 use Rattle.ccsl_session.specs.Rest.{IsAskedFor, LeavesRest}
 

@@ -1,7 +1,7 @@
 -- WHAT A SESSION LEAVES of standard input.
 use Rattle.std.specs.Prelude.{◌≡◌, ℕ, ◌+◌, ◌≤◌, List, ◌++◌, length, take, false}
 use Rattle.std.specs.List.{list_any}
-use Rattle.ccsl_lines.specs.declared.pending.TheConstants.{PIECE}
+use Rattle.ccsl_base.specs.declared.limits.TheConstants.{PIECE}
 use Rattle.ccsl_lines.specs.Lines.{parts, ended_lines}
 use Rattle.ccsl_kernel.specs.Syntax.{System}
 use Rattle.ccsl_session.specs.Asked.{asked, is_quit}

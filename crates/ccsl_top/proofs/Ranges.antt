@@ -3,7 +3,7 @@ use Rattle.std.proofs.Common.{◌≡◌, ℕ, ◌+◌, ◌≤◌, List, [], ◌�
 use Rattle.std.proofs.lemmas.Bool.{leb-true, not-false, and_parts}
 use Rattle.std.proofs.lemmas.Slice.Eq.{bytes_eq-Decides}
 use Rattle.ccsl_base.specs.Decimal.{decimal_value}
-use Rattle.ccsl_command.specs.declared.TheConstants.{MAX_TRIAL_STEPS, MIN_TRIAL_CLOCKS, MAX_TRIAL_CLOCKS}
+use Rattle.ccsl_base.specs.declared.limits.TheConstants.{MAX_TRIAL_STEPS, MIN_TRIAL_CLOCKS, MAX_TRIAL_CLOCKS}
 use Rattle.ccsl_command.specs.declared.table.CommandName.{CommandName}
 use Rattle.ccsl_command.specs.declared.table.CommandName.TheVariants as name
 use Rattle.ccsl_command.specs.declared.table.Key.{Key}

@@ -11,7 +11,7 @@ use Rattle.ccsl_command.specs.declared.table.PolicyName.{PolicyName}
 use Rattle.ccsl_command.specs.Opened.{Opened, files_opened}
 use Rattle.ccsl_kernel.specs.Syntax.{System}
 use Rattle.ccsl_spec.specs.Specifications.{IsSystemOf}
-use Rattle.ccsl_trace.specs.declared.pending.TheConstants.{PIECE}
+use Rattle.ccsl_base.specs.declared.limits.TheConstants.{PIECE}
 use Rattle.ccsl_session.specs.Rest.{LeavesRest}
 use Rattle.ccsl_top.specs.Outcome.{Output, Outcome}
 use Rattle.ccsl_top.specs.Simulate.{named_policy, IsOutput}

@@ -12,8 +12,9 @@ ghost use Rattle.ccsl_top.specs.Judging.{IsReplyOn, IsTraceStop};
 ghost use Rattle.ccsl_top.specs.Answered.{plain_reply, IsReadStatus};
 
 use crate::files::LIMITS;
+use crate::machine::Machine;
 use crate::reply::{Reply, Status};
-use ccsl_base::{HashKeys, Memory};
+use ccsl_base::Memory;
 use ccsl_edge::{Slot, Stop, World};
 use ccsl_judge::{JudgeFault, Verdict};
 use ccsl_kernel::System;
@@ -63,14 +64,11 @@ fn reply_on(
 
 /// Judges the trace of a name against a system. The line of report has its room before the trace is read.
 pub(crate) fn judge<R: Threads + Sync, W: World, G: Gate>(
-    rt: &R,
-    alloc: Global,
-    keys: HashKeys,
+    machine: &Machine<'_, R, G>,
     world: &mut W,
     system: &System,
     trace: &str,
     workers: u32,
-    gate: &G,
 ) -> Result<Reply, Stop>
     requires { W.allows Trace trace.now }
     ensures reads { IfOk result (λ _. Reads (only Trace) (W.state world.old) (W.state world.new)) }
@@ -79,18 +77,18 @@ pub(crate) fn judge<R: Threads + Sync, W: World, G: Gate>(
         plain_reply reply ≡ judge_outcome system.now (held (W.state world.old).files trace.now)) }
     ensures stop { IfErr result (λ stop. IsTraceStop stop W.told system.now trace.now (W.state world.old) (W.state world.new)) }
 {
-    let line = empty_line(alloc, system)?;
+    let line = empty_line(machine.alloc, system)?;
     if world.open_in(Slot::Trace, trace).is_err() {
         return Err(Stop::Fault);
     }
     let judged = ccsl_judge::judge(
-        rt,
-        alloc,
-        keys,
+        machine.rt,
+        machine.alloc,
+        machine.keys,
         world,
         system,
         workers.max(1),
-        gate,
+        machine.gate,
         &LIMITS,
     );
     reply_on(judged, system, line)

@@ -13,6 +13,7 @@ mod explain;
 mod files;
 mod judge;
 pub mod laws;
+mod machine;
 mod periodic;
 pub mod program;
 pub mod reply;

@@ -15,6 +15,7 @@ use crate::certify::certify;
 use crate::check::check;
 use crate::explain::explain;
 use crate::judge::judge;
+use crate::machine::Machine;
 use crate::periodic::periodic;
 use crate::reply::{Reply, Status};
 use crate::report::report;
@@ -49,13 +50,10 @@ fn refuse_words(alloc: Global, fault: &Usage) -> Result<Reply, Stop>
 
 // The answer to a command on the system of its specification, where it is no session.
 fn answer_on<R: Threads + Sync, W: World, G: Gate>(
-    rt: &R,
-    alloc: Global,
-    keys: HashKeys,
+    machine: &Machine<'_, R, G>,
     command: &Command,
     system: &System,
     world: &mut W,
-    gate: &G,
 ) -> Result<Reply, Stop>
     requires allowed { AreAllowed W.allows (files_of command.now) }
     requires named { spec_of command.now ≢ None }
@@ -66,18 +64,9 @@ fn answer_on<R: Threads + Sync, W: World, G: Gate>(
         IfErr result (λ stop. StopsAt W.told command.now stop start (W.state world.new)) }
 {
     match command {
-        Command::Check { .. } => check(alloc, system),
+        Command::Check { .. } => check(machine.alloc, system),
         Command::Judge { trace, workers, .. } => {
-            judge(
-                rt,
-                alloc,
-                keys,
-                world,
-                system,
-                trace.as_str(),
-                *workers,
-                gate,
-            )
+            judge(machine, world, system, trace.as_str(), *workers)
         }
         Command::Simulate {
             policy,
@@ -89,7 +78,7 @@ fn answer_on<R: Threads + Sync, W: World, G: Gate>(
         } => {
             let policy = policy_named(*policy);
             simulate(
-                alloc,
+                machine.alloc,
                 world,
                 system,
                 policy,
@@ -100,10 +89,24 @@ fn answer_on<R: Threads + Sync, W: World, G: Gate>(
             )
         }
         Command::Certify { trace, cert, .. } => {
-            certify(alloc, keys, world, system, trace.as_str(), cert.as_str())
+            certify(
+                machine.alloc,
+                machine.keys,
+                world,
+                system,
+                trace.as_str(),
+                cert.as_str(),
+            )
         }
         Command::Explain { trace, cert, .. } => {
-            explain(alloc, keys, world, system, trace.as_str(), cert.as_str())
+            explain(
+                machine.alloc,
+                machine.keys,
+                world,
+                system,
+                trace.as_str(),
+                cert.as_str(),
+            )
         }
         Command::Trial { .. } => unreachable!(),
         Command::Periodic { .. } => unreachable!(),
@@ -113,13 +116,10 @@ fn answer_on<R: Threads + Sync, W: World, G: Gate>(
 
 // Obeys a command on the system of its specification, and answers the exit status: a session reports by itself.
 fn obey_on<R: Threads + Sync, W: World, G: Gate>(
-    rt: &R,
-    alloc: Global,
-    keys: HashKeys,
+    machine: &Machine<'_, R, G>,
     command: &Command,
     system: &System,
     world: &mut W,
-    gate: &G,
 ) -> u8
     requires allowed { AreAllowed W.allows (files_of command.now) }
     requires named { spec_of command.now ≢ None }
@@ -128,31 +128,26 @@ fn obey_on<R: Threads + Sync, W: World, G: Gate>(
         Headline W.told words result start (W.state world.new) }
 {
     if let Command::Session { policy, seed, .. } = command {
-        return session(alloc, world, system, policy_named(*policy), *seed);
+        return session(machine.alloc, world, system, policy_named(*policy), *seed);
     }
-    let answer = answer_on(rt, alloc, keys, command, system, world, gate);
+    let answer = answer_on(machine, command, system, world);
     report(world, answer)
 }
 
 // Obeys a command that names a specification, and answers the exit status.
 fn obey_specified<R: Threads + Sync, W: World, G: Gate>(
-    rt: &R,
-    alloc: Global,
-    keys: HashKeys,
+    machine: &Machine<'_, R, G>,
     command: &Command,
     spec: &str,
     world: &mut W,
-    gate: &G,
 ) -> u8
     requires allowed { AreAllowed W.allows (files_of command.now) }
     requires named { spec_of command.now ≡ Some spec.now }
     ensures { (words : List (List ℕ)) → meaning words ≡ Ok command.now →
         Headline W.told words result (W.state world.old) (W.state world.new) }
 {
-    match read_specification(alloc, world, spec) {
-        Ok(Specification::Accepted(system)) => {
-            obey_on(rt, alloc, keys, command, &system, world, gate)
-        }
+    match read_specification(machine.alloc, world, spec) {
+        Ok(Specification::Accepted(system)) => { obey_on(machine, command, &system, world) }
         Ok(Specification::Refused(line)) => {
             let reply = Reply {
                 status: Status::SpecRefused,
@@ -166,12 +161,9 @@ fn obey_specified<R: Threads + Sync, W: World, G: Gate>(
 
 // Obeys a command, and answers the exit status.
 fn obey<R: Threads + Sync, W: World, G: Gate>(
-    rt: &R,
-    alloc: Global,
-    keys: HashKeys,
+    machine: &Machine<'_, R, G>,
     command: &Command,
     world: &mut W,
-    gate: &G,
 ) -> u8
     requires allowed { AreAllowed W.allows (files_of command.now) }
     requires meant { (words : List (List ℕ)) × (meaning words ≡ Ok command.now) }
@@ -186,21 +178,21 @@ fn obey<R: Threads + Sync, W: World, G: Gate>(
             seed,
             workers,
         } => {
-            let tried = trial(rt, alloc, keys, *clocks, *steps, *seed, *workers, gate);
+            let tried = trial(machine, *clocks, *steps, *seed, *workers);
             report(world, tried)
         }
         Command::Periodic {
             left,
             right,
             relation,
-        } => report(world, periodic(alloc, left, right, *relation)),
+        } => report(world, periodic(machine.alloc, left, right, *relation)),
         Command::Check { spec }
         | Command::Simulate { spec, .. }
         | Command::Judge { spec, .. }
         | Command::Certify { spec, .. }
         | Command::Explain { spec, .. }
         | Command::Session { spec, .. } => {
-            obey_specified(rt, alloc, keys, command, spec.as_str(), world, gate)
+            obey_specified(machine, command, spec.as_str(), world)
         }
     }
 }
@@ -221,7 +213,15 @@ pub fn run<R: Threads + Sync, W: World, G: Gate>(
     ensures { Headline W.told words.now result (W.state world.old) (W.state world.new) }
 {
     match command_line(alloc, words) {
-        Ok(command) => obey(rt, alloc, keys, &command, world, gate),
+        Ok(command) => {
+            let machine = Machine {
+                rt,
+                alloc,
+                keys,
+                gate,
+            };
+            obey(&machine, &command, world)
+        }
         Err(fault) => report(world, refuse_words(alloc, &fault)),
     }
 }

@@ -2,7 +2,7 @@
 
 ghost use Rattle.std.specs.Prelude.{◌≡◌, ◌≤◌, ℕ, IfOk, IfErr, IsOk, length};
 ghost use Rattle.ccsl_base.specs.declared.limits.TheConstants.{MAX_STEPS};
-ghost use Rattle.ccsl_command.specs.declared.TheConstants.{MAX_TRIAL_STEPS, MIN_TRIAL_CLOCKS, MAX_TRIAL_CLOCKS};
+ghost use Rattle.ccsl_base.specs.declared.limits.TheConstants.{MAX_TRIAL_STEPS, MIN_TRIAL_CLOCKS, MAX_TRIAL_CLOCKS};
 ghost use Rattle.ccsl_roundtrip.specs.Ticks.{ticks_written};
 ghost use Rattle.ccsl_top.specs.Trial.{trial_run, trial_outcome};
 ghost use Rattle.ccsl_chain.specs.Chain.{chain};
@@ -11,9 +11,10 @@ ghost use Rattle.ccsl_edge.specs.declared.stop.Stop.TheVariants as stop;
 ghost use Rattle.ccsl_top.specs.Answered.{plain_reply};
 
 use crate::files::LIMITS;
+use crate::machine::Machine;
 use crate::reply::{Reply, Status};
 use crate::simulate::write_run;
-use ccsl_base::{HashKeys, Memory};
+use ccsl_base::{Memory, PIECE};
 use ccsl_chain::chain;
 use ccsl_edge::{MemoryWorld, Slot, Stop, World};
 use ccsl_judge::{JudgeFault, Verdict};
@@ -30,9 +31,6 @@ use std::thread::Threads;
 const TRACE: &str = "trace";
 
 const CERT: &str = "certificate";
-
-/// The most bytes that one read or write of this world moves.
-const PIECE: usize = 65_536;
 
 // The value, where this was done. For any type: the drop of a world is dear to check.
 fn kept<T: Drop>(value: T, done: Result<(), Memory>) -> Result<T, Memory>
@@ -74,13 +72,10 @@ fn written(alloc: Global, system: &System, seed: u64, steps: u64) -> Result<Memo
 
 // How many steps the trace of a world is judged to have. That it is a run is a law.
 fn judged_steps<R: Threads + Sync, G: Gate>(
-    rt: &R,
-    alloc: Global,
-    keys: HashKeys,
+    machine: &Machine<'_, R, G>,
     world: &mut MemoryWorld,
     system: &System,
     workers: u32,
-    gate: &G,
 ) -> Result<u64, Memory>
     requires { (seed : ℕ) × (steps : ℕ) × HoldsTrace system.now seed steps world.old × (steps ≤ MAX_STEPS) }
     ensures steps { IfOk result (λ made. (seed steps : ℕ) → HoldsTrace system.now seed steps world.old → steps ≤ MAX_STEPS →
@@ -89,13 +84,13 @@ fn judged_steps<R: Threads + Sync, G: Gate>(
 {
     simulated_traces_are_runs(system);
     match ccsl_judge::judge(
-        rt,
-        alloc,
-        keys,
+        machine.rt,
+        machine.alloc,
+        machine.keys,
         world,
         system,
         workers.max(1),
-        gate,
+        machine.gate,
         &LIMITS,
     ) {
         Ok(Verdict::Run(steps)) => Ok(steps),
@@ -121,53 +116,44 @@ fn ticks_of(alloc: Global, world: &MemoryWorld, system: &System, made: u64) -> R
 
 // How many steps and ticks the trace of a world has.
 fn counted<R: Threads + Sync, G: Gate>(
-    rt: &R,
-    alloc: Global,
-    keys: HashKeys,
+    machine: &Machine<'_, R, G>,
     world: &mut MemoryWorld,
     system: &System,
     workers: u32,
-    gate: &G,
 ) -> Result<(u64, u64), Memory>
     requires { (seed : ℕ) × (steps : ℕ) × HoldsTrace system.now seed steps world.old × (steps ≤ MAX_STEPS) }
     ensures { IfOk result (λ counts. (seed steps : ℕ) → HoldsTrace system.now seed steps world.old → steps ≤ MAX_STEPS →
         (counts.0 ≡ length (drawn_run system.now seed steps))
         × (counts.1 ≡ ticks_written system.now (drawn_run system.now seed steps))) }
 {
-    let made = judged_steps(rt, alloc, keys, world, system, workers, gate)?;
-    let ticks = ticks_of(alloc, world, system, made)?;
+    let made = judged_steps(machine, world, system, workers)?;
+    let ticks = ticks_of(machine.alloc, world, system, made)?;
     Ok((made, ticks))
 }
 
 // How many steps and ticks a run of a system has that is simulated by drawn words and judged.
 fn tried<R: Threads + Sync, G: Gate>(
-    rt: &R,
-    alloc: Global,
-    keys: HashKeys,
+    machine: &Machine<'_, R, G>,
     system: &System,
     steps: u64,
     seed: u64,
     workers: u32,
-    gate: &G,
 ) -> Result<(u64, u64), Memory>
     requires { steps ≤ MAX_STEPS }
     ensures { IfOk result (λ counts. (counts.0 ≡ length (drawn_run system.now seed steps))
         × (counts.1 ≡ ticks_written system.now (drawn_run system.now seed steps))) }
 {
-    let mut world = written(alloc, system, seed, steps)?;
-    counted(rt, alloc, keys, &mut world, system, workers, gate)
+    let mut world = written(machine.alloc, system, seed, steps)?;
+    counted(machine, &mut world, system, workers)
 }
 
 // The same of a chain of so many clocks.
 fn tried_chain<R: Threads + Sync, G: Gate>(
-    rt: &R,
-    alloc: Global,
-    keys: HashKeys,
+    machine: &Machine<'_, R, G>,
     clocks: u32,
     steps: u64,
     seed: u64,
     workers: u32,
-    gate: &G,
 ) -> Result<(u64, u64), Memory>
     requires least { MIN_TRIAL_CLOCKS ≤ clocks }
     requires most { clocks ≤ MAX_TRIAL_CLOCKS }
@@ -175,21 +161,18 @@ fn tried_chain<R: Threads + Sync, G: Gate>(
     ensures { IfOk result (λ counts. (counts.0 ≡ length (trial_run clocks steps seed))
         × (counts.1 ≡ ticks_written (chain clocks) (trial_run clocks steps seed))) }
 {
-    let system = chain(alloc, clocks)?;
-    tried(rt, alloc, keys, &system, steps, seed, workers, gate)
+    let system = chain(machine.alloc, clocks)?;
+    tried(machine, &system, steps, seed, workers)
 }
 
 /// Simulates a chain of so many clocks by drawn words into a world in memory, judges what was written, and counts its ticks. A fault of
 /// this world is a want of memory of its own.
 pub(crate) fn trial<R: Threads + Sync, G: Gate>(
-    rt: &R,
-    alloc: Global,
-    keys: HashKeys,
+    machine: &Machine<'_, R, G>,
     clocks: u32,
     steps: u64,
     seed: u64,
     workers: u32,
-    gate: &G,
 ) -> Result<Reply, Stop>
     requires least { MIN_TRIAL_CLOCKS ≤ clocks }
     requires most { clocks ≤ MAX_TRIAL_CLOCKS }
@@ -197,9 +180,9 @@ pub(crate) fn trial<R: Threads + Sync, G: Gate>(
     ensures reply { IfOk result (λ reply. plain_reply reply ≡ trial_outcome clocks steps seed) }
     ensures stop { IfErr result (λ reason. reason ≡ stop.Memory) }
 {
-    let (made, ticks) = tried_chain(rt, alloc, keys, clocks, steps, seed, workers, gate)?;
+    let (made, ticks) = tried_chain(machine, clocks, steps, seed, workers)?;
     Ok(Reply {
         status: Status::Done,
-        line: trial_done(alloc, clocks, made, ticks)?,
+        line: trial_done(machine.alloc, clocks, made, ticks)?,
     })
 }

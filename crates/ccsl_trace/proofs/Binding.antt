@@ -13,7 +13,7 @@ use Rattle.ccsl_vcd.specs.Words as w
 use Rattle.ccsl_vcd.specs.Places as p
 use Rattle.ccsl_vcd.specs.Body.{is_declared, changed, change_says, body_says}
 use Rattle.ccsl_vcd.specs.Reading.{may_end, Story, says, told, next, next_from, story, so_far, reading}
-use Rattle.ccsl_vcd.specs.Rows.{row_at, times, has_ticks, rows, rows_of, bound_at}
+use Rattle.ccsl_vcd.specs.Rows.{times, rows, rows_of, bound_at}
 use Rattle.ccsl_vcd.specs.Completed.{now_at, is_before, done}
 use Rattle.ccsl_vcd.proofs.Decided.{story-more, story-sticks}
 use Rattle.ccsl_vcd_read.specs.Staging.{shown_at}

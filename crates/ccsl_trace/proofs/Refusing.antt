@@ -15,7 +15,7 @@ use Rattle.ccsl_vcd_read.specs.Heading.{Caused, NotMemory}
 use Rattle.ccsl_vcd_read.specs.Reading.{IsCalm, past_header}
 use Rattle.ccsl_trace.specs.declared.fault.TraceFault.{TraceFault}
 use Rattle.ccsl_trace.specs.declared.fault.TraceFault.TheVariants.{Fault, Refused, Memory}
-use Rattle.ccsl_trace.specs.declared.pending.TheConstants.{PIECE}
+use Rattle.ccsl_base.specs.declared.limits.TheConstants.{PIECE}
 use Rattle.ccsl_trace.specs.Traces.{IsUnread, IsNearHeader, unread}
 use Rattle.ccsl_trace.specs.Stepping.{IsNear, RefusesAll, RefusesIt}
 use Rattle.ccsl_trace.specs.HeaderEnd.{is_body, binds_none, ends_header}

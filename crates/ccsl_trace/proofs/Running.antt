@@ -9,9 +9,6 @@ use Rattle.ccsl_vcd.specs.Binding.{Wanted}
 use Rattle.ccsl_vcd.specs.Reading.{Story, so_far, reading}
 use Rattle.ccsl_vcd.specs.Completed.{done}
 use Rattle.ccsl_vcd_read.specs.declared.reader.Counts.{Counts}
-use Rattle.ccsl_vcd_read.specs.declared.stage.Stage.{Stage}
-use Rattle.ccsl_vcd_read.specs.declared.stage.Stage.TheVariants.{Header, Body, Unbound}
-use Rattle.ccsl_vcd_read.specs.Staging.{Pictures}
 use Rattle.ccsl_vcd_read.specs.Heading.{Caused, NotMemory}
 use Rattle.ccsl_vcd_read.specs.Reading.{Running, StandsFor, Pushes, HeaderSo, IsCalm, past_header}
 use Rattle.ccsl_vcd_read.proofs.StagePictures.{caused-map}

@@ -1,7 +1,7 @@
 -- A feed and the world from which it takes its trace.
-use Rattle.std.proofs.Common.{◌≡◌, ℕ, ◌+◌, ◌<◌, ◌^◌, List, [], ◌++◌, length, Bool, true, false, Option, Some, None, IsTrue, refl, sym, ap, ◌∙◌, subst, arith}
-use Rattle.std.proofs.lemmas.List.{append-nil}
-use Rattle.ccsl_base.specs.declared.limits.TheConstants.{BLOCK_ROWS}
+use Rattle.std.proofs.Common.{◌≡◌, ℕ, ◌+◌, ◌<◌, ◌≤◌, ◌-◌, ◌^◌, List, [], ◌++◌, length, Bool, true, false, Option, Some, None, IsTrue, refl, sym, ap, ◌∙◌, subst, arith}
+use Rattle.std.proofs.lemmas.List.{append-nil, take_all}
+use Rattle.ccsl_base.specs.declared.limits.TheConstants.{BLOCK_ROWS, PIECE}
 use Rattle.ccsl_base.specs.declared.rows.Row.{Row}
 use Rattle.ccsl_base.specs.Rows.{RowList}
 use Rattle.ccsl_edge.specs.declared.slot.Slot.TheVariants.{Trace}
@@ -20,7 +20,7 @@ use Rattle.ccsl_trace.specs.declared.next.Next.{Next}
 use Rattle.ccsl_trace.specs.declared.next.Next.TheVariants.{Bound, Rows, Ended}
 use Rattle.ccsl_trace.specs.Traces.{Ends, Fails, IsUnread}
 use Rattle.ccsl_trace.specs.Feeding.{Feeding, bound_of, waiting_in, Runs, HasEnded, Holds, Feeds, GivesBound, GivesRows, GivesEnd, Gives}
-use Rattle.ccsl_trace.specs.Stepping.{Refills, IsNear, RefusesAll, RefusesIt, EndsLate, EndsNow, Finishes}
+use Rattle.ccsl_trace.specs.Stepping.{IsNear, RefusesAll, RefusesIt, EndsLate, EndsNow, Finishes}
 use Rattle.ccsl_trace.proofs.Binding.{bound-none, done-none}
 use Rattle.ccsl_trace.proofs.Refusing.{near-header, unread-all, unread-it, whole-of}
 use Rattle.ccsl_trace.proofs.Running.{none-before, few-rows, bound-where-rows, gives}
@@ -52,6 +52,20 @@ opened told wanted limits now feed small none block ended l runs stands = record
 pub unbound : (wanted : Wanted) (v : Reading) → v.fault ≡ None → StandsFor wanted v [] → shows v ≡ None
 unbound wanted v e s = running-shown wanted v [] (running-of wanted v [] e s) ∙ bound-none wanted v.limits
 
+-- all that was read is pending
+all-kept : (told : Told) (count : ℕ) (old new : State) (piece : List ℕ) → calls.Refills told Trace (2 ^ 64 - 1) count old new piece
+    → calls.Reads told Trace piece old new × (length piece ≤ PIECE)
+all-kept told count old new piece r =
+    let whole : piece ≡ r.bytes = r.piece_is ∙ take_all (2 ^ 64 - 1) r.bytes (omega (arith, r.count_is, r.few)) in
+    (subst (λ bs. calls.Reads told Trace bs old new) (sym whole) r.reads, omega (arith, ap length whole, r.count_is, r.few))
+
+-- nothing is left where nothing was read
+pub none-left : (told : Told) (count : ℕ) (old new : State) (piece : List ℕ) → calls.Refills told Trace (2 ^ 64 - 1) count old new piece
+    → piece ≡ [] → IsTrue told.left → (new.slot_of Trace).left ≡ []
+none-left told count old new piece r none tells =
+    let whole : piece ≡ r.bytes = r.piece_is ∙ take_all (2 ^ 64 - 1) r.bytes (omega (arith, r.count_is, r.few)) in
+    r.ended tells (sym r.count_is ∙ ap length (sym whole) ∙ ap length none)
+
 module _ (told : Told) (wanted : Wanted) (limits : Limits) (start now : State) (feed : Feeding) (rows : List Row) (f : Feeds told wanted limits start now feed rows) where
   -- a trace that has not ended is still running
   pub runs-of : feed.ended ≡ None → Runs wanted limits f.bytes feed rows
@@ -66,18 +80,21 @@ module _ (told : Told) (wanted : Wanted) (limits : Limits) (start now : State) (
   fails-at next h = record { bytes = f.bytes; reads = Reads-fails told Trace f.bytes start now next f.reads h }
 
   -- a piece was read where none was pending
-  pub refilled : (next : State) (feed' : Feeding) → feed.ended ≡ None → feed.pending ≡ [] → feed' ≡ record feed { pending = feed'.pending } → Refills told now next feed'.pending → Feeds told wanted limits start next feed' rows
-  refilled next feed' e none same h =
+  pub refilled : (next : State) (feed' : Feeding) (count : ℕ) → feed.ended ≡ None → feed.pending ≡ []
+      → feed' ≡ record feed { pending = feed'.pending } → calls.Refills told Trace (2 ^ 64 - 1) count now next feed'.pending
+      → Feeds told wanted limits start next feed' rows
+  refilled next feed' count e none same h =
       let r = runs-of e in
+      let whole = all-kept told count now next feed'.pending h in
       record {
         bytes = f.bytes ++ feed'.pending;
-        reads = Reads-append told Trace f.bytes feed'.pending start now next f.reads h.reads;
+        reads = Reads-append told Trace f.bytes feed'.pending start now next f.reads whole.0;
         small = f.small;
         holds = subst (λ x. Holds told wanted limits start next x.ended (f.bytes ++ feed'.pending) x rows) (sym same)
             (subst (λ o. Holds told wanted limits start next o (f.bytes ++ feed'.pending) (record feed { pending = feed'.pending }) rows) (sym e) (record {
               taken = r.taken;
               all = ap (λ xs. xs ++ feed'.pending) (r.all ∙ ap (λ xs. r.taken ++ xs) none ∙ append-nil r.taken);
-              few = h.few;
+              few = whole.1;
               stands = r.stands;
               runs = r.runs;
               limits_are = r.limits_are;

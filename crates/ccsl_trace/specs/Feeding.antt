@@ -13,7 +13,7 @@ use Rattle.ccsl_vcd_read.specs.declared.reader.Counts.{Counts}
 use Rattle.ccsl_vcd_read.specs.Reading.{Reading, StandsFor, shows}
 use Rattle.ccsl_trace.specs.declared.next.Next.{Next}
 use Rattle.ccsl_trace.specs.declared.next.Next.TheVariants.{Bound, Rows, Ended}
-use Rattle.ccsl_trace.specs.declared.pending.TheConstants.{PIECE}
+use Rattle.ccsl_base.specs.declared.limits.TheConstants.{PIECE}
 use Rattle.ccsl_trace.specs.Traces.{Ends, IsReadBy, IsNearHeader}
 
 -- a feed as contracts see it

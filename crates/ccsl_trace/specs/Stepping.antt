@@ -1,9 +1,7 @@
 -- What the steps of a feed do between two calls of its caller.
-use Rattle.std.specs.Prelude.{◌≡◌, ℕ, ◌+◌, ◌≤◌, ◌<◌, ◌^◌, List, [], ◌++◌, length, take, Bool, true, false, Option, Some, None, IsTrue}
+use Rattle.std.specs.Prelude.{◌≡◌, ℕ, ◌+◌, ◌≤◌, ◌<◌, ◌^◌, List, [], ◌++◌, length, take, Bool, true, false, Option, Some, None}
 use Rattle.ccsl_base.specs.declared.rows.Row.{Row}
-use Rattle.ccsl_edge.specs.declared.slot.Slot.TheVariants.{Trace}
 use Rattle.ccsl_edge.specs.World.{State, Told}
-use Rattle.ccsl_edge.specs.Calls.{Reads}
 use Rattle.ccsl_vcd.specs.declared.limits.Limits.{Limits}
 use Rattle.ccsl_vcd.specs.Binding.{Wanted}
 use Rattle.ccsl_vcd.specs.Reading.{reading}
@@ -13,16 +11,10 @@ use Rattle.ccsl_trace.specs.declared.fault.TraceFault.{TraceFault}
 use Rattle.ccsl_trace.specs.declared.fault.TraceFault.TheVariants.{Fault, Refused, Memory}
 use Rattle.ccsl_trace.specs.declared.next.Next.{Next}
 use Rattle.ccsl_trace.specs.declared.next.Next.TheVariants.{Bound, Rows, Ended}
-use Rattle.ccsl_trace.specs.declared.pending.TheConstants.{PIECE}
+use Rattle.ccsl_base.specs.declared.limits.TheConstants.{PIECE}
 use Rattle.ccsl_trace.specs.HeaderEnd.{ends_header}
 use Rattle.ccsl_trace.specs.Traces.{Ends}
 use Rattle.ccsl_trace.specs.Feeding.{Feeding, bound_of, calls_left, Feeds}
-
--- a piece was read: none only at the end
-pub record Refills (told : Told) (old new : State) (piece : List ℕ) : Type 0 where
-  pub few : length piece ≤ PIECE
-  pub reads : Reads told Trace piece old new
-  pub ended : IsTrue told.left → piece ≡ [] → (old.slot_of Trace).left ≡ []
 
 -- the bytes reach at most one piece past the header's end
 abbrev pub IsNear : Wanted → Limits → List ℕ → Type 0

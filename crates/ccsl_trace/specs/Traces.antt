@@ -15,7 +15,7 @@ use Rattle.ccsl_vcd_read.specs.Reading.{AreCounts}
 use Rattle.ccsl_trace.specs.HeaderEnd.{ends_header}
 use Rattle.ccsl_trace.specs.declared.fault.TraceFault.{TraceFault}
 use Rattle.ccsl_trace.specs.declared.fault.TraceFault.TheVariants.{Fault, Refused, Memory}
-use Rattle.ccsl_trace.specs.declared.pending.TheConstants.{PIECE}
+use Rattle.ccsl_base.specs.declared.limits.TheConstants.{PIECE}
 
 -- the bound clocks of a whole trace
 abbrev pub clocks_of : Wanted → Limits → List ℕ → List ℕ

@@ -13,9 +13,8 @@ ghost use Rattle.ccsl_trace.specs.Traces.{Fails, IsUnread};
 
 use crate::fault::{TraceFault, unread};
 use crate::next::Next;
-use crate::pending::Pending;
 use ccsl_base::{BLOCK_ROWS, Block, ClockSet, HashKeys, Memory};
-use ccsl_edge::World;
+use ccsl_edge::{Pending, Slot, World};
 use ccsl_kernel::System;
 use ccsl_vcd::Limits;
 use ccsl_vcd_read::{Counts, Reader};
@@ -126,8 +125,8 @@ impl Feed {
         if !self.pending.is_empty() {
             return Ok(true);
         }
-        match self.pending.refill(world) {
-            Ok(()) => {}
+        match self.pending.refill(world, Slot::Trace, u64::MAX) {
+            Ok(_count) => {}
             Err(_failed) => return Err(TraceFault::Fault),
         }
         Ok(!self.pending.is_empty())

@@ -16,9 +16,7 @@
 pub mod fault;
 pub mod feed;
 pub mod next;
-pub mod pending;
 
 pub use fault::TraceFault;
 pub use feed::Feed;
 pub use next::Next;
-pub use pending::PIECE;
