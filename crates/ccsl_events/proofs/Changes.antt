@@ -13,7 +13,7 @@ use Rattle.ccsl_events.specs.declared.body.Amid.TheVariants.{Changes}
 use Rattle.ccsl_events.specs.declared.values.Values.{Values}
 use Rattle.ccsl_events.specs.Dump.{Plan, Place, changes, code_of, Said, goes, refused, word_says, token_says, changed, is_declared, heard_in}
 use Rattle.ccsl_events.specs.Keeping.{Keeps}
-use Rattle.ccsl_events.specs.Places.{IsCode}
+use Rattle.ccsl_vcd_lex.specs.ShortCodes.{IsCode}
 use Rattle.ccsl_events.specs.Standing.{Stands, Answers}
 use Rattle.ccsl_events.specs.Run.{Runs}
 use Rattle.ccsl_events.proofs.Standing.{follows-still}

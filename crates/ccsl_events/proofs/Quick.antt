@@ -12,6 +12,9 @@ use Rattle.ccsl_base.specs.Letters.{is_digit}
 use Rattle.ccsl_base.specs.Decimal.{value_behind}
 use Rattle.ccsl_vcd_lex.specs.Tokens.{is_white, token}
 use Rattle.ccsl_vcd_lex.specs.Lexing.{is_dark}
+use Rattle.ccsl_vcd_lex.specs.Digits.{AreDigits}
+use Rattle.ccsl_vcd_lex.proofs.Digits.{digits-dark}
+use Rattle.ccsl_vcd_lex.proofs.ShortCodes.{run-is}
 use Rattle.ccsl_vcd.specs.declared.fault.VcdFault.{VcdFault}
 use Rattle.ccsl_vcd.specs.declared.fault.VcdFault.TheVariants as faults
 use Rattle.ccsl_vcd.specs.Words.{number, word_of, time, time_of}
@@ -20,7 +23,6 @@ use Rattle.ccsl_events.specs.declared.body.Amid as k
 use Rattle.ccsl_events.specs.declared.body.Amid.TheVariants.{Changes, Remark, Code, CodeSkipped}
 use Rattle.ccsl_events.specs.Dump.{Plan, Place, Amid, changes, remark, code_of, code_skipped, Said, time_says, word_says, token_says}
 use Rattle.ccsl_events.specs.Standing.{IsAmid, Stands, Answers}
-use Rattle.ccsl_events.specs.Places.{is_visible, place_of, SHORT, IsCode}
 use Rattle.ccsl_events.specs.Run.{Runs, Breaks}
 use Rattle.ccsl_events.proofs.Run.{front-word, front-breaks}
 
@@ -29,89 +31,6 @@ amid-changes kind letters changes is e = refl
 amid-changes kind letters remark is e = absurd (let x : Remark ≡ Changes = sym is ∙ e in cc)
 amid-changes kind letters (code_of of) is e = absurd (let x : Code ≡ Changes = sym is.0 ∙ e in cc)
 amid-changes kind letters code_skipped is e = absurd (let x : CodeSkipped ≡ Changes = sym is ∙ e in cc)
-
--- a run of bytes at the front
-pub run-is : (q : ℕ → Bool) (n : ℕ) (xs : List ℕ) → list_all q (take n xs) ≡ true → n < length xs → q (get_or xs n 0) ≡ false → n ≡ prefix_len q xs
-run-is q n [] h l e = absurd (omega arith)
-run-is q zero (x ∷ xs) h l e = rw e refl
-run-is q (suc n) (x ∷ xs) h l e =
-    let p = and_parts (q x) (list_all q (take n xs)) h in
-    let ih : n ≡ prefix_len q xs = run-is q n xs p.1 (omega arith) e in
-    rw (p.0) (let k : suc n ≡ 1 + prefix_len q xs = omega (arith, ih) in k)
-
--- Digits at the front.
-
-digits-all : (n : ℕ) (xs : List ℕ) → n ≡ prefix_len is_digit xs → list_all is_digit (take n xs) ≡ true
-digits-all zero xs e = refl
-digits-all (suc n) [] e = refl
-digits-all (suc n) (x ∷ xs) e =
-    (elim (is_digit x) as (λ b. is_digit x ≡ b → suc n ≡ cond b (1 + prefix_len is_digit xs) 0 → (is_digit x && list_all is_digit (take n xs)) ≡ true) [
-      | true ↦ λ h g. rw h (digits-all n xs (omega (arith, g)))
-      | false ↦ λ h g. absurd (omega (arith, g))
-    ]) refl e
-
-digits-same : (n : ℕ) (ds : List ℕ) → list_all is_digit ds ≡ true → digits_value_after 10 n ds ≡ value_behind n ds
-digits-same n [] h = refl
-digits-same n (d ∷ ds) h =
-    let p = and_parts (is_digit d) (list_all is_digit ds) h in
-    let q = and_parts (nat_le 48 d) (nat_le d 57) p.0 in
-    let value : digit_value d + 48 ≡ d = digit_value_digit d (leb-true 48 d q.0, leb-true d 57 q.1) in
-    let step : n * 10 + digit_value d ≡ n * 10 + (d - 48) = omega (arith, value) in
-    ap (λ v. digits_value_after 10 v ds) step ∙ digits-same (n * 10 + (d - 48)) ds p.1
-
-more-digits : (n value digit : ℕ) → value < 10 ^ n → digit < 10 → value * 10 + digit < 10 ^ (n + 1)
-more-digits n value digit l d =
-    let k : n + 1 ≡ suc n = omega arith in
-    let p = ap (λ m. 10 ^ m) k ∙ pow-suc 10 n in
-    omega (arith, l, d, p)
-
-few-digits : (n most value : ℕ) → value < 10 ^ n → n ≤ most → value < 10 ^ most
-few-digits n most value l m =
-    let some : zero < 10 = omega arith in
-    let p = pow-le-pow_right {n = 10} some m in
-    omega (arith, l, p)
-
-digits-small : (n value : ℕ) (ds : List ℕ) → value < 10 ^ n → list_all is_digit ds ≡ true → value_behind value ds < 10 ^ (n + length ds)
-digits-small n value [] l h = subst (λ (k : ℕ). value < 10 ^ k) (omega arith) l
-digits-small n value (d ∷ ds) l h =
-    let p = and_parts (is_digit d) (list_all is_digit ds) h in
-    let q = and_parts (nat_le 48 d) (nat_le d 57) p.0 in
-    let high : d ≤ 57 = leb-true d 57 q.1 in
-    let more : value * 10 + (d - 48) < 10 ^ (n + 1) = more-digits n value (d - 48) l (omega (arith, high)) in
-    subst (λ (k : ℕ). value_behind (value * 10 + (d - 48)) ds < 10 ^ k) (omega arith) (digits-small (n + 1) (value * 10 + (d - 48)) ds more p.1)
-
--- the value of digits that were read eight at a time
-pub record AreDigits (ds : List ℕ) (value : ℕ) : Type 0 where
-  pub all : list_all is_digit ds ≡ true
-  pub amount : value ≡ value_behind 0 ds
-  pub fits : value < 10 ^ 19
-
-pub front-digits : (bytes : List ℕ) (n value : ℕ) → n ≡ 0 + prefix_len is_digit (drop 0 bytes) → n ≤ 19
-    → value ≡ (0 * 10 ^ (n - 0) + digits_value_after 10 0 (take (n - 0) (drop 0 bytes))) % 2 ^ 64 → AreDigits (take n bytes) value
-front-digits bytes n value run few read =
-    let ds : List ℕ = take n bytes in
-    let back : n - 0 ≡ n = omega arith in
-    let all : list_all is_digit ds ≡ true = digits-all n bytes (omega (arith, run)) in
-    let len : length ds ≤ 19 = omega (arith, length-take n bytes, few) in
-    let small : value_behind 0 ds < 10 ^ 19 = few-digits (0 + length ds) 19 (value_behind 0 ds) (digits-small 0 0 ds (omega arith) all) (omega (arith, len)) in
-    let none : 0 * 10 ^ (n - 0) ≡ 0 = zero-mul (10 ^ (n - 0)) in
-    let same : digits_value_after 10 0 (take (n - 0) bytes) ≡ value_behind 0 ds = ap (λ (k : ℕ). digits_value_after 10 0 (take k bytes)) back ∙ digits-same 0 ds all in
-    let amount : value ≡ value_behind 0 ds = omega (arith, read, none, same, small) in
-    record { all = all; amount = amount; fits = omega (arith, amount, small) }
-
-digit-dark : (b : ℕ) → is_digit b ≡ true → is_dark b ≡ true
-unfolding is_white
-digit-dark b h =
-    let p = and_parts (nat_le 48 b) (nat_le b 57) h in
-    let low : 48 ≤ b = leb-true 48 b p.0 in
-    let high : b ≤ 57 = leb-true b 57 p.1 in
-    grind (arith, common_steps, low, high)
-
-digits-dark : (xs : List ℕ) → list_all is_digit xs ≡ true → list_all is_dark xs ≡ true
-digits-dark [] h = refl
-digits-dark (x ∷ xs) h =
-    let q = and_parts (is_digit x) (list_all is_digit xs) h in
-    rw (digit-dark x q.0) (digits-dark xs q.1)
 
 -- A time.
 
@@ -174,55 +93,3 @@ pub time-breaks : (plan : Plan) (p : Place) (b c : Body) (at k value : ℕ) (byt
 time-breaks plan p b c at k value bytes f x y s a t h =
     front-breaks plan p at (k + 1) (35 ∷ bytes) f c x y (time-run k value bytes t) (omega arith) (omega (arith, t.inside)) (omega (arith, t.few))
     (subst (λ (said : Said). Answers plan p.written said (Err f) c x y) (time-said plan p b at k value bytes s a t) h)
-
--- A short code at the front.
-
-visible-dark : (a : ℕ) → is_visible a ≡ true → is_dark a ≡ true
-unfolding is_white
-visible-dark a h =
-    let p = and_parts (nat_le 33 a) (nat_le a 126) h in
-    let low : 33 ≤ a = leb-true 33 a p.0 in
-    let high : a ≤ 126 = leb-true a 126 p.1 in
-    grind (arith, common_steps, low, high)
-
-pub code-one : (bytes : List ℕ) (place : ℕ) → 2 ≤ length bytes → is_visible (get_or bytes 0 0) ≡ true → is_white (get_or bytes 1 0) ≡ true
-    → place ≡ place_of (get_or bytes 0 0 ∷ []) → place < 94 → IsCode 1 place bytes
-code-one [] place l h w e m = absurd (omega (arith, l))
-code-one (a ∷ []) place l h w e m = absurd (omega (arith, l))
-code-one (a ∷ b ∷ more) place l h w e m = record {
-  some = omega arith;
-  most = omega arith;
-  run = run-is is_dark 1 (a ∷ b ∷ more) (rw (visible-dark a h) refl) (omega arith) (ap not w);
-  inside = omega arith;
-  at = e;
-  short = omega (arith, m);
-}
-
-pub code-two : (bytes : List ℕ) (place : ℕ) → 3 ≤ length bytes → is_visible (get_or bytes 0 0) ≡ true → is_visible (get_or bytes 1 0) ≡ true → is_white (get_or bytes 2 0) ≡ true
-    → place ≡ place_of (get_or bytes 0 0 ∷ get_or bytes 1 0 ∷ []) → place < 8930 → IsCode 2 place bytes
-code-two [] place l h g w e m = absurd (omega (arith, l))
-code-two (a ∷ []) place l h g w e m = absurd (omega (arith, l))
-code-two (a ∷ b ∷ []) place l h g w e m = absurd (omega (arith, l))
-code-two (a ∷ b ∷ c ∷ more) place l h g w e m = record {
-  some = omega arith;
-  most = omega arith;
-  run = run-is is_dark 2 (a ∷ b ∷ c ∷ more) (rw (visible-dark a h, visible-dark b g) refl) (omega arith) (ap not w);
-  inside = omega arith;
-  at = e;
-  short = omega (arith, m);
-}
-
-pub code-three : (bytes : List ℕ) (place : ℕ) → 4 ≤ length bytes → is_visible (get_or bytes 0 0) ≡ true → is_visible (get_or bytes 1 0) ≡ true → is_visible (get_or bytes 2 0) ≡ true
-    → is_white (get_or bytes 3 0) ≡ true → place ≡ place_of (get_or bytes 0 0 ∷ get_or bytes 1 0 ∷ get_or bytes 2 0 ∷ []) → place < SHORT → IsCode 3 place bytes
-code-three [] place l h g k w e m = absurd (omega (arith, l))
-code-three (a ∷ []) place l h g k w e m = absurd (omega (arith, l))
-code-three (a ∷ b ∷ []) place l h g k w e m = absurd (omega (arith, l))
-code-three (a ∷ b ∷ c ∷ []) place l h g k w e m = absurd (omega (arith, l))
-code-three (a ∷ b ∷ c ∷ d ∷ more) place l h g k w e m = record {
-  some = omega arith;
-  most = omega arith;
-  run = run-is is_dark 3 (a ∷ b ∷ c ∷ d ∷ more) (rw (visible-dark a h, visible-dark b g, visible-dark c k) refl) (omega arith) (ap not w);
-  inside = omega arith;
-  at = e;
-  short = m;
-}

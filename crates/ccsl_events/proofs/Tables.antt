@@ -8,68 +8,10 @@ use Rattle.ccsl_base.specs.Names.{is_among, find_name, are_distinct}
 use Rattle.ccsl_base.proofs.Tables.{find_name-there, bytes_eq-true, bytes_eq-refl}
 use Rattle.ccsl_events.specs.declared.codes.Entry.{Entry}
 use Rattle.ccsl_events.specs.declared.codes.Entry.TheVariants.{Undeclared}
-use Rattle.ccsl_events.specs.Places.{entry_in, entry_at, is_visible, SHORT, place_of, IsTable}
-
--- the digits of a code
-abbrev Digit : ℕ → Type 0
-Digit a = (33 ≤ a) × (a ≤ 126)
-
-digit : (a : ℕ) → is_visible a ≡ true → Digit a
-digit a h = let p = and_parts (nat_le 33 a) (nat_le a 126) h in (leb-true 33 a p.0, leb-true a 126 p.1)
-
-abbrev Shown : ℕ → List ℕ → Type 0
-Shown p [] = ⊥
-Shown p (a ∷ []) = Digit a × (p ≡ a - 33)
-Shown p (a ∷ b ∷ []) = Digit a × Digit b × (p ≡ a - 33 + 94 * (b - 32))
-Shown p (a ∷ b ∷ c ∷ []) = Digit a × Digit b × Digit c × (p ≡ a - 33 + 94 * (b - 32) + 8836 * (c - 32))
-Shown p (a ∷ b ∷ c ∷ d ∷ more) = ⊥
-
-by-value : (b : Bool) (P : Type 0) → (b ≡ true → P) → (b ≡ false → P) → P
-by-value b P yes_ no_ = (elim b as (λ v. b ≡ v → P) [ true ↦ yes_ | false ↦ no_ ]) refl
-
--- what stands below the length has digits
-shown : (text : List ℕ) → place_of text < SHORT → Shown (place_of text) text
-shown [] l = absurd (omega arith)
-shown (a ∷ []) l = by-value (is_visible a) _ (λ e. (digit a e, ap (λ w. cond w (a - 33) SHORT) e)) (λ e. absurd (let k : SHORT < SHORT = rw e at l in omega arith))
-shown (a ∷ b ∷ []) l =
-    by-value (is_visible a && is_visible b) _
-    (λ e. let p = and_parts (is_visible a) (is_visible b) e in (digit a p.0, digit b p.1, ap (λ w. cond w (a - 33 + 94 * (b - 32)) SHORT) e))
-    (λ e. absurd (let k : SHORT < SHORT = rw e at l in omega arith))
-shown (a ∷ b ∷ c ∷ []) l =
-    by-value (is_visible a && (is_visible b && is_visible c)) _
-    (λ e.
-    let p = and_parts (is_visible a) (is_visible b && is_visible c) e in
-    let q = and_parts (is_visible b) (is_visible c) p.1 in
-    (digit a p.0, digit b q.0, digit c q.1, ap (λ w. cond w (a - 33 + 94 * (b - 32) + 8836 * (c - 32)) SHORT) e))
-    (λ e. absurd (let k : SHORT < SHORT = rw e at l in omega arith))
-shown (a ∷ b ∷ c ∷ d ∷ more) l = absurd (omega arith)
-
--- no two codes have one place
-same-text : (p : ℕ) (s t : List ℕ) → Shown p s → Shown p t → s ≡ t
-same-text p [] t h g = absurd h
-same-text p (a ∷ b ∷ c ∷ d ∷ more) t h g = absurd h
-same-text p (a ∷ []) [] h g = absurd g
-same-text p (a ∷ []) (x ∷ []) h g = let e : a ≡ x = omega (arith, h.0.0, h.0.1, h.1, g.0.0, g.0.1, g.1) in ap (λ n. n ∷ []) e
-same-text p (a ∷ []) (x ∷ y ∷ []) h g = absurd (omega (arith, h.0.0, h.0.1, h.1, g.0.0, g.0.1, g.1.0, g.1.1, g.2))
-same-text p (a ∷ []) (x ∷ y ∷ z ∷ []) h g = absurd (omega (arith, h.0.0, h.0.1, h.1, g.0.0, g.0.1, g.1.0, g.1.1, g.2.0, g.2.1, g.3))
-same-text p (a ∷ []) (x ∷ y ∷ z ∷ w ∷ more) h g = absurd g
-same-text p (a ∷ b ∷ []) [] h g = absurd g
-same-text p (a ∷ b ∷ []) (x ∷ []) h g = absurd (omega (arith, h.0.0, h.0.1, h.1.0, h.1.1, h.2, g.0.0, g.0.1, g.1))
-same-text p (a ∷ b ∷ []) (x ∷ y ∷ []) h g =
-    let e : b ≡ y = omega (arith, h.0.0, h.0.1, h.1.0, h.1.1, h.2, g.0.0, g.0.1, g.1.0, g.1.1, g.2) in
-    let f : a ≡ x = omega (arith, e, h.0.0, h.2, g.0.0, g.2) in
-    rw (e, f) refl
-same-text p (a ∷ b ∷ []) (x ∷ y ∷ z ∷ []) h g = absurd (omega (arith, h.0.0, h.0.1, h.1.0, h.1.1, h.2, g.0.0, g.0.1, g.1.0, g.1.1, g.2.0, g.2.1, g.3))
-same-text p (a ∷ b ∷ []) (x ∷ y ∷ z ∷ w ∷ more) h g = absurd g
-same-text p (a ∷ b ∷ c ∷ []) [] h g = absurd g
-same-text p (a ∷ b ∷ c ∷ []) (x ∷ []) h g = absurd (omega (arith, h.0.0, h.0.1, h.1.0, h.1.1, h.2.0, h.2.1, h.3, g.0.0, g.0.1, g.1))
-same-text p (a ∷ b ∷ c ∷ []) (x ∷ y ∷ []) h g = absurd (omega (arith, h.0.0, h.0.1, h.1.0, h.1.1, h.2.0, h.2.1, h.3, g.0.0, g.0.1, g.1.0, g.1.1, g.2))
-same-text p (a ∷ b ∷ c ∷ []) (x ∷ y ∷ z ∷ []) h g =
-    let e : c ≡ z = omega (arith, h.0.0, h.0.1, h.1.0, h.1.1, h.2.0, h.2.1, h.3, g.0.0, g.0.1, g.1.0, g.1.1, g.2.0, g.2.1, g.3) in
-    let f : b ≡ y = omega (arith, e, h.0.0, h.0.1, h.1.0, h.1.1, h.2.0, h.3, g.0.0, g.0.1, g.1.0, g.1.1, g.2.0, g.3) in
-    let i : a ≡ x = omega (arith, e, f, h.0.0, h.1.0, h.2.0, h.3, g.0.0, g.1.0, g.2.0, g.3) in
-    rw (e, f, i) refl
-same-text p (a ∷ b ∷ c ∷ []) (x ∷ y ∷ z ∷ w ∷ more) h g = absurd g
+use Rattle.ccsl_base.proofs.Sets.{by_case}
+use Rattle.ccsl_vcd_lex.specs.ShortCodes.{SHORT, place_of}
+use Rattle.ccsl_vcd_lex.proofs.ShortCodes.{same-code}
+use Rattle.ccsl_events.specs.Places.{entry_in, entry_at, IsTable}
 
 -- what is known of the first codes, and of no other
 abbrev pub known_below : ℕ → List Entry → Option ℕ → Entry
@@ -94,7 +36,7 @@ place-own (n ∷ ns) zero name d e =
     let same : n ≡ name = cc in
     ap (λ b. cond (not b) (1 + position_or_len (bytes_eq name) ns) 0) (bytes_eq-refl name n (sym same))
 place-own (n ∷ ns) (suc x) name d e =
-    by-value (bytes_eq name n) _
+    by_case (bytes_eq name n) _
     (λ same.
     let fresh : is_among n ns ≡ false = not-true (is_among n ns) ((and_parts (not (is_among n ns)) (are_distinct ns) d).0) in
     let among : is_among n ns ≡ true = ap (λ w. is_among w ns) (sym (bytes_eq-true name n same)) ∙ there-among ns x name e in
@@ -152,8 +94,7 @@ front-more i p table names entries name e front at distinct place low known = re
   where
     same : (code : List ℕ) → place_of code < SHORT → place_of code ≡ p → slice_index_or (slice_set table p e) (place_of code) Undeclared ≡ known_below (i + 1) entries (find_name code names)
     same code l s =
-        let name-low : place_of name < SHORT = omega (arith, place, low) in
-        let text : code ≡ name = same-text p code name (subst (λ q. Shown q code) s (shown code l)) (subst (λ q. Shown q name) (sym place) (shown name name-low)) in
+        let text : code ≡ name = same-code code name l (s ∙ place) in
         ap (λ q. slice_index_or (slice_set table p e) q Undeclared) s
         ∙ get_or-set_same table p e Undeclared (omega (arith, low, front.len))
         ∙ sym (ap (λ c. known_below (i + 1) entries (find_name c names)) text
@@ -170,7 +111,7 @@ pub front-past : (i p : ℕ) (table : List Entry) (names : List (List ℕ)) (ent
     slice_get names i ≡ Some name → are_distinct names ≡ true → p ≡ place_of name → (SHORT ≤ p) ⊎ (length entries ≤ i) → IsFront (i + 1) table names entries
 front-past i p table names entries name front at distinct place past = record {
   len = front.len;
-  at = λ code l. front.at code l ∙ by-value (bytes_eq code name) _ (λ e. same code l (bytes_eq-true code name e) past) (λ e. below-more i entries (find_name code names) (other-name names i name code at (λ t. differ code name e t)));
+  at = λ code l. front.at code l ∙ by_case (bytes_eq code name) _ (λ e. same code l (bytes_eq-true code name e) past) (λ e. below-more i entries (find_name code names) (other-name names i name code at (λ t. differ code name e t)));
 }
   where
     differ : (a b : List ℕ) → bytes_eq a b ≡ false → a ≡ b → ⊥

@@ -8,13 +8,13 @@ ghost use Rattle.ccsl_events.specs.Standing.{Stands, Answers};
 ghost use Rattle.ccsl_events.specs.Run.{Runs, Takes};
 ghost use Rattle.ccsl_events.specs.Meant.{meant};
 
-use crate::codes::{Entry, code_at_front};
+use crate::codes::Entry;
 use crate::output::FULL;
 use crate::values::Values;
 use crate::word::{Word, are_letters, is_letter, is_text, word_of};
 use ccsl_base::{MAX_TOKEN_BYTES, Memory};
 use ccsl_vcd::VcdFault;
-use ccsl_vcd_lex::{is_space, run_end};
+use ccsl_vcd_lex::{code_at_front, is_space, run_end};
 use core::dec2flt::read_digits;
 use std::alloc::Global;
 

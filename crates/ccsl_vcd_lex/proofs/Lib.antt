@@ -7,3 +7,5 @@ pub mod Told
 pub mod Pieces
 pub mod Further
 pub mod Longest
+pub mod Digits
+pub mod ShortCodes

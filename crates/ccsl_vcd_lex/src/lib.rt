@@ -11,9 +11,11 @@
 
 pub mod laws;
 pub mod scan;
+pub mod short_code;
 pub mod span;
 pub mod tokenizer;
 
 pub use scan::{is_space, run_end};
+pub use short_code::{SHORT, ShortCode, code_at_front, place_of};
 pub use span::{Fed, Span, TokenTooLong};
 pub use tokenizer::Tokenizer;

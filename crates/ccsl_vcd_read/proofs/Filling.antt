@@ -1,5 +1,5 @@
 -- Where a block is full, the last byte that was taken filled it.
-use Rattle.std.proofs.Common.{◌≡◌, ℕ, ◌+◌, ◌-◌, ◌≤◌, ◌<◌, List, [], ◌∷◌, ◌++◌, length, take, drop, Bool, true, false, Option, Some, None, if◌then◌else◌, ⊎_elim, refl, sym, ap, ◌∙◌, subst, append_assoc, arith, length-append, length-take-le, filter, map}
+use Rattle.std.proofs.Common.{◌≡◌, ℕ, ◌+◌, ◌-◌, ◌≤◌, ◌<◌, List, [], ◌∷◌, ◌++◌, length, take, Bool, true, false, Some, None, if◌then◌else◌, ⊎_elim, refl, sym, ap, ◌∙◌, subst, append_assoc, arith, length-append, length-take-le, filter, map}
 use Rattle.std.proofs.lemmas.Bool.{cases_lt}
 use Rattle.std.proofs.lemmas.List.{append-nil, map-append, take-take}
 use Rattle.std.proofs.Math.Seq.{take-append-add}
@@ -10,9 +10,7 @@ use Rattle.ccsl_vcd_lex.specs.Runs.{fresh_after}
 use Rattle.ccsl_vcd_lex.specs.Lexing.{Dark}
 use Rattle.ccsl_vcd_lex.proofs.Cuts.{one, closed-parts}
 use Rattle.ccsl_vcd.specs.declared.limits.Limits.{Limits}
-use Rattle.ccsl_vcd.specs.declared.fault.VcdFault.{VcdFault}
 use Rattle.ccsl_vcd.specs.Binding.{Wanted}
-use Rattle.ccsl_vcd.specs.Places as p
 use Rattle.ccsl_vcd.specs.Reading.{Story, says, next, next_from, story}
 use Rattle.ccsl_vcd.specs.Completed.{complete, done}
 use Rattle.ccsl_vcd.proofs.Decided.{story-more}

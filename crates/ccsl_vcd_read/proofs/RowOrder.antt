@@ -1,5 +1,5 @@
 -- The rows of every text are in order.
-use Rattle.std.proofs.Common.{◌≡◌, ◌≢◌, ℕ, ◌+◌, ◌≤◌, ◌<◌, List, [], ◌∷◌, ◌++◌, Bool, true, false, Option, Some, None, Result, Ok, Err, nat_eq, nat_lt, nat_le, cond, filter, map, refl, sym, ◌∙◌, subst, append_assoc, length, take, arith}
+use Rattle.std.proofs.Common.{◌≡◌, ◌≢◌, ℕ, ◌≤◌, ◌<◌, List, [], ◌∷◌, ◌++◌, Bool, true, false, Option, Some, None, nat_eq, nat_lt, cond, filter, map, refl, sym, ◌∙◌, subst, append_assoc, length, take, arith}
 use Rattle.std.specs.Prelude.{fold, bytes_eq, codes}
 use Rattle.std.specs.List.{list_all, AllByRecursion}
 use Rattle.std.proofs.lemmas.Bool.{and_parts, lt-ltb, ltb-false, eq-eqb}
@@ -9,7 +9,7 @@ use Rattle.ccsl_vcd_lex.specs.Tokens.{Token, Heard, word, too_long, settled, hea
 use Rattle.ccsl_vcd.specs.declared.fault.VcdFault.{VcdFault}
 use Rattle.ccsl_vcd.specs.declared.fault.VcdFault.TheVariants as faults
 use Rattle.ccsl_vcd.specs.declared.limits.Limits.{Limits}
-use Rattle.ccsl_vcd.specs.Binding.{Wanted, Bound, Declaration, bind}
+use Rattle.ccsl_vcd.specs.Binding.{Wanted, Bound}
 use Rattle.ccsl_vcd.specs.Places as p
 use Rattle.ccsl_vcd.specs.Header as d
 use Rattle.ccsl_vcd.specs.Words as w

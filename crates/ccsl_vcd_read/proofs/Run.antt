@@ -1,5 +1,5 @@
 -- Tokens that are heard one after another.
-use Rattle.std.proofs.Common.{◌≡◌, ℕ, ◌+◌, ◌-◌, ◌≤◌, ◌<◌, List, [], ◌∷◌, ◌++◌, length, take, drop, get_or, Bool, true, false, not, Some, None, Result, Ok, Err, cond, zero, suc, nat_eq, ◌||◌, length-take-le, map, ◌⊎◌, inl, inr, fold, refl, sym, ap, ◌∙◌, subst, append_assoc, arith, length-append, length-drop}
+use Rattle.std.proofs.Common.{◌≡◌, ℕ, ◌+◌, ◌-◌, ◌≤◌, ◌<◌, List, [], ◌∷◌, ◌++◌, length, take, drop, get_or, true, false, Some, None, Result, Ok, Err, cond, zero, suc, nat_eq, ◌||◌, length-take-le, map, ◌⊎◌, inl, inr, fold, refl, sym, ap, ◌∙◌, subst, append_assoc, arith, length-append, length-drop}
 use Rattle.std.specs.List.{prefix_len}
 use Rattle.std.proofs.lemmas.List.{append-nil, take-take, take_more, drop-drop}
 use Rattle.std.proofs.lemmas.Bool.{eqb-true, not-true, not-false}

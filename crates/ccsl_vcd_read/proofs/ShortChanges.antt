@@ -17,12 +17,12 @@ use Rattle.ccsl_vcd_read.specs.declared.body.Body.{Body}
 use Rattle.ccsl_vcd_read.specs.Letters.{is_bit, is_other}
 use Rattle.ccsl_vcd_read.specs.Marks.{put}
 use Rattle.ccsl_vcd_read.specs.Meant.{amid_of}
-use Rattle.ccsl_vcd_read.specs.Places.{IsCode}
+use Rattle.ccsl_vcd_lex.specs.ShortCodes.{IsCode}
 use Rattle.ccsl_vcd_read.specs.Step.{hear_at, hear_of, word_says, put_number, Says}
 use Rattle.ccsl_vcd_read.specs.Run.{Made}
 use Rattle.ccsl_vcd_read.proofs.Letters.{all-both, bits-scalar}
 use Rattle.ccsl_vcd_read.proofs.Run.{runs-none, runs-on, front-word, is-changes, bit-of, take-first, short-says}
-use Rattle.ccsl_vcd_read.proofs.ShortTimes.{run-is}
+use Rattle.ccsl_vcd_lex.proofs.ShortCodes.{run-is}
 
 pub none-made : (b : Body) (bytes : List ℕ) → Made b b bytes 0
 none-made b bytes = record { within = omega arith; runs = λ at rows. runs-none b at rows; none = λ _. refl }
@@ -91,10 +91,10 @@ one-more : (q : ℕ → Bool) (n : ℕ) (bytes : List ℕ) → 0 < length bytes 
 one-more q n [] l h e = absurd (omega arith)
 one-more q n (x ∷ xs) l h e = rw h (let k : n + 1 ≡ 1 + prefix_len q xs = omega (arith, e) in k)
 
-pub bit-made : (b c : Body) (n place number : ℕ) (bytes : List ℕ) → 0 < n → IsCode n place (drop 1 bytes) → is_changes (amid_of b.amid) ≡ true
+pub bit-made : (b c : Body) (n place number : ℕ) (bytes : List ℕ) → IsCode n place (drop 1 bytes) → is_changes (amid_of b.amid) ≡ true
     → (nat_eq (get_or bytes 0 0) 48 || nat_eq (get_or bytes 0 0) 49) ≡ true → number_of (take n (drop 1 bytes)) b.binding.codes ≡ Some number
     → c ≡ record b { marks = map (put number (nat_eq (get_or bytes 0 0) 49) b.dumping) b.marks } → Made b c bytes (n + 2)
-bit-made b c n place number bytes least s a w f e =
+bit-made b c n place number bytes s a w f e =
     let first : ℕ = get_or bytes 0 0 in
     let code : List ℕ = take n (drop 1 bytes) in
     let rest : length (drop 1 bytes) ≡ length bytes - 1 = length-drop 1 bytes in
@@ -106,7 +106,7 @@ bit-made b c n place number bytes least s a w f e =
     subst (Made b c bytes) sum
     (made-word b c (n + 1) bytes (one-more is_dark n bytes some (bit-dark first (bit-of first w)) s.run) (omega arith) (omega (arith, s.inside, rest)) (omega (arith, s.most))
     (λ at rows. subst (λ (t : List ℕ). Says (hear_of b at t) (Ok tt) b c rows rows) (sym text)
-    (short-says b c first number code a (bit-of first w) (omega (arith, len, least)) f e at rows)))
+    (short-says b c first number code a (bit-of first w) (omega (arith, len, s.some)) f e at rows)))
 
 -- A change of a vector.
 
@@ -139,9 +139,9 @@ code-says b c one number code a f e at rows =
     rw said (e ∙ ap (λ (x : Amid). record b { amid = x; marks = map (put number one b.dumping) b.marks }) (is-changes b.amid a), sym (append-nil rows))
 
 pub vector-made : (b c : Body) (k n place number : ℕ) (bytes rest : List ℕ) → is_changes (amid_of b.amid) ≡ true → get_or bytes 0 0 ≡ 98 → 0 < k → list_all is_bit (take k (drop 1 bytes)) ≡ true
-    → k + 1 < length bytes → k + 1 ≤ 65536 → is_white (get_or bytes (k + 1) 0) ≡ true → rest ≡ drop (k + 2) bytes → 0 < n → IsCode n place rest → number_of (take n rest) b.binding.codes ≡ Some number
+    → k + 1 < length bytes → k + 1 ≤ 65536 → is_white (get_or bytes (k + 1) 0) ≡ true → rest ≡ drop (k + 2) bytes → IsCode n place rest → number_of (take n rest) b.binding.codes ≡ Some number
     → c ≡ record b { marks = map (put number (nat_eq (last_of 98 (take k (drop 1 bytes))) 49) b.dumping) b.marks } → Made b c bytes ((k + 2) + (n + 1))
-vector-made b c k n place number bytes rest a first some bits inside few white after least s f e =
+vector-made b c k n place number bytes rest a first some bits inside few white after s f e =
     let letters : List ℕ = take k (drop 1 bytes) in
     let len : length letters ≡ k = length-take-le k (drop 1 bytes) (omega (arith, length-drop 1 bytes, inside)) in
     let back : (k + 1) - 1 ≡ k = omega arith in
@@ -153,7 +153,7 @@ vector-made b c k n place number bytes rest a first some bits inside few white a
     (subst (Made b mid bytes) sum
     (made-word b mid (k + 1) bytes (run-is is_dark (k + 1) bytes dark inside (ap not white)) (omega arith) inside few
     (λ at rows. subst (λ (t : List ℕ). Says (hear_of b at t) (Ok tt) b mid rows rows) (sym text) (vector-says b letters a (omega (arith, len, some)) bits at rows))))
-    (made-word mid c n rest s.run least s.inside (omega (arith, s.most)) (code-says b c (nat_eq (last_of 98 letters) 49) number (take n rest) a f e))
+    (made-word mid c n rest s.run s.some s.inside (omega (arith, s.most)) (code-says b c (nat_eq (last_of 98 letters) 49) number (take n rest) a f e))
   where
     all-dark : (xs : List ℕ) → list_all is_bit xs ≡ true → list_all is_dark (98 ∷ xs) ≡ true
     all-dark xs h = rw (head-dark 98 refl) (bits-dark xs h)

@@ -1,5 +1,5 @@
 -- Where memory is wanted the header has not ended: no row was pushed, and no clock is bound.
-use Rattle.std.proofs.Common.{◌≡◌, ℕ, List, [], ◌∷◌, ◌++◌, length, take, Bool, true, false, None, refl, sym, ap, ◌∙◌, subst, map}
+use Rattle.std.proofs.Common.{◌≡◌, ℕ, List, [], ◌∷◌, ◌++◌, take, true, false, None, refl, sym, ap, ◌∙◌, subst, map}
 use Rattle.std.specs.Prelude.{filter}
 use Rattle.std.proofs.lemmas.List.{append-nil}
 use Rattle.ccsl_base.specs.declared.rows.Row.{Row}
@@ -10,7 +10,7 @@ use Rattle.ccsl_vcd.specs.declared.limits.Limits.{Limits}
 use Rattle.ccsl_vcd.specs.Binding.{Wanted}
 use Rattle.ccsl_vcd.specs.Places as p
 use Rattle.ccsl_vcd.specs.Reading.{Story, so_far}
-use Rattle.ccsl_vcd.specs.Rows.{row_at, rows, rows_of, times, has_ticks, bound_at}
+use Rattle.ccsl_vcd.specs.Rows.{row_at, rows, times, has_ticks, bound_at}
 use Rattle.ccsl_vcd.specs.Completed.{is_before, now_at, complete, done}
 use Rattle.ccsl_vcd_read.specs.declared.stage.Stage.{Stage}
 use Rattle.ccsl_vcd_read.specs.declared.stage.Stage.TheVariants as stage

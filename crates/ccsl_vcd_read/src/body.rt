@@ -8,13 +8,13 @@ ghost use Rattle.ccsl_vcd.specs.Words.{dump, close};
 ghost use Rattle.ccsl_vcd_read.specs.Meant.{meant, rest_of};
 
 use crate::amid::Amid;
-use crate::codes::{Codes, code_at_front};
+use crate::codes::Codes;
 use crate::marks::Marks;
 use crate::scan::{bits_at_front, digits_at_front, is_bit};
 use crate::word::{Word, is_text, last_of, word_of};
 use ccsl_base::{Block, MAX_TOKEN_BYTES};
 use ccsl_vcd::VcdFault;
-use ccsl_vcd_lex::{is_space, run_end};
+use ccsl_vcd_lex::{code_at_front, is_space, run_end};
 
 /// What is kept of a body that is being read.
 #[derive(Drop)]
@@ -170,7 +170,9 @@ impl Body {
         if bytes.is_empty() || !is_bit(bytes[0]) || !self.amid.is_changes() {
             return 0;
         }
-        let code = code_at_front(&bytes[1..]);
+        let Some(code) = code_at_front(&bytes[1..]) else {
+            return 0;
+        };
         let Some(number) = self.binding.known(code.place) else {
             return 0;
         };
@@ -190,7 +192,9 @@ impl Body {
         if end == 1 || end == bytes.len() || end > MAX_TOKEN_BYTES || !is_space(bytes[end]) {
             return 0;
         }
-        let code = code_at_front(&bytes[end + 1..]);
+        let Some(code) = code_at_front(&bytes[end + 1..]) else {
+            return 0;
+        };
         let Some(number) = self.binding.known(code.place) else {
             return 0;
         };

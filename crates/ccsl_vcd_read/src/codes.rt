@@ -2,17 +2,13 @@
 
 ghost use Rattle.std.specs.Prelude.{◌≡◌, ◌<◌, ◌≤◌, ℕ, List, [], ◌∷◌, IfOk, IfSome, OnSome, Some, vec_len, vec_capacity, map, get_or, length, true, false};
 ghost use Rattle.ccsl_bind.specs.Codes.{number_of};
-ghost use Rattle.ccsl_vcd_lex.specs.Tokens.{is_white};
-ghost use Rattle.ccsl_vcd_read.specs.Places.{is_visible, place_of, IsCode};
+ghost use Rattle.ccsl_vcd_lex.specs.ShortCodes.{place_of};
 
 use ccsl_base::{ClockSet, Memory};
 use ccsl_bind::Binding;
-use ccsl_vcd_lex::is_space;
+use ccsl_vcd_lex::{SHORT, place_of};
 use std::alloc::Global;
 use std::marker::Model;
-
-/// The places of codes of one to three bytes: 94 + 94^2 + 94^3.
-const SHORT: usize = 839_514;
 
 /// A binding whose short codes are found without hashing, once they were found.
 #[derive(Drop)]
@@ -26,104 +22,14 @@ pub(crate) struct Codes {
 impl Model for Codes {
     ghost use Rattle.std.specs.Prelude.{◌≤◌, vec_len, vec_capacity};
     ghost use Rattle.ccsl_bind.specs.Bindings.{Bindings};
-    ghost use Rattle.ccsl_vcd_read.specs.Places.{SHORT, AreFound};
+    ghost use Rattle.ccsl_vcd_lex.specs.ShortCodes.{SHORT};
+    ghost use Rattle.ccsl_vcd_read.specs.Places.{AreFound};
 
     ghost Value = { Bindings };
 
     ghost view = { λ c. c.binding };
 
     ghost invariant = { λ c. (vec_len c.table ≤ SHORT) × (SHORT ≤ vec_capacity c.table) × AreFound c.table.items c.binding.codes };
-}
-
-#[inline(always)]
-#[tactic(auto, unfolding(ccsl_vcd_lex::specs::Tokens::is_white))]
-fn is_visible(b: u8) -> bool
-    ensures value { result ≡ is_visible b }
-    ensures dark { result ≡ true → is_white b ≡ false }
-{
-    b >= 33 && b <= 126
-}
-
-/// How many bytes a code at the front of some bytes has, and its place in the table.
-#[derive(Clone, Copy, Debug)]
-pub(crate) struct Placed {
-    pub len: usize,
-    pub place: usize,
-}
-
-// The place of a code of one byte in the table, and of one with two and with three.
-#[inline(always)]
-fn place_of_one(a: u8) -> usize
-    requires { is_visible a ≡ true }
-    ensures value { result ≡ place_of (a ∷ []) }
-    ensures within { result < 94 }
-{
-    a as usize - 33
-}
-
-#[inline(always)]
-fn place_of_two(a: u8, b: u8) -> usize
-    requires first { is_visible a ≡ true }
-    requires second { is_visible b ≡ true }
-    ensures value { result ≡ place_of (a ∷ b ∷ []) }
-    ensures within { result < 8930 }
-{
-    place_of_one(a) + 94 * (b as usize - 32)
-}
-
-#[inline(always)]
-fn place_of_three(a: u8, b: u8, c: u8) -> usize
-    requires first { is_visible a ≡ true }
-    requires second { is_visible b ≡ true }
-    requires third { is_visible c ≡ true }
-    ensures value { result ≡ place_of (a ∷ b ∷ c ∷ []) }
-    ensures within { result < SHORT }
-{
-    place_of_two(a, b) + 8836 * (c as usize - 32)
-}
-
-// The place of a code in the table, or its length for one that has none.
-#[inline(always)]
-fn place(code: &[u8]) -> usize
-    ensures value { result ≡ place_of code.now }
-    ensures within { result ≤ SHORT }
-{
-    match code {
-        [a] if is_visible(*a) => place_of_one(*a),
-        [a, b] if is_visible(*a) && is_visible(*b) => place_of_two(*a, *b),
-        [a, b, c] if is_visible(*a) && is_visible(*b) && is_visible(*c) => {
-            place_of_three(*a, *b, *c)
-        }
-        _ => SHORT,
-    }
-}
-
-/// The code of one to three bytes at the front of some bytes, with white space behind it. Where there is none the place is past
-/// the table.
-#[inline(always)]
-pub(crate) fn code_at_front(bytes: &[u8]) -> Placed
-    ensures { result.place < SHORT → (0 < result.len) × IsCode result.len result.place bytes.now }
-{
-    match bytes {
-        [a, b, ..] if is_visible(*a) && is_space(*b) => Placed {
-            len: 1,
-            place: place_of_one(*a),
-        },
-        [a, b, c, ..] if is_visible(*a) && is_visible(*b) && is_space(*c) => Placed {
-            len: 2,
-            place: place_of_two(*a, *b),
-        },
-        [a, b, c, d, ..] if is_visible(*a) && is_visible(*b) && is_visible(*c) && is_space(*d) => {
-            Placed {
-                len: 3,
-                place: place_of_three(*a, *b, *c),
-            }
-        }
-        _ => Placed {
-            len: 0,
-            place: SHORT,
-        },
-    }
 }
 
 // Makes a table reach a place, within its room.
@@ -178,11 +84,11 @@ impl Codes {
         ensures number { result ≡ number_of code.now self.old.codes }
         ensures same { self.new ≡ self.old }
     {
-        if let Some(number) = self.known(place(code)) {
+        if let Some(number) = self.known(place_of(code)) {
             return Some(number);
         }
         let number = self.binding.find(code)?;
-        self.put(place(code), number);
+        self.put(place_of(code), number);
         Some(number)
     }
 

@@ -3,7 +3,8 @@
 ghost use Rattle.std.specs.Prelude.{◌≡◌, ◌^◌, ◌≤◌, ◌<◌, length, take, map, true};
 ghost use Rattle.std.specs.List.{list_all};
 ghost use Rattle.std.specs.Simd.Lanes.{mask_l};
-ghost use Rattle.ccsl_vcd_read.specs.Letters.{is_bit, is_other, AreDigits};
+ghost use Rattle.ccsl_vcd_lex.specs.Digits.{AreDigits};
+ghost use Rattle.ccsl_vcd_read.specs.Letters.{is_bit, is_other};
 
 use core::dec2flt::read_digits;
 use std::simd::prelude::*;

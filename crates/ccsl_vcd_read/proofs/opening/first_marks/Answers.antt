@@ -1,5 +1,5 @@
-use Rattle.std.proofs.Common.{◌≡◌, ◌+◌, [], ◌∷◌, ◌++◌, true, not, map, sym, ap, ◌∙◌, arith}
-use Rattle.ccsl_base.specs.Clocks.{is_ascending, are_below}
+use Rattle.std.proofs.Common.{◌≡◌, ◌+◌, [], ◌∷◌, ◌++◌, not, map, sym, ap, ◌∙◌, arith}
+use Rattle.ccsl_base.specs.Clocks.{is_ascending}
 use Rattle.ccsl_base.specs.declared.limits.TheConstants.{MAX_CLOCKS}
 use Rattle.std.proofs.lemmas.List.{map-append}
 use Rattle.ccsl_vcd_read.specs.declared.marks.Mark.{Mark}

@@ -1,5 +1,5 @@
 use Rattle.std.proofs.Common.{arith}
-use Rattle.ccsl_vcd_read.proofs.ShortTimes.{front-digits}
+use Rattle.ccsl_vcd_lex.proofs.Digits.{front-digits}
 use Rattle.ccsl_vcd_read.proofs.scan.digits_at_front.Goals as goal
 
 pub returns-clause-are : goal.returns-clause-are

@@ -2,7 +2,7 @@ use Rattle.std.proofs.Common.{◌≡◌, ℕ, List, [], ◌∷◌, ◌<◌, map,
 use Rattle.ccsl_triggers.specs.Held.{held}
 use Rattle.ccsl_events.specs.declared.values.Values.{Values}
 use Rattle.ccsl_events.specs.Keeping.{is_known, Knows}
-use Rattle.ccsl_events.specs.Places.{place_of, SHORT}
+use Rattle.ccsl_vcd_lex.specs.ShortCodes.{place_of, SHORT}
 use Rattle.ccsl_events.specs.Standing.{Stands}
 use Rattle.ccsl_events.proofs.Kept.{declared}
 use Rattle.ccsl_events.proofs.Run.{runs-none}

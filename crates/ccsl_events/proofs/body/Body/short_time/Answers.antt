@@ -1,7 +1,8 @@
 use Rattle.std.proofs.Common.{◌∙◌, sym, arith}
 use Rattle.std.proofs.lemmas.Result.{err_from_is_err_and}
 use Rattle.ccsl_events.proofs.Run.{runs-none}
-use Rattle.ccsl_events.proofs.Quick.{IsTime, front-digits, time-runs, time-breaks}
+use Rattle.ccsl_vcd_lex.proofs.Digits.{front-digits}
+use Rattle.ccsl_events.proofs.Quick.{IsTime, time-runs, time-breaks}
 use Rattle.ccsl_events.proofs.body.Body.short_time.Goals as goal
 
 pub returns-then-count-eq0-clause-takes : goal.returns-then-count-eq0-clause-takes

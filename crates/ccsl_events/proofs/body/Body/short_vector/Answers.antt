@@ -3,7 +3,7 @@ use Rattle.ccsl_triggers.specs.Held.{held}
 use Rattle.ccsl_events.specs.declared.body.Body.{Body}
 use Rattle.ccsl_events.specs.declared.values.Values.{Values}
 use Rattle.ccsl_events.specs.Keeping.{is_known, Knows}
-use Rattle.ccsl_events.specs.Places.{place_of, SHORT}
+use Rattle.ccsl_vcd_lex.specs.ShortCodes.{place_of, SHORT}
 use Rattle.ccsl_events.specs.Standing.{Stands}
 use Rattle.ccsl_events.specs.Run.{Runs}
 use Rattle.ccsl_events.proofs.Kept.{declared}

@@ -2,7 +2,7 @@ use Rattle.std.proofs.Common.{◌+◌, ◌<◌, ◌≤◌, ◌⊎◌, inl, inr, 
 use Rattle.std.specs.declared.vec.Vec.{Vec}
 use Rattle.std.specs.declared.alloc.Global.{Global}
 use Rattle.ccsl_events.specs.declared.codes.Entry.{Entry}
-use Rattle.ccsl_events.specs.Places.{SHORT}
+use Rattle.ccsl_vcd_lex.specs.ShortCodes.{SHORT}
 use Rattle.ccsl_events.proofs.Tables.{IsFront, front-none, front-more, front-past, front-all, got}
 use Rattle.ccsl_events.proofs.codes.Codes.new.Goals as goal
 use Rattle.ccsl_events.proofs.codes.Codes.new.Goals.{then-place-len+then-i-len, else-place-len, else-place-len-via-then-place-len+else-i-len, else-place-len-via-else-place-len}

@@ -1,5 +1,5 @@
 use Rattle.std.proofs.Common.{ℕ, List, length, take, sym, ap, ◌∙◌, subst, arith, length-drop}
-use Rattle.ccsl_vcd_read.specs.Letters.{AreDigits}
+use Rattle.ccsl_vcd_lex.specs.Digits.{AreDigits}
 use Rattle.ccsl_vcd_read.proofs.Feeding.{rest-is}
 use Rattle.ccsl_vcd_read.proofs.ShortTimes.{time-heard}
 use Rattle.ccsl_vcd_read.proofs.body.Body.short_time.Goals as goal

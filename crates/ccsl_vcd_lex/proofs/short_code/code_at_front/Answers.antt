@@ -1,6 +1,6 @@
 use Rattle.std.proofs.Common.{◌∙◌, sym, arith}
-use Rattle.ccsl_events.proofs.Quick.{code-one, code-two, code-three}
-use Rattle.ccsl_events.proofs.codes.code_at_front.Goals as goal
+use Rattle.ccsl_vcd_lex.proofs.ShortCodes.{code-one, code-two, code-three}
+use Rattle.ccsl_vcd_lex.proofs.short_code.code_at_front.Goals as goal
 
 pub returns-in-len2-up : goal.returns-in-len2-up
 returns-in-len2-up c =
