@@ -97,14 +97,15 @@ fn is_lead(system: &System, constraint: &Constraint) -> bool {
 }
 
 impl Leads {
-    /// Those of a system, before the first step.
-    pub fn new(alloc: Global, system: &System) -> Result<Leads, Memory> {
+    /// Those of a system, before the first step. None where it has no such precedence.
+    pub fn new(alloc: Global, system: &System) -> Result<Option<Leads>, Memory> {
         let mut sides = Vec::new(alloc);
         for _ in 0..system.written() {
             sides.push(Side {
                 leads: Vec::new(alloc),
             })?;
         }
+        let mut is_any = false;
         for j in 0..system.constraints() {
             let constraint = system.constraint(j);
             if is_lead(system, constraint)
@@ -114,9 +115,10 @@ impl Leads {
                     right: constraint.right,
                     since: 0,
                 })?;
+                is_any = true;
             }
         }
-        Ok(Leads { sides })
+        Ok(if is_any { Some(Leads { sides }) } else { None })
     }
 
     /// A step is made, before which the clocks had ticked so often. Only the precedences of the left clocks that tick in it are

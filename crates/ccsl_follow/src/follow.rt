@@ -23,7 +23,8 @@ pub struct Follow<'s> {
     alloc: Global,
     steps: Steps<'s>,
     pub counts: Counts,
-    pub leads: Leads,
+    /// none where the system has no precedence between clocks that are written in it
+    pub leads: Option<Leads>,
     made: u64,
     until: Until,
     // the first of the last steps, and those of them that were made
@@ -108,7 +109,9 @@ impl<'s> Follow<'s> {
             return Ok(());
         }
         let step = self.steps.step();
-        self.leads.hear(step, row.time, &self.counts);
+        if let Some(leads) = &mut self.leads {
+            leads.hear(step, row.time, &self.counts);
+        }
         self.counts.count(step);
         if self.first_kept <= self.made {
             self.keep(row.time)?;

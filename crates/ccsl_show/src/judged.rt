@@ -135,14 +135,16 @@ fn put_run(
 ) -> Result<View, Memory> {
     put_clocks(page, case, rows.as_slice(), follow, header)?;
     put_silent(page, case, follow)?;
-    put_pending(
-        case.alloc,
-        page,
-        case.system,
-        &follow.counts,
-        &follow.leads,
-        header_scale(header),
-    )?;
+    if let Some(leads) = &follow.leads {
+        put_pending(
+            case.alloc,
+            page,
+            case.system,
+            &follow.counts,
+            leads,
+            header_scale(header),
+        )?;
+    }
     let columns = follow.window(&set_of(rows.as_slice()), DRAWN)?;
     View::new(case.alloc, rows, columns, header, follow)
 }
