@@ -1,5 +1,6 @@
 -- From a model to a set, and from a conflict to an answer.
-use Rattle.std.proofs.Common.{◌≡◌, ℕ, zero, suc, ◌<◌, ◌≤◌, List, [], ◌∷◌, length, true, false, not, ◌&&◌, Some, nat_lt, refl, sym, ap, ◌∙◌, ⊎_elim, inl, inr, subst, arith, slice_get}
+use Rattle.std.proofs.Common.{◌≡◌, ℕ, zero, suc, ◌<◌, ◌≤◌, List, [], ◌∷◌, length, true, false, not, ◌&&◌, Some, nat_lt, slice_get}
+use Rattle.std.proofs.Common.{refl, sym, ap, ◌∙◌, ⊎_elim, inl, inr, subst, arith}
 use Rattle.std.proofs.lemmas.Bool.{ltb-true, ltb-false}
 use Rattle.std.proofs.Math.Path.{fun_ext}
 use Rattle.ccsl_base.specs.Clocks.{ticks_in}
@@ -18,11 +19,13 @@ use Rattle.ccsl_base.specs.Empty.{is_empty}
 use Rattle.ccsl_refute.specs.Meaning.{AllTrue}
 use Rattle.ccsl_refute.proofs.Checking.{ends-last}
 use Rattle.ccsl_refute.proofs.Sound.{valid-clauses, all-false}
+use Rattle.ccsl_guide.specs.declared.problem.Problem.{Problem}
 use Rattle.ccsl_solve.specs.Under.{Under, is_yes, filled}
 use Rattle.ccsl_solve.specs.Better.{is_better}
+use Rattle.ccsl_solve.specs.Posed.{asked}
 use Rattle.ccsl_solve.specs.Conflict.{IsClause}
 use Rattle.ccsl_solve.specs.Finds.{AllYes, IsBestModel}
-use Rattle.ccsl_solve.specs.Answers.{IsStep, IsBestStep, IsRefuted}
+use Rattle.ccsl_solve.specs.Answers.{IsBestStep, IsRefuted}
 use Rattle.ccsl_solve.proofs.Tests.{known-not_open}
 use Rattle.ccsl_solve.proofs.Units.{denial-fails}
 use Rattle.ccsl_formula.proofs.Kept.{test_same}
@@ -40,29 +43,26 @@ all-true [] m v a h = tt
 all-true (f ∷ fs) m v a h = (yes_true f m v a h.0, all-true fs m v a h.1)
 
 -- a set with the values of a model
-pub model-step : (scope : Scope) (fs : List Formula) (ws : List Lit) (p m : Part) (s : List ℕ) → IsBestModel scope fs ws p m →
-    ((x : ℕ) → x < scope.named → ticks_in x s ≡ is_yes (m x)) → ((x : ℕ) → scope.named ≤ x → ticks_in x s ≡ false) →
-    scope.declared ≤ scope.named → IsBestStep scope fs ws p s
-model-step scope fs ws p m s h below above d =
+pub model-step : (q : Problem) (p m : Part) (s : List ℕ) → IsBestModel q p m →
+    ((x : ℕ) → x < q.scope.named → ticks_in x s ≡ is_yes (m x)) → ((x : ℕ) → q.scope.named ≤ x → ticks_in x s ≡ false) →
+    q.scope.declared ≤ q.scope.named → IsBestStep q.scope (asked q) q.wishes.now p s
+model-step q p m s h below above d =
     let filled-is : filled m ≡ in_set s =
-    fun_ext (λ x. (elim (nat_lt x scope.named) as (λ t. nat_lt x scope.named ≡ t → is_yes (m x) ≡ ticks_in x s) [
-      | true ↦ λ e. sym (below x (ltb-true x scope.named e))
-      | false ↦ λ e. let past : scope.named ≤ x = ltb-false x scope.named e in ap is_yes (h.inside.outside x past) ∙ sym (above x past)
+    fun_ext (λ x. (elim (nat_lt x q.scope.named) as (λ t. nat_lt x q.scope.named ≡ t → is_yes (m x) ≡ ticks_in x s) [
+      | true ↦ λ e. sym (below x (ltb-true x q.scope.named e))
+      | false ↦ λ e. let past : q.scope.named ≤ x = ltb-false x q.scope.named e in ap is_yes (h.inside.outside x past) ∙ sym (above x past)
     ]) refl)
     in
     let agrees : Agrees (in_set s) m = record { fits = λ x. subst (λ (v : Assignment). Fits (m x) (v x)) filled-is (fits-yes (m x)) } in
     let x = h.member.0 in
-    let named : x < scope.named = omega (arith, h.member.1) in
+    let named : x < q.scope.named = omega (arith, h.member.1) in
     record {
-      solves = record { member = (x, h.member.1, below x named ∙ ap is_yes h.member.2); all = all-true fs m (in_set s) agrees h.all };
+      solves = record { member = (x, h.member.1, below x named ∙ ap is_yes h.member.2); all = all-true (asked q) m (in_set s) agrees h.all };
       agrees = agrees-under (in_set s) p m h.within agrees;
-      inside = λ y t. (elim (nat_lt y scope.named) as (λ b. nat_lt y scope.named ≡ b → y < scope.named)
-          [ true ↦ λ e. ltb-true y scope.named e | false ↦ λ e. let bad : true ≡ false = sym t ∙ above y (ltb-false y scope.named e) in absurd (cc) ]) refl;
-      best = λ t a g. subst (λ (v : Assignment). is_better ws t v ≡ false) filled-is (h.best t a g);
+      inside = λ y t. (elim (nat_lt y q.scope.named) as (λ b. nat_lt y q.scope.named ≡ b → y < q.scope.named)
+          [ true ↦ λ e. ltb-true y q.scope.named e | false ↦ λ e. let bad : true ≡ false = sym t ∙ above y (ltb-false y q.scope.named e) in absurd (cc) ]) refl;
+      best = λ t a g. subst (λ (v : Assignment). is_better q.wishes.now t v ≡ false) filled-is (h.best t a g);
     }
-
-pub step-of : (scope : Scope) (fs : List Formula) (ws : List Lit) (p : Part) (s : List ℕ) → IsBestStep scope fs ws p s → IsStep scope fs p s
-step-of scope fs ws p s h = record { solves = h.solves; agrees = h.agrees; inside = h.inside }
 
 nothing-known : (ls : List Lit) (q : Part) → falsified ls ≡ q → ((x : ℕ) → q x ≡ Open) → is_empty ls ≡ true
 nothing-known [] q e h = refl
@@ -71,14 +71,15 @@ nothing-known (l ∷ ls) q e h =
     (known-not_open (known_as (not l.positive)) (not l.positive) refl
     (sym (test_same l.clock l.clock (known_as (not l.positive)) (falsified ls l.clock) refl) ∙ ap (λ (r : Part). r l.clock) e ∙ h l.clock))
 
-last-line : (lines : List Line) (j : ℕ) (e : Line) → line_at lines j ≡ Some e → j ≡ length lines → (i : ℕ) × (suc i ≡ length lines) × (slice_get lines i ≡ Some e)
+last-line : (lines : List Line) (j : ℕ) (e : Line) → line_at lines j ≡ Some e → j ≡ length lines →
+    (i : ℕ) × (suc i ≡ length lines) × (slice_get lines i ≡ Some e)
 last-line lines zero e f s = absurd (cc)
 last-line lines (suc i) e f s = (i, s, f)
 
 -- the answer where a last line says that some of the fixed values can't hold
-pub refuted : (scope : Scope) (fs : List Formula) (p q : Part) (lines : List Line) (j : ℕ) → are_valid scope fs lines ≡ true → IsClause scope lines j q → Under q p →
-    j ≡ length lines → IsRefuted scope fs p lines
-refuted scope fs p q lines j v c u s =
+pub refuted : (scope : Scope) (fs : List Formula) {p q : Part} {lines : List Line} {j : ℕ} → are_valid scope fs lines ≡ true →
+    IsClause scope lines j q → Under q p → j ≡ length lines → IsRefuted scope fs p lines
+refuted scope fs {p} {q} {lines} {j} v c u s =
     let last = last-line lines j c.line c.found s in
     record {
       none = λ w a solved.

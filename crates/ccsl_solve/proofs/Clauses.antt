@@ -1,5 +1,6 @@
 -- Lines as clauses that deny some values.
-use Rattle.std.proofs.Common.{◌≡◌, ℕ, zero, suc, ◌<◌, ◌≤◌, List, [], ◌∷◌, ◌++◌, length, Bool, true, false, not, ◌&&◌, ◌||◌, nat_eq, nat_lt, Option, Some, None, ◌-◌, get_or, map, option_map, refl, sym, ap, ◌∙◌, subst, arith, slice_get}
+use Rattle.std.proofs.Common.{◌≡◌, ℕ, zero, suc, ◌<◌, ◌≤◌, ◌-◌, List, [], ◌∷◌, ◌++◌, length, Bool, true, false, not, ◌&&◌, ◌||◌, nat_eq, nat_lt}
+use Rattle.std.proofs.Common.{Some, None, get_or, slice_get, map, option_map, refl, sym, ap, ◌∙◌, subst, arith}
 use Rattle.std.proofs.lemmas.Bool.{and_parts, lt-ltb, ne_eqb, eqb-false}
 use Rattle.std.proofs.lemmas.Option.{get_or_from_slice_get, slice_get-get_or, slice_get-map}
 use Rattle.ccsl_formula.specs.declared.scope.Scope.{Scope}
@@ -11,11 +12,12 @@ use Rattle.ccsl_refute.specs.declared.line.Line.{Line}
 use Rattle.ccsl_refute.specs.declared.line.Line.TheVariants.{Nonempty, Item, Derived}
 use Rattle.ccsl_refute.specs.Literals.{falsified, is_no, names, are_proper, positives, all_false}
 use Rattle.ccsl_refute.specs.Validity.{clause, line_at, fails_line, fails_at, is_refuted, refutes_item, is_valid, valid_from, are_valid}
-use Rattle.ccsl_refute.proofs.Sound.{is-no}
 use Rattle.ccsl_solve.specs.Under.{Under}
-use Rattle.ccsl_solve.specs.Conflict.{IsClause, IsConflict, IsDenial, Extends}
+use Rattle.ccsl_guide.specs.declared.problem.Problem.{Problem}
+use Rattle.ccsl_solve.specs.Posed.{AreValid, asked}
+use Rattle.ccsl_solve.specs.Conflict.{IsClause, IsConflict, IsDenial, Extends, AddsLines}
 use Rattle.ccsl_solve.proofs.Units.{denial-fails, fails-under}
-use Rattle.ccsl_solve.proofs.Lines.{line-more, line-last, valid-snoc}
+use Rattle.ccsl_solve.proofs.Lines.{line-more, line-last, adds-line}
 
 pub or-left : (a b : Bool) → (a || b) ≡ false → a ≡ false
 or-left false b e = refl
@@ -58,7 +60,8 @@ proper-from : (scope : Scope) (fs : List Formula) (earlier lines : List Line) (i
 proper-from scope fs earlier [] i e d v g = absurd (cc)
 proper-from scope fs earlier (x ∷ lines) zero e d v g =
     let q : x ≡ e = cc in
-    subst (λ (z : Line). are_proper scope.named (clause scope.declared z) ≡ true) q (line-proper scope fs earlier x d (and_parts (is_valid scope fs earlier x) _ v).0)
+    subst (λ (z : Line). are_proper scope.named (clause scope.declared z) ≡ true) q
+    (line-proper scope fs earlier x d (and_parts (is_valid scope fs earlier x) _ v).0)
 proper-from scope fs earlier (x ∷ lines) (suc i) e d v g =
     proper-from scope fs (earlier ++ x ∷ []) lines i e d (and_parts (is_valid scope fs earlier x) _ v).1 g
 
@@ -72,11 +75,11 @@ clause-proper scope fs lines (suc i) e d v g = proper-from scope fs [] lines i e
 pub failing-line : (declared : ℕ) (lines : List Line) (p : Part) (j : ℕ) → fails_at declared lines p j ≡ true →
     (e : Line) × (line_at lines j ≡ Some e) × (all_false p (clause declared e) ≡ true)
 failing-line declared lines p j h =
-    (elim (line_at lines j) as (λ o. line_at lines j ≡ o → fails_line declared p o ≡ true → (e : Line) × (line_at lines j ≡ Some e) × (all_false p (clause declared e) ≡ true))
-    [ None ↦ λ q f. absurd (cc) | Some e ↦ λ q f. (e, q, f) ]) refl h
+    (elim (line_at lines j) as (λ o. line_at lines j ≡ o → fails_line declared p o ≡ true →
+    (e : Line) × (line_at lines j ≡ Some e) × (all_false p (clause declared e) ≡ true)) [ None ↦ λ q f. absurd (cc) | Some e ↦ λ q f. (e, q, f) ]) refl h
 
-pub clause-more : (scope : Scope) (lines new : List Line) (j : ℕ) (q : Part) → Extends lines new → IsClause scope lines j q → IsClause scope new j q
-clause-more scope lines new j q x c = record {
+pub clause-more : {scope : Scope} {lines new : List Line} {j : ℕ} {q : Part} → Extends lines new → IsClause scope lines j q → IsClause scope new j q
+clause-more {lines} {j} x c = record {
   line = c.line;
   found = ap (λ ls. line_at ls j) x.is ∙ line-more lines x.added j c.line c.found;
   part = c.part;
@@ -84,19 +87,19 @@ clause-more scope lines new j q x c = record {
 }
 
 -- the clause of a new last line
-pub clause-last : (scope : Scope) (lines new : List Line) (e : Line) (q : Part) (n : ℕ) → new ≡ lines ++ e ∷ [] → n ≡ suc (length lines) →
+pub clause-last : {scope : Scope} (lines : List Line) (e : Line) {new : List Line} {q : Part} {n : ℕ} → new ≡ lines ++ e ∷ [] → n ≡ length new →
     IsDenial scope.named (clause scope.declared e) q → IsClause scope new n q
-clause-last scope lines new e q n s m d = record {
+clause-last lines e s m d = record {
   line = e;
-  found = ap (λ ls. line_at ls n) s ∙ line-last lines e n m;
+  found = line-last lines e m s;
   part = d.part;
   proper = d.proper;
 }
 
 -- a line whose clause denies some values, as a conflict
-pub clause-conflict : (scope : Scope) (lines : List Line) (p q : Part) (j : ℕ) (hints : List ℕ) → hints ≡ j ∷ [] → IsClause scope lines j q → Under q p →
+pub clause-conflict : {scope : Scope} {lines : List Line} {p q : Part} {j : ℕ} {hints : List ℕ} → hints ≡ j ∷ [] → IsClause scope lines j q → Under q p →
     IsConflict scope lines p q hints
-clause-conflict scope lines p q j hints h c u =
+clause-conflict {scope} {lines} {p} {q} {j} h c u =
     subst (λ hs. IsConflict scope lines p q hs) (sym h)
     (record {
       within = u;
@@ -105,17 +108,17 @@ clause-conflict scope lines p q j hints h c u =
     })
 
 -- one more line, by which an item denies some values
-pub added-item : (scope : Scope) (fs : List Formula) (lines new : List Line) (k n : ℕ) (f : Formula) (q : Part) (lits : List Lit) →
-    are_valid scope fs lines ≡ true → new ≡ lines ++ Item k lits ∷ [] → n ≡ suc (length lines) → slice_get fs k ≡ Some f →
-    IsDenial scope.named lits q → kleene f q ≡ No → (are_valid scope fs new ≡ true) × IsClause scope new n q
-added-item scope fs lines new k n f q lits v e m g d h =
-    let this : is_valid scope fs lines (Item k lits) ≡ true =
-    ap (λ b. b && refutes_item fs k lits) d.proper
+pub added-item : (q : Problem) (k : ℕ) (f : Formula) {lines new : List Line} {part : Part} {n : ℕ} {lits : List Lit} → AreValid q lines →
+    new ≡ lines ++ Item k lits ∷ [] → n ≡ length new → slice_get (asked q) k ≡ Some f →
+    IsDenial q.scope.named lits part → kleene f part ≡ No → AddsLines q lines new × IsClause q.scope new n part
+added-item q k f {lines} {lits} v e m g d h =
+    let this : is_valid q.scope (asked q) lines (Item k lits) ≡ true =
+    ap (λ b. b && refutes_item (asked q) k lits) d.proper
     ∙ ap (is_refuted (falsified lits)) g
     ∙ ap (λ (r : Part). is_no (kleene f r)) d.part
     ∙ ap is_no h
     in
-    (valid-snoc scope fs lines new (Item k lits) e v this, clause-last scope lines new (Item k lits) q n e m d)
+    (adds-line q (Item k lits) e v this, clause-last lines (Item k lits) e m d)
 
 -- the line of a clause, as it is read
 line-read : (lines : List Line) (j : ℕ) (e x : Line) → line_at lines j ≡ Some e → x ≡ get_or lines (j - 1) x → x ≡ e
@@ -147,9 +150,6 @@ pub refuted-inside : (p : Part) (fs : List Formula) (k n : ℕ) → length fs �
 refuted-inside p [] k n e h = absurd (cc)
 refuted-inside p (f ∷ fs) zero n e h = omega arith
 refuted-inside p (f ∷ fs) (suc k) n e h = let r : k < length fs = refuted-inside p fs k (length fs) refl h in omega arith
-
-pub refuted-no : (p : Part) (f : Formula) (o : Option Formula) → o ≡ Some f → is_refuted p o ≡ true → kleene f p ≡ No
-refuted-no p f o e h = is-no (kleene f p) (sym (ap (is_refuted p) e) ∙ h)
 
 -- an element of a list, as it is read, under a function
 pub read-map : {A B : Type 0} (f : A → B) (xs : List A) (i : ℕ) (d : A) → i < length xs → slice_get (map f xs) i ≡ Some (f (get_or xs i d))

@@ -1,54 +1,57 @@
 -- Laws of conflicts.
-use Rattle.std.proofs.Common.{◌≡◌, ◌≢◌, ◌⊎◌, ℕ, suc, List, [], ◌∷◌, ◌++◌, length, Bool, true, false, not, ◌&&◌, cond, Some, refl, sym, ap, ◌∙◌, ⊎_elim, inl, inr, subst, arith}
+use Rattle.std.proofs.Common.{◌≡◌, ◌≢◌, ◌⊎◌, ℕ, List, [], ◌∷◌, ◌++◌, length, Bool, true, false, not, ◌&&◌, cond, Some}
+use Rattle.std.proofs.Common.{refl, sym, ap, ◌∙◌, ⊎_elim, inl, inr, subst, arith}
 use Rattle.std.proofs.lemmas.Bool.{cases_eq}
 use Rattle.ccsl_formula.specs.declared.scope.Scope.{Scope}
 use Rattle.ccsl_formula.specs.declared.truth3.Truth3.TheVariants.{Open}
 use Rattle.ccsl_formula.specs.Truth.{known_as, Part, with_value}
 use Rattle.ccsl_formula.specs.Agreement.{is_open}
 use Rattle.ccsl_formula.specs.Known.{with_truth, joined}
-use Rattle.ccsl_formula.specs.Formula.{Formula}
 use Rattle.ccsl_refute.specs.declared.line.Lit.{Lit}
 use Rattle.ccsl_refute.specs.declared.line.Line.{Line}
 use Rattle.ccsl_refute.specs.declared.line.Line.TheVariants.{Derived}
 use Rattle.ccsl_refute.specs.Literals.{falsified}
-use Rattle.ccsl_refute.specs.Validity.{clause, unit_at, unit_line, closes, is_valid, are_valid}
+use Rattle.ccsl_refute.specs.Validity.{clause, unit_at, unit_line, closes, is_valid}
 use Rattle.ccsl_refute.proofs.Closing.{closes-unit}
 use Rattle.ccsl_solve.specs.Under.{Under}
-use Rattle.ccsl_solve.specs.Conflict.{IsClause, IsConflict, IsDenial, Extends}
+use Rattle.ccsl_guide.specs.declared.problem.Problem.{Problem}
+use Rattle.ccsl_solve.specs.Posed.{AreValid, asked}
+use Rattle.ccsl_solve.specs.Conflict.{IsClause, IsConflict, IsDenial, Extends, AddsLines}
 use Rattle.ccsl_solve.proofs.Tests.{test_other, open_or_not, open-test}
 use Rattle.ccsl_solve.proofs.Parts.{under-self, under-trans, under-known, under-with, under-left}
 use Rattle.ccsl_solve.proofs.Units.{unit-of}
-use Rattle.ccsl_solve.proofs.Lines.{closes-more, valid-snoc}
+use Rattle.ccsl_solve.proofs.Lines.{closes-more, adds-line}
 use Rattle.ccsl_solve.proofs.Clauses.{clause-more, clause-last}
 use Rattle.ccsl_formula.proofs.Kept.{test_same}
 
-pub conflict-more : (scope : Scope) (lines new : List Line) (p q : Part) (hints : List ℕ) → Extends lines new → IsConflict scope lines p q hints → IsConflict scope new p q hints
-conflict-more scope lines new p q hints x c = record {
+pub conflict-more : {scope : Scope} {lines new : List Line} {p q : Part} {hints : List ℕ} → Extends lines new →
+    IsConflict scope lines p q hints → IsConflict scope new p q hints
+conflict-more {scope} {lines} {hints} x c = record {
   within = c.within;
   closing = λ r a b. ap (λ ls. closes scope.declared ls r hints) x.is ∙ closes-more scope.declared lines x.added r hints (c.closing r a b);
-  single = λ j e. clause-more scope lines new j q x (c.single j e);
+  single = λ j e. clause-more x (c.single j e);
 }
 
 -- a value that the conflict does not use can be left out
-pub without-value : (scope : Scope) (lines : List Line) (p q : Part) (hints : List ℕ) (x : ℕ) (b : Bool) → p x ≡ Open →
+pub without-value : {scope : Scope} {lines : List Line} {p q : Part} {hints : List ℕ} (x : ℕ) (b : Bool) → p x ≡ Open →
     IsConflict scope lines (with_value p x b) q hints → q x ≡ Open → IsConflict scope lines p q hints
-without-value scope lines p q hints x b free c o = record {
+without-value {p} {q} x b free c o = record {
   within = under-left p q x b c.within o;
   closing = λ r a u. c.closing r a (under-trans r p (with_value p x b) u (under-with p x b free));
   single = c.single;
 }
 
 -- one more line, by which a conflict denies its values
-pub added-derived : (scope : Scope) (fs : List Formula) (lines new : List Line) (p q : Part) (hints : List ℕ) (n : ℕ) (lits : List Lit) →
-    are_valid scope fs lines ≡ true → new ≡ lines ++ Derived lits hints ∷ [] → n ≡ suc (length lines) →
-    IsConflict scope lines p q hints → IsDenial scope.named lits q → (are_valid scope fs new ≡ true) × IsClause scope new n q
-added-derived scope fs lines new p q hints n lits v e m c d =
-    let this : is_valid scope fs lines (Derived lits hints) ≡ true =
-    ap (λ b. b && closes scope.declared lines (falsified lits) hints) d.proper
-    ∙ ap (λ (r : Part). closes scope.declared lines r hints) d.part
-    ∙ c.closing q (under-self q) c.within
+pub added-derived : (q : Problem) {lines new : List Line} {p part : Part} {hints : List ℕ} {n : ℕ} {lits : List Lit} → AreValid q lines →
+    new ≡ lines ++ Derived lits hints ∷ [] → n ≡ length new →
+    IsConflict q.scope lines p part hints → IsDenial q.scope.named lits part → AddsLines q lines new × IsClause q.scope new n part
+added-derived q {lines} {part} {hints} {lits} v e m c d =
+    let this : is_valid q.scope (asked q) lines (Derived lits hints) ≡ true =
+    ap (λ b. b && closes q.scope.declared lines (falsified lits) hints) d.proper
+    ∙ ap (λ (r : Part). closes q.scope.declared lines r hints) d.part
+    ∙ c.closing part (under-self part) c.within
     in
-    (valid-snoc scope fs lines new (Derived lits hints) e v this, clause-last scope lines new (Derived lits hints) q n e m d)
+    (adds-line q (Derived lits hints) e v this, clause-last lines (Derived lits hints) e m d)
 
 -- where the second one knows nothing the first one counts
 joined-first : (q1 q2 : Part) (y : ℕ) → q2 y ≡ Open → joined q1 q2 y ≡ q1 y
@@ -140,7 +143,8 @@ module _ (scope : Scope) (lines : List Line) (p q1 q2 : Part) (x j : ℕ) (b : B
           (λ k.
           inr
           (⊎_elim
-          (λ s. ⊎_elim (λ o. absurd (k o)) (λ e. e ∙ test_same y x (known_as (not b)) (p y) s) (c2.within.at y) ∙ sym (test_same y x (known_as (not b)) (r y) s))
+          (λ s. ⊎_elim (λ o. absurd (k o)) (λ e. e ∙ test_same y x (known_as (not b)) (p y) s) (c2.within.at y)
+          ∙ sym (test_same y x (known_as (not b)) (r y) s))
           (λ d. sym (test_other y x (known_as (not b)) (r y) d ∙ second-known y d k))
           (cases_eq y x)))
           (open_or_not (q2 y));
@@ -157,7 +161,9 @@ module _ (scope : Scope) (lines : List Line) (p q1 q2 : Part) (x j : ℕ) (b : B
     }
 
     closing : closes scope.declared lines r (j ∷ hints) ≡ true
-    closing = closes-unit scope.declared lines r j hints (record { clock = x; positive = not b }) has-hints gives ∙ c2.closing (with_value r x (not b)) next-within next-under
+    closing =
+        closes-unit scope.declared lines r j hints (record { clock = x; positive = not b }) has-hints gives
+        ∙ c2.closing (with_value r x (not b)) next-within next-under
 
   pub resolves : (q : Part) (hs : List ℕ) → q ≡ with_truth (joined q2 q1) x Open → hs ≡ j ∷ hints → IsConflict scope lines p q hs
   unfolding whole

@@ -1,5 +1,6 @@
 -- Lines, and more lines after them.
-use Rattle.std.proofs.Common.{◌≡◌, ℕ, zero, suc, List, [], ◌∷◌, ◌++◌, length, true, false, ◌&&◌, Some, None, refl, sym, ap, ◌∙◌, slice_get, append_assoc, append-nil}
+use Rattle.std.proofs.Common.{◌≡◌, ℕ, zero, suc, List, [], ◌∷◌, ◌++◌, length, true, false, ◌&&◌, Some, None, slice_get}
+use Rattle.std.proofs.Common.{refl, sym, ap, ◌∙◌, append_assoc, append-nil, length-append, add-one}
 use Rattle.std.proofs.lemmas.Bool.{and_parts}
 use Rattle.ccsl_formula.specs.declared.scope.Scope.{Scope}
 use Rattle.ccsl_formula.specs.Truth.{Part, with_value}
@@ -7,7 +8,9 @@ use Rattle.ccsl_formula.specs.Formula.{Formula}
 use Rattle.ccsl_refute.specs.declared.line.Lit.{Lit}
 use Rattle.ccsl_refute.specs.declared.line.Line.{Line}
 use Rattle.ccsl_refute.specs.Validity.{line_at, fails_line, unit_line, fails_at, unit_at, closes, is_valid, valid_from, are_valid}
-use Rattle.ccsl_solve.specs.Conflict.{Extends}
+use Rattle.ccsl_guide.specs.declared.problem.Problem.{Problem}
+use Rattle.ccsl_solve.specs.Posed.{AreValid, asked}
+use Rattle.ccsl_solve.specs.Conflict.{Extends, AddsLines}
 
 get-more : {A : Type 0} (xs ys : List A) (i : ℕ) (x : A) → slice_get xs i ≡ Some x → slice_get (xs ++ ys) i ≡ Some x
 get-more [] ys i x e = absurd (cc)
@@ -22,8 +25,10 @@ pub line-more : (lines more : List Line) (j : ℕ) (e : Line) → line_at lines 
 line-more lines more zero e h = absurd (cc)
 line-more lines more (suc i) e h = get-more lines more i e h
 
-pub line-last : (lines : List Line) (e : Line) (n : ℕ) → n ≡ suc (length lines) → line_at (lines ++ e ∷ []) n ≡ Some e
-line-last lines e n h = ap (line_at (lines ++ e ∷ [])) h ∙ get-last lines e
+pub line-last : (lines : List Line) (e : Line) {new : List Line} {n : ℕ} → n ≡ length new → new ≡ lines ++ e ∷ [] → line_at new n ≡ Some e
+line-last lines e {n} s is =
+    let number : n ≡ suc (length lines) = s ∙ ap length is ∙ length-append lines (e ∷ []) ∙ add-one (length lines) in
+    ap (λ ls. line_at ls n) is ∙ ap (line_at (lines ++ e ∷ [])) number ∙ get-last lines e
 
 fails-more : (d : ℕ) (lines more : List Line) (p : Part) (j : ℕ) → fails_at d lines p j ≡ true → fails_at d (lines ++ more) p j ≡ true
 fails-more d lines more p j h =
@@ -40,8 +45,8 @@ pub closes-more : (d : ℕ) (lines more : List Line) (p : Part) (hints : List �
 closes-more d lines more p [] h = h
 closes-more d lines more p (j ∷ []) h = fails-more d lines more p j h
 closes-more d lines more p (j ∷ k ∷ js) h =
-    (elim (unit_at d lines p j) as (λ o. unit_at d lines p j ≡ o → elim o [ None ↦ false | Some l ↦ closes d lines (with_value p l.clock l.positive) (k ∷ js) ] ≡ true →
-    closes d (lines ++ more) p (j ∷ k ∷ js) ≡ true) [
+    (elim (unit_at d lines p j) as (λ o. unit_at d lines p j ≡ o →
+    elim o [ None ↦ false | Some l ↦ closes d lines (with_value p l.clock l.positive) (k ∷ js) ] ≡ true → closes d (lines ++ more) p (j ∷ k ∷ js) ≡ true) [
       | None ↦ λ q f. absurd (cc)
       | Some l ↦ λ q f.
           ap (λ o. elim o [ None ↦ false | Some m ↦ closes d (lines ++ more) (with_value p m.clock m.positive) (k ∷ js) ]) (unit-more d lines more p j l q)
@@ -50,15 +55,6 @@ closes-more d lines more p (j ∷ k ∷ js) h =
 
 pub fails-extended : (d : ℕ) (lines new : List Line) (p : Part) (j : ℕ) → Extends lines new → fails_at d lines p j ≡ true → fails_at d new p j ≡ true
 fails-extended d lines new p j x h = ap (λ ls. fails_at d ls p j) x.is ∙ fails-more d lines x.added p j h
-
-pub extends-trans : (a b c : List Line) → Extends a b → Extends b c → Extends a c
-extends-trans a b c x y = record { added = x.added ++ y.added; is = y.is ∙ ap (λ ls. ls ++ y.added) x.is ∙ append_assoc a x.added y.added }
-
-pub extends-self : (a : List Line) → Extends a a
-extends-self a = record { added = []; is = sym (append-nil a) }
-
-pub extends-snoc : (a b : List Line) (line : Line) → b ≡ a ++ line ∷ [] → Extends a b
-extends-snoc a b line e = record { added = line ∷ []; is = e }
 
 valid_from-snoc : (scope : Scope) (fs : List Formula) (earlier lines : List Line) (e : Line) → valid_from scope fs earlier lines ≡ true →
     is_valid scope fs (earlier ++ lines) e ≡ true → valid_from scope fs earlier (lines ++ e ∷ []) ≡ true
@@ -69,6 +65,9 @@ valid_from-snoc scope fs earlier (x ∷ lines) e h v =
     (ap (λ ls. is_valid scope fs ls e) (append_assoc earlier (x ∷ []) lines) ∙ v)
 
 -- one more valid line
-pub valid-snoc : (scope : Scope) (fs : List Formula) (lines new : List Line) (e : Line) → new ≡ lines ++ e ∷ [] → are_valid scope fs lines ≡ true →
-    is_valid scope fs lines e ≡ true → are_valid scope fs new ≡ true
-valid-snoc scope fs lines new e n h v = ap (are_valid scope fs) n ∙ valid_from-snoc scope fs [] lines e h v
+pub adds-line : (q : Problem) (e : Line) {lines new : List Line} → new ≡ lines ++ e ∷ [] → AreValid q lines →
+    is_valid q.scope (asked q) lines e ≡ true → AddsLines q lines new
+adds-line q e {lines} n h v = record {
+  extends = record { added = e ∷ []; is = n };
+  valid = ap (are_valid q.scope (asked q)) n ∙ valid_from-snoc q.scope (asked q) [] lines e h v;
+}

@@ -29,10 +29,6 @@ under-take q q' p x a e = record {
       (cases_eq y x);
 }
 
--- nothing is within everything
-pub under-nothing : (p : Part) → Under (λ x. Open) p
-under-nothing p = record { at = λ x. inl refl }
-
 -- a value that is known stays
 pub under-known : (q r : Part) (x : ℕ) → Under q r → q x ≢ Open → r x ≡ q x
 under-known q r x a n = ⊎_elim (λ o. absurd (n o)) sym (a.at x)
@@ -78,7 +74,8 @@ open-le (suc n) x b p =
     (λ d.
     let here : is_open (q n) ≡ is_open (p n) = ap is_open (test_other n x (known_as b) (p n) d) in
     subst (λ t. cond t (suc (open_count n q)) (open_count n q) ≤ open_count (suc n) p) (sym here)
-    (elim (is_open (p n)) as (λ t. cond t (suc (open_count n q)) (open_count n q) ≤ cond t (suc (open_count n p)) (open_count n p)) [ true ↦ omega arith | false ↦ rest ]))
+    (elim (is_open (p n)) as (λ t. cond t (suc (open_count n q)) (open_count n q) ≤ cond t (suc (open_count n p)) (open_count n p))
+    [ true ↦ omega arith | false ↦ rest ]))
     (cases_eq n x)
 
 -- a value for an open clock leaves fewer open ones
@@ -97,5 +94,6 @@ fewer-open (suc n) x b p l o =
     let rest = fewer-open n x b p (omega arith) o in
     let here : is_open (q n) ≡ is_open (p n) = ap is_open (test_other n x (known_as b) (p n) d) in
     subst (λ t. cond t (suc (open_count n q)) (open_count n q) < open_count (suc n) p) (sym here)
-    (elim (is_open (p n)) as (λ t. cond t (suc (open_count n q)) (open_count n q) < cond t (suc (open_count n p)) (open_count n p)) [ true ↦ omega arith | false ↦ rest ]))
+    (elim (is_open (p n)) as (λ t. cond t (suc (open_count n q)) (open_count n q) < cond t (suc (open_count n p)) (open_count n p))
+    [ true ↦ omega arith | false ↦ rest ]))
     (cases_eq n x)

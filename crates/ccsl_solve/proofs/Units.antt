@@ -1,5 +1,6 @@
 -- What a clause gives under a partial assignment.
-use Rattle.std.proofs.Common.{◌≡◌, ◌≢◌, ℕ, List, [], ◌∷◌, Bool, true, false, not, ◌&&◌, cond, Some, None, nat_lt, refl, sym, ap, ap₂, ◌∙◌, ⊎_elim, inl, inr}
+use Rattle.std.proofs.Common.{◌≡◌, ◌≢◌, ℕ, List, [], ◌∷◌, Bool, true, false, not, ◌&&◌, cond, Some, None, nat_lt}
+use Rattle.std.proofs.Common.{refl, sym, ap, ap₂, ◌∙◌, ⊎_elim, inl, inr}
 use Rattle.std.proofs.lemmas.Bool.{cases_eq, and_parts, not-true}
 use Rattle.ccsl_formula.specs.declared.truth3.Truth3.{Truth3}
 use Rattle.ccsl_formula.specs.declared.truth3.Truth3.TheVariants.{Yes, No, Open}
@@ -44,7 +45,8 @@ other-clock : (n : ℕ) (l : Lit) (ls : List Lit) (y : ℕ) → are_proper n (l 
 other-clock n l ls y a k e = k (open-of (falsified ls y) (sym (named-known y ls) ∙ ap (λ x. names x ls) e ∙ head-fresh n l ls a))
 
 -- all literals are false where r has their values
-pub all-false-of : (n : ℕ) (r : Part) (ls : List Lit) → are_proper n ls ≡ true → ((y : ℕ) → falsified ls y ≢ Open → r y ≡ falsified ls y) → all_false r ls ≡ true
+pub all-false-of : (n : ℕ) (r : Part) (ls : List Lit) → are_proper n ls ≡ true → ((y : ℕ) → falsified ls y ≢ Open → r y ≡ falsified ls y) →
+    all_false r ls ≡ true
 all-false-of n r [] a h = refl
 all-false-of n r (l ∷ ls) a h =
     let here = falsified-here l ls in
@@ -95,7 +97,8 @@ not-no Open h = absurd (cc)
 
 lit-value-no : (p : Part) (l : Lit) → lit_value p l ≡ No → p l.clock ≡ known_as (not l.positive)
 lit-value-no p l e =
-    (elim l.positive as (λ b. cond b (p l.clock) (not3 (p l.clock)) ≡ No → p l.clock ≡ known_as (not b)) [ true ↦ λ h. h | false ↦ λ h. not-no (p l.clock) h ]) e
+    (elim l.positive as (λ b. cond b (p l.clock) (not3 (p l.clock)) ≡ No → p l.clock ≡ known_as (not b))
+    [ true ↦ λ h. h | false ↦ λ h. not-no (p l.clock) h ]) e
 
 -- a clause whose literals are all false, as values
 pub fails-under : (p : Part) (ls : List Lit) → all_false p ls ≡ true → Under (falsified ls) p
@@ -107,6 +110,6 @@ fails-under p (l ∷ ls) h =
       at = λ x.
           ⊎_elim
           (λ s. inr (test_same x l.clock (known_as (not l.positive)) (falsified ls x) s ∙ sym here ∙ ap p (sym s)))
-          (λ d. let there = test_other x l.clock (known_as (not l.positive)) (falsified ls x) d in ⊎_elim (λ o. inl (there ∙ o)) (λ e. inr (there ∙ e)) (rest.at x))
+          (λ d. let there = falsified-there l ls x d in ⊎_elim (λ o. inl (there ∙ o)) (λ e. inr (there ∙ e)) (rest.at x))
           (cases_eq x l.clock);
     }

@@ -1,12 +1,11 @@
 //! Conflicts: why some values can't all hold.
 
-ghost use Rattle.std.specs.Prelude.{◌≡◌, ◌≢◌, ℕ, not, length, reverse, IfOk, OnOk};
+ghost use Rattle.std.specs.Prelude.{◌≡◌, ◌≢◌, ℕ, length, reverse, IfOk, OnOk};
 ghost use Rattle.ccsl_formula.specs.declared.truth3.Truth3.TheVariants.{Open};
 ghost use Rattle.ccsl_formula.specs.Truth.{Part};
 ghost use Rattle.ccsl_formula.specs.Known.{known, with_truth, joined};
-ghost use Rattle.ccsl_formula.specs.Truth.{with_value};
-ghost use Rattle.ccsl_solve.specs.Under.{Under, IsInside};
-ghost use Rattle.ccsl_solve.specs.Conflict.{IsClause, IsConflict, IsDenial, Extends};
+ghost use Rattle.ccsl_solve.specs.Under.{Under, IsInside, with_lit, negated};
+ghost use Rattle.ccsl_solve.specs.Conflict.{IsClause, IsConflictOf, IsConflictWith, IsDenial, AddsLines};
 ghost use Rattle.ccsl_solve.specs.Posed.{AreValid};
 
 use ccsl_base::{Memory, Seq};
@@ -48,7 +47,8 @@ pub struct Clash {
 
 /// The literals that say that not all values of `part` hold.
 pub fn denial(alloc: Global, part: &Partial) -> Result<Vec<Lit>, Memory>
-    ensures { (n : ℕ) → IsInside n (known part.now) → IfOk result (λ v. IsDenial n v.items (known part.now)) }
+    ensures { (n : ℕ) → IsInside n (known part.now) →
+        IfOk result (λ v. IsDenial n v.items (known part.now)) }
 {
     let mut lits = Vec::new(alloc);
     for (clock, value) in part.pairs() {
@@ -80,10 +80,10 @@ fn reversed(alloc: Global, numbers: &[u64]) -> Result<Vec<u64>, Memory>
 pub fn derived(problem: &Problem, lines: &mut Vec<Line>, conflict: &Conflict) -> Result<u64, Memory>
     requires valid { AreValid problem.now lines.old.items }
     requires inside { IsInside problem.now.scope.named (known conflict.now.part.value) }
-    requires conflict { (p : Part) × IsConflict problem.now.scope lines.old.items p (known conflict.now.part.value) (reverse conflict.now.hints.items) }
-    ensures valid { OnOk result (AreValid problem.now lines.new.items) }
-    ensures extends { OnOk result (Extends lines.old.items lines.new.items) }
-    ensures clause { IfOk result (λ j. IsClause problem.now.scope lines.new.items j (known conflict.now.part.value)) }
+    requires conflict { (p : Part) × IsConflictOf problem.now lines.old.items p conflict.now }
+    ensures lines { OnOk result (AddsLines problem.now lines.old.items lines.new.items) }
+    ensures clause { IfOk result
+        (λ j. IsClause problem.now.scope lines.new.items j (known conflict.now.part.value)) }
     ensures last { IfOk result (λ j. j ≡ length lines.new.items) }
 {
     let lits = denial(problem.alloc, &conflict.part)?;
@@ -96,10 +96,10 @@ pub fn derived(problem: &Problem, lines: &mut Vec<Line>, conflict: &Conflict) ->
 pub fn learned(problem: &Problem, lines: &mut Vec<Line>, conflict: &Conflict) -> Result<u64, Memory>
     requires valid { AreValid problem.now lines.old.items }
     requires inside { IsInside problem.now.scope.named (known conflict.now.part.value) }
-    requires conflict { (p : Part) × IsConflict problem.now.scope lines.old.items p (known conflict.now.part.value) (reverse conflict.now.hints.items) }
-    ensures valid { OnOk result (AreValid problem.now lines.new.items) }
-    ensures extends { OnOk result (Extends lines.old.items lines.new.items) }
-    ensures clause { IfOk result (λ j. IsClause problem.now.scope lines.new.items j (known conflict.now.part.value)) }
+    requires conflict { (p : Part) × IsConflictOf problem.now lines.old.items p conflict.now }
+    ensures lines { OnOk result (AddsLines problem.now lines.old.items lines.new.items) }
+    ensures clause { IfOk result
+        (λ j. IsClause problem.now.scope lines.new.items j (known conflict.now.part.value)) }
 {
     if conflict.hints.len() == 1 {
         return Ok(conflict.hints[0]);
@@ -116,13 +116,12 @@ pub fn resolved(
     first: Clash,
     second: Conflict,
 ) -> Result<Conflict, Memory>
-    requires first { Under (known first.part.value) (with_value (known before.now) lit.clock lit.positive) }
-    requires first_has { known first.part.value lit.clock ≢ Open }
+    requires first { Under (known first.part.value) (with_lit (known before.now) lit) }
+    requires first_uses { known first.part.value lit.clock ≢ Open }
     requires clause { IsClause problem.now.scope lines.now first.line (known first.part.value) }
-    requires second { IsConflict problem.now.scope lines.now (with_value (known before.now) lit.clock (not lit.positive)) (known second.part.value) (reverse second.hints.items) }
-    requires second_has { known second.part.value lit.clock ≢ Open }
+    requires second { IsConflictWith problem.now lines.now (known before.now) (negated lit) second }
     requires free { known before.now lit.clock ≡ Open }
-    ensures { IfOk result (λ c. IsConflict problem.now.scope lines.now (known before.now) (known c.part.value) (reverse c.hints.items)) }
+    ensures { IfOk result (IsConflictOf problem.now lines.now (known before.now)) }
 {
     let mut conflict = second;
     join_without(&mut conflict.part, &first.part, lit.clock);

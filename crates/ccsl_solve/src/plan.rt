@@ -1,14 +1,13 @@
 //! What to do next in a search.
 
-ghost use Rattle.std.specs.Prelude.{◌≡◌, ◌≢◌, ◌<◌, ℕ, List, Some, true, not, IfOk, OnOk, MatchOption, slice_get};
+ghost use Rattle.std.specs.Prelude.{◌≡◌, ◌≢◌, ◌<◌, ℕ, List, Some, true, IfOk, OnOk, MatchOption, slice_get};
 ghost use Rattle.ccsl_formula.specs.declared.truth3.Truth3.TheVariants.{Open};
 ghost use Rattle.ccsl_formula.specs.Agreement.{is_open};
 ghost use Rattle.ccsl_formula.specs.Known.{known};
-ghost use Rattle.ccsl_formula.specs.Truth.{with_value};
-ghost use Rattle.ccsl_solve.specs.Posed.{IsPosed, asked};
+ghost use Rattle.ccsl_solve.specs.Posed.{IsPosed};
 ghost use Rattle.ccsl_refute.specs.declared.line.Line.{Line};
 ghost use Rattle.ccsl_refute.specs.declared.line.Lit.{Lit};
-ghost use Rattle.ccsl_solve.specs.Reasons.{refutes};
+ghost use Rattle.ccsl_solve.specs.Reasons.{IsForced};
 ghost use Rattle.ccsl_solve.specs.Plan.{AreSettled, IsPlan};
 
 use crate::reason::refutes;
@@ -51,7 +50,7 @@ pub fn planned(
     requires posed { IsPosed problem.now }
     requires settled { AreSettled problem.now.wishes.now from (known part.old) }
     ensures same { OnOk result (known part.new ≡ known part.old) }
-    ensures plan { IfOk result (λ plan. IsPlan problem.now.scope (asked problem.now) problem.now.wishes.now lines.now (known part.old) plan) }
+    ensures plan { IfOk result (IsPlan problem.now lines.now (known part.old)) }
 {
     match guide.next(problem, lines, part)? {
         Hint::Broken(reason) => {
@@ -78,7 +77,7 @@ fn forces(problem: &Problem, lines: &[Line], part: &mut Partial, lit: Lit, reaso
     ensures same { known part.new ≡ known part.old }
     ensures named { result ≡ true → lit.clock < problem.now.scope.named }
     ensures free { result ≡ true → known part.old lit.clock ≡ Open }
-    ensures refuted { result ≡ true → refutes problem.now.scope (asked problem.now) lines.now (with_value (known part.old) lit.clock (not lit.positive)) reason ≡ true }
+    ensures forced { result ≡ true → IsForced problem.now lines.now (known part.old) lit reason }
 {
     if lit.clock >= problem.scope.named || !is_open_at(part, lit.clock) {
         return false;
@@ -93,7 +92,7 @@ fn forces(problem: &Problem, lines: &[Line], part: &mut Partial, lit: Lit, reaso
 fn decided(problem: &Problem, part: &Partial, proposed: Option<Lit>, from: usize) -> Plan
     requires posed { IsPosed problem.now }
     requires settled { AreSettled problem.now.wishes.now from (known part.now) }
-    ensures { (lines : List Line) → IsPlan problem.now.scope (asked problem.now) problem.now.wishes.now lines (known part.now) result }
+    ensures { (lines : List Line) → IsPlan problem.now lines (known part.now) result }
 {
     let next = open_wish(problem.wishes, part, from);
     if next < problem.wishes.len() {
@@ -120,7 +119,9 @@ fn open_wish(wishes: &[Lit], part: &Partial, from: usize) -> usize
 
 /// An open literal: the one that is proposed, where it is.
 fn open_lit(part: &Partial, named: u32, proposed: Option<Lit>) -> Option<Lit>
-    ensures { MatchOption result ((x : ℕ) → x < named → known part.now x ≢ Open) (λ l. (l.clock < named) × (known part.now l.clock ≡ Open)) }
+    ensures { MatchOption result
+        ((x : ℕ) → x < named → known part.now x ≢ Open)
+        (λ l. (l.clock < named) × (known part.now l.clock ≡ Open)) }
 {
     if let Some(lit) = proposed {
         if lit.clock < named && is_open_at(part, lit.clock) {

@@ -3,10 +3,10 @@
 ghost use Rattle.std.specs.Prelude.{◌≡◌, true, IfOk, OnOk, slice_get};
 ghost use Rattle.ccsl_formula.specs.Known.{known};
 ghost use Rattle.ccsl_refute.specs.Validity.{is_refuted, fails_at};
-ghost use Rattle.ccsl_solve.specs.Under.{Under, IsInside};
-ghost use Rattle.ccsl_solve.specs.Posed.{IsPosed, AreValid, asked};
+ghost use Rattle.ccsl_solve.specs.Under.{Under};
+ghost use Rattle.ccsl_solve.specs.Posed.{IsPosed, IsSound, AreValid, asked};
 ghost use Rattle.ccsl_solve.specs.Reasons.{refutes};
-ghost use Rattle.ccsl_solve.specs.Conflict.{IsClause, Extends};
+ghost use Rattle.ccsl_solve.specs.Conflict.{IsClause, AddsLines};
 
 use crate::conflict::{Clash, denial};
 use crate::explain::explained;
@@ -20,7 +20,7 @@ use ccsl_refute::clause::clause_of;
 /// Whether the reason refutes the values.
 pub fn refutes(problem: &Problem, lines: &[Line], part: &Partial, reason: Reason) -> bool
     requires { IsPosed problem.now }
-    ensures { result ≡ refutes problem.now.scope (asked problem.now) lines.now (known part.now) reason }
+    ensures { result ≡ refutes problem.now lines.now (known part.now) reason }
 {
     match reason {
         Reason::Item(item) => is_refuted(problem.formulas, item, part),
@@ -36,13 +36,11 @@ pub fn clash(
     part: &Partial,
     reason: Reason,
 ) -> Result<Clash, Memory>
-    requires posed { IsPosed problem.now }
-    requires valid { AreValid problem.now lines.old.items }
-    requires inside { IsInside problem.now.scope.named (known part.now) }
-    requires refuted { refutes problem.now.scope (asked problem.now) lines.old.items (known part.now) reason ≡ true }
-    ensures valid { OnOk result (AreValid problem.now lines.new.items) }
-    ensures extends { OnOk result (Extends lines.old.items lines.new.items) }
-    ensures clause { IfOk result (λ c. IsClause problem.now.scope lines.new.items c.line (known c.part.value)) }
+    requires sound { IsSound problem.now lines.old.items (known part.now) }
+    requires refuted { refutes problem.now lines.old.items (known part.now) reason ≡ true }
+    ensures lines { OnOk result (AddsLines problem.now lines.old.items lines.new.items) }
+    ensures clause { IfOk result
+        (λ c. IsClause problem.now.scope lines.new.items c.line (known c.part.value)) }
     ensures within { IfOk result (λ c. Under (known c.part.value) (known part.now)) }
 {
     match reason {
@@ -64,7 +62,8 @@ fn line_clash(problem: &Problem, lines: &[Line], part: &Partial, line: u64) -> R
     requires posed { IsPosed problem.now }
     requires valid { AreValid problem.now lines.now }
     requires refuted { fails_at problem.now.scope.declared lines.now (known part.now) line ≡ true }
-    ensures clause { IfOk result (λ c. IsClause problem.now.scope lines.now c.line (known c.part.value)) }
+    ensures clause { IfOk result
+        (λ c. IsClause problem.now.scope lines.now c.line (known c.part.value)) }
     ensures within { IfOk result (λ c. Under (known c.part.value) (known part.now)) }
 {
     let lits = clause_of(&lines[(line - 1) as usize], problem.nonempty);
@@ -85,13 +84,11 @@ fn item_clash(
     part: &Partial,
     item: u32,
 ) -> Result<Clash, Memory>
-    requires posed { IsPosed problem.now }
-    requires valid { AreValid problem.now lines.old.items }
-    requires inside { IsInside problem.now.scope.named (known part.now) }
+    requires sound { IsSound problem.now lines.old.items (known part.now) }
     requires refuted { is_refuted (known part.now) (slice_get (asked problem.now) item) ≡ true }
-    ensures valid { OnOk result (AreValid problem.now lines.new.items) }
-    ensures extends { OnOk result (Extends lines.old.items lines.new.items) }
-    ensures clause { IfOk result (λ c. IsClause problem.now.scope lines.new.items c.line (known c.part.value)) }
+    ensures lines { OnOk result (AddsLines problem.now lines.old.items lines.new.items) }
+    ensures clause { IfOk result
+        (λ c. IsClause problem.now.scope lines.new.items c.line (known c.part.value)) }
     ensures within { IfOk result (λ c. Under (known c.part.value) (known part.now)) }
 {
     let part = explained(&problem.formulas[item as usize], part, noted)?;

@@ -1,18 +1,16 @@
 //! The search.
 
-ghost use Rattle.std.specs.Prelude.{◌≡◌, ◌≢◌, ◌<◌, ◌^◌, ◌∷◌, [], ℕ, true, false, not, map, length, reverse, IfOk, OnOk, MatchOption, slice_get};
+ghost use Rattle.std.specs.Prelude.{◌≡◌, ◌≢◌, ◌<◌, ◌^◌, ◌∷◌, [], ℕ, true, false, map, length, IfOk, OnOk, MatchOption, slice_get};
 ghost use Rattle.ccsl_formula.specs.declared.truth3.Truth3.TheVariants.{Open};
 ghost use Rattle.ccsl_formula.specs.Agreement.{is_open};
 ghost use Rattle.ccsl_formula.specs.Known.{known};
-ghost use Rattle.ccsl_formula.specs.Truth.{with_value};
 ghost use Rattle.ccsl_formula.specs.Plain.{plain};
 ghost use Rattle.ccsl_refute.specs.Literals.{all_false};
 ghost use Rattle.ccsl_refute.specs.Validity.{is_refuted};
-ghost use Rattle.ccsl_solve.specs.Under.{IsInside};
-ghost use Rattle.ccsl_solve.specs.Posed.{IsPosed, AreValid, asked};
-ghost use Rattle.ccsl_solve.specs.Reasons.{refutes};
-ghost use Rattle.ccsl_solve.specs.Conflict.{IsConflict, Extends};
-ghost use Rattle.ccsl_solve.specs.Plan.{AreSettled};
+ghost use Rattle.ccsl_solve.specs.Posed.{IsSound};
+ghost use Rattle.ccsl_solve.specs.Reasons.{refutes, IsForced};
+ghost use Rattle.ccsl_solve.specs.Conflict.{IsConflictOf, IsConflictWith, AddsLines};
+ghost use Rattle.ccsl_solve.specs.Plan.{AreSettled, IsTry};
 ghost use Rattle.ccsl_solve.specs.Finds.{Finds, FindsWith};
 
 use crate::conflict::{Clash, Conflict, learned, resolved};
@@ -50,7 +48,8 @@ fn conflict_of(alloc: Global, clash: Clash) -> Result<Conflict, Memory>
 fn refuted_item(formulas: &[Formula], part: &Partial) -> Option<u32>
     requires { length formulas.now < 2 ^ 32 }
     ensures { MatchOption result
-        ((k : ℕ) → k < length formulas.now → is_refuted (known part.now) (slice_get (map plain formulas.now) k) ≡ false)
+        ((k : ℕ) → k < length formulas.now →
+        is_refuted (known part.now) (slice_get (map plain formulas.now) k) ≡ false)
         (λ k. is_refuted (known part.now) (slice_get (map plain formulas.now) k) ≡ true) }
 {
     for item in 0..formulas.len() as u32 {
@@ -69,13 +68,10 @@ fn broken(
     part: &Partial,
     reason: Reason,
 ) -> Result<Conflict, Memory>
-    requires posed { IsPosed problem.now }
-    requires valid { AreValid problem.now lines.old.items }
-    requires inside { IsInside problem.now.scope.named (known part.now) }
-    requires refuted { refutes problem.now.scope (asked problem.now) lines.old.items (known part.now) reason ≡ true }
-    ensures valid { OnOk result (AreValid problem.now lines.new.items) }
-    ensures extends { OnOk result (Extends lines.old.items lines.new.items) }
-    ensures conflict { IfOk result (λ c. IsConflict problem.now.scope lines.new.items (known part.now) (known c.part.value) (reverse c.hints.items)) }
+    requires sound { IsSound problem.now lines.old.items (known part.now) }
+    requires refuted { refutes problem.now lines.old.items (known part.now) reason ≡ true }
+    ensures lines { OnOk result (AddsLines problem.now lines.old.items lines.new.items) }
+    ensures conflict { IfOk result (IsConflictOf problem.now lines.new.items (known part.now)) }
 {
     let clash = clash(problem, lines, guide, part, reason)?;
     let conflict = conflict_of(problem.alloc, clash)?;
@@ -89,13 +85,11 @@ fn completed(
     guide: &mut Guide,
     part: &Partial,
 ) -> Result<Option<Conflict>, Memory>
-    requires posed { IsPosed problem.now }
-    requires valid { AreValid problem.now lines.old.items }
-    requires inside { IsInside problem.now.scope.named (known part.now) }
+    requires sound { IsSound problem.now lines.old.items (known part.now) }
     requires total { (x : ℕ) → x < problem.now.scope.named → known part.now x ≢ Open }
-    ensures valid { OnOk result (AreValid problem.now lines.new.items) }
-    ensures extends { OnOk result (Extends lines.old.items lines.new.items) }
-    ensures finds { IfOk result (λ found. Finds problem.now.scope (asked problem.now) problem.now.wishes.now lines.new.items (known part.now) (known part.now) found) }
+    ensures lines { OnOk result (AddsLines problem.now lines.old.items lines.new.items) }
+    ensures finds { IfOk result
+        (Finds problem.now lines.new.items (known part.now) (known part.now)) }
 {
     if let Some(item) = refuted_item(problem.formulas, part) {
         let conflict = broken(problem, lines, guide, part, Reason::Item(item))?;
@@ -115,13 +109,10 @@ fn no_member(
     guide: &mut Guide,
     part: &Partial,
 ) -> Result<Conflict, Memory>
-    requires posed { IsPosed problem.now }
-    requires valid { AreValid problem.now lines.old.items }
-    requires inside { IsInside problem.now.scope.named (known part.now) }
+    requires sound { IsSound problem.now lines.old.items (known part.now) }
     requires none { all_false (known part.now) problem.now.nonempty.now ≡ true }
-    ensures valid { OnOk result (AreValid problem.now lines.new.items) }
-    ensures extends { OnOk result (Extends lines.old.items lines.new.items) }
-    ensures conflict { IfOk result (λ c. IsConflict problem.now.scope lines.new.items (known part.now) (known c.part.value) (reverse c.hints.items)) }
+    ensures lines { OnOk result (AddsLines problem.now lines.old.items lines.new.items) }
+    ensures conflict { IfOk result (IsConflictOf problem.now lines.new.items (known part.now)) }
 {
     lines.push(Line::Nonempty)?;
     let line = lines.len() as u64;
@@ -138,18 +129,14 @@ fn against(
     reason: Reason,
     conflict: Conflict,
 ) -> Result<Conflict, Memory>
-    requires posed { IsPosed problem.now }
-    requires valid { AreValid problem.now lines.old.items }
-    requires inside { IsInside problem.now.scope.named (known part.old) }
+    requires sound { IsSound problem.now lines.old.items (known part.old) }
     requires named { lit.clock < problem.now.scope.named }
     requires free { known part.old lit.clock ≡ Open }
-    requires refuted { refutes problem.now.scope (asked problem.now) lines.old.items (with_value (known part.old) lit.clock (not lit.positive)) reason ≡ true }
-    requires conflict { IsConflict problem.now.scope lines.old.items (with_value (known part.old) lit.clock lit.positive) (known conflict.part.value) (reverse conflict.hints.items) }
-    requires has { known conflict.part.value lit.clock ≢ Open }
+    requires forced { IsForced problem.now lines.old.items (known part.old) lit reason }
+    requires conflict { IsConflictWith problem.now lines.old.items (known part.old) lit conflict }
     ensures same { OnOk result (known part.new ≡ known part.old) }
-    ensures valid { OnOk result (AreValid problem.now lines.new.items) }
-    ensures extends { OnOk result (Extends lines.old.items lines.new.items) }
-    ensures conflict { IfOk result (λ c. IsConflict problem.now.scope lines.new.items (known part.old) (known c.part.value) (reverse c.hints.items)) }
+    ensures lines { OnOk result (AddsLines problem.now lines.old.items lines.new.items) }
+    ensures conflict { IfOk result (IsConflictOf problem.now lines.new.items (known part.old)) }
 {
     let other = Lit {
         clock: lit.clock,
@@ -166,8 +153,8 @@ fn against(
     Ok(conflict)
 }
 
-/// Searches where a literal is true as well: gives the other clocks values that are best with it, or gives the conflict, and `part` is
-/// as before.
+/// Searches where a literal is true as well: gives the other clocks values that are best with it, or gives the conflict,
+/// and `part` is as before.
 #[cycle(search)]
 fn search_with(
     problem: &Problem,
@@ -177,15 +164,13 @@ fn search_with(
     lit: Lit,
     from: usize,
 ) -> Result<Option<Conflict>, Memory>
-    requires posed { IsPosed problem.now }
-    requires valid { AreValid problem.now lines.old.items }
-    requires inside { IsInside problem.now.scope.named (known part.old) }
+    requires sound { IsSound problem.now lines.old.items (known part.old) }
     requires settled { AreSettled problem.now.wishes.now from (known part.old) }
     requires named { lit.clock < problem.now.scope.named }
     requires free { known part.old lit.clock ≡ Open }
-    ensures valid { OnOk result (AreValid problem.now lines.new.items) }
-    ensures extends { OnOk result (Extends lines.old.items lines.new.items) }
-    ensures finds { IfOk result (λ found. FindsWith problem.now.scope (asked problem.now) problem.now.wishes.now lines.new.items (known part.old) lit (known part.new) found) }
+    ensures lines { OnOk result (AddsLines problem.now lines.old.items lines.new.items) }
+    ensures finds { IfOk result
+        (FindsWith problem.now lines.new.items (known part.old) lit (known part.new)) }
 {
     part.set(lit.clock, lit.positive);
     let Some(conflict) = search(problem, lines, guide, part, from)? else {
@@ -195,7 +180,8 @@ fn search_with(
     Ok(Some(conflict))
 }
 
-/// Searches with the negation of a literal, behind the conflict with it that uses its clock: what is learned of it is a line.
+/// Searches with the negation of a literal, behind the conflict with it that uses its clock: what is learned of it is
+/// a line.
 #[cycle(search)]
 fn search_against(
     problem: &Problem,
@@ -206,17 +192,14 @@ fn search_against(
     from: usize,
     first: Conflict,
 ) -> Result<Option<Conflict>, Memory>
-    requires posed { IsPosed problem.now }
-    requires valid { AreValid problem.now lines.old.items }
-    requires inside { IsInside problem.now.scope.named (known part.old) }
+    requires sound { IsSound problem.now lines.old.items (known part.old) }
     requires settled { AreSettled problem.now.wishes.now from (known part.old) }
     requires named { lit.clock < problem.now.scope.named }
     requires free { known part.old lit.clock ≡ Open }
-    requires conflict { IsConflict problem.now.scope lines.old.items (with_value (known part.old) lit.clock lit.positive) (known first.part.value) (reverse first.hints.items) }
-    requires has { known first.part.value lit.clock ≢ Open }
-    ensures valid { OnOk result (AreValid problem.now lines.new.items) }
-    ensures extends { OnOk result (Extends lines.old.items lines.new.items) }
-    ensures finds { IfOk result (λ found. Finds problem.now.scope (asked problem.now) problem.now.wishes.now lines.new.items (known part.old) (known part.new) found) }
+    requires conflict { IsConflictWith problem.now lines.old.items (known part.old) lit first }
+    ensures lines { OnOk result (AddsLines problem.now lines.old.items lines.new.items) }
+    ensures finds { IfOk result
+        (Finds problem.now lines.new.items (known part.old) (known part.new)) }
 {
     let other = Lit {
         clock: lit.clock,
@@ -235,32 +218,23 @@ fn search_against(
     Ok(Some(conflict))
 }
 
-/// Gives all clocks values, those that `part` has among them, so that a declared clock ticks and all formulas are true,
-/// and no other values that do so are better; or gives the conflict, and `part` is as before.
+/// Searches with a literal first, and with its negation where the conflict that is found with it uses its clock.
 #[cycle(search)]
-pub fn search(
+fn search_both(
     problem: &Problem,
     lines: &mut Vec<Line>,
     guide: &mut Guide,
     part: &mut Partial,
+    lit: Lit,
+    by: Option<Reason>,
     from: usize,
 ) -> Result<Option<Conflict>, Memory>
-    requires posed { IsPosed problem.now }
-    requires valid { AreValid problem.now lines.old.items }
-    requires inside { IsInside problem.now.scope.named (known part.old) }
-    requires settled { AreSettled problem.now.wishes.now from (known part.old) }
-    ensures valid { OnOk result (AreValid problem.now lines.new.items) }
-    ensures extends { OnOk result (Extends lines.old.items lines.new.items) }
-    ensures finds { IfOk result (λ found. Finds problem.now.scope (asked problem.now) problem.now.wishes.now lines.new.items (known part.old) (known part.new) found) }
+    requires sound { IsSound problem.now lines.old.items (known part.old) }
+    requires first { IsTry problem.now lines.old.items (known part.old) lit by from }
+    ensures lines { OnOk result (AddsLines problem.now lines.old.items lines.new.items) }
+    ensures finds { IfOk result
+        (Finds problem.now lines.new.items (known part.old) (known part.new)) }
 {
-    let (lit, by, from) = match planned(problem, lines, guide, part, from)? {
-        Plan::Broken(reason) => {
-            let conflict = broken(problem, lines, guide, part, reason)?;
-            return Ok(Some(conflict));
-        }
-        Plan::Complete => return completed(problem, lines, guide, part),
-        Plan::Try(lit, by, from) => (lit, by, from),
-    };
     guide.assigned(lit)?;
     let Some(first) = search_with(problem, lines, guide, part, lit, from)? else {
         return Ok(None);
@@ -273,4 +247,30 @@ pub fn search(
         return Ok(Some(conflict));
     }
     search_against(problem, lines, guide, part, lit, from, first)
+}
+
+/// Gives all clocks values, those that `part` has among them, so that a declared clock ticks and all formulas are true,
+/// and no other values that do so are better; or gives the conflict, and `part` is as before.
+#[cycle(search)]
+pub fn search(
+    problem: &Problem,
+    lines: &mut Vec<Line>,
+    guide: &mut Guide,
+    part: &mut Partial,
+    from: usize,
+) -> Result<Option<Conflict>, Memory>
+    requires sound { IsSound problem.now lines.old.items (known part.old) }
+    requires settled { AreSettled problem.now.wishes.now from (known part.old) }
+    ensures lines { OnOk result (AddsLines problem.now lines.old.items lines.new.items) }
+    ensures finds { IfOk result
+        (Finds problem.now lines.new.items (known part.old) (known part.new)) }
+{
+    match planned(problem, lines, guide, part, from)? {
+        Plan::Broken(reason) => {
+            let conflict = broken(problem, lines, guide, part, reason)?;
+            Ok(Some(conflict))
+        }
+        Plan::Complete => completed(problem, lines, guide, part),
+        Plan::Try(lit, by, from) => search_both(problem, lines, guide, part, lit, by, from),
+    }
 }

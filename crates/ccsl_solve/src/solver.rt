@@ -8,8 +8,8 @@ ghost use Rattle.ccsl_formula.specs.Truth.{Part};
 ghost use Rattle.ccsl_refute.specs.Below.{AreBelow};
 ghost use Rattle.ccsl_refute.specs.declared.line.Line.TheVariants.{Nonempty};
 ghost use Rattle.ccsl_solve.specs.Under.{Under, IsInside, is_yes};
-ghost use Rattle.ccsl_solve.specs.Posed.{AllBelow, IsPosed, AreValid, asked};
-ghost use Rattle.ccsl_solve.specs.Conflict.{IsConflict};
+ghost use Rattle.ccsl_solve.specs.Posed.{AllBelow, IsPosed, IsSound, AreValid, asked};
+ghost use Rattle.ccsl_solve.specs.Conflict.{IsConflictOf};
 ghost use Rattle.ccsl_solve.specs.Finds.{Finds};
 ghost use Rattle.ccsl_solve.specs.Answers.{Answers, AnswersBest, IsRefuted};
 
@@ -34,7 +34,8 @@ pub enum Answer {
 /// Adds a clock if it ticks.
 fn tick(set: &mut ClockSet, part: &Partial, clock: u32)
     requires { clock < MAX_CLOCKS }
-    ensures { (x : ℕ) → ticks_in x set.new ≡ ((nat_eq x clock && is_yes (known part.now clock)) || ticks_in x set.old) }
+    ensures { (x : ℕ) → ticks_in x set.new ≡
+        ((nat_eq x clock && is_yes (known part.now clock)) || ticks_in x set.old) }
 {
     match part.value(clock) {
         Truth3::Yes => set.insert(clock),
@@ -104,7 +105,8 @@ pub fn solve_by(
 fn answered(problem: &Problem, fixed: &Partial) -> Result<Answer, Memory>
     requires posed { IsPosed problem.now }
     requires fixed { IsInside problem.now.scope.named (known fixed.now) }
-    ensures { IfOk result (λ answer. AnswersBest problem.now.scope (asked problem.now) problem.now.wishes.now (known fixed.now) answer) }
+    ensures { IfOk result (AnswersBest
+        problem.now.scope (asked problem.now) problem.now.wishes.now (known fixed.now)) }
 {
     let mut lines = first_lines(problem.alloc)?;
     let mut part = fixed.copy();
@@ -132,11 +134,10 @@ fn searched(
     lines: &mut Vec<Line>,
     part: &mut Partial,
 ) -> Result<Option<Conflict>, Memory>
-    requires posed { IsPosed problem.now }
-    requires valid { AreValid problem.now lines.old.items }
-    requires inside { IsInside problem.now.scope.named (known part.old) }
+    requires sound { IsSound problem.now lines.old.items (known part.old) }
     ensures valid { OnOk result (AreValid problem.now lines.new.items) }
-    ensures finds { IfOk result (λ found. Finds problem.now.scope (asked problem.now) problem.now.wishes.now lines.new.items (known part.old) (known part.new) found) }
+    ensures finds { IfOk result
+        (Finds problem.now lines.new.items (known part.old) (known part.new)) }
 {
     let mut guide = Guide::open(problem, lines, part)?;
     search(problem, lines, &mut guide, part, 0)
@@ -150,8 +151,9 @@ fn refutation(
 ) -> Result<Seq<Line>, Memory>
     requires valid { AreValid problem.now lines.items }
     requires inside { IsInside problem.now.scope.named (known conflict.part.value) }
-    requires conflict { (p : Part) × IsConflict problem.now.scope lines.items p (known conflict.part.value) (reverse conflict.hints.items) }
-    ensures { (p : Part) → Under (known conflict.part.value) p → IfOk result (λ lines. IsRefuted problem.now.scope (asked problem.now) p lines) }
+    requires conflict { (p : Part) × IsConflictOf problem.now lines.items p conflict }
+    ensures { (p : Part) → Under (known conflict.part.value) p →
+        IfOk result (IsRefuted problem.now.scope (asked problem.now) p) }
 {
     derived(problem, &mut lines, &conflict)?;
     Ok(Seq::new(lines))

@@ -8,12 +8,11 @@ use Rattle.ccsl_solve.proofs.conflict.resolved.Goals as goal
 pub returns : goal.returns
 returns c =
     let x = c.args.lit.clock in
-    let q1 = c.args.first.part.value in
-    let q2 = c.args.second.part.value in
-    let is : known c.join_without.new.part ≡ with_truth (joined (known q2) (known q1)) x Open =
+    let first = c.args.first in
+    let hints = c.args.second.hints.items in
+    let is : known c.join_without.new.part ≡ with_truth (joined (known c.args.second.part.value) (known first.part.value)) x Open =
     c.join_without.ensures ∙ ap₂ (λ (a b : List (ℕ × Bool)). with_truth (joined (known a) (known b)) x Open) c.deref_mut.ensures.value c.deref.ensures in
-    let hints : reverse c.push.new.self.items ≡ c.args.first.line ∷ reverse c.args.second.hints.items =
-    ap reverse c.in_ok-push.ensures.items ∙ reverse-append c.args.second.hints.items (c.args.first.line ∷ []) in
-    resolves c.args.problem.now.scope c.args.lines.now (known c.args.before.now) (known q1) (known q2) x c.args.first.line
-    c.args.lit.positive (reverse c.args.second.hints.items) c.requires.first c.requires.first_has c.requires.clause c.requires.second c.requires.free
-    (known c.join_without.new.part) (reverse c.push.new.self.items) is hints
+    let front : reverse c.push.new.self.items ≡ first.line ∷ reverse hints =
+    ap reverse c.in_ok-push.ensures.items ∙ reverse-append hints (first.line ∷ []) in
+    resolves c.args.problem.now.scope c.args.lines.now (known c.args.before.now) (known first.part.value) (known c.args.second.part.value) x first.line
+    c.args.lit.positive (reverse hints) c.requires.first c.requires.first_uses c.requires.clause c.requires.second.conflict c.requires.free _ _ is front

@@ -14,7 +14,8 @@ returns-in-Yes c = λ x.
     ap (ticks_in x) c.insert.ensures
     ∙ ⊎_elim
     (λ same. ap (λ z. ticks_in z (with_clock y old)) same ∙ ticks_in-with_same y old
-    ∙ yes ∙ true-or (is_yes (known c.args.part.now y)) (ticks_in x old) (sym yes) ∙ ap (λ t. (t && is_yes (known c.args.part.now y)) || ticks_in x old) (sym (eq-eqb x y same)))
+    ∙ yes ∙ true-or (is_yes (known c.args.part.now y)) (ticks_in x old) (sym yes)
+    ∙ ap (λ t. (t && is_yes (known c.args.part.now y)) || ticks_in x old) (sym (eq-eqb x y same)))
     (λ other. ticks_in-with_other y x old other ∙ ap (λ t. (t && is_yes (known c.args.part.now y)) || ticks_in x old) (sym (ne_eqb x y other)))
     (cases_eq x y)
   where
