@@ -14,10 +14,9 @@ use Rattle.ccsl_vcd_read.specs.declared.body.Body.{Body}
 use Rattle.ccsl_vcd_read.specs.Heading.{NotMemory}
 use Rattle.ccsl_vcd_read.specs.Step.{row_of, time_says, changed_says, put_number, skipped_says, pass_number, word_says, hear_at, hear_of, Says}
 use Rattle.ccsl_vcd_read.specs.Staging.{is_body}
-use Rattle.ccsl_vcd_read.specs.Reading.{Reading, StandsFor, IsCalm}
+use Rattle.ccsl_vcd_read.specs.Reading.{Reading, StandsFor, IsCalm, Takes}
 use Rattle.ccsl_vcd_read.proofs.BodyPictures.{at_time}
 use Rattle.ccsl_vcd_read.proofs.Taking.{running-of, runs-past}
-use Rattle.ccsl_vcd_read.proofs.Feeding.{Passed}
 
 abbrev Calm : Result (Body × List Row) VcdFault → Type 0
 Calm (Ok q) = Unit {0}
@@ -66,8 +65,8 @@ body-calm f b c at text old new s = says-calm (hear_of b at text) f b c old new 
 pub calm-of : (wanted : Wanted) (v : Reading) (bytes : List ℕ) (f : VcdFault) → v.fault ≡ None → StandsFor wanted v bytes → (is_body v.stage ≡ true → NotMemory f) → IsCalm wanted v.limits bytes f
 calm-of wanted v bytes f e s h p = h (sym (runs-past wanted v bytes (running-of wanted v bytes e s)) ∙ p)
 
-pub piece-calm : (start now : Reading) (before mid : RowList) (piece : List ℕ) (i : ℕ) (f : VcdFault) → Passed start now before mid piece i → (is_body now.stage ≡ true → NotMemory f)
-    → (wanted : Wanted) (bytes : List ℕ) → StandsFor wanted start bytes → IsCalm wanted start.limits bytes f
-piece-calm start now before mid piece i f q h wanted bytes s p =
-    calm-of wanted now (bytes ++ take i piece) f q.runs (q.stands wanted bytes s) h
-    (subst (λ x. Rattle.ccsl_vcd_read.specs.Reading.past_header wanted x (bytes ++ take i piece) ≡ true) (sym q.limits) (q.header wanted bytes s ∙ p))
+pub piece-calm : {start now : Reading} {before mid : RowList} {piece : List ℕ} {i : ℕ} (f : VcdFault) → Takes start now piece i false before mid →
+    (is_body now.stage ≡ true → NotMemory f) → (wanted : Wanted) (bytes : List ℕ) → StandsFor wanted start bytes → IsCalm wanted start.limits bytes f
+piece-calm {now} {piece} {i} f q h wanted bytes s p =
+    let t = q.took wanted bytes s in
+    calm-of wanted now (bytes ++ take i piece) f q.runs t.stands h (rw q.limits (t.header ∙ p))

@@ -1,6 +1,5 @@
 -- Where a block is full, the last byte that was taken filled it.
-use Rattle.std.proofs.Common.{◌≡◌, ℕ, ◌+◌, ◌-◌, ◌≤◌, ◌<◌, List, [], ◌∷◌, ◌++◌, length, take, Bool, true, false, Some, None, if◌then◌else◌, ⊎_elim, refl, sym, ap, ◌∙◌, subst, append_assoc, arith, length-append, length-take-le, filter, map}
-use Rattle.std.proofs.lemmas.Bool.{cases_lt}
+use Rattle.std.proofs.Common.{◌≡◌, ℕ, ◌+◌, ◌-◌, ◌≤◌, ◌<◌, List, [], ◌∷◌, ◌++◌, length, take, Bool, true, false, Some, None, if◌then◌else◌, refl, sym, ap, ◌∙◌, subst, append_assoc, arith, length-append, length-take-le, filter, map}
 use Rattle.std.proofs.lemmas.List.{append-nil, map-append, take-take}
 use Rattle.std.proofs.Math.Seq.{take-append-add}
 use Rattle.ccsl_base.specs.declared.rows.Row.{Row}
@@ -19,16 +18,11 @@ use Rattle.ccsl_vcd_read.specs.declared.stage.Stage.{Stage}
 use Rattle.ccsl_vcd_read.specs.declared.stage.Stage.TheVariants as stage
 use Rattle.ccsl_vcd_read.specs.Run.{Runs, Fills}
 use Rattle.ccsl_vcd_read.specs.Staging.{FillsIn}
-use Rattle.ccsl_vcd_read.specs.Reading.{Reading, Running, StandsFor, Pushes, HadRoom, FilledByLast, IsCut}
+use Rattle.ccsl_vcd_read.specs.Reading.{Reading, Running, HadRoom}
 use Rattle.ccsl_vcd_read.proofs.Passing.{fresh-append, fresh-open}
 use Rattle.ccsl_vcd_read.proofs.Taking.{done-within}
-use Rattle.ccsl_vcd_read.proofs.Racing.{taken, part-rows}
-use Rattle.ccsl_vcd_read.proofs.Feeding.{rest_at, more-of, Passed}
-
--- how many rows were pushed
-pushed-count : (a b x y : List Row) → Pushes a b x y → length y + length a ≡ length x + length b
-pushed-count a b x y p =
-    omega (arith, ap length p.rows ∙ length-append a p.pushed, ap length p.block ∙ length-append x p.pushed)
+use Rattle.ccsl_vcd_read.proofs.Faults.{Taken}
+use Rattle.ccsl_vcd_read.proofs.Racing.{part-rows}
 
 -- bytes that settle nothing
 pub quiet-room : (wanted : Wanted) (v : Reading) (bytes more : List ℕ) (out : RowList) → Running wanted v bytes → length (bytes ++ more) ≤ v.limits.bytes → settled (bytes ++ more) ≡ settled bytes
@@ -37,32 +31,6 @@ quiet-room wanted v bytes more out s w e r =
     let same : done wanted v.limits (bytes ++ more) ≡ done wanted v.limits bytes =
     done-within wanted v.limits (bytes ++ more) w ∙ ap (λ hs. complete (story wanted v.limits hs)) e ∙ sym (done-within wanted v.limits bytes s.within) in
     omega (arith, r, ap length same)
-
--- a part of a piece was taken, and then some more
-pub filled-more : (start now : Reading) (before mid after : RowList) (piece : List ℕ) (i n : ℕ) → Passed start now before mid piece i → after.room ≡ mid.room → FilledByLast now (rest_at i piece) n mid after
-    → ((wanted : Wanted) (bytes : List ℕ) → StandsFor wanted now bytes → Pushes (done wanted now.limits bytes) (done wanted now.limits (bytes ++ take n (rest_at i piece))) mid.rows after.rows)
-    → FilledByLast start piece (i + n) before after
-filled-more start now before mid after piece i n q room filled pushes full wanted bytes s =
-    ⊎_elim (λ some. go some) (λ none. absurd (still none)) (cases_lt 0 n)
-  where
-    still : n ≤ 0 → ⊥
-    still none =
-        let zero_ : n ≡ 0 = omega (arith, none) in
-        let here = q.stands wanted bytes s in
-        let more = bytes ++ take i piece in
-        let same : more ++ take n (rest_at i piece) ≡ more = ap (λ k. more ++ take k (rest_at i piece)) zero_ ∙ append-nil more in
-        let k = pushed-count _ _ _ _ (pushes wanted more here) in
-        omega (arith, k, ap (λ xs. length (done wanted now.limits xs)) same, full, room, q.room)
-
-    go : 0 < n → HadRoom wanted start.limits bytes (take (i + n - 1) piece) before
-    go some =
-        let here = q.stands wanted bytes s in
-        let more = bytes ++ take i piece in
-        let h : HadRoom wanted start.limits more (take (n - 1) (rest_at i piece)) mid = subst (λ (x : Limits). HadRoom wanted x more (take (n - 1) (rest_at i piece)) mid) q.limits (filled full wanted more here) in
-        let k = pushed-count _ _ _ _ (q.pushes wanted bytes s) in
-        let at : i + n - 1 ≡ i + (n - 1) = omega (arith, some) in
-        let same : more ++ take (n - 1) (rest_at i piece) ≡ bytes ++ take (i + n - 1) piece = more-of bytes piece i (n - 1) ∙ ap (λ j. bytes ++ take j piece) (sym at) in
-        omega (arith, h, k, ap (λ xs. length (done wanted start.limits xs)) same, q.same_room)
 
 -- A token that is too long completes nothing.
 long-same : (wanted : Wanted) (limits : Limits) (s : Story) (at : ℕ) → complete (next wanted limits s (too_long at)) ≡ complete s
@@ -105,10 +73,10 @@ filling (stage.Header h) at part x room f = absurd f
 filling stage.Unbound at part x room f = absurd f
 
 -- the tokens of a body that lie whole in a piece
-pub race-filled : (wanted : Wanted) (v : Reading) (bytes piece cut : List ℕ) (count : ℕ) (out : RowList) → Running wanted v bytes → IsCut (v.limits.bytes - v.taken) piece cut → count ≤ length cut
-    → FillsIn v.stage v.taken (take count cut) out.rows out.room → v.lexing.inner.open_text ≡ [] → HadRoom wanted v.limits bytes (take (count - 1) piece) out
-race-filled wanted v bytes piece cut count out s f w h o =
-    let k = taken (v.limits.bytes - v.taken) piece cut count f w in
+pub race-filled : (wanted : Wanted) (v : Reading) (bytes piece cut : List ℕ) (count : ℕ) (out : RowList) → Running wanted v bytes →
+    Taken (v.limits.bytes - v.taken) piece cut count → FillsIn v.stage v.taken (take count cut) out.rows out.room → v.lexing.inner.open_text ≡ [] →
+    HadRoom wanted v.limits bytes (take (count - 1) piece) out
+race-filled wanted v bytes piece cut count out s k h o =
     let g = filling v.stage v.taken (take count cut) out.rows out.room h in
     let q : Fills g.b v.taken (take count cut) out.rows out.room = g.fills in
     let r : Runs g.b q.mid (length bytes) q.front out.rows q.rows = subst (λ i. Runs g.b q.mid i q.front out.rows q.rows) s.taken q.runs in

@@ -1,6 +1,6 @@
 -- What a reader stands for behind tokens that were heard one after another.
-use Rattle.std.proofs.Common.{◌≡◌, ℕ, ◌+◌, ◌-◌, ◌≤◌, ◌<◌, List, [], ◌∷◌, ◌++◌, length, take, true, false, cond, Some, None, Result, Ok, Err, fold, map, get_or, refl, sym, ap, ap₂, ◌∙◌, subst, append_assoc, arith, length-append, length-take-le, zero-add}
-use Rattle.std.proofs.lemmas.List.{append-nil, take-take, take_more}
+use Rattle.std.proofs.Common.{◌≡◌, ℕ, ◌+◌, ◌-◌, ◌≤◌, ◌<◌, List, [], ◌∷◌, ◌++◌, length, take, true, false, cond, Some, None, Result, Ok, Err, fold, map, get_or, refl, sym, ap, ap₂, ◌∙◌, subst, append_assoc, arith, length-append, zero-add}
+use Rattle.std.proofs.lemmas.List.{append-nil, take_more}
 use Rattle.ccsl_base.specs.declared.rows.Row.{Row}
 use Rattle.ccsl_vcd_lex.specs.Tokens.{is_white, Token, tokens_from, tokens, hear, word, too_long, settled, is_long}
 use Rattle.ccsl_vcd_lex.specs.LongTokens.{first_long}
@@ -20,11 +20,12 @@ use Rattle.ccsl_vcd_read.specs.Picture.{Shows}
 use Rattle.ccsl_vcd_read.specs.Step.{hear_of}
 use Rattle.ccsl_vcd_read.specs.Run.{behind, hear_next, hear_all, Runs}
 use Rattle.ccsl_vcd_read.specs.Staging.{is_body, RunsIn}
-use Rattle.ccsl_vcd_read.specs.Reading.{Reading, FewRows, Running, Pushes, past_header, IsCut}
+use Rattle.ccsl_vcd_read.specs.Reading.{Reading, FewRows, Running, Pushes, past_header}
 use Rattle.ccsl_vcd_read.proofs.BodyPictures.{Hears, hears}
 use Rattle.ccsl_vcd_read.proofs.Passing.{settled-at, settles_at, fresh-append, fresh-open}
 use Rattle.ccsl_vcd_read.proofs.Run.{hears-from}
 use Rattle.ccsl_vcd_read.proofs.Taking.{done-within, runs-past}
+use Rattle.ccsl_vcd_read.proofs.Faults.{Taken}
 
 -- What tokens make of a story.
 
@@ -212,38 +213,23 @@ few-pushed s t at part x y h =
     let l : length r.pushed ≤ length part = r.few in
     (omega arith, omega arith)
 
-pub record Taken (left : ℕ) (piece cut : List ℕ) (count : ℕ) : Type 0 where
-  pub same : take count cut ≡ take count piece
-  pub few : count ≤ left
-  pub within : count ≤ length piece
-  pub size : length (take count cut) ≡ count
-
-pub taken : (left : ℕ) (piece cut : List ℕ) (count : ℕ) → IsCut left piece cut → count ≤ length cut → Taken left piece cut count
-taken left piece cut count f l =
-    let len : length cut ≡ f.n = ap length f.is ∙ length-take-le f.n piece f.within in
-    record {
-      same = ap (take count) f.is ∙ take-take count f.n piece (omega (arith, len, l));
-      few = omega (arith, len, l, f.few);
-      within = omega (arith, len, l, f.within);
-      size = length-take-le count cut l;
-    }
-
 -- a reader of a body has given out fewer rows than it took bytes
 pub rows-less : (wanted : Wanted) (v : Reading) (bytes : List ℕ) → Running wanted v bytes → is_body v.stage ≡ true → v.rows < v.taken
 rows-less wanted v bytes s e = subst (λ w. FewRows w v.rows v.taken) e s.few
 
-pub raced : (wanted : Wanted) (v : Reading) (lx : Passing) (bytes piece cut : List ℕ) (t : Stage) (count a b : ℕ) (x y : List Row) → Running wanted v bytes → IsCut (v.limits.bytes - v.taken) piece cut → count ≤ length cut
-    → RunsIn v.stage t v.taken (take count cut) x y → v.lexing.inner.open_text ≡ [] → Passes v.lexing lx count → a ≡ length y → b ≡ length x
-    → Races wanted v (record v { lexing = lx; taken = v.taken + count; stage = t; rows = v.rows + (a - b) }) bytes (bytes ++ take count piece) x y
-raced wanted v lx bytes piece cut t count a b x y s f w h o p ea eb =
-    let k = taken (v.limits.bytes - v.taken) piece cut count f w in
+pub raced : (wanted : Wanted) (v : Reading) (lx : Passing) (bytes piece cut : List ℕ) (t : Stage) (count a b : ℕ) (x y : List Row) → Running wanted v bytes →
+    Taken (v.limits.bytes - v.taken) piece cut count → RunsIn v.stage t v.taken (take count cut) x y → v.lexing.inner.open_text ≡ [] →
+    Passes v.lexing lx count → a ≡ length y → b ≡ length x →
+    Races wanted v (record v { lexing = lx; taken = v.taken + count; stage = t; rows = v.rows + (a - b) }) bytes (bytes ++ take count piece) x y
+raced wanted v lx bytes piece cut t count a b x y s k h o p ea eb =
     let few : count ≤ v.limits.bytes - v.taken = k.few in
     let size : length (take count cut) ≡ count = k.size in
     let fits : length (bytes ++ take count cut) ≤ v.limits.bytes = omega (arith, length-append bytes (take count cut), size, few, s.taken, s.within) in
     let r = race-on wanted v lx bytes (take count cut) t count x y s h o p k.size fits in
     let n : v.rows + (length y - length x) ≡ v.rows + (a - b) = ap₂ (λ i j. v.rows + (i - j)) (sym ea) (sym eb) in
-    subst (λ part. Races wanted v (record v { lexing = lx; taken = v.taken + count; stage = t; rows = v.rows + (a - b) }) bytes (bytes ++ part) x y) k.same
-    (subst (λ i. Races wanted v (record v { lexing = lx; taken = v.taken + count; stage = t; rows = i }) bytes (bytes ++ take count cut) x y) n r)
+    let new : ℕ → Reading = λ i. record v { lexing = lx; taken = v.taken + count; stage = t; rows = i } in
+    subst (λ part. Races wanted v (new (v.rows + (a - b))) bytes (bytes ++ part) x y) k.same
+    (subst (λ i. Races wanted v (new i) bytes (bytes ++ take count cut) x y) n r)
 
 -- white space was taken last
 pub white-last : (bytes piece : List ℕ) (n : ℕ) → 0 < n → n ≤ length piece → is_white (get_or piece (n - 1) 0) ≡ true → fresh_after true (bytes ++ take n piece) ≡ true

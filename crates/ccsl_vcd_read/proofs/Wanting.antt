@@ -16,9 +16,8 @@ use Rattle.ccsl_vcd_read.specs.declared.stage.Stage.{Stage}
 use Rattle.ccsl_vcd_read.specs.declared.stage.Stage.TheVariants as stage
 use Rattle.ccsl_vcd_read.specs.Heading.{NotMemory}
 use Rattle.ccsl_vcd_read.specs.Staging.{is_body, shown}
-use Rattle.ccsl_vcd_read.specs.Reading.{Reading, StandsFor, Pushes, is_past, past_header}
+use Rattle.ccsl_vcd_read.specs.Reading.{Reading, StandsFor, Pushes, Takes, is_past, past_header}
 use Rattle.ccsl_vcd_read.proofs.Taking.{running-of, runs-past}
-use Rattle.ccsl_vcd_read.proofs.Feeding.{Passed}
 
 pub in-header : (s : Stage) (f : VcdFault) → (is_body s ≡ true → NotMemory f) → f ≡ faults.Memory → is_body s ≡ false
 in-header s f calm e =
@@ -53,11 +52,13 @@ nothing-pushed a b x y q e f =
     let none : q.pushed ≡ [] = sym (ap (λ rs. rs ++ q.pushed) e) ∙ sym q.rows ∙ f in
     q.block ∙ ap (λ rs. x ++ rs) none ∙ append-nil x
 
-pub out-same : (start now : Reading) (before after : RowList) (piece : List ℕ) (i : ℕ) → Passed start now before after piece i → (wanted : Wanted) (bytes : List ℕ) → StandsFor wanted start bytes → is_body now.stage ≡ false → after ≡ before
-out-same start now before after piece i q wanted bytes s e =
+pub out-same : {start now : Reading} {before after : RowList} {piece : List ℕ} {i : ℕ} → Takes start now piece i false before after →
+    (wanted : Wanted) (bytes : List ℕ) → StandsFor wanted start bytes → is_body now.stage ≡ false → after ≡ before
+out-same {start} {now} {before} {after} {piece} {i} q wanted bytes s e =
+    let t = q.took wanted bytes s in
     let more : List ℕ = bytes ++ take i piece in
     let past : past_header wanted start.limits more ≡ false =
-    ap (λ (l : Limits). past_header wanted l more) (sym q.limits) ∙ runs-past wanted now more (running-of wanted now more q.runs (q.stands wanted bytes s)) ∙ e in
+    ap (λ (l : Limits). past_header wanted l more) (sym q.limits) ∙ runs-past wanted now more (running-of wanted now more q.runs t.stands) ∙ e in
     let same : after.rows ≡ before.rows =
-    nothing-pushed _ _ before.rows after.rows (q.pushes wanted bytes s) (done-none wanted start.limits bytes (sym (q.header wanted bytes s) ∙ past)) (done-none wanted start.limits more past) in
-    ap (λ rs. record { rows = rs; room = after.room }) same ∙ ap (λ n. record { rows = before.rows; room = n }) q.same_room
+    nothing-pushed _ _ before.rows after.rows t.pushes (done-none wanted start.limits bytes (sym t.header ∙ past)) (done-none wanted start.limits more past) in
+    ap (λ rs. record { rows = rs; room = after.room }) same ∙ ap (λ n. record { rows = before.rows; room = n }) q.room

@@ -106,20 +106,37 @@ abbrev pub HeaderSo : Bool → Wanted → Limits → List ℕ → List ℕ → �
 HeaderSo true wanted limits bytes piece n = EndsHeader wanted limits bytes piece n
 HeaderSo false wanted limits bytes piece n = past_header wanted limits (bytes ++ take n piece) ≡ past_header wanted limits bytes
 
--- at least one byte from the front of a piece, and at most so many
-pub record IsFront (left : ℕ) (piece cut : List ℕ) : Type 0 where
-  pub n : ℕ
-  pub is : cut ≡ take n piece
-  pub few : n ≤ left
-  pub some : 0 < n
-  pub within : n ≤ length piece
+-- a reader that runs, and a block with room for a row
+pub record CanTake (v : Reading) (out : RowList) : Type 0 where
+  pub runs : v.fault ≡ None
+  pub room : length out.rows < out.room
+  pub stands : (wanted : Wanted) × (bytes : List ℕ) × StandsFor wanted v bytes
 
--- some bytes from the front of a piece, and at most so many
-pub record IsCut (left : ℕ) (piece cut : List ℕ) : Type 0 where
-  pub n : ℕ
-  pub is : cut ≡ take n piece
-  pub few : n ≤ left
+-- n bytes of a piece were taken, behind bytes of a trace for which the reader stood
+pub record Took (wanted : Wanted) (old new : Reading) (bytes piece : List ℕ) (n : ℕ) (ended : Bool) (before after : RowList) : Type 0 where
+  pub stands : StandsFor wanted new (bytes ++ take n piece)
+  pub pushes : Pushes (done wanted old.limits bytes) (done wanted old.limits (bytes ++ take n piece)) before.rows after.rows
+  pub header : HeaderSo ended wanted old.limits bytes piece n
+  pub filled : length after.rows ≡ after.room → HadRoom wanted old.limits bytes (take (n - 1) piece) before
+
+-- n bytes of a piece were taken, and the reader runs on
+pub record Takes (old new : Reading) (piece : List ℕ) (n : ℕ) (ended : Bool) (before after : RowList) : Type 0 where
   pub within : n ≤ length piece
+  pub runs : new.fault ≡ None
+  pub limits : new.limits ≡ old.limits
+  pub room : after.room ≡ before.room
+  pub took : (wanted : Wanted) (bytes : List ℕ) → StandsFor wanted old bytes → Took wanted old new bytes piece n ended before after
+
+-- The reader stops: bytes of the piece decide the fault, unless it is want of memory, as it never is in a body.
+-- No row was pushed, and no clock was bound.
+pub record Stops (old new : Reading) (piece : List ℕ) (f : VcdFault) (before after : RowList) : Type 0 where
+  pub decides : Caused f ((wanted : Wanted) (bytes : List ℕ) → StandsFor wanted old bytes → Decides wanted old.limits bytes piece f before.rows after.rows)
+  pub calm : is_body old.stage ≡ true → NotMemory f
+  pub fault : new.fault ≡ Some f
+  pub limits : new.limits ≡ old.limits
+  pub unpushed : after ≡ before
+  pub shows : shown new.stage ≡ shown old.stage
+  pub still : (wanted : Wanted) (bytes : List ℕ) → StandsFor wanted old bytes → StandsFor wanted new (bytes ++ piece)
 
 -- the last token of a trace was heard
 pub record AtEnd (wanted : Wanted) (v new : Reading) (bytes : List ℕ) (before after : List Row) : Type 0 where

@@ -1,6 +1,6 @@
 //! A reader that is fed pieces of a trace.
 
-ghost use Rattle.std.specs.Prelude.{◌≡◌, ℕ, List, [], ◌++◌, length, take, ◌<◌, ◌≤◌, ◌⊎◌, true, IfOk, IfErr, OnOk, OnErr, IfSome, IfNone, None, Some, Err, ◌+◌, ◌-◌, ◌^◌};
+ghost use Rattle.std.specs.Prelude.{◌≡◌, ℕ, List, [], ◌++◌, length, take, ◌<◌, ◌≤◌, ◌⊎◌, true, false, IfOk, IfErr, OnOk, OnErr, IfSome, IfNone, None, Some, Err, ◌+◌, ◌-◌, ◌^◌};
 ghost use Rattle.ccsl_vcd.specs.Binding.{Wanted};
 ghost use Rattle.std.specs.Option.{option_copied};
 ghost use Rattle.ccsl_vcd_lex.specs.Tokens.{token, word};
@@ -10,7 +10,7 @@ ghost use Rattle.ccsl_vcd.specs.Completed.{complete, done};
 ghost use Rattle.ccsl_bind.specs.Collected.{wanted_of};
 ghost use Rattle.ccsl_vcd_read.specs.Heading.{Caused, IsMemory, NotMemory, Refuses};
 ghost use Rattle.ccsl_vcd_read.specs.Staging.{Pictures, Heard, is_body, row_left, shown, shown_at};
-ghost use Rattle.ccsl_vcd_read.specs.Reading.{StandsFor, Pushes, Decides, HeaderSo, past_header, IsCalm, IsFront, IsCut, shows, AtEnd, Refused, AreCounts, FilledByLast};
+ghost use Rattle.ccsl_vcd_read.specs.Reading.{StandsFor, Pushes, Decides, HeaderSo, IsCalm, CanTake, Takes, Stops, shows, AtEnd, Refused, AreCounts, FilledByLast};
 
 use crate::buffer::Buffer;
 use crate::command::Command;
@@ -160,28 +160,11 @@ impl Reader {
     // Takes bytes of a piece up to the first by which a token ends, or all that the limit leaves.
     fn advance(&mut self, piece: &[u8], out: &mut Block) -> Result<Taken, VcdFault>
         requires some { 0 < length piece.now }
-        requires room { length out.old.rows < out.old.room }
-        requires runs { self.old.fault ≡ None }
-        requires stands { (wanted : Wanted) × (bytes : List ℕ) × StandsFor wanted self.old bytes }
-        ensures limits { self.new.limits ≡ self.old.limits }
-        ensures room { out.new.room ≡ out.old.room }
-        ensures within { IfOk result (λ t. t.bytes ≤ length piece.now) }
+        requires ready { CanTake self.old out.old }
+        ensures takes { IfOk result
+            (λ t. Takes self.old self.new piece.now t.bytes t.header_ended out.old out.new) }
         ensures moves { IfOk result (λ t. 0 < t.bytes) }
-        ensures runs { OnOk result (self.new.fault ≡ None) }
-        ensures stands { IfOk result (λ t. (wanted : Wanted) (bytes : List ℕ) → StandsFor wanted self.old bytes →
-            StandsFor wanted self.new (bytes ++ take t.bytes piece.now)) }
-        ensures pushes { IfOk result (λ t. (wanted : Wanted) (bytes : List ℕ) → StandsFor wanted self.old bytes →
-            Pushes (done wanted self.old.limits bytes) (done wanted self.old.limits (bytes ++ take t.bytes piece.now)) out.old.rows out.new.rows) }
-        ensures header { IfOk result (λ t. (wanted : Wanted) (bytes : List ℕ) → StandsFor wanted self.old bytes →
-            HeaderSo t.header_ended wanted self.old.limits bytes piece.now t.bytes) }
-        ensures decides { IfErr result (λ f. Caused f ((wanted : Wanted) (bytes : List ℕ) → StandsFor wanted self.old bytes →
-            Decides wanted self.old.limits bytes piece.now f out.old.rows out.new.rows)) }
-        ensures stops { IfErr result (λ f. self.new.fault ≡ Some f) }
-        ensures calm { IfErr result (λ f. is_body self.old.stage ≡ true → NotMemory f) }
-        ensures still { OnErr result ((wanted : Wanted) (bytes : List ℕ) → StandsFor wanted self.old bytes →
-            StandsFor wanted self.new (bytes ++ piece.now)) }
-        ensures kept { OnErr result ((out.new ≡ out.old) × (shown self.new.stage ≡ shown self.old.stage)) }
-        ensures filled { IfOk result (λ t. FilledByLast self.old piece.now t.bytes out.old out.new) }
+        ensures stops { IfErr result (λ f. Stops self.old self.new piece.now f out.old out.new) }
     {
         let left = self.limits.bytes - self.taken;
         if left == 0 {
@@ -212,25 +195,14 @@ impl Reader {
 
     // Hears the tokens of a body that lie whole in a piece, where no token is open, and answers how many bytes that are.
     fn race(&mut self, piece: &[u8], out: &mut Block) -> usize
-        requires room { length out.old.rows < out.old.room }
-        requires runs { self.old.fault ≡ None }
-        requires stands { (wanted : Wanted) × (bytes : List ℕ) × StandsFor wanted self.old bytes }
+        requires ready { CanTake self.old out.old }
         requires nothing_open { self.old.lexing.inner.open_text ≡ [] }
-        ensures limits { self.new.limits ≡ self.old.limits }
-        ensures room { out.new.room ≡ out.old.room }
-        ensures within { result ≤ length piece.now }
-        ensures runs { self.new.fault ≡ None }
-        ensures stands { (wanted : Wanted) (bytes : List ℕ) → StandsFor wanted self.old bytes → StandsFor wanted self.new (bytes ++ take result piece.now) }
-        ensures pushes { (wanted : Wanted) (bytes : List ℕ) → StandsFor wanted self.old bytes →
-            Pushes (done wanted self.old.limits bytes) (done wanted self.old.limits (bytes ++ take result piece.now)) out.old.rows out.new.rows }
-        ensures header { (wanted : Wanted) (bytes : List ℕ) → StandsFor wanted self.old bytes →
-            past_header wanted self.old.limits (bytes ++ take result piece.now) ≡ past_header wanted self.old.limits bytes }
-        ensures filled { FilledByLast self.old piece.now result out.old out.new }
+        ensures { Takes self.old self.new piece.now result false out.old out.new }
     {
         if !is_body(&self.stage) {
             return 0;
         }
-        let piece = cut(piece, self.limits.bytes - self.taken);
+        let piece = front(piece, self.limits.bytes - self.taken);
         let before = out.len();
         let count = run(&mut self.stage, self.taken, piece, out);
         self.lexer.pass(count as u64);
@@ -242,28 +214,11 @@ impl Reader {
     // Takes bytes of a piece up to the first by which a token ends, and behind it tokens that lie whole in the piece.
     fn stride(&mut self, piece: &[u8], out: &mut Block) -> Result<Taken, VcdFault>
         requires some { 0 < length piece.now }
-        requires room { length out.old.rows < out.old.room }
-        requires runs { self.old.fault ≡ None }
-        requires stands { (wanted : Wanted) × (bytes : List ℕ) × StandsFor wanted self.old bytes }
-        ensures limits { self.new.limits ≡ self.old.limits }
-        ensures room { out.new.room ≡ out.old.room }
-        ensures within { IfOk result (λ t. t.bytes ≤ length piece.now) }
+        requires ready { CanTake self.old out.old }
+        ensures takes { IfOk result
+            (λ t. Takes self.old self.new piece.now t.bytes t.header_ended out.old out.new) }
         ensures moves { IfOk result (λ t. 0 < t.bytes) }
-        ensures runs { OnOk result (self.new.fault ≡ None) }
-        ensures stands { IfOk result (λ t. (wanted : Wanted) (bytes : List ℕ) → StandsFor wanted self.old bytes →
-            StandsFor wanted self.new (bytes ++ take t.bytes piece.now)) }
-        ensures pushes { IfOk result (λ t. (wanted : Wanted) (bytes : List ℕ) → StandsFor wanted self.old bytes →
-            Pushes (done wanted self.old.limits bytes) (done wanted self.old.limits (bytes ++ take t.bytes piece.now)) out.old.rows out.new.rows) }
-        ensures header { IfOk result (λ t. (wanted : Wanted) (bytes : List ℕ) → StandsFor wanted self.old bytes →
-            HeaderSo t.header_ended wanted self.old.limits bytes piece.now t.bytes) }
-        ensures decides { IfErr result (λ f. Caused f ((wanted : Wanted) (bytes : List ℕ) → StandsFor wanted self.old bytes →
-            Decides wanted self.old.limits bytes piece.now f out.old.rows out.new.rows)) }
-        ensures stops { IfErr result (λ f. self.new.fault ≡ Some f) }
-        ensures calm { IfErr result (λ f. is_body self.old.stage ≡ true → NotMemory f) }
-        ensures still { OnErr result ((wanted : Wanted) (bytes : List ℕ) → StandsFor wanted self.old bytes →
-            StandsFor wanted self.new (bytes ++ piece.now)) }
-        ensures kept { OnErr result ((out.new ≡ out.old) × (shown self.new.stage ≡ shown self.old.stage)) }
-        ensures filled { IfOk result (λ t. FilledByLast self.old piece.now t.bytes out.old out.new) }
+        ensures stops { IfErr result (λ f. Stops self.old self.new piece.now f out.old out.new) }
     {
         let step = match self.advance(piece, out) {
             Ok(step) => step,
@@ -347,9 +302,7 @@ impl Reader {
 
     // Hears the token that the end of the trace ends, if one is open.
     fn last_token(&mut self, out: &mut Block) -> Result<(), VcdFault>
-        requires room { length out.old.rows < out.old.room }
-        requires runs { self.old.fault ≡ None }
-        requires stands { (wanted : Wanted) × (bytes : List ℕ) × StandsFor wanted self.old bytes }
+        requires ready { CanTake self.old out.old }
         requires rows { self.old.rows + 1 < 2 ^ 64 }
         requires fits { self.old.taken < 2 ^ 64 }
         ensures ends { OnOk result ((wanted : Wanted) (bytes : List ℕ) → StandsFor wanted self.old bytes →
@@ -435,20 +388,7 @@ impl Reader {
 
 // At most so many bytes from the front of a piece.
 fn front(piece: &[u8], left: u64) -> &[u8]
-    requires some { 0 < length piece.now }
-    requires left { 0 < left }
-    ensures { IsFront left piece.now result.now }
-{
-    if left < piece.len() as u64 {
-        &piece[..left as usize]
-    } else {
-        piece
-    }
-}
-
-// At most so many bytes from the front of a piece.
-fn cut(piece: &[u8], left: u64) -> &[u8]
-    ensures { IsCut left piece.now result.now }
+    ensures { result.now ≡ take left piece.now }
 {
     if left < piece.len() as u64 {
         &piece[..left as usize]

@@ -1,5 +1,4 @@
 use Rattle.std.proofs.Common.{◌≡◌, ◌≤◌, ◌<◌, ◌^◌, ◌+◌, ◌-◌, ℕ, List, ◌++◌, length, true, false, refl, sym, ap, ◌∙◌, subst, arith}
-use Rattle.std.specs.Prelude.{IfNone}
 use Rattle.ccsl_vcd.specs.declared.fault.VcdFault.TheVariants as faults
 use Rattle.ccsl_vcd.specs.Binding.{Wanted}
 use Rattle.ccsl_vcd_read.specs.Staging.{ends_well, row_left}
@@ -8,6 +7,7 @@ use Rattle.ccsl_vcd_read.proofs.Wanting.{in-header, shown-none}
 use Rattle.ccsl_vcd_read.proofs.HeadPictures.{weaken}
 use Rattle.ccsl_vcd_read.proofs.Taking.{running-of}
 use Rattle.ccsl_vcd_read.proofs.Faults.{rows-fit}
+use Rattle.ccsl_vcd_read.proofs.Feeding.{ready-of}
 use Rattle.ccsl_vcd_read.proofs.Ending.{truncated, end-shown, cut-pushes, accepted, end-pushes, end-counts, stopped-refuses, when-none}
 use Rattle.ccsl_vcd_read.proofs.reader.Reader.finish.Goals as goal
 use Rattle.ccsl_vcd_read.proofs.Calm.{calm-of}
@@ -15,16 +15,16 @@ use Rattle.ccsl_vcd_read.proofs.Calm.{calm-of}
 pub returns-in-Some-clause-refuses : goal.returns-in-Some-clause-refuses
 returns-in-Some-clause-refuses c = stopped-refuses c.args.self.now c.in-Some.fault (ap (λ (x : Reading). x.fault) (sym c.self.view_is) ∙ c.in-Some.is)
 
-pub last_token-requires-clause-stands : goal.last_token-requires-clause-stands
-last_token-requires-clause-stands c =
-    subst (λ o. IfNone o ((x : Wanted) × (y : List ℕ) × StandsFor x c.args.self.now y)) (ap (λ (x : Reading). x.fault) (sym c.self.view_is) ∙ c.in_default.is) c.requires.stands
+pub last_token-requires-clause-ready : goal.last_token-requires-clause-ready
+last_token-requires-clause-ready c =
+    ready-of (ap (λ (x : Reading). x.fault) (sym c.self.view_is) ∙ c.in_default.is) c.requires.room c.requires.stands
 
 pub last_token-requires-clause-rows : goal.last_token-requires-clause-rows
 last_token-requires-clause-rows c =
-    let none = ap (λ (x : Reading). x.fault) (sym c.self.view_is) ∙ c.in_default.is in
-    let w = subst (λ o. IfNone o ((x : Wanted) × (y : List ℕ) × StandsFor x c.args.self.now y)) none c.requires.stands in
+    let ready = ready-of {out = c.args.out.now} (ap (λ (x : Reading). x.fault) (sym c.self.view_is) ∙ c.in_default.is) c.requires.room c.requires.stands in
+    let w = ready.stands in
     let fits : c.self.inside.taken < 2 ^ 64 = omega arith in
-    rows-fit w.0 c.args.self.now w.1 (running-of w.0 c.args.self.now w.1 none w.2) (subst (λ (x : Reading). x.taken < 2 ^ 64) c.self.view_is fits)
+    rows-fit w.0 c.args.self.now w.1 (running-of w.0 c.args.self.now w.1 ready.runs w.2) (subst (λ (x : Reading). x.taken < 2 ^ 64) c.self.view_is fits)
 
 pub returns-then-not-may_end-clause-refuses : goal.returns-then-not-may_end-clause-refuses
 returns-then-not-may_end-clause-refuses c =
