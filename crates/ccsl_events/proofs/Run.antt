@@ -1,6 +1,6 @@
 -- Bytes of a body that are taken one part after another.
-use Rattle.std.proofs.Common.{◌≡◌, ℕ, zero, suc, ◌+◌, ◌-◌, ◌≤◌, ◌<◌, ◌⊎◌, inl, inr, List, [], ◌∷◌, ◌++◌, length, take, drop, get_or, map, filter, fold, Bool, true, false, not, nat_lt, ◌||◌, cond, Some, None, Result, Ok, Err, refl, sym, ap, ◌∙◌, subst, append_assoc, arith, length-append, length-take-le, length-drop}
-use Rattle.std.specs.List.{prefix_len}
+use Rattle.std.proofs.Common.{◌≡◌, ℕ, zero, suc, ◌+◌, ◌-◌, ◌≤◌, ◌<◌, ◌⊎◌, inl, inr, List, [], ◌∷◌, ◌++◌, length, take, drop, get_or, map, filter, fold, Bool, true, false, not, nat_lt, ◌||◌, ◌&&◌, cond, Some, None, Result, Ok, Err, refl, sym, ap, ◌∙◌, subst, append_assoc, arith, length-append, length-take-le, length-drop}
+use Rattle.std.specs.List.{prefix_len, list_all}
 use Rattle.std.proofs.lemmas.Bool.{lt-ltb, le-ltb}
 use Rattle.std.proofs.Math.Bool.{or-true}
 use Rattle.std.proofs.lemmas.List.{append-nil, map-append, take_more, take_all, drop-drop}
@@ -14,7 +14,7 @@ use Rattle.ccsl_vcd.specs.declared.fault.VcdFault.TheVariants as faults
 use Rattle.ccsl_events.specs.declared.body.Body.{Body}
 use Rattle.ccsl_events.specs.Dump.{Plan, Place, Said, goes, refused, Story, says, told, next, token_says}
 use Rattle.ccsl_events.specs.Standing.{Stands, Answers}
-use Rattle.ccsl_events.specs.Run.{settled_from, story_from, Runs, Breaks, Takes}
+use Rattle.ccsl_events.specs.Run.{IsOpen, settled_from, story_from, Runs, Breaks, Takes}
 use Rattle.ccsl_events.proofs.Standing.{follows-still}
 
 -- What bytes settle, over a cut.
@@ -243,3 +243,16 @@ rest_at i piece = take (length piece - i) (drop i piece)
 
 pub rest-is : (i : ℕ) (piece : List ℕ) → rest_at i piece ≡ drop i piece
 rest-is i piece = take_all (length piece - i) (drop i piece) (omega (arith, length-drop i piece))
+
+-- No byte is white.
+
+one-less : (n m : ℕ) → 1 + n ≡ suc m → n ≡ m
+one-less n m h = omega arith
+
+pub open-run : (xs : List ℕ) → prefix_len is_dark xs ≡ length xs → IsOpen xs
+open-run [] h = refl
+open-run (x ∷ xs) h =
+    (elim (is_dark x) as (λ w. cond w (1 + prefix_len is_dark xs) 0 ≡ suc (length xs) → (w && list_all is_dark xs) ≡ true) [
+      | true ↦ λ e. open-run xs (one-less (prefix_len is_dark xs) (length xs) e)
+      | false ↦ λ e. absurd (omega arith)
+    ]) h

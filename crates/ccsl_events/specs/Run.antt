@@ -1,7 +1,9 @@
 -- What the bytes of a body say, from a place on where a token may begin: which tokens they settle, and the story of these.
 use Rattle.std.specs.Prelude.{◌≡◌, ◌⊎◌, ℕ, ◌+◌, List, length, take, map, filter, fold, true, nat_lt, ◌||◌, Some, None, Result, Ok, Err}
+use Rattle.std.specs.List.{list_all}
 use Rattle.ccsl_vcd_lex.specs.Tokens.{Heard, hear, end_of, is_long, tokens_from}
 use Rattle.ccsl_vcd_lex.specs.Runs.{fresh_after}
+use Rattle.ccsl_vcd_lex.specs.Lexing.{is_dark}
 use Rattle.ccsl_vcd.specs.declared.fault.VcdFault.{VcdFault}
 use Rattle.ccsl_vcd.specs.declared.fault.VcdFault.TheVariants as faults
 use Rattle.ccsl_events.specs.declared.body.Body.{Body}
@@ -11,6 +13,10 @@ use Rattle.ccsl_events.specs.Standing.{Follows}
 -- what they settle, whatever follows: the tokens that end inside them, and those that are too long already
 abbrev pub settled_from : ℕ → List ℕ → List Heard
 settled_from at bytes = map hear (filter (λ t. nat_lt (end_of t) (at + length bytes) || is_long t) (tokens_from true at bytes))
+
+-- none of them is white, so that no token ends among them
+abbrev pub IsOpen : List ℕ → Type 0
+IsOpen bytes = list_all is_dark bytes ≡ true
 
 -- the story of some tokens from a place on
 abbrev pub story_from : Plan → Place → List Heard → Story

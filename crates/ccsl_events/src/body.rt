@@ -5,7 +5,7 @@ ghost use Rattle.ccsl_vcd_lex.specs.Tokens.{token};
 ghost use Rattle.ccsl_vcd.specs.Words.{is_scalar, dump};
 ghost use Rattle.ccsl_events.specs.Dump.{Plan, Place, remark, code_of, code_skipped, goes, changed, passed, time_says, block_says, gap_says, end_says, word_says, token_says, may_end};
 ghost use Rattle.ccsl_events.specs.Standing.{Stands, Answers};
-ghost use Rattle.ccsl_events.specs.Run.{Runs, Takes};
+ghost use Rattle.ccsl_events.specs.Run.{IsOpen, Runs, Takes};
 ghost use Rattle.ccsl_events.specs.Meant.{meant};
 
 use crate::codes::Entry;
@@ -345,6 +345,7 @@ impl Body {
         ensures within { IfOk result (λ taken. taken ≤ length bytes.now) }
         ensures takes { (plan : Plan) (p : Place) → Stands plan p self.old →
             Takes plan p at bytes.now result self.new out.old.items out.new.items }
+        ensures ends { IfOk result (λ taken. taken ≡ 0 → IsOpen bytes.now) }
     {
         let end = run_end(bytes, 0);
         if end > MAX_TOKEN_BYTES {
@@ -364,6 +365,7 @@ impl Body {
         ensures within { IfOk result (λ taken. taken ≤ length bytes.now) }
         ensures takes { (plan : Plan) (p : Place) → Stands plan p self.old →
             Takes plan p at bytes.now result self.new out.old.items out.new.items }
+        ensures ends { IfOk result (λ taken. taken ≡ 0 → IsOpen bytes.now) }
     {
         let taken = self.frequent(at, bytes, out)?;
         if taken > 0 {

@@ -2,7 +2,7 @@ use Rattle.std.proofs.Common.{◌∙◌, sym, subst, arith, zero-add, take, leng
 use Rattle.std.proofs.lemmas.Result.{err_from_is_err_and}
 use Rattle.ccsl_events.specs.declared.body.Body.{Body}
 use Rattle.ccsl_events.specs.Run.{Runs}
-use Rattle.ccsl_events.proofs.Run.{runs-none, front-white, front-word, front-breaks, front-long}
+use Rattle.ccsl_events.proofs.Run.{runs-none, front-white, front-word, front-breaks, front-long, open-run}
 use Rattle.ccsl_events.proofs.body.Body.token.Goals as goal
 use Rattle.ccsl_events.proofs.body.Body.token.Goals.{then-end-gt0+in_ok-hear, else-end-gt0}
 
@@ -33,3 +33,7 @@ returns-clause-takes c plan p s =
       | else-end-gt0 w ↦
           rw (w.self-is, w.out-is) (front-white plan p c.args.at end bytes c.args.self.now c.args.out.now.items is (omega (arith, w.if-end-gt0.false)) inside s)
     ]
+
+pub returns-then-end-bytes-clause-ends : goal.returns-then-end-bytes-clause-ends
+returns-then-end-bytes-clause-ends c e = open-run c.args.bytes.now (omega (arith, c.run_end-end.ensures.value, c.if-end-bytes.true))
+
