@@ -1,10 +1,11 @@
 -- Bytes of a body that are taken one part after another.
-use Rattle.std.proofs.Common.{◌≡◌, ℕ, zero, suc, ◌+◌, ◌-◌, ◌≤◌, ◌<◌, ◌⊎◌, inl, inr, List, [], ◌∷◌, ◌++◌, length, take, drop, get_or, map, filter, fold, Bool, true, false, not, nat_lt, ◌||◌, ◌&&◌, cond, Some, None, Result, Ok, Err, refl, sym, ap, ◌∙◌, subst, append_assoc, arith, length-append, length-take-le, length-drop}
+use Rattle.std.proofs.Common.{◌≡◌, ℕ, zero, suc, ◌+◌, ◌-◌, ◌%◌, ◌≤◌, ◌<◌, ◌⊎◌, inl, inr, List, [], ◌∷◌, ◌++◌, length, take, drop, get_or, map, filter, fold, Bool, true, false, not, nat_lt, ◌||◌, ◌&&◌, cond, Some, None, Result, Ok, Err, refl, sym, ap, ◌∙◌, subst, append_assoc, arith, length-append, length-take-le, length-drop}
 use Rattle.std.specs.List.{prefix_len, list_all}
 use Rattle.std.proofs.lemmas.Bool.{lt-ltb, le-ltb}
 use Rattle.std.proofs.Math.Bool.{or-true}
-use Rattle.std.proofs.lemmas.List.{append-nil, map-append, take_more, take_all, drop-drop}
+use Rattle.std.proofs.lemmas.List.{append-nil, map-append, take_more, take_all, drop-drop, take-append-drop}
 use Rattle.std.proofs.lemmas.List.Elements.{filter-append}
+use Rattle.std.proofs.Math.Seq.{take-add}
 use Rattle.ccsl_vcd_lex.specs.Tokens.{is_white, Token, token, end_of, is_long, tokens_from, Heard, word, too_long, hear}
 use Rattle.ccsl_vcd_lex.specs.Runs.{fresh_after}
 use Rattle.ccsl_vcd_lex.specs.Lexing.{Dark, is_dark}
@@ -256,3 +257,48 @@ open-run (x ∷ xs) h =
       | true ↦ λ e. open-run xs (one-less (prefix_len is_dark xs) (length xs) e)
       | false ↦ λ e. absurd (omega arith)
     ]) h
+
+-- what is left of a piece
+pub record IsRest (piece rest : List ℕ) : Type 0 where
+  pub fits : length rest ≤ length piece
+  pub is : rest ≡ drop (length piece - length rest) piece
+
+pub rest-none : (piece : List ℕ) → IsRest piece piece
+rest-none piece =
+    let none : 0 ≡ length piece - length piece = omega arith in
+    record { fits = omega arith; is = ap (λ i. drop i piece) none }
+
+pub rest-more : (k : ℕ) (piece rest more : List ℕ) → IsRest piece rest → k ≤ length rest → more ≡ drop k rest → IsRest piece more
+rest-more k piece rest more r within cut =
+    let n : ℕ = length piece - length rest in
+    let len : length more ≡ length rest - k = ap length cut ∙ length-drop k rest in
+    let sum : n + k ≡ length piece - length more = omega (arith, r.fits, within, len) in
+    record { fits = omega (arith, r.fits, len); is = cut ∙ ap (drop k) r.is ∙ drop-drop k n piece ∙ ap (λ i. drop i piece) sum }
+
+-- of a part and then of the rest
+pub runs-on : (plan : Plan) (p : Place) (at i n : ℕ) (piece rest : List ℕ) (a b : Body) (x y z : List ℕ) → i ≤ length piece → rest ≡ drop i piece → (r : Runs plan p at (take i piece) a x y)
+    → Runs plan r.place (at + i) (take n rest) b y z → Runs plan p at (take (i + n) piece) b x z
+runs-on plan p at i n piece rest a b x y z l e r s =
+    let k : length (take i piece) ≡ i = length-take-le i piece l in
+    subst (λ part. Runs plan p at part b x z) (ap (λ xs. take i piece ++ take n xs) e ∙ sym (take-add i n piece))
+    (runs-both plan p at (take i piece) (take n rest) a b x y z r (subst (λ j. Runs plan r.place (at + j) (take n rest) b y z) (sym k) s))
+
+pub runs-more : (plan : Plan) (p : Place) (at k : ℕ) (piece rest : List ℕ) (a b : Body) (x y z : List ℕ) → IsRest piece rest → Runs plan p at (take (length piece - length rest) piece) a x y
+    → ((q : Place) → Stands plan q a → Runs plan q (at + (length piece - length rest)) (take k rest) b y z) → Runs plan p at (take (length piece - length rest + k) piece) b x z
+runs-more plan p at k piece rest a b x y z so r on =
+    runs-on plan p at (length piece - length rest) k piece rest a b x y z (omega arith) so.is r (on r.place r.follows.stands)
+
+-- a fault in the rest
+pub rest-breaks : (plan : Plan) (p : Place) (at : ℕ) (piece rest : List ℕ) (a : Body) (x y : List ℕ) (f : VcdFault) → IsRest piece rest → Runs plan p at (take (length piece - length rest) piece) a x y
+    → ((q : Place) → Stands plan q a → (f ≡ faults.Memory) ⊎ Breaks plan q (at + (length piece - length rest)) rest f) → (f ≡ faults.Memory) ⊎ Breaks plan p at piece f
+rest-breaks plan p at piece rest a x y f so r on =
+    let n : ℕ = length piece - length rest in
+    let k : length (take n piece) ≡ n = length-take-le n piece (omega arith) in
+    let whole : take n piece ++ rest ≡ piece = ap (λ (ys : List ℕ). take n piece ++ ys) so.is ∙ take-append-drop n piece in
+    subst (λ (part : List ℕ). (f ≡ faults.Memory) ⊎ Breaks plan p at part f) whole
+    (breaks-on plan p at (take n piece) rest a x y f r (subst (λ (i : ℕ). (f ≡ faults.Memory) ⊎ Breaks plan r.place (at + i) rest f) (sym k) (on r.place r.follows.stands)))
+
+-- a place inside a piece fits the width of places
+pub place-fits : (at : ℕ) (piece rest : List ℕ) → at + length piece < 18446744073709551616
+    → (at + (length piece - length rest)) % 18446744073709551616 ≡ at + (length piece - length rest)
+place-fits at piece rest h = omega arith

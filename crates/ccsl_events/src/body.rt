@@ -1,6 +1,6 @@
 //! The tokens of a dump's body.
 
-ghost use Rattle.std.specs.Prelude.{◌≡◌, ◌≤◌, ◌+◌, ℕ, List, [], ◌∷◌, length, take, true, IfOk};
+ghost use Rattle.std.specs.Prelude.{◌≡◌, ◌⊎◌, ◌≤◌, ◌<◌, ◌+◌, ◌^◌, ℕ, List, [], ◌∷◌, length, take, drop, true, IfOk};
 ghost use Rattle.ccsl_vcd_lex.specs.Tokens.{token};
 ghost use Rattle.ccsl_vcd.specs.Words.{is_scalar, dump};
 ghost use Rattle.ccsl_events.specs.Dump.{Plan, Place, remark, code_of, code_skipped, goes, changed, passed, time_says, block_says, gap_says, end_says, word_says, token_says, may_end};
@@ -382,7 +382,11 @@ impl Body {
         piece: &[u8],
         out: &mut Vec<u8>,
     ) -> Result<usize, VcdFault>
-        ensures { IfOk result (λ taken. taken ≤ length piece.now) }
+        ensures within { IfOk result (λ taken. taken ≤ length piece.now) }
+        ensures takes { (plan : Plan) (p : Place) → Stands plan p self.old →
+            at + length piece.now < 2 ^ 64 →
+            Takes plan p at piece.now result self.new out.old.items out.new.items }
+        ensures stops { IfOk result (λ taken. IsOpen (drop taken piece.now) ⊎ (FULL ≤ length out.new.items)) }
     {
         let mut rest = piece;
         'tokens: while !rest.is_empty() && out.len() < FULL {

@@ -1,4 +1,4 @@
-use Rattle.std.proofs.Common.{◌≡◌, ℕ, List, [], ◌∷◌, ◌<◌, ◌+◌, map, take, true, sym, subst, ◌∙◌, zero-add, arith}
+use Rattle.std.proofs.Common.{◌≡◌, ℕ, List, [], ◌<◌, ◌+◌, map, take, true, sym, subst, ◌∙◌, zero-add, arith}
 use Rattle.ccsl_triggers.specs.Held.{held}
 use Rattle.ccsl_events.specs.declared.body.Body.{Body}
 use Rattle.ccsl_events.specs.declared.values.Values.{Values}

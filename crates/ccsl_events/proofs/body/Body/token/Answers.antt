@@ -36,4 +36,3 @@ returns-clause-takes c plan p s =
 
 pub returns-then-end-bytes-clause-ends : goal.returns-then-end-bytes-clause-ends
 returns-then-end-bytes-clause-ends c e = open-run c.args.bytes.now (omega (arith, c.run_end-end.ensures.value, c.if-end-bytes.true))
-
