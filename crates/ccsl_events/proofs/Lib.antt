@@ -10,3 +10,4 @@ mod Quick
 mod Tables
 mod Changes
 mod Examples
+mod Feeding

@@ -4,3 +4,4 @@ pub mod Meant
 pub mod Keeping
 pub mod Standing
 pub mod Run
+pub mod Fed

@@ -1,6 +1,10 @@
 //! Reading a dump piece by piece.
 
-ghost use Rattle.std.specs.Prelude.{◌≤◌, ◌<◌, length, IfOk};
+ghost use Rattle.std.specs.Prelude.{◌≡◌, ◌⊎◌, ◌≤◌, ◌<◌, ◌+◌, ◌-◌, ◌^◌, ℕ, List, [], length, false, IfOk, OnOk};
+ghost use Rattle.ccsl_vcd_lex.specs.Tokens.{token};
+ghost use Rattle.ccsl_events.specs.Dump.{Plan, Place, begin, token_says, ends_at};
+ghost use Rattle.ccsl_events.specs.Standing.{Stands};
+ghost use Rattle.ccsl_events.specs.Fed.{HasTaken, Feeds, Says};
 
 use crate::body::Body;
 use crate::output::FULL;
@@ -72,12 +76,22 @@ impl Reader {
     }
 
     /// The body begins.
-    pub fn begin(&mut self, body: Body) {
+    pub fn begin(&mut self, body: Body)
+        ensures { (plan : Plan) → Stands plan begin body → self.old.carry.items ≡ [] →
+            self.old.is_header_over ≡ false → HasTaken plan self.old.taken [] begin self.new }
+    {
         self.body = Some(body);
     }
 
     // The token that is kept has ended.
-    fn hear(&mut self, out: &mut Vec<u8>) -> Result<(), VcdFault> {
+    fn hear(&mut self, out: &mut Vec<u8>) -> Result<(), VcdFault>
+        ensures says { (plan : Plan) (p : Place) (body : Body) → self.old.body ≡ Some body → Stands plan p body →
+            let kept = token (self.old.taken - length self.old.carry.items) self.old.carry.items in
+            Says plan p.written (token_says plan p kept p.amid) result self.new out.old.items out.new.items }
+        ensures clears { OnOk result (self.new.carry.items ≡ []) }
+        ensures place { self.new.taken ≡ self.old.taken }
+        ensures header { (body : Body) → self.old.body ≡ Some body → self.new.is_header_over ≡ self.old.is_header_over }
+    {
         let at = self.taken.saturating_sub(self.carry.len() as u64);
         let text = self.carry.as_slice();
         if let Some(body) = &mut self.body {
@@ -92,7 +106,10 @@ impl Reader {
     // Takes the bytes up to the end of the token that is open.
     fn part(&mut self, bytes: &[u8], out: &mut Vec<u8>) -> Result<usize, VcdFault>
         requires { 0 < length bytes.now }
-        ensures { IfOk result (λ taken. (0 < taken) × (taken ≤ length bytes.now)) }
+        ensures within { IfOk result (λ taken. (0 < taken) × (taken ≤ length bytes.now)) }
+        ensures feeds { (plan : Plan) (start : ℕ) (before : List ℕ) (p : Place) →
+            HasTaken plan start before p self.old → self.old.taken + length bytes.now < 2 ^ 64 →
+            Feeds plan start before p bytes.now result self.new out.old.items out.new.items }
     {
         let end = run_end(bytes, 0);
         if end > MAX_TOKEN_BYTES - self.carry.len().min(MAX_TOKEN_BYTES) {
@@ -114,7 +131,10 @@ impl Reader {
     // Takes the tokens that lie whole in some bytes, or a part of one.
     fn stride(&mut self, bytes: &[u8], out: &mut Vec<u8>) -> Result<usize, VcdFault>
         requires { 0 < length bytes.now }
-        ensures { IfOk result (λ taken. (0 < taken) × (taken ≤ length bytes.now)) }
+        ensures within { IfOk result (λ taken. (0 < taken) × (taken ≤ length bytes.now)) }
+        ensures feeds { (plan : Plan) (start : ℕ) (before : List ℕ) (p : Place) →
+            HasTaken plan start before p self.old → self.old.taken + length bytes.now < 2 ^ 64 →
+            Feeds plan start before p bytes.now result self.new out.old.items out.new.items }
     {
         if self.carry.is_empty() {
             if let Some(body) = &mut self.body {
@@ -131,7 +151,10 @@ impl Reader {
     /// Takes bytes of a piece, one at least, up to the header's end or to where the output is full. It answers how many.
     pub fn feed(&mut self, piece: &[u8], out: &mut Vec<u8>) -> Result<usize, VcdFault>
         requires { 0 < length piece.now }
-        ensures { IfOk result (λ taken. (0 < taken) × (taken ≤ length piece.now)) }
+        ensures within { IfOk result (λ taken. (0 < taken) × (taken ≤ length piece.now)) }
+        ensures feeds { (plan : Plan) (start : ℕ) (before : List ℕ) (p : Place) →
+            HasTaken plan start before p self.old → self.old.taken + length piece.now < 2 ^ 64 →
+            Feeds plan start before p piece.now result self.new out.old.items out.new.items }
     {
         let first = self.stride(piece, out)?;
         let mut rest = &piece[first..];
@@ -143,7 +166,10 @@ impl Reader {
     }
 
     /// Ends the dump: the row of the last time is appended, if the dump may end here.
-    pub fn finish(&mut self, len: u64, out: &mut Vec<u8>) -> Result<(), VcdFault> {
+    pub fn finish(&mut self, len: u64, out: &mut Vec<u8>) -> Result<(), VcdFault>
+        ensures { (plan : Plan) (start : ℕ) (bytes : List ℕ) (p : Place) → HasTaken plan start bytes p self.old →
+            Says plan p.written (ends_at plan len p) result self.new out.old.items out.new.items }
+    {
         match &mut self.body {
             Some(body) if body.may_end() => body.settle(out),
             _ => Err(VcdFault::Truncated { at: len }),

@@ -1,8 +1,16 @@
-use Rattle.std.proofs.Common.{◌<◌, length}
+use Rattle.std.proofs.Common.{ℕ, List, ◌++◌, ◌+◌, ◌-◌, ◌^◌, ◌<◌, length, take}
+use Rattle.ccsl_events.specs.Dump.{Plan, Place}
+use Rattle.ccsl_events.specs.Fed.{HasTaken, Reaches}
+use Rattle.ccsl_events.proofs.Run.{IsRest}
 use Rattle.ccsl_events.proofs.reader.Reader.feed.Given as goal
 
 abbrev pub invariant-strides : goal.invariant-strides
-invariant-strides l = length l.rest < length l.piece
+invariant-strides l = record {
+  some : length l.rest < length l.piece;
+  rest : IsRest l.piece l.rest;
+  reaches : (plan : Plan) (start : ℕ) (before : List ℕ) (p : Place) → HasTaken plan start before p l.fn.self → l.fn.self.taken + length l.piece < 2 ^ 64 →
+      Reaches plan start (before ++ take (length l.piece - length l.rest) l.piece) p.written l.self l.fn.out.items l.out.items;
+}
 
 abbrev pub decreases-strides : goal.decreases-strides
 decreases-strides l = length l.rest

@@ -1,0 +1,53 @@
+use Rattle.std.proofs.Common.{◌≡◌, ℕ, ◌++◌, ◌-◌, ◌≤◌, length, take, ap, ◌∙◌, subst, arith, length-drop}
+use Rattle.std.proofs.lemmas.Result.{err_from_is_err_and}
+use Rattle.ccsl_events.specs.Fed.{Reaches}
+use Rattle.ccsl_events.proofs.Run.{rest-none, rest-more, rest-is, rest_at}
+use Rattle.ccsl_events.proofs.Feeding.{feed-more, feed-breaks, rest-fits}
+use Rattle.ccsl_events.proofs.reader.Reader.feed.Goals as goal
+
+pub strides-init : goal.strides-init
+strides-init c =
+    let piece = c.args.piece.now in
+    let first = c.in_ok-first.first in
+    let here = rest-is first piece in
+    let len : length (rest_at first piece) ≡ length piece - first = ap length here ∙ length-drop first piece in
+    let within : first ≤ length piece = c.in_ok-first.ensures.within.1 in
+    record {
+      some = omega (arith, len, c.in_ok-first.ensures.within.0, within);
+      rest = rest-more first piece piece _ (rest-none piece) within here;
+      reaches = λ plan start before p h fits.
+          subst (λ (i : ℕ). Reaches plan start (before ++ take i piece) p.written c.stride.new.self c.args.out.now.items c.stride.new.out.items) (omega (arith, len, within))
+          (c.in_ok-first.ensures.feeds plan start before p h fits);
+    }
+
+pub strides-preserved : goal.strides-preserved
+strides-preserved c =
+    let piece = c.args.piece.now in
+    let rest = c.strides.rest.now in
+    let so = c.strides.invariant.rest in
+    let taken = c.in_ok-taken.taken in
+    let here = rest-is taken rest in
+    let len : length (rest_at taken rest) ≡ length rest - taken = ap length here ∙ length-drop taken rest in
+    let within : taken ≤ length rest = c.in_ok-taken.ensures.within.1 in
+    record {
+      some = omega (arith, len, c.strides.invariant.some);
+      rest = rest-more taken piece rest _ so within here;
+      reaches = λ plan start before p h fits.
+          let a = c.strides.invariant.reaches plan start before p h fits in
+          subst (λ (i : ℕ). Reaches plan start (before ++ take i piece) p.written c.stride-in-strides.new.self c.args.out.now.items c.stride-in-strides.new.out.items) (omega (arith, so.fits, len, within))
+          (feed-more plan start before piece rest p.written taken c.strides.self c.stride-in-strides.new.self c.args.out.now.items c.strides.out.items c.stride-in-strides.new.out.items so a
+          (c.in_ok-taken.ensures.feeds plan start (before ++ take (length piece - length rest) piece) a.place a.taken
+          (rest-fits plan start before piece rest p.written p c.args.self.now c.strides.self c.args.out.now.items c.strides.out.items h so a fits)));
+    }
+
+pub returns-in_err-taken-clause-feeds : goal.returns-in_err-taken-clause-feeds
+returns-in_err-taken-clause-feeds c plan start before p h fits =
+    let q = err_from_is_err_and c.from_residual-in_err-taken.result c.from_residual-in_err-taken.ensures.1 in
+    let piece = c.args.piece.now in
+    let rest = c.strides.rest.now in
+    let so = c.strides.invariant.rest in
+    let a = c.strides.invariant.reaches plan start before p h fits in
+    rw (q.1, q.2)
+    (feed-breaks plan start before piece rest c.in_err-taken.field-0.0 so
+    (c.in_err-taken.ensures.feeds plan start (before ++ take (length piece - length rest) piece) a.place a.taken
+    (rest-fits plan start before piece rest p.written p c.args.self.now c.strides.self c.args.out.now.items c.strides.out.items h so a fits)))
