@@ -1,7 +1,7 @@
 -- Codes in a table.
-use Rattle.std.proofs.Common.{◌≡◌, ℕ, zero, suc, ◌+◌, ◌-◌, ◌*◌, ◌<◌, ◌≤◌, List, [], ◌∷◌, length, Bool, true, false, ◌&&◌, nat_le, nat_lt, not, ◌||◌, bytes_eq, replicate, Option, Some, None, cond, if◌then◌else◌, slice_get, slice_set, slice_index_or, refl, sym, ap, subst, ◌∙◌, arith, lt-ltb, le-ltb, ⊎_elim, ◌⊎◌, inl, inr}
+use Rattle.std.proofs.Common.{◌≡◌, ℕ, zero, suc, ◌+◌, ◌<◌, ◌≤◌, List, [], ◌∷◌, length, true, false, nat_lt, not, ◌||◌, bytes_eq, replicate, Option, Some, None, cond, if◌then◌else◌, slice_get, slice_set, slice_index_or, refl, sym, ap, ◌∙◌, arith, lt-ltb, le-ltb, ⊎_elim, ◌⊎◌, inl, inr}
 use Rattle.std.proofs.lemmas.List.{get_or-set_same, get_or-set_other, length-set}
-use Rattle.std.proofs.lemmas.Bool.{and_parts, cases_eq, cases_lt, leb-true, not-true, or_right}
+use Rattle.std.proofs.lemmas.Bool.{and_parts, cases_eq, cases_lt, not-true, or_right}
 use Rattle.std.specs.List.{position_or_len}
 use Rattle.std.proofs.lemmas.Option.{slice_get_within, slice_get_past}
 use Rattle.ccsl_base.specs.Names.{is_among, find_name, are_distinct}

@@ -13,7 +13,7 @@ loop-i-init c = front-none c.in_ok-short.short.items c.args.names c.args.entries
 pub loop-i-preserved : goal.loop-i-preserved
 loop-i-preserved c =
     let i = c.loop-i.i in
-    let p = c.place-place.result in
+    let p = c.place_of-place.result in
     let table = c.loop-i.short.items in
     let names = c.args.names in
     let entries = c.args.entries.items in
@@ -21,7 +21,7 @@ loop-i-preserved c =
       | then-place-len+then-i-len w ↦
           let low : p < SHORT = omega (arith, w.if-place-len.true, c.len.ensures, c.loop-i.invariant.len) in
           subst (λ (v : Vec Entry Global). IsFront (i + 1) v.items names entries) (sym w.short-is)
-          (front-more i p table names entries c.get.result.now _ c.loop-i.invariant c.get.ensures.name c.get.ensures.distinct c.place-place.ensures.value low
+          (front-more i p table names entries c.get.result.now _ c.loop-i.invariant c.get.ensures.name c.get.ensures.distinct c.place_of-place.ensures.value low
           (got entries i _ (omega (arith, w.if-i-len.true, w.len-then-place-len.ensures)) w.index.ensures))
       | else-place-len w ↦
           let past : (SHORT ≤ p) ⊎ (length entries ≤ i) = elim w.else-place-len.branch [
@@ -29,7 +29,7 @@ loop-i-preserved c =
             | else-place-len-via-else-place-len u ↦ inl (omega (arith, u.if-place-len.false, c.len.ensures, c.loop-i.invariant.len))
           ] in
           subst (λ (v : Vec Entry Global). IsFront (i + 1) v.items names entries) (sym w.short-is)
-          (front-past i p table names entries c.get.result.now c.loop-i.invariant c.get.ensures.name c.get.ensures.distinct c.place-place.ensures.value past)
+          (front-past i p table names entries c.get.result.now c.loop-i.invariant c.get.ensures.name c.get.ensures.distinct c.place_of-place.ensures.value past)
     ]
 
 pub invariant_of-result : goal.invariant_of-result
