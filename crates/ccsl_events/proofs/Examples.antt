@@ -1,15 +1,23 @@
 -- Worked examples of the body of a dump, computed: what is seen of variables, and what it sets off.
-use Rattle.std.proofs.Common.{◌≡◌, ℕ, List, [], ◌∷◌, Bool, true, false, Option, Some, refl}
+use Rattle.std.proofs.Common.{◌≡◌, ap, if◌then◌else◌, ℕ, List, [], ◌∷◌, Bool, true, false, Option, Some, None, refl}
 use Rattle.std.specs.Prelude.{codes}
+use Rattle.std.specs.Fmt.{digits}
 use Rattle.ccsl_vcd_lex.specs.Tokens.{tokens_from, run, is_white, heard}
 use Rattle.ccsl_vcd.specs.Words.{word_of, number}
 use Rattle.ccsl_vcd.specs.declared.fault.VcdFault.{VcdFault}
 use Rattle.ccsl_vcd.specs.declared.fault.VcdFault.TheVariants as faults
+use Rattle.std.specs.declared.vec.Vec.{Vec}
+use Rattle.std.specs.declared.alloc.Global.{Global}
 use Rattle.ccsl_triggers.specs.declared.watch.Part.{Part}
+use Rattle.ccsl_triggers.specs.declared.watch.Goal.{Goal}
 use Rattle.ccsl_triggers.specs.declared.watch.Trigger.{Trigger}
 use Rattle.ccsl_triggers.specs.declared.watch.Trigger.TheVariants.{Rise, Change}
-use Rattle.ccsl_triggers.specs.Triggers.{sets_off}
-use Rattle.ccsl_events.specs.Dump.{Variable, Plan, says, story}
+use Rattle.ccsl_triggers.specs.Triggers.{sets_off, held_before}
+use Rattle.ccsl_triggers.specs.Output.{row_text}
+use Rattle.ccsl_triggers.specs.Views.{View}
+use Rattle.std.specs.List.{list_all}
+use Rattle.ccsl_events.specs.Dump.{Variable, Plan, Place, Said, goes, refused, Story, begin, says, story, body_says}
+use Rattle.ccsl_events.specs.Run.{settled_from, story_from}
 
 abbrev variable : List ℕ → ℕ → Variable
 variable code size = record { code = code; size = size }
@@ -86,3 +94,52 @@ none_at_2 = refl
 change_at_2 : is_set_off two_sizes (Change (whole 1 4)) (codes "b0 ! #1 b11 ! #2 b101 ! ") ≡ true
 unfolding story says word_of number tokens_from run is_white
 change_at_2 = refl
+
+-- A whole body, which begins at place 40 of its dump.
+
+abbrev fault_in : Said → Option VcdFault
+fault_in (goes p) = None
+fault_in (refused f) = Some f
+
+abbrev written_in : Said → List ℕ
+written_in (goes p) = p.written
+written_in (refused f) = []
+
+-- what is told from a place on of bytes that begin at a place of the dump
+abbrev told : Place → ℕ → List ℕ → Story
+told p at bytes = story_from two p (settled_from at bytes)
+
+-- the last token may end with the dump
+last_token : fault_in (body_says two 40 45 (codes "#5 1!")) ≡ None
+unfolding story says word_of number tokens_from run is_white
+last_token = refl
+
+-- behind a vector its code is missing
+vector_at_the_end : fault_in (body_says two 40 46 (codes "#5 b10")) ≡ Some (faults.Truncated 46)
+unfolding story says word_of number tokens_from run is_white
+vector_at_the_end = refl
+
+-- the first fault counts, with its place in the dump
+first_fault : fault_in (body_says two 40 49 (codes "#5 1? #4 ")) ≡ Some (faults.UnknownCode 43)
+unfolding story says word_of number tokens_from run is_white
+first_fault = refl
+
+-- the row of the last time is written
+abbrev rises : Vec Goal Global → Plan
+rises none = record two { watches = record { trigger = Rise (whole 0 1); conditions = none } ∷ [] }
+
+last_row : (none : Vec Goal Global) → none.items ≡ [] → written_in (body_says (rises none) 40 48 (codes "0! #5 1!")) ≡ codes "#5\n1!\n"
+unfolding story says word_of number tokens_from run is_white digits
+last_row none e =
+    let views : ℕ → View = (story (rises none) (heard (codes "0! #5 1!"))).place.views in
+    ap (λ (goals : List Goal). row_text (codes "5") (if list_all (held_before views) goals then 0 ∷ [] else [])) e
+
+-- in two pieces as in one
+two_pieces : told (told begin 40 (codes "#5 ")).place 43 (codes "1! ") ≡ told begin 40 (codes "#5 1! ")
+unfolding says word_of number tokens_from run is_white
+two_pieces = refl
+
+-- a token that goes over the end of a piece is not settled there
+open_token : settled_from 40 (codes "#5 1") ≡ settled_from 40 (codes "#5 ")
+unfolding tokens_from run is_white
+open_token = refl

@@ -11,3 +11,4 @@ mod Tables
 mod Changes
 mod Examples
 mod Feeding
+mod Whole

@@ -20,10 +20,10 @@ use Rattle.ccsl_events.proofs.Standing.{follows-still}
 
 -- What bytes settle, over a cut.
 
-settled-fresh : (at : ℕ) (p : List ℕ) → fresh_after true p ≡ true → settled_from at p ≡ map hear (tokens_from true at p)
+pub settled-fresh : (at : ℕ) (p : List ℕ) → fresh_after true p ≡ true → settled_from at p ≡ map hear (tokens_from true at p)
 settled-fresh at p h = ap (map hear) (all-kept (at + length p) (tokens_from true at p) (ends-before true at p h))
 
-settled-cut : (at : ℕ) (p q : List ℕ) → fresh_after true p ≡ true → settled_from at (p ++ q) ≡ settled_from at p ++ settled_from (at + length p) q
+pub settled-cut : (at : ℕ) (p q : List ℕ) → fresh_after true p ≡ true → settled_from at (p ++ q) ≡ settled_from at p ++ settled_from (at + length p) q
 settled-cut at p q h =
     let n : ℕ = at + length (p ++ q) in
     let Q : Token → Bool = λ t. nat_lt (end_of t) n || is_long t in
@@ -37,7 +37,7 @@ settled-cut at p q h =
     ∙ ap (λ (hs : List Heard). hs ++ map hear (filter Q qs)) (sym (settled-fresh at p h))
     ∙ ap (λ (k : ℕ). settled_from at p ++ map hear (filter (λ t. nat_lt (end_of t) k || is_long t) qs)) m
 
-fold-both : (plan : Plan) (s : Story) (xs ys : List Heard) → fold (next plan) s (xs ++ ys) ≡ fold (next plan) (fold (next plan) s xs) ys
+pub fold-both : (plan : Plan) (s : Story) (xs ys : List Heard) → fold (next plan) s (xs ++ ys) ≡ fold (next plan) (fold (next plan) s xs) ys
 fold-both plan s [] ys = refl
 fold-both plan s (x ∷ xs) ys = fold-both plan (next plan s x) xs ys
 
@@ -116,7 +116,7 @@ word-breaks plan p at w text f b x y d n l h a = go (token_says plan p (token at
     go (refused g) e (inr m) = inl m
 
 -- a token that is too long already
-settled-long : (at : ℕ) (text : List ℕ) → Dark text → 65536 < length text → settled_from at text ≡ too_long at ∷ []
+pub settled-long : (at : ℕ) (text : List ℕ) → Dark text → 65536 < length text → settled_from at text ≡ too_long at ∷ []
 settled-long at [] d l = absurd (omega arith)
 settled-long at (t ∷ ts) d l =
     let n : ℕ = at + length (t ∷ ts) in

@@ -1,9 +1,9 @@
 -- The body of a dump for some events: what its tokens say one after another, and what is written of it. IEEE 1364-2005, clauses
 -- 18.2.1 and 18.2.3. That times do not fall, that a code is declared, that blocks do not hold blocks and what a gap is are
 -- this project's profile.
-use Rattle.std.specs.Prelude.{ℕ, List, [], ◌++◌, take, drop, length, filter, Bool, true, false, not, Option, Some, None, nat_lt, ◌&&◌, if◌then◌else◌, codes, bytes_eq, decimal, slice_get, fold}
+use Rattle.std.specs.Prelude.{ℕ, List, [], ◌++◌, take, drop, length, filter, map, Bool, true, false, not, Option, Some, None, nat_lt, ◌&&◌, if◌then◌else◌, codes, bytes_eq, decimal, slice_get, fold}
 use Rattle.std.specs.List.{list_any, range_with_len}
-use Rattle.ccsl_vcd_lex.specs.Tokens.{Token, Heard, word, too_long}
+use Rattle.ccsl_vcd_lex.specs.Tokens.{Token, Heard, word, too_long, hear, tokens_from}
 use Rattle.ccsl_vcd.specs.declared.fault.VcdFault.{VcdFault}
 use Rattle.ccsl_vcd.specs.declared.fault.VcdFault.TheVariants as faults
 use Rattle.ccsl_vcd.specs.Words.{Word, time, scalar, vector, skipped, comment, dump, gap, close, bad_time, bad_change, unknown, word_of}
@@ -166,3 +166,16 @@ may_end p = is_changes p.amid && not p.dumping
 -- The end of a dump of that length: the row of the last time is written, unless the dump ends in the middle.
 abbrev pub ends_at : Plan → ℕ → Place → Said
 ends_at plan len p = if may_end p then goes (passed plan p) else refused (faults.Truncated len)
+
+-- what the end of a dump says behind some tokens
+abbrev pub ended : Plan → ℕ → Place → Option VcdFault → Said
+ended plan len p None = ends_at plan len p
+ended plan len p (Some f) = refused f
+
+abbrev pub story_says : Plan → ℕ → Story → Said
+story_says plan len s = ended plan len s.place s.fault
+
+-- WHAT A WHOLE BODY SAYS: all its tokens, of which the last may end with the dump, and then the end. It begins at a place of
+-- the dump, and the dump has that length.
+abbrev pub body_says : Plan → ℕ → ℕ → List ℕ → Said
+body_says plan start len bytes = story_says plan len (story plan (map hear (tokens_from true start bytes)))

@@ -4,6 +4,7 @@
 pub mod binding;
 pub mod body;
 pub(crate) mod codes;
+pub mod laws;
 pub mod output;
 pub mod reader;
 pub(crate) mod values;
