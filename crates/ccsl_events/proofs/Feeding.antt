@@ -59,7 +59,8 @@ pub told-of : (plan : Plan) (start : ℕ) (bytes : List ℕ) (p : Place) (r : Re
 told-of plan start bytes p r h = record { fresh = h.fresh; told = h.told }
 
 -- a part behind it
-pub told-runs : (plan : Plan) (start : ℕ) (whole part : List ℕ) (p : Place) (b : Body) (x y : List ℕ) → IsTold plan start whole p → (r : Runs plan p (start + length whole) part b x y)
+pub told-runs : (plan : Plan) (start : ℕ) (whole part : List ℕ) (p : Place) (b : Body) (x y : List ℕ) → IsTold plan start whole p
+    → (r : Runs plan p (start + length whole) part b x y)
     → IsTold plan start (whole ++ part) r.place
 told-runs plan start whole part p b x y t r = record {
   fresh = fresh-append true whole part ∙ ap (λ w. fresh_after w part) t.fresh ∙ r.fresh;
@@ -67,7 +68,8 @@ told-runs plan start whole part p b x y t r = record {
 }
 
 -- a fault behind it
-pub told-breaks : (plan : Plan) (start : ℕ) (whole rest : List ℕ) (p : Place) (f : VcdFault) → IsTold plan start whole p → (f ≡ faults.Memory) ⊎ Breaks plan p (start + length whole) rest f
+pub told-breaks : (plan : Plan) (start : ℕ) (whole rest : List ℕ) (p : Place) (f : VcdFault) → IsTold plan start whole p
+    → (f ≡ faults.Memory) ⊎ Breaks plan p (start + length whole) rest f
     → (f ≡ faults.Memory) ⊎ Breaks plan begin start (whole ++ rest) f
 told-breaks plan start whole rest p f t (inl m) = inl m
 told-breaks plan start whole rest p f t (inr b) = inr (record {
@@ -90,7 +92,8 @@ no-bytes : (carry : List ℕ) → carry ≡ [] → [] ≡ [] ++ carry
 no-bytes carry e = ap (λ (xs : List ℕ). [] ++ xs) (sym e)
 
 -- where no byte of the body was taken
-pub begins : (plan : Plan) (r : Reader) (b : Body) → r.body ≡ Some b → Stands plan begin b → r.carry.items ≡ [] → r.is_header_over ≡ false → HasTaken plan r.taken [] begin r
+pub begins : (plan : Plan) (r : Reader) (b : Body) → r.body ≡ Some b → Stands plan begin b → r.carry.items ≡ [] → r.is_header_over ≡ false
+    → HasTaken plan r.taken [] begin r
 unfolding tokens_from fresh_after
 begins plan r b has s none over = record {
   body = b;
@@ -108,18 +111,22 @@ begins plan r b has s none over = record {
 
 -- The end of a dump.
 
-pub ends-on : (plan : Plan) (p : Place) (len : ℕ) (r : Result (Unit {0}) VcdFault) (b : Body) (x y : List ℕ) → may_end p ≡ true → Answers plan p.written (goes (passed plan p)) r b x y → Answers plan p.written (ends_at plan len p) r b x y
+pub ends-on : (plan : Plan) (p : Place) (len : ℕ) (r : Result (Unit {0}) VcdFault) (b : Body) (x y : List ℕ) → may_end p ≡ true
+    → Answers plan p.written (goes (passed plan p)) r b x y → Answers plan p.written (ends_at plan len p) r b x y
 ends-on plan p len r b x y e a = rw e a
 
-pub ends-off : (plan : Plan) (p : Place) (len : ℕ) (b : Body) (x y : List ℕ) → may_end p ≡ false → Answers plan p.written (ends_at plan len p) (Err (faults.Truncated len)) b x y
+pub ends-off : (plan : Plan) (p : Place) (len : ℕ) (b : Body) (x y : List ℕ) → may_end p ≡ false
+    → Answers plan p.written (ends_at plan len p) (Err (faults.Truncated len)) b x y
 ends-off plan p len b x y e = rw e (inl refl)
 
 pub no-body : (b : Body) (r : Reader) → r.body ≡ Some b → r.body ≡ None → ⊥
 no-body b r e f = let g : Some b ≡ None = sym e ∙ f in cc
 
 -- the token that is kept was said to the body
-pub says-kept : (plan : Plan) (p : Place) (r : Reader) (b : Body) (at place : ℕ) (text carry : List ℕ) (res : Result (Unit {0}) VcdFault) (x y : List ℕ) → r.body ≡ Some b → at ≡ place → text ≡ carry
-    → Answers plan p.written (token_says plan p (token at text) p.amid) res b x y → Says plan p.written (token_says plan p (token place carry) p.amid) res r x y
+pub says-kept : (plan : Plan) (p : Place) (r : Reader) (b : Body) (at place : ℕ) (text carry : List ℕ) (res : Result (Unit {0}) VcdFault) (x y : List ℕ)
+    → r.body ≡ Some b → at ≡ place → text ≡ carry
+    → Answers plan p.written (token_says plan p (token at text) p.amid) res b x y
+    → Says plan p.written (token_says plan p (token place carry) p.amid) res r x y
 says-kept plan p r b at place text carry res x y has e f a = record {
   body = b;
   has = has;
@@ -146,46 +153,60 @@ up-to carry piece end =
     ap (λ (i : ℕ). take i (carry ++ piece)) e ∙ take-append-add carry piece (end + 1)
 
 pub end-word : (plan : Plan) (p : Place) (at end : ℕ) (carry piece : List ℕ) (b : Body) (x y : List ℕ) → EndsIn carry piece end → 0 < length carry + end
-    → Answers plan p.written (token_says plan p (token at (carry ++ take end piece)) p.amid) (Ok tt) b x y → Runs plan p at (carry ++ take (end + 1) piece) b x y
+    → Answers plan p.written (token_says plan p (token at (carry ++ take end piece)) p.amid) (Ok tt) b x y
+    → Runs plan p at (carry ++ take (end + 1) piece) b x y
 end-word plan p at end carry piece b x y e some a =
     subst (λ (part : List ℕ). Runs plan p at part b x y) (up-to carry piece end)
-    (front-word plan p at (length carry + end) (carry ++ piece) b x y (one-run carry piece end e.unended e.run) some (omega (arith, e.inside, length-append carry piece)) e.short
+    (front-word plan p at (length carry + end) (carry ++ piece) b x y (one-run carry piece end e.unended e.run) some
+    (omega (arith, e.inside, length-append carry piece)) e.short
     (subst (λ (t : List ℕ). Answers plan p.written (token_says plan p (token at t) p.amid) (Ok tt) b x y) (sym (take-append-add carry piece end)) a))
 
-pub end-white : (plan : Plan) (p : Place) (at end : ℕ) (carry piece : List ℕ) (b : Body) (x : List ℕ) → EndsIn carry piece end → length carry + end ≡ 0 → Stands plan p b
+pub end-white : (plan : Plan) (p : Place) (at end : ℕ) (carry piece : List ℕ) (b : Body) (x : List ℕ) → EndsIn carry piece end → length carry + end ≡ 0
+    → Stands plan p b
     → Runs plan p at (carry ++ take (end + 1) piece) b x x
 end-white plan p at end carry piece b x e none s =
     subst (λ (part : List ℕ). Runs plan p at part b x x) (up-to carry piece end)
-    (front-white plan p at (length carry + end) (carry ++ piece) b x (one-run carry piece end e.unended e.run) none (omega (arith, e.inside, length-append carry piece)) s)
+    (front-white plan p at (length carry + end) (carry ++ piece) b x (one-run carry piece end e.unended e.run) none
+    (omega (arith, e.inside, length-append carry piece)) s)
 
-pub end-breaks : (plan : Plan) (p : Place) (at end : ℕ) (carry piece : List ℕ) (f : VcdFault) (b : Body) (x y : List ℕ) → EndsIn carry piece end → 0 < length carry + end
-    → Answers plan p.written (token_says plan p (token at (carry ++ take end piece)) p.amid) (Err f) b x y → (f ≡ faults.Memory) ⊎ Breaks plan p at (carry ++ piece) f
+pub end-breaks : (plan : Plan) (p : Place) (at end : ℕ) (carry piece : List ℕ) (f : VcdFault) (b : Body) (x y : List ℕ) → EndsIn carry piece end
+    → 0 < length carry + end
+    → Answers plan p.written (token_says plan p (token at (carry ++ take end piece)) p.amid) (Err f) b x y
+    → (f ≡ faults.Memory) ⊎ Breaks plan p at (carry ++ piece) f
 end-breaks plan p at end carry piece f b x y e some a =
-    front-breaks plan p at (length carry + end) (carry ++ piece) f b x y (one-run carry piece end e.unended e.run) some (omega (arith, e.inside, length-append carry piece)) e.short
+    front-breaks plan p at (length carry + end) (carry ++ piece) f b x y (one-run carry piece end e.unended e.run) some
+    (omega (arith, e.inside, length-append carry piece)) e.short
     (subst (λ (t : List ℕ). Answers plan p.written (token_says plan p (token at t) p.amid) (Err f) b x y) (sym (take-append-add carry piece end)) a)
 
 -- where the token begins that is kept
-pub kept-place : (plan : Plan) (start : ℕ) (bytes : List ℕ) (p : Place) (r : Reader) → (h : HasTaken plan start bytes p r) → r.taken - length r.carry.items ≡ start + length h.whole
+pub kept-place : (plan : Plan) (start : ℕ) (bytes : List ℕ) (p : Place) (r : Reader) → (h : HasTaken plan start bytes p r)
+    → r.taken - length r.carry.items ≡ start + length h.whole
 kept-place plan start bytes p r h = omega (arith, h.taken, ap length h.parts, length-append h.whole r.carry.items)
 
 -- a fault of what is kept and a piece behind it
 pub kept-breaks : (plan : Plan) (start : ℕ) (bytes piece : List ℕ) (p : Place) (r : Reader) (f : VcdFault) → (h : HasTaken plan start bytes p r)
-    → (f ≡ faults.Memory) ⊎ Breaks plan p (start + length h.whole) (r.carry.items ++ piece) f → (f ≡ faults.Memory) ⊎ Breaks plan begin start (bytes ++ piece) f
+    → (f ≡ faults.Memory) ⊎ Breaks plan p (start + length h.whole) (r.carry.items ++ piece) f
+    → (f ≡ faults.Memory) ⊎ Breaks plan begin start (bytes ++ piece) f
 kept-breaks plan start bytes piece p r f h b =
     subst (λ (all : List ℕ). (f ≡ faults.Memory) ⊎ Breaks plan begin start all f) (as-one bytes h.whole r.carry.items piece h.parts)
     (told-breaks plan start h.whole (r.carry.items ++ piece) p f (told-of plan start bytes p r h) b)
 
-pub kept-long : (plan : Plan) (start : ℕ) (bytes piece : List ℕ) (p : Place) (r : Reader) (at end : ℕ) → HasTaken plan start bytes p r → end ≡ prefix_len is_dark piece → end ≤ length piece
-    → 65536 < length r.carry.items + end → at ≡ r.taken - length r.carry.items → (faults.TokenTooLong at ≡ faults.Memory) ⊎ Breaks plan begin start (bytes ++ piece) (faults.TokenTooLong at)
+pub kept-long : (plan : Plan) (start : ℕ) (bytes piece : List ℕ) (p : Place) (r : Reader) (at end : ℕ) → HasTaken plan start bytes p r
+    → end ≡ prefix_len is_dark piece → end ≤ length piece
+    → 65536 < length r.carry.items + end → at ≡ r.taken - length r.carry.items
+    → (faults.TokenTooLong at ≡ faults.Memory) ⊎ Breaks plan begin start (bytes ++ piece) (faults.TokenTooLong at)
 kept-long plan start bytes piece p r at end h e l long is =
     let here : start + length h.whole ≡ at = sym (is ∙ kept-place plan start bytes p r h) in
     kept-breaks plan start bytes piece p r (faults.TokenTooLong at) h
     (inr (subst (λ (i : ℕ). Breaks plan p (start + length h.whole) (r.carry.items ++ piece) (faults.TokenTooLong i)) here
-    (front-long plan p (start + length h.whole) (length r.carry.items + end) (r.carry.items ++ piece) (one-run r.carry.items piece end h.unended e) (omega (arith, l, length-append r.carry.items piece)) long)))
+    (front-long plan p (start + length h.whole) (length r.carry.items + end) (r.carry.items ++ piece) (one-run r.carry.items piece end h.unended e)
+    (omega (arith, l, length-append r.carry.items piece)) long)))
 
 -- what is kept and so many bytes are white space and whole tokens
-pub closes : (plan : Plan) (start : ℕ) (bytes piece : List ℕ) (p : Place) (r r' : Reader) (b : Body) (n : ℕ) (x y : List ℕ) → (h : HasTaken plan start bytes p r)
-    → Runs plan p (start + length h.whole) (r.carry.items ++ take n piece) b x y → n ≤ length piece → r'.body ≡ Some b → r'.carry.items ≡ [] → r'.taken ≡ r.taken + n → r'.is_header_over ≡ false
+pub closes : (plan : Plan) (start : ℕ) (bytes piece : List ℕ) (p : Place) (r r' : Reader) (b : Body) (n : ℕ) (x y : List ℕ)
+    → (h : HasTaken plan start bytes p r)
+    → Runs plan p (start + length h.whole) (r.carry.items ++ take n piece) b x y → n ≤ length piece → r'.body ≡ Some b → r'.carry.items ≡ []
+    → r'.taken ≡ r.taken + n → r'.is_header_over ≡ false
     → Reaches plan start (bytes ++ take n piece) p.written r' x y
 closes plan start bytes piece p r r' b n x y h run l has none taken over =
     let part : List ℕ = r.carry.items ++ take n piece in
@@ -197,7 +218,8 @@ closes plan start bytes piece p r r' b n x y h run l has none taken over =
         has = has;
         stands = run.follows.stands;
         whole = h.whole ++ part;
-        parts = sym (as-one bytes h.whole r.carry.items (take n piece) h.parts) ∙ sym (append-nil (h.whole ++ part)) ∙ ap (λ (xs : List ℕ). (h.whole ++ part) ++ xs) (sym none);
+        parts = sym (as-one bytes h.whole r.carry.items (take n piece) h.parts) ∙ sym (append-nil (h.whole ++ part))
+            ∙ ap (λ (xs : List ℕ). (h.whole ++ part) ++ xs) (sym none);
         fresh = t.fresh;
         told = t.told;
         unended = subst IsOpen (sym none) refl;
@@ -211,8 +233,10 @@ closes plan start bytes piece p r r' b n x y h run l has none taken over =
     }
 
 -- so many bytes go on with the token that is kept
-pub goes-on : (plan : Plan) (start : ℕ) (bytes piece : List ℕ) (p : Place) (r r' : Reader) (n : ℕ) (x : List ℕ) → HasTaken plan start bytes p r → IsOpen (take n piece) → n ≤ length piece
-    → length r.carry.items + n ≤ 65536 → r'.body ≡ r.body → r'.carry.items ≡ r.carry.items ++ take n piece → r'.taken ≡ r.taken + n → r'.is_header_over ≡ false
+pub goes-on : (plan : Plan) (start : ℕ) (bytes piece : List ℕ) (p : Place) (r r' : Reader) (n : ℕ) (x : List ℕ) → HasTaken plan start bytes p r
+    → IsOpen (take n piece) → n ≤ length piece
+    → length r.carry.items + n ≤ 65536 → r'.body ≡ r.body → r'.carry.items ≡ r.carry.items ++ take n piece → r'.taken ≡ r.taken + n
+    → r'.is_header_over ≡ false
     → Reaches plan start (bytes ++ take n piece) p.written r' x x
 goes-on plan start bytes piece p r r' n x h o l short same kept taken over = record {
   place = p;
@@ -238,18 +262,31 @@ pub open-to : (piece : List ℕ) (end : ℕ) → end ≡ prefix_len is_dark piec
 open-to piece end e = subst (λ (i : ℕ). IsOpen (take i piece)) (sym e) (open-front piece)
 
 -- what was said of the token that is kept, with its bytes in a piece
-pub kept-said : (plan : Plan) (start : ℕ) (bytes piece : List ℕ) (p : Place) (r : Reader) (end taken : ℕ) (carry : List ℕ) (res : Result (Unit {0}) VcdFault) (b : Body) (x y : List ℕ)
+pub kept-said : (plan : Plan) (start : ℕ) (bytes piece : List ℕ) (p : Place) (r : Reader) (end taken : ℕ) (carry : List ℕ) (res : Result (Unit {0}) VcdFault)
+    (b : Body) (x y : List ℕ)
     → (h : HasTaken plan start bytes p r) → end ≤ length piece → taken ≡ r.taken + end → carry ≡ r.carry.items ++ take end piece
     → Answers plan p.written (token_says plan p (token (taken - length carry) carry) p.amid) res b x y
     → Answers plan p.written (token_says plan p (token (start + length h.whole) (r.carry.items ++ take end piece)) p.amid) res b x y
 kept-said plan start bytes piece p r end taken carry res b x y h l t e a =
     let here : taken - length carry ≡ start + length h.whole =
-    omega (arith, kept-place plan start bytes p r h, t, ap length e, length-append r.carry.items (take end piece), length-take-le end piece l, h.taken, ap length h.parts, length-append h.whole r.carry.items) in
+    omega (
+      arith,
+      kept-place plan start bytes p r h,
+      t,
+      ap length e,
+      length-append r.carry.items
+          (take end piece),
+      length-take-le end piece l,
+      h.taken,
+      ap length h.parts,
+      length-append h.whole r.carry.items,
+    ) in
     subst (λ (i : ℕ). Answers plan p.written (token_says plan p (token i (r.carry.items ++ take end piece)) p.amid) res b x y) here
     (subst (λ (text : List ℕ). Answers plan p.written (token_says plan p (token (taken - length carry) text) p.amid) res b x y) e a)
 
 -- where a piece ends the token that is kept
-pub ends-in : (plan : Plan) (start : ℕ) (bytes piece : List ℕ) (p : Place) (r : Reader) (end : ℕ) → HasTaken plan start bytes p r → end ≡ prefix_len is_dark piece → end < length piece
+pub ends-in : (plan : Plan) (start : ℕ) (bytes piece : List ℕ) (p : Place) (r : Reader) (end : ℕ) → HasTaken plan start bytes p r
+    → end ≡ prefix_len is_dark piece → end < length piece
     → length r.carry.items + end ≤ 65536 → EndsIn r.carry.items piece end
 ends-in plan start bytes piece p r end h e l short = record { unended = h.unended; run = e; inside = l; short = short }
 
@@ -259,14 +296,16 @@ no-items (x ∷ xs) e = absurd (omega arith)
 
 -- Where nothing is kept, a piece is taken from its first byte.
 
-pub fresh-runs : (plan : Plan) (start : ℕ) (bytes part : List ℕ) (p : Place) (r : Reader) (b : Body) (x y : List ℕ) → (h : HasTaken plan start bytes p r) → length r.carry.items ≡ 0
+pub fresh-runs : (plan : Plan) (start : ℕ) (bytes part : List ℕ) (p : Place) (r : Reader) (b : Body) (x y : List ℕ) → (h : HasTaken plan start bytes p r)
+    → length r.carry.items ≡ 0
     → Runs plan p r.taken part b x y → Runs plan p (start + length h.whole) (r.carry.items ++ part) b x y
 fresh-runs plan start bytes part p r b x y h none run =
     let here : r.taken ≡ start + length h.whole = omega (arith, kept-place plan start bytes p r h, none) in
     subst (λ (i : ℕ). Runs plan p i (r.carry.items ++ part) b x y) here
     (subst (λ (xs : List ℕ). Runs plan p r.taken (xs ++ part) b x y) (sym (no-items r.carry.items none)) run)
 
-pub fresh-breaks : (plan : Plan) (start : ℕ) (bytes piece : List ℕ) (p : Place) (r : Reader) (f : VcdFault) → HasTaken plan start bytes p r → length r.carry.items ≡ 0
+pub fresh-breaks : (plan : Plan) (start : ℕ) (bytes piece : List ℕ) (p : Place) (r : Reader) (f : VcdFault) → HasTaken plan start bytes p r
+    → length r.carry.items ≡ 0
     → (f ≡ faults.Memory) ⊎ Breaks plan p r.taken piece f → (f ≡ faults.Memory) ⊎ Breaks plan begin start (bytes ++ piece) f
 fresh-breaks plan start bytes piece p r f h none b =
     let here : r.taken ≡ start + length h.whole = omega (arith, kept-place plan start bytes p r h, none) in
@@ -276,7 +315,8 @@ fresh-breaks plan start bytes piece p r f h none b =
 
 -- One after another.
 
-pub reaches-both : (plan : Plan) (start : ℕ) (bytes more : List ℕ) (w : List ℕ) (r r' : Reader) (x y z : List ℕ) → (a : Reaches plan start bytes w r x y) → Reaches plan start more a.place.written r' y z
+pub reaches-both : (plan : Plan) (start : ℕ) (bytes more : List ℕ) (w : List ℕ) (r r' : Reader) (x y z : List ℕ) → (a : Reaches plan start bytes w r x y)
+    → Reaches plan start more a.place.written r' y z
     → Reaches plan start more w r' x z
 reaches-both plan start bytes more w r r' x y z a b = record {
   place = b.place;
@@ -286,27 +326,33 @@ reaches-both plan start bytes more w r r' x y z a b = record {
   written = b.written ∙ ap (λ (o : List ℕ). o ++ b.more) a.written ∙ append_assoc w a.more b.more;
 }
 
-pub feeds-next : (plan : Plan) (start : ℕ) (bytes piece : List ℕ) (p : Place) (res : Result ℕ VcdFault) (r r' : Reader) (x y z : List ℕ) → (a : Reaches plan start bytes p.written r x y)
+pub feeds-next : (plan : Plan) (start : ℕ) (bytes piece : List ℕ) (p : Place) (res : Result ℕ VcdFault) (r r' : Reader) (x y z : List ℕ)
+    → (a : Reaches plan start bytes p.written r x y)
     → Feeds plan start bytes a.place piece res r' y z → Feeds plan start bytes p piece res r' x z
 feeds-next plan start bytes piece p (Ok n) r r' x y z a f = reaches-both plan start bytes (bytes ++ take n piece) p.written r r' x y z a f
 feeds-next plan start bytes piece p (Err g) r r' x y z a f = f
 
 -- where a run took no byte
-pub still-there : (plan : Plan) (start : ℕ) (bytes piece w : List ℕ) (r : Reader) (n : ℕ) (x y : List ℕ) → n ≡ 0 → Reaches plan start (bytes ++ take n piece) w r x y → Reaches plan start bytes w r x y
+pub still-there : (plan : Plan) (start : ℕ) (bytes piece w : List ℕ) (r : Reader) (n : ℕ) (x y : List ℕ) → n ≡ 0
+    → Reaches plan start (bytes ++ take n piece) w r x y → Reaches plan start bytes w r x y
 still-there plan start bytes piece w r n x y e a =
     subst (λ (all : List ℕ). Reaches plan start all w r x y) (append-nil bytes) (subst (λ (i : ℕ). Reaches plan start (bytes ++ take i piece) w r x y) e a)
 
 pub feed-more : (plan : Plan) (start : ℕ) (bytes piece rest w : List ℕ) (k : ℕ) (r r' : Reader) (x y z : List ℕ) → IsRest piece rest
     → (a : Reaches plan start (bytes ++ take (length piece - length rest) piece) w r x y)
-    → Reaches plan start ((bytes ++ take (length piece - length rest) piece) ++ take k rest) a.place.written r' y z → Reaches plan start (bytes ++ take (length piece - length rest + k) piece) w r' x z
+    → Reaches plan start ((bytes ++ take (length piece - length rest) piece) ++ take k rest) a.place.written r' y z
+    → Reaches plan start (bytes ++ take (length piece - length rest + k) piece) w r' x z
 feed-more plan start bytes piece rest w k r r' x y z so a b =
     let n : ℕ = length piece - length rest in
     let whole : (bytes ++ take n piece) ++ take k rest ≡ bytes ++ take (n + k) piece =
-    append_assoc bytes (take n piece) (take k rest) ∙ ap (λ (xs : List ℕ). bytes ++ xs) (ap (λ (ys : List ℕ). take n piece ++ take k ys) so.is ∙ sym (take-add n k piece)) in
-    subst (λ (all : List ℕ). Reaches plan start all w r' x z) whole (reaches-both plan start (bytes ++ take n piece) ((bytes ++ take n piece) ++ take k rest) w r r' x y z a b)
+    append_assoc bytes (take n piece) (take k rest) ∙ ap (λ (xs : List ℕ). bytes ++ xs)
+    (ap (λ (ys : List ℕ). take n piece ++ take k ys) so.is ∙ sym (take-add n k piece)) in
+    subst (λ (all : List ℕ). Reaches plan start all w r' x z) whole
+    (reaches-both plan start (bytes ++ take n piece) ((bytes ++ take n piece) ++ take k rest) w r r' x y z a b)
 
 pub feed-breaks : (plan : Plan) (start : ℕ) (bytes piece rest : List ℕ) (f : VcdFault) → IsRest piece rest
-    → (f ≡ faults.Memory) ⊎ Breaks plan begin start ((bytes ++ take (length piece - length rest) piece) ++ rest) f → (f ≡ faults.Memory) ⊎ Breaks plan begin start (bytes ++ piece) f
+    → (f ≡ faults.Memory) ⊎ Breaks plan begin start ((bytes ++ take (length piece - length rest) piece) ++ rest) f
+    → (f ≡ faults.Memory) ⊎ Breaks plan begin start (bytes ++ piece) f
 feed-breaks plan start bytes piece rest f so b =
     let n : ℕ = length piece - length rest in
     let whole : (bytes ++ take n piece) ++ rest ≡ bytes ++ piece =
@@ -314,12 +360,15 @@ feed-breaks plan start bytes piece rest f so b =
     subst (λ (all : List ℕ). (f ≡ faults.Memory) ⊎ Breaks plan begin start all f) whole b
 
 -- there is room in the width of places for the rest
-pub rest-fits : (plan : Plan) (start : ℕ) (bytes piece rest w : List ℕ) (p : Place) (r r' : Reader) (x y : List ℕ) → HasTaken plan start bytes p r → IsRest piece rest
-    → Reaches plan start (bytes ++ take (length piece - length rest) piece) w r' x y → r.taken + length piece < 18446744073709551616 → r'.taken + length rest < 18446744073709551616
+pub rest-fits : (plan : Plan) (start : ℕ) (bytes piece rest w : List ℕ) (p : Place) (r r' : Reader) (x y : List ℕ) → HasTaken plan start bytes p r
+    → IsRest piece rest
+    → Reaches plan start (bytes ++ take (length piece - length rest) piece) w r' x y → r.taken + length piece < 18446744073709551616
+    → r'.taken + length rest < 18446744073709551616
 rest-fits plan start bytes piece rest w p r r' x y h so a fits =
     let n : ℕ = length piece - length rest in
     let l : n ≤ length piece = omega arith in
     omega (arith, h.taken, a.taken.taken, so.fits, fits, length-append bytes (take n piece), length-take-le n piece l)
 
-pub reaches-here : (plan : Plan) (start : ℕ) (bytes : List ℕ) (p : Place) (r : Reader) (x : List ℕ) → HasTaken plan start bytes p r → Reaches plan start bytes p.written r x x
+pub reaches-here : (plan : Plan) (start : ℕ) (bytes : List ℕ) (p : Place) (r : Reader) (x : List ℕ) → HasTaken plan start bytes p r
+    → Reaches plan start bytes p.written r x x
 reaches-here plan start bytes p r x h = record { place = p; taken = h; more = []; out = sym (append-nil x); written = sym (append-nil p.written) }

@@ -10,5 +10,5 @@ mod Quick
 mod Tables
 mod Changes
 mod Examples
-mod Feeding
-mod Whole
+pub mod Feeding
+pub mod Whole

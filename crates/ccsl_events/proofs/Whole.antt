@@ -24,7 +24,8 @@ all_from start bytes = map hear (tokens_from true start bytes)
 pub line-feed : (plan : Plan) (start len : ℕ) (bytes : List ℕ) → body_says plan start len (bytes ++ 10 ∷ []) ≡ body_says plan start len bytes
 unfolding is_white
 line-feed plan start len bytes =
-    ap (λ (ts : List Token). ended plan len (story plan (map hear ts)).place (story plan (map hear ts)).fault) (from-behind true start bytes (10 ∷ []) (refl, tt))
+    ap (λ (ts : List Token). ended plan len (story plan (map hear ts)).place (story plan (map hear ts)).fault)
+    (from-behind true start bytes (10 ∷ []) (refl, tt))
 
 fed-fresh : (bytes : List ℕ) → fresh_after true (bytes ++ 10 ∷ []) ≡ true
 unfolding is_white
@@ -56,10 +57,12 @@ story-is plan hs = refl
 none-kept : (plan : Plan) (start : ℕ) (bytes : List ℕ) (p : Place) (r : Reader) → HasTaken plan start (bytes ++ 10 ∷ []) p r → r.carry.items ≡ []
 none-kept plan start bytes p r h =
     none-open r.carry.items h.unended
-    (ap (λ (f : Bool). fresh_after f r.carry.items) (sym h.fresh) ∙ sym (fresh-append true h.whole r.carry.items) ∙ ap (fresh_after true) (sym h.parts) ∙ fed-fresh bytes)
+    (ap (λ (f : Bool). fresh_after f r.carry.items) (sym h.fresh) ∙ sym (fresh-append true h.whole r.carry.items) ∙ ap (fresh_after true) (sym h.parts)
+    ∙ fed-fresh bytes)
 
 -- all was taken, and a line feed behind it
-pub whole-ends : (plan : Plan) (start len : ℕ) (bytes : List ℕ) (p : Place) (r : Reader) → HasTaken plan start (bytes ++ 10 ∷ []) p r → body_says plan start len bytes ≡ ends_at plan len p
+pub whole-ends : (plan : Plan) (start len : ℕ) (bytes : List ℕ) (p : Place) (r : Reader) → HasTaken plan start (bytes ++ 10 ∷ []) p r
+    → body_says plan start len bytes ≡ ends_at plan len p
 whole-ends plan start len bytes p r h =
     let is : bytes ++ 10 ∷ [] ≡ h.whole = h.parts ∙ ap (λ (xs : List ℕ). h.whole ++ xs) (none-kept plan start bytes p r h) ∙ append-nil h.whole in
     let told : story plan (all_from start (bytes ++ 10 ∷ [])) ≡ record { place = p; fault = None } =
@@ -81,13 +84,15 @@ settled-short at (t ∷ ts) d l =
     ∙ ap (λ (b : Bool). map hear (cond (b || nat_lt 65536 (length (t ∷ ts))) (token at (t ∷ ts) ∷ []) [])) within
     ∙ ap (λ (b : Bool). map hear (cond b (token at (t ∷ ts) ∷ []) [])) short
 
-long-first : (at t : ℕ) (ts more : List ℕ) → Dark (t ∷ ts) → 65536 < length (t ∷ ts) → (rest : List Heard) × (all_from at ((t ∷ ts) ++ more) ≡ too_long at ∷ rest)
+long-first : (at t : ℕ) (ts more : List ℕ) → Dark (t ∷ ts) → 65536 < length (t ∷ ts)
+    → (rest : List Heard) × (all_from at ((t ∷ ts) ++ more) ≡ too_long at ∷ rest)
 long-first at t ts more d l =
     let k = one-token-more at t ts more d in
     let m : 65536 < length ((t ∷ ts) ++ run more) = omega (arith, l, length-append (t ∷ ts) (run more)) in
     (map hear k.0, ap (map hear) k.1 ∙ ap (λ (h : Heard). h ∷ map hear k.0) (long-word at ((t ∷ ts) ++ run more) m))
 
-text-first : (at : ℕ) (text more : List ℕ) → Dark text → (65536 < length text) ⊎ (length text ≤ 65536) → (rest : List Heard) × (all_from at (text ++ more) ≡ settled_from at text ++ rest)
+text-first : (at : ℕ) (text more : List ℕ) → Dark text → (65536 < length text) ⊎ (length text ≤ 65536)
+    → (rest : List Heard) × (all_from at (text ++ more) ≡ settled_from at text ++ rest)
 text-first at [] more d (inl l) = absurd (omega arith)
 text-first at (t ∷ ts) more d (inl l) =
     let k = long-first at t ts more d l in
@@ -104,7 +109,8 @@ settled-first at p more =
     let s = split p in
     let k = text-first (at + length s.before) s.text more s.dark (cases_lt 65536 (length s.text)) in (
       k.0,
-      ap (λ (xs : List ℕ). all_from at (xs ++ more)) s.whole ∙ ap (all_from at) (append_assoc s.before s.text more) ∙ all-cut at s.before (s.text ++ more) s.fresh
+      ap (λ (xs : List ℕ). all_from at (xs ++ more)) s.whole ∙ ap (all_from at) (append_assoc s.before s.text more)
+          ∙ all-cut at s.before (s.text ++ more) s.fresh
           ∙ ap (λ (hs : List Heard). settled_from at s.before ++ hs) k.1
           ∙ sym (append_assoc (settled_from at s.before) (settled_from (at + length s.before) s.text) k.0)
           ∙ ap (λ (hs : List Heard). hs ++ k.0) (sym (ap (settled_from at) s.whole ∙ settled-cut at s.before s.text s.fresh)),
@@ -119,11 +125,13 @@ refuses : (plan : Plan) (len : ℕ) (p : Place) (o : Option VcdFault) (f : VcdFa
 refuses plan len p o f e = rw e refl
 
 -- a token of some first bytes is refused
-pub whole-breaks : (plan : Plan) (start len : ℕ) (bytes more : List ℕ) (f : VcdFault) → Breaks plan begin start bytes f → body_says plan start len (bytes ++ more) ≡ refused f
+pub whole-breaks : (plan : Plan) (start len : ℕ) (bytes more : List ℕ) (f : VcdFault) → Breaks plan begin start bytes f
+    → body_says plan start len (bytes ++ more) ≡ refused f
 whole-breaks plan start len bytes more f b =
     let part : List ℕ = take b.front bytes in
     let rest : List ℕ = drop b.front bytes ++ more in
-    let is : part ++ rest ≡ bytes ++ more = sym (append_assoc part (drop b.front bytes) more) ∙ ap (λ (xs : List ℕ). xs ++ more) (take-append-drop b.front bytes) in
+    let is : part ++ rest ≡ bytes ++ more = sym (append_assoc part (drop b.front bytes) more)
+    ∙ ap (λ (xs : List ℕ). xs ++ more) (take-append-drop b.front bytes) in
     let k = settled-first start part rest in
     let told : story plan (all_from start (bytes ++ more)) ≡ fold (next plan) (story_from plan begin (settled_from start part)) k.0 =
     story-is plan (all_from start (bytes ++ more)) ∙ ap (λ (xs : List ℕ). story_from plan begin (all_from start xs)) (sym is)

@@ -1,5 +1,5 @@
 -- What a reader has taken of a dump's body, whatever pieces the bytes came in. The body begins at a place of the dump.
-use Rattle.std.specs.Prelude.{◌≡◌, ◌⊎◌, ℕ, ◌+◌, ◌≤◌, List, ◌++◌, length, take, true, false, Some, None, Result, Ok, Err}
+use Rattle.std.specs.Prelude.{◌≡◌, ◌⊎◌, ℕ, ◌+◌, ◌≤◌, List, [], ◌++◌, length, take, true, false, Some, None, Result, Ok, Err}
 use Rattle.ccsl_base.specs.declared.limits.TheConstants.{MAX_TOKEN_BYTES}
 use Rattle.ccsl_vcd_lex.specs.Runs.{fresh_after}
 use Rattle.ccsl_vcd.specs.declared.fault.VcdFault.{VcdFault}
@@ -43,3 +43,7 @@ pub record Says (plan : Plan) (before : List ℕ) (said : Said) (result : Result
   pub body : Body
   pub has : r.body ≡ Some body
   pub answers : Answers plan before said result body old new
+
+-- behind the last token of a header nothing is kept
+abbrev pub IsClear : Reader → Type 0
+IsClear r = r.is_header_over ≡ true → r.carry.items ≡ []

@@ -1,10 +1,10 @@
 //! Reading a dump piece by piece.
 
-ghost use Rattle.std.specs.Prelude.{◌≡◌, ◌⊎◌, ◌≤◌, ◌<◌, ◌+◌, ◌-◌, ◌^◌, ℕ, List, [], length, false, IfOk, OnOk};
+ghost use Rattle.std.specs.Prelude.{◌≡◌, ◌⊎◌, ◌≤◌, ◌<◌, ◌+◌, ◌-◌, ◌^◌, ℕ, List, [], length, true, false, IfOk, OnOk, IfSome};
 ghost use Rattle.ccsl_vcd_lex.specs.Tokens.{token};
 ghost use Rattle.ccsl_events.specs.Dump.{Plan, Place, begin, token_says, ends_at};
 ghost use Rattle.ccsl_events.specs.Standing.{Stands};
-ghost use Rattle.ccsl_events.specs.Fed.{HasTaken, Feeds, Says};
+ghost use Rattle.ccsl_events.specs.Fed.{HasTaken, Feeds, Says, IsClear};
 
 use crate::body::Body;
 use crate::output::FULL;
@@ -39,7 +39,9 @@ impl Drop for Reader {
 
 impl Reader {
     /// A reader before the first byte.
-    pub fn open(alloc: Global, keys: HashKeys, limits: Limits) -> Result<Reader, Memory> {
+    pub fn open(alloc: Global, keys: HashKeys, limits: Limits) -> Result<Reader, Memory>
+        ensures { IfOk result (λ r. (r.taken ≡ 0) × (r.carry.items ≡ []) × (r.is_header_over ≡ false)) }
+    {
         let carry = Vec::with_capacity(alloc, MAX_TOKEN_BYTES)?;
         Ok(Reader {
             heading: Some(HeaderReader::new(alloc, keys, limits)),
@@ -64,7 +66,11 @@ impl Reader {
     }
 
     /// The header, once its last token was taken.
-    pub fn take_header(&mut self) -> Option<Header> {
+    pub fn take_header(&mut self) -> Option<Header>
+        ensures over { IfSome result (λ header. self.old.is_header_over ≡ true) }
+        ensures once { self.new.is_header_over ≡ false }
+        ensures same { (self.new.taken ≡ self.old.taken) × (self.new.carry.items ≡ self.old.carry.items) }
+    {
         if !self.is_header_over {
             return None;
         }
@@ -110,6 +116,9 @@ impl Reader {
         ensures feeds { (plan : Plan) (start : ℕ) (before : List ℕ) (p : Place) →
             HasTaken plan start before p self.old → self.old.taken + length bytes.now < 2 ^ 64 →
             Feeds plan start before p bytes.now result self.new out.old.items out.new.items }
+        ensures counts { IfOk result (λ taken. self.old.taken + length bytes.now < 2 ^ 64 →
+            self.new.taken ≡ self.old.taken + taken) }
+        ensures clears { OnOk result (self.old.is_header_over ≡ false → IsClear self.new) }
     {
         let end = run_end(bytes, 0);
         if end > MAX_TOKEN_BYTES - self.carry.len().min(MAX_TOKEN_BYTES) {
@@ -135,6 +144,9 @@ impl Reader {
         ensures feeds { (plan : Plan) (start : ℕ) (before : List ℕ) (p : Place) →
             HasTaken plan start before p self.old → self.old.taken + length bytes.now < 2 ^ 64 →
             Feeds plan start before p bytes.now result self.new out.old.items out.new.items }
+        ensures counts { IfOk result (λ taken. self.old.taken + length bytes.now < 2 ^ 64 →
+            self.new.taken ≡ self.old.taken + taken) }
+        ensures clears { OnOk result (self.old.is_header_over ≡ false → IsClear self.new) }
     {
         if self.carry.is_empty() {
             if let Some(body) = &mut self.body {
@@ -155,6 +167,11 @@ impl Reader {
         ensures feeds { (plan : Plan) (start : ℕ) (before : List ℕ) (p : Place) →
             HasTaken plan start before p self.old → self.old.taken + length piece.now < 2 ^ 64 →
             Feeds plan start before p piece.now result self.new out.old.items out.new.items }
+        ensures counts { IfOk result (λ taken. self.old.taken + length piece.now < 2 ^ 64 →
+            self.new.taken ≡ self.old.taken + taken) }
+        ensures clears { OnOk result (self.old.is_header_over ≡ false → IsClear self.new) }
+        ensures stops { IfOk result (λ taken. (taken ≡ length piece.now) ⊎ (FULL ≤ length out.new.items) ⊎
+            (self.new.is_header_over ≡ true)) }
     {
         let first = self.stride(piece, out)?;
         let mut rest = &piece[first..];

@@ -10,7 +10,8 @@ tokens-init c = record {
   rest = rest-none c.args.piece.now;
   runs = λ plan p s fits.
       let none : 0 ≡ length c.args.piece.now - length c.args.piece.now = omega arith in
-      subst (λ (i : ℕ). Runs plan p c.args.at (take i c.args.piece.now) c.args.self.now c.args.out.now.items c.args.out.now.items) none (runs-none plan p c.args.at c.args.self.now c.args.out.now.items s);
+      subst (λ (i : ℕ). Runs plan p c.args.at (take i c.args.piece.now) c.args.self.now c.args.out.now.items c.args.out.now.items) none
+      (runs-none plan p c.args.at c.args.self.now c.args.out.now.items s);
 }
 
 pub tokens-preserved : goal.tokens-preserved
@@ -23,9 +24,12 @@ tokens-preserved c =
     record {
       rest = more;
       runs = λ plan p s fits.
-          subst (λ (i : ℕ). Runs plan p c.args.at (take i piece) c.step.new.self c.args.out.now.items c.step.new.out.items) (omega (arith, so.fits, c.in_ok-taken.ensures.within, ap length (rest-is taken rest), Rattle.std.proofs.Common.length-drop taken rest))
-          (runs-more plan p c.args.at taken piece rest c.tokens.self c.step.new.self c.args.out.now.items c.tokens.out.items c.step.new.out.items so (c.tokens.invariant.runs plan p s fits)
-          (λ q t. subst (λ (i : ℕ). Runs plan q i (take taken rest) c.step.new.self c.tokens.out.items c.step.new.out.items) (place-fits c.args.at piece rest fits) (c.in_ok-taken.ensures.takes plan q t)));
+          subst (λ (i : ℕ). Runs plan p c.args.at (take i piece) c.step.new.self c.args.out.now.items c.step.new.out.items)
+          (omega (arith, so.fits, c.in_ok-taken.ensures.within, ap length (rest-is taken rest), Rattle.std.proofs.Common.length-drop taken rest))
+          (runs-more plan p c.args.at taken piece rest c.tokens.self c.step.new.self c.args.out.now.items c.tokens.out.items c.step.new.out.items so
+          (c.tokens.invariant.runs plan p s fits)
+          (λ q t. subst (λ (i : ℕ). Runs plan q i (take taken rest) c.step.new.self c.tokens.out.items c.step.new.out.items)
+          (place-fits c.args.at piece rest fits) (c.in_ok-taken.ensures.takes plan q t)));
     }
 
 pub returns-then-taken-eq0-clause-takes : goal.returns-then-taken-eq0-clause-takes
@@ -34,8 +38,10 @@ returns-then-taken-eq0-clause-takes c plan p s fits =
     let rest = c.tokens.rest.now in
     let none : length piece - length rest + c.in_ok-taken.taken ≡ length piece - length rest = omega (arith, c.if-taken-eq0.true) in
     subst (λ (i : ℕ). Runs plan p c.args.at (take i piece) c.step.new.self c.args.out.now.items c.step.new.out.items) none
-    (runs-more plan p c.args.at c.in_ok-taken.taken piece rest c.tokens.self c.step.new.self c.args.out.now.items c.tokens.out.items c.step.new.out.items c.tokens.invariant.rest (c.tokens.invariant.runs plan p s fits)
-    (λ q t. subst (λ (i : ℕ). Runs plan q i (take c.in_ok-taken.taken rest) c.step.new.self c.tokens.out.items c.step.new.out.items) (place-fits c.args.at piece rest fits) (c.in_ok-taken.ensures.takes plan q t)))
+    (runs-more plan p c.args.at c.in_ok-taken.taken piece rest c.tokens.self c.step.new.self c.args.out.now.items c.tokens.out.items c.step.new.out.items
+    c.tokens.invariant.rest (c.tokens.invariant.runs plan p s fits)
+    (λ q t. subst (λ (i : ℕ). Runs plan q i (take c.in_ok-taken.taken rest) c.step.new.self c.tokens.out.items c.step.new.out.items)
+    (place-fits c.args.at piece rest fits) (c.in_ok-taken.ensures.takes plan q t)))
 
 pub returns-in_err-taken-clause-takes : goal.returns-in_err-taken-clause-takes
 returns-in_err-taken-clause-takes c plan p s fits =
@@ -44,5 +50,6 @@ returns-in_err-taken-clause-takes c plan p s fits =
     let piece = c.args.piece.now in
     let rest = c.tokens.rest.now in
     rw (e.1, e.2)
-    (rest-breaks plan p c.args.at piece rest c.tokens.self c.args.out.now.items c.tokens.out.items f c.tokens.invariant.rest (c.tokens.invariant.runs plan p s fits)
+    (rest-breaks plan p c.args.at piece rest c.tokens.self c.args.out.now.items c.tokens.out.items f c.tokens.invariant.rest
+    (c.tokens.invariant.runs plan p s fits)
     (λ q t. subst (λ (i : ℕ). (f ≡ faults.Memory) ⊎ Breaks plan q i rest f) (place-fits c.args.at piece rest fits) (c.in_err-taken.ensures.takes plan q t)))

@@ -15,8 +15,11 @@ strides-init c =
     record {
       some = omega (arith, len, c.in_ok-first.ensures.within.0, within);
       rest = rest-more first piece piece _ (rest-none piece) within here;
+      counts = λ fits. omega (arith, len, within, c.in_ok-first.ensures.counts fits);
+      clears = c.in_ok-first.ensures.clears;
       reaches = λ plan start before p h fits.
-          subst (λ (i : ℕ). Reaches plan start (before ++ take i piece) p.written c.stride.new.self c.args.out.now.items c.stride.new.out.items) (omega (arith, len, within))
+          subst (λ (i : ℕ). Reaches plan start (before ++ take i piece) p.written c.stride.new.self c.args.out.now.items c.stride.new.out.items)
+          (omega (arith, len, within))
           (c.in_ok-first.ensures.feeds plan start before p h fits);
     }
 
@@ -32,10 +35,16 @@ strides-preserved c =
     record {
       some = omega (arith, len, c.strides.invariant.some);
       rest = rest-more taken piece rest _ so within here;
+      counts = λ fits.
+          let before = c.strides.invariant.counts fits in
+          omega (arith, so.fits, len, within, before, c.in_ok-taken.ensures.counts (omega (arith, so.fits, fits, before)));
+      clears = λ old. c.in_ok-taken.ensures.clears c.if-not-self.true;
       reaches = λ plan start before p h fits.
           let a = c.strides.invariant.reaches plan start before p h fits in
-          subst (λ (i : ℕ). Reaches plan start (before ++ take i piece) p.written c.stride-in-strides.new.self c.args.out.now.items c.stride-in-strides.new.out.items) (omega (arith, so.fits, len, within))
-          (feed-more plan start before piece rest p.written taken c.strides.self c.stride-in-strides.new.self c.args.out.now.items c.strides.out.items c.stride-in-strides.new.out.items so a
+          subst (λ (i : ℕ). Reaches plan start (before ++ take i piece) p.written c.stride-in-strides.new.self c.args.out.now.items
+          c.stride-in-strides.new.out.items) (omega (arith, so.fits, len, within))
+          (feed-more plan start before piece rest p.written taken c.strides.self c.stride-in-strides.new.self c.args.out.now.items c.strides.out.items
+          c.stride-in-strides.new.out.items so a
           (c.in_ok-taken.ensures.feeds plan start (before ++ take (length piece - length rest) piece) a.place a.taken
           (rest-fits plan start before piece rest p.written p c.args.self.now c.strides.self c.args.out.now.items c.strides.out.items h so a fits)));
     }

@@ -10,7 +10,8 @@ pub returns-then-end-min-clause-feeds : goal.returns-then-end-min-clause-feeds
 returns-then-end-min-clause-feeds c plan start before p h fits =
     let carry = c.args.self.now.carry in
     let long : 65536 < length carry.items + c.run_end-end.result = omega (arith, c.if-end-min.true, c.min.ensures, c.len.ensures, carry.ok.0, h.few) in
-    kept-long plan start before c.args.bytes.now p c.args.self.now c.saturating_sub-at.result c.run_end-end.result h (c.run_end-end.ensures.value ∙ zero-add _) c.run_end-end.ensures.within long
+    kept-long plan start before c.args.bytes.now p c.args.self.now c.saturating_sub-at.result c.run_end-end.result h
+    (c.run_end-end.ensures.value ∙ zero-add _) c.run_end-end.ensures.within long
     (omega (arith, c.saturating_sub-at.ensures, c.len-then-end-min.ensures, carry.ok.0))
 
 pub returns-then-end-bytes-clause-feeds : goal.returns-then-end-bytes-clause-feeds
@@ -18,7 +19,8 @@ returns-then-end-bytes-clause-feeds c plan start before p h fits =
     let carry = c.args.self.now.carry in
     let end = c.run_end-end.result in
     let short : length carry.items + end ≤ 65536 = omega (arith, c.if-end-min.false, c.min.ensures, c.len.ensures, carry.ok.0, h.few) in
-    goes-on plan start before c.args.bytes.now p c.args.self.now _ end c.args.out.now.items h (open-to c.args.bytes.now end (c.run_end-end.ensures.value ∙ zero-add _)) c.run_end-end.ensures.within
+    goes-on plan start before c.args.bytes.now p c.args.self.now _ end c.args.out.now.items h
+    (open-to c.args.bytes.now end (c.run_end-end.ensures.value ∙ zero-add _)) c.run_end-end.ensures.within
     short refl c.in_ok-extend_from_slice.ensures.items (omega (arith, fits, c.saturating_add-self.ensures, c.run_end-end.ensures.within)) h.in_body
 
 pub returns-in_err-hear-clause-feeds : goal.returns-in_err-hear-clause-feeds
@@ -31,14 +33,17 @@ returns-in_err-hear-clause-feeds c plan start before p h fits =
     let inside : end < length piece = omega (arith, c.run_end-end.ensures.within, c.if-end-bytes.false) in
     let short : length carry.items + end ≤ 65536 = omega (arith, c.if-end-min.false, c.min.ensures, c.len.ensures, carry.ok.0, h.few) in
     let kept = c.in_ok-extend_from_slice.ensures.items in
-    let size : length c.extend_from_slice.new.self.items ≡ length carry.items + end = ap length kept ∙ length-append carry.items (take end piece) ∙ ap (λ (k : ℕ). length carry.items + k) (length-take-le end piece c.run_end-end.ensures.within) in
-    let some : 0 < length c.extend_from_slice.new.self.items = grind (arith, common_steps, c.if-not-is_empty.true, c.is_empty.ensures, c.extend_from_slice.new.self.ok.0) in
+    let size : length c.extend_from_slice.new.self.items ≡ length carry.items + end = ap length kept ∙ length-append carry.items (take end piece)
+    ∙ ap (λ (k : ℕ). length carry.items + k) (length-take-le end piece c.run_end-end.ensures.within) in
+    let some : 0 < length c.extend_from_slice.new.self.items = grind
+    (arith, common_steps, c.if-not-is_empty.true, c.is_empty.ensures, c.extend_from_slice.new.self.ok.0) in
     let said = c.in_err-hear.ensures.says plan p h.body h.has h.stands in
     rw (q.1, q.2)
     (kept-breaks plan start before piece p c.args.self.now f h
     (end-breaks plan p (start + length h.whole) end carry.items piece f said.body c.args.out.now.items c.hear.new.out.items
     (ends-in plan start before piece p c.args.self.now end h (c.run_end-end.ensures.value ∙ zero-add _) inside short) (omega (arith, some, size))
-    (kept-said plan start before piece p c.args.self.now end c.saturating_add-self.result c.extend_from_slice.new.self.items (Err f) said.body c.args.out.now.items c.hear.new.out.items h
+    (kept-said plan start before piece p c.args.self.now end c.saturating_add-self.result c.extend_from_slice.new.self.items
+    (Err f) said.body c.args.out.now.items c.hear.new.out.items h
     c.run_end-end.ensures.within (omega (arith, fits, c.saturating_add-self.ensures, c.run_end-end.ensures.within)) kept said.answers)))
 
 pub returns-clause-feeds : goal.returns-clause-feeds
@@ -49,23 +54,44 @@ returns-clause-feeds c plan start before p h fits =
     let within : end + 1 ≤ length piece = omega (arith, c.run_end-end.ensures.within, c.if-end-bytes.false) in
     let short : length carry.items + end ≤ 65536 = omega (arith, c.if-end-min.false, c.min.ensures, c.len.ensures, carry.ok.0, h.few) in
     let kept = c.in_ok-extend_from_slice.ensures.items in
-    let size : length c.extend_from_slice.new.self.items ≡ length carry.items + end = ap length kept ∙ length-append carry.items (take end piece) ∙ ap (λ (k : ℕ). length carry.items + k) (length-take-le end piece c.run_end-end.ensures.within) in
+    let size : length c.extend_from_slice.new.self.items ≡ length carry.items + end = ap length kept ∙ length-append carry.items (take end piece)
+    ∙ ap (λ (k : ℕ). length carry.items + k) (length-take-le end piece c.run_end-end.ensures.within) in
     let here = ends-in plan start before piece p c.args.self.now end h (c.run_end-end.ensures.value ∙ zero-add _) (omega (arith, within)) short in
     elim c.if-not-is_empty.branch [
       | then-not-is_empty+in_ok-hear w ↦
-          let some : 0 < length c.extend_from_slice.new.self.items = grind (arith, common_steps, w.if-not-is_empty.true, c.is_empty.ensures, c.extend_from_slice.new.self.ok.0) in
+          let some : 0 < length c.extend_from_slice.new.self.items = grind
+          (arith, common_steps, w.if-not-is_empty.true, c.is_empty.ensures, c.extend_from_slice.new.self.ok.0) in
           let said = w.in_ok-hear.ensures.says plan p h.body h.has h.stands in
           rw (w.self-is, w.out-is)
           (closes plan start before piece p c.args.self.now _ said.body (end + 1) c.args.out.now.items w.hear.new.out.items h
           (end-word plan p (start + length h.whole) end carry.items piece said.body c.args.out.now.items w.hear.new.out.items here (omega (arith, some, size))
-          (kept-said plan start before piece p c.args.self.now end c.saturating_add-self.result c.extend_from_slice.new.self.items (Ok tt) said.body c.args.out.now.items w.hear.new.out.items h
+          (kept-said plan start before piece p c.args.self.now end c.saturating_add-self.result c.extend_from_slice.new.self.items
+          (Ok tt) said.body c.args.out.now.items w.hear.new.out.items h
           c.run_end-end.ensures.within (omega (arith, fits, c.saturating_add-self.ensures, c.run_end-end.ensures.within)) kept said.answers))
-          within said.has w.in_ok-hear.ensures.clears (omega (arith, fits, within, c.saturating_add-self.ensures, c.saturating_add-self-2.ensures, ap (λ (r : Reader). r.taken) w.self-is, w.in_ok-hear.ensures.place))
+          within said.has w.in_ok-hear.ensures.clears (omega (
+            arith,
+            fits,
+            within,
+            c.saturating_add-self.ensures,
+            c.saturating_add-self-2.ensures,
+            ap
+                (λ (r : Reader). r.taken) w.self-is,
+            w.in_ok-hear.ensures.place,
+          ))
           (w.in_ok-hear.ensures.header h.body h.has ∙ h.in_body))
       | else-not-is_empty w ↦
-          let none : length c.extend_from_slice.new.self.items ≡ 0 = grind (arith, common_steps, w.if-not-is_empty.false, c.is_empty.ensures, c.extend_from_slice.new.self.ok.0) in
+          let none : length c.extend_from_slice.new.self.items ≡ 0 = grind
+          (arith, common_steps, w.if-not-is_empty.false, c.is_empty.ensures, c.extend_from_slice.new.self.ok.0) in
           rw (w.self-is, w.out-is)
           (closes plan start before piece p c.args.self.now _ h.body (end + 1) c.args.out.now.items c.args.out.now.items h
           (end-white plan p (start + length h.whole) end carry.items piece h.body c.args.out.now.items here (omega (arith, none, size)) h.stands)
-          within h.has (no-items _ none) (omega (arith, fits, within, c.saturating_add-self.ensures, c.saturating_add-self-2.ensures, ap (λ (r : Reader). r.taken) w.self-is)) h.in_body)
+          within h.has (no-items _ none) (omega (
+            arith,
+            fits,
+            within,
+            c.saturating_add-self.ensures,
+            c.saturating_add-self-2.ensures,
+            ap
+                (λ (r : Reader). r.taken) w.self-is,
+          )) h.in_body)
     ]

@@ -13,32 +13,38 @@ returns-in_err-taken-clause-feeds c plan start before p h fits =
     let q = err_from_is_err_and c.from_residual.result c.from_residual.ensures.1 in
     let none : length c.args.self.now.carry.items ≡ 0 = grind (arith, common_steps, c.if-is_empty.true, c.is_empty.ensures, c.args.self.now.carry.ok.0) in
     let s = subst (Stands plan p) (same-body h.body c.in-Some.body c.args.self.now h.has c.in-Some.is) h.stands in
-    rw (q.1, q.2) (fresh-breaks plan start before c.args.bytes.now p c.args.self.now c.in_err-taken.field-0.0 h none (c.in_err-taken.ensures.takes plan p s fits))
+    rw (q.1, q.2) (fresh-breaks plan start before c.args.bytes.now p c.args.self.now c.in_err-taken.field-0.0 h none
+    (c.in_err-taken.ensures.takes plan p s fits))
 
 pub returns-then-taken-gt0-clause-feeds : goal.returns-then-taken-gt0-clause-feeds
 returns-then-taken-gt0-clause-feeds c plan start before p h fits =
     let none : length c.args.self.now.carry.items ≡ 0 = grind (arith, common_steps, c.if-is_empty.true, c.is_empty.ensures, c.args.self.now.carry.ok.0) in
     let s = subst (Stands plan p) (same-body h.body c.in-Some.body c.args.self.now h.has c.in-Some.is) h.stands in
     closes plan start before c.args.bytes.now p c.args.self.now _ c.run.new.self c.in_ok-taken.taken c.args.out.now.items c.run.new.out.items h
-    (fresh-runs plan start before _ p c.args.self.now c.run.new.self c.args.out.now.items c.run.new.out.items h none (c.in_ok-taken.ensures.takes plan p s fits))
-    c.in_ok-taken.ensures.within refl (no-items c.args.self.now.carry.items none) (omega (arith, fits, c.in_ok-taken.ensures.within, c.saturating_add-self.ensures)) h.in_body
+    (fresh-runs plan start before _ p c.args.self.now c.run.new.self c.args.out.now.items c.run.new.out.items h none
+    (c.in_ok-taken.ensures.takes plan p s fits))
+    c.in_ok-taken.ensures.within refl (no-items c.args.self.now.carry.items none)
+    (omega (arith, fits, c.in_ok-taken.ensures.within, c.saturating_add-self.ensures)) h.in_body
 
 pub returns-clause-feeds : goal.returns-clause-feeds
 returns-clause-feeds c plan start before p h fits =
     let a : Reaches plan start before p.written c.if-is_empty.self c.args.out.now.items c.if-is_empty.out.items =
     elim c.if-is_empty.branch [
       | then-is_empty+in-Some+in_ok-taken+else-taken-gt0 w ↦
-          let none : length c.args.self.now.carry.items ≡ 0 = grind (arith, common_steps, w.if-is_empty.true, c.is_empty.ensures, c.args.self.now.carry.ok.0) in
+          let none : length c.args.self.now.carry.items ≡ 0 = grind (arith, common_steps, w.if-is_empty.true, c.is_empty.ensures, c.args.self.now.carry.ok.0)
+          in
           let s = subst (Stands plan p) (same-body h.body w.in-Some.body c.args.self.now h.has w.in-Some.is) h.stands in
           let zero_ : w.in_ok-taken.taken ≡ 0 = omega (arith, w.if-taken-gt0.false) in
           let mid : Reader = record c.args.self.now { body = Some w.run.new.self } in
           rw (w.self-is, w.out-is)
           (still-there plan start before c.args.bytes.now p.written mid w.in_ok-taken.taken c.args.out.now.items w.run.new.out.items zero_
           (closes plan start before c.args.bytes.now p c.args.self.now mid w.run.new.self w.in_ok-taken.taken c.args.out.now.items w.run.new.out.items h
-          (fresh-runs plan start before _ p c.args.self.now w.run.new.self c.args.out.now.items w.run.new.out.items h none (w.in_ok-taken.ensures.takes plan p s fits))
+          (fresh-runs plan start before _ p c.args.self.now w.run.new.self c.args.out.now.items w.run.new.out.items h none
+          (w.in_ok-taken.ensures.takes plan p s fits))
           w.in_ok-taken.ensures.within refl (no-items c.args.self.now.carry.items none) (omega (arith, zero_)) h.in_body))
       | then-is_empty+in_default w ↦ rw (w.self-is, w.out-is) (reaches-here plan start before p c.args.self.now c.args.out.now.items h)
       | else-is_empty w ↦ rw (w.self-is, w.out-is) (reaches-here plan start before p c.args.self.now c.args.out.now.items h)
     ] in
-    feeds-next plan start before c.args.bytes.now p c.part.result c.if-is_empty.self c.part.new.self c.args.out.now.items c.if-is_empty.out.items c.part.new.out.items a
+    feeds-next plan start before c.args.bytes.now p c.part.result c.if-is_empty.self c.part.new.self c.args.out.now.items c.if-is_empty.out.items
+    c.part.new.out.items a
     (c.part.ensures.feeds plan start before a.place a.taken (omega (arith, fits, h.taken, a.taken.taken)))
