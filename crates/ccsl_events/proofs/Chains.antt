@@ -104,7 +104,7 @@ set_chain-at (suc most) (Some number) letters dumped k n =
         ∙ ap (λ g. if ticks_in n (chain most (held_at k.all number).next k.all) then touch_held letters dumped g else g) (set_one-at number letters dumped k n l)
         ∙ twice (ticks_in n (chain most (held_at k.all number).next k.all)) (nat_eq n number)
 
-ticks_in-append : (x : ℕ) (ys : List ℕ) (z : ℕ) → ticks_in x ys ≡ true → ticks_in x (ys ++ z ∷ []) ≡ true
+pub ticks_in-append : (x : ℕ) (ys : List ℕ) (z : ℕ) → ticks_in x ys ≡ true → ticks_in x (ys ++ z ∷ []) ≡ true
 ticks_in-append x [] z h = absurd (cc)
 ticks_in-append x (y ∷ ys) z h = by (nat_eq x y) refl (ticks_in-append x ys z)
   where
@@ -112,7 +112,7 @@ ticks_in-append x (y ∷ ys) z h = by (nat_eq x y) refl (ticks_in-append x ys z)
     by true e later = refl
     by false e later = later (sym (ap (λ b. b || ticks_in x ys) e) ∙ h)
 
-ticks_in-last : (x : ℕ) (ys : List ℕ) → ticks_in x (ys ++ x ∷ []) ≡ true
+pub ticks_in-last : (x : ℕ) (ys : List ℕ) → ticks_in x (ys ++ x ∷ []) ≡ true
 ticks_in-last x [] = ap (λ b. b || false) (eq-eqb x x refl)
 ticks_in-last x (y ∷ ys) = ap (λ b. nat_eq x y || b) (ticks_in-last x ys) ∙ or-true (nat_eq x y)
 

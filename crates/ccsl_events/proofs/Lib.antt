@@ -12,3 +12,7 @@ mod Changes
 mod Examples
 pub mod Feeding
 pub mod Whole
+mod Sources
+mod Bindings
+mod Linking
+mod Users

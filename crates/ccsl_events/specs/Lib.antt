@@ -5,3 +5,7 @@ pub mod Keeping
 pub mod Standing
 pub mod Run
 pub mod Fed
+pub mod Binding
+pub mod Binds
+pub mod Links
+pub mod Begun

@@ -3,8 +3,9 @@
 ghost use Rattle.std.specs.Prelude.{◌≡◌, ◌⊎◌, ◌≤◌, ◌<◌, ◌+◌, ◌^◌, ℕ, List, [], ◌∷◌, length, take, drop, true, IfOk};
 ghost use Rattle.ccsl_vcd_lex.specs.Tokens.{token};
 ghost use Rattle.ccsl_vcd.specs.Words.{is_scalar, dump};
-ghost use Rattle.ccsl_events.specs.Dump.{Plan, Place, remark, code_of, code_skipped, goes, changed, passed, time_says, block_says, gap_says, end_says, word_says, token_says, may_end};
-ghost use Rattle.ccsl_events.specs.Standing.{Stands, Answers};
+ghost use Rattle.ccsl_events.specs.Keeping.{Keeps};
+ghost use Rattle.ccsl_events.specs.Dump.{Plan, Place, begin, remark, code_of, code_skipped, goes, changed, passed, time_says, block_says, gap_says, end_says, word_says, token_says, may_end};
+ghost use Rattle.ccsl_events.specs.Standing.{are_skipped, Stands, Answers};
 ghost use Rattle.ccsl_events.specs.Run.{IsOpen, Runs, Takes};
 ghost use Rattle.ccsl_events.specs.Meant.{meant};
 
@@ -71,7 +72,10 @@ impl Drop for Body {
 const DIGITS: usize = 19;
 
 impl Body {
-    pub(crate) fn new(alloc: Global, values: Values, gaps: Gaps) -> Result<Body, Memory> {
+    pub(crate) fn new(alloc: Global, values: Values, gaps: Gaps) -> Result<Body, Memory>
+        ensures { IfOk result (λ b. (plan : Plan) → Keeps plan begin.views values →
+            are_skipped gaps ≡ plan.skips → Stands plan begin b) }
+    {
         let letters = Vec::with_capacity(alloc, MAX_TOKEN_BYTES)?;
         Ok(Body {
             values,

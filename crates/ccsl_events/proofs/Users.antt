@@ -1,0 +1,69 @@
+-- Events that are users of the variables that their triggers read.
+use Rattle.std.proofs.Common.{◌≡◌, ℕ, zero, suc, ◌+◌, ◌<◌, ◌≤◌, List, [], ◌∷◌, ◌++◌, length, Bool, true, false, Option, Some, None, ◌&&◌, nat_eq, nat_lt, if◌then◌else◌, slice_get, get_or, refl, sym, ap, ◌∙◌, ⊎_elim, arith, eq-eqb}
+use Rattle.std.specs.Prelude.{◌==◌}
+use Rattle.std.specs.List.{list_all}
+use Rattle.std.specs.declared.vec.Vec.{Vec}
+use Rattle.std.specs.declared.alloc.Global.{Global}
+use Rattle.std.proofs.lemmas.Bool.{and_parts, cases_lt, ltb-true}
+use Rattle.std.proofs.lemmas.Option.{slice_get_within}
+use Rattle.ccsl_base.specs.Clocks.{ticks_in}
+use Rattle.ccsl_triggers.specs.declared.watch.Watch.{Watch}
+use Rattle.ccsl_triggers.specs.Triggers.{variable_of}
+use Rattle.ccsl_events.specs.Keeping.{users_of, AreUsers}
+use Rattle.ccsl_events.specs.Links.{are_within, with_user}
+use Rattle.ccsl_events.proofs.Chains.{ticks_in-append, ticks_in-last}
+
+-- the first events are
+pub record AreFirstUsers (count done : ℕ) (watches : List Watch) (users : List (Vec ℕ Global)) : Type 0 where
+  pub len : length users ≡ count
+  pub each : (name : ℕ) (w : Watch) → name < done → slice_get watches name ≡ Some w → ticks_in name (users_of users (variable_of w.trigger)) ≡ true
+
+pub first-none : (count : ℕ) (watches : List Watch) (users : List (Vec ℕ Global)) → length users ≡ count → AreFirstUsers count 0 watches users
+first-none count watches users l = record { len = l; each = λ name w low e. absurd (omega (arith, low)) }
+
+pub got-watch : (ws : List Watch) (i : ℕ) (w : Watch) → i < length ws → w ≡ get_or ws i w → slice_get ws i ≡ Some w
+got-watch [] i w l g = absurd (omega (arith, l))
+got-watch (v ∷ ws) zero w l g = ap (λ u. Some u) (sym g)
+got-watch (v ∷ ws) (suc i) w l g = got-watch ws i w (omega (arith, l)) g
+
+pub one-within : (count : ℕ) (ws : List Watch) (i : ℕ) (w : Watch) → are_within count ws ≡ true → slice_get ws i ≡ Some w → variable_of w.trigger < count
+one-within count [] i w a e = absurd (cc)
+one-within count (v ∷ ws) zero w a e =
+    let both = and_parts (nat_lt (variable_of v.trigger) count) (are_within count ws) a in
+    let same : v ≡ w = cc in
+    ltb-true (variable_of w.trigger) count (ap (λ u. nat_lt (variable_of u.trigger) count) (sym same) ∙ both.0)
+one-within count (v ∷ ws) (suc i) w a e =
+    let both = and_parts (nat_lt (variable_of v.trigger) count) (are_within count ws) a in
+    one-within count ws i w both.1 e
+
+kept-user : (number name n k : ℕ) (users : List (Vec ℕ Global)) → ticks_in k (users_of users n) ≡ true → ticks_in k (with_user number name users n) ≡ true
+kept-user number name n k users e = by (n == number)
+  where
+    by : (b : Bool) → ticks_in k (if b then users_of users n ++ name ∷ [] else users_of users n) ≡ true
+    by true = ticks_in-append k (users_of users n) name e
+    by false = e
+
+pub first-more : (count done : ℕ) (watches : List Watch) (old new : List (Vec ℕ Global)) (w : Watch) → AreFirstUsers count done watches old → slice_get watches done ≡ Some w →
+    length new ≡ length old → ((n : ℕ) → users_of new n ≡ with_user (variable_of w.trigger) done old n) → AreFirstUsers count (done + 1) watches new
+first-more count done watches old new w first at len put = record {
+  len = len ∙ first.len;
+  each = λ name v low e.
+      ⊎_elim
+      (λ (before : name < done).
+      ap (ticks_in name) (put (variable_of v.trigger)) ∙ kept-user (variable_of w.trigger) done (variable_of v.trigger) name old (first.each name v before e))
+      (λ (after : done ≤ name). last name v (omega (arith, low, after)) e)
+      (cases_lt name done);
+}
+  where
+    last : (name : ℕ) (v : Watch) → name ≡ done → slice_get watches name ≡ Some v → ticks_in name (users_of new (variable_of v.trigger)) ≡ true
+    last name v same e =
+        let is : v ≡ w = cc (at, ap (slice_get watches) (sym same) ∙ e) in
+        ap (λ u. ticks_in name (users_of new (variable_of u.trigger))) is
+        ∙ ap (λ k. ticks_in k (users_of new (variable_of w.trigger))) same
+        ∙ ap (ticks_in done) (put (variable_of w.trigger))
+        ∙ ap (λ b. ticks_in done (if b then users_of old (variable_of w.trigger) ++ done ∷ [] else users_of old (variable_of w.trigger)))
+        (eq-eqb (variable_of w.trigger) (variable_of w.trigger) refl)
+        ∙ ticks_in-last done (users_of old (variable_of w.trigger))
+
+pub first-all : (count done : ℕ) (watches : List Watch) (users : List (Vec ℕ Global)) → AreFirstUsers count done watches users → length watches ≤ done → AreUsers watches users
+first-all count done watches users first all = λ name w e. first.each name w (omega (arith, all, slice_get_within watches name w e)) e
