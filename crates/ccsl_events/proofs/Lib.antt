@@ -16,3 +16,6 @@ mod Sources
 mod Bindings
 mod Linking
 mod Users
+mod Beginning
+mod Meanings
+mod WholeFile

@@ -25,7 +25,7 @@ pub record IsFront (i : ℕ) (table : List Entry) (names : List (List ℕ)) (ent
 
 -- a name is found at its place
 
-there-among : (names : List (List ℕ)) (x : ℕ) (name : List ℕ) → slice_get names x ≡ Some name → is_among name names ≡ true
+pub there-among : (names : List (List ℕ)) (x : ℕ) (name : List ℕ) → slice_get names x ≡ Some name → is_among name names ≡ true
 there-among [] x name e = absurd (cc)
 there-among (n ∷ ns) zero name e = let same : n ≡ name = cc in ap (λ t. t || is_among name ns) (bytes_eq-refl name n (sym same))
 there-among (n ∷ ns) (suc x) name e = or_right (bytes_eq name n) (is_among name ns) (there-among ns x name e)
@@ -45,7 +45,7 @@ place-own (n ∷ ns) (suc x) name d e =
     let later : position_or_len (bytes_eq name) ns ≡ x = place-own ns x name ((and_parts (not (is_among n ns)) (are_distinct ns) d).1) e in
     ap (λ b. cond (not b) (1 + position_or_len (bytes_eq name) ns) 0) other ∙ omega arith)
 
-find-own : (names : List (List ℕ)) (x : ℕ) (name : List ℕ) → are_distinct names ≡ true → slice_get names x ≡ Some name → find_name name names ≡ Some x
+pub find-own : (names : List (List ℕ)) (x : ℕ) (name : List ℕ) → are_distinct names ≡ true → slice_get names x ≡ Some name → find_name name names ≡ Some x
 find-own names x name d e =
     ap (λ k. cond (nat_lt k (length names)) (Some k) None) (place-own names x name d e)
     ∙ ap (λ b. cond b (Some x) None) (lt-ltb x (length names) (slice_get_within names x name e))

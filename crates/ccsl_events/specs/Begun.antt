@@ -1,9 +1,7 @@
 -- What stands at the beginning of a dump's body, for events that are bound to its header.
-use Rattle.std.specs.Prelude.{◌≡◌, ◌⊎◌, ℕ, List, map, Bool, Result, Ok, Err, nat_lt}
-use Rattle.std.specs.List.{list_all}
+use Rattle.std.specs.Prelude.{◌≡◌, ◌⊎◌, ℕ, List, map, Bool, Result, Ok, Err}
 use Rattle.std.specs.declared.vec.Vec.{Vec}
 use Rattle.std.specs.declared.alloc.Global.{Global}
-use Rattle.ccsl_scopes.specs.declared.variable.Variable as declared
 use Rattle.ccsl_event_file.specs.declared.fault.EventFault.{EventFault}
 use Rattle.ccsl_event_file.specs.declared.fault.EventFault.TheVariants as faults
 use Rattle.ccsl_triggers.specs.declared.watch.Watch.{Watch}
@@ -15,10 +13,6 @@ use Rattle.ccsl_events.specs.Dump.{Plan, begin}
 use Rattle.ccsl_events.specs.Standing.{are_skipped, Stands}
 use Rattle.ccsl_events.specs.Binding.{Bound, variable_of}
 use Rattle.ccsl_events.specs.Binds.{seen_plan}
-
--- whether each variable has one of so many codes
-abbrev pub are_declared : ℕ → List declared.Variable → Bool
-are_declared codes vs = list_all (λ v. nat_lt v.code codes) vs
 
 abbrev pub plan_of : List (List ℕ) → List Source → Vec Watch Global → Gaps → Plan
 plan_of codes sources watches gaps =

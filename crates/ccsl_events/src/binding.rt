@@ -6,7 +6,8 @@ ghost use Rattle.ccsl_events.specs.Dump.{begin};
 ghost use Rattle.ccsl_events.specs.Standing.{are_skipped, Stands};
 ghost use Rattle.ccsl_events.specs.Binding.{bound};
 ghost use Rattle.ccsl_events.specs.Links.{are_coded, are_within};
-ghost use Rattle.ccsl_events.specs.Begun.{are_declared, plan_of, Begins, IsBegun};
+ghost use Rattle.ccsl_events.specs.Begun.{plan_of, Begins, IsBegun};
+ghost use Rattle.ccsl_scopes.specs.Codes.{are_declared};
 
 use crate::binder::{Binder, Source};
 use crate::body::{Body, Gaps};
@@ -92,6 +93,7 @@ fn body(
     requires within { are_within (length sources.now) watches.items ≡ true }
     ensures { IfOk result (Stands (plan_of codes sources.now watches gaps) begin) }
 {
+    codes.are_distinct();
     let Links { signals, entries } = link(alloc, sources, codes.len())?;
     let values = Values {
         codes: Codes::new(alloc, codes, entries)?,
@@ -102,7 +104,8 @@ fn body(
         names: ClockSet::empty(),
         none: ClockSet::empty(),
     };
-    Body::new(alloc, values, gaps)
+    let body = Body::new(alloc, values, gaps)?;
+    Ok(body)
 }
 
 // The body for events, or their first fault.

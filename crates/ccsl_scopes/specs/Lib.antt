@@ -1,2 +1,3 @@
 pub mod Selects
 pub mod Paths
+pub mod Codes
