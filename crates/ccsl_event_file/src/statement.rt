@@ -129,6 +129,7 @@ fn name<'a>(parser: &mut Parser<'a>, names: &mut Names<HashKeys>) -> Result<&'a 
     ensures reads { ReadsName result (λ name. name.now) names.old parser.old.len
         (ahead parser.old.len parser.old.rest.now) (ahead parser.new.len parser.new.rest.now) }
     ensures names { IfOk result (λ name. names.new ≡ names.old ++ name.now ∷ []) }
+    ensures few { OnOk result (length names.old < MAX_CLOCKS) }
     ensures shorter { OnOk result (length parser.new.rest.now < length parser.old.rest.now) }
 {
     let at = parser.at();
@@ -148,6 +149,7 @@ fn statement(parser: &mut Parser<'_>, names: &mut Names<HashKeys>) -> Result<Eve
     ensures reads { ReadsStatement result names.old parser.old.len
         (ahead parser.old.len parser.old.rest.now) (ahead parser.new.len parser.new.rest.now) }
     ensures names { IfOk result (λ e. names.new ≡ names.old ++ e.name.items ∷ []) }
+    ensures few { OnOk result (length names.old < MAX_CLOCKS) }
     ensures shorter { OnOk result (length parser.new.rest.now < length parser.old.rest.now) }
 {
     let name = Vec::from_slice(parser.alloc, name(parser, names)?)?;
@@ -177,6 +179,7 @@ fn head(parser: &mut Parser<'_>) -> Result<(), EventFault>
 pub fn read_events(alloc: Global, keys: HashKeys, text: &[u8]) -> Result<Vec<Event>, EventFault>
     ensures says { IfOk result (λ es. reading text.now ≡ events (map event_in es.items)) }
     ensures refuses { IfErr result (λ f. IsFault f (reading text.now)) }
+    ensures few { IfOk result (λ es. length es.items ≤ MAX_CLOCKS) }
 {
     let mut parser = Parser::new(alloc, text);
     head(&mut parser)?;

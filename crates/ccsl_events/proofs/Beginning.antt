@@ -1,7 +1,7 @@
 -- What is kept for the variables that are read suits the plan of the events.
-use Rattle.std.proofs.Common.{◌≡◌, ℕ, zero, suc, ◌<◌, ◌≤◌, List, [], ◌∷◌, length, map, ◌&&◌, Bool, true, false, Option, Some, None, cond, nat_lt, bytes_eq, slice_get, slice_index_or, ◌+◌, lt-ltb, refl, sym, ap, ap₂, subst, ◌∙◌, ⊎_elim, arith, eq-eqb}
+use Rattle.std.proofs.Common.{◌≡◌, ℕ, zero, suc, ◌<◌, ◌≤◌, List, [], ◌∷◌, length, map, true, false, Option, Some, None, nat_lt, bytes_eq, slice_get, slice_index_or, ◌+◌, lt-ltb, refl, sym, ap, subst, ◌∙◌, ⊎_elim, arith, eq-eqb}
 use Rattle.std.specs.Prelude.{◌==◌}
-use Rattle.std.specs.List.{list_any, list_all, position_or_len}
+use Rattle.std.specs.List.{list_any, position_or_len}
 use Rattle.std.specs.declared.vec.Vec.{Vec}
 use Rattle.std.specs.declared.alloc.Global.{Global}
 use Rattle.std.proofs.lemmas.Bool.{and_parts, cases_eq, cases_lt, ltb-true, ne_eqb}
@@ -19,7 +19,7 @@ use Rattle.ccsl_events.specs.declared.body.Gaps.{Gaps}
 use Rattle.ccsl_events.specs.declared.codes.Entry.{Entry}
 use Rattle.ccsl_events.specs.declared.codes.Entry.TheVariants.{Undeclared, Unused, Used}
 use Rattle.ccsl_events.specs.declared.values.Values.{Values}
-use Rattle.ccsl_events.specs.Dump.{Variable, Plan, is_declared}
+use Rattle.ccsl_events.specs.Dump.{Variable}
 use Rattle.ccsl_events.specs.Places.{entry_in, entry_at, entry_of}
 use Rattle.ccsl_events.specs.Keeping.{AreUsers, held_at, chain, has_code, reads, Knows, SizeIn, Keeps}
 use Rattle.ccsl_events.specs.Binding.{variable_of}
@@ -143,16 +143,18 @@ module _ (codes : List (List ℕ)) (ss : List Source) (hs : List Held) (es : Lis
       no (d ∷ ds) zero l f = absurd (cc)
       no (d ∷ ds) (suc i) l f = no ds i (omega (arith, l)) f
   knows-number code k (Some Undeclared) distinct coded linked found e = absurd (linked.declared k e)
-  knows-number code k (Some Unused) distinct coded linked found e =
-      (there-among codes k code (find_name-there code codes k found),
-      λ n. reads-number code k n distinct coded found ∙ linked.chains k n ∙ ap (λ o. ticks_in n (chain (length hs) (first_in o) hs)) e ∙ ap (ticks_in n) (none (length hs)))
+  knows-number code k (Some Unused) distinct coded linked found e = (
+    there-among codes k code (find_name-there code codes k found),
+    λ n. reads-number code k n distinct coded found ∙ linked.chains k n ∙ ap (λ o. ticks_in n (chain (length hs) (first_in o) hs)) e ∙ ap (ticks_in n) (none (length hs)),
+  )
     where
       none : (most : ℕ) → chain most None hs ≡ []
       none zero = refl
       none (suc most) = refl
-  knows-number code k (Some (Used first)) distinct coded linked found e =
-      (there-among codes k code (find_name-there code codes k found),
-      λ n. reads-number code k n distinct coded found ∙ linked.chains k n ∙ ap (λ o. ticks_in n (chain (length hs) (first_in o) hs)) e)
+  knows-number code k (Some (Used first)) distinct coded linked found e = (
+    there-among codes k code (find_name-there code codes k found),
+    λ n. reads-number code k n distinct coded found ∙ linked.chains k n ∙ ap (λ o. ticks_in n (chain (length hs) (first_in o) hs)) e,
+  )
 
   knows : (code : List ℕ) (o : Option ℕ) → are_distinct codes ≡ true → are_coded (length codes) ss ≡ true → IsLinked (length codes) ss hs es →
       find_name code codes ≡ o → Knows (plan_of codes ss ws gaps) hs code (entry_at es o)

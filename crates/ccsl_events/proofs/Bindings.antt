@@ -1,5 +1,5 @@
 -- What is bound, one after another.
-use Rattle.std.proofs.Common.{◌≡◌, ◌⊎◌, inl, inr, ℕ, suc, ◌+◌, ◌<◌, ◌≤◌, List, [], ◌∷◌, ◌++◌, length, map, take, drop, get_or, Bool, true, false, Result, Ok, Err, if◌then◌else◌, refl, sym, ap, ap₂, subst, ◌∙◌, arith, append_assoc}
+use Rattle.std.proofs.Common.{◌≡◌, ◌⊎◌, inl, inr, ℕ, suc, ◌+◌, ◌<◌, List, [], ◌∷◌, ◌++◌, length, map, take, drop, get_or, Bool, true, false, Result, Ok, Err, if◌then◌else◌, refl, sym, ap, ap₂, subst, ◌∙◌, arith}
 use Rattle.std.specs.List.{list_any, flat_map}
 use Rattle.std.proofs.lemmas.List.{append-nil, map-append, take_more, take-append-drop}
 use Rattle.std.proofs.Math.Seq.{drop-cons}
@@ -13,7 +13,7 @@ use Rattle.ccsl_event_file.specs.declared.fault.EventFault.{EventFault}
 use Rattle.ccsl_event_file.specs.declared.fault.EventFault.TheVariants as faults
 use Rattle.ccsl_events.specs.declared.binder.Source.{Source}
 use Rattle.ccsl_events.specs.Binding.{is_same, number_in, each, in_front}
-use Rattle.ccsl_events.specs.Binds.{seen_trigger, with_source, with_sources, Binds, IsBound, BindsTrigger, BindsGoals, BindsWatch}
+use Rattle.ccsl_events.specs.Binds.{seen_trigger, with_sources, Binds, IsBound, BindsTrigger, BindsGoals, BindsWatch}
 use Rattle.ccsl_events.proofs.Sources.{number-among, number-within, number-new, number-past, later, with_sources-append}
 
 -- ## One variable

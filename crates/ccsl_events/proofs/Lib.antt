@@ -19,3 +19,4 @@ mod Users
 mod Beginning
 mod Meanings
 mod WholeFile
+mod BindingExamples

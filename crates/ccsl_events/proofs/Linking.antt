@@ -1,18 +1,16 @@
 -- Variables that are kept, one more after another.
-use Rattle.std.proofs.Common.{◌≡◌, ℕ, zero, suc, ◌+◌, ◌<◌, ◌≤◌, List, [], ◌∷◌, ◌++◌, length, map, ◌||◌, ◌&&◌, not, Bool, true, false, Option, Some, None, nat_eq, nat_lt, if◌then◌else◌, slice_get, slice_set, slice_index_or, get_or, refl, sym, ap, ap₂, subst, ◌∙◌, ⊎_elim, arith, lt-ltb, le-ltb, eq-eqb, eqb-true}
+use Rattle.std.proofs.Common.{◌≡◌, ℕ, zero, suc, ◌+◌, ◌<◌, ◌≤◌, List, [], ◌∷◌, ◌++◌, length, ◌||◌, ◌&&◌, Bool, true, false, Option, Some, None, nat_eq, if◌then◌else◌, slice_get, slice_set, slice_index_or, refl, sym, ap, ap₂, ◌∙◌, ⊎_elim, arith, lt-ltb, eq-eqb}
 use Rattle.std.specs.Prelude.{◌==◌}
 use Rattle.std.proofs.Math.ListN.{get_or-append}
 use Rattle.std.proofs.lemmas.List.{map-append, length-map, get_or_past, length-set}
-use Rattle.std.proofs.lemmas.Bool.{cases_eq, cases_lt, ltb-true, ne_eqb, eqb-false}
-use Rattle.ccsl_base.proofs.Sets.{by_case}
+use Rattle.std.proofs.lemmas.Bool.{cases_eq, cases_lt, ne_eqb}
 use Rattle.ccsl_base.specs.Clocks.{ticks_in}
-use Rattle.ccsl_triggers.specs.Views.{View, no_view}
 use Rattle.ccsl_triggers.specs.Held.{Held, new_held}
 use Rattle.ccsl_events.specs.declared.binder.Source.{Source}
 use Rattle.ccsl_events.specs.declared.codes.Entry.{Entry}
 use Rattle.ccsl_events.specs.declared.codes.Entry.TheVariants.{Undeclared, Unused, Used}
 use Rattle.ccsl_events.specs.Keeping.{held_at, chain}
-use Rattle.ccsl_events.specs.Links.{first_of, first_in, has_number, alone, IsLinked}
+use Rattle.ccsl_events.specs.Links.{first_in, has_number, alone, IsLinked}
 
 -- ## Lists with one more
 

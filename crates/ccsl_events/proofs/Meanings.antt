@@ -1,12 +1,9 @@
 -- What holds of each variable that the meaning of events reads.
-use Rattle.std.proofs.Common.{◌≡◌, ℕ, zero, suc, ◌<◌, ◌≤◌, List, [], ◌∷◌, ◌++◌, length, map, ◌&&◌, ◌||◌, Bool, true, false, Option, Some, None, Result, Ok, Err, nat_lt, if◌then◌else◌, refl, sym, ap, ap₂, subst, ◌∙◌, arith, lt-ltb}
+use Rattle.std.proofs.Common.{◌≡◌, ℕ, suc, List, [], ◌∷◌, ◌++◌, length, map, ◌&&◌, ◌||◌, Bool, true, false, Result, Ok, Err, nat_lt, if◌then◌else◌, refl, sym, ap, ap₂, subst, ◌∙◌, lt-ltb}
 use Rattle.std.specs.Prelude.{◌==◌}
-use Rattle.std.specs.List.{list_any, list_all, flat_map}
-use Rattle.std.proofs.lemmas.List.{append-nil, length-map}
+use Rattle.std.specs.List.{list_any, flat_map}
 use Rattle.std.proofs.lemmas.List.Folds.{list_any-append}
 use Rattle.std.proofs.lemmas.Bool.{and_parts}
-use Rattle.std.specs.declared.vec.Vec.{Vec}
-use Rattle.std.specs.declared.alloc.Global.{Global}
 use Rattle.ccsl_scopes.specs.declared.variable.Variable.{Variable}
 use Rattle.ccsl_scopes.specs.declared.variable.Kind.{Kind}
 use Rattle.ccsl_scopes.specs.declared.variable.Kind.TheVariants as kinds
@@ -177,9 +174,9 @@ triggers-within sources (w ∷ ws) (m ∷ ms) e among =
     let here : seen_watch w ≡ b.watch_with (b.number_in sources) m = cc in
     let rest : seen_watches ws ≡ map (b.watch_with (b.number_in sources)) ms = cc in
     let is : variable_of w.trigger ≡ b.number_in sources (b.read_by_trigger m.trigger) =
-        seen-variable w.trigger ∙ ap (λ x. b.read_by_trigger x.trigger) here ∙ named-variable (b.number_in sources) m.trigger in
+    seen-variable w.trigger ∙ ap (λ x. b.read_by_trigger x.trigger) here ∙ named-variable (b.number_in sources) m.trigger in
     let first : list_any (b.is_same (b.read_by_trigger m.trigger)) (flat_map b.read_by (m ∷ ms)) ≡ true =
-        ap (λ p. p || list_any (b.is_same (b.read_by_trigger m.trigger)) (map b.read_by_goal m.conditions ++ flat_map b.read_by ms)) (is_same-refl (b.read_by_trigger m.trigger)) in
+    ap (λ p. p || list_any (b.is_same (b.read_by_trigger m.trigger)) (map b.read_by_goal m.conditions ++ flat_map b.read_by ms)) (is_same-refl (b.read_by_trigger m.trigger)) in
     let low = number-within sources (b.read_by_trigger m.trigger) (among (b.read_by_trigger m.trigger) first) in
     ap₂ (λ p q. p && q) (ap (λ n. nat_lt n (length sources)) is ∙ lt-ltb (b.number_in sources (b.read_by_trigger m.trigger)) (length sources) low)
     (triggers-within sources ws ms rest (λ s k. among s (list_any-append (b.is_same s) (b.read_by m) (flat_map b.read_by ms) ∙ ap (λ q. list_any (b.is_same s) (b.read_by m) || q) k ∙ or-true (list_any (b.is_same s) (b.read_by m)))))

@@ -1,5 +1,5 @@
 -- A whole file of events is bound.
-use Rattle.std.proofs.Common.{◌≡◌, ◌⊎◌, inl, inr, ℕ, List, [], ◌∷◌, ◌++◌, length, map, Bool, true, Result, Ok, Err, refl, sym, ap, ap₂, subst, ◌∙◌}
+use Rattle.std.proofs.Common.{◌≡◌, ◌⊎◌, inl, inr, ℕ, List, [], length, map, Bool, true, Result, Ok, Err, refl, sym, ap, ◌∙◌}
 use Rattle.std.specs.List.{list_any, flat_map}
 use Rattle.std.specs.declared.vec.Vec.{Vec}
 use Rattle.std.specs.declared.alloc.Global.{Global}
@@ -18,7 +18,7 @@ use Rattle.ccsl_events.specs.Dump.{begin}
 use Rattle.ccsl_events.specs.Standing.{are_skipped, Stands}
 use Rattle.ccsl_events.specs.Binding.{Watch, each, watch, watch_with, read_by, is_same, number_in, different, numbered, bound}
 use Rattle.ccsl_events.specs.Binding as b
-use Rattle.ccsl_events.specs.Binds.{seen_watch, seen_watches, seen_plan, with_sources, Binds, BindsWatches}
+use Rattle.ccsl_events.specs.Binds.{seen_watch, seen_watches, with_sources, BindsWatches}
 use Rattle.ccsl_events.specs.Begun.{plan_of, StandsFor, Begins}
 use Rattle.ccsl_events.specs.Links.{are_coded, are_within}
 use Rattle.ccsl_events.proofs.Sources.{with_sources-different, with_sources-all, among-read}

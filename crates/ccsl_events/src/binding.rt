@@ -64,12 +64,7 @@ fn put_near(
     Ok(())
 }
 
-fn refusal(
-    alloc: Global,
-    fault: EventFault,
-    events: &[Event],
-    variables: &[Variable],
-) -> Refused
+fn refusal(alloc: Global, fault: EventFault, events: &[Event], variables: &[Variable]) -> Refused
     ensures { (result.fault ≡ fault) ⊎ (result.fault ≡ EventFault.Memory) }
 {
     let mut candidates = Vec::new(alloc);
@@ -129,7 +124,6 @@ fn bound(
 /// The body of a dump with this header, for these events, or why a path is refused.
 pub fn bind(alloc: Global, events: &[Event], header: Header, gaps: Gaps) -> Result<Body, Refused>
     requires few { length events.now ≤ MAX_CLOCKS }
-    requires coded { are_declared (length header.codes) header.variables.items ≡ true }
     ensures { IsBegun result (bound (map event_in events.now) header.variables.items header.codes (are_skipped gaps)) }
 {
     let Header {

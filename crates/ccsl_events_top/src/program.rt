@@ -1,6 +1,6 @@
 //! The program's one call.
 
-ghost use Rattle.std.specs.Prelude.{ℕ, List};
+ghost use Rattle.std.specs.Prelude.{◌≤◌, ℕ, List, length, IfOk};
 ghost use Rattle.ccsl_edge.specs.declared.slot.Slot.{Slot};
 ghost use Rattle.ccsl_edge.specs.declared.slot.Slot.TheVariants.{TraceOut};
 
@@ -10,14 +10,16 @@ use crate::pass::Pass;
 use crate::sink::Sink;
 use crate::stop::Stop;
 use crate::words::{Command, Key, meaning, value_of};
-use ccsl_base::{CommandWord, HashKeys, Memory};
+use ccsl_base::{CommandWord, HashKeys, MAX_CLOCKS, Memory};
 use ccsl_edge::{Slot, World, write_all};
 use ccsl_event_file::{Event, EventFault, read_events};
 use ccsl_events::{Body, bind, header_text};
 use ccsl_scopes::Header;
 use std::alloc::Global;
 
-fn events_of(alloc: Global, keys: HashKeys, text: &[u8]) -> Result<Vec<Event>, Stop> {
+fn events_of(alloc: Global, keys: HashKeys, text: &[u8]) -> Result<Vec<Event>, Stop>
+    ensures few { IfOk result (λ es. length es.items ≤ MAX_CLOCKS) }
+{
     match read_events(alloc, keys, text) {
         Ok(events) => Ok(events),
         Err(fault) => Err(Stop::Events(fault, Vec::new(alloc))),
@@ -38,7 +40,9 @@ fn body_of(
     command: Command<'_>,
     events: &[Event],
     header: Header,
-) -> Result<Body, Stop> {
+) -> Result<Body, Stop>
+    requires few { length events.now ≤ MAX_CLOCKS }
+{
     match bind(alloc, events, header, command.gaps) {
         Ok(body) => Ok(body),
         Err(refused) => Err(Stop::Events(refused.fault, refused.candidates)),

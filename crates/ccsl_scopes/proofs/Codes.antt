@@ -8,8 +8,6 @@ use Rattle.ccsl_scopes.specs.declared.variable.Variable.{Variable}
 use Rattle.ccsl_scopes.specs.declared.lookup.Target.{Target}
 use Rattle.ccsl_scopes.specs.declared.lookup.Agreed.{Agreed}
 use Rattle.ccsl_scopes.specs.declared.lookup.Agreed.TheVariants.{Nothing, One, Several}
-use Rattle.ccsl_scopes.specs.declared.lookup.Resolution.{Resolution}
-use Rattle.ccsl_scopes.specs.declared.lookup.Resolution.TheVariants.{Found, Unknown, Ambiguous}
 use Rattle.ccsl_scopes.specs.Selects.{bits_of}
 use Rattle.ccsl_scopes.specs.Paths.{has_letters, is_or_ends_in, with_bits, target_of, is_same, joined, only_from, only, chosen, resolved}
 use Rattle.ccsl_scopes.specs.Codes.{are_declared, IsDeclared}

@@ -1,5 +1,8 @@
 //! Reading a header.
 
+ghost use Rattle.std.specs.Prelude.{◌≡◌, ◌<◌, length};
+ghost use Rattle.ccsl_scopes.specs.declared.command.Command.TheVariants.{Reference, More};
+
 use crate::command::{Command, HeaderWord, header_word, is_code, is_text};
 use crate::header::Header;
 use crate::select::{Select, select_of};
@@ -26,6 +29,8 @@ pub struct HeaderReader {
     first: usize,
     // how many words the open command has
     words: u64,
+    ghost referred: { command ≡ Reference → code < length header.codes },
+    ghost named: { command ≡ More → code < length header.codes },
 }
 
 fn kind_of(text: &[u8]) -> Kind {
@@ -127,17 +132,7 @@ impl HeaderReader {
         if !is_code(text) {
             return Err(VcdFault::BadHeader { at });
         }
-        self.code = match self.header.codes.find(text) {
-            Some(code) => code,
-            None => {
-                let code = self.header.codes.len();
-                if code == u32::MAX {
-                    return Err(VcdFault::TooManyVars { at });
-                }
-                self.header.codes.add(text)?;
-                code
-            }
-        };
+        self.code = self.header.code(at, text)?;
         self.command = Command::Reference;
         Ok(())
     }
@@ -199,7 +194,9 @@ impl HeaderReader {
     }
 
     // The end of a whole declaration.
-    fn declare(&mut self) -> Result<(), VcdFault> {
+    fn declare(&mut self) -> Result<(), VcdFault>
+        requires { self.old.code < length self.old.header.codes }
+    {
         let (bare, range) = split(self.reference.as_slice(), self.first);
         let mut path = Vec::with_capacity(
             self.alloc,

@@ -1,5 +1,5 @@
 use Rattle.std.proofs.lemmas.Result.{err_from_is_err_and}
-use Rattle.std.proofs.Common.{length, map, sym, ap, ◌∙◌}
+use Rattle.std.proofs.Common.{length, map, sym, ap, ◌∙◌, arith}
 use Rattle.ccsl_event_file.specs.File.{keyword, statement, names_of, reading, story}
 use Rattle.ccsl_event_file.specs.Parsing.{ahead, event_in}
 use Rattle.ccsl_event_file.proofs.Story.{moved}
@@ -26,6 +26,7 @@ statements-init c =
     record {
       len = same_len;
       names = c.with_hasher-names.ensures ∙ sym (ap (λ es. names_of (map event_in es)) none);
+      few = let none_yet = ap length none in omega (arith, none_yet);
       same = begins text len old c.new-parser.ensures.len c.new-parser.ensures.ahead ∙ c.in_ok-head.ensures.reads
           ∙ ap (λ es. story len (statement (map event_in es)) (ahead c.head.new.parser.len rest)) (sym none)
           ∙ ap (λ n. story n (statement (map event_in c.new-events.result.items)) (ahead c.head.new.parser.len rest)) c.new-parser.ensures.len

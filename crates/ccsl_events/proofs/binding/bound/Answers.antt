@@ -1,4 +1,4 @@
-use Rattle.std.proofs.Common.{◌≤◌, [], List, Ok, Err, map, length, true, sym, ap, subst, ◌∙◌}
+use Rattle.std.proofs.Common.{◌≤◌, List, Ok, Err, map, length, sym, ap, subst, ◌∙◌}
 use Rattle.std.proofs.lemmas.Result.{err_from_is_err_and}
 use Rattle.ccsl_base.specs.declared.limits.TheConstants.{MAX_CLOCKS}
 use Rattle.ccsl_event_file.specs.Parsing.{event_in}
@@ -24,7 +24,7 @@ pub returns-in_err-watches : goal.returns-in_err-watches
 returns-in_err-watches c =
     let p = err_from_is_err_and c.from_residual.result c.from_residual.ensures.1 in
     let binds = subst (λ (ss : List Source). BindsWatches (Err c.in_err-watches.field-0.0) (each (watch c.args.variables.now) (map event_in c.args.events.now)) ss c.watches.new.self.sources.items)
-        c.new-binder.ensures c.in_err-watches.ensures in
+    c.new-binder.ensures c.in_err-watches.ensures in
     subst (λ r. Begins r (b.bound (map event_in c.args.events.now) c.args.variables.now c.args.codes (are_skipped c.args.gaps))) (sym (p.1 ∙ ap (λ f. Err f) p.2))
     (fault-bound c.args.events.now c.args.variables.now c.args.codes (are_skipped c.args.gaps) c.in_err-watches.field-0.0 c.watches.new.self.sources.items binds)
 

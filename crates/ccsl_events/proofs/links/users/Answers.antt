@@ -1,4 +1,4 @@
-use Rattle.std.proofs.Common.{List, ℕ, Vec, Global, length, sym, ap, ap₂, subst, ◌∙◌, ◌+◌, arith}
+use Rattle.std.proofs.Common.{ℕ, length, sym, ap, ap₂, subst, ◌∙◌, ◌+◌}
 use Rattle.std.proofs.lemmas.List.{with_items_is}
 use Rattle.ccsl_events.specs.Links.{with_user}
 use Rattle.ccsl_events.proofs.Users.{AreFirstUsers, got-watch, first-more, first-all}

@@ -1,4 +1,4 @@
-use Rattle.std.proofs.Common.{◌≡◌, drop, false}
+use Rattle.std.proofs.Common.{◌≡◌, drop}
 use Rattle.ccsl_scopes.specs.Paths.{only_from, only}
 use Rattle.ccsl_scopes.proofs.lookup.only.Given as goal
 
