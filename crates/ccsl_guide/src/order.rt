@@ -1,22 +1,33 @@
 //! Which clock to decide next: one of a late conflict, at the value that it had last.
 
+ghost use Rattle.std.specs.Prelude.{◌<◌, ◌≤◌, All, length};
+
 use crate::problem::Problem;
 use ccsl_base::Memory;
 use ccsl_formula::Partial;
 use ccsl_refute::clause::clause_of;
 use ccsl_refute::{Line, Lit};
 
+/// What is noted of a clock.
+#[derive(Clone, Copy)]
+struct Noted {
+    /// Where it stands last in the queue.
+    place: usize,
+    /// Its last value, and when it got it.
+    positive: bool,
+    time: u64,
+}
+
 /// The clocks in the order of their last conflicts, the latest one last.
 pub struct Order {
     /// A clock may stand at several places, of which the last one counts.
     queue: Vec<u32>,
-    places: Vec<usize>,
+    clocks: Vec<Noted>,
     /// From here on no clock of the queue is open.
     end: usize,
-    /// The last value of each clock, and when it got it.
-    signs: Vec<bool>,
-    times: Vec<u64>,
     now: u64,
+    ghost noted: { All (λ c. c < length clocks.items) queue.items },
+    ghost within: { end ≤ length queue.items },
 }
 
 // By hand and not derived: to the prover, an early return then drops one by a single call.
@@ -24,10 +35,8 @@ impl Drop for Order {
     fn drop(self) {
         let Order {
             queue: _,
-            places: _,
+            clocks: _,
             end: _,
-            signs: _,
-            times: _,
             now: _,
         } = self;
     }
@@ -36,22 +45,29 @@ impl Drop for Order {
 impl Order {
     /// Clocks by their numbers, each to be tried as false.
     pub fn open(problem: &Problem) -> Result<Order, Memory> {
-        let alloc = problem.alloc;
-        let named = problem.scope.named as usize;
+        let named = problem.scope.named;
+        let mut queue = Vec::with_capacity(problem.alloc, named as usize)?;
+        let mut clocks = Vec::with_capacity(problem.alloc, named as usize)?;
+        for clock in (0..named).rev() {
+            queue.push(clock)?;
+            clocks.push(Noted {
+                place: clock as usize,
+                positive: false,
+                time: 0,
+            })?;
+        }
         Ok(Order {
-            queue: (0..problem.scope.named).rev().collect(alloc)?,
-            places: (0..named).rev().collect(alloc)?,
-            end: named,
-            signs: vec![in alloc; false; named]?,
-            times: vec![in alloc; 0u64; named]?,
+            queue,
+            clocks,
+            end: named as usize,
             now: 0,
         })
     }
 
     /// Puts a clock last.
     fn append(&mut self, clock: u32) -> Result<(), Memory> {
-        if let Some(place) = self.places.get_mut(clock as usize) {
-            *place = self.queue.len();
+        if let Some(noted) = self.clocks.get_mut(clock as usize) {
+            noted.place = self.queue.len();
             self.queue.push(clock)?;
         }
         Ok(())
@@ -70,12 +86,16 @@ impl Order {
     }
 
     /// The clock at a place of the queue, where the place counts and the clock is open.
-    fn open_at(&self, place: usize, part: &Partial) -> Option<Lit> {
-        let clock = *self.queue.get(place)?;
-        let last = *self.places.get(clock as usize)?;
-        let positive = *self.signs.get(clock as usize)?;
-        if last == place && part.get(clock).is_none() {
-            Some(Lit { clock, positive })
+    fn open_at(&self, place: usize, part: &Partial) -> Option<Lit>
+        requires { place < length self.now.queue.items }
+    {
+        let clock = self.queue[place];
+        let noted = self.clocks[clock as usize];
+        if noted.place == place && part.get(clock).is_none() {
+            Some(Lit {
+                clock,
+                positive: noted.positive,
+            })
         } else {
             None
         }
@@ -84,17 +104,18 @@ impl Order {
     /// A literal becomes true.
     pub fn assigned(&mut self, lit: Lit) {
         self.now = self.now.wrapping_add(1);
-        if let Some(sign) = self.signs.get_mut(lit.clock as usize) {
-            *sign = lit.positive;
-        }
-        if let Some(time) = self.times.get_mut(lit.clock as usize) {
-            *time = self.now;
+        if let Some(noted) = self.clocks.get_mut(lit.clock as usize) {
+            noted.positive = lit.positive;
+            noted.time = self.now;
         }
     }
 
     /// When a clock got its last value.
     pub fn time(&self, clock: u32) -> u64 {
-        self.times.get(clock as usize).copied().unwrap_or(0)
+        match self.clocks.get(clock as usize) {
+            None => 0,
+            Some(noted) => noted.time,
+        }
     }
 
     /// Clocks lose their values.
@@ -107,7 +128,7 @@ impl Order {
         for lit in clause_of(line, problem.nonempty) {
             self.append(lit.clock)?;
         }
-        if self.queue.len() / 8 > self.places.len() {
+        if self.queue.len() / 8 > self.clocks.len() {
             self.compact();
         }
         self.restart();
@@ -118,29 +139,14 @@ impl Order {
     fn compact(&mut self) {
         let mut kept = 0usize;
         for place in 0..self.queue.len() {
-            let Some(clock) = self.queue.get(place).copied() else {
-                return;
-            };
-            if self.move_to(clock, place, kept) {
+            let clock = self.queue[place];
+            if self.clocks[clock as usize].place == place {
+                self.clocks[clock as usize].place = kept;
+                self.queue[kept] = clock;
                 kept += 1;
             }
         }
+        self.end = kept;
         self.queue.truncate(kept);
-    }
-
-    /// Moves a clock of the queue, if it counts at its place.
-    fn move_to(&mut self, clock: u32, place: usize, to: usize) -> bool {
-        let Some(last) = self.places.get_mut(clock as usize) else {
-            return false;
-        };
-        if *last != place {
-            return false;
-        }
-        let Some(kept) = self.queue.get_mut(to) else {
-            return false;
-        };
-        *last = to;
-        *kept = clock;
-        true
     }
 }

@@ -29,9 +29,8 @@ enum Move {
 }
 
 pub struct Watches {
-    /// For each clock the watches of its negative literal and of its positive one.
-    of_negative: Vec<Vec<usize>>,
-    of_positive: Vec<Vec<usize>>,
+    /// For each literal the places of its watches: for each clock those of its negative one, and of its positive one.
+    places: Vec<Vec<usize>>,
     watches: Vec<Watch>,
     /// Clauses of one literal.
     units: Vec<Forced>,
@@ -43,8 +42,7 @@ pub struct Watches {
 impl Drop for Watches {
     fn drop(self) {
         let Watches {
-            of_negative: _,
-            of_positive: _,
+            places: _,
             watches: _,
             units: _,
             last: _,
@@ -55,8 +53,7 @@ impl Drop for Watches {
 impl Watches {
     pub fn open(problem: &Problem) -> Result<Watches, Memory> {
         Ok(Watches {
-            of_negative: empty_lists(problem)?,
-            of_positive: empty_lists(problem)?,
+            places: empty_lists(problem)?,
             watches: Vec::new(problem.alloc),
             units: Vec::new(problem.alloc),
             last: 0,
@@ -115,25 +112,8 @@ impl Watches {
         self.last
     }
 
-    /// The watches of a literal.
-    fn of(&self, lit: Lit) -> Option<&Vec<usize>> {
-        if lit.positive {
-            self.of_positive.get(lit.clock as usize)
-        } else {
-            self.of_negative.get(lit.clock as usize)
-        }
-    }
-
-    fn of_mut(&mut self, lit: Lit) -> Option<&mut Vec<usize>> {
-        if lit.positive {
-            self.of_positive.get_mut(lit.clock as usize)
-        } else {
-            self.of_negative.get_mut(lit.clock as usize)
-        }
-    }
-
     fn enter(&mut self, lit: Lit, place: usize) -> Result<(), Memory> {
-        if let Some(places) = self.of_mut(lit) {
+        if let Some(places) = self.places.get_mut(number_of(lit)) {
             places.push(place)?;
         }
         Ok(())
@@ -148,7 +128,7 @@ impl Watches {
         lit: Lit,
         forced: &mut Vec<Forced>,
     ) -> Result<(), Memory> {
-        let count = match self.of(lit) {
+        let count = match self.places.get(number_of(lit)) {
             None => 0,
             Some(places) => places.len(),
         };
@@ -193,13 +173,13 @@ impl Watches {
     }
 
     fn place(&self, lit: Lit, number: usize) -> Option<usize> {
-        let place = self.of(lit)?.get(number)?;
+        let place = self.places.get(number_of(lit))?.get(number)?;
         Some(*place)
     }
 
     /// Takes out a watch of a literal.
     fn leave(&mut self, lit: Lit, number: usize) {
-        if let Some(places) = self.of_mut(lit) {
+        if let Some(places) = self.places.get_mut(number_of(lit)) {
             if number < places.len() {
                 places.swap_remove(number);
             }
@@ -207,10 +187,16 @@ impl Watches {
     }
 }
 
-/// For each clock an empty list.
+/// The number of a literal.
+fn number_of(lit: Lit) -> usize {
+    2 * lit.clock as usize + lit.positive as usize
+}
+
+/// For each literal an empty list.
 fn empty_lists(problem: &Problem) -> Result<Vec<Vec<usize>>, Memory> {
-    let mut lists = Vec::with_capacity(problem.alloc, problem.scope.named as usize)?;
-    for _ in 0..problem.scope.named {
+    let literals = 2 * problem.scope.named as usize;
+    let mut lists = Vec::with_capacity(problem.alloc, literals)?;
+    for _ in 0..literals {
         lists.push(Vec::new(problem.alloc))?;
     }
     Ok(lists)
