@@ -15,6 +15,6 @@ abbrev pub refutes : Problem → List Line → Part → Reason → Bool
 refutes q lines p (Item k) = is_refuted p (slice_get (asked q) k)
 refutes q lines p (Clause j) = fails_at q.scope.declared lines p j
 
--- the reason refutes the values and the negation of the literal
+-- the reason refutes the values together with the negation of the literal
 abbrev pub IsForced : Problem → List Line → Part → Lit → Reason → Type 0
 IsForced q lines p l r = refutes q lines (with_lit p (negated l)) r ≡ true

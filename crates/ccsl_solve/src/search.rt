@@ -153,8 +153,8 @@ fn against(
     Ok(conflict)
 }
 
-/// Searches where a literal is true as well: gives the other clocks values that are best with it, or gives the conflict,
-/// and `part` is as before.
+/// Searches where a literal is true as well: gives the other clocks values that are best with it, or gives the
+/// conflict, and `part` is as before.
 #[cycle(search)]
 fn search_with(
     problem: &Problem,
