@@ -21,7 +21,7 @@ pub(crate) struct Source {
 
 /// The variables that are read by the events so far, each once.
 pub(crate) struct Binder {
-    pub alloc: Global,
+    alloc: Global,
     pub sources: Vec<Source>,
 }
 
