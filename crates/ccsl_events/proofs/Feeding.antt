@@ -11,7 +11,7 @@ use Rattle.ccsl_vcd.specs.declared.fault.VcdFault.{VcdFault}
 use Rattle.ccsl_vcd.specs.declared.fault.VcdFault.TheVariants as faults
 use Rattle.ccsl_events.specs.declared.body.Body.{Body}
 use Rattle.ccsl_events.specs.declared.reader.Reader.{Reader}
-use Rattle.ccsl_events.specs.Dump.{Plan, Place, Story, begin, goes, passed, may_end, ends_at, token_says}
+use Rattle.ccsl_events.specs.Dump.{Plan, Place, begin, goes, passed, may_end, ends_at, token_says}
 use Rattle.ccsl_events.specs.Standing.{Stands, Answers}
 use Rattle.ccsl_events.specs.Run.{IsOpen, settled_from, story_from, Runs, Breaks}
 use Rattle.ccsl_events.specs.Fed.{HasTaken, Reaches, Feeds, Says}
@@ -68,15 +68,19 @@ told-runs plan start whole part p b x y t r = record {
 }
 
 -- a fault behind it
-pub told-breaks : (plan : Plan) (start : ℕ) (whole rest : List ℕ) (p : Place) (f : VcdFault) → IsTold plan start whole p
-    → (f ≡ faults.Memory) ⊎ Breaks plan p (start + length whole) rest f
-    → (f ≡ faults.Memory) ⊎ Breaks plan begin start (whole ++ rest) f
-told-breaks plan start whole rest p f t (inl m) = inl m
-told-breaks plan start whole rest p f t (inr b) = inr (record {
+pub told-breaks : (plan : Plan) (start : ℕ) (whole rest : List ℕ) (p : Place) (f : VcdFault) (w x y : List ℕ) → IsTold plan start whole p
+    → (f ≡ faults.Memory) ⊎ Breaks plan p (start + length whole) rest f w x y
+    → (f ≡ faults.Memory) ⊎ Breaks plan begin start (whole ++ rest) f w x y
+told-breaks plan start whole rest p f w x y t (inl m) = inl m
+told-breaks plan start whole rest p f w x y t (inr b) = inr (record {
   front = length whole + b.front;
   told =
-      ap (λ (part : List ℕ). (story_from plan begin (settled_from start part)).fault) (take-append-add whole rest b.front)
-      ∙ ap (λ (s : Story). s.fault) (told-on plan begin p start whole (take b.front rest) t.fresh t.told) ∙ b.told;
+      ap (λ (part : List ℕ). story_from plan begin (settled_from start part)) (take-append-add whole rest b.front)
+      ∙ told-on plan begin p start whole (take b.front rest) t.fresh t.told ∙ b.told;
+  place = b.place;
+  more = b.more;
+  out = b.out;
+  written = b.written;
 })
 
 -- What is kept and a piece behind it are as one piece.
@@ -115,9 +119,9 @@ pub ends-on : (plan : Plan) (p : Place) (len : ℕ) (r : Result (Unit {0}) VcdFa
     → Answers plan p.written (goes (passed plan p)) r b x y → Answers plan p.written (ends_at plan len p) r b x y
 ends-on plan p len r b x y e a = rw e a
 
-pub ends-off : (plan : Plan) (p : Place) (len : ℕ) (b : Body) (x y : List ℕ) → may_end p ≡ false
-    → Answers plan p.written (ends_at plan len p) (Err (faults.Truncated len)) b x y
-ends-off plan p len b x y e = rw e (inl refl)
+pub ends-off : (plan : Plan) (p : Place) (len : ℕ) (b : Body) (x : List ℕ) → may_end p ≡ false
+    → Answers plan p.written (ends_at plan len p) (Err (faults.Truncated len)) b x x
+ends-off plan p len b x e = rw e (inl (refl, refl))
 
 pub no-body : (b : Body) (r : Reader) → r.body ≡ Some b → r.body ≡ None → ⊥
 no-body b r e f = let g : Some b ≡ None = sym e ∙ f in cc
@@ -172,7 +176,7 @@ end-white plan p at end carry piece b x e none s =
 pub end-breaks : (plan : Plan) (p : Place) (at end : ℕ) (carry piece : List ℕ) (f : VcdFault) (b : Body) (x y : List ℕ) → EndsIn carry piece end
     → 0 < length carry + end
     → Answers plan p.written (token_says plan p (token at (carry ++ take end piece)) p.amid) (Err f) b x y
-    → (f ≡ faults.Memory) ⊎ Breaks plan p at (carry ++ piece) f
+    → (f ≡ faults.Memory) ⊎ Breaks plan p at (carry ++ piece) f p.written x y
 end-breaks plan p at end carry piece f b x y e some a =
     front-breaks plan p at (length carry + end) (carry ++ piece) f b x y (one-run carry piece end e.unended e.run) some
     (omega (arith, e.inside, length-append carry piece)) e.short
@@ -184,22 +188,23 @@ pub kept-place : (plan : Plan) (start : ℕ) (bytes : List ℕ) (p : Place) (r :
 kept-place plan start bytes p r h = omega (arith, h.taken, ap length h.parts, length-append h.whole r.carry.items)
 
 -- a fault of what is kept and a piece behind it
-pub kept-breaks : (plan : Plan) (start : ℕ) (bytes piece : List ℕ) (p : Place) (r : Reader) (f : VcdFault) → (h : HasTaken plan start bytes p r)
-    → (f ≡ faults.Memory) ⊎ Breaks plan p (start + length h.whole) (r.carry.items ++ piece) f
-    → (f ≡ faults.Memory) ⊎ Breaks plan begin start (bytes ++ piece) f
-kept-breaks plan start bytes piece p r f h b =
-    subst (λ (all : List ℕ). (f ≡ faults.Memory) ⊎ Breaks plan begin start all f) (as-one bytes h.whole r.carry.items piece h.parts)
-    (told-breaks plan start h.whole (r.carry.items ++ piece) p f (told-of plan start bytes p r h) b)
+pub kept-breaks : (plan : Plan) (start : ℕ) (bytes piece : List ℕ) (p : Place) (r : Reader) (f : VcdFault) (w x y : List ℕ)
+    → (h : HasTaken plan start bytes p r)
+    → (f ≡ faults.Memory) ⊎ Breaks plan p (start + length h.whole) (r.carry.items ++ piece) f w x y
+    → (f ≡ faults.Memory) ⊎ Breaks plan begin start (bytes ++ piece) f w x y
+kept-breaks plan start bytes piece p r f w x y h b =
+    subst (λ (all : List ℕ). (f ≡ faults.Memory) ⊎ Breaks plan begin start all f w x y) (as-one bytes h.whole r.carry.items piece h.parts)
+    (told-breaks plan start h.whole (r.carry.items ++ piece) p f w x y (told-of plan start bytes p r h) b)
 
-pub kept-long : (plan : Plan) (start : ℕ) (bytes piece : List ℕ) (p : Place) (r : Reader) (at end : ℕ) → HasTaken plan start bytes p r
+pub kept-long : (plan : Plan) (start : ℕ) (bytes piece : List ℕ) (p : Place) (r : Reader) (at end : ℕ) (x : List ℕ) → HasTaken plan start bytes p r
     → end ≡ prefix_len is_dark piece → end ≤ length piece
     → 65536 < length r.carry.items + end → at ≡ r.taken - length r.carry.items
-    → (faults.TokenTooLong at ≡ faults.Memory) ⊎ Breaks plan begin start (bytes ++ piece) (faults.TokenTooLong at)
-kept-long plan start bytes piece p r at end h e l long is =
+    → (faults.TokenTooLong at ≡ faults.Memory) ⊎ Breaks plan begin start (bytes ++ piece) (faults.TokenTooLong at) p.written x x
+kept-long plan start bytes piece p r at end x h e l long is =
     let here : start + length h.whole ≡ at = sym (is ∙ kept-place plan start bytes p r h) in
-    kept-breaks plan start bytes piece p r (faults.TokenTooLong at) h
-    (inr (subst (λ (i : ℕ). Breaks plan p (start + length h.whole) (r.carry.items ++ piece) (faults.TokenTooLong i)) here
-    (front-long plan p (start + length h.whole) (length r.carry.items + end) (r.carry.items ++ piece) (one-run r.carry.items piece end h.unended e)
+    kept-breaks plan start bytes piece p r (faults.TokenTooLong at) p.written x x h
+    (inr (subst (λ (i : ℕ). Breaks plan p (start + length h.whole) (r.carry.items ++ piece) (faults.TokenTooLong i) p.written x x) here
+    (front-long plan p (start + length h.whole) (length r.carry.items + end) (r.carry.items ++ piece) x (one-run r.carry.items piece end h.unended e)
     (omega (arith, l, length-append r.carry.items piece)) long)))
 
 -- what is kept and so many bytes are white space and whole tokens
@@ -304,14 +309,14 @@ fresh-runs plan start bytes part p r b x y h none run =
     subst (λ (i : ℕ). Runs plan p i (r.carry.items ++ part) b x y) here
     (subst (λ (xs : List ℕ). Runs plan p r.taken (xs ++ part) b x y) (sym (no-items r.carry.items none)) run)
 
-pub fresh-breaks : (plan : Plan) (start : ℕ) (bytes piece : List ℕ) (p : Place) (r : Reader) (f : VcdFault) → HasTaken plan start bytes p r
+pub fresh-breaks : (plan : Plan) (start : ℕ) (bytes piece : List ℕ) (p : Place) (r : Reader) (f : VcdFault) (w x y : List ℕ) → HasTaken plan start bytes p r
     → length r.carry.items ≡ 0
-    → (f ≡ faults.Memory) ⊎ Breaks plan p r.taken piece f → (f ≡ faults.Memory) ⊎ Breaks plan begin start (bytes ++ piece) f
-fresh-breaks plan start bytes piece p r f h none b =
+    → (f ≡ faults.Memory) ⊎ Breaks plan p r.taken piece f w x y → (f ≡ faults.Memory) ⊎ Breaks plan begin start (bytes ++ piece) f w x y
+fresh-breaks plan start bytes piece p r f w x y h none b =
     let here : r.taken ≡ start + length h.whole = omega (arith, kept-place plan start bytes p r h, none) in
-    kept-breaks plan start bytes piece p r f h
-    (subst (λ (i : ℕ). (f ≡ faults.Memory) ⊎ Breaks plan p i (r.carry.items ++ piece) f) here
-    (subst (λ (xs : List ℕ). (f ≡ faults.Memory) ⊎ Breaks plan p r.taken (xs ++ piece) f) (sym (no-items r.carry.items none)) b))
+    kept-breaks plan start bytes piece p r f w x y h
+    (subst (λ (i : ℕ). (f ≡ faults.Memory) ⊎ Breaks plan p i (r.carry.items ++ piece) f w x y) here
+    (subst (λ (xs : List ℕ). (f ≡ faults.Memory) ⊎ Breaks plan p r.taken (xs ++ piece) f w x y) (sym (no-items r.carry.items none)) b))
 
 -- One after another.
 
@@ -326,11 +331,24 @@ reaches-both plan start bytes more w r r' x y z a b = record {
   written = b.written ∙ ap (λ (o : List ℕ). o ++ b.more) a.written ∙ append_assoc w a.more b.more;
 }
 
+-- a fault behind what was written
+breaks-next : (plan : Plan) (start : ℕ) (bytes all w : List ℕ) (r : Reader) (f : VcdFault) (x y z : List ℕ) → (a : Reaches plan start bytes w r x y)
+    → (f ≡ faults.Memory) ⊎ Breaks plan begin start all f a.place.written y z → (f ≡ faults.Memory) ⊎ Breaks plan begin start all f w x z
+breaks-next plan start bytes all w r f x y z a (inl m) = inl m
+breaks-next plan start bytes all w r f x y z a (inr b) = inr (record {
+  front = b.front;
+  place = b.place;
+  told = b.told;
+  more = a.more ++ b.more;
+  out = b.out ∙ ap (λ (o : List ℕ). o ++ b.more) a.out ∙ append_assoc x a.more b.more;
+  written = b.written ∙ ap (λ (o : List ℕ). o ++ b.more) a.written ∙ append_assoc w a.more b.more;
+})
+
 pub feeds-next : (plan : Plan) (start : ℕ) (bytes piece : List ℕ) (p : Place) (res : Result ℕ VcdFault) (r r' : Reader) (x y z : List ℕ)
     → (a : Reaches plan start bytes p.written r x y)
     → Feeds plan start bytes a.place piece res r' y z → Feeds plan start bytes p piece res r' x z
 feeds-next plan start bytes piece p (Ok n) r r' x y z a f = reaches-both plan start bytes (bytes ++ take n piece) p.written r r' x y z a f
-feeds-next plan start bytes piece p (Err g) r r' x y z a f = f
+feeds-next plan start bytes piece p (Err g) r r' x y z a f = breaks-next plan start bytes (bytes ++ piece) p.written r g x y z a f
 
 -- where a run took no byte
 pub still-there : (plan : Plan) (start : ℕ) (bytes piece w : List ℕ) (r : Reader) (n : ℕ) (x y : List ℕ) → n ≡ 0
@@ -350,14 +368,16 @@ feed-more plan start bytes piece rest w k r r' x y z so a b =
     subst (λ (all : List ℕ). Reaches plan start all w r' x z) whole
     (reaches-both plan start (bytes ++ take n piece) ((bytes ++ take n piece) ++ take k rest) w r r' x y z a b)
 
-pub feed-breaks : (plan : Plan) (start : ℕ) (bytes piece rest : List ℕ) (f : VcdFault) → IsRest piece rest
-    → (f ≡ faults.Memory) ⊎ Breaks plan begin start ((bytes ++ take (length piece - length rest) piece) ++ rest) f
-    → (f ≡ faults.Memory) ⊎ Breaks plan begin start (bytes ++ piece) f
-feed-breaks plan start bytes piece rest f so b =
+pub feed-breaks : (plan : Plan) (start : ℕ) (bytes piece rest w : List ℕ) (r : Reader) (f : VcdFault) (x y z : List ℕ) → IsRest piece rest
+    → (a : Reaches plan start (bytes ++ take (length piece - length rest) piece) w r x y)
+    → (f ≡ faults.Memory) ⊎ Breaks plan begin start ((bytes ++ take (length piece - length rest) piece) ++ rest) f a.place.written y z
+    → (f ≡ faults.Memory) ⊎ Breaks plan begin start (bytes ++ piece) f w x z
+feed-breaks plan start bytes piece rest w r f x y z so a b =
     let n : ℕ = length piece - length rest in
     let whole : (bytes ++ take n piece) ++ rest ≡ bytes ++ piece =
     append_assoc bytes (take n piece) rest ∙ ap (λ (xs : List ℕ). bytes ++ xs) (ap (λ (ys : List ℕ). take n piece ++ ys) so.is ∙ take-append-drop n piece) in
-    subst (λ (all : List ℕ). (f ≡ faults.Memory) ⊎ Breaks plan begin start all f) whole b
+    breaks-next plan start (bytes ++ take n piece) (bytes ++ piece) w r f x y z a
+    (subst (λ (all : List ℕ). (f ≡ faults.Memory) ⊎ Breaks plan begin start all f a.place.written y z) whole b)
 
 -- there is room in the width of places for the rest
 pub rest-fits : (plan : Plan) (start : ℕ) (bytes piece rest w : List ℕ) (p : Place) (r r' : Reader) (x y : List ℕ) → HasTaken plan start bytes p r

@@ -83,7 +83,7 @@ time-runs plan p b c at k value bytes x y s a t h =
     (subst (λ (said : Said). Answers plan p.written said (Ok tt) c x y) (time-said plan p b at k value bytes s a t) h))
 
 pub time-breaks : (plan : Plan) (p : Place) (b c : Body) (at k value : ℕ) (bytes : List ℕ) (f : VcdFault) (x y : List ℕ) → Stands plan p b → b.amid ≡ Changes → IsTime k value bytes
-    → Answers plan p.written (time_says plan p at value) (Err f) c x y → (f ≡ faults.Memory) ⊎ Breaks plan p at (35 ∷ bytes) f
+    → Answers plan p.written (time_says plan p at value) (Err f) c x y → (f ≡ faults.Memory) ⊎ Breaks plan p at (35 ∷ bytes) f p.written x y
 time-breaks plan p b c at k value bytes f x y s a t h =
     front-breaks plan p at (k + 1) (35 ∷ bytes) f c x y (time-run k value bytes t) (omega arith) (omega (arith, t.inside)) (omega (arith, t.few))
     (subst (λ (said : Said). Answers plan p.written said (Err f) c x y) (time-said plan p b at k value bytes s a t) h)

@@ -106,13 +106,19 @@ runs-word plan p at w text b x y d n l h a = go (token_says plan p (token at tex
     go (refused g) e f = absurd f
 
 word-breaks : (plan : Plan) (p : Place) (at w : ℕ) (text : List ℕ) (f : VcdFault) (b : Body) (x y : List ℕ) → Dark text → 0 < length text → length text ≤ 65536 → is_white w ≡ true
-    → Answers plan p.written (token_says plan p (token at text) p.amid) (Err f) b x y → (f ≡ faults.Memory) ⊎ ((story_from plan p (settled_from at (text ++ w ∷ []))).fault ≡ Some f)
+    → Answers plan p.written (token_says plan p (token at text) p.amid) (Err f) b x y
+    → (f ≡ faults.Memory) ⊎ ((story_from plan p (settled_from at (text ++ w ∷ [])) ≡ record { place = p; fault = Some f }) × (y ≡ x))
 word-breaks plan p at w text f b x y d n l h a = go (token_says plan p (token at text) p.amid) refl a
   where
-    go : (s : Said) → token_says plan p (token at text) p.amid ≡ s → Answers plan p.written s (Err f) b x y → (f ≡ faults.Memory) ⊎ ((story_from plan p (settled_from at (text ++ w ∷ []))).fault ≡ Some f)
+    go : (s : Said) → token_says plan p (token at text) p.amid ≡ s → Answers plan p.written s (Err f) b x y
+        → (f ≡ faults.Memory) ⊎ ((story_from plan p (settled_from at (text ++ w ∷ [])) ≡ record { place = p; fault = Some f }) × (y ≡ x))
     go (goes q) e m = inl m
     go (refused g) e (inl is) =
-        inr (ap (λ (s : Story). s.fault) (ap (story_from plan p) (settled-word at w text d n l h) ∙ word-told plan p (token at text) ∙ ap (told p) e) ∙ ap (λ (v : VcdFault). Some v) (sym is))
+        inr (
+          ap (story_from plan p) (settled-word at w text d n l h) ∙ word-told plan p (token at text) ∙ ap (told p) e
+              ∙ ap (λ (v : VcdFault). record { place = p; fault = Some v }) (sym is.0),
+          is.1,
+        )
     go (refused g) e (inr m) = inl m
 
 -- a token that is too long already
@@ -127,7 +133,7 @@ settled-long at (t ∷ ts) d l =
     ∙ ap (λ (b : Bool). map hear (cond b (token at (t ∷ ts) ∷ []) [])) (or-true (nat_lt n n))
     ∙ ap (λ (b : Bool). cond b (too_long at) (word (token at (t ∷ ts))) ∷ []) long
 
-long-told : (plan : Plan) (p : Place) (at : ℕ) → (story_from plan p (too_long at ∷ [])).fault ≡ Some (faults.TokenTooLong at)
+long-told : (plan : Plan) (p : Place) (at : ℕ) → story_from plan p (too_long at ∷ []) ≡ record { place = p; fault = Some (faults.TokenTooLong at) }
 unfolding says
 long-told plan p at = refl
 
@@ -188,35 +194,56 @@ front-told plan p q at end bytes e n l m s =
     )
 
 pub front-breaks : (plan : Plan) (p : Place) (at end : ℕ) (bytes : List ℕ) (f : VcdFault) (b : Body) (x y : List ℕ) → end ≡ prefix_len is_dark bytes → 0 < end → end < length bytes → end ≤ 65536
-    → Answers plan p.written (token_says plan p (token at (take end bytes)) p.amid) (Err f) b x y → (f ≡ faults.Memory) ⊎ Breaks plan p at bytes f
+    → Answers plan p.written (token_says plan p (token at (take end bytes)) p.amid) (Err f) b x y
+    → (f ≡ faults.Memory) ⊎ Breaks plan p at bytes f p.written x y
 front-breaks plan p at end bytes f b x y e n l m a =
     let k : length (take end bytes) ≡ end = length-take-le end bytes (omega (arith, l)) in
     by (word-breaks plan p at (get_or bytes end 0) (take end bytes) f b x y (subst (λ i. Dark (take i bytes)) (sym e) (dark-front bytes)) (omega (arith, k, n)) (omega (arith, k, m))
     (subst (λ i. is_white (get_or bytes i 0) ≡ true) (sym e) (white-stop bytes (omega (arith, e, l)))) a)
   where
-    by : (f ≡ faults.Memory) ⊎ ((story_from plan p (settled_from at (take end bytes ++ get_or bytes end 0 ∷ []))).fault ≡ Some f) → (f ≡ faults.Memory) ⊎ Breaks plan p at bytes f
+    by : (f ≡ faults.Memory) ⊎ ((story_from plan p (settled_from at (take end bytes ++ get_or bytes end 0 ∷ [])) ≡ record { place = p; fault = Some f }) × (y ≡ x))
+        → (f ≡ faults.Memory) ⊎ Breaks plan p at bytes f p.written x y
     by (inl is) = inl is
-    by (inr is) = inr (record { front = end + 1; told = subst (λ part. (story_from plan p (settled_from at part)).fault ≡ Some f) (sym (take_more bytes end 0 l)) is })
+    by (inr is) = inr (record {
+      front = end + 1;
+      place = p;
+      told = subst (λ part. story_from plan p (settled_from at part) ≡ record { place = p; fault = Some f }) (sym (take_more bytes end 0 l)) is.0;
+      more = [];
+      out = is.1 ∙ sym (append-nil x);
+      written = sym (append-nil p.written);
+    })
 
-pub front-long : (plan : Plan) (p : Place) (at end : ℕ) (bytes : List ℕ) → end ≡ prefix_len is_dark bytes → end ≤ length bytes → 65536 < end → Breaks plan p at bytes (faults.TokenTooLong at)
-front-long plan p at end bytes e l m =
+pub front-long : (plan : Plan) (p : Place) (at end : ℕ) (bytes x : List ℕ) → end ≡ prefix_len is_dark bytes → end ≤ length bytes → 65536 < end
+    → Breaks plan p at bytes (faults.TokenTooLong at) p.written x x
+front-long plan p at end bytes x e l m =
     let k : length (take end bytes) ≡ end = length-take-le end bytes l in
     record {
       front = end;
-      told = ap (λ (hs : List Heard). (story_from plan p hs).fault) (settled-long at (take end bytes) (subst (λ i. Dark (take i bytes)) (sym e) (dark-front bytes)) (omega (arith, k, m))) ∙ long-told plan p at;
+      place = p;
+      told =
+          ap (story_from plan p) (settled-long at (take end bytes) (subst (λ i. Dark (take i bytes)) (sym e) (dark-front bytes)) (omega (arith, k, m)))
+          ∙ long-told plan p at;
+      more = [];
+      out = sym (append-nil x);
+      written = sym (append-nil p.written);
     }
 
 -- The rest of some bytes.
 
 -- behind a part, a fault of what follows
-pub breaks-on : (plan : Plan) (p : Place) (at : ℕ) (xs ys : List ℕ) (a : Body) (x y : List ℕ) (f : VcdFault) → (r : Runs plan p at xs a x y) → (f ≡ faults.Memory) ⊎ Breaks plan r.place (at + length xs) ys f
-    → (f ≡ faults.Memory) ⊎ Breaks plan p at (xs ++ ys) f
-breaks-on plan p at xs ys a x y f r (inl is) = inl is
-breaks-on plan p at xs ys a x y f r (inr b) = inr (record {
+pub breaks-on : (plan : Plan) (p : Place) (at : ℕ) (xs ys : List ℕ) (a : Body) (x y z : List ℕ) (f : VcdFault) → (r : Runs plan p at xs a x y)
+    → (f ≡ faults.Memory) ⊎ Breaks plan r.place (at + length xs) ys f r.place.written y z
+    → (f ≡ faults.Memory) ⊎ Breaks plan p at (xs ++ ys) f p.written x z
+breaks-on plan p at xs ys a x y z f r (inl is) = inl is
+breaks-on plan p at xs ys a x y z f r (inr b) = inr (record {
   front = length xs + b.front;
+  place = b.place;
   told =
-      ap (λ (part : List ℕ). (story_from plan p (settled_from at part)).fault) (parts xs ys b.front)
-      ∙ ap (λ (s : Story). s.fault) (told-on plan p r.place at xs (take b.front ys) r.fresh r.told) ∙ b.told;
+      ap (λ (part : List ℕ). story_from plan p (settled_from at part)) (parts xs ys b.front)
+      ∙ told-on plan p r.place at xs (take b.front ys) r.fresh r.told ∙ b.told;
+  more = r.follows.more ++ b.more;
+  out = b.out ∙ ap (λ (o : List ℕ). o ++ b.more) r.follows.out ∙ append_assoc x r.follows.more b.more;
+  written = b.written ∙ ap (λ (o : List ℕ). o ++ b.more) r.follows.written ∙ append_assoc p.written r.follows.more b.more;
 })
   where
     parts : (xs ys : List ℕ) (n : ℕ) → take (length xs + n) (xs ++ ys) ≡ xs ++ take n ys
@@ -230,7 +257,7 @@ takes-next plan p at bytes a x y z b (Ok n) r t =
     runs-both plan p at [] (take n bytes) a b x y z r (subst (λ (i : ℕ). Runs plan r.place i (take n bytes) b y z) none t)
 takes-next plan p at bytes a x y z b (Err f) r t =
     let none : at ≡ at + length {A = ℕ} [] = omega arith in
-    breaks-on plan p at [] bytes a x y f r (subst (λ (i : ℕ). (f ≡ faults.Memory) ⊎ Breaks plan r.place i bytes f) none t)
+    breaks-on plan p at [] bytes a x y z f r (subst (λ (i : ℕ). (f ≡ faults.Memory) ⊎ Breaks plan r.place i bytes f r.place.written y z) none t)
 
 pub step-takes : (plan : Plan) (p : Place) (at n : ℕ) (bytes : List ℕ) (a b : Body) (x y z : List ℕ) (res : Result ℕ VcdFault) → n ≡ 0 → Runs plan p at (take n bytes) a x y
     → ((q : Place) → Stands plan q a → Takes plan q at bytes res b y z) → Takes plan p at bytes res b x z
@@ -289,14 +316,17 @@ runs-more plan p at k piece rest a b x y z so r on =
     runs-on plan p at (length piece - length rest) k piece rest a b x y z (omega arith) so.is r (on r.place r.follows.stands)
 
 -- a fault in the rest
-pub rest-breaks : (plan : Plan) (p : Place) (at : ℕ) (piece rest : List ℕ) (a : Body) (x y : List ℕ) (f : VcdFault) → IsRest piece rest → Runs plan p at (take (length piece - length rest) piece) a x y
-    → ((q : Place) → Stands plan q a → (f ≡ faults.Memory) ⊎ Breaks plan q (at + (length piece - length rest)) rest f) → (f ≡ faults.Memory) ⊎ Breaks plan p at piece f
-rest-breaks plan p at piece rest a x y f so r on =
+pub rest-breaks : (plan : Plan) (p : Place) (at : ℕ) (piece rest : List ℕ) (a : Body) (x y z : List ℕ) (f : VcdFault) → IsRest piece rest
+    → Runs plan p at (take (length piece - length rest) piece) a x y
+    → ((q : Place) → Stands plan q a → (f ≡ faults.Memory) ⊎ Breaks plan q (at + (length piece - length rest)) rest f q.written y z)
+    → (f ≡ faults.Memory) ⊎ Breaks plan p at piece f p.written x z
+rest-breaks plan p at piece rest a x y z f so r on =
     let n : ℕ = length piece - length rest in
     let k : length (take n piece) ≡ n = length-take-le n piece (omega arith) in
     let whole : take n piece ++ rest ≡ piece = ap (λ (ys : List ℕ). take n piece ++ ys) so.is ∙ take-append-drop n piece in
-    subst (λ (part : List ℕ). (f ≡ faults.Memory) ⊎ Breaks plan p at part f) whole
-    (breaks-on plan p at (take n piece) rest a x y f r (subst (λ (i : ℕ). (f ≡ faults.Memory) ⊎ Breaks plan r.place (at + i) rest f) (sym k) (on r.place r.follows.stands)))
+    subst (λ (part : List ℕ). (f ≡ faults.Memory) ⊎ Breaks plan p at part f p.written x z) whole
+    (breaks-on plan p at (take n piece) rest a x y z f r
+    (subst (λ (i : ℕ). (f ≡ faults.Memory) ⊎ Breaks plan r.place (at + i) rest f r.place.written y z) (sym k) (on r.place r.follows.stands)))
 
 -- a place inside a piece fits the width of places
 pub place-fits : (at : ℕ) (piece rest : List ℕ) → at + length piece < 18446744073709551616

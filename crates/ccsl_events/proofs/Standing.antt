@@ -1,5 +1,5 @@
 -- What stands for a place, and what follows it.
-use Rattle.std.proofs.Common.{◌≡◌, ℕ, List, [], ◌++◌, Bool, true, false, Result, Ok, Err, if◌then◌else◌, refl, sym, ap, subst, ◌∙◌}
+use Rattle.std.proofs.Common.{◌≡◌, inl, inr, ℕ, List, [], ◌++◌, Bool, true, false, Result, Ok, Err, if◌then◌else◌, refl, sym, ap, subst, ◌∙◌}
 use Rattle.std.proofs.lemmas.List.{append-nil}
 use Rattle.ccsl_vcd.specs.declared.fault.VcdFault.{VcdFault}
 use Rattle.ccsl_vcd.specs.declared.fault.VcdFault.TheVariants as faults
@@ -22,7 +22,8 @@ answers-still plan before (goes q) (Ok u) b xs a = record {
 }
 answers-still plan before (goes q) (Err f) b xs a = a
 answers-still plan before (refused g) (Ok u) b xs a = a
-answers-still plan before (refused g) (Err f) b xs a = a
+answers-still plan before (refused g) (Err f) b xs (inl is) = inl (is.0, refl)
+answers-still plan before (refused g) (Err f) b xs (inr m) = inr m
 
 -- values are recorded from here on, if a test holds
 pub stands-on : (plan : Plan) (p : Place) (b b' : Body) (t : Bool) → Stands plan p b → b' ≡ record b { is_on = if t then true else b.is_on } →

@@ -1,5 +1,5 @@
 -- What a whole body says, by the bytes that were taken of it.
-use Rattle.std.proofs.Common.{◌≡◌, ℕ, ◌+◌, ◌≤◌, ◌<◌, ◌⊎◌, inl, inr, List, [], ◌∷◌, ◌++◌, length, take, drop, map, filter, fold, Bool, true, false, not, nat_lt, ◌||◌, ◌&&◌, cond, Option, Some, None, refl, sym, ap, ◌∙◌, append_assoc, arith, length-append}
+use Rattle.std.proofs.Common.{◌≡◌, ℕ, ◌+◌, ◌≤◌, ◌<◌, ◌⊎◌, inl, inr, List, [], ◌∷◌, ◌++◌, length, take, drop, map, filter, fold, Bool, true, false, not, nat_lt, ◌||◌, ◌&&◌, cond, Some, None, refl, sym, ap, ◌∙◌, append_assoc, arith, length-append}
 use Rattle.std.specs.List.{list_all}
 use Rattle.std.proofs.lemmas.Bool.{cases_lt, le-ltb}
 use Rattle.std.proofs.lemmas.List.{append-nil, map-append, take-append-drop}
@@ -11,7 +11,7 @@ use Rattle.ccsl_vcd_lex.proofs.Further.{split}
 use Rattle.ccsl_vcd_lex.proofs.Told.{long-word}
 use Rattle.ccsl_vcd.specs.declared.fault.VcdFault.{VcdFault}
 use Rattle.ccsl_events.specs.declared.reader.Reader.{Reader}
-use Rattle.ccsl_events.specs.Dump.{Plan, Place, Story, refused, next, next_from, begin, story, ends_at, ended, body_says}
+use Rattle.ccsl_events.specs.Dump.{Plan, Place, Story, refused, next, begin, story, ends_at, ended, body_says}
 use Rattle.ccsl_events.specs.Run.{IsOpen, settled_from, story_from, Breaks}
 use Rattle.ccsl_events.specs.Fed.{HasTaken}
 use Rattle.ccsl_events.proofs.Run.{settled-fresh, settled-cut, settled-long, fold-both, fresh-append}
@@ -117,25 +117,29 @@ settled-first at p more =
     )
 
 -- a fault stays the first
-fault-stays : (plan : Plan) (s : Story) (f : VcdFault) (hs : List Heard) → s.fault ≡ Some f → (fold (next plan) s hs).fault ≡ Some f
-fault-stays plan s f [] e = e
-fault-stays plan s f (h ∷ hs) e = fault-stays plan (next plan s h) f hs (ap (λ (o : Option VcdFault). (next_from plan s.place o h).fault) e)
-
-refuses : (plan : Plan) (len : ℕ) (p : Place) (o : Option VcdFault) (f : VcdFault) → o ≡ Some f → ended plan len p o ≡ refused f
-refuses plan len p o f e = rw e refl
+fault-stays : (plan : Plan) (p : Place) (f : VcdFault) (hs : List Heard)
+    → fold (next plan) (record { place = p; fault = Some f }) hs ≡ record { place = p; fault = Some f }
+fault-stays plan p f [] = refl
+fault-stays plan p f (h ∷ hs) = fault-stays plan p f hs
 
 -- a token of some first bytes is refused
-pub whole-breaks : (plan : Plan) (start len : ℕ) (bytes more : List ℕ) (f : VcdFault) → Breaks plan begin start bytes f
-    → body_says plan start len (bytes ++ more) ≡ refused f
-whole-breaks plan start len bytes more f b =
+pub story-breaks : (plan : Plan) (start : ℕ) (bytes more : List ℕ) (f : VcdFault) (w x y : List ℕ) → (b : Breaks plan begin start bytes f w x y)
+    → story plan (map hear (tokens_from true start (bytes ++ more))) ≡ record { place = b.place; fault = Some f }
+story-breaks plan start bytes more f w x y b =
     let part : List ℕ = take b.front bytes in
     let rest : List ℕ = drop b.front bytes ++ more in
-    let is : part ++ rest ≡ bytes ++ more = sym (append_assoc part (drop b.front bytes) more)
-    ∙ ap (λ (xs : List ℕ). xs ++ more) (take-append-drop b.front bytes) in
+    let is : part ++ rest ≡ bytes ++ more =
+    sym (append_assoc part (drop b.front bytes) more) ∙ ap (λ (xs : List ℕ). xs ++ more) (take-append-drop b.front bytes) in
     let k = settled-first start part rest in
-    let told : story plan (all_from start (bytes ++ more)) ≡ fold (next plan) (story_from plan begin (settled_from start part)) k.0 =
     story-is plan (all_from start (bytes ++ more)) ∙ ap (λ (xs : List ℕ). story_from plan begin (all_from start xs)) (sym is)
-    ∙ ap (story_from plan begin) k.1 ∙ fold-both plan (record { place = begin; fault = None }) (settled_from start part) k.0 in
-    let s : Story = story plan (all_from start (bytes ++ more)) in
-    refuses plan len s.place s.fault f
-    (ap (λ (t : Story). t.fault) told ∙ fault-stays plan (story_from plan begin (settled_from start part)) f k.0 b.told)
+    ∙ ap (story_from plan begin) k.1 ∙ fold-both plan (record { place = begin; fault = None }) (settled_from start part) k.0
+    ∙ ap (λ (s : Story). fold (next plan) s k.0) b.told ∙ fault-stays plan b.place f k.0
+
+pub whole-breaks : (plan : Plan) (start len : ℕ) (bytes more : List ℕ) (f : VcdFault) (w x y : List ℕ) → Breaks plan begin start bytes f w x y
+    → body_says plan start len (bytes ++ more) ≡ refused f
+whole-breaks plan start len bytes more f w x y b = ap (λ (s : Story). ended plan len s.place s.fault) (story-breaks plan start bytes more f w x y b)
+
+-- what was written up to the fault
+pub whole-rows : (plan : Plan) (start : ℕ) (bytes more : List ℕ) (f : VcdFault) (w x y : List ℕ) → (b : Breaks plan begin start bytes f w x y)
+    → (story plan (map hear (tokens_from true start (bytes ++ more)))).place ≡ b.place
+whole-rows plan start bytes more f w x y b = ap (λ (s : Story). s.place) (story-breaks plan start bytes more f w x y b)

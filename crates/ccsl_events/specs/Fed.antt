@@ -36,7 +36,7 @@ pub record Reaches (plan : Plan) (start : ℕ) (bytes before : List ℕ) (r : Re
 -- Behind the bytes that were taken so many of a piece were, or one of the tokens is refused, unless memory ran out.
 abbrev pub Feeds : Plan → ℕ → List ℕ → Place → List ℕ → Result ℕ VcdFault → Reader → List ℕ → List ℕ → Type 0
 Feeds plan start bytes p piece (Ok n) r old new = Reaches plan start (bytes ++ take n piece) p.written r old new
-Feeds plan start bytes p piece (Err f) r old new = (f ≡ faults.Memory) ⊎ Breaks plan begin start (bytes ++ piece) f
+Feeds plan start bytes p piece (Err f) r old new = (f ≡ faults.Memory) ⊎ Breaks plan begin start (bytes ++ piece) f p.written old new
 
 -- what a reader answers, and leaves in its body, is what is said
 pub record Says (plan : Plan) (before : List ℕ) (said : Said) (result : Result (Unit {0}) VcdFault) (r : Reader) (old new : List ℕ) : Type 0 where

@@ -1,5 +1,5 @@
 -- What the bytes of a body say, from a place on where a token may begin: which tokens they settle, and the story of these.
-use Rattle.std.specs.Prelude.{◌≡◌, ◌⊎◌, ℕ, ◌+◌, List, length, take, map, filter, fold, true, nat_lt, ◌||◌, Some, None, Result, Ok, Err}
+use Rattle.std.specs.Prelude.{◌≡◌, ◌⊎◌, ℕ, ◌+◌, List, ◌++◌, length, take, map, filter, fold, true, nat_lt, ◌||◌, Some, None, Result, Ok, Err}
 use Rattle.std.specs.List.{list_all}
 use Rattle.ccsl_vcd_lex.specs.Tokens.{Heard, hear, end_of, is_long, tokens_from}
 use Rattle.ccsl_vcd_lex.specs.Runs.{fresh_after}
@@ -29,12 +29,17 @@ pub record Runs (plan : Plan) (p : Place) (at : ℕ) (part : List ℕ) (b : Body
   pub fresh : fresh_after true part ≡ true
   pub follows : Follows plan p.written place b old new
 
--- what so many of them settle has this first fault
-pub record Breaks (plan : Plan) (p : Place) (at : ℕ) (bytes : List ℕ) (f : VcdFault) : Type 0 where
+-- What so many of them settle has this first fault, and what was written on the way to it stands behind what was written
+-- before.
+pub record Breaks (plan : Plan) (p : Place) (at : ℕ) (bytes : List ℕ) (f : VcdFault) (before old new : List ℕ) : Type 0 where
   pub front : ℕ
-  pub told : (story_from plan p (settled_from at (take front bytes))).fault ≡ Some f
+  pub place : Place
+  pub told : story_from plan p (settled_from at (take front bytes)) ≡ record { place = place; fault = Some f }
+  pub more : List ℕ
+  pub out : new ≡ old ++ more
+  pub written : place.written ≡ before ++ more
 
 -- so many were taken, or one of their tokens is refused, unless memory ran out
 abbrev pub Takes : Plan → Place → ℕ → List ℕ → Result ℕ VcdFault → Body → List ℕ → List ℕ → Type 0
 Takes plan p at bytes (Ok n) b old new = Runs plan p at (take n bytes) b old new
-Takes plan p at bytes (Err f) b old new = (f ≡ faults.Memory) ⊎ Breaks plan p at bytes f
+Takes plan p at bytes (Err f) b old new = (f ≡ faults.Memory) ⊎ Breaks plan p at bytes f p.written old new

@@ -36,9 +36,9 @@ pub record Follows (plan : Plan) (before : List ℕ) (q : Place) (b : Body) (old
   pub out : new ≡ old ++ more
   pub written : q.written ≡ before ++ more
 
--- what was answered, and what was left, is what is said, unless memory ran out
+-- What was answered, and what was left, is what is said, unless memory ran out. Where it is refused nothing is written.
 abbrev pub Answers : Plan → List ℕ → Said → Result (Unit {0}) VcdFault → Body → List ℕ → List ℕ → Type 0
 Answers plan before (goes q) (Ok u) b old new = Follows plan before q b old new
 Answers plan before (goes q) (Err f) b old new = f ≡ faults.Memory
 Answers plan before (refused g) (Ok u) b old new = ⊥
-Answers plan before (refused g) (Err f) b old new = (f ≡ g) ⊎ (f ≡ faults.Memory)
+Answers plan before (refused g) (Err f) b old new = ((f ≡ g) × (new ≡ old)) ⊎ (f ≡ faults.Memory)

@@ -50,6 +50,6 @@ returns-in_err-taken-clause-takes c plan p s fits =
     let piece = c.args.piece.now in
     let rest = c.tokens.rest.now in
     rw (e.1, e.2)
-    (rest-breaks plan p c.args.at piece rest c.tokens.self c.args.out.now.items c.tokens.out.items f c.tokens.invariant.rest
+    (rest-breaks plan p c.args.at piece rest c.tokens.self c.args.out.now.items c.tokens.out.items c.step.new.out.items f c.tokens.invariant.rest
     (c.tokens.invariant.runs plan p s fits)
-    (λ q t. subst (λ (i : ℕ). (f ≡ faults.Memory) ⊎ Breaks plan q i rest f) (place-fits c.args.at piece rest fits) (c.in_err-taken.ensures.takes plan q t)))
+    (λ q t. subst (λ (i : ℕ). (f ≡ faults.Memory) ⊎ Breaks plan q i rest f q.written c.tokens.out.items c.step.new.out.items) (place-fits c.args.at piece rest fits) (c.in_err-taken.ensures.takes plan q t)))

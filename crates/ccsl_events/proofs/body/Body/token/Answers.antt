@@ -8,7 +8,7 @@ use Rattle.ccsl_events.proofs.body.Body.token.Goals.{then-end-gt0+in_ok-hear, el
 
 pub returns-then-end-gt-MAX_TOKEN_BYTES-clause-takes : goal.returns-then-end-gt-MAX_TOKEN_BYTES-clause-takes
 returns-then-end-gt-MAX_TOKEN_BYTES-clause-takes c plan p s =
-    inr (front-long plan p c.args.at c.run_end-end.result c.args.bytes.now (c.run_end-end.ensures.value ∙ zero-add _) c.run_end-end.ensures.within c.if-end-gt-MAX_TOKEN_BYTES.true)
+    inr (front-long plan p c.args.at c.run_end-end.result c.args.bytes.now c.args.out.now.items (c.run_end-end.ensures.value ∙ zero-add _) c.run_end-end.ensures.within c.if-end-gt-MAX_TOKEN_BYTES.true)
 
 pub returns-then-end-bytes-clause-takes : goal.returns-then-end-bytes-clause-takes
 returns-then-end-bytes-clause-takes c plan p s = runs-none plan p c.args.at c.args.self.now c.args.out.now.items s

@@ -57,6 +57,7 @@ returns-in_err-taken-clause-feeds c plan start before p h fits =
     let so = c.strides.invariant.rest in
     let a = c.strides.invariant.reaches plan start before p h fits in
     rw (q.1, q.2)
-    (feed-breaks plan start before piece rest c.in_err-taken.field-0.0 so
+    (feed-breaks plan start before piece rest p.written c.strides.self c.in_err-taken.field-0.0
+    c.args.out.now.items c.strides.out.items c.stride-in-strides.new.out.items so a
     (c.in_err-taken.ensures.feeds plan start (before ++ take (length piece - length rest) piece) a.place a.taken
     (rest-fits plan start before piece rest p.written p c.args.self.now c.strides.self c.args.out.now.items c.strides.out.items h so a fits)))

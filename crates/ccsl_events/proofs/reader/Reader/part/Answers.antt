@@ -10,7 +10,8 @@ pub returns-then-end-min-clause-feeds : goal.returns-then-end-min-clause-feeds
 returns-then-end-min-clause-feeds c plan start before p h fits =
     let carry = c.args.self.now.carry in
     let long : 65536 < length carry.items + c.run_end-end.result = omega (arith, c.if-end-min.true, c.min.ensures, c.len.ensures, carry.ok.0, h.few) in
-    kept-long plan start before c.args.bytes.now p c.args.self.now c.saturating_sub-at.result c.run_end-end.result h
+    kept-long plan start before c.args.bytes.now p c.args.self.now c.saturating_sub-at.result c.run_end-end.result
+    c.args.out.now.items h
     (c.run_end-end.ensures.value ∙ zero-add _) c.run_end-end.ensures.within long
     (omega (arith, c.saturating_sub-at.ensures, c.len-then-end-min.ensures, carry.ok.0))
 
@@ -39,7 +40,7 @@ returns-in_err-hear-clause-feeds c plan start before p h fits =
     (arith, common_steps, c.if-not-is_empty.true, c.is_empty.ensures, c.extend_from_slice.new.self.ok.0) in
     let said = c.in_err-hear.ensures.says plan p h.body h.has h.stands in
     rw (q.1, q.2)
-    (kept-breaks plan start before piece p c.args.self.now f h
+    (kept-breaks plan start before piece p c.args.self.now f p.written c.args.out.now.items c.hear.new.out.items h
     (end-breaks plan p (start + length h.whole) end carry.items piece f said.body c.args.out.now.items c.hear.new.out.items
     (ends-in plan start before piece p c.args.self.now end h (c.run_end-end.ensures.value ∙ zero-add _) inside short) (omega (arith, some, size))
     (kept-said plan start before piece p c.args.self.now end c.saturating_add-self.result c.extend_from_slice.new.self.items

@@ -13,7 +13,8 @@ returns-in_err-taken-clause-feeds c plan start before p h fits =
     let q = err_from_is_err_and c.from_residual.result c.from_residual.ensures.1 in
     let none : length c.args.self.now.carry.items ≡ 0 = grind (arith, common_steps, c.if-is_empty.true, c.is_empty.ensures, c.args.self.now.carry.ok.0) in
     let s = subst (Stands plan p) (same-body h.body c.in-Some.body c.args.self.now h.has c.in-Some.is) h.stands in
-    rw (q.1, q.2) (fresh-breaks plan start before c.args.bytes.now p c.args.self.now c.in_err-taken.field-0.0 h none
+    rw (q.1, q.2)
+    (fresh-breaks plan start before c.args.bytes.now p c.args.self.now c.in_err-taken.field-0.0 p.written c.args.out.now.items c.run.new.out.items h none
     (c.in_err-taken.ensures.takes plan p s fits))
 
 pub returns-then-taken-gt0-clause-feeds : goal.returns-then-taken-gt0-clause-feeds
