@@ -13,10 +13,11 @@ ghost use Rattle.ccsl_events.specs.Fed.{HasTaken};
 pub fn whole_body()
     ensures ends { (plan : Plan) (start len : ℕ) (bytes : List ℕ) (p : Place) (r : Reader) →
         HasTaken plan start (bytes ++ 10 ∷ []) p r → body_says plan start len bytes ≡ ends_at plan len p }
-    ensures breaks { (plan : Plan) (start len : ℕ) (bytes more : List ℕ) (f : VcdFault) (before old new : List ℕ) →
-        Breaks plan begin start bytes f before old new → body_says plan start len (bytes ++ more) ≡ refused f }
-    ensures rows { (plan : Plan) (start : ℕ) (bytes more : List ℕ) (f : VcdFault) (before old new : List ℕ) →
-        (b : Breaks plan begin start bytes f before old new) →
+    ensures breaks { (plan : Plan) (start len : ℕ) (bytes more : List ℕ) (f : VcdFault)
+        (before old new : List ℕ) → Breaks plan begin start bytes f before old new →
+        body_says plan start len (bytes ++ more) ≡ refused f }
+    ensures rows { (plan : Plan) (start : ℕ) (bytes more : List ℕ) (f : VcdFault)
+        (before old new : List ℕ) → (b : Breaks plan begin start bytes f before old new) →
         (story plan (map hear (tokens_from true start (bytes ++ more)))).place ≡ b.place }
     ensures line_feed { (plan : Plan) (start len : ℕ) (bytes : List ℕ) →
         body_says plan start len (bytes ++ 10 ∷ []) ≡ body_says plan start len bytes }
