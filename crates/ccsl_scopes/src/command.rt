@@ -1,24 +1,11 @@
-//! The commands of a header.
+//! The words of a header's commands.
 
-/// What stands in a header: in a command's place, or inside a command; in a declaration, which of its words comes next.
-#[derive(Clone, Copy, Debug, PartialEq, Eq)]
-pub enum Command {
-    Between,
-    Kind,
-    Size,
-    Code,
-    Reference,
-    More,
-    /// the place of its `$scope`
-    Scope(u64),
-    Upscope,
-    EndDefinitions,
-    /// `$timescale`
-    Timescale,
-    Other,
-}
+ghost use Rattle.std.specs.Prelude.{◌≡◌, ◌&&◌, nat_le, bytes_eq};
+ghost use Rattle.std.specs.List.{list_all};
+ghost use Rattle.ccsl_vcd.specs.Header.{is_code};
+ghost use Rattle.ccsl_scopes.specs.Headings.{header_word};
 
-/// What a token of a header is.
+/// What a token of a header is in a command's place.
 #[derive(Clone, Copy, Debug, PartialEq, Eq)]
 pub enum HeaderWord {
     Var,
@@ -31,7 +18,9 @@ pub enum HeaderWord {
     Plain,
 }
 
-pub(crate) fn header_word(text: &[u8]) -> HeaderWord {
+pub(crate) fn header_word(text: &[u8]) -> HeaderWord
+    ensures { result ≡ header_word text.now }
+{
     if is_text(text, b"$end") {
         HeaderWord::End
     } else if is_text(text, b"$var") {
@@ -51,15 +40,27 @@ pub(crate) fn header_word(text: &[u8]) -> HeaderWord {
     }
 }
 
-fn is_visible(b: u8) -> bool {
+fn is_visible(b: u8) -> bool
+    ensures { result ≡ (nat_le 33 b && nat_le b 126) }
+{
     b >= 33 && b <= 126
 }
 
-/// A code has visible characters, and at most 32 of them.
-pub(crate) fn is_code(text: &[u8]) -> bool {
-    text.len() <= 32 && text.iter().all(|b| is_visible(*b))
+fn all_visible(text: &[u8]) -> bool
+    ensures { result ≡ list_all (λ b. nat_le 33 b && nat_le b 126) text.now }
+{
+    text.iter().all(|b| is_visible(*b))
 }
 
-pub(crate) fn is_text(text: &[u8], word: &[u8]) -> bool {
+/// A code has visible characters, and at most 32 of them.
+pub(crate) fn is_code(text: &[u8]) -> bool
+    ensures { result ≡ is_code text.now }
+{
+    text.len() <= 32 && all_visible(text)
+}
+
+pub(crate) fn is_text(text: &[u8], word: &[u8]) -> bool
+    ensures { result ≡ bytes_eq text.now word.now }
+{
     text == word
 }

@@ -6,6 +6,7 @@ pub mod header;
 pub mod lookup;
 pub mod path;
 pub mod reader;
+mod reference;
 pub mod select;
 pub mod show;
 pub mod variable;

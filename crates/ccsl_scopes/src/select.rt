@@ -1,6 +1,7 @@
 //! What stands in brackets behind a name, and the bits that it means.
 
-ghost use Rattle.std.specs.Prelude.{◌≡◌, ◌<◌, IfSome};
+ghost use Rattle.std.specs.Prelude.{◌≡◌, ◌<◌, IfSome, length, position};
+ghost use Rattle.ccsl_scopes.specs.References.{index, bit_at, range_between, is_colon, numbers, has_brackets, selected};
 ghost use Rattle.ccsl_scopes.specs.Selects.{place, counted, bits_of};
 
 use ccsl_base::decimal;
@@ -20,26 +21,68 @@ pub struct Bits {
     pub width: u32,
 }
 
-fn index(text: &[u8]) -> Option<u32> {
+fn index(text: &[u8]) -> Option<u32>
+    ensures { result ≡ index text.now }
+{
     match decimal(text, u64::from(u32::MAX - 1)) {
         Some(value) => Some(value as u32),
         None => None,
     }
 }
 
-/// What a text with brackets round it means: `[7]` or `[7:0]`.
-pub fn select_of(text: &[u8]) -> Option<Select> {
-    let [b'[', inner @ .., b']'] = text else {
+fn bit_at(number: Option<u32>) -> Option<Select>
+    ensures { result ≡ bit_at number }
+{
+    match number {
+        Some(i) => Some(Select::Bit(i)),
+        None => None,
+    }
+}
+
+fn range_between(left: Option<u32>, right: Option<u32>) -> Option<Select>
+    ensures { result ≡ range_between left right }
+{
+    let Some(left) = left else {
         return None;
     };
-    match inner.iter().position(|b| *b == b':') {
-        None => Some(Select::Bit(index(inner)?)),
-        Some(at) => {
-            let left = index(&inner[..at])?;
-            let right = index(&inner[at + 1..])?;
-            Some(Select::Range(left, right))
-        }
+    match right {
+        Some(right) => Some(Select::Range(left, right)),
+        None => None,
     }
+}
+
+// Where the first colon stands.
+fn colon_in(text: &[u8]) -> Option<usize>
+    ensures value { result ≡ position is_colon text.now }
+    ensures within { IfSome result (λ colon. colon < length text.now) }
+{
+    text.iter().position(|b| *b == b':')
+}
+
+// What stands between the brackets: one number, or two with a colon between.
+fn numbers(inner: &[u8]) -> Option<Select>
+    ensures { result ≡ numbers inner.now (position is_colon inner.now) }
+{
+    match colon_in(inner) {
+        Some(colon) => range_between(index(&inner[..colon]), index(&inner[colon + 1..])),
+        None => bit_at(index(inner)),
+    }
+}
+
+fn has_brackets(text: &[u8]) -> bool
+    ensures { result ≡ has_brackets text.now }
+{
+    text.len() > 1 && (text[0] == b'[' && text[text.len() - 1] == b']')
+}
+
+/// What a text with brackets round it means: `[7]` or `[7:0]`.
+pub fn select_of(text: &[u8]) -> Option<Select>
+    ensures { result ≡ selected text.now }
+{
+    if !has_brackets(text) {
+        return None;
+    }
+    numbers(&text[1..text.len() - 1])
 }
 
 fn counted(size: u32, i: u32) -> Option<u32>

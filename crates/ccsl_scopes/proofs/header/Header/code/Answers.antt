@@ -1,5 +1,6 @@
-use Rattle.std.proofs.Common.{length, sym, subst, ◌<◌, ◌∙◌}
-use Rattle.ccsl_scopes.proofs.Added.{declared-more, result-length, added-last}
+use Rattle.std.proofs.Common.{Some, length, sym, ap, subst, ◌<◌, ◌∙◌}
+use Rattle.ccsl_scopes.proofs.Added.{declared-more, result-length}
+use Rattle.ccsl_scopes.proofs.CodeLaws.{found-code, found-within, added-last}
 use Rattle.ccsl_scopes.proofs.header.Header.code.Goals as goal
 
 pub invariant_of-self : goal.invariant_of-self
@@ -11,8 +12,18 @@ invariant_of-self c =
           (result-length old c.add.new.self c.args.text.now c.add.result c.add.ensures.added c.add.ensures.memory) c.args.self.now.declared;
     }
 
+pub returns-in-Some-clause-known : goal.returns-in-Some-clause-known
+returns-in-Some-clause-known c = found-code c.args.self.now.codes c.args.text.now c.in-Some.code (sym c.find.ensures.place ∙ c.in-Some.is)
+
+pub returns-clause-number : goal.returns-clause-number
+returns-clause-number c =
+    added-last c.args.self.now.codes c.add.new.self c.args.text.now c.in_ok-add.field-0 (sym c.find.ensures.place ∙ c.in_default.is)
+    c.in_ok-add.ensures.added
+    ∙ sym (ap (λ n. Some n) c.len-code.ensures)
+
 pub returns-clause-declared : goal.returns-clause-declared
 returns-clause-declared c =
-    let old = c.args.self.now.codes in
     subst (λ n. n < length c.add.new.self) (sym c.len-code.ensures)
-    (added-last old c.add.new.self c.args.text.now c.in_ok-add.field-0 (sym c.find.ensures.place ∙ c.in_default.is) c.in_ok-add.ensures.added)
+    (found-within c.args.text.now c.add.new.self (length c.args.self.now.codes)
+    (added-last c.args.self.now.codes c.add.new.self c.args.text.now c.in_ok-add.field-0 (sym c.find.ensures.place ∙ c.in_default.is)
+    c.in_ok-add.ensures.added))
