@@ -39,11 +39,7 @@ fn world(
 }
 
 // What was reported, and then how the session ended.
-fn told(
-    alloc: Global,
-    world: &MemoryWorld,
-    end: Result<Ended, Stop>,
-) -> Result<String, Fail> {
+fn told(alloc: Global, world: &MemoryWorld, end: Result<Ended, Stop>) -> Result<String, Fail> {
     let report = Vec::from_slice(alloc, world.written(Slot::Report))?;
     let mut text = String::from_utf8(report)?;
     write!(text, "{end:?}")?;
