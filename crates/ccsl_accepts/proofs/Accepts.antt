@@ -31,15 +31,13 @@ use Rattle.ccsl_accepts.proofs.Joined.{heights_of}
 use Rattle.ccsl_accepts.proofs.Sound.{Sound}
 use Rattle.ccsl_accepts.proofs.Placing.{map-append, hidden_names, written_names, bound-constraints, written-definitions, hidden-definitions}
 use Rattle.ccsl_accepts.proofs.Whole as whole
+use Rattle.ccsl_base.proofs.Cases.{not-less}
 
 -- ## Totals
 
 not-over : {X : Type 0} (b : Bool) (x : X) (r : Option X) → (if b then Some x else r) ≡ None → (b ≡ false) × (r ≡ None)
 not-over true x r e = absurd (cc)
 not-over false x r e = (refl, e)
-
-within : (most n : ℕ) → nat_lt most n ≡ false → n ≤ most
-within most n h = grind (arith, nat_tests)
 
 record AreFew (K : System) : Type 0 where
   clocks : length K.names ≤ MAX_CLOCKS
@@ -51,7 +49,7 @@ few K e =
     let a = not-over (nat_lt MAX_CLOCKS (length K.names)) _ _ e in
     let b = not-over (nat_lt MAX_CONSTRAINTS (length K.constraints)) _ _ a.1 in
     let c = not-over (nat_lt MAX_CELLS (cells K)) _ _ b.1 in
-    record { clocks = within MAX_CLOCKS (length K.names) a.0; constraints = within MAX_CONSTRAINTS (length K.constraints) b.0; cells = within MAX_CELLS (cells K) c.0 }
+    record { clocks = not-less MAX_CLOCKS (length K.names) a.0; constraints = not-less MAX_CONSTRAINTS (length K.constraints) b.0; cells = not-less MAX_CELLS (cells K) c.0 }
 
 unrefused : (o : Option Fault) (K : System) → refusal_with o K ≡ None → (o ≡ None) × (totals_refusal K ≡ None)
 unrefused None K e = (refl, e)

@@ -47,9 +47,6 @@ word-inner (b ∷ bs) h = let w = and_parts (is_letter b) (list_all is_inner bs)
 pub name-inner : (name : List ℕ) → is_name name ≡ true → list_all is_inner name ≡ true
 name-inner name h = word-inner name (and_parts _ _ (and_parts (is_word name && nat_le (length name) MAX_NAME_BYTES) (not (is_reserved name)) h).0).0
 
-inner-seen : (b : ℕ) → is_inner b ≡ true → is_visible b ≡ true
-inner-seen b h = grind (arith, nat_tests)
-
 pub name-seen : (name : List ℕ) → is_name name ≡ true → list_all is_visible name ≡ true
 name-seen name h = inner_visible name (name-inner name h)
 

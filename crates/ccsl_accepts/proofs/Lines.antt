@@ -19,10 +19,11 @@ use Rattle.ccsl_rules.specs.Texts.{entry_texts, block_texts}
 use Rattle.ccsl_rules.specs.Resolved.{Tables}
 use Rattle.ccsl_rules.specs.Unfolded.{Unfolding, Unfoldings, unfolding_at, unfold_line, unfold_entry, unfold_body, unfold_block, unfoldings, call_path, arguments, own_clocks}
 use Rattle.ccsl_rules.specs.Expansion.{declared_names}
-use Rattle.ccsl_rules.proofs.Lookups.{get-front, get-last}
+use Rattle.ccsl_rules.proofs.Lookups.{get-front}
 use Rattle.ccsl_rules.proofs.Guarded.{left-empty, right-empty, no-fault}
 use Rattle.ccsl_rules.proofs.Ordered.{groups_in, Good, space-good, found-all}
 use Rattle.ccsl_rules.proofs.Ready.{IsRelation, AreThere}
+use Rattle.ccsl_base.proofs.Cases.{get-last}
 
 no-relation : (g m : ℕ) → not (has_role (member g m) true) ≡ false → ⊥
 no-relation g m e = cc

@@ -1,7 +1,7 @@
 -- Ascending lists: one more member behind all, a part of one, and that sets with the same members are the same list.
-use Rattle.std.proofs.Common.{◌≡◌, ℕ, ◌<◌, List, [], ◌∷◌, ◌++◌, Bool, true, false, ◌||◌, cond, filter, nat_eq, nat_lt, refl, sym, ap, ap₂, ◌∙◌, arith, eq-eqb, le-ltb}
+use Rattle.std.proofs.Common.{◌≡◌, ℕ, ◌<◌, ◌≤◌, ◌&&◌, if◌then◌else◌, subst, lt-ltb, ltb-false, List, [], ◌∷◌, ◌++◌, Bool, true, false, ◌||◌, cond, filter, nat_eq, nat_lt, refl, sym, ap, ap₂, ◌∙◌, arith, eq-eqb, le-ltb}
 use Rattle.std.specs.List.{list_all}
-use Rattle.std.proofs.lemmas.Bool.{and_parts, ne_eqb, ltb-true, eqb-true}
+use Rattle.std.proofs.lemmas.Bool.{and_parts, and_from, ne_eqb, ltb-true, eqb-true, both_ways}
 use Rattle.ccsl_base.specs.Clocks.{ticks_in, with_clock, is_ascending, are_below}
 
 -- above all members, one more is the last
@@ -81,3 +81,36 @@ same-members (x ∷ xs) (y ∷ ys) a b h = ap₂ (λ z zs. z ∷ zs) first (same
             let s : z ≡ x = eqb-true z x e in
             ap (λ k. ticks_in k xs) s ∙ no-member x xs p.0 ∙ sym (ap (λ k. ticks_in k ys) (s ∙ first) ∙ no-member y ys q.0)
         by-first false e = sym (ap (λ t. t || ticks_in z xs) e) ∙ h z ∙ ap (λ t. t || ticks_in z ys) (ap (nat_eq z) (sym first) ∙ e)
+
+pub all-above : (x y : ℕ) (s : List ℕ) → x < y → list_all (nat_lt y) s ≡ true → list_all (nat_lt x) s ≡ true
+all-above x y [] l h = refl
+all-above x y (z ∷ s) l h =
+    let w = and_parts (nat_lt y z) (list_all (nat_lt y) s) h in
+    let m = ltb-true y z w.0 in
+    and_from (nat_lt x z) (list_all (nat_lt x) s) (lt-ltb x z (omega (arith, l, m))) (all-above x y s l w.1)
+
+-- what all members have, and a new one, all have with it
+pub all-with : (p : ℕ → Bool) (x : ℕ) (ys : List ℕ) → p x ≡ true → list_all p ys ≡ true → list_all p (with_clock x ys) ≡ true
+all-with p x [] is h = and_from (p x) true is refl
+all-with p x (y ∷ ys) is h = on (nat_lt x y) (nat_eq x y) (all-with p x ys is (and_parts (p y) (list_all p ys) h).1)
+  where
+    on : (t u : Bool) → list_all p (with_clock x ys) ≡ true → list_all p (if t then x ∷ (y ∷ ys) else if u then y ∷ ys else y ∷ with_clock x ys) ≡ true
+    on true u rest = and_from (p x) (list_all p (y ∷ ys)) is h
+    on false true rest = h
+    on false false rest = and_from (p y) (list_all p (with_clock x ys)) (and_parts (p y) (list_all p ys) h).0 rest
+
+-- a set stays ascending with one member more
+pub with_clock-ascends : (x : ℕ) (ys : List ℕ) → is_ascending ys ≡ true → is_ascending (with_clock x ys) ≡ true
+with_clock-ascends x [] h = refl
+with_clock-ascends x (y ∷ ys) h = let w = and_parts (list_all (nat_lt y) ys) (is_ascending ys) h in on (nat_lt x y) (nat_eq x y) refl refl w (with_clock-ascends x ys w.1)
+  where
+    on : (t u : Bool) → nat_lt x y ≡ t → nat_eq x y ≡ u → (list_all (nat_lt y) ys ≡ true) × (is_ascending ys ≡ true) → is_ascending (with_clock x ys) ≡ true →
+        is_ascending (if t then x ∷ (y ∷ ys) else if u then y ∷ ys else y ∷ with_clock x ys) ≡ true
+    on true u less e w rest =
+        let l = ltb-true x y less in
+        and_from (list_all (nat_lt x) (y ∷ ys)) (is_ascending (y ∷ ys)) (and_from (nat_lt x y) (list_all (nat_lt x) ys) less (all-above x y ys l w.0)) h
+    on false true less e w rest = h
+    on false false less e w rest =
+        let l = ltb-false x y less in
+        let ne : x ≡ y → ⊥ = λ s. both_ways (nat_eq x y) e (eq-eqb x y s) in
+        and_from (list_all (nat_lt y) (with_clock x ys)) (is_ascending (with_clock x ys)) (all-with (nat_lt y) x ys (lt-ltb y x (omega (arith, l, ne))) w.0) rest

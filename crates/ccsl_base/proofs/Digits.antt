@@ -1,6 +1,11 @@
 -- The number that digits write, from the left.
-use Rattle.std.proofs.Common.{◌≡◌, ℕ, ◌+◌, ◌*◌, ◌-◌, ◌<◌, ◌≤◌, List, [], ◌∷◌, true, false, cond, ◌&&◌, ◌==◌, Option, Some, None, length, get_or, nat_le, refl, ap, ◌∙◌, ⊎_elim, arith}
+use Rattle.std.proofs.Common.{◌≡◌, ℕ, ◌+◌, ◌*◌, ◌-◌, ◌<◌, ◌≤◌, List, [], ◌∷◌, true, false, cond, ◌&&◌, ◌==◌, Option, Some, None, length, get_or, nat_le, refl, ap, ap₂, ◌∙◌, ⊎_elim, arith}
 use Rattle.std.specs.List.{list_all}
+use Rattle.std.specs.Char.{digit_value}
+use Rattle.std.specs.Str.Parse.{AllDigits, digits_value_after}
+use Rattle.std.proofs.lemmas.Str.{digit_value_digit}
+use Rattle.std.proofs.lemmas.Str.Parse.{digit_from_value}
+use Rattle.ccsl_base.specs.Name.{is_visible}
 use Rattle.std.proofs.lemmas.Bool.{cases_lt, le-leb, lt-leb, and_right}
 use Rattle.ccsl_base.specs.Letters.{is_digit}
 use Rattle.ccsl_base.specs.Decimal.{value_behind, number_up_to}
@@ -45,3 +50,23 @@ number-done most n (d ∷ ds) e l = absurd (omega arith)
 pub number-some : (most : ℕ) (ds : List ℕ) → (length ds == 0) ≡ false → number_behind most 0 ds ≡ number_up_to most ds
 number-some most [] e = absurd (cc)
 number-some most (d ∷ ds) e = refl
+
+-- the digits of a numeral are digits, and visible
+pub are-digits : (ds : List ℕ) → AllDigits 10 ds → list_all is_digit ds ≡ true
+are-digits [] h = refl
+are-digits (d ∷ ds) h =
+    let range = digit_from_value d h.0 in
+    ap₂ (λ s t. s && t) (ap₂ (λ s t. s && t) (le-leb 48 d range.0) (le-leb d 57 range.1)) (are-digits ds h.1)
+
+pub digits-visible : (ds : List ℕ) → AllDigits 10 ds → list_all is_visible ds ≡ true
+digits-visible [] h = refl
+digits-visible (d ∷ ds) h =
+    let range = digit_from_value d h.0 in
+    ap₂ (λ s t. s && t) (ap₂ (λ s t. s && t) (le-leb 33 d (omega (arith, range.0))) (le-leb d 126 (omega (arith, range.1)))) (digits-visible ds h.1)
+
+-- the number that digits write, by the standard library's word and by this project's
+pub value-same : (n : ℕ) (ds : List ℕ) → AllDigits 10 ds → value_behind n ds ≡ digits_value_after 10 n ds
+value-same n [] h = refl
+value-same n (d ∷ ds) h =
+    let value : d - 48 ≡ digit_value d = omega (arith, digit_value_digit d (digit_from_value d h.0)) in
+    ap (λ v. value_behind (n * 10 + v) ds) value ∙ value-same (n * 10 + digit_value d) ds h.1

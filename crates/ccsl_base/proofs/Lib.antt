@@ -1,3 +1,4 @@
+pub mod Cases
 pub mod Picked
 pub mod Words
 pub mod Differences

@@ -71,3 +71,7 @@ member-below bound (y ∷ ys) x b t =
     (λ e. subst (λ z. z < bound) (sym e) (ltb-true y bound parts.0))
     (λ e. member-below bound ys x parts.1 (sym (ap (λ v. v || ticks_in x ys) (ne_eqb x y e)) ∙ t))
     (cases_eq x y)
+
+-- the first member of a list is in it
+pub first-ticks : (x : ℕ) (s : List ℕ) → ticks_in x (x ∷ s) ≡ true
+first-ticks x s = ap (λ t. t || ticks_in x s) (eq-eqb x x refl)

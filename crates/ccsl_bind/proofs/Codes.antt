@@ -7,21 +7,10 @@ use Rattle.std.proofs.lemmas.List.Folds.{list_any-append}
 use Rattle.std.proofs.lemmas.Grind.{common_steps}
 use Rattle.std.proofs.Math.Bool.{or-true, or-false, or_assoc}
 use Rattle.ccsl_base.specs.Names.{is_among, find_name}
-use Rattle.ccsl_base.proofs.Tables.{bytes_eq-true, bytes_eq-refl, bytes_eq-sym, find_name-there}
+use Rattle.ccsl_base.proofs.Tables.{bytes_eq-true, bytes_eq-refl, bytes_eq-sym, find_name-there, any-within, bytes_eq-comm}
 use Rattle.ccsl_vcd.specs.Binding.{Declaration}
 use Rattle.ccsl_vcd.specs.Body.{is_declared}
 use Rattle.ccsl_bind.specs.Codes.{put_code, codes_of, number_of}
-
-pub less-suc : (k n : ℕ) → nat_lt (1 + k) (suc n) ≡ nat_lt k n
-less-suc k n = grind (arith, common_steps)
-
-any-within : {X : Type 0} (p : X → Bool) (xs : List X) → list_any p xs ≡ nat_lt (position_or_len p xs) (length xs)
-any-within p [] = refl
-any-within p (x ∷ xs) =
-    elim (p x) as (λ w. (w || list_any p xs) ≡ nat_lt (cond (not w) (1 + position_or_len p xs) 0) (suc (length xs))) [
-      | true ↦ sym (lt-ltb 0 (suc (length xs)) (omega arith))
-      | false ↦ any-within p xs ∙ sym (less-suc (position_or_len p xs) (length xs))
-    ]
 
 some-if : (b : Bool) (n : ℕ) → is_some (cond b (Some n) None) ≡ b
 some-if true n = refl
@@ -29,13 +18,6 @@ some-if false n = refl
 
 pub among-found : (name : List ℕ) (names : List (List ℕ)) → is_among name names ≡ is_some (find_name name names)
 among-found name names = any-within (bytes_eq name) names ∙ sym (some-if (nat_lt (position_or_len (bytes_eq name) names) (length names)) (position_or_len (bytes_eq name) names))
-
-pub same-either : (x y : List ℕ) → bytes_eq x y ≡ bytes_eq y x
-same-either x y =
-    (elim (bytes_eq x y) as (λ w. bytes_eq x y ≡ w → w ≡ bytes_eq y x) [
-      | true ↦ λ e. sym (bytes_eq-refl y x (sym (bytes_eq-true x y e)))
-      | false ↦ λ e. sym (bytes_eq-sym x y e)
-    ]) refl
 
 among-put : (code x : List ℕ) (codes : List (List ℕ)) → is_among code (put_code codes x) ≡ (is_among code codes || bytes_eq x code)
 among-put code x codes =
@@ -45,7 +27,7 @@ among-put code x codes =
             | true ↦ λ s. ap (λ y. is_among y codes) (sym (bytes_eq-true x code s)) ∙ e ∙ sym (or-true (is_among code codes))
             | false ↦ λ s. sym (or-false (is_among code codes))
           ]) refl
-      | false ↦ λ e. list_any-append (bytes_eq code) codes (x ∷ []) ∙ ap (λ w. is_among code codes || w) (or-false (bytes_eq code x) ∙ same-either code x)
+      | false ↦ λ e. list_any-append (bytes_eq code) codes (x ∷ []) ∙ ap (λ w. is_among code codes || w) (or-false (bytes_eq code x) ∙ bytes_eq-comm code x)
     ]) refl
 
 among-all : (code : List ℕ) (ds : List Declaration) (codes : List (List ℕ)) → is_among code (fold (λ cs d. put_code cs d.code) codes ds) ≡ (is_among code codes || is_declared ds code)

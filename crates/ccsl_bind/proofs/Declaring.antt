@@ -9,7 +9,7 @@ use Rattle.std.proofs.Math.Bool.{or-true}
 use Rattle.ccsl_base.specs.declared.limits.TheConstants.{MAX_CLOCKS}
 use Rattle.ccsl_base.specs.Names.{is_among, find_name, are_distinct}
 use Rattle.ccsl_base.specs.Added.{IsAdded}
-use Rattle.ccsl_base.proofs.Tables.{bytes_eq-true, bytes_eq-refl, find_name-there}
+use Rattle.ccsl_base.proofs.Tables.{bytes_eq-true, bytes_eq-refl, find_name-there, there-among}
 use Rattle.ccsl_vcd.specs.Binding.{Declaration, Wanted, is_event, qualifies}
 use Rattle.ccsl_bind.specs.declared.candidate.Candidates.{Candidates}
 use Rattle.ccsl_bind.specs.Codes.{put_code, codes_of, number_of}
@@ -66,11 +66,6 @@ snoc-none [] [] x s = (tt, tt)
 snoc-none [] (o ∷ os) x s = absurd s
 snoc-none (n ∷ ns) [] x s = absurd s
 snoc-none (n ∷ ns) (o ∷ os) x s = (s.0, snoc-none ns os x s.1)
-
-there-among : (names : List (List ℕ)) (i : ℕ) (x : List ℕ) → slice_get names i ≡ Some x → is_among x names ≡ true
-there-among [] i x e = absurd (cc)
-there-among (n ∷ ns) zero x e = let k : n ≡ x = cc in ap (λ w. w || is_among x ns) (bytes_eq-refl x n (sym k))
-there-among (n ∷ ns) (suc i) x e = ap (λ w. bytes_eq x n || w) (there-among ns i x e) ∙ or-true (bytes_eq x n)
 
 not-before : (names : List (List ℕ)) (i : ℕ) (x : List ℕ) → are_distinct names ≡ true → slice_get names i ≡ Some x → is_among x (take i names) ≡ false
 not-before [] i x d e = absurd (cc)

@@ -9,7 +9,8 @@ use Rattle.ccsl_base.specs.Names.{is_among}
 use Rattle.ccsl_base.proofs.Tables.{bytes_eq-refl}
 use Rattle.ccsl_vcd.specs.Binding.{Declaration}
 use Rattle.ccsl_bind.specs.Codes.{put_code, codes_of, number_of}
-use Rattle.ccsl_bind.proofs.Codes.{among-found, less-suc}
+use Rattle.ccsl_bind.proofs.Codes.{among-found}
+use Rattle.ccsl_base.proofs.Cases.{less-suc}
 
 -- the first place, element by element
 pub position-cons : {X : Type 0} (p : X → Bool) (x : X) (xs : List X) → position p (x ∷ xs) ≡ cond (p x) (Some 0) (option_map (λ i. suc i) (position p xs))

@@ -9,12 +9,12 @@ use Rattle.std.proofs.lemmas.List.{append-nil}
 use Rattle.std.proofs.lemmas.List.Elements.{filter-append}
 use Rattle.std.proofs.lemmas.Grind.{common_steps}
 use Rattle.ccsl_base.specs.Names.{is_among, find_name, are_distinct}
-use Rattle.ccsl_base.proofs.Tables.{bytes_eq-true, bytes_eq-refl}
+use Rattle.ccsl_base.proofs.Tables.{bytes_eq-true, bytes_eq-refl, bytes_eq-comm}
 use Rattle.ccsl_vcd.specs.Binding.{Declaration, is_event, qualifies, least_depth, outermost, candidates}
 use Rattle.ccsl_bind.specs.declared.candidate.Candidates.{Candidates}
 use Rattle.ccsl_bind.specs.Codes.{number_of}
 use Rattle.ccsl_bind.specs.Candidates.{with_one, noted, Sums, SumsUp, AllSumUp, may_bind}
-use Rattle.ccsl_bind.proofs.Codes.{same-number, same-either}
+use Rattle.ccsl_bind.proofs.Codes.{same-number}
 use Rattle.ccsl_bind.proofs.Finding.{position-cons, not-among}
 use Rattle.ccsl_vcd.proofs.RowLaws.{not-eq'}
 
@@ -115,7 +115,7 @@ module _ (table : List (List ℕ)) (x : Declaration) (xs : List Declaration) (d 
       let all : outermost ((x ∷ xs) ++ d ∷ []) ≡ g.one ∷ (g.rest ++ d ∷ []) =
       whole (least_depth x xs) m ∙ ap (λ zs. zs ++ cond (nat_eq d.depth (least_depth x xs)) (d ∷ []) []) g.is ∙ ap (λ w. (g.one ∷ g.rest) ++ cond w (d ∷ []) []) eq in
       let p : Declaration → Bool = λ z. bytes_eq z.code g.one.code in
-      let codes_same : nat_eq n k.code ≡ bytes_eq d.code g.one.code = same-number table g.one.code d.code k.code n q.code e ∙ same-either g.one.code d.code in
+      let codes_same : nat_eq n k.code ≡ bytes_eq d.code g.one.code = same-number table g.one.code d.code k.code n q.code e ∙ bytes_eq-comm g.one.code d.code in
       subst (λ ds. SumsUp table ds (Some (record { depth = k.depth; code = k.code; event = k.event; same = k.same && nat_eq n k.code }))) (sym all) (record {
         depth = q.depth;
         code = q.code;

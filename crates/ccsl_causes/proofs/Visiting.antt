@@ -4,6 +4,7 @@ use Rattle.std.specs.List.{list_all}
 use Rattle.std.proofs.lemmas.Bool.{and_parts, eqb-true}
 use Rattle.ccsl_base.specs.Clocks.{ticks_in, is_ascending}
 use Rattle.ccsl_base.proofs.Ascending.{above}
+use Rattle.ccsl_base.proofs.Sets.{first-ticks}
 
 -- what becomes of the item of a clock
 abbrev pub visited : {A : Type 0} → (ℕ → A → A) → Bool → ℕ → A → A
@@ -22,10 +23,6 @@ not-behind c rest order = by (ticks_in c rest) refl
     by : (t : Bool) → ticks_in c rest ≡ t → ticks_in c rest ≡ false
     by false e = e
     by true e = absurd (omega (arith, above c rest c (and_parts (list_all (nat_lt c) rest) (is_ascending rest) order).0 e))
-
--- the first clock is to be visited
-first : (c : ℕ) (rest : List ℕ) → ticks_in c (c ∷ rest) ≡ true
-first c rest = ap (λ t. t || ticks_in c rest) (eq-eqb c c refl)
 
 -- another clock is to be visited where it was before
 other : (c x : ℕ) (rest : List ℕ) → x ≢ c → ticks_in x (c ∷ rest) ≡ ticks_in x rest
@@ -58,7 +55,7 @@ module _ {A : Type 0} (f : ℕ → A → A) (d : A) (step rest : List ℕ) (old 
           ap (λ t. visited f t c (get_or (set now c (f c (get_or now c d))) c d)) (not-behind c rest is.order)
           ∙ get_or-set_same now c (f c (get_or now c d)) d inside in
           let before : visited f (ticks_in c (c ∷ rest)) c (get_or now c d) ≡ f c (get_or now c d) =
-          ap (λ t. visited f t c (get_or now c d)) (first c rest) in
+          ap (λ t. visited f t c (get_or now c d)) (first-ticks c rest) in
           rw same (here ∙ sym before ∙ is.visits c (rw (← same) below))
       by x below false e =
           let apart : x ≢ c = λ same. (let clash : false ≡ true = sym e ∙ eq-eqb x c same in cc) in

@@ -17,6 +17,7 @@ use Rattle.ccsl_kernel.proofs.Quiet.{eval_cond, count-snoc}
 use Rattle.ccsl_kernel.proofs.ItemCases.{item-definition, item-constraint}
 use Rattle.ccsl_chain.specs.Chain.{all_but_first, precedes, chain}
 use Rattle.ccsl_chain.proofs.Pieces.{length-two_each, first-two_each, second-two_each, slice_get-range}
+use Rattle.ccsl_formula.proofs.Same.{same-values}
 
 -- ## Counts
 
@@ -82,11 +83,6 @@ module _ (n : ℕ) where
         ∙ second-two_each (λ i. precedes i i (i + 1)) (λ i. precedes i (i + 1) (n + i)) 0 (n - 1) i i l (zero-add i))
 
 -- ## What a step does
-
-same-values : (a b : Bool) → same a b ≡ true → a ≡ b
-same-values true b h = sym h
-same-values false true h = let z : ⊥ = cc in absurd z
-same-values false false h = refl
 
 -- where precedence holds, its right clock does not tick at equal counts
 held : (a b p q : ℕ) (s : Step) → eval (relation_formula Precedes a b p q) s ≡ true → p ≡ q → ticks_in b s ≡ false

@@ -12,7 +12,7 @@ use Rattle.ccsl_kernel.specs.Runs.{IsRun, declared_part, is_named}
 use Rattle.ccsl_kernel.proofs.Quiet.{eval_cond}
 use Rattle.ccsl_chain.specs.Chain.{chain}
 use Rattle.ccsl_chain.proofs.Alternating.{alternates, first_item, second_item, hidden-formula, first-formula, second-formula, item_count-chain, length-definitions}
-use Rattle.ccsl_policy.proofs.Ranking.{same-self}
+use Rattle.ccsl_formula.proofs.Same.{same-if}
 
 -- ## The clock that ticks
 
@@ -133,7 +133,7 @@ module _ (n : ℕ) (pos : 0 < n) (T : List Step) (run : IsRun (chain n) T) where
     hidden-item : (j : ℕ) → j < n - 1 → eval (item_formula (chain n) T (length T) j) step ≡ true
     hidden-item j l =
         ap (λ g. eval g step) (hidden-formula n T (length T) j l (omega arith))
-        ∙ same-self (ticks_in (n + j) step) (eval (if nat_le 1 (count j) then FVar j else FFalse) step)
+        ∙ same-if (ticks_in (n + j) step) (eval (if nat_le 1 (count j) then FVar j else FFalse) step)
         (hidden-holds j l ∙ sym (eval_cond (nat_le 1 (count j)) (FVar j) FFalse step))
 
     first-item : (j : ℕ) → j < n - 1 → eval (item_formula (chain n) T (length T) (first_item n j)) step ≡ true

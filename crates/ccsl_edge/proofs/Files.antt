@@ -10,13 +10,11 @@ use Rattle.std.proofs.lemmas.List.Sums.{position_or_len_is}
 use Rattle.std.proofs.lemmas.Option.{slice_get_past}
 use Rattle.std.proofs.lemmas.Slice.Eq.{bytes_eq-Decides}
 use Rattle.ccsl_edge.specs.Stored.{Stores}
+use Rattle.ccsl_base.proofs.Tables.{own-name}
 
 -- whether a file has this name
 abbrev is_named : List ℕ → List ℕ × List ℕ → Bool
 is_named name file = bytes_eq file.0 name
-
-own_name : (name : List ℕ) → bytes_eq name name ≡ true
-own_name name = (bytes_eq-Decides name name).1 refl
 
 other_name : (name other : List ℕ) → other ≢ name → bytes_eq name other ≡ false
 other_name name other apart = false_from_ne_true _ (λ same. apart (sym ((bytes_eq-Decides name other).0 same)))
@@ -69,7 +67,7 @@ pub Stores-push : (files : List (List ℕ × List ℕ)) (name content : List ℕ
 Stores-push files name content none = record {
   file =
       ap (option_map (λ (f : List ℕ × List ℕ). f.1))
-      (find_push_first (is_named name) files (name, content) (position-None (is_named name) files none) (own_name name));
+      (find_push_first (is_named name) files (name, content) (position-None (is_named name) files none) (own-name name));
   others = λ other apart.
       ap (option_map (λ (f : List ℕ × List ℕ). f.1))
       (find_push_other (is_named other) files (name, content) (other_name name other apart));

@@ -7,7 +7,7 @@ use Rattle.std.specs.declared.alloc.Global.{Global}
 use Rattle.std.proofs.lemmas.Bool.{and_parts, cases_eq, cases_lt, ltb-true, ne_eqb}
 use Rattle.std.proofs.lemmas.Option.{slice_get_within}
 use Rattle.ccsl_base.proofs.Sets.{by_case}
-use Rattle.ccsl_base.proofs.Tables.{find_name-there, bytes_eq-true, bytes_eq-refl}
+use Rattle.ccsl_base.proofs.Tables.{find_name-there, bytes_eq-true, bytes_eq-refl, there-among, find-own}
 use Rattle.ccsl_base.specs.declared.limits.TheConstants.{MAX_CLOCKS}
 use Rattle.ccsl_base.specs.Clocks.{ticks_in}
 use Rattle.ccsl_base.specs.Names.{find_name, are_distinct}
@@ -25,7 +25,6 @@ use Rattle.ccsl_events.specs.Keeping.{AreUsers, held_at, chain, has_code, reads,
 use Rattle.ccsl_events.specs.Binding.{variable_of}
 use Rattle.ccsl_events.specs.Begun.{plan_of}
 use Rattle.ccsl_events.specs.Links.{first_in, has_number, alone, IsLinked, are_coded}
-use Rattle.ccsl_events.proofs.Tables.{there-among, find-own}
 
 -- ## Variables
 

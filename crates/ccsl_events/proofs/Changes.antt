@@ -17,8 +17,9 @@ use Rattle.ccsl_vcd_lex.specs.ShortCodes.{IsCode}
 use Rattle.ccsl_events.specs.Standing.{Stands, Answers}
 use Rattle.ccsl_events.specs.Run.{Runs}
 use Rattle.ccsl_events.proofs.Standing.{follows-still}
-use Rattle.ccsl_events.proofs.Run.{front-word, front-told, told-on, fresh-append}
+use Rattle.ccsl_events.proofs.Run.{front-word, front-told, told-on}
 use Rattle.ccsl_events.proofs.Quick.{amid-changes}
+use Rattle.ccsl_vcd_lex.proofs.Cuts.{fresh-append}
 
 other : (b n : ℕ) → is_scalar n ≡ false → is_scalar b ≡ true → nat_eq b n ≡ false
 other b n f s = (elim (nat_eq b n) as (λ w. nat_eq b n ≡ w → w ≡ false) [

@@ -15,7 +15,9 @@ use Rattle.ccsl_events.specs.Dump.{Plan, Place, begin, goes, passed, may_end, en
 use Rattle.ccsl_events.specs.Standing.{Stands, Answers}
 use Rattle.ccsl_events.specs.Run.{IsOpen, settled_from, story_from, Runs, Breaks}
 use Rattle.ccsl_events.specs.Fed.{HasTaken, Reaches, Feeds, Says}
-use Rattle.ccsl_events.proofs.Run.{IsRest, told-on, fresh-append, front-word, front-white, front-breaks, front-long}
+use Rattle.ccsl_events.proofs.Run.{IsRest, told-on, front-word, front-white, front-breaks, front-long}
+use Rattle.ccsl_base.proofs.Cases.{no-items}
+use Rattle.ccsl_vcd_lex.proofs.Cuts.{fresh-append}
 
 -- Bytes that are open.
 
@@ -294,10 +296,6 @@ pub ends-in : (plan : Plan) (start : ℕ) (bytes piece : List ℕ) (p : Place) (
     → end ≡ prefix_len is_dark piece → end < length piece
     → length r.carry.items + end ≤ 65536 → EndsIn r.carry.items piece end
 ends-in plan start bytes piece p r end h e l short = record { unended = h.unended; run = e; inside = l; short = short }
-
-pub no-items : (xs : List ℕ) → length xs ≡ 0 → xs ≡ []
-no-items [] e = refl
-no-items (x ∷ xs) e = absurd (omega arith)
 
 -- Where nothing is kept, a piece is taken from its first byte.
 

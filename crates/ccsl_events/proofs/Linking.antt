@@ -105,11 +105,6 @@ chain-longer (suc a) (suc b) hs h (Some f) down low la lb =
 
 -- ## One more variable
 
-pub got-entry : (es : List Entry) (n : ℕ) (e : Entry) → n < length es → e ≡ slice_index_or es n e → slice_get es n ≡ Some e
-got-entry [] n e l g = absurd (omega (arith, l))
-got-entry (d ∷ es) zero e l g = ap (λ v. Some v) (sym g)
-got-entry (d ∷ es) (suc n) e l g = got-entry es n e (omega (arith, l)) g
-
 first-used : (o : Option Entry) (f : ℕ) → first_in o ≡ Some f → o ≡ Some (Used f)
 first-used None f e = absurd (cc)
 first-used (Some Undeclared) f e = absurd (cc)

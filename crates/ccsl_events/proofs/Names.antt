@@ -9,7 +9,7 @@ use Rattle.std.proofs.lemmas.Option.{slice_get_within}
 use Rattle.ccsl_base.specs.declared.limits.TheConstants.{MAX_CLOCKS}
 use Rattle.ccsl_base.specs.Clocks.{ticks_in, with_clock, is_ascending}
 use Rattle.ccsl_base.proofs.Sets.{ticks_in-with_same, ticks_in-with_other, ticks_in-filter}
-use Rattle.ccsl_base.proofs.Ascending.{part-ascends, same-members}
+use Rattle.ccsl_base.proofs.Ascending.{part-ascends, same-members, all-above, all-with, with_clock-ascends}
 use Rattle.ccsl_triggers.specs.declared.watch.Watch.{Watch}
 use Rattle.ccsl_triggers.specs.Views.{View}
 use Rattle.ccsl_triggers.specs.Held.{IsQuiet}
@@ -82,38 +82,6 @@ ticks_in-with_users (n ∷ ns) users ws v s x =
     ticks_in-with_users ns users ws v (with_names (users_of users n) ws v s) x
     ∙ ap (λ b. b || (is_user ns users x && fires ws v x)) (ticks_in-with_names (users_of users n) ws v s x)
     ∙ regroup (ticks_in x s) (ticks_in x (users_of users n)) (is_user ns users x) (fires ws v x)
-
--- sets stay ascending
-all_above : (x y : ℕ) (s : List ℕ) → x < y → list_all (nat_lt y) s ≡ true → list_all (nat_lt x) s ≡ true
-all_above x y [] l h = refl
-all_above x y (z ∷ s) l h =
-    let w = and_parts (nat_lt y z) (list_all (nat_lt y) s) h in
-    let m = ltb-true y z w.0 in
-    and_from (nat_lt x z) (list_all (nat_lt x) s) (lt-ltb x z (omega (arith, l, m))) (all_above x y s l w.1)
-
-all-with : (p : ℕ → Bool) (x : ℕ) (s : List ℕ) → p x ≡ true → list_all p s ≡ true → list_all p (with_clock x s) ≡ true
-all-with p x [] is h = and_from (p x) true is refl
-all-with p x (y ∷ s) is h = on (nat_lt x y) (nat_eq x y) (all-with p x s is (and_parts (p y) (list_all p s) h).1)
-  where
-    on : (t u : Bool) → list_all p (with_clock x s) ≡ true → list_all p (if t then x ∷ (y ∷ s) else if u then y ∷ s else y ∷ with_clock x s) ≡ true
-    on true u rest = and_from (p x) (list_all p (y ∷ s)) is h
-    on false true rest = h
-    on false false rest = and_from (p y) (list_all p (with_clock x s)) (and_parts (p y) (list_all p s) h).0 rest
-
-with_clock-ascends : (x : ℕ) (s : List ℕ) → is_ascending s ≡ true → is_ascending (with_clock x s) ≡ true
-with_clock-ascends x [] h = refl
-with_clock-ascends x (y ∷ s) h = let w = and_parts (list_all (nat_lt y) s) (is_ascending s) h in on (nat_lt x y) (nat_eq x y) refl refl w (with_clock-ascends x s w.1)
-  where
-    on : (t u : Bool) → nat_lt x y ≡ t → nat_eq x y ≡ u → (list_all (nat_lt y) s ≡ true) × (is_ascending s ≡ true) → is_ascending (with_clock x s) ≡ true →
-        is_ascending (if t then x ∷ (y ∷ s) else if u then y ∷ s else y ∷ with_clock x s) ≡ true
-    on true u less e w rest =
-        let l = ltb-true x y less in
-        and_from (list_all (nat_lt x) (y ∷ s)) (is_ascending (y ∷ s)) (and_from (nat_lt x y) (list_all (nat_lt x) s) less (all_above x y s l w.0)) h
-    on false true less e w rest = h
-    on false false less e w rest =
-        let l = ltb-false x y less in
-        let ne : x ≡ y → ⊥ = λ s. both_ways (nat_eq x y) e (eq-eqb x y s) in
-        and_from (list_all (nat_lt y) (with_clock x s)) (is_ascending (with_clock x s)) (all-with (nat_lt y) x s (lt-ltb y x (omega (arith, l, ne))) w.0) rest
 
 with_if-ascends : (t : Bool) (c : ℕ) (s : List ℕ) → is_ascending s ≡ true → is_ascending (if t then with_clock c s else s) ≡ true
 with_if-ascends true c s h = with_clock-ascends c s h

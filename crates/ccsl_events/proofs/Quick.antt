@@ -19,6 +19,8 @@ use Rattle.ccsl_events.specs.Dump.{Plan, Place, Amid, changes, remark, code_of, 
 use Rattle.ccsl_events.specs.Standing.{IsAmid, Stands, Answers}
 use Rattle.ccsl_events.specs.Run.{Runs, Breaks}
 use Rattle.ccsl_events.proofs.Run.{front-word, front-breaks}
+use Rattle.ccsl_vcd_lex.proofs.Cuts.{hash-dark}
+use Rattle.ccsl_vcd.proofs.Words.{time-word}
 
 pub amid-changes : (kind : k.Amid) (letters : List ℕ) (a : Amid) → IsAmid kind letters a → kind ≡ Changes → a ≡ changes
 amid-changes kind letters changes is e = refl
@@ -40,14 +42,6 @@ number-is : (text : List ℕ) (value : ℕ) → 0 < length text → AreDigits te
 number-is text value some d =
     let n : value_behind 0 text ≤ 18446744073709551615 = omega (arith, d.amount, d.fits) in
     number-value 18446744073709551615 text some ∙ rw (d.all, le-leb (value_behind 0 text) 18446744073709551615 n) (ap (λ (v : ℕ). Some v) (sym d.amount))
-
-time-word : (text : List ℕ) (value : ℕ) → number 18446744073709551615 text ≡ Some value → word_of (35 ∷ text) ≡ time value
-unfolding word_of
-time-word text value e = ap time_of e
-
-hash-dark : (xs : List ℕ) → list_all is_dark xs ≡ true → list_all is_dark (35 ∷ xs) ≡ true
-unfolding is_white
-hash-dark xs h = h
 
 -- so many digits stand at the front of the bytes behind a #, and white space behind them
 pub record IsTime (k value : ℕ) (bytes : List ℕ) : Type 0 where

@@ -9,7 +9,7 @@ use Rattle.std.proofs.Math.Seq.{take-add}
 use Rattle.ccsl_vcd_lex.specs.Tokens.{is_white, Token, token, end_of, is_long, tokens_from, Heard, word, too_long, hear}
 use Rattle.ccsl_vcd_lex.specs.Runs.{fresh_after}
 use Rattle.ccsl_vcd_lex.specs.Lexing.{Dark, is_dark}
-use Rattle.ccsl_vcd_lex.proofs.Cuts.{tokens-cut, ends-before, all-kept, more-kept, one-token, from-behind, fresh-behind}
+use Rattle.ccsl_vcd_lex.proofs.Cuts.{tokens-cut, ends-before, all-kept, more-kept, one-token, from-behind, fresh-behind, fresh-append, white-stop}
 use Rattle.ccsl_vcd.specs.declared.fault.VcdFault.{VcdFault}
 use Rattle.ccsl_vcd.specs.declared.fault.VcdFault.TheVariants as faults
 use Rattle.ccsl_events.specs.declared.body.Body.{Body}
@@ -40,11 +40,6 @@ settled-cut at p q h =
 pub fold-both : (plan : Plan) (s : Story) (xs ys : List Heard) → fold (next plan) s (xs ++ ys) ≡ fold (next plan) (fold (next plan) s xs) ys
 fold-both plan s [] ys = refl
 fold-both plan s (x ∷ xs) ys = fold-both plan (next plan s x) xs ys
-
-pub fresh-append : (f : Bool) (p q : List ℕ) → fresh_after f (p ++ q) ≡ fresh_after (fresh_after f p) q
-unfolding fresh_after
-fresh-append f [] q = refl
-fresh-append f (b ∷ p) q = fresh-append (is_white b) p q
 
 -- the story goes on behind a part
 pub told-on : (plan : Plan) (p q : Place) (at : ℕ) (xs ys : List ℕ) → fresh_after true xs ≡ true → story_from plan p (settled_from at xs) ≡ record { place = q; fault = None }
@@ -158,9 +153,6 @@ dark-front (x ∷ xs) =
     one-more : (n : ℕ) → 1 + n ≡ suc n
     one-more n = omega arith
 
-white-stop : (xs : List ℕ) → prefix_len is_dark xs < length xs → is_white (get_or xs (prefix_len is_dark xs) 0) ≡ true
-white-stop xs l = not-false _ (Rattle.std.proofs.lemmas.List.Sums.prefix_len_stops is_dark xs 0 l)
-
 pub front-white : (plan : Plan) (p : Place) (at end : ℕ) (bytes : List ℕ) (b : Body) (out : List ℕ) → end ≡ prefix_len is_dark bytes → end ≡ 0 → end < length bytes → Stands plan p b
     → Runs plan p at (take (end + 1) bytes) b out out
 front-white plan p at end [] b out e z l s = absurd (omega arith)
@@ -264,13 +256,6 @@ pub step-takes : (plan : Plan) (p : Place) (at n : ℕ) (bytes : List ℕ) (a b 
 step-takes plan p at n bytes a b x y z res e r t =
     let none : Runs plan p at [] a x y = subst (λ (i : ℕ). Runs plan p at (take i bytes) a x y) e r in
     takes-next plan p at bytes a x y z b res none (t none.place none.follows.stands)
-
--- the rest of a piece from a place on, as a slice gives it
-abbrev pub rest_at : ℕ → List ℕ → List ℕ
-rest_at i piece = take (length piece - i) (drop i piece)
-
-pub rest-is : (i : ℕ) (piece : List ℕ) → rest_at i piece ≡ drop i piece
-rest-is i piece = take_all (length piece - i) (drop i piece) (omega (arith, length-drop i piece))
 
 -- No byte is white.
 

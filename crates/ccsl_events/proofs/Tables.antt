@@ -5,7 +5,7 @@ use Rattle.std.proofs.lemmas.Bool.{and_parts, cases_eq, cases_lt, not-true, or_r
 use Rattle.std.specs.List.{position_or_len}
 use Rattle.std.proofs.lemmas.Option.{slice_get_within, slice_get_past}
 use Rattle.ccsl_base.specs.Names.{is_among, find_name, are_distinct}
-use Rattle.ccsl_base.proofs.Tables.{find_name-there, bytes_eq-true, bytes_eq-refl}
+use Rattle.ccsl_base.proofs.Tables.{find_name-there, bytes_eq-true, bytes_eq-refl, there-among, place-own, find-own}
 use Rattle.ccsl_events.specs.declared.codes.Entry.{Entry}
 use Rattle.ccsl_events.specs.declared.codes.Entry.TheVariants.{Undeclared}
 use Rattle.ccsl_base.proofs.Sets.{by_case}
@@ -24,31 +24,6 @@ pub record IsFront (i : ℕ) (table : List Entry) (names : List (List ℕ)) (ent
   pub at : (code : List ℕ) → place_of code < SHORT → slice_index_or table (place_of code) Undeclared ≡ known_below i entries (find_name code names)
 
 -- a name is found at its place
-
-pub there-among : (names : List (List ℕ)) (x : ℕ) (name : List ℕ) → slice_get names x ≡ Some name → is_among name names ≡ true
-there-among [] x name e = absurd (cc)
-there-among (n ∷ ns) zero name e = let same : n ≡ name = cc in ap (λ t. t || is_among name ns) (bytes_eq-refl name n (sym same))
-there-among (n ∷ ns) (suc x) name e = or_right (bytes_eq name n) (is_among name ns) (there-among ns x name e)
-
-place-own : (names : List (List ℕ)) (x : ℕ) (name : List ℕ) → are_distinct names ≡ true → slice_get names x ≡ Some name → position_or_len (bytes_eq name) names ≡ x
-place-own [] x name d e = absurd (cc)
-place-own (n ∷ ns) zero name d e =
-    let same : n ≡ name = cc in
-    ap (λ b. cond (not b) (1 + position_or_len (bytes_eq name) ns) 0) (bytes_eq-refl name n (sym same))
-place-own (n ∷ ns) (suc x) name d e =
-    by_case (bytes_eq name n) _
-    (λ same.
-    let fresh : is_among n ns ≡ false = not-true (is_among n ns) ((and_parts (not (is_among n ns)) (are_distinct ns) d).0) in
-    let among : is_among n ns ≡ true = ap (λ w. is_among w ns) (sym (bytes_eq-true name n same)) ∙ there-among ns x name e in
-    absurd (cc))
-    (λ other.
-    let later : position_or_len (bytes_eq name) ns ≡ x = place-own ns x name ((and_parts (not (is_among n ns)) (are_distinct ns) d).1) e in
-    ap (λ b. cond (not b) (1 + position_or_len (bytes_eq name) ns) 0) other ∙ omega arith)
-
-pub find-own : (names : List (List ℕ)) (x : ℕ) (name : List ℕ) → are_distinct names ≡ true → slice_get names x ≡ Some name → find_name name names ≡ Some x
-find-own names x name d e =
-    ap (λ k. cond (nat_lt k (length names)) (Some k) None) (place-own names x name d e)
-    ∙ ap (λ b. cond b (Some x) None) (lt-ltb x (length names) (slice_get_within names x name e))
 
 -- the table is filled
 

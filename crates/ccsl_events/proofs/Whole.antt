@@ -6,7 +6,7 @@ use Rattle.std.proofs.lemmas.List.{append-nil, map-append, take-append-drop}
 use Rattle.ccsl_vcd_lex.specs.Tokens.{is_white, Token, token, end_of, is_long, run, tokens_from, Heard, too_long, hear}
 use Rattle.ccsl_vcd_lex.specs.Runs.{fresh_after}
 use Rattle.ccsl_vcd_lex.specs.Lexing.{Dark, is_dark}
-use Rattle.ccsl_vcd_lex.proofs.Cuts.{tokens-cut, one-token, one-token-more, from-behind, fresh-behind}
+use Rattle.ccsl_vcd_lex.proofs.Cuts.{tokens-cut, one-token, one-token-more, from-behind, fresh-behind, fresh-append}
 use Rattle.ccsl_vcd_lex.proofs.Further.{split}
 use Rattle.ccsl_vcd_lex.proofs.Told.{long-word}
 use Rattle.ccsl_vcd.specs.declared.fault.VcdFault.{VcdFault}
@@ -14,7 +14,7 @@ use Rattle.ccsl_events.specs.declared.reader.Reader.{Reader}
 use Rattle.ccsl_events.specs.Dump.{Plan, Place, Story, refused, next, begin, story, ends_at, ended, body_says}
 use Rattle.ccsl_events.specs.Run.{IsOpen, settled_from, story_from, Breaks}
 use Rattle.ccsl_events.specs.Fed.{HasTaken}
-use Rattle.ccsl_events.proofs.Run.{settled-fresh, settled-cut, settled-long, fold-both, fresh-append}
+use Rattle.ccsl_events.proofs.Run.{settled-fresh, settled-cut, settled-long, fold-both}
 
 -- all tokens of a body
 abbrev all_from : ℕ → List ℕ → List Heard

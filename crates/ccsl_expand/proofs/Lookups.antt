@@ -12,10 +12,8 @@ use Rattle.ccsl_rules.specs.Spaces.{Known, look}
 use Rattle.ccsl_spaces.specs.Places.{place_of, HasFirsts}
 use Rattle.ccsl_spaces.proofs.Places.{first-added, first-kept}
 use Rattle.ccsl_expand.specs.Seen.{atom_or_zero}
-use Rattle.ccsl_spaces.proofs.Looking.{bytes_eq-comm}
-
-the-some : {X : Type 0} (x y : X) → Some x ≡ Some y → x ≡ y
-the-some x y e = cc
+use Rattle.ccsl_base.proofs.Tables.{bytes_eq-comm}
+use Rattle.ccsl_base.proofs.Cases.{some-same}
 
 bytes-turned : (b c : Bool) (xs ys : List ℕ) → bytes_eq xs ys ≡ b → bytes_eq ys xs ≡ c → b ≡ c
 bytes-turned true true xs ys p q = refl
@@ -102,7 +100,7 @@ place-below ns name i e = place-less (position_or_len (bytes_eq name) ns) (lengt
 
 pub get-map : {X Y : Type 0} (f : X → Y) (xs : List X) (i : ℕ) (x : X) → slice_get xs i ≡ Some x → slice_get (map f xs) i ≡ Some (f x)
 get-map f [] i x e = absurd (cc)
-get-map f (y ∷ xs) zero x e = ap (λ z. Some (f z)) (the-some y x e)
+get-map f (y ∷ xs) zero x e = ap (λ z. Some (f z)) (some-same y x e)
 get-map f (y ∷ xs) (suc i) x e = get-map f xs i x e
 
 look-step : {X Y : Type 0} (f : X → Y) (b : Bool) (x : X) (found : Option X) (others : Option Y) → others ≡ option_map f found → cond b (Some (f x)) others ≡ option_map f (cond b (Some x) found)

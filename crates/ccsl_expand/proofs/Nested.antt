@@ -7,8 +7,9 @@ use Rattle.ccsl_words.specs.Word.{BinaryWord}
 use Rattle.ccsl_rules.specs.Spaces.{Known, Callee, look}
 use Rattle.ccsl_rules.specs.Settings.{Atom}
 use Rattle.ccsl_rules.specs.Unfolded.{Item, Unfolding, Unfoldings, unfolding_at, unfolding_of, unfold_block}
-use Rattle.ccsl_rules.proofs.Lookups.{get-front, get-last}
+use Rattle.ccsl_rules.proofs.Lookups.{get-front}
 use Rattle.ccsl_expand.specs.Numbered.{NumberedDefinition, unfold_all}
+use Rattle.ccsl_base.proofs.Cases.{get-last}
 
 get-take : {X : Type 0} (xs : List X) (n i : ℕ) (x : X) → i < n → slice_get xs i ≡ Some x → slice_get (take n xs) i ≡ Some x
 get-take [] n i x h e = absurd (cc)

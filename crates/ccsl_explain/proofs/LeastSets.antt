@@ -17,6 +17,7 @@ use Rattle.ccsl_explain.specs.LeastSteps.{negatives, IsLeastStep}
 use Rattle.ccsl_explain.specs.Masked.{IsMasked}
 use Rattle.ccsl_explain.proofs.Masks.{solves-masked, satisfies-masked}
 use Rattle.ccsl_base.proofs.Ascending.{same-members}
+use Rattle.ccsl_formula.proofs.Same.{same-self}
 
 -- of two least sets none has a first clock that the other has not
 module _ (scope : Scope) (fs : List Formula) (core : List ℕ) (i : ℕ) (s t : List ℕ) (h : IsLeastWithout scope fs core i s) (k : IsLeastWithout scope fs core i t) where
@@ -41,10 +42,6 @@ below-append n (l ∷ ls) ks a b = (a.0, below-append n ls ks a.1 b)
 pub negatives-below : (n m : ℕ) → (k : ℕ) → k + m ≡ n → AreBelow n (negatives m)
 negatives-below n zero k e = tt
 negatives-below n (suc m) k e = below-append n (negatives m) _ (negatives-below n m (suc k) (omega arith)) (omega arith, tt)
-
-same-self : (b : Bool) → same b b ≡ true
-same-self true = refl
-same-self false = refl
 
 -- by wishes for clocks at which two sets don't differ none is better
 same-better : (n : ℕ) (ls : List Lit) (t s : Assignment) → ((d : ℕ) → d < n → t d ≡ s d) → is_better (negatives n ++ ls) t s ≡ is_better ls t s

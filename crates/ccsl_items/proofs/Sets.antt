@@ -4,6 +4,7 @@ use Rattle.std.specs.List.{list_all}
 use Rattle.std.proofs.lemmas.Bool.{cases_lt, cases_eq, ne_eqb, and_parts, and_from}
 use Rattle.ccsl_base.specs.Clocks.{ticks_in, with_clock, is_ascending, are_below}
 use Rattle.ccsl_kernel.proofs.Sets.{ticks_in-before}
+use Rattle.ccsl_base.proofs.Sets.{first-ticks}
 
 -- a set with one of its members is the set
 pub with_clock-member : (x : ℕ) (s : List ℕ) → is_ascending s ≡ true → ticks_in x s ≡ true → with_clock x s ≡ s
@@ -22,10 +23,6 @@ with_clock-member x (y ∷ s) a h =
     (cases_lt x y))
     (cases_eq x y)
 
--- the first member ticks
-pub head-ticks : (x : ℕ) (s : List ℕ) → ticks_in x (x ∷ s) ≡ true
-head-ticks x s = ap (λ t. t || ticks_in x s) (eq-eqb x x refl)
-
 tail-ticks : (x y : ℕ) (s : List ℕ) → ticks_in x s ≡ true → ticks_in x (y ∷ s) ≡ true
 tail-ticks x y s h = ap (λ t. nat_eq x y || t) h ∙ or-true (nat_eq x y)
   where
@@ -37,7 +34,7 @@ tail-ticks x y s h = ap (λ t. nat_eq x y || t) h ∙ or-true (nat_eq x y)
 pub below-members : (n : ℕ) (s : List ℕ) → ((x : ℕ) → ticks_in x s ≡ true → x < n) → are_below n s ≡ true
 below-members n [] h = refl
 below-members n (y ∷ s) h =
-    and_from (nat_lt y n) (are_below n s) (lt-ltb y n (h y (head-ticks y s)))
+    and_from (nat_lt y n) (are_below n s) (lt-ltb y n (h y (first-ticks y s)))
     (below-members n s (λ x t. h x (tail-ticks x y s t)))
 
 -- a set with members is not empty

@@ -3,7 +3,7 @@ use Rattle.std.proofs.Common.{◌≡◌, ◌≢◌, ℕ, suc, ◌+◌, ◌<◌, 
 use Rattle.std.proofs.lemmas.Bool.{and_parts}
 use Rattle.std.proofs.lemmas.Option.{slice_get_within}
 use Rattle.ccsl_base.specs.Clocks.{ticks_in, with_clock, is_ascending, are_below}
-use Rattle.ccsl_base.proofs.Sets.{member-below}
+use Rattle.ccsl_base.proofs.Sets.{member-below, first-ticks}
 use Rattle.ccsl_formula.specs.Formula.{eval, same, in_set}
 use Rattle.ccsl_refute.specs.Meaning.{Blocks}
 use Rattle.ccsl_kernel.specs.Syntax.{Expression, System, item_count}
@@ -20,7 +20,7 @@ use Rattle.ccsl_kernel.proofs.Definitions.{step_at-last}
 use Rattle.ccsl_kernel.proofs.Sets.{ticks_in-below, below-below}
 use Rattle.ccsl_items.specs.Formulas.{item_formulas, scope_of}
 use Rattle.ccsl_items.specs.Laws.{IsNamedRun, IsSolution, IsFullStep}
-use Rattle.ccsl_items.proofs.Sets.{with_clock-member, head-ticks, some-member}
+use Rattle.ccsl_items.proofs.Sets.{with_clock-member, some-member}
 use Rattle.ccsl_items.proofs.Satisfied.{all_true, each_true}
 use Rattle.ccsl_items.proofs.Going.{run_more, named_more}
 
@@ -86,7 +86,7 @@ module _ (K : System) (ok : IsAccepted K) (T : List Step) (r : IsNamedRun K T) w
   member_of : (u s : Step) → declared_part K u ≡ s → s ≢ [] → (x : ℕ) × (x < K.declared) × (ticks_in x u ≡ true)
   member_of u [] e ne = absurd (ne refl)
   member_of u (y ∷ ys) e ne =
-      let there : ticks_in y (declared_part K u) ≡ true = ap (ticks_in y) e ∙ head-ticks y ys in
+      let there : ticks_in y (declared_part K u) ≡ true = ap (ticks_in y) e ∙ first-ticks y ys in
       let low = member-below K.declared (declared_part K u) y (below-below K.declared u) there in
       (y, low, sym (ticks_in-below K.declared y u low) ∙ there)
 

@@ -1,7 +1,8 @@
 -- Systems in which the calls of the bodies and of the definitions are as they must be.
-use Rattle.std.specs.Prelude.{ℕ, List, [], ◌∷◌}
+use Rattle.std.specs.Prelude.{◌≡◌, ℕ, List, [], ◌∷◌}
 use Rattle.ccsl_kernel.specs.Syntax.{Expression, System, root_of}
-use Rattle.ccsl_kernel.specs.Guarded.{Tail, Allowed, IsAllowed}
+use Rattle.ccsl_kernel.specs.declared.position.Position.TheVariants.{Inner, Tail, Guarded}
+use Rattle.ccsl_kernel.specs.Guarded.{Allowed, IsAllowed}
 
 -- each member of a group, whose root is a tail position
 abbrev pub AreGuarded : System → Type 0
@@ -15,3 +16,9 @@ AreAllowed K (e ∷ es) = IsAllowed K e × AreAllowed K es
 pub record IsGuarded (K : System) : Type 0 where
   pub bodies : AreGuarded K
   pub definitions : AreAllowed K K.definitions
+
+pub tail_guarded : Tail ≡ Guarded → ⊥
+tail_guarded e = cc
+
+pub inner_guarded : Inner ≡ Guarded → ⊥
+inner_guarded e = cc

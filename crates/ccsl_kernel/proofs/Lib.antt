@@ -25,3 +25,4 @@ pub mod FirstViolation
 pub mod NamesInCertificates
 pub mod Admissible
 pub mod Bounded
+pub mod Counts

@@ -2,12 +2,9 @@
 use Rattle.std.proofs.Common.{◌≡◌, ℕ, Bool, true, false, ◌&&◌, ◌||◌, not, cond, List, [], ◌∷◌, ◌++◌, refl, sym, ap, ◌∙◌, inl, inr, arith, leb, eqb}
 use Rattle.std.specs.Prelude.{nat_eq, ◌⊎◌, codes}
 use Rattle.std.specs.List.{list_all, list_any}
-use Rattle.std.proofs.lemmas.Bool.{eqb-true, leb-true, and_parts, false_from_ne_true}
+use Rattle.std.proofs.lemmas.Bool.{eqb-true, leb-true, and_parts, false_from_ne_true, both_ways}
 use Rattle.ccsl_base.specs.Letters.{is_letter, is_digit, is_inner}
 use Rattle.ccsl_lex.specs.Tokens.{Piece, blank, comment, letters, digits, quoted, mark, text_of, starts, is_piece, is_white, is_mark, is_bad}
-
-pub clash : (x : Bool) → x ≡ true → x ≡ false → ⊥
-clash x t f = let e : true ≡ false = sym t ∙ f in cc
 
 or_true : (a b : Bool) → (a || b) ≡ true → (a ≡ true) ⊎ (b ≡ true)
 or_true true b h = inl refl
@@ -55,7 +52,7 @@ class_of (quoted bytes) = 4
 class_of (comment bytes) = 5
 
 white_no : (test : ℕ → Bool) (b : ℕ) → test b ≡ true → list_all (λ c. not (test c)) (32 ∷ 9 ∷ 10 ∷ 13 ∷ []) ≡ true → is_white b ≡ false
-white_no test b h f = false_from_ne_true (is_white b) (λ w. clash (test b) h (apart test b (32 ∷ 9 ∷ 10 ∷ 13 ∷ []) w f))
+white_no test b h f = false_from_ne_true (is_white b) (λ w. both_ways (test b) (apart test b (32 ∷ 9 ∷ 10 ∷ 13 ∷ []) w f) h)
 
 white_shape : (b : ℕ) → is_white b ≡ true → shape b ≡ 0
 unfolding shape

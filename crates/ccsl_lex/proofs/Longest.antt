@@ -1,17 +1,17 @@
 -- A piece that stands in front of a list is the longest in front of it, and the only one that stands there.
 use Rattle.std.proofs.Common.{◌≡◌, ℕ, ◌≤◌, Bool, true, false, List, [], ◌∷◌, ◌++◌, length, refl, sym, ap, ◌∙◌, arith, append_assoc, length-append}
 use Rattle.std.specs.List.{list_all}
-use Rattle.std.proofs.lemmas.Bool.{and_parts}
+use Rattle.std.proofs.lemmas.Bool.{and_parts, both_ways}
 use Rattle.ccsl_base.specs.Letters.{is_letter, is_digit, is_inner}
 use Rattle.ccsl_base.specs.Quoted.{is_quotable}
 use Rattle.ccsl_lex.specs.Tokens.{Piece, blank, comment, letters, digits, quoted, mark, text_of, starts, is_piece, is_remark, Stands}
 use Rattle.ccsl_lex.specs.Laws.{NoneLonger}
-use Rattle.ccsl_lex.proofs.Classes.{clash, class_of, class_at, class_is}
+use Rattle.ccsl_lex.proofs.Classes.{class_of, class_at, class_is}
 
 -- a run in front of a list is no longer than one behind which stands no byte of the kind
 pub run_longest : (test : ℕ → Bool) (bs r cs s : List ℕ) → starts test r ≡ false → list_all test cs ≡ true → bs ++ r ≡ cs ++ s → length cs ≤ length bs
 run_longest test bs r [] s f h e = omega arith
-run_longest test [] r (c ∷ cs) s f h e = absurd (clash (test c) (and_parts (test c) (list_all test cs) h).0 (ap (starts test) (sym e) ∙ f))
+run_longest test [] r (c ∷ cs) s f h e = absurd (both_ways (test c) (ap (starts test) (sym e) ∙ f) (and_parts (test c) (list_all test cs) h).0)
 run_longest test (b ∷ bs) r (c ∷ cs) s f h e =
     let t : bs ++ r ≡ cs ++ s = cc in
     let l : length cs ≤ length bs = run_longest test bs r cs s f (and_parts (test c) (list_all test cs) h).1 t in

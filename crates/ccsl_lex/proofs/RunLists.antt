@@ -5,6 +5,7 @@ use Rattle.std.specs.List.{list_all, prefix_len, position_or_len}
 use Rattle.std.proofs.lemmas.List.Sums.{prefix_len-le-length}
 use Rattle.std.proofs.lemmas.Bool.{ltb-false}
 use Rattle.ccsl_lex.specs.Tokens.{starts}
+use Rattle.ccsl_base.proofs.Cases.{one_more}
 
 same_prefix : (test : ℕ → Bool) (xs : List ℕ) → prefix_len (λ b. not (not (test b))) xs ≡ prefix_len test xs
 same_prefix test [] = refl
@@ -21,9 +22,6 @@ run_is test xs found e = rw e (within (ltb (position_or_len (λ b. not (test b))
     within : (t : Bool) → ltb (position_or_len (λ b. not (test b)) xs) (length xs) ≡ t → unwrap_or (cond t (Some (position_or_len (λ b. not (test b)) xs)) None) (length xs) ≡ prefix_len test xs
     within true h = same_prefix test xs
     within false h = let n : length xs ≡ position_or_len (λ b. not (test b)) xs = omega (arith, ltb-false (position_or_len (λ b. not (test b)) xs) (length xs) h, prefix_len-le-length (λ b. not (not (test b))) xs) in n ∙ same_prefix test xs
-
-one_more : (n : ℕ) → 1 + n ≡ suc n
-one_more n = omega arith
 
 pub run_passes : (test : ℕ → Bool) (xs : List ℕ) → list_all test (take (prefix_len test xs) xs) ≡ true
 run_passes test [] = refl

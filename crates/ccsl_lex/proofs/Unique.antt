@@ -4,14 +4,14 @@ use Rattle.std.specs.Prelude.{nat_eq, ◌⊎◌}
 use Rattle.std.specs.List.{list_all, flat_map}
 use Rattle.std.proofs.lemmas.List.{append-nil}
 use Rattle.std.proofs.lemmas.List.Folds.{list_all-append}
-use Rattle.std.proofs.lemmas.Bool.{and_parts, or_right}
+use Rattle.std.proofs.lemmas.Bool.{and_parts, or_right, both_ways}
 use Rattle.ccsl_base.specs.Letters.{is_letter, is_digit, is_inner}
 use Rattle.ccsl_lex.specs.declared.fault.LexFault.{LexFault}
 use Rattle.ccsl_lex.specs.declared.fault.LexFault.TheVariants.{BadByte, NameTooLong, NumberTooLarge, OpenText, Memory}
 use Rattle.ccsl_base.specs.Quoted.{is_quotable}
 use Rattle.ccsl_lex.specs.Tokens.{Piece, blank, comment, letters, digits, quoted, mark, text_of, starts, is_piece, Stands, AreCut, is_white, is_mark, fits, PlainToken, tokens_of, AreTokens, CutAt, is_bad, IsBad, IsOpen, IsPastLimit, IsFirstFault}
 use Rattle.ccsl_lex.specs.Found.{UnlessMemory}
-use Rattle.ccsl_lex.proofs.Classes.{clash, class_of, class_at, class_is, bad_class, quote_class, piece_some}
+use Rattle.ccsl_lex.proofs.Classes.{class_of, class_at, class_is, bad_class, quote_class, piece_some}
 use Rattle.ccsl_lex.proofs.Longest.{first_same, run_longest, split_same}
 
 -- no piece within the limits stands in front of r, and r is not empty
@@ -69,7 +69,7 @@ not_broken text ts at r t y g = both_as (ahead t.pieces [] y.pieces r t.cut y.cu
 -- where a piece past its limit stands, none within the limits does
 past_limit_is_broken : (kind : List ℕ → Piece) (r : List ℕ) → IsPastLimit kind r → IsBroken r
 past_limit_is_broken kind r h = record {
-  none = λ m z e t f. let n = first_same (kind h.bytes) m h.behind z h.stands t (sym h.whole ∙ e) in clash (fits m) f (ap fits (sym n.0) ∙ h.past);
+  none = λ m z e t f. let n = first_same (kind h.bytes) m h.behind z h.stands t (sym h.whole ∙ e) in both_ways (fits m) (ap fits (sym n.0) ∙ h.past) f;
   some = λ e. piece_some (kind h.bytes) h.behind h.stands.is (sym h.whole ∙ e);
 }
 
@@ -97,8 +97,8 @@ good_front (mark b) z h =
 
 bad_is_broken : (r : List ℕ) → IsBad r → IsBroken r
 bad_is_broken r h = record {
-  none = λ m z e t f. clash (is_bad r) h (ap is_bad e ∙ good_front m z t.is);
-  some = λ e. clash (is_bad r) h (ap is_bad e);
+  none = λ m z e t f. both_ways (is_bad r) (ap is_bad e ∙ good_front m z t.is) h;
+  some = λ e. both_ways (is_bad r) (ap is_bad e) h;
 }
 
 starts_less : (bs : List ℕ) → starts (λ b. is_quotable b || nat_eq b 34) bs ≡ false → starts is_quotable bs ≡ false
@@ -116,7 +116,7 @@ closed (quoted cs) bytes after z k p h o e =
     let below : length cs ≤ length bytes = run_longest is_quotable bytes after cs (34 ∷ z) (starts_less after o) p t in
     let above : length bytes ≤ length cs = run_longest is_quotable cs (34 ∷ z) bytes after refl h (sym t) in
     let n = split_same bytes after cs (34 ∷ z) (omega arith) t in
-    clash (starts (λ b. is_quotable b || nat_eq b 34) after) (ap (starts (λ b. is_quotable b || nat_eq b 34)) n.1) o
+    both_ways (starts (λ b. is_quotable b || nat_eq b 34) after) o (ap (starts (λ b. is_quotable b || nat_eq b 34)) n.1)
 closed m bytes after z k p h o e = omega arith
 
 open_is_broken : (r : List ℕ) → IsOpen r → IsBroken r

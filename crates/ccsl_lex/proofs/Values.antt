@@ -29,7 +29,3 @@ number_none most ds e d = by_test (leb (decimal_value ds) most) refl (e ∙ ap (
     by_test : (t : Bool) → leb (decimal_value ds) most ≡ t → None ≡ (if t then Some (decimal_value ds) else None) → most < decimal_value ds
     by_test true h i = absurd cc
     by_test false h i = leb-false (decimal_value ds) most h
-
--- what `&xs[n..]` has
-pub whole_rest : (n : ℕ) (xs : List ℕ) → take (length xs - n) (drop n xs) ≡ drop n xs
-whole_rest n xs = ap (λ q. take (length xs - n) q) (sym (append-nil (drop n xs))) ∙ take_at (drop n xs) [] (length xs - n) (length-drop n xs)

@@ -5,16 +5,10 @@ use Rattle.ccsl_kernel.specs.Lives.{Step, steps}
 use Rattle.ccsl_kernel.proofs.Silent.{AreGoneQuiet}
 use Rattle.ccsl_kernel.proofs.Steps.{map-steps-suc, steps-empty, steps-split, from_birth}
 use Rattle.ccsl_kernel.proofs.Quiet.{count-snoc}
-
--- how often t holds from b to n - 1
-abbrev pub count_from : (ℕ → Bool) → ℕ → ℕ → ℕ
-count_from t b n = count (map t (steps b n))
+use Rattle.ccsl_kernel.proofs.Counts.{count_from}
 
 pub count-first : (t : ℕ → Bool) (b : ℕ) → count_from t b b ≡ 0
 count-first t b = ap (λ xs. count (map t xs)) (steps-empty b b (omega arith))
-
-pub count-next : (t : ℕ → Bool) (b n : ℕ) → b ≤ n → count_from t b (suc n) ≡ (if t n then suc (count_from t b n) else count_from t b n)
-count-next t b n l = ap count (map-steps-suc t b n l) ∙ count-snoc (map t (steps b n)) (t n)
 
 count-append : (xs ys : List Bool) → count (xs ++ ys) ≡ count xs + count ys
 count-append [] ys = omega arith

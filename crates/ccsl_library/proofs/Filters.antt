@@ -18,8 +18,9 @@ use Rattle.ccsl_kernel.proofs.TableHolds.{meaning_calls}
 use Rattle.ccsl_kernel.proofs.Words.{letter-rest}
 use Rattle.ccsl_kernel.proofs.Silent.{AreGoneQuiet}
 use Rattle.ccsl_library.specs.Members.{filter_by, filter_by_root, own_clock, own_tail}
-use Rattle.ccsl_library.proofs.Counts.{count_from, count-first, count-next, count-ever, count-split, ever-count, stays-gone}
+use Rattle.ccsl_library.proofs.Counts.{count-first, count-ever, count-split, ever-count, stays-gone}
 use Rattle.ccsl_words.proofs.Letters.{past_finite}
+use Rattle.ccsl_kernel.proofs.Counts.{count_from, count-next}
 
 module _ (K : System) (T : List Step) (gone : ℕ → ℕ → Bool) (ok : AreGuarded K) (gone_quiet : AreGoneQuiet T gone)
     (in_K : 2 < length K.groups) (is : root_of K 2 0 ≡ filter_by_root) (c w : ℕ) where

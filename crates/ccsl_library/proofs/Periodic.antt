@@ -17,7 +17,8 @@ use Rattle.ccsl_kernel.proofs.TableHolds.{meaning_calls}
 use Rattle.ccsl_kernel.proofs.Silent.{AreGoneQuiet}
 use Rattle.ccsl_library.specs.Laws.{is_multiple}
 use Rattle.ccsl_library.specs.Members.{periodic, periodic_root, own_clock, own_number}
-use Rattle.ccsl_library.proofs.Counts.{count_from, count-first, count-next, count-split, stays-gone}
+use Rattle.ccsl_library.proofs.Counts.{count-first, count-split, stays-gone}
+use Rattle.ccsl_kernel.proofs.Counts.{count_from, count-next}
 
 module _ (K : System) (T : List Step) (gone : ℕ → ℕ → Bool) (ok : AreGuarded K) (gone_quiet : AreGoneQuiet T gone)
     (in_K : 0 < length K.groups) (is : root_of K 0 0 ≡ periodic_root) (c m : ℕ) where

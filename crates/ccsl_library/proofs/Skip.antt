@@ -12,7 +12,8 @@ use Rattle.ccsl_kernel.specs.Meaning.{named, life_given}
 use Rattle.ccsl_kernel.proofs.Steps.{from_birth, steps-empty, map-steps-suc, find-none, find-some, find-within}
 use Rattle.ccsl_kernel.proofs.Quiet.{eval_cond, ever-snoc}
 use Rattle.ccsl_library.specs.Members.{skip_root}
-use Rattle.ccsl_library.proofs.Counts.{count_from, count-first, count-next, count-split}
+use Rattle.ccsl_library.proofs.Counts.{count-first, count-split}
+use Rattle.ccsl_kernel.proofs.Counts.{count_from, count-next}
 
 module _ (K : System) (T : List Step) (gone : ℕ → ℕ → Bool) (c m : ℕ) where
   abbrev tc : ℕ → Bool

@@ -23,16 +23,7 @@ use Rattle.ccsl_periodic.specs.Ones.{ones}
 use Rattle.ccsl_periodic.specs.Failures.{fails_at, IsFirstFailure, NeverFails}
 use Rattle.ccsl_periodic.specs.Filtered.{IsOn}
 use Rattle.ccsl_periodic.specs.Filters.{kind_of, IsWordAt, filter_by_word, IsFilter, relation_holds, FiltersAreRelated, ExpressionsTick, ClocksTick, FiltersCompose}
-
--- how often t holds from b to n - 1
-abbrev pub count_from : (ℕ → Bool) → ℕ → ℕ → ℕ
-count_from t b n = count (map t (steps b n))
-
-count-none : (t : ℕ → Bool) (b n : ℕ) → n ≤ b → count_from t b n ≡ 0
-count-none t b n l = ap (λ xs. count (map t xs)) (steps-empty b n l)
-
-count-more : (t : ℕ → Bool) (b n : ℕ) → b ≤ n → count_from t b (suc n) ≡ (if t n then suc (count_from t b n) else count_from t b n)
-count-more t b n l = ap count (map-steps-suc t b n l) ∙ count-snoc (map t (steps b n)) (t n)
+use Rattle.ccsl_kernel.proofs.Counts.{count_from, count-next, count-none}
 
 -- at the ticks of t from b on, m ticks with the ones of w, as far as n
 abbrev Filters : (ℕ → Bool) → (ℕ → Bool) → BinaryWord → ℕ → ℕ → Type 0
@@ -51,10 +42,10 @@ count-filter m t w b (suc n) f =
     ⊎_elim
     (λ (l : n < b). count-none m b (suc n) (omega arith) ∙ ap (ones w) (sym (count-none t b (suc n) (omega arith))))
     (λ (l : b ≤ n).
-    count-more m b n l
+    count-next m b n l
     ∙ ap (λ x. if x then suc (count_from m b n) else count_from m b n) (f n l (omega arith))
     ∙ one_more (letter w (count_from t b n)) (t n) w (count_from t b n) (count_from m b n) refl (count-filter m t w b n (λ i l' u. f i l' (omega arith)))
-    ∙ ap (ones w) (sym (count-more t b n l)))
+    ∙ ap (ones w) (sym (count-next t b n l)))
     (cases_lt n b)
 
 -- a filter of a filter ticks by the word on the other
@@ -115,7 +106,7 @@ module _ (K : System) (T : List Step) where
   pub clock_count-more : (c n : ℕ) → n < length T → clock_count T c (suc n) ≡ (if clock_ticks c n then suc (clock_count T c n) else clock_count T c n)
   clock_count-more c n l =
       clock_count-is c (suc n) (omega arith)
-      ∙ count-more (clock_ticks c) 0 n (omega arith)
+      ∙ count-next (clock_ticks c) 0 n (omega arith)
       ∙ ap (λ (k : ℕ). if clock_ticks c n then suc k else k) (sym (clock_count-is c n (omega arith)))
 
   module _ (obeys : ObeysDefinitions K T) where

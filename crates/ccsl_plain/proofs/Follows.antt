@@ -15,7 +15,7 @@ use Rattle.ccsl_kernel.specs.declared.position.Position.TheVariants.{Inner, Tail
 use Rattle.ccsl_kernel.specs.Guarded.{Allowed, IsAllowed}
 use Rattle.ccsl_kernel.specs.Rows.{IsTable, CallsAreBodies}
 use Rattle.ccsl_plain.specs.Course.{Course, CName, CNever, CUnary, CBinary, CThen, now_of, operator_row, over, leaf, open_with, open_bodies, opening, then_or_right, next, grown, life_of, course_life}
-use Rattle.ccsl_kernel.proofs.GuardedCalls.{AreGuarded}
+use Rattle.ccsl_kernel.proofs.GuardedCalls.{AreGuarded, tail_guarded, inner_guarded}
 use Rattle.ccsl_kernel.proofs.Steps.{map-steps-suc, steps-empty, find-steps-suc, find-within, from_birth, or_else, if_at}
 use Rattle.ccsl_kernel.proofs.Agree.{unique}
 use Rattle.ccsl_kernel.proofs.TableHolds.{meaning_rows, meaning_calls}
@@ -153,12 +153,6 @@ module _ (K : System) (T : List Step) (gone : ℕ → ℕ → Bool) where
       choose : (t : Bool) (a d : Course) (b n : ℕ) → life_of K T gone (if t then a else d) b n ≡ (if t then life_of K T gone a b n else life_of K T gone d b n)
       choose true a d b n = refl
       choose false a d b n = refl
-
-tail_guarded : Tail ≡ Guarded → ⊥
-tail_guarded e = cc
-
-inner_guarded : Inner ≡ Guarded → ⊥
-inner_guarded e = cc
 
 -- Opening an expression that is in no guarded tail position opens members of earlier groups alone.
 module _ (K : System) (calls calls' : ℕ → ℕ → List Actual → Course) (g : ℕ) (same : (group member : ℕ) (ρ : List Actual) → group < g → calls group member ρ ≡ calls' group member ρ) where

@@ -7,6 +7,7 @@ use Rattle.ccsl_plain.specs.declared.ticks.Since.{Since}
 use Rattle.ccsl_plain.specs.declared.ticks.Since.TheVariants.{NoneAfter, NoneFrom, Just, Fewer}
 use Rattle.ccsl_kernel.specs.Ticks.{count, ever, waits, waits_weakly}
 use Rattle.ccsl_plain.specs.Since.{wait_of, some_waits}
+use Rattle.ccsl_base.proofs.Cases.{more_one}
 
 pub count-is_count_by : (ts : List Bool) → count ts ≡ count_by (λ t. t) ts
 count-is_count_by = is_count_by count (λ t. t) refl one
@@ -50,21 +51,18 @@ waits-none NoneFrom (t ∷ ts) = refl
 waits-none (Just k) (t ∷ ts) = refl
 waits-none (Fewer m) (t ∷ ts) = refl
 
-one_more : (i : ℕ) → suc i ≡ i + 1
-one_more i = omega arith
-
 -- from a place on, by one step
 pub waits-at : (s : Since) (a d : List Bool) (i : ℕ) (x y : Bool) → i < length a → i < length d →
     some_waits s (drop i a) (drop i d) ≡ ((get_or a i x && wait_of s (get_or d i y) (count (drop (i + 1) d))) || some_waits s (drop (i + 1) a) (drop (i + 1) d))
 waits-at s a d i x y l m =
     ap₂ (some_waits s) (drop-cons a i x l) (drop-cons d i y m)
     ∙ waits-cons s (get_or a i x) (get_or d i y) (drop (suc i) a) (drop (suc i) d)
-    ∙ ap (λ (k : ℕ). (get_or a i x && wait_of s (get_or d i y) (count (drop k d))) || some_waits s (drop k a) (drop k d)) (one_more i)
+    ∙ ap (λ (k : ℕ). (get_or a i x && wait_of s (get_or d i y) (count (drop k d))) || some_waits s (drop k a) (drop k d)) (more_one i)
 
 pub count-at : (d : List Bool) (i : ℕ) (y : Bool) → i < length d → count (drop i d) ≡ (if get_or d i y then count (drop (i + 1) d) + 1 else count (drop (i + 1) d))
 count-at d i y m =
     ap count (drop-cons d i y m) ∙ count-cons (get_or d i y) (drop (suc i) d)
-    ∙ ap (λ (k : ℕ). if get_or d i y then count (drop k d) + 1 else count (drop k d)) (one_more i)
+    ∙ ap (λ (k : ℕ). if get_or d i y then count (drop k d) + 1 else count (drop k d)) (more_one i)
 
 pub waits-past : (s : Since) (a d : List Bool) (i : ℕ) → i ≡ min (length a) (length d) → some_waits s (drop i a) (drop i d) ≡ false
 waits-past s a d i e =

@@ -23,6 +23,7 @@ use Rattle.ccsl_policy.specs.Chosen.{IsChosen}
 use Rattle.ccsl_policy.specs.Ranks.{IsRank, IsRanked, wish}
 use Rattle.ccsl_policy.proofs.Order.{is-before}
 use Rattle.ccsl_base.proofs.Sets.{by_case}
+use Rattle.ccsl_formula.proofs.Same.{same-if}
 
 -- the first n clocks, each behind its word
 abbrev pub ranks_to : List ℕ → ℕ → List (ℕ × ℕ)
@@ -80,17 +81,11 @@ same-not true false e = refl
 same-not false true e = refl
 same-not false false e = absurd (cc)
 
-pub same-self : (a b : Bool) → a ≡ b → same a b ≡ true
-same-self true true e = refl
-same-self true false e = absurd (cc)
-same-self false true e = absurd (cc)
-same-self false false e = refl
-
 -- a wish for a clock at which the sets differ decides
 decides : (l : Lit) (ls : List Lit) (s t : Assignment) → s l.clock ≡ not (t l.clock) → s l.clock ≡ l.positive → is_better (l ∷ ls) s t ≡ true
 decides l ls s t d p =
     ap (λ b. elim b [ true ↦ is_better ls s t | false ↦ same (s l.clock) l.positive ]) (same-not (s l.clock) (t l.clock) d)
-    ∙ same-self (s l.clock) l.positive p
+    ∙ same-if (s l.clock) l.positive p
 
 -- the wish for a clock decides where those before it are for the same clock, or for clocks at which the sets are the same
 found : (policy : Policy) (w c : ℕ) (s t : Assignment) → s c ≡ not (t c) → s c ≡ preferred policy w →
@@ -105,7 +100,7 @@ found policy w c s t d p (x ∷ xs) (suc j) g h =
     ⊎_elim
     (λ e. decides (wish policy x) (map (wish policy) xs) s t (ap s e.0 ∙ d ∙ ap (λ y. not (t y)) (sym e.0)) (ap s e.0 ∙ p ∙ ap (preferred policy) (sym e.1)))
     (λ e.
-    ap (λ b. elim b [ true ↦ is_better (map (wish policy) xs) s t | false ↦ same (s x.1) (preferred policy x.0) ]) (same-self (s x.1) (t x.1) e)
+    ap (λ b. elim b [ true ↦ is_better (map (wish policy) xs) s t | false ↦ same (s x.1) (preferred policy x.0) ]) (same-if (s x.1) (t x.1) e)
     ∙ found policy w c s t d p xs j g (λ i y l f. h (suc i) y (omega arith) f))
     (h 0 x (omega arith) refl)
 

@@ -19,11 +19,7 @@ use Rattle.ccsl_kernel.proofs.Steps.{find-none}
 use Rattle.ccsl_items.specs.Laws.{IsNamedRun}
 use Rattle.ccsl_items.proofs.Solutions.{admissible_solution, solution_items, solution_full}
 use Rattle.ccsl_possible.specs.Possible.{fails, first_failing}
-
-same-refl : (a b : Bool) → a ≡ b → same a b ≡ true
-same-refl true b e = sym e
-same-refl false true e = absurd (cc)
-same-refl false false e = refl
+use Rattle.ccsl_formula.proofs.Same.{same-if}
 
 module _ (K : System) (ok : IsAccepted K) (T : List Step) (r : IsNamedRun K T) (s : Step) (some : s ≢ []) (d : is_declared K s ≡ true) where
   below_declared : are_below K.declared s ≡ true
@@ -35,7 +31,7 @@ module _ (K : System) (ok : IsAccepted K) (T : List Step) (r : IsNamedRun K T) (
       on : (o : Option Expression) → slice_get K.definitions i ≡ o → eval (item_formula K T (length T) i) (full_step K T s) ≡ true
       on (Some e) is =
           ap (λ f. eval f (full_step K T s)) (item-definition K T (length T) i e is)
-          ∙ same-refl _ _ (full_obeys K (accepted_guarded K ok) (accepted_scoped K ok) T s below_declared (K.declared + i) e (sym (definitions-are K i) ∙ is))
+          ∙ same-if _ _ (full_obeys K (accepted_guarded K ok) (accepted_scoped K ok) T s below_declared (K.declared + i) e (sym (definitions-are K i) ∙ is))
       on None is = ⊎_elim (λ here. let bad = sym is ∙ here.2 in absurd (cc)) (λ past. absurd (omega (arith, past.0))) (slice_get_cases K.definitions i).1
 
   constraint-holds : first_failing K T s ≡ None → (i : ℕ) → length K.definitions ≤ i → i < item_count K →

@@ -1,4 +1,3 @@
-pub mod Cases
 pub mod Lists
 pub mod Proper
 pub mod Closing

@@ -14,7 +14,7 @@ use Rattle.std.proofs.lemmas.Option.{slice_get-get_or, unwrap_or-slice_get}
 use Rattle.ccsl_base.specs.Letters.{is_digit}
 use Rattle.ccsl_base.specs.Decimal.{value_behind, decimal_value, number_up_to}
 use Rattle.ccsl_base.specs.Names.{is_among, find_name, are_distinct}
-use Rattle.ccsl_base.proofs.Tables.{bytes_eq-true, bytes_eq-refl}
+use Rattle.ccsl_base.proofs.Tables.{bytes_eq-true, bytes_eq-refl, there-among, place-own, find-own}
 use Rattle.ccsl_refute.specs.declared.fault.CertFault.TheVariants.{Syntax, UnknownName}
 use Rattle.ccsl_refute.specs.declared.line.Lit.{Lit}
 use Rattle.ccsl_refute.specs.declared.line.Line.{Line}
@@ -29,33 +29,9 @@ use Rattle.ccsl_refute.specs.LineLiterals.{literals}
 use Rattle.ccsl_refute.proofs.Lines.{followed}
 use Rattle.ccsl_refute.proofs.Words.{is_word, are_words, tokens-spaced, line-clear, line-kept}
 use Rattle.ccsl_base.proofs.Sets.{by_case}
+use Rattle.ccsl_base.proofs.Digits.{are-digits, digits-visible, value-same}
 
 -- a name is found at its place
-
-there-among : (names : List (List ℕ)) (x : ℕ) (name : List ℕ) → slice_get names x ≡ Some name → is_among name names ≡ true
-there-among [] x name e = absurd (cc)
-there-among (n ∷ ns) zero name e = let same : n ≡ name = cc in ap (λ t. t || is_among name ns) (bytes_eq-refl name n (sym same))
-there-among (n ∷ ns) (suc x) name e = or_right (bytes_eq name n) (is_among name ns) (there-among ns x name e)
-
-place-own : (names : List (List ℕ)) (x : ℕ) (name : List ℕ) → are_distinct names ≡ true → slice_get names x ≡ Some name → position_or_len (bytes_eq name) names ≡ x
-place-own [] x name d e = absurd (cc)
-place-own (n ∷ ns) zero name d e =
-    let same : n ≡ name = cc in
-    ap (λ b. cond (not b) (1 + position_or_len (bytes_eq name) ns) 0) (bytes_eq-refl name n (sym same))
-place-own (n ∷ ns) (suc x) name d e =
-    by_case (bytes_eq name n) _
-    (λ same.
-    let fresh : is_among n ns ≡ false = not-true (is_among n ns) ((and_parts (not (is_among n ns)) (are_distinct ns) d).0) in
-    let among : is_among n ns ≡ true = ap (λ w. is_among w ns) (sym (bytes_eq-true name n same)) ∙ there-among ns x name e in
-    absurd (cc))
-    (λ other.
-    let later : position_or_len (bytes_eq name) ns ≡ x = place-own ns x name ((and_parts (not (is_among n ns)) (are_distinct ns) d).1) e in
-    ap (λ b. cond (not b) (1 + position_or_len (bytes_eq name) ns) 0) other ∙ omega arith)
-
-find-own : (names : List (List ℕ)) (x : ℕ) (name : List ℕ) → are_distinct names ≡ true → x < length names → slice_get names x ≡ Some name → find_name name names ≡ Some x
-find-own names x name d l e =
-    ap (λ k. cond (nat_lt k (length names)) (Some k) None) (place-own names x name d e)
-    ∙ ap (λ b. cond b (Some x) None) (lt-ltb x (length names) l)
 
 each-name : (names : List (List ℕ)) (x : ℕ) (name : List ℕ) → are_cert_names names ≡ true → slice_get names x ≡ Some name → is_cert_name name ≡ true
 each-name [] x name c e = absurd (cc)
@@ -63,25 +39,6 @@ each-name (n ∷ ns) zero name c e = let same : n ≡ name = cc in ap is_cert_na
 each-name (n ∷ ns) (suc x) name c e = each-name ns x name ((and_parts (is_cert_name n) (are_cert_names ns) c).1) e
 
 -- a number
-
-are-digits : (ds : List ℕ) → AllDigits 10 ds → list_all is_digit ds ≡ true
-are-digits [] h = refl
-are-digits (d ∷ ds) h =
-    let range = digit_from_value d h.0 in
-    ap₂ (λ s t. s && t) (ap₂ (λ s t. s && t) (le-leb 48 d range.0) (le-leb d 57 range.1)) (are-digits ds h.1)
-
-digits-visible : (ds : List ℕ) → AllDigits 10 ds → list_all is_visible ds ≡ true
-digits-visible [] h = refl
-digits-visible (d ∷ ds) h =
-    let range = digit_from_value d h.0 in
-    ap₂ (λ s t. s && t) (ap₂ (λ s t. s && t) (le-leb 33 d (omega (arith, range.0))) (le-leb d 126 (omega (arith, range.1)))) (digits-visible ds h.1)
-
--- the number that digits write, by the standard library's word and by this project's
-value-same : (n : ℕ) (ds : List ℕ) → AllDigits 10 ds → value_behind n ds ≡ digits_value_after 10 n ds
-value-same n [] h = refl
-value-same n (d ∷ ds) h =
-    let value : d - 48 ≡ digit_value d = omega (arith, digit_value_digit d (digit_from_value d h.0)) in
-    ap (λ v. value_behind (n * 10 + v) ds) value ∙ value-same (n * 10 + digit_value d) ds h.1
 
 digits-read : (most n : ℕ) (ds : List ℕ) → IsNumeral 10 ds → digits_value 10 ds ≡ n → n ≤ most → number_up_to most ds ≡ Some n
 digits-read most n [] h e l = absurd (omega (arith, h.0))
@@ -167,7 +124,7 @@ module _ (names : List (List ℕ)) (distinct : are_distinct names ≡ true) (pro
       let there : slice_get names x ≡ Some name = slice_get-get_or names x [] below in
       let is : name ≡ name_of names x = sym (unwrap_or-slice_get names x []) in
       let good : is_cert_name name ≡ true = each-name names x name proper there in
-      let found : find_name name names ≡ Some x = find-own names x name distinct below there in
+      let found : find_name name names ≡ Some x = find-own names x name distinct there in
       by_case l.positive _
       (λ yes_. subst (λ w. Reads names l w) (is ∙ sym (ap (λ b. cond b (name_of names x) (45 ∷ name_of names x)) yes_))
       (record {

@@ -1,6 +1,6 @@
 -- Valid lines hold of all values that satisfy the formulas.
 use Rattle.std.proofs.Common.{◌≡◌, ℕ, zero, suc, ◌<◌, List, [], ◌∷◌, ◌++◌, length, Bool, true, false, not, ◌&&◌, ◌||◌, cond, Some, None, refl, sym, ap, ◌∙◌, ⊎_elim, inl, inr, subst, arith, slice_get, append_assoc, append-nil}
-use Rattle.std.proofs.lemmas.Bool.{cases_eq, and_parts, or_parts, cases_Bool}
+use Rattle.std.proofs.lemmas.Bool.{cases_eq, and_parts, or_parts, cases_Bool, both_ways}
 use Rattle.std.proofs.lemmas.Bool.Decides.{eqb_tells}
 use Rattle.ccsl_formula.specs.declared.truth3.Truth3.{Truth3}
 use Rattle.ccsl_formula.specs.declared.truth3.Truth3.TheVariants.{Yes, No, Open}
@@ -18,9 +18,9 @@ use Rattle.ccsl_refute.specs.Validity.{clause, fails_at, unit_at, fails_line, un
 use Rattle.ccsl_base.specs.Empty.{is_empty}
 use Rattle.ccsl_refute.specs.Meaning.{AllTrue, Solves}
 use Rattle.ccsl_refute.specs.Clauses.{holds, ClausesHold}
-use Rattle.ccsl_refute.proofs.Cases.{not_both}
 use Rattle.ccsl_refute.proofs.Lists.{snoc-get}
 use Rattle.ccsl_formula.proofs.Folds.{not-is}
+use Rattle.ccsl_formula.proofs.Same.{same-values}
 
 other-sign : (a b : Bool) → same a b ≡ false → a ≡ not b
 other-sign true true e = e
@@ -28,18 +28,12 @@ other-sign true false e = refl
 other-sign false true e = refl
 other-sign false false e = sym e
 
-pub same-sign : (a b : Bool) → same a b ≡ true → a ≡ b
-same-sign true true e = refl
-same-sign true false e = sym e
-same-sign false true e = e
-same-sign false false e = refl
-
 -- values under which a clause does not hold have each literal false
 pub agrees-falsified : (v : Assignment) (ls : List Lit) → holds v ls ≡ false → Agrees v (falsified ls)
 agrees-falsified v [] h = record { fits = λ x. inl refl }
 agrees-falsified v (l ∷ ls) h =
-    let rest = agrees-falsified v ls ((or_parts (same (v l.clock) l.positive) (holds v ls) h).1) in
-    let here = other-sign (v l.clock) l.positive ((or_parts (same (v l.clock) l.positive) (holds v ls) h).0) in
+    let rest = agrees-falsified v ls (or_parts (same (v l.clock) l.positive) (holds v ls) h).1 in
+    let here = other-sign (v l.clock) l.positive (or_parts (same (v l.clock) l.positive) (holds v ls) h).0 in
     record {
       fits = λ x.
           ⊎_elim
@@ -79,7 +73,7 @@ all-false v p (l ∷ ls) a h =
 
 or-none : (a b : Bool) → (a || b) ≡ true → b ≡ false → a ≡ true
 or-none true b e f = refl
-or-none false b e f = not_both b e f
+or-none false b e f = absurd (both_ways b f e)
 
 pub unit-true : (v : Assignment) (p : Part) (ls : List Lit) (l : Lit) → Agrees v p → holds v ls ≡ true → unit p ls ≡ Some l → same (v l.clock) l.positive ≡ true
 unit-true v p [] l a h u = absurd (cc)
@@ -107,7 +101,7 @@ fails-false v d lines p zero h a e = absurd (cc)
 fails-false v d lines p (suc i) h a e =
     (elim (slice_get lines i) as (λ o. slice_get lines i ≡ o → fails_line d p o ≡ true → ⊥) [
       | None ↦ λ q f. absurd (cc)
-      | Some x ↦ λ q f. not_both (holds v (clause d x)) (h.at i x q) (all-false v p (clause d x) a f)
+      | Some x ↦ λ q f. absurd (both_ways (holds v (clause d x)) (all-false v p (clause d x) a f) (h.at i x q))
     ]) refl e
 
 unit_at-true : (v : Assignment) (d : ℕ) (lines : List Line) (p : Part) (j : ℕ) (l : Lit) → ClausesHold d lines v → Agrees v p → unit_at d lines p j ≡ Some l →
@@ -127,7 +121,7 @@ no-closing v d lines p (j ∷ k ∷ js) h a e =
     (elim (unit_at d lines p j) as (λ o. unit_at d lines p j ≡ o → elim o [ None ↦ false | Some l ↦ closes d lines (with_value p l.clock l.positive) (k ∷ js) ] ≡ true → ⊥) [
       | None ↦ λ q f. absurd (cc)
       | Some l ↦ λ q f. no-closing v d lines (with_value p l.clock l.positive) (k ∷ js) h
-          (agrees-with v p l.clock l.positive a (same-sign (v l.clock) l.positive (unit_at-true v d lines p j l h a q))) f
+          (agrees-with v p l.clock l.positive a (same-values (v l.clock) l.positive (unit_at-true v d lines p j l h a q))) f
     ]) refl e
 
 pub item-true : (fs : List Formula) (v : Assignment) (k : ℕ) (f : Formula) → AllTrue fs v → slice_get fs k ≡ Some f → truth f v ≡ true
@@ -139,7 +133,7 @@ pub no-refuted : (fs : List Formula) (v : Assignment) (p : Part) (k : ℕ) → A
 no-refuted fs v p k t a e =
     (elim (slice_get fs k) as (λ o. slice_get fs k ≡ o → is_refuted p o ≡ true → ⊥) [
       | None ↦ λ q f. absurd (cc)
-      | Some g ↦ λ q f. not_both (truth g v) (item-true fs v k g t q) (no_false g p v a (is-no (kleene g p) f))
+      | Some g ↦ λ q f. absurd (both_ways (truth g v) (no_false g p v a (is-no (kleene g p) f)) (item-true fs v k g t q))
     ]) refl e
 
 holds-append : (v : Assignment) (ls ks : List Lit) → holds v ls ≡ true → holds v (ls ++ ks) ≡ true

@@ -8,6 +8,7 @@ use Rattle.std.proofs.lemmas.List.Sums.{passes_at_first}
 use Rattle.std.proofs.lemmas.List.Splits.{slice_split_first, slice_split-cons_yes, slice_split-cons_no}
 use Rattle.ccsl_refute.specs.Text.{Piece, placed, is_blank, has_bytes, tokens}
 use Rattle.ccsl_base.proofs.Sets.{by_case}
+use Rattle.ccsl_base.proofs.Cases.{rest-is}
 
 -- how many elements pass from the front on
 prefix-yes : (p : ℕ → Bool) (x : ℕ) (xs : List ℕ) → p x ≡ true → prefix_len p (x ∷ xs) ≡ suc (prefix_len p xs)
@@ -117,9 +118,5 @@ tokens-next at n m xs w rest e f g some r =
 pub tokens-end : (at n m : ℕ) (xs w : List ℕ) → n ≡ prefix_len is_blank xs → w ≡ drop n xs → m ≡ prefix_len (λ b. not (is_blank b)) w → m ≡ 0 → tokens at xs ≡ []
 tokens-end at n m xs w e f g none = tokens-none at n xs e (ap (prefix_len (λ b. not (is_blank b))) (sym f) ∙ sym g ∙ none)
 
--- what is left of a slice from a place on
-pub rest-all : (n : ℕ) (xs : List ℕ) → take (length xs - n) (drop n xs) ≡ drop n xs
-rest-all n xs = take_all (length xs - n) (drop n xs) (omega (arith, length-drop n xs))
-
 pub length-rest : (n : ℕ) (xs : List ℕ) → length (take (length xs - n) (drop n xs)) ≡ length xs - n
-length-rest n xs = ap length (rest-all n xs) ∙ length-drop n xs
+length-rest n xs = ap length (rest-is n xs) ∙ length-drop n xs

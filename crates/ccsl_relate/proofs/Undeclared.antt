@@ -39,7 +39,3 @@ range-undeclared K c s r m x l = by-place (nat_lt x K.declared) refl
 pub some-of : {A : Type 0} (o : Option A) → is_some o ≡ true → (x : A) × (o ≡ Some x)
 some-of None e = absurd (cc)
 some-of (Some x) e = (x, refl)
-
-pub none-of : {A : Type 0} (o : Option A) → is_some o ≡ false → o ≡ None
-none-of None e = refl
-none-of (Some x) e = absurd (cc)

@@ -4,7 +4,7 @@ use Rattle.std.specs.List.{list_all}
 use Rattle.std.proofs.lemmas.Bool.{and_parts, or_right, eqb-true}
 use Rattle.ccsl_base.specs.declared.limits.TheConstants.{MAX_CLOCKS}
 use Rattle.ccsl_base.specs.Clocks.{ticks_in, is_ascending, are_below}
-use Rattle.ccsl_base.proofs.Sets.{member-below}
+use Rattle.ccsl_base.proofs.Sets.{member-below, first-ticks}
 use Rattle.ccsl_kernel.specs.Lives.{Step}
 use Rattle.ccsl_relate.specs.declared.watched.Watched.{Watched}
 use Rattle.ccsl_relate.specs.declared.watched.Watched.TheVariants.{Nothing}
@@ -38,9 +38,6 @@ walk-none ticks s start touched kept a b = record {
   below = b;
 }
 
-first-member : (m : ℕ) (rest : List ℕ) → ticks_in m (m ∷ rest) ≡ true
-first-member m rest = ap (λ b. b || ticks_in m rest) (eq-eqb m m refl)
-
 module _ (ticks : List ℕ) (s : Step) (start : ℕ) (touched : List ℕ) (old now : List Watched) (t : Touches ticks s touched start old) where
   -- an item at which the walk does not stop is quiet
   quiet-between : (next : ℕ) (stop : ℕ) → start ≤ next → stop ≤ start + MAX_CLOCKS → ((p : ℕ) → next ≤ start + p → start + p < stop → ticks_in p touched ≡ false)
@@ -56,7 +53,7 @@ module _ (ticks : List ℕ) (s : Step) (start : ℕ) (touched : List ℕ) (old n
     parts = and_parts (list_all (nat_lt m) rest) (is_ascending rest) w.sorted
 
     member : ticks_in m touched ≡ true
-    member = w.within m (first-member m rest)
+    member = w.within m (first-ticks m rest)
 
     small : m < MAX_CLOCKS
     small = member-below MAX_CLOCKS touched m w.below member
@@ -65,7 +62,7 @@ module _ (ticks : List ℕ) (s : Step) (start : ℕ) (touched : List ℕ) (old n
     walk-inside = t.inside m small member
 
     from : w.next ≤ start + m
-    from = w.behind m (first-member m rest)
+    from = w.behind m (first-ticks m rest)
 
     -- what is left behind the next place
     later : (p : ℕ) → ticks_in p (m ∷ rest) ≡ true → (p ≡ m) ⊎ (ticks_in p rest ≡ true)

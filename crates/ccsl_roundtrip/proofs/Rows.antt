@@ -12,6 +12,7 @@ use Rattle.ccsl_kernel.specs.Runs.{IsRun, holds_at, declared_part, completed}
 use Rattle.ccsl_kernel.specs.Verdict.{Run, verdict, completed_rows, is_violated, is_recorded, is_as_recorded}
 use Rattle.ccsl_vcd_write.specs.Text.{written_part}
 use Rattle.ccsl_vcd_write.specs.ReadsBack.{rows_from, rows_of_steps}
+use Rattle.ccsl_formula.proofs.Same.{same-self}
 
 -- the members below a bound, of those below a higher one
 lower-more : (m n x : ℕ) (xs : List ℕ) → m ≤ n → filter (λ z. nat_lt z m) (filter (λ z. nat_lt z n) xs) ≡ filter (λ z. nat_lt z m) xs →
@@ -57,10 +58,6 @@ step-part : (f : Step → Step) → f [] ≡ [] → (T : List Step) (n : ℕ) �
 step-part f e [] n = sym e
 step-part f e (s ∷ T) zero = refl
 step-part f e (s ∷ T) (suc n) = step-part f e T n
-
-same-self : (b : Bool) → same b b ≡ true
-same-self true = refl
-same-self false = refl
 
 -- a clock of a range is below its end
 range-below : (start n x : ℕ) → ticks_in x (range_with_len start n) ≡ true → x < start + n

@@ -5,7 +5,3 @@ pub get-front : {X : Type 0} (xs ys : List X) (i : ℕ) → i < length xs → sl
 get-front [] ys i h = absurd (omega arith)
 get-front (x ∷ xs) ys zero h = refl
 get-front (x ∷ xs) ys (suc i) h = get-front xs ys i (omega arith)
-
-pub get-last : {X : Type 0} (xs : List X) (y : X) → slice_get (xs ++ y ∷ []) (length xs) ≡ Some y
-get-last [] y = refl
-get-last (x ∷ xs) y = get-last xs y

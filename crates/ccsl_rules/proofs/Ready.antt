@@ -10,10 +10,11 @@ use Rattle.ccsl_rules.specs.Resolved.{Tables}
 use Rattle.ccsl_rules.specs.Unfolded.{Unfolding, Unfoldings, unfolding_at, unfold_block, unfoldings}
 use Rattle.ccsl_rules.specs.Blocks.{Heights, params_faults, block_faults, blocks_faults}
 use Rattle.ccsl_rules.specs.Expansion.{kind_in}
-use Rattle.ccsl_rules.proofs.Lookups.{get-front, get-last}
+use Rattle.ccsl_rules.proofs.Lookups.{get-front}
 use Rattle.ccsl_rules.proofs.Guarded.{left-empty, right-empty}
 use Rattle.ccsl_rules.proofs.Known.{AreAt, at-left, at-right}
 use Rattle.ccsl_rules.proofs.Rising.{nowhere, Keeps, Ready, relation-keeps}
+use Rattle.ccsl_base.proofs.Cases.{get-last}
 
 by-order : (a b : ℕ) → (a < b) ⊎ ((a ≡ b) ⊎ (b < a))
 by-order zero zero = inr (inl refl)

@@ -21,6 +21,7 @@ use Rattle.ccsl_rules.proofs.Counting.{weight-append}
 use Rattle.ccsl_rules.proofs.Guarded.{left-empty, right-empty}
 use Rattle.ccsl_rules.proofs.Known.{Fits, Standing, AreAt, at-left, at-right, AtomsFit, known, used_as-fits, use-ok}
 use Rattle.std.proofs.lemmas.Slice.Eq.{bytes_eq-Decides}
+use Rattle.ccsl_base.proofs.Tables.{own-name}
 
 -- A SPACE AND A SETTING IN STEP: the same names in the same order, and P of each pair
 abbrev pub Aligned : (Known Kind → Atom → Type 0) → List (Known Kind) → Setting → Type 0
@@ -48,10 +49,6 @@ aligned-append P (k ∷ ks) ls (p ∷ σ) τ a b = (a.0, a.1, aligned-append P k
 aligned-append P [] ls (p ∷ σ) τ a b = absurd a
 aligned-append P (k ∷ ks) ls [] τ a b = absurd a
 
--- PLACES: a name that stands behind a front has its first place no later
-bytes-same : (a : List ℕ) → bytes_eq a a ≡ true
-bytes-same a = (bytes_eq-Decides a a).1 refl
-
 place-zero : (b : Bool) (n : ℕ) → b ≡ true → cond (not b) n 0 ≤ 0
 place-zero true n e = omega arith
 place-zero false n e = absurd (cc)
@@ -61,7 +58,7 @@ place-more true n m h = omega arith
 place-more false n m h = omega arith
 
 pub place-front : (front rest : List (List ℕ)) (name : List ℕ) → position_or_len (λ x. bytes_eq x name) (front ++ name ∷ rest) ≤ length front
-place-front [] rest name = place-zero (bytes_eq name name) _ (bytes-same name)
+place-front [] rest name = place-zero (bytes_eq name name) _ (own-name name)
 place-front (x ∷ front) rest name = place-more (bytes_eq x name) _ (length front) (place-front front rest name)
 
 -- the names of an expansion's clocks, in order

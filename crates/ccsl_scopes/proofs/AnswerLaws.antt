@@ -13,9 +13,7 @@ use Rattle.ccsl_scopes.specs.declared.reader.HeaderReader.{HeaderReader}
 use Rattle.ccsl_scopes.specs.Headings.{Declared, Heading, Said, goes, over, refused, header_word, scope_name, codes_of, declares, word_fits, put_declared, starts, ends, inside_says, is_end, heading_says}
 use Rattle.ccsl_scopes.specs.Standing.{scope_text, scope_begins, Holds, StandsIn, StandsBetween, Counts, Stands, Answers, Opens, Fits, Declares}
 use Rattle.ccsl_scopes.proofs.VariableLaws.{same-length}
-
-below : (a b : ℕ) → nat_le a b ≡ false → b < a
-below a b e = grind (arith, common_steps)
+use Rattle.ccsl_base.proofs.Cases.{not-within}
 
 is-below : (a b : ℕ) → b < a → nat_le a b ≡ false
 is-below a b l = grind (arith, common_steps)
@@ -54,7 +52,7 @@ var-opens limits h t old e word s =
     )
   where
     few : length h.declared < limits.vars
-    few = below limits.vars (length h.declared) e
+    few = not-within limits.vars (length h.declared) e
 
 -- whether there is room, by the limits and the variables that the reader has
 pub is-full : (limits : Limits) (h : Heading) (old : HeaderReader) → StandsBetween limits h old →

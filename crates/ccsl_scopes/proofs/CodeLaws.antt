@@ -7,27 +7,14 @@ use Rattle.std.proofs.lemmas.List.Folds.{position_or_len_push}
 use Rattle.std.proofs.lemmas.Grind.{common_steps, fold-append}
 use Rattle.ccsl_base.specs.Names.{is_among, find_name}
 use Rattle.ccsl_base.specs.Added.{IsAdded}
-use Rattle.ccsl_base.proofs.Tables.{bytes_eq-refl}
+use Rattle.ccsl_base.proofs.Tables.{bytes_eq-refl, any-within}
 use Rattle.ccsl_scopes.specs.Headings.{Declared, with_code, codes_of}
-
-less-suc : (k n : ℕ) → nat_lt (1 + k) (suc n) ≡ nat_lt k n
-less-suc k n = grind (arith, common_steps)
-
-any-within : {X : Type 0} (p : X → Bool) (xs : List X) → list_any p xs ≡ nat_lt (position_or_len p xs) (length xs)
-any-within p [] = refl
-any-within p (x ∷ xs) =
-    elim (p x) as (λ w. (w || list_any p xs) ≡ nat_lt (cond (not w) (1 + position_or_len p xs) 0) (suc (length xs))) [
-      | true ↦ sym (lt-ltb 0 (suc (length xs)) (omega arith))
-      | false ↦ any-within p xs ∙ sym (less-suc (position_or_len p xs) (length xs))
-    ]
+use Rattle.ccsl_base.proofs.Cases.{not-less}
 
 place-within : {X : Type 0} (p : X → Bool) (xs : List X) → position_or_len p xs ≤ length xs
 place-within p [] = omega arith
 place-within p (x ∷ xs) =
     elim (p x) as (λ w. cond (not w) (1 + position_or_len p xs) 0 ≤ suc (length xs)) [ true ↦ omega arith | false ↦ omega (arith, place-within p xs) ]
-
-past-le : (k n : ℕ) → nat_lt k n ≡ false → n ≤ k
-past-le k n e = grind (arith, common_steps)
 
 within-lt : (k n : ℕ) → nat_lt k n ≡ true → k < n
 within-lt k n e = grind (arith, common_steps)
@@ -54,17 +41,6 @@ none-among name names e = any-within (bytes_eq name) names ∙ by (nat_lt (posit
     by true f = absurd (cc)
     by false f = refl
 
--- and its place is one of theirs
-pub found-within : (name : List ℕ) (names : List (List ℕ)) (i : ℕ) → find_name name names ≡ Some i → i < length names
-found-within name names i e = by (nat_lt (position_or_len (bytes_eq name) names) (length names)) refl e
-  where
-    by : (b : Bool) → nat_lt (position_or_len (bytes_eq name) names) (length names) ≡ b →
-        cond b (Some (position_or_len (bytes_eq name) names)) None ≡ Some i → i < length names
-    by true w f =
-        let same : position_or_len (bytes_eq name) names ≡ i = cc in
-        subst (λ k. k < length names) same (within-lt (position_or_len (bytes_eq name) names) (length names) w)
-    by false w f = absurd (cc)
-
 -- a code that is not there yet gets the next number
 pub find-last : (x : List ℕ) (t : List (List ℕ)) → is_among x t ≡ false → find_name x (t ++ x ∷ []) ≡ Some (length t)
 find-last x t e = ap (λ k. cond (nat_lt k (length (t ++ x ∷ []))) (Some k) None) last
@@ -79,7 +55,7 @@ find-last x t e = ap (λ k. cond (nat_lt k (length (t ++ x ∷ []))) (Some k) No
     whole : position_or_len (bytes_eq x) t ≡ length t
     whole =
         let inside : position_or_len (bytes_eq x) t ≤ length t = place-within (bytes_eq x) t in
-        let outside : length t ≤ position_or_len (bytes_eq x) t = past-le (position_or_len (bytes_eq x) t) (length t) past in
+        let outside : length t ≤ position_or_len (bytes_eq x) t = not-less (position_or_len (bytes_eq x) t) (length t) past in
         omega arith
 
     last : position_or_len (bytes_eq x) (t ++ x ∷ []) ≡ length t
@@ -127,11 +103,6 @@ fold-length (d ∷ ds) t = omega (arith, fold-length ds (with_code t d.code), wi
 
 pub few-codes : (ds : List Declared) → length (codes_of ds) ≤ length ds
 few-codes ds = omega (arith, fold-length ds [])
-
--- what a table holds behind a code that was not found
-pub added-code : (old new : List (List ℕ)) (name : List ℕ) (o : Option ℕ) → find_name name old ≡ None → IsAdded old new name o → new ≡ with_code old name
-added-code old new name None e h = absurd (let f = none-among name old e in let g : true ≡ false = sym h.0 ∙ f in cc)
-added-code old new name (Some n) e h = h.2 ∙ sym (ap (λ b. cond b old (old ++ name ∷ [])) h.0)
 
 pub added-last : (old new : List (List ℕ)) (name : List ℕ) (o : Option ℕ) → find_name name old ≡ None → IsAdded old new name o →
     find_name name new ≡ Some (length old)

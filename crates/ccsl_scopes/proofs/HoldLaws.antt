@@ -23,8 +23,9 @@ use Rattle.ccsl_scopes.specs.References.{reference_of}
 use Rattle.ccsl_scopes.specs.Headings.{Declared, Heading, kind_named, size_of, joined, put_spaced, spaced, with_code, codes_of, declares, word_fits}
 use Rattle.ccsl_scopes.specs.Standing.{scope_text, text_in, IsVariable, AreVariables, FromKind, StandsIn, Counts, Extends, Fits, Declares}
 use Rattle.ccsl_scopes.proofs.BracketLaws.{bare-within}
-use Rattle.ccsl_scopes.proofs.CodeLaws.{few-codes, codes-more, found-within}
+use Rattle.ccsl_scopes.proofs.CodeLaws.{few-codes, codes-more}
 use Rattle.ccsl_scopes.proofs.VariableLaws.{all-kept, all-more}
+use Rattle.ccsl_base.proofs.Tables.{found-within}
 
 -- A code is taken.
 
@@ -197,14 +198,6 @@ scale-kept limits h w head words t old mid new is text variables codes kept coun
 
 -- A declaration ends.
 
-pub few-declare : (limits : Limits) (h : Heading) (at : ℕ) (words : List Token) (old : HeaderReader) → Counts words old → old.words < 4 →
-    Declares limits h at (declares h.scopes words) (Err (faults.BadHeader at)) old
-few-declare limits h at [] old n l = inl refl
-few-declare limits h at (a ∷ []) old n l = inl refl
-few-declare limits h at (a ∷ b ∷ []) old n l = inl refl
-few-declare limits h at (a ∷ b ∷ c ∷ []) old n l = inl refl
-few-declare limits h at (a ∷ b ∷ c ∷ d ∷ more) old n l = absurd (omega (arith, n, l))
-
 -- a declaration of four words has a declared code
 pub coded : (limits : Limits) (h : Heading) (head : Token) (words : List Token) (old : HeaderReader) → StandsIn limits h Var head words old →
     Counts words old → 4 ≤ old.words →
@@ -214,10 +207,6 @@ coded limits h head (a ∷ []) old s n l = absurd (omega (arith, n, l))
 coded limits h head (a ∷ b ∷ []) old s n l = absurd (omega (arith, n, l))
 coded limits h head (a ∷ b ∷ c ∷ []) old s n l = absurd (omega (arith, n, l))
 coded limits h head (a ∷ b ∷ c ∷ f ∷ more) old s n l = found-within c.text old.header.codes old.code s.parts.1.1.1.0
-
-pub memory-declare : (limits : Limits) (h : Heading) (at : ℕ) (o : Option Declared) (r : HeaderReader) → Declares limits h at o (Err faults.Memory) r
-memory-declare limits h at None r = inr refl
-memory-declare limits h at (Some d) r = refl
 
 abbrev pub declared_as : HeaderReader → Vec ℕ Global → ℕ → Select → Variable
 declared_as old path bare range = record { kind = old.kind; size = old.size; code = old.code; path = path; bare = bare; range = range }

@@ -1,8 +1,6 @@
 //! The words of a header's commands.
 
-ghost use Rattle.std.specs.Prelude.{◌≡◌, ◌&&◌, nat_le, bytes_eq};
-ghost use Rattle.std.specs.List.{list_all};
-ghost use Rattle.ccsl_vcd.specs.Header.{is_code};
+ghost use Rattle.std.specs.Prelude.{◌≡◌, bytes_eq};
 ghost use Rattle.ccsl_scopes.specs.Headings.{header_word};
 
 /// What a token of a header is in a command's place.
@@ -38,25 +36,6 @@ pub(crate) fn header_word(text: &[u8]) -> HeaderWord
     } else {
         HeaderWord::Plain
     }
-}
-
-fn is_visible(b: u8) -> bool
-    ensures { result ≡ (nat_le 33 b && nat_le b 126) }
-{
-    b >= 33 && b <= 126
-}
-
-fn all_visible(text: &[u8]) -> bool
-    ensures { result ≡ list_all (λ b. nat_le 33 b && nat_le b 126) text.now }
-{
-    text.iter().all(|b| is_visible(*b))
-}
-
-/// A code has visible characters, and at most 32 of them.
-pub(crate) fn is_code(text: &[u8]) -> bool
-    ensures { result ≡ is_code text.now }
-{
-    text.len() <= 32 && all_visible(text)
 }
 
 pub(crate) fn is_text(text: &[u8], word: &[u8]) -> bool

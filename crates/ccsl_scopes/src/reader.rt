@@ -8,12 +8,12 @@ ghost use Rattle.ccsl_vcd.specs.Header.{is_code};
 ghost use Rattle.ccsl_scopes.specs.Headings.{Heading, kind_named, size_of, with_code, header_word, put_spaced, word_fits, declares, starts, ends, heading_says, outer, begin};
 ghost use Rattle.ccsl_scopes.specs.Standing.{Holds, StandsIn, StandsBetween, Counts, Stands, Answers, Extends, Fits, Declares, Opens, IsOver, IsHeaderOf, text_in};
 
-use crate::command::{HeaderWord, header_word, is_code, is_text};
+use crate::command::{HeaderWord, header_word, is_text};
 use crate::header::Header;
 use crate::reference::split;
 use crate::variable::{Kind, Variable};
 use ccsl_base::{HashKeys, Memory, decimal};
-use ccsl_vcd::{Limits, VcdFault};
+use ccsl_vcd::{Limits, VcdFault, is_code};
 use std::alloc::Global;
 
 /// Takes the tokens of a header.

@@ -76,9 +76,6 @@ position-take p (suc n) (x ∷ xs) =
 pub found-among : (name : List ℕ) (names : List (List ℕ)) → is_some (find_name name names) ≡ is_among name names
 found-among name names = some-place (bytes_eq name) names
 
-pub found-within : (name : List ℕ) (names : List (List ℕ)) (i : ℕ) → find_name name names ≡ Some i → i < length names
-found-within name names i e = slice_get_within names i name (find_name-there name names i e)
-
 -- two names with one number are one
 pub found-one : (name other : List ℕ) (names : List (List ℕ)) (i : ℕ) → find_name name names ≡ Some i → find_name other names ≡ Some i → name ≡ other
 found-one name other names i e f = same_Some name other (sym (find_name-there name names i e) ∙ find_name-there other names i f)

@@ -6,17 +6,17 @@ use Rattle.std.specs.Str.{bytes_eq}
 use Rattle.std.proofs.lemmas.Bool.{and_parts, and_from, ne_eqb, false_from_ne_true, true≢false}
 use Rattle.ccsl_base.specs.Clocks.{ticks_in, with_clock, is_ascending, are_below}
 use Rattle.ccsl_base.specs.Names.{is_among, find_name, are_distinct}
-use Rattle.ccsl_base.proofs.Tables.{bytes_eq-true, bytes_eq-refl}
+use Rattle.ccsl_base.proofs.Tables.{bytes_eq-true, bytes_eq-refl, found-within}
 use Rattle.ccsl_kernel.specs.Syntax.{System}
 use Rattle.ccsl_kernel.specs.Lives.{Step}
 use Rattle.ccsl_kernel.specs.Runs.{is_declared}
 use Rattle.ccsl_kernel.proofs.Sets.{ticks_in-with_clock}
 use Rattle.ccsl_session.specs.Asked.{Asked, Fire, Unknown, declared_names, are_clocks, with_found, set_of, asked_with}
 use Rattle.ccsl_session.specs.Reading.{read_clocks}
-use Rattle.ccsl_session.proofs.Found.{if_below, position-take, found-among, found-within, found-one}
+use Rattle.ccsl_session.proofs.Found.{if_below, position-take, found-among, found-one}
 use Rattle.ccsl_session.proofs.Sets.{with_clock-swap, with_clock-some}
 use Rattle.ccsl_base.proofs.Sets.{by_case}
-use Rattle.ccsl_state.proofs.Visiting.{all_with, with_ascends}
+use Rattle.ccsl_base.proofs.Ascending.{all-with, with_clock-ascends}
 
 -- the declared clock of a name, by its number among all clocks
 pub declared-found : (K : System) (name : List ℕ) (o : Option ℕ) → o ≡ find_name name K.names → find_name name (declared_names K) ≡ if_below K.declared o
@@ -185,8 +185,8 @@ module _ (K : System) where
   found-declared None s low h = h
   found-declared (Some x) s low h =
       let w = and_parts (is_ascending s) (are_below K.declared s) h in
-      and_from (is_ascending (with_clock x s)) (are_below K.declared (with_clock x s)) (with_ascends x s w.0)
-      (all_with (λ y. nat_lt y K.declared) x s (lt-ltb x K.declared (low x refl)) w.1)
+      and_from (is_ascending (with_clock x s)) (are_below K.declared (with_clock x s)) (with_clock-ascends x s w.0)
+      (all-with (λ y. nat_lt y K.declared) x s (lt-ltb x K.declared (low x refl)) w.1)
 
   pub set_of-declared : (names : List (List ℕ)) → is_declared K (set_of K names) ≡ true
   set_of-declared [] = refl

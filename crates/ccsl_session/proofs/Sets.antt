@@ -3,7 +3,7 @@ use Rattle.std.proofs.Common.{◌≡◌, ◌≢◌, ◌⊎◌, inl, inr, ℕ, �
 use Rattle.std.specs.List.{list_all}
 use Rattle.std.proofs.lemmas.Bool.{cases_order, ne_eqb, and_parts, and_from, ltb-true}
 use Rattle.ccsl_base.specs.Clocks.{with_clock, is_ascending}
-use Rattle.ccsl_state.proofs.Visiting.{all_with, with_ascends, all_less}
+use Rattle.ccsl_base.proofs.Ascending.{all-above, all-with, with_clock-ascends}
 
 with-before : (x y : ℕ) (s : List ℕ) → x < y → with_clock x (y ∷ s) ≡ x ∷ (y ∷ s)
 with-before x y s l = ap (λ t. if t then x ∷ (y ∷ s) else if nat_eq x y then y ∷ s else y ∷ with_clock x s) (lt-ltb x y l)

@@ -11,8 +11,7 @@ use Rattle.ccsl_policy.specs.Priority.{word_of, comes_before, preferred}
 use Rattle.ccsl_policy.specs.Better.{IsBetter}
 use Rattle.ccsl_simulate.specs.Chosen.{decides, is_better}
 use Rattle.ccsl_simulate.proofs.Numbers.{each_below, all_below, any_below, some_below}
-use Rattle.ccsl_refute.proofs.Sound.{same-sign}
-use Rattle.ccsl_policy.proofs.Ranking.{same-self}
+use Rattle.ccsl_formula.proofs.Same.{same-if, same-values}
 
 differ-is : (a b : Bool) → not (same a b) ≡ true → a ≡ not b
 differ-is true true h = absurd (cc)
@@ -49,8 +48,8 @@ module _ (m : ℕ) (policy : Policy) (words : List ℕ) (s t : Step) where
         clock = c;
         declared = q.1;
         differ = differ-is (ticks_in c s) (ticks_in c t) first.0;
-        preferred = same-sign (ticks_in c s) (preferred policy (word_of words c)) second.0;
-        before = λ d l b. same-sign (ticks_in d s) (ticks_in d t) (implied (comes_before words d c) (same (ticks_in d s) (ticks_in d t)) (each_below (agree c) m second.1 d l) b);
+        preferred = same-values (ticks_in c s) (preferred policy (word_of words c)) second.0;
+        before = λ d l b. same-values (ticks_in d s) (ticks_in d t) (implied (comes_before words d c) (same (ticks_in d s) (ticks_in d t)) (each_below (agree c) m second.1 d l) b);
       }
 
   pub is-better : IsBetter m policy words (in_set s) (in_set t) → is_better m policy words s t ≡ true
@@ -60,8 +59,8 @@ module _ (m : ℕ) (policy : Policy) (words : List ℕ) (s t : Step) where
       (and_from (not (same (ticks_in c s) (ticks_in c t))) (same (ticks_in c s) (preferred policy (word_of words c)) && list_all (agree c) (steps 0 m))
       (is-differ (ticks_in c s) (ticks_in c t) h.differ)
       (and_from (same (ticks_in c s) (preferred policy (word_of words c))) (list_all (agree c) (steps 0 m))
-      (same-self (ticks_in c s) (preferred policy (word_of words c)) h.preferred)
-      (all_below (agree c) m (λ d l. implies (comes_before words d c) (same (ticks_in d s) (ticks_in d t)) (λ b. same-self (ticks_in d s) (ticks_in d t) (h.before d l b))))))
+      (same-if (ticks_in c s) (preferred policy (word_of words c)) h.preferred)
+      (all_below (agree c) m (λ d l. implies (comes_before words d c) (same (ticks_in d s) (ticks_in d t)) (λ b. same-if (ticks_in d s) (ticks_in d t) (h.before d l b))))))
 
 -- sets that have the same declared members are better than the same sets
 pub better-same : (m : ℕ) (policy : Policy) (words : List ℕ) (s t s' t' : Assignment) → ((c : ℕ) → c < m → s c ≡ s' c) → ((c : ℕ) → c < m → t c ≡ t' c)

@@ -25,10 +25,7 @@ use Rattle.ccsl_solve.specs.Finds.{IsBestModel}
 use Rattle.ccsl_solve.proofs.Tests.{test_other, known-not_open}
 use Rattle.ccsl_solve.proofs.Parts.{under-self, under-trans, under-known, under-with}
 use Rattle.ccsl_formula.proofs.Kept.{test_same}
-
-same-self : (b : Bool) → same b b ≡ true
-same-self true = refl
-same-self false = refl
+use Rattle.ccsl_formula.proofs.Same.{same-self}
 
 same-not : (b : Bool) → same (not b) b ≡ false
 same-not true = refl

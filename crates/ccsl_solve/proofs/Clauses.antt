@@ -1,7 +1,7 @@
 -- Lines as clauses that deny some values.
 use Rattle.std.proofs.Common.{◌≡◌, ℕ, zero, suc, ◌<◌, ◌≤◌, ◌-◌, List, [], ◌∷◌, ◌++◌, length, Bool, true, false, not, ◌&&◌, ◌||◌, nat_eq, nat_lt}
 use Rattle.std.proofs.Common.{Some, None, get_or, slice_get, map, option_map, refl, sym, ap, ◌∙◌, subst, arith}
-use Rattle.std.proofs.lemmas.Bool.{and_parts, lt-ltb, ne_eqb, eqb-false}
+use Rattle.std.proofs.lemmas.Bool.{and_parts, lt-ltb, ne_eqb, eqb-false, or_parts}
 use Rattle.std.proofs.lemmas.Option.{get_or_from_slice_get, slice_get-get_or, slice_get-map}
 use Rattle.ccsl_formula.specs.declared.scope.Scope.{Scope}
 use Rattle.ccsl_formula.specs.declared.truth3.Truth3.TheVariants.{No}
@@ -19,14 +19,6 @@ use Rattle.ccsl_solve.specs.Conflict.{IsClause, IsConflict, IsDenial, Extends, A
 use Rattle.ccsl_solve.proofs.Units.{denial-fails, fails-under}
 use Rattle.ccsl_solve.proofs.Lines.{line-more, line-last, adds-line}
 
-pub or-left : (a b : Bool) → (a || b) ≡ false → a ≡ false
-or-left false b e = refl
-or-left true b e = e
-
-pub or-right : (a b : Bool) → (a || b) ≡ false → b ≡ false
-or-right false b e = e
-or-right true b e = absurd (cc)
-
 names-snoc : (x : ℕ) (ls : List Lit) (l : Lit) → (x ≡ l.clock → ⊥) → names x (ls ++ l ∷ []) ≡ names x ls
 names-snoc x [] l n = ap (λ t. t || false) (ne_eqb x l.clock n)
 names-snoc x (m ∷ ls) l n = ap (λ t. nat_eq x m.clock || t) (names-snoc x ls l n)
@@ -35,11 +27,11 @@ pub proper-snoc : (n : ℕ) (ls : List Lit) (l : Lit) → are_proper n ls ≡ tr
 proper-snoc n [] l a u b = ap (λ t. t && true) (lt-ltb l.clock n b)
 proper-snoc n (m ∷ ls) l a u b =
     let rest = (and_parts (nat_lt m.clock n) _ a).1 in
-    let other : m.clock ≡ l.clock → ⊥ = λ e. eqb-false l.clock m.clock (or-left _ _ u) (sym e) in
+    let other : m.clock ≡ l.clock → ⊥ = λ e. eqb-false l.clock m.clock (or_parts _ _ u).0 (sym e) in
     ap (λ t. t && (not (names m.clock (ls ++ l ∷ [])) && are_proper n (ls ++ l ∷ []))) (and_parts _ _ a).0
     ∙ ap (λ t. not t && are_proper n (ls ++ l ∷ [])) (names-snoc m.clock ls l other)
     ∙ ap (λ t. t && are_proper n (ls ++ l ∷ [])) (and_parts (not (names m.clock ls)) _ rest).0
-    ∙ proper-snoc n ls l (and_parts (not (names m.clock ls)) _ rest).1 (or-right (nat_eq l.clock m.clock) _ u) b
+    ∙ proper-snoc n ls l (and_parts (not (names m.clock ls)) _ rest).1 (or_parts (nat_eq l.clock m.clock) _ u).1 b
 
 names-positives : (x n : ℕ) → n ≤ x → names x (positives n) ≡ false
 names-positives x zero l = refl

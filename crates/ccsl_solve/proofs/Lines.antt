@@ -11,15 +11,12 @@ use Rattle.ccsl_refute.specs.Validity.{line_at, fails_line, unit_line, fails_at,
 use Rattle.ccsl_guide.specs.declared.problem.Problem.{Problem}
 use Rattle.ccsl_solve.specs.Posed.{AreValid, asked}
 use Rattle.ccsl_solve.specs.Conflict.{Extends, AddsLines}
+use Rattle.ccsl_base.proofs.Cases.{get-last}
 
 get-more : {A : Type 0} (xs ys : List A) (i : ℕ) (x : A) → slice_get xs i ≡ Some x → slice_get (xs ++ ys) i ≡ Some x
 get-more [] ys i x e = absurd (cc)
 get-more (z ∷ xs) ys zero x e = e
 get-more (z ∷ xs) ys (suc i) x e = get-more xs ys i x e
-
-get-last : {A : Type 0} (xs : List A) (x : A) → slice_get (xs ++ x ∷ []) (length xs) ≡ Some x
-get-last [] x = refl
-get-last (z ∷ xs) x = get-last xs x
 
 pub line-more : (lines more : List Line) (j : ℕ) (e : Line) → line_at lines j ≡ Some e → line_at (lines ++ more) j ≡ Some e
 line-more lines more zero e h = absurd (cc)

@@ -15,6 +15,7 @@ use Rattle.ccsl_spaces.specs.declared.declaration.Declaration.{Declaration}
 use Rattle.ccsl_spaces.specs.Knowns.{known, names, name_at}
 use Rattle.ccsl_spaces.specs.Places.{place_of, HasFirsts}
 use Rattle.ccsl_spaces.proofs.Places.{position-cons, first-added, first-kept}
+use Rattle.ccsl_base.proofs.Tables.{bytes_eq-comm}
 
 -- a declaration, where what it stands for is seen otherwise
 abbrev pub seen_by : {A B : Type 0} → (A → B) → Known A → Known B
@@ -23,14 +24,6 @@ seen_by f k = record { name = k.name; since = k.since; what = f k.what }
 -- the text of a declaration's name
 abbrev pub text : {T : Type 0} → Declaration T → List ℕ
 text d = d.name.now.name
-
-pub bytes_eq-comm : (xs ys : List ℕ) → bytes_eq xs ys ≡ bytes_eq ys xs
-bytes_eq-comm xs ys = by (bytes_eq xs ys) (bytes_eq ys xs) refl refl where
-  by : (a b : Bool) → bytes_eq xs ys ≡ a → bytes_eq ys xs ≡ b → a ≡ b
-  by true true e f = refl
-  by false false e f = refl
-  by true false e f = sym ((bytes_eq-Decides ys xs).1 (sym ((bytes_eq-Decides xs ys).0 e))) ∙ f
-  by false true e f = sym e ∙ (bytes_eq-Decides xs ys).1 (sym ((bytes_eq-Decides ys xs).0 f))
 
 -- what stands at a place, if there is one
 abbrev at : {A : Type 0} → List A → Option ℕ → Option A

@@ -82,10 +82,6 @@ first-kept index names name i has there q =
     by true e = some-stays i (find_name q names) (Some (length names)) (sym (has q) ∙ ap (λ n. place_of n index) ((bytes_eq-Decides q name).0 e) ∙ there)
     by false e = none-adds-nothing (find_name q names)
 
-pub none-of : {A : Type 0} (o : Option A) → is_some o ≡ false → o ≡ None
-none-of None e = refl
-none-of (Some a) e = cc
-
 -- a key that is not there goes last
 pub inserted : {K X S : Type 0} (eq : K → K → Bool) (text : K → List ℕ) (m : IndexMap K X S) (k : K) (v : X) {name : List ℕ} {new : List (K × X)} →
     new ≡ insert_entry eq m.entries k v → get eq m k ≡ None → text k ≡ name →

@@ -8,6 +8,7 @@ use Rattle.ccsl_words.proofs.Letters.{letter-rest, rest_at_end, rest_before_end}
 use Rattle.ccsl_kernel.specs.Ticks.{count, ever, waits, waits_weakly, waits_since, waits_below}
 use Rattle.ccsl_kernel.specs.Table.{Now, Operand, union_row, inter_row, minus_row, inf_row, sup_row, upto_row, upto_weakly_row, sampled_row, sampled_weakly_row, delay_row, await_row, filter_row, delayed_row}
 use Rattle.ccsl_state.specs.Tree.{most, bumped, One, Delaying, Awaiting, Filtering, Two, Uniting, Meeting, Lessening, Leading, Trailing, Ending, EndingWeakly, Sampling, SamplingWeakly, Lagging, one_formula, one_dead, one_next, two_formula, two_dead, two_next, shifted, set_first, any_set}
+use Rattle.ccsl_base.proofs.Cases.{more_one}
 
 -- a node after steps in which its operands ticked or did not
 abbrev pub one_after : One → (ℕ → Bool) → List ℕ → One
@@ -97,14 +98,11 @@ filtering : (w : BinaryWord) (o : ℕ) (t : ℕ → Bool) (is : List ℕ) → on
 filtering w o t [] = refl
 filtering w o t (i ∷ is) = filtering w (if t i then rest w o else o) t is
 
-next_count : (n : ℕ) → suc n ≡ n + 1
-next_count n = omega arith
-
 pub await_is : (m : ℕ) → IsOne (Awaiting m 0) (await_row m)
 await_is m = record {
   at = λ t is f x h.
       ap (λ o. record { formula = one_formula o f; dead = one_dead o x }) (awaiting m 0 t is (omega (arith, h)) ∙ ap (Awaiting m) (zero-add (count (map t is))))
-      ∙ ap (λ k. record { formula = if nat_eq k m then f else FFalse; dead = one_dead (Awaiting m (count (map t is))) x }) (sym (next_count (count (map t is))));
+      ∙ ap (λ k. record { formula = if nat_eq k m then f else FFalse; dead = one_dead (Awaiting m (count (map t is))) x }) (sym (more_one (count (map t is))));
 }
 
 pub delay_is : (m : ℕ) → IsOne (Delaying m 0) (delay_row m)

@@ -8,14 +8,8 @@ use Rattle.ccsl_kernel.specs.Actuals.{number_of, suffix_of, value_of, test_of, w
 use Rattle.ccsl_kernel.specs.declared.position.Position.{Position}
 use Rattle.ccsl_kernel.specs.declared.position.Position.TheVariants.{Inner, Tail, Guarded}
 use Rattle.ccsl_kernel.specs.Guarded.{Allowed}
-use Rattle.ccsl_kernel.proofs.GuardedCalls.{AreGuarded}
+use Rattle.ccsl_kernel.proofs.GuardedCalls.{AreGuarded, tail_guarded, inner_guarded}
 use Rattle.ccsl_state.specs.Tree.{Tree, TOne, TTwo, TThen, Delaying, Awaiting, Filtering, Lagging, over, two_opened, open_with, open_bodies, opening}
-
-pub tail_guarded : Tail ≡ Guarded → ⊥
-tail_guarded e = cc
-
-pub inner_guarded : Inner ≡ Guarded → ⊥
-inner_guarded e = cc
 
 -- Opening an expression that is in no guarded tail position opens members of earlier groups alone.
 module _ (K : System) (calls calls' : ℕ → ℕ → List Actual → Tree) (g : ℕ) (same : (group member : ℕ) (ρ : List Actual) → group < g → calls group member ρ ≡ calls' group member ρ) where

@@ -17,7 +17,7 @@ use Rattle.ccsl_kernel.specs.Fitting.{ExprFits}
 use Rattle.ccsl_kernel.proofs.AcceptedParts.{body_is, body_ready}
 use Rattle.ccsl_kernel.proofs.Arguments.{arguments_len}
 use Rattle.ccsl_state.specs.Standing.{IsCall, MayCall, Stands, is_own}
-use Rattle.ccsl_state.proofs.Opening.{tail_guarded, inner_guarded}
+use Rattle.ccsl_kernel.proofs.GuardedCalls.{tail_guarded, inner_guarded}
 
 module _ (K : System) (g : ℕ) where
   -- what stands inside of an operator can stand outside too

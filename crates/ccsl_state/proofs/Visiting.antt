@@ -1,7 +1,7 @@
 -- A STEP THAT VISITS ONLY WHAT HEARS SOMETHING: a definition that waits for its visit is untouched, and one that does not is done.
 use Rattle.std.proofs.Common.{◌≡◌, ℕ, zero, suc, ◌+◌, ◌<◌, ◌≤◌, ◌⊎◌, inl, inr, ⊎_elim, List, [], ◌∷◌, length, Bool, true, false, not, ◌&&◌, ◌||◌, Option, Some, None, slice_get, slice_set, slice_index_or, nat_eq, nat_lt, if◌then◌else◌, eq-eqb, lt-ltb, ltb-false, refl, sym, ap, ap₂, subst, ◌∙◌, arith}
 use Rattle.std.specs.List.{list_all}
-use Rattle.std.proofs.lemmas.Bool.{cases_eq, ne_eqb, and_parts, and_from, or_cases, ltb-true, cases_Bool, or_parts, not-false}
+use Rattle.std.proofs.lemmas.Bool.{cases_eq, ne_eqb, and_parts, and_from, or_cases, ltb-true, cases_Bool, or_parts, not-false, both_ways}
 use Rattle.std.proofs.lemmas.Option.{slice_get_within}
 use Rattle.ccsl_base.specs.Clocks.{ticks_in, with_clock, is_ascending, are_below}
 use Rattle.ccsl_base.specs.Changes.{put_clock}
@@ -19,6 +19,7 @@ use Rattle.ccsl_state.specs.Passing.{tree_number, IsFollowed, AreReaders, AreKep
 use Rattle.ccsl_state.proofs.WithinLaws.{tick_same, dead_same, next_same, next_within}
 use Rattle.ccsl_state.proofs.QuietLaws.{tells_nothing, stays, settled_same, bodies_closed, tree_more}
 use Rattle.ccsl_state.proofs.ReachLaws.{definition_names, definition_at}
+use Rattle.ccsl_base.proofs.Ascending.{with_clock-ascends}
 
 -- ONE TREE of a list is written
 tree_set_same : (ts : List Tree) (i : ℕ) (t : Tree) → i < length ts → tree_number (slice_set ts i t) i ≡ t
@@ -38,9 +39,6 @@ tree_set_len [] i t = refl
 tree_set_len (u ∷ ts) zero t = refl
 tree_set_len (u ∷ ts) (suc i) t = ap suc (tree_set_len ts i t)
 
-not_both : (b : Bool) → b ≡ true → b ≡ false → ⊥
-not_both b p q = let e : true ≡ false = sym p ∙ q in cc
-
 put_same : (t : Bool) (x : ℕ) (s : List ℕ) → ticks_in x s ≡ false → ticks_in x (put t x s) ≡ t
 put_same true x s none = ticks_in-with_same x s
 put_same false x s none = none
@@ -53,40 +51,8 @@ and_false : (a b : Bool) → (a && b) ≡ false → b ≡ true → a ≡ false
 and_false true b h is = let z : ⊥ = (let e : true ≡ false = sym is ∙ h in cc) in absurd z
 and_false false b h is = refl
 
--- ONE MEMBER MORE of an ascending list
-pub all_less : (x y : ℕ) (ys : List ℕ) → x < y → list_all (nat_lt y) ys ≡ true → list_all (nat_lt x) ys ≡ true
-all_less x y [] l h = refl
-all_less x y (z ∷ ys) l h =
-    let w = and_parts (nat_lt y z) (list_all (nat_lt y) ys) h in
-    let m = ltb-true y z w.0 in
-    and_from (nat_lt x z) (list_all (nat_lt x) ys) (lt-ltb x z (omega (arith, l, m))) (all_less x y ys l w.1)
-
-pub all_with : (p : ℕ → Bool) (x : ℕ) (ys : List ℕ) → p x ≡ true → list_all p ys ≡ true → list_all p (with_clock x ys) ≡ true
-all_with p x [] is h = and_from (p x) true is refl
-all_with p x (y ∷ ys) is h = on (nat_lt x y) (nat_eq x y) (all_with p x ys is (and_parts (p y) (list_all p ys) h).1)
-  where
-    on : (t u : Bool) → list_all p (with_clock x ys) ≡ true → list_all p (if t then x ∷ (y ∷ ys) else if u then y ∷ ys else y ∷ with_clock x ys) ≡ true
-    on true u rest = and_from (p x) (list_all p (y ∷ ys)) is h
-    on false true rest = h
-    on false false rest = and_from (p y) (list_all p (with_clock x ys)) (and_parts (p y) (list_all p ys) h).0 rest
-
-pub with_ascends : (x : ℕ) (ys : List ℕ) → is_ascending ys ≡ true → is_ascending (with_clock x ys) ≡ true
-with_ascends x [] h = refl
-with_ascends x (y ∷ ys) h = let w = and_parts (list_all (nat_lt y) ys) (is_ascending ys) h in on (nat_lt x y) (nat_eq x y) refl refl w (with_ascends x ys w.1)
-  where
-    on : (t u : Bool) → nat_lt x y ≡ t → nat_eq x y ≡ u → (list_all (nat_lt y) ys ≡ true) × (is_ascending ys ≡ true) → is_ascending (with_clock x ys) ≡ true →
-        is_ascending (if t then x ∷ (y ∷ ys) else if u then y ∷ ys else y ∷ with_clock x ys) ≡ true
-    on true u less e w rest =
-        let l = ltb-true x y less in
-        and_from (list_all (nat_lt x) (y ∷ ys)) (is_ascending (y ∷ ys)) (and_from (nat_lt x y) (list_all (nat_lt x) ys) less (all_less x y ys l w.0)) h
-    on false true less e w rest = h
-    on false false less e w rest =
-        let l = ltb-false x y less in
-        let ne : x ≡ y → ⊥ = λ s. not_both (nat_eq x y) (eq-eqb x y s) e in
-        and_from (list_all (nat_lt y) (with_clock x ys)) (is_ascending (with_clock x ys)) (all_with (nat_lt y) x ys (lt-ltb y x (omega (arith, l, ne))) w.0) rest
-
 put_ascends : (t : Bool) (x : ℕ) (s : List ℕ) → is_ascending s ≡ true → is_ascending (put t x s) ≡ true
-put_ascends true x s h = with_ascends x s h
+put_ascends true x s h = with_clock-ascends x s h
 put_ascends false x s h = h
 
 -- a definition that is done, in what has been found so far
@@ -240,7 +206,7 @@ module _ (K : System) (ok : IsAccepted K) (F : List ℕ) where
               (λ (w : (ticks_in m waiting && not (nat_eq j m)) ≡ true).
               let p = and_parts (ticks_in m waiting) (not (nat_eq j m)) w in
               let low = first m p.0 in
-              let ne : m ≡ j → ⊥ = λ e. not_both (nat_eq j m) (eq_is j m (sym e)) (not_is (nat_eq j m) p.1) in
+              let ne : m ≡ j → ⊥ = λ e. both_ways (nat_eq j m) (not_is (nat_eq j m) p.1) (eq_is j m (sym e)) in
               (g.followed m p.0, omega (arith, low, ne)))
               (λ (w : (told && ticks_in m (slice_index_or readers (K.declared + j) [])) ≡ true).
               let p = and_parts told (ticks_in m (slice_index_or readers (K.declared + j) [])) w in
@@ -325,13 +291,13 @@ module _ (K : System) (ok : IsAccepted K) (F : List ℕ) where
 
           waits_not : (i : ℕ) → ticks_in i waiting ≡ false → ticks_in i unsettled ≡ false
           waits_not i quiet = ⊎_elim
-              (λ (h : ticks_in i unsettled ≡ true). absurd (not_both (ticks_in i waiting) (unsettled_wait i h) quiet))
+              (λ (h : ticks_in i unsettled ≡ true). absurd (both_ways (ticks_in i waiting) quiet (unsettled_wait i h)))
               (λ (h : ticks_in i unsettled ≡ false). h)
               (cases_Bool (ticks_in i unsettled))
 
           silent_clock : (i : ℕ) → IsFollowed K F i → ticks_in i waiting ≡ false → (y : ℕ) → reads K i y ≡ true → ticks_in y s ≡ false
           silent_clock i f quiet y read = ⊎_elim
-              (λ (h : ticks_in y s ≡ true). absurd (not_both (ticks_in i waiting) (heard i y h (no_reader i y f read)) quiet))
+              (λ (h : ticks_in y s ≡ true). absurd (both_ways (ticks_in i waiting) quiet (heard i y h (no_reader i y f read))))
               (λ (h : ticks_in y s ≡ false). h)
               (cases_Bool (ticks_in y s))
 

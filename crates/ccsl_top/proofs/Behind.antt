@@ -1,6 +1,6 @@
 -- Commands that read a specification first: its refusal, and what is answered behind it.
 use Rattle.std.proofs.Common.{◌≡◌, ◌≢◌, ℕ, List, [], ◌∷◌, Bool, true, false, ◌||◌, Contains, Result, Ok, IsTrue, ⊎_elim, refl, sym, ap, ◌∙◌, subst, arith}
-use Rattle.std.proofs.lemmas.Bool.{or_left}
+use Rattle.std.proofs.lemmas.Bool.{or_left, both_ways}
 use Rattle.ccsl_edge.specs.declared.slot.Slot.{Slot}
 use Rattle.ccsl_edge.specs.declared.slot.Slot.TheVariants.{Spec, Trace}
 use Rattle.ccsl_edge.specs.World.{State, Told, held, file_at}
@@ -24,7 +24,7 @@ use Rattle.ccsl_top.specs.Changes.{Uses, Reads}
 use Rattle.ccsl_top.specs.Reading.{only, Breaks, IsStop}
 use Rattle.ccsl_top.specs.Headline.{IsTold, input_of, by_spec, by_file, LeavesTrace, unopened, kept, untouched}
 use Rattle.ccsl_top.specs.Answered.{code_of, plain_reply, AreClosed, Leaves, Answered, Faulted, Starved, IsUnanswered, StopsAt}
-use Rattle.ccsl_top.proofs.Slots.{is_slot-self, is_slot-same, is_slot-other, output-differs, not_both}
+use Rattle.ccsl_top.proofs.Slots.{is_slot-self, is_slot-same, is_slot-other, output-differs}
 use Rattle.ccsl_top.proofs.Effects.{uses-changed, uses-stay, uses-then}
 use Rattle.ccsl_top.proofs.Reaching.{opened-used, reach-read, reach-spec, three-known}
 
@@ -54,7 +54,7 @@ module _ (told : Told) (words : List (List ℕ)) (c : Command) (means : meaning 
   pub closed-none : ((slot : Slot) → is_output slot ≡ true → opens behind slot ≡ false) → (status : ℕ) (u : State) → AreClosed words status u
   closed-none none status u _ slot out opened =
       let unspec : is_slot Spec slot ≡ false = is_slot-other Spec slot (output-differs Spec slot refl out) in
-      not_both (opens (files_opened words) slot) opened (ap (λ fs. opens fs slot) opened-files ∙ ap (λ b. b || opens behind slot) unspec ∙ none slot out)
+      absurd (both_ways (opens (files_opened words) slot) (ap (λ fs. opens fs slot) opened-files ∙ ap (λ b. b || opens behind slot) unspec ∙ none slot out) opened)
 
   pub among-answers : (status : ℕ) → Contains (answers_of (Ok c)) status → Contains (answers_of (meaning words)) status
   among-answers status known = subst (λ m. Contains (answers_of m) status) (sym means) known

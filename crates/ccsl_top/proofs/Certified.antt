@@ -1,7 +1,7 @@
 -- A certificate that explains is one that `certify` accepts.
 use Rattle.std.proofs.Common.{◌≡◌, ℕ, zero, suc, ◌+◌, ◌<◌, ◌≤◌, ◌^◌, List, [], ◌∷◌, ◌++◌, length, Bool, true, false, Option, Some, None, Ok, All, slice_get, cond, refl, sym, ap, ◌∙◌, subst, arith, length-append}
 use Rattle.std.specs.List.{AllByRecursion}
-use Rattle.std.proofs.lemmas.Bool.{and_parts, le-leb}
+use Rattle.std.proofs.lemmas.Bool.{and_parts, le-leb, both_ways}
 use Rattle.std.proofs.lemmas.List.{length-map}
 use Rattle.std.proofs.lemmas.List.Elements.{All-from_recursion}
 use Rattle.ccsl_base.specs.declared.limits.TheConstants.{MAX_FILE_BYTES}
@@ -40,7 +40,6 @@ use Rattle.ccsl_top.specs.Explain.{cert_output, IsRunExplained, possible, blocke
 use Rattle.ccsl_top.specs.Laws.{ExplanationsCertify}
 use Rattle.ccsl_top.proofs.Members.{few-items}
 use Rattle.ccsl_top.proofs.Certifying.{NoBadLine, verdict-outcome}
-use Rattle.ccsl_top.proofs.Slots.{not_both}
 
 -- THE NUMBERS of a certificate are those of its items and of its lines
 
@@ -58,7 +57,7 @@ module _ (declared : ℕ) (lines : List Line) where
   fails-below p j e = of-line (line_at lines j) refl e
     where
       of-line : (found : Option Line) → line_at lines j ≡ found → fails_line declared p found ≡ true → j ≤ length lines
-      of-line None is e = not_both false e refl
+      of-line None is e = absurd (both_ways false refl e)
       of-line (Some line) is e = at-below lines j line is
 
   unit-below : (p : Part) (j : ℕ) (l : Lit) → unit_at declared lines p j ≡ Some l → j ≤ length lines
@@ -76,14 +75,14 @@ module _ (declared : ℕ) (lines : List Line) where
       of-unit : (found : Option Lit) → unit_at declared lines p j ≡ found →
           (elim found as (λ o. Bool) [ None ↦ false | Some l ↦ closes declared lines (with_value p l.clock l.positive) (k ∷ js) ]) ≡ true →
           ((q : Part) → closes declared lines q (k ∷ js) ≡ true → AllBelow n (k ∷ js)) → AllBelow n (j ∷ k ∷ js)
-      of-unit None is e rest = not_both false e refl
+      of-unit None is e rest = absurd (both_ways false refl e)
       of-unit (Some l) is e rest = let b = unit-below p j l is in (omega (arith, b, few), rest (with_value p l.clock l.positive) e)
 
 item-below : (formulas : List Formula) (item : ℕ) (lits : List Lit) → refutes_item formulas item lits ≡ true → item < length formulas
 item-below formulas item lits e = of-formula (slice_get formulas item) refl e
   where
     of-formula : (found : Option Formula) → slice_get formulas item ≡ found → is_refuted (falsified lits) found ≡ true → item < length formulas
-    of-formula None is e = not_both false e refl
+    of-formula None is e = absurd (both_ways false refl e)
     of-formula (Some f) is e = get-below formulas item f is
 
 module _ (scope : Scope) (formulas : List Formula) (few : length formulas < 2 ^ 32) where

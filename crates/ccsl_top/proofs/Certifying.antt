@@ -44,13 +44,14 @@ use Rattle.ccsl_top.specs.Changes.{Uses, Reads}
 use Rattle.ccsl_top.specs.Reading.{only, Breaks}
 use Rattle.ccsl_top.specs.Answered.{code_of, IsReadStatus, AnswersTo, StopsAt}
 use Rattle.ccsl_top.specs.Certifying.{HasItem, verdict_outcome, Gives, IsReplyOn, both, CertifyAnswers, BothBreak, IsBothStop}
-use Rattle.ccsl_top.proofs.Slots.{is_slot-same, is_slot-differs, same-input, not_both}
+use Rattle.ccsl_top.proofs.Slots.{is_slot-same, is_slot-differs, same-input}
 use Rattle.ccsl_top.proofs.Effects.{by-test, uses-changed, uses-rises, uses-then, reads-then, reads-only, breaks-only}
 use Rattle.ccsl_top.proofs.Opened.{fails-breaks}
 use Rattle.ccsl_top.proofs.Verdicts.{violated-item}
 use Rattle.ccsl_top.proofs.Reaching.{read-known}
 use Rattle.ccsl_top.proofs.Writing.{on-output}
 use Rattle.ccsl_top.proofs.Behind.{closed-none, read-answered, read-faulted, read-starved}
+use Rattle.std.proofs.lemmas.Bool.{both_ways}
 
 -- a certificate has no bad line
 abbrev pub NoBadLine : Type 0
@@ -103,7 +104,7 @@ module _ (a b : Slot → Bool) (within : (slot : Slot) → a slot ≡ true → b
     files = u.files;
     here = λ slot _. uses-changed a x y u slot;
     rises = λ slot _. uses-rises a x y u slot;
-    others = λ slot no. u.others slot (by-test (a slot) (λ yes. not_both (b slot) (within slot yes) no) (λ n. n));
+    others = λ slot no. u.others slot (by-test (a slot) (λ yes. absurd (both_ways (b slot) no (within slot yes))) (λ n. n));
   }
 
   reads-within : Reads a x y → Reads b x y

@@ -25,7 +25,7 @@ use Rattle.ccsl_top.specs.Program.{IsOutcome, IsOutcomeOf, usage_outcome}
 use Rattle.ccsl_top.specs.Headline.{input_of, kept, untouched, unopened}
 use Rattle.ccsl_top.specs.Answered.{code_of, plain_reply, Leaves, Answered, Starved, IsUnanswered}
 use Rattle.ccsl_top.proofs.Effects.{reads-none, uses-stay}
-use Rattle.ccsl_top.proofs.Slots.{not_both}
+use Rattle.std.proofs.lemmas.Bool.{both_ways}
 
 -- a reply that stands for an outcome of a command that opens no file
 abbrev IsAnswer : Command → Reply → Type 0
@@ -34,7 +34,7 @@ IsAnswer c reply = ((content : List ℕ → List ℕ) (input : List ℕ) → IsO
 module _ (told : Told) (words : List (List ℕ)) (s : State) where
   leaves-none : Leaves told words (λ slot. false) s s
   leaves-none = record {
-    opened = λ slot e. not_both false e refl;
+    opened = λ slot e. absurd (both_ways false refl e);
     stays = uses-stay told (files_opened words) (λ slot. false) s s (reads-none s).uses;
     whole = λ _ _ name. kept refl;
     fronts = λ _ _ slot out. untouched refl;
@@ -48,8 +48,8 @@ module _ (told : Told) (words : List (List ℕ)) (s : State) where
     leaves = leaves-none;
     counts = λ slot. refl;
     known = known;
-    within = λ slot e. not_both false e refl;
-    closed = λ _ slot _ e. not_both (opens (files_opened words) slot) e (none slot);
+    within = λ slot e. absurd (both_ways false refl e);
+    closed = λ _ slot _ e. absurd (both_ways (opens (files_opened words) slot) (none slot) e);
     stands = λ _. record { outcome = plain_reply reply; status_is = refl; report_is = refl; defined = record { is = is (held s.files) (input_of s); files = λ _. record {} } };
   }
 

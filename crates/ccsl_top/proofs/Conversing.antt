@@ -1,6 +1,6 @@
 -- A session, as an answer to words that mean it.
 use Rattle.std.proofs.Common.{◌≡◌, ◌≢◌, ◌⊎◌, ℕ, ◌+◌, ◌<◌, ◌≤◌, List, [], ◌∷◌, ◌++◌, length, take, true, false, Contains, ◌||◌, ◌&&◌, Result, Ok, Err, IsTrue, ⊎_elim, inl, inr, refl, sym, ap, ◌∙◌, subst, arith, append_assoc, take_all, le_refl}
-use Rattle.std.proofs.lemmas.Bool.{cases_lt}
+use Rattle.std.proofs.lemmas.Bool.{cases_lt, or_parts, both_ways}
 use Rattle.std.proofs.lemmas.List.{take-append-le}
 use Rattle.std.proofs.Math.Seq.{take-append-add}
 use Rattle.ccsl_base.specs.declared.limits.TheConstants.{MAX_FILE_BYTES}
@@ -33,8 +33,8 @@ use Rattle.ccsl_top.specs.Program.{IsOutcome, accepted}
 use Rattle.ccsl_top.specs.Reading.{only}
 use Rattle.ccsl_top.specs.Headline.{Headline, IsTold, Answers, Reports, ReportGrows, AreHeld, FaultCause, by_report, by_input, input_of, kept, untouched}
 use Rattle.ccsl_top.specs.Conversing.{Begins}
-use Rattle.ccsl_top.proofs.Slots.{is_slot-same, is_slot-other, is_slot-differs, output-differs, not_both}
-use Rattle.ccsl_top.proofs.Effects.{Changed, by-test, uses-changed, uses-rises, or-left, or-right}
+use Rattle.ccsl_top.proofs.Slots.{is_slot-same, is_slot-other, is_slot-differs, output-differs}
+use Rattle.ccsl_top.proofs.Effects.{Changed, by-test, uses-changed, uses-rises}
 use Rattle.ccsl_top.proofs.Reaching.{reach-read}
 use Rattle.ccsl_top.proofs.Writing.{on-output}
 use Rattle.ccsl_top.proofs.Behind.{is-outcome, behind-told}
@@ -126,10 +126,10 @@ module _ (told : Told) (words : List (List ℕ)) (K : System) (policy : Policy) 
     closed-apart slot e =
         let opened : opens (files_opened words) slot ≡ (is_slot Spec slot || false) = ap (λ m. opens (files_meant m) slot) b.means in
         let asks : is_session (meaning words) ≡ true = ap is_session b.means in
-        let a : (is_slot Spec slot || false) ≡ false = sym opened ∙ or-left (opens (files_opened words) slot) (is_session (meaning words) && is_slot slot Input) e in
+        let a : (is_slot Spec slot || false) ≡ false = sym opened ∙ (or_parts (opens (files_opened words) slot) (is_session (meaning words) && is_slot slot Input) e).0 in
         let i : (true && is_slot slot Input) ≡ false =
-        sym (ap (λ x. x && is_slot slot Input) asks) ∙ or-right (opens (files_opened words) slot) (is_session (meaning words) && is_slot slot Input) e in
-        (is_slot-differs Spec slot (or-left (is_slot Spec slot) false a), λ same. is_slot-differs slot Input i (sym same))
+        sym (ap (λ x. x && is_slot slot Input) asks) ∙ (or_parts (opens (files_opened words) slot) (is_session (meaning words) && is_slot slot Input) e).1 in
+        (is_slot-differs Spec slot (or_parts (is_slot Spec slot) false a).0, λ same. is_slot-differs slot Input i (sym same))
 
     clash : (d : Command) → meaning words ≡ Ok d → c ≡ d
     clash d e = let same : (let R : Result Command Usage = Ok c in R) ≡ Ok d = sym b.means ∙ e in cc
@@ -141,7 +141,7 @@ module _ (told : Told) (words : List (List ℕ)) (K : System) (policy : Policy) 
     unreached : (status : ℕ) → status ≢ 3 → (slot : Slot) → may_change words status slot ≡ false → (slot ≢ Spec) × (slot ≢ Input)
     unreached status three slot e = by-test (is_output slot)
         (λ out. (output-differs Spec slot refl out, output-differs Input slot refl out))
-        (λ out. closed-apart slot (by-test (uses words slot) (λ yes. not_both (may_change words status slot) (reach-read words slot status three out yes) e) (λ no. no)))
+        (λ out. closed-apart slot (by-test (uses words slot) (λ yes. absurd (both_ways (may_change words status slot) e (reach-read words slot status three out yes))) (λ no. no)))
 
     -- no output slot is opened
     none-opened : (slot : Slot) → is_output slot ≡ true → opens (files_opened words) slot ≡ false
@@ -158,14 +158,14 @@ module _ (told : Told) (words : List (List ℕ)) (K : System) (policy : Policy) 
       counts_rise = t.rises;
       counts_stay = counts;
       fault_cause = cause;
-      unreported = λ _ e. not_both (is_session (meaning words)) (ap is_session b.means) e;
-      silent = λ _ e. not_both (is_session (meaning words)) (ap is_session b.means) e;
+      unreported = λ _ e. absurd (both_ways (is_session (meaning words)) e (ap is_session b.means));
+      silent = λ _ e. absurd (both_ways (is_session (meaning words)) e (ap is_session b.means));
       front = λ tells e. inr (front tells e);
       early = λ _ _ spec trace workers e. absurd (never-judged spec trace workers e);
       whole = λ _ _ name. kept (ap (λ fs. file_at fs name) t.files);
       fronts = λ _ _ slot out. untouched (ap (λ x. x.written)
           (t.others slot (output-differs Spec slot refl out) (output-differs Input slot refl out) (output-differs Report slot refl out)));
-      closed = λ _ slot out opened. not_both (opens (files_opened words) slot) opened (none-opened slot out);
+      closed = λ _ slot out opened. absurd (both_ways (opens (files_opened words) slot) (none-opened slot out) opened);
       rest = λ l. inr (t.rest l);
       stays = λ slot n e. let apart = unreached status three slot e in t.others slot apart.0 apart.1 n;
       unwritten = λ _ _ name. ap (λ fs. file_at fs name) t.files;

@@ -8,7 +8,8 @@ use Rattle.ccsl_top.specs.Opening.{is_slot, is_output}
 use Rattle.ccsl_top.specs.Effects.{RoseAt}
 use Rattle.ccsl_top.specs.Changes.{Uses, Reads, Stays, WritesAlone}
 use Rattle.ccsl_top.specs.Reading.{only, Breaks}
-use Rattle.ccsl_top.proofs.Slots.{is_slot-same, is_slot-differs, output-differs, not_both}
+use Rattle.ccsl_top.proofs.Slots.{is_slot-same, is_slot-differs, output-differs}
+use Rattle.std.proofs.lemmas.Bool.{or_parts, both_ways}
 
 -- of a slot only the bytes left and the faults have changed
 abbrev pub Changed : SlotState → SlotState → Type 0
@@ -30,20 +31,12 @@ module _ (used : Slot → Bool) (old new : State) (uses : Uses used old new) whe
   pub uses-rises : (slot : Slot) → (old.slot_of slot).faults ≤ (new.slot_of slot).faults
   uses-rises slot = by-test (used slot) (λ yes. uses.rises slot yes) (λ no. let e = ap (λ s. s.faults) (uses.others slot no) in omega (arith, e))
 
-pub or-left : (a b : Bool) → (a || b) ≡ false → a ≡ false
-or-left true b e = e
-or-left false b e = refl
-
-pub or-right : (a b : Bool) → (a || b) ≡ false → b ≡ false
-or-right true b e = not_both true refl e
-or-right false b e = e
-
 pub uses-then : (first second : Slot → Bool) (old mid new : State) → Uses first old mid → Uses second mid new → Uses (λ slot. first slot || second slot) old new
 uses-then first second old mid new p q = record {
   files = q.files ∙ p.files;
   here = λ slot _. changed-then (old.slot_of slot) (mid.slot_of slot) (new.slot_of slot) (uses-changed first old mid p slot) (uses-changed second mid new q slot);
   rises = λ slot _. let a = uses-rises first old mid p slot in let b = uses-rises second mid new q slot in omega (arith, a, b);
-  others = λ slot no. q.others slot (or-right (first slot) (second slot) no) ∙ p.others slot (or-left (first slot) (second slot) no);
+  others = λ slot no. q.others slot (or_parts (first slot) (second slot) no).1 ∙ p.others slot (or_parts (first slot) (second slot) no).0;
 }
 
 pub reads-then : (first second : Slot → Bool) (old mid new : State) → Reads first old mid → Reads second mid new → Reads (λ slot. first slot || second slot) old new
@@ -55,7 +48,7 @@ reads-then first second old mid new p q = record {
 -- nothing was read
 pub reads-none : (s : State) → Reads (λ slot. false) s s
 reads-none s = record {
-  uses = record { files = refl; here = λ slot e. not_both false e refl; rises = λ slot e. not_both false e refl; others = λ slot e. refl };
+  uses = record { files = refl; here = λ slot e. absurd (both_ways false refl e); rises = λ slot e. absurd (both_ways false refl e); others = λ slot e. refl };
   counts = λ slot. refl;
 }
 

@@ -21,13 +21,14 @@ use Rattle.ccsl_top.specs.Reading.{only}
 use Rattle.ccsl_top.specs.Headline.{IsTold, input_of, IsDefinedOutput, explained, IsFrontOn, by_file, untouched}
 use Rattle.ccsl_top.specs.Answered.{code_of, plain_reply, Leaves, Answered, Faulted, IsUnanswered, AnswersTo, StopsAt}
 use Rattle.ccsl_top.specs.Explaining.{WritesSome, WritesWhole, WritesBreak, IsBlocked, TraceAnswers, unwritten, written, IsTraceStop}
-use Rattle.ccsl_top.proofs.Slots.{is_slot-same, is_slot-self, is_slot-differs, same-input, not_both}
-use Rattle.ccsl_top.proofs.Effects.{by-test, uses-changed, uses-rises, reads-then, or-left, or-right}
+use Rattle.ccsl_top.proofs.Slots.{is_slot-same, is_slot-self, is_slot-differs, same-input}
+use Rattle.ccsl_top.proofs.Effects.{by-test, uses-changed, uses-rises, reads-then}
 use Rattle.ccsl_top.proofs.Outputs.{whole-moves, front-moves}
 use Rattle.ccsl_top.proofs.Reaching.{opened-used, reach-all}
 use Rattle.ccsl_top.proofs.Behind.{is-outcome, behind-told, among-answers, read-answered, read-faulted, read-starved}
 use Rattle.ccsl_top.proofs.Writing.{on-output, trace-apart}
 use Rattle.ccsl_top.proofs.Simulated.{name-apart}
+use Rattle.std.proofs.lemmas.Bool.{or_parts, both_ways}
 
 module _ (told : Told) (words : List (List ℕ)) (spec trace cert : List ℕ) (means : meaning words ≡ Ok (command.Explain spec trace cert))
     (s t u : State) (reads : Reads (only Spec) s t) (K : System) (system : IsTrue told.files → IsTrue told.left → IsSystemOf (held s.files spec) K) where
@@ -51,7 +52,7 @@ module _ (told : Told) (words : List (List ℕ)) (spec trace cert : List ℕ) (m
     where
       first-opens : (a b : Bool) → a ≡ true → (a || b) ≡ true
       first-opens true b e = refl
-      first-opens false b e = not_both false e refl
+      first-opens false b e = absurd (both_ways false refl e)
 
   no-trial : (name file : List ℕ) (workers : ℕ) → c ≡ command.Judge name file workers → ⊥
   no-trial name file workers e = absurd (cc)
@@ -98,18 +99,18 @@ module _ (told : Told) (words : List (List ℕ)) (spec trace cert : List ℕ) (m
 
     module _ (some : WritesSome told (cert_output K cert all.lines) all.between u) where
       cert-unwritten : (slot : Slot) → is_output slot ≡ false → slot ≢ CertOut
-      cert-unwritten slot out same = not_both (is_output CertOut) refl (ap is_output (sym same) ∙ out)
+      cert-unwritten slot out same = absurd (both_ways (is_output CertOut) (ap is_output (sym same) ∙ out) refl)
 
       stays : Stays told (files_opened words) used s u
       stays = record {
-        unwritten = λ _ e. not_both (used CertOut) refl e;
+        unwritten = λ _ e. absurd (both_ways (used CertOut) e refl);
         files = λ f w name e.
             let n : writes opened name ≡ false = sym (ap (λ fs. writes fs name) words-open) ∙ e in
-            some.files f w name (name-apart cert name (or-left (bytes_eq cert name) false n)) ∙ sym (file-same name);
+            some.files f w name (name-apart cert name (or_parts (bytes_eq cert name) false n).0) ∙ sym (file-same name);
         inputs = λ slot out. subst (λ x. x ≡ record (s.slot_of slot) { left = x.left; faults = x.faults }) (sym (some.others slot (cert-unwritten slot out)))
             (uses-changed (λ x. only Spec x || only Trace x) s mid both.uses slot);
-        others = λ slot e. some.others slot (is_slot-differs CertOut slot (or-right (only Spec slot || only Trace slot) (only CertOut slot) e))
-            ∙ both.uses.others slot (or-left (only Spec slot || only Trace slot) (only CertOut slot) e);
+        others = λ slot e. some.others slot (is_slot-differs CertOut slot (or_parts (only Spec slot || only Trace slot) (only CertOut slot) e).1)
+            ∙ both.uses.others slot (or_parts (only Spec slot || only Trace slot) (only CertOut slot) e).0;
         rises = λ slot. let a = uses-rises (λ x. only Spec x || only Trace x) s mid both.uses slot in let b = some-rises slot in omega (arith, a, b);
       }
         where
@@ -143,7 +144,7 @@ module _ (told : Told) (words : List (List ℕ)) (spec trace cert : List ℕ) (m
   certificate-closed : (all : IsBlocked told K cert trace t u (WritesWhole told)) (slot : Slot) → is_output slot ≡ true → opens (files_opened words) slot ≡ true →
       (u.slot_of slot).is_open ≡ false
   certificate-closed all slot out = on-output (λ x. opens (files_opened words) x ≡ true → (u.slot_of x).is_open ≡ false)
-      (λ e. not_both (opens opened TraceOut) (sym (ap (λ fs. opens fs TraceOut) words-open) ∙ e) refl)
+      (λ e. absurd (both_ways (opens opened TraceOut) refl (sym (ap (λ fs. opens fs TraceOut) words-open) ∙ e)))
       (λ _. all.writes.closed) slot out
 
   -- the certificate was written

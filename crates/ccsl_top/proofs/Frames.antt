@@ -13,9 +13,10 @@ use Rattle.ccsl_top.specs.Outcome.{Output}
 use Rattle.ccsl_top.specs.Opening.{opens, writes, is_slot, is_output}
 use Rattle.ccsl_top.specs.Headline.{IsTold, IsDefinedOutput, IsKeptOrWhole, IsFrontOn}
 use Rattle.ccsl_top.specs.Answered.{AreOpened, Leaves}
-use Rattle.ccsl_top.proofs.Slots.{is_slot-same, is_slot-differs, output-differs, not_both}
+use Rattle.ccsl_top.proofs.Slots.{is_slot-same, is_slot-differs, output-differs}
 use Rattle.ccsl_top.proofs.Effects.{Changed, by-test}
 use Rattle.ccsl_top.proofs.Outputs.{whole-moves, front-moves}
+use Rattle.std.proofs.lemmas.Bool.{both_ways}
 
 -- neither standard input nor the report is a file that is opened
 abbrev OpensNeither : List Opened → Type 0
@@ -41,7 +42,7 @@ opens-report words = (meant-neither (meaning words)).1
 -- what is not opened is not used
 pub unused-of : (words : List (List ℕ)) (used : Slot → Bool) → AreOpened words used → (slot : Slot) → opens (files_opened words) slot ≡ false → used slot ≡ false
 unused-of words used opened slot closed =
-    by-test (used slot) (λ yes. not_both (opens (files_opened words) slot) (opened slot yes) closed) (λ no. no)
+    by-test (used slot) (λ yes. absurd (both_ways (opens (files_opened words) slot) closed (opened slot yes))) (λ no. no)
 
 -- what stays, the report's slot aside
 pub record Frame (told : Told) (words : List (List ℕ)) (used : Slot → Bool) (old new : State) : Type 0 where

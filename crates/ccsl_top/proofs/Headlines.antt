@@ -16,10 +16,11 @@ use Rattle.ccsl_edge.specs.declared.stop.Stop.{Stop}
 use Rattle.ccsl_edge.specs.declared.stop.Stop.TheVariants.{Fault, Memory}
 use Rattle.ccsl_top.specs.Stopping.{stop_code}
 use Rattle.ccsl_top.specs.Headline.{Headline, ReportGrows, AreHeld, by_report}
-use Rattle.ccsl_top.proofs.Slots.{is_slot-same, is_slot-differs, output-differs, not_both}
+use Rattle.ccsl_top.proofs.Slots.{is_slot-same, is_slot-differs, output-differs}
 use Rattle.ccsl_top.proofs.Effects.{by-test}
 use Rattle.ccsl_top.proofs.Reaching.{opened-used, reach-all, among-more}
 use Rattle.ccsl_top.proofs.Frames.{Frame, report-same, frame-still, frame-reported}
+use Rattle.std.proofs.lemmas.Bool.{both_ways}
 
 code-answers : (s : Status) → (code_of s ≢ 5) × (code_of s ≢ 6)
 code-answers Done = (λ e. omega (arith, e), λ e. omega (arith, e))
@@ -43,8 +44,8 @@ module _ (words : List (List ℕ)) (used : Slot → Bool) (opened : AreOpened wo
 
   unreached : (slot : Slot) → may_change words status slot ≡ false → used slot ≡ false
   unreached slot e = by-test (used slot)
-      (λ yes. not_both (may_change words status slot)
-      (reach-all words slot status (unlike 1 (omega arith)) (unlike 3 (omega arith)) (unlike 4 (omega arith)) (opened-used words slot (opened slot yes))) e)
+      (λ yes. absurd (both_ways (may_change words status slot) e
+      (reach-all words slot status (unlike 1 (omega arith)) (unlike 3 (omega arith)) (unlike 4 (omega arith)) (opened-used words slot (opened slot yes)))))
       (λ no. no)
 
 module _ (told : Told) (words : List (List ℕ)) (old : State) where
@@ -76,7 +77,7 @@ module _ (told : Told) (words : List (List ℕ)) (old : State) where
       grows w = adds.end w ∙ ap (λ s. s.written ++ reply.line.items) same
 
       outside : (slot : Slot) → may_change words (code_of reply.status) slot ≡ false → a.used slot ≡ false
-      outside slot e = by-test (a.used slot) (λ yes. not_both (may_change words (code_of reply.status) slot) (a.within slot yes) e) (λ no. no)
+      outside slot e = by-test (a.used slot) (λ yes. absurd (both_ways (may_change words (code_of reply.status) slot) e (a.within slot yes))) (λ no. no)
 
       -- the slots of the files are as they were
       closed : AreClosed words (code_of reply.status) new

@@ -15,7 +15,6 @@ use Rattle.ccsl_explain.specs.Core.{IsCore}
 use Rattle.ccsl_explain.specs.Explained.{AreLeast}
 use Rattle.ccsl_top.specs.Explain.{member_lines}
 use Rattle.ccsl_top.specs.Explaining.{AreMembers}
-use Rattle.ccsl_top.proofs.Slots.{not_both}
 
 -- the lines of a certificate are valid
 pub valid-lines : (scope : Scope) (formulas : List Formula) (lines : List Line) → is_certificate scope formulas lines ≡ true → are_valid scope formulas lines ≡ true

@@ -1,7 +1,7 @@
 -- The two files that `simulate` writes have different names.
 use Rattle.std.proofs.Common.{◌≡◌, ◌≢◌, ℕ, List, [], ◌∷◌, Bool, true, false, not, ◌&&◌, ◌||◌, Option, Some, None, Result, Ok, Err, find, cond, refl, sym, ◌∙◌, bytes_eq}
 use Rattle.std.proofs.lemmas.Slice.Eq.{bytes_eq-Decides}
-use Rattle.std.proofs.lemmas.Bool.{not-false}
+use Rattle.std.proofs.lemmas.Bool.{not-false, both_ways}
 use Rattle.ccsl_command.specs.declared.table.CommandName.{CommandName}
 use Rattle.ccsl_command.specs.declared.table.CommandName.TheVariants as name
 use Rattle.ccsl_command.specs.declared.table.Key.{Key}
@@ -13,7 +13,6 @@ use Rattle.ccsl_command.specs.declared.usage.Usage.{Usage}
 use Rattle.ccsl_command.specs.declared.usage.Usage.TheVariants as usage
 use Rattle.ccsl_command.specs.Pairs.{is_given, value_of}
 use Rattle.ccsl_command.specs.Meaning.{meaning, named_meaning, pairs_meaning, first_fault, first_missing, have_same_value, has_same_name, command_of, command_named}
-use Rattle.ccsl_top.proofs.Slots.{not_both}
 
 -- a key of those that all stand there stands there
 pub none-first : (f : Key → Bool) (k : Key) (ks : List Key) → find f (k ∷ ks) ≡ None → (f k ≡ false) × (find f ks ≡ None)
@@ -24,14 +23,14 @@ none-first f k ks e = by-test (f k) refl e
     by-test false is e = (is, e)
 
 last-of-three : (a b c : Bool) → ((a || b) || c) ≡ false → c ≡ false
-last-of-three true b c e = not_both true refl e
-last-of-three false true c e = not_both true refl e
+last-of-three true b c e = absurd (both_ways true e refl)
+last-of-three false true c e = absurd (both_ways true e refl)
 last-of-three false false c e = e
 
 values-differ : (a b c : Bool) → a ≡ true → b ≡ true → ((a && b) && c) ≡ false → c ≡ false
 values-differ true true c _ _ e = e
-values-differ false b c e _ _ = not_both false e refl
-values-differ true false c _ e _ = not_both false e refl
+values-differ false b c e _ _ = absurd (both_ways false refl e)
+values-differ true false c _ e _ = absurd (both_ways false refl e)
 
 module _ (spec : List ℕ) (policy : PolicyName) (seed steps : ℕ) (trace cert : List ℕ) where
   abbrev wanted : Command
@@ -64,8 +63,8 @@ module _ (spec : List ℕ) (policy : PolicyName) (seed steps : ℕ) (trace cert 
       (last-of-three (have_same_value key.Spec key.Trace pairs) (have_same_value key.Spec key.Cert pairs) (have_same_value key.Trace key.Cert pairs) differ) in
       let trace-is : value_of key.Trace pairs ≡ trace = cc in
       let cert-is : value_of key.Cert pairs ≡ cert = cc in
-      λ same. not_both (bytes_eq (value_of key.Trace pairs) (value_of key.Cert pairs))
-      ((bytes_eq-Decides (value_of key.Trace pairs) (value_of key.Cert pairs)).1 (trace-is ∙ same ∙ sym cert-is)) apart
+      λ same. absurd (both_ways (bytes_eq (value_of key.Trace pairs) (value_of key.Cert pairs)) apart
+      ((bytes_eq-Decides (value_of key.Trace pairs) (value_of key.Cert pairs)).1 (trace-is ∙ same ∙ sym cert-is)))
 
   pairs-differ : (n : CommandName) (pairs : List (List ℕ)) (fault : Option Usage) (missing : Option Key) → first_missing n pairs ≡ missing →
       pairs_meaning n pairs fault missing ≡ Ok wanted → trace ≢ cert

@@ -1,6 +1,6 @@
 -- The numbers of `trial` are within their ranges.
 use Rattle.std.proofs.Common.{◌≡◌, ℕ, ◌+◌, ◌≤◌, List, [], ◌∷◌, ◌++◌, Bool, true, false, not, ◌&&◌, ◌||◌, Option, Some, None, is_some, unwrap_or, Result, Ok, Err, find, cond, nat_le, refl, sym, ap, ◌∙◌, subst, bytes_eq}
-use Rattle.std.proofs.lemmas.Bool.{leb-true, not-false, and_parts}
+use Rattle.std.proofs.lemmas.Bool.{leb-true, not-false, and_parts, both_ways}
 use Rattle.std.proofs.lemmas.Slice.Eq.{bytes_eq-Decides}
 use Rattle.ccsl_base.specs.Decimal.{decimal_value}
 use Rattle.ccsl_base.specs.declared.limits.TheConstants.{MAX_TRIAL_STEPS, MIN_TRIAL_CLOCKS, MAX_TRIAL_CLOCKS}
@@ -18,7 +18,6 @@ use Rattle.ccsl_command.specs.Pairs.{is_pair, key_part, value_part, key_of, has_
 use Rattle.ccsl_command.specs.Meaning.{meaning, named_meaning, pairs_meaning, key_fault, word_fault, first_fault, first_missing, has_same_name, command_of, command_named, number_of}
 use Rattle.std.specs.Option.{option_or}
 use Rattle.ccsl_top.proofs.Names.{none-first}
-use Rattle.ccsl_top.proofs.Slots.{not_both}
 
 -- the numbers that a trial may have
 pub record IsTrial (clocks steps : ℕ) : Type 0 where
@@ -37,7 +36,7 @@ in-range range text e = by-test (is_within range text) refl e
         let a = and_parts (is_number text && nat_le range.least (decimal_value text)) (nat_le (decimal_value text) range.most) is in
         let b = and_parts (is_number text) (nat_le range.least (decimal_value text)) a.0 in
         (leb-true range.least (decimal_value text) b.1, leb-true (decimal_value text) range.most a.1)
-    by-test false is e = not_both false e refl
+    by-test false is e = absurd (both_ways false refl e)
 
 -- no fault of two
 neither : (a b : Option Usage) → option_or a b ≡ None → (a ≡ None) × (b ≡ None)
@@ -58,7 +57,7 @@ module _ (n : CommandName) (k : Key) (keyed : (word : List ℕ) → has_key k wo
       of-key false false e = let clash : (let O : Option Usage = Some (usage.BadValue i) in O) ≡ None = e in absurd (cc)
 
   given-value : (pairs earlier : List (List ℕ)) (i : ℕ) → first_fault n earlier i pairs ≡ None → is_given k pairs ≡ true → is_value n k (value_of k pairs) ≡ true
-  given-value [] earlier i e given = not_both false given refl
+  given-value [] earlier i e given = absurd (both_ways false refl given)
   given-value (word ∷ words) earlier i e given =
       let fine = neither (word_fault n earlier i word) (first_fault n (earlier ++ word ∷ []) (i + 1) words) e in
       by-test (has_key k word) refl given fine.0 (λ g. given-value words (earlier ++ word ∷ []) (i + 1) fine.1 g)

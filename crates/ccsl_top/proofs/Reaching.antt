@@ -1,6 +1,6 @@
 -- How far a run with a status reaches, and which statuses come.
 use Rattle.std.proofs.Common.{◌≡◌, ◌≢◌, ℕ, suc, List, [], ◌∷◌, Bool, true, false, not, ◌||◌, ◌&&◌, nat_eq, cond, Contains, Result, Ok, Err, refl, sym, ap, ◌∙◌, subst, arith}
-use Rattle.std.proofs.lemmas.Bool.{ne_eqb, and_from, or_left}
+use Rattle.std.proofs.lemmas.Bool.{ne_eqb, and_from, or_left, both_ways}
 use Rattle.ccsl_edge.specs.declared.slot.Slot.{Slot}
 use Rattle.ccsl_edge.specs.declared.slot.Slot.TheVariants.{Spec, Input}
 use Rattle.ccsl_command.specs.declared.command.Command.{Command}
@@ -13,7 +13,7 @@ use Rattle.ccsl_top.specs.declared.reply.Status.TheVariants.{Done, No, WordsRefu
 use Rattle.ccsl_top.specs.Statuses.{answers_of}
 use Rattle.ccsl_top.specs.Opening.{opens, uses, is_slot, is_output, is_session, reaches, may_change}
 use Rattle.ccsl_top.specs.Answered.{code_of, IsReadStatus}
-use Rattle.ccsl_top.proofs.Slots.{is_slot-self, not_both}
+use Rattle.ccsl_top.proofs.Slots.{is_slot-self}
 use Rattle.ccsl_top.proofs.Effects.{by-test}
 
 never-and : (b : Bool) → not (b && false) ≡ true
@@ -42,7 +42,7 @@ module _ (words : List (List ℕ)) (slot : Slot) where
 
     pub unused-all : status ≢ 1 → status ≢ 3 → status ≢ 4 → may_change words status slot ≡ false → uses words slot ≡ false
     unused-all one three four e =
-        by-test (uses words slot) (λ yes. not_both (may_change words status slot) (reach-all one three four yes) e) (λ no. no)
+        by-test (uses words slot) (λ yes. absurd (both_ways (may_change words status slot) e (reach-all one three four yes))) (λ no. no)
 
 -- the specification, behind every status
 pub reach-spec : (words : List (List ℕ)) (status : ℕ) → opens (files_opened words) Spec ≡ true → may_change words status Spec ≡ true

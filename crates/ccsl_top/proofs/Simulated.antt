@@ -30,26 +30,26 @@ use Rattle.ccsl_top.specs.Statuses.{answers_of}
 use Rattle.ccsl_top.specs.Headline.{IsTold, input_of, FaultCause, IsDefinedOutput, simulated, by_file}
 use Rattle.ccsl_top.specs.Answered.{code_of, Leaves, Stands, Answered, Faulted, Starved, IsUnanswered, AnswersTo, StopsAt}
 use Rattle.ccsl_top.specs.Simulating.{IsDoneReply, WritesSome, WritesBoth, WriteBreaks, WriteStarves, IsWriteStop}
-use Rattle.ccsl_top.proofs.Effects.{uses-changed, uses-rises, or-left, or-right}
+use Rattle.ccsl_top.proofs.Effects.{uses-changed, uses-rises}
 use Rattle.ccsl_top.proofs.Outputs.{whole-moves, front-moves}
 use Rattle.ccsl_top.proofs.Reaching.{opened-used, reach-all}
 use Rattle.ccsl_top.proofs.Behind.{is-outcome, behind-told, among-answers}
 use Rattle.ccsl_top.proofs.Names.{names-differ}
 use Rattle.ccsl_top.proofs.Writing.{on-output}
-use Rattle.ccsl_top.proofs.Slots.{not_both}
+use Rattle.std.proofs.lemmas.Bool.{or_parts, both_ways}
 
 -- two names that differ from one
 apart-first : (a b : Bool) → (a || (b || false)) ≡ false → a ≡ false
-apart-first true b e = not_both true refl e
+apart-first true b e = absurd (both_ways true e refl)
 apart-first false b e = refl
 
 apart-second : (a b : Bool) → (a || (b || false)) ≡ false → b ≡ false
-apart-second true b e = not_both true refl e
-apart-second false true e = not_both true refl e
+apart-second true b e = absurd (both_ways true e refl)
+apart-second false true e = absurd (both_ways true e refl)
 apart-second false false e = refl
 
 pub name-apart : (a b : List ℕ) → bytes_eq a b ≡ false → b ≢ a
-name-apart a b e same = not_both (bytes_eq a b) ((bytes_eq-Decides a b).1 (sym same)) e
+name-apart a b e same = absurd (both_ways (bytes_eq a b) e ((bytes_eq-Decides a b).1 (sym same)))
 
 -- the outcome of a run of so many steps, by how it ended
 abbrev code : Bool → ℕ
@@ -120,7 +120,7 @@ module _ (told : Told) (words : List (List ℕ)) (spec : List ℕ) (policy : Pol
     stays : Stays told (files_opened words) used s u
     unfolding used
     stays = record {
-      unwritten = λ e _. not_both (used TraceOut) refl e;
+      unwritten = λ e _. absurd (both_ways (used TraceOut) e refl);
       files = λ f w name e.
           let n : writes opened name ≡ false = sym (ap (λ fs. writes fs name) words-open) ∙ e in
           some.others f w name
@@ -129,7 +129,7 @@ module _ (told : Told) (words : List (List ℕ)) (spec : List ℕ) (policy : Pol
           ∙ sym (file-same name);
       inputs = λ slot out. subst (λ x. x ≡ record (s.slot_of slot) { left = x.left; faults = x.faults }) (sym (some.alone.others slot out)) (uses-changed (only Spec) s t reads.uses slot);
       others = λ slot e.
-          some.alone.others slot (or-right (only Spec slot) (is_output slot) e) ∙ reads.uses.others slot (or-left (only Spec slot) (is_output slot) e);
+          some.alone.others slot (or_parts (only Spec slot) (is_output slot) e).1 ∙ reads.uses.others slot (or_parts (only Spec slot) (is_output slot) e).0;
       rises = λ slot. let a = uses-rises (only Spec) s t reads.uses slot in let b = some.alone.rises slot in omega (arith, a, b);
     }
 

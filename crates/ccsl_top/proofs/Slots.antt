@@ -1,6 +1,6 @@
 -- Slots by their places.
 use Rattle.std.proofs.Common.{◌≡◌, ◌≢◌, ℕ, [], ◌∷◌, Bool, true, false, refl, sym, ap, ◌∙◌, subst, ⊎_elim, slice_index_or}
-use Rattle.std.proofs.lemmas.Bool.{cases_eq, eq-eqb, ne_eqb}
+use Rattle.std.proofs.lemmas.Bool.{cases_eq, eq-eqb, ne_eqb, both_ways}
 use Rattle.ccsl_edge.specs.declared.slot.Slot.{Slot}
 use Rattle.ccsl_edge.specs.declared.slot.Slot.TheVariants.{Spec, Trace, Cert, Input, Report, TraceOut, CertOut}
 use Rattle.ccsl_edge.specs.Order.{index_of}
@@ -21,13 +21,9 @@ slot-again CertOut = refl
 index-same : (a b : Slot) → index_of a ≡ index_of b → a ≡ b
 index-same a b e = sym (slot-again a) ∙ ap slot_at e ∙ slot-again b
 
--- both truth values at once
-pub not_both : {P : Type 0} (b : Bool) → b ≡ true → b ≡ false → P
-not_both {P} b yes_ no_ = let e : true ≡ false = sym yes_ ∙ no_ in absurd (cc)
-
 pub is_slot-same : (a b : Slot) → is_slot a b ≡ true → a ≡ b
 is_slot-same a b e =
-    ⊎_elim (λ same. index-same a b same) (λ other. not_both (is_slot a b) e (ne_eqb (index_of a) (index_of b) other)) (cases_eq (index_of a) (index_of b))
+    ⊎_elim (λ same. index-same a b same) (λ other. absurd (both_ways (is_slot a b) (ne_eqb (index_of a) (index_of b) other) e)) (cases_eq (index_of a) (index_of b))
 
 pub is_slot-self : (a : Slot) → is_slot a a ≡ true
 is_slot-self a = eq-eqb (index_of a) (index_of a) refl
@@ -37,7 +33,7 @@ is_slot-other a b other =
     ⊎_elim (λ same. absurd (other (sym (index-same a b same)))) (λ n. ne_eqb (index_of a) (index_of b) n) (cases_eq (index_of a) (index_of b))
 
 pub is_slot-differs : (a b : Slot) → is_slot a b ≡ false → b ≢ a
-is_slot-differs a b e same = not_both (is_slot a b) (ap (is_slot a) same ∙ is_slot-self a) e
+is_slot-differs a b e same = absurd (both_ways (is_slot a b) e (ap (is_slot a) same ∙ is_slot-self a))
 
 -- a slot that is this one is no output, where this one is none
 pub same-input : (a : Slot) → is_output a ≡ false → (slot : Slot) → is_slot a slot ≡ true → is_output slot ≡ false
@@ -45,4 +41,4 @@ same-input a out slot e = subst (λ x. is_output x ≡ false) (is_slot-same a sl
 
 -- an output slot of a file is not a slot that is none
 pub output-differs : (a b : Slot) → is_output a ≡ false → is_output b ≡ true → b ≢ a
-output-differs a b no_ yes_ same = not_both (is_output b) yes_ (ap is_output same ∙ no_)
+output-differs a b no_ yes_ same = absurd (both_ways (is_output b) (ap is_output same ∙ no_) yes_)

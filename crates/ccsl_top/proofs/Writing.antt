@@ -7,8 +7,9 @@ use Rattle.ccsl_edge.specs.World.{State, Told}
 use Rattle.ccsl_edge.specs.Calls.{Fails, OpensOut, Adds, AddsFront, Closes}
 use Rattle.ccsl_top.specs.Opening.{is_output}
 use Rattle.ccsl_top.specs.Changes.{WritesAlone}
-use Rattle.ccsl_top.proofs.Slots.{is_slot-differs, not_both}
+use Rattle.ccsl_top.proofs.Slots.{is_slot-differs}
 use Rattle.ccsl_top.proofs.Effects.{by-test, alone-at, alone-counts}
+use Rattle.std.proofs.lemmas.Bool.{both_ways}
 
 pub cert-apart : CertOut ≢ TraceOut
 cert-apart = is_slot-differs TraceOut CertOut refl
@@ -18,11 +19,11 @@ trace-apart = is_slot-differs CertOut TraceOut refl
 
 -- what is true of both output slots is true of each
 pub on-output : (Q : Slot → Type 0) → Q TraceOut → Q CertOut → (slot : Slot) → is_output slot ≡ true → Q slot
-on-output Q t c Spec e = not_both (is_output Spec) e refl
-on-output Q t c Trace e = not_both (is_output Trace) e refl
-on-output Q t c Cert e = not_both (is_output Cert) e refl
-on-output Q t c Input e = not_both (is_output Input) e refl
-on-output Q t c Report e = not_both (is_output Report) e refl
+on-output Q t c Spec e = absurd (both_ways (is_output Spec) refl e)
+on-output Q t c Trace e = absurd (both_ways (is_output Trace) refl e)
+on-output Q t c Cert e = absurd (both_ways (is_output Cert) refl e)
+on-output Q t c Input e = absurd (both_ways (is_output Input) refl e)
+on-output Q t c Report e = absurd (both_ways (is_output Report) refl e)
 on-output Q t c TraceOut e = t
 on-output Q t c CertOut e = c
 
@@ -30,7 +31,7 @@ on-output Q t c CertOut e = c
 pub by-name : (Q : Type 0) (name other : List ℕ) → (name ≡ other → Q) → (name ≢ other → Q) → Q
 by-name Q name other yes_ no_ = by-test (bytes_eq name other)
     (λ t. yes_ ((bytes_eq-Decides name other).0 t))
-    (λ t. no_ (λ same. not_both (bytes_eq name other) ((bytes_eq-Decides name other).1 same) t))
+    (λ t. no_ (λ same. absurd (both_ways (bytes_eq name other) t ((bytes_eq-Decides name other).1 same))))
 
 module _ (told : Told) (slot : Slot) (is : is_output slot ≡ true) (s t : State) where
   pub fails-alone : Fails slot s t → WritesAlone s t

@@ -9,12 +9,10 @@ use Rattle.ccsl_trace.specs.declared.next.Next.{Next}
 use Rattle.ccsl_trace.specs.declared.next.Next.TheVariants.{Bound, Rows, Ended}
 use Rattle.ccsl_trace.specs.Feeding.{Feeding, calls_left, Nears, GivesBound, GivesEnd, Gives}
 use Rattle.ccsl_trace.specs.Traces.{IsReadBy}
+use Rattle.ccsl_base.proofs.Cases.{some-same}
 
 none-some : {A : Type 0} {x : A} {P : Type 0} → None ≡ Some x → P
 none-some e = let z : ⊥ = cc in absurd z
-
-some-same : {A : Type 0} (x y : A) → Some x ≡ Some y → x ≡ y
-some-same x y e = cc
 
 module _ (told : Told) (wanted : Wanted) (limits : Limits) (start now : State) (before : Option (List ℕ)) where
   -- where no clocks were bound, they are handed out

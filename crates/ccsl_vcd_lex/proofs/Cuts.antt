@@ -1,13 +1,14 @@
 -- How tokens go over a cut of the bytes.
-use Rattle.std.proofs.Common.{◌≡◌, ℕ, ◌+◌, ◌≤◌, ◌<◌, List, [], ◌∷◌, ◌++◌, length, Bool, true, false, Some, None, nat_lt, ◌||◌, cond, refl, ap, ◌∙◌, arith, length-append, filter, zero-add}
-use Rattle.std.specs.List.{AllByRecursion}
+use Rattle.std.proofs.Common.{◌≡◌, ℕ, ◌+◌, ◌≤◌, ◌<◌, List, [], ◌∷◌, ◌++◌, length, Bool, true, false, Some, None, nat_lt, ◌||◌, cond, get_or, refl, ap, ◌∙◌, arith, length-append, filter, zero-add}
+use Rattle.std.specs.List.{AllByRecursion, list_all, prefix_len}
 use Rattle.std.proofs.lemmas.Grind.{common_steps}
-use Rattle.std.proofs.lemmas.Bool.{lt-ltb}
+use Rattle.std.proofs.lemmas.Bool.{lt-ltb, not-false}
 use Rattle.std.proofs.lemmas.List.Elements.{filter-append}
+use Rattle.std.proofs.lemmas.List.Sums.{prefix_len_stops}
 use Rattle.ccsl_vcd_lex.specs.Tokens.{is_white, Token, token, end_of, run, begins, tokens_from, tokens, closed, is_long}
 use Rattle.ccsl_vcd_lex.specs.LongTokens.{first_long}
 use Rattle.ccsl_vcd_lex.specs.Runs.{fresh_after}
-use Rattle.ccsl_vcd_lex.specs.Lexing.{Dark}
+use Rattle.ccsl_vcd_lex.specs.Lexing.{Dark, is_dark}
 
 -- all of the bytes are white
 abbrev pub White : List ℕ → Type 0
@@ -204,3 +205,17 @@ pub from-behind : (f : Bool) (at : ℕ) (p ws : List ℕ) → White ws → token
 unfolding tokens_from
 from-behind f at [] ws h = none-white f at ws h
 from-behind f at (c ∷ p) ws h = rw (run-behind (c ∷ p) ws h, from-behind (is_white c) (at + 1) p ws h) refl
+
+-- whether a token may begin behind two parts is said by the second, behind the first
+pub fresh-append : (f : Bool) (p q : List ℕ) → fresh_after f (p ++ q) ≡ fresh_after (fresh_after f p) q
+unfolding fresh_after
+fresh-append f [] q = refl
+fresh-append f (b ∷ p) q = fresh-append (is_white b) p q
+
+-- behind the dark bytes at the front stands a white one
+pub white-stop : (xs : List ℕ) → prefix_len is_dark xs < length xs → is_white (get_or xs (prefix_len is_dark xs) 0) ≡ true
+white-stop xs l = not-false _ (prefix_len_stops is_dark xs 0 l)
+
+pub hash-dark : (xs : List ℕ) → list_all is_dark xs ≡ true → list_all is_dark (35 ∷ xs) ≡ true
+unfolding is_white
+hash-dark xs h = h

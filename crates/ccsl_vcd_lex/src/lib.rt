@@ -16,6 +16,6 @@ pub mod span;
 pub mod tokenizer;
 
 pub use scan::{is_space, run_end};
-pub use short_code::{SHORT, ShortCode, code_at_front, place_of};
+pub use short_code::{SHORT, ShortCode, are_visible, code_at_front, place_of};
 pub use span::{Fed, Span, TokenTooLong};
 pub use tokenizer::Tokenizer;

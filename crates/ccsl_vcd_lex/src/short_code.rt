@@ -1,6 +1,7 @@
 //! Short identifier codes, and their places in a table.
 
 ghost use Rattle.std.specs.Prelude.{◌≡◌, ◌<◌, ◌≤◌, [], ◌∷◌, true, false, IfSome};
+ghost use Rattle.std.specs.List.{list_all};
 ghost use Rattle.ccsl_vcd_lex.specs.Tokens.{is_white};
 ghost use Rattle.ccsl_vcd_lex.specs.ShortCodes.{is_visible, place_of, IsCode};
 
@@ -14,6 +15,13 @@ fn is_visible(b: u8) -> bool
     ensures { result ≡ is_visible b }
 {
     b >= 33 && b <= 126
+}
+
+/// Whether all bytes are visible characters of ASCII, as those of a code are.
+pub fn are_visible(text: &[u8]) -> bool
+    ensures { result ≡ list_all is_visible text.now }
+{
+    text.iter().all(|b| is_visible(*b))
 }
 
 // The place of a code of one byte in a table, and of one with two and with three.

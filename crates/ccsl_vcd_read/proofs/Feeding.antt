@@ -19,13 +19,7 @@ use Rattle.ccsl_vcd_read.specs.Reading.{Reading, Stopped, StandsFor, Pushes, Had
 use Rattle.ccsl_vcd_read.proofs.StagePictures.{caused-map}
 use Rattle.ccsl_vcd_read.proofs.Taking.{stands-stopped, stopped-is}
 use Rattle.ccsl_vcd_read.proofs.Faults.{stopped-further}
-
--- the rest of a piece from a place on, as a slice gives it
-abbrev pub rest_at : ℕ → List ℕ → List ℕ
-rest_at i piece = take (length piece - i) (drop i piece)
-
-pub rest-is : (i : ℕ) (piece : List ℕ) → rest_at i piece ≡ drop i piece
-rest-is i piece = take_all (length piece - i) (drop i piece) (omega (arith, length-drop i piece))
+use Rattle.ccsl_base.proofs.Cases.{rest-is, rest_at}
 
 -- the bytes of a piece so far, and more of the rest
 pub more-of : (bytes piece : List ℕ) (i n : ℕ) → (bytes ++ take i piece) ++ take n (rest_at i piece) ≡ bytes ++ take (i + n) piece

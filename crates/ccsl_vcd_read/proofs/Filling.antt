@@ -7,7 +7,7 @@ use Rattle.ccsl_base.specs.Rows.{RowList}
 use Rattle.ccsl_vcd_lex.specs.Tokens.{Token, token, tokens, Heard, hear, too_long, settled, is_long}
 use Rattle.ccsl_vcd_lex.specs.Runs.{fresh_after}
 use Rattle.ccsl_vcd_lex.specs.Lexing.{Dark}
-use Rattle.ccsl_vcd_lex.proofs.Cuts.{one, closed-parts}
+use Rattle.ccsl_vcd_lex.proofs.Cuts.{one, closed-parts, fresh-append}
 use Rattle.ccsl_vcd.specs.declared.limits.Limits.{Limits}
 use Rattle.ccsl_vcd.specs.Binding.{Wanted}
 use Rattle.ccsl_vcd.specs.Reading.{Story, says, next, next_from, story}
@@ -19,7 +19,7 @@ use Rattle.ccsl_vcd_read.specs.declared.stage.Stage.TheVariants as stage
 use Rattle.ccsl_vcd_read.specs.Run.{Runs, Fills}
 use Rattle.ccsl_vcd_read.specs.Staging.{FillsIn}
 use Rattle.ccsl_vcd_read.specs.Reading.{Reading, Running, HadRoom}
-use Rattle.ccsl_vcd_read.proofs.Passing.{fresh-append, fresh-open}
+use Rattle.ccsl_vcd_read.proofs.Passing.{fresh-open}
 use Rattle.ccsl_vcd_read.proofs.Taking.{done-within}
 use Rattle.ccsl_vcd_read.proofs.Faults.{Taken}
 use Rattle.ccsl_vcd_read.proofs.Racing.{part-rows}

@@ -17,6 +17,7 @@ use Rattle.ccsl_vcd_read.specs.declared.command.Command.{Command}
 use Rattle.ccsl_vcd_read.specs.declared.command.Command.TheVariants.{Between, Kind, Size, Code, Reference, More, Scope, Upscope, EndDefinitions, Other}
 use Rattle.ccsl_vcd_read.specs.declared.heading.Heading.{Heading}
 use Rattle.ccsl_vcd_read.specs.Heading.{start_of, put_size, size_in, code_in, word_in, end_in, reference_in, declared_in, InVar, InOther, InScope, SizeNext, CodeNext, ReferenceNext, MoreNext, Stands, header_of, opening, HeadShows, Closes, Refuses, Caused, Becomes}
+use Rattle.ccsl_base.proofs.Cases.{not-within}
 
 abbrev pub HeadHears : Wanted → Limits → Story → Story → Result Heading VcdFault → Type 0
 HeadHears wanted limits st next (Ok h) = HeadShows wanted limits h next
@@ -28,9 +29,6 @@ says_at hd said = told [] (p.header hd) said
 
 refuses : (hd : p.Header) (f : VcdFault) → Refuses f (opening hd) (says_at hd (p.refused f))
 refuses hd f = record { fault = refl; place = refl; rows = refl }
-
-above : (a b : ℕ) → nat_le a b ≡ false → b < a
-above a b e = grind (arith, common_steps)
 
 -- A token in a command's place.
 
@@ -49,7 +47,7 @@ module _ (wanted : Wanted) (limits : Limits) (h : Heading) (ds : List Declaratio
           told = refl;
           binds = binds;
           vars = vars;
-          stands = record { head = token at text; inside = refl; is_var = e; few = above limits.vars h.vars g };
+          stands = record { head = token at text; inside = refl; is_var = e; few = not-within limits.vars h.vars g };
         }
       ]) refl)
 

@@ -7,7 +7,7 @@ use Rattle.ccsl_vcd_lex.specs.Tokens.{is_white, Token, token, end_of, run, begin
 use Rattle.ccsl_vcd_lex.specs.LongTokens.{first_long}
 use Rattle.ccsl_vcd_lex.specs.Runs.{fresh_after}
 use Rattle.ccsl_vcd_lex.specs.Lexing.{Dark, Lexing, StandsFor, BreaksWithin}
-use Rattle.ccsl_vcd_lex.proofs.Cuts.{White, tokens-cut, closed-before, long-append, fresh-behind, from-behind}
+use Rattle.ccsl_vcd_lex.proofs.Cuts.{White, tokens-cut, closed-before, long-append, fresh-behind, from-behind, fresh-append}
 use Rattle.ccsl_vcd_lex.proofs.Further.{heard-split}
 use Rattle.ccsl_vcd_lex.proofs.Steps.{parts, runs}
 use Rattle.ccsl_vcd_read.specs.Passing.{Passing, Lexes}
@@ -210,11 +210,6 @@ breaks-behind v bytes piece at s b = record {
 }
 
 -- Bytes were passed over.
-
-pub fresh-append : (f : Bool) (p q : List ℕ) → fresh_after f (p ++ q) ≡ fresh_after (fresh_after f p) q
-unfolding fresh_after
-fresh-append f [] q = refl
-fresh-append f (b ∷ p) q = fresh-append (is_white b) p q
 
 dark-after : (f : Bool) (xs : List ℕ) → Dark xs → 0 < length xs → fresh_after f xs ≡ false
 unfolding fresh_after

@@ -5,7 +5,7 @@ use Rattle.ccsl_base.specs.declared.rows.Row.{Row}
 use Rattle.ccsl_vcd_lex.specs.Tokens.{is_white, Token, tokens_from, tokens, hear, word, too_long, settled, is_long}
 use Rattle.ccsl_vcd_lex.specs.LongTokens.{first_long}
 use Rattle.ccsl_vcd_lex.specs.Runs.{fresh_after}
-use Rattle.ccsl_vcd_lex.proofs.Cuts.{tokens-cut, ends-before, all-kept, long-append, fresh-behind}
+use Rattle.ccsl_vcd_lex.proofs.Cuts.{tokens-cut, ends-before, all-kept, long-append, fresh-behind, fresh-append}
 use Rattle.ccsl_vcd.specs.declared.fault.VcdFault.{VcdFault}
 use Rattle.ccsl_vcd.specs.declared.limits.Limits.{Limits}
 use Rattle.ccsl_vcd.specs.Binding.{Wanted}
@@ -22,7 +22,7 @@ use Rattle.ccsl_vcd_read.specs.Run.{behind, hear_next, hear_all, Runs}
 use Rattle.ccsl_vcd_read.specs.Staging.{is_body, RunsIn}
 use Rattle.ccsl_vcd_read.specs.Reading.{Reading, FewRows, Running, Pushes, past_header}
 use Rattle.ccsl_vcd_read.proofs.BodyPictures.{Hears, hears}
-use Rattle.ccsl_vcd_read.proofs.Passing.{settled-at, settles_at, fresh-append, fresh-open}
+use Rattle.ccsl_vcd_read.proofs.Passing.{settled-at, settles_at, fresh-open}
 use Rattle.ccsl_vcd_read.proofs.Run.{hears-from}
 use Rattle.ccsl_vcd_read.proofs.Taking.{done-within, runs-past}
 use Rattle.ccsl_vcd_read.proofs.Faults.{Taken}

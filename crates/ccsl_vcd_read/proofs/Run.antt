@@ -9,7 +9,7 @@ use Rattle.ccsl_vcd_lex.specs.Tokens.{is_white, Token, token, tokens_from}
 use Rattle.ccsl_vcd_lex.specs.LongTokens.{first_long}
 use Rattle.ccsl_vcd_lex.specs.Runs.{fresh_after}
 use Rattle.ccsl_vcd_lex.specs.Lexing.{Dark, is_dark}
-use Rattle.ccsl_vcd_lex.proofs.Cuts.{tokens-cut, long-append, one-token, from-behind, fresh-behind}
+use Rattle.ccsl_vcd_lex.proofs.Cuts.{tokens-cut, long-append, one-token, from-behind, fresh-behind, fresh-append, white-stop}
 use Rattle.ccsl_vcd.specs.declared.fault.VcdFault.{VcdFault}
 use Rattle.ccsl_vcd_read.specs.declared.body.Body.{Body}
 use Rattle.ccsl_vcd_read.specs.Step.{hear_at, hear_of, word_says, put_number, Says}
@@ -21,7 +21,6 @@ use Rattle.ccsl_vcd_read.specs.declared.amid.Amid.TheVariants.{Changes, Remark, 
 use Rattle.ccsl_vcd_read.specs.Meant.{amid_of}
 use Rattle.ccsl_vcd_read.specs.Marks.{put}
 use Rattle.ccsl_vcd_read.specs.Run.{behind, hear_next, hear_all, Runs, Fills}
-use Rattle.ccsl_vcd_read.proofs.Passing.{fresh-append}
 use Rattle.ccsl_vcd_read.proofs.StagePictures.{room-left}
 
 behind-both : (xs ys : List Row) (r : Result (Body × List Row) VcdFault) → behind (xs ++ ys) r ≡ behind xs (behind ys r)
@@ -121,9 +120,6 @@ pub dark-but-last : (n : ℕ) (bytes : List ℕ) → n ≡ prefix_len is_dark by
 dark-but-last n bytes e =
     let k : prefix_len is_dark bytes ≡ n + 1 - 1 = omega (arith, e) in
     subst (λ i. Dark (take i bytes)) k (dark-front bytes)
-
-white-stop : (xs : List ℕ) → prefix_len is_dark xs < length xs → is_white (get_or xs (prefix_len is_dark xs) 0) ≡ true
-white-stop xs l = not-false _ (Rattle.std.proofs.lemmas.List.Sums.prefix_len_stops is_dark xs 0 l)
 
 pub front-white : (b : Body) (at end : ℕ) (bytes : List ℕ) (rows : List Row) → end ≡ prefix_len is_dark bytes → end ≡ 0 → end < length bytes → Runs b b at (take 1 bytes) rows rows
 front-white b at end [] rows e z l = absurd (omega arith)

@@ -23,6 +23,7 @@ use Rattle.ccsl_vcd_read.specs.Run.{Made}
 use Rattle.ccsl_vcd_read.proofs.Letters.{all-both, bits-scalar}
 use Rattle.ccsl_vcd_read.proofs.Run.{runs-none, runs-on, front-word, is-changes, bit-of, take-first, short-says}
 use Rattle.ccsl_vcd_lex.proofs.ShortCodes.{run-is}
+use Rattle.ccsl_base.proofs.Cases.{one_more}
 
 pub none-made : (b : Body) (bytes : List ℕ) → Made b b bytes 0
 none-made b bytes = record { within = omega arith; runs = λ at rows. runs-none b at rows; none = λ _. refl }
@@ -160,13 +161,10 @@ vector-made b c k n place number bytes rest a first some bits inside few white a
 
 -- Letters of bits that a vector of bytes shows.
 
-up : (n : ℕ) → 1 + n ≡ suc n
-up n = omega arith
-
 passed-bits : (xs : List ℕ) → list_all is_bit (take (prefix_len (λ b. not (is_other b)) xs) xs) ≡ true
 passed-bits [] = refl
 passed-bits (x ∷ xs) = (elim (is_bit x) as (λ w. is_bit x ≡ w → list_all is_bit (take (cond (not (not w)) (1 + prefix_len (λ b. not (is_other b)) xs) 0) (x ∷ xs)) ≡ true) [
-  | true ↦ λ h. subst (λ n. list_all is_bit (take n (x ∷ xs)) ≡ true) (sym (up (prefix_len (λ b. not (is_other b)) xs))) (rw h (passed-bits xs))
+  | true ↦ λ h. subst (λ n. list_all is_bit (take n (x ∷ xs)) ≡ true) (sym (one_more (prefix_len (λ b. not (is_other b)) xs))) (rw h (passed-bits xs))
   | false ↦ λ h. refl
 ]) refl
 

@@ -18,19 +18,13 @@ use Rattle.ccsl_vcd_read.specs.Step.{hear_at, hear_of, word_says, time_says, Say
 use Rattle.ccsl_vcd_read.specs.Run.{Runs, Front}
 use Rattle.ccsl_vcd_read.proofs.Numbers.{number-value}
 use Rattle.ccsl_vcd_read.proofs.Run.{is-changes, take-first, front-word}
+use Rattle.ccsl_vcd_lex.proofs.Cuts.{hash-dark}
+use Rattle.ccsl_vcd.proofs.Words.{time-word}
 
 number-is : (text : List ℕ) (value : ℕ) → 0 < length text → AreDigits text value → value < 2 ^ 64 → number 18446744073709551615 text ≡ Some value
 number-is text value some d fits =
     let n : value_behind 0 text ≤ 18446744073709551615 = omega (arith, d.amount, fits) in
     number-value 18446744073709551615 text some ∙ rw (d.all, le-leb (value_behind 0 text) 18446744073709551615 n) (ap (λ (v : ℕ). Some v) (sym d.amount))
-
-time-word : (text : List ℕ) (value : ℕ) → number 18446744073709551615 text ≡ Some value → word_of (35 ∷ text) ≡ time value
-unfolding word_of
-time-word text value e = ap time_of e
-
-head-dark : (xs : List ℕ) → list_all is_dark xs ≡ true → list_all is_dark (35 ∷ xs) ≡ true
-unfolding is_white
-head-dark xs h = h
 
 pub time-heard : (b c : Body) (at k value : ℕ) (bytes : List ℕ) (x y : List Row) → is_changes (amid_of b.amid) ≡ true → get_or bytes 0 0 ≡ 35 → 0 < k → AreDigits (take k (drop 1 bytes)) value → value < 2 ^ 64
     → k + 1 < length bytes → k + 1 ≤ 65536 → is_white (get_or bytes (k + 1) 0) ≡ true → Says (time_says b at value) (Ok tt) b c x y → Front b c at bytes (k + 1) x y
@@ -39,7 +33,7 @@ time-heard b c at k value bytes x y a first some d fits inside few white says =
     let len : length ds ≡ k = length-take-le k (drop 1 bytes) (omega (arith, length-drop 1 bytes, inside)) in
     let back : (k + 1) - 1 ≡ k = omega arith in
     let text : take (k + 1) bytes ≡ 35 ∷ ds = take-first (k + 1) bytes (omega arith) (omega (arith, inside)) ∙ ap (λ (f : ℕ). f ∷ take ((k + 1) - 1) (drop 1 bytes)) first ∙ ap (λ (n : ℕ). 35 ∷ take n (drop 1 bytes)) back in
-    let dark : list_all is_dark (take (k + 1) bytes) ≡ true = ap (list_all is_dark) text ∙ head-dark ds (digits-dark ds d.all) in
+    let dark : list_all is_dark (take (k + 1) bytes) ≡ true = ap (list_all is_dark) text ∙ hash-dark ds (digits-dark ds d.all) in
     let heard : hear_of b at (take (k + 1) bytes) ≡ time_says b at value =
     ap (hear_of b at) text ∙ ap (hear_at b at (35 ∷ ds)) (is-changes b.amid a) ∙ ap (word_says b at) (time-word ds value (number-is ds value (omega (arith, len, some)) d fits)) in (
       (λ _. record {

@@ -1,8 +1,7 @@
 //! The commands of a header.
 
-ghost use Rattle.std.specs.Prelude.{◌≡◌, ◌&&◌, nat_le};
-ghost use Rattle.std.specs.List.{list_all};
-ghost use Rattle.ccsl_vcd.specs.Header.{header_word, is_code};
+ghost use Rattle.std.specs.Prelude.{◌≡◌};
+ghost use Rattle.ccsl_vcd.specs.Header.{header_word};
 ghost use Rattle.ccsl_vcd_read.specs.Meant.{header_meant};
 
 use crate::word::is_text;
@@ -53,22 +52,4 @@ pub(crate) fn header_word(text: &[u8]) -> HeaderWord
     } else {
         HeaderWord::Plain
     }
-}
-
-fn is_visible(b: u8) -> bool
-    ensures { result ≡ (nat_le 33 b && nat_le b 126) }
-{
-    b >= 33 && b <= 126
-}
-
-fn all_visible(text: &[u8]) -> bool
-    ensures { result ≡ list_all (λ b. nat_le 33 b && nat_le b 126) text.now }
-{
-    text.iter().all(|b| is_visible(*b))
-}
-
-pub(crate) fn is_code(text: &[u8]) -> bool
-    ensures { result ≡ is_code text.now }
-{
-    text.len() <= 32 && all_visible(text)
 }

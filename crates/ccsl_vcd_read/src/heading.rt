@@ -12,11 +12,11 @@ ghost use Rattle.ccsl_vcd_read.specs.Meant.{header_meant};
 ghost use Rattle.ccsl_vcd_read.specs.Heading.{start_of, size_in, code_in, word_in, end_in, reference_in, Becomes, HeadShows, HeadGoes, Refuses, Caused, declared_in};
 
 use crate::buffer::Buffer;
-use crate::command::{Command, HeaderWord, header_word, is_code};
+use crate::command::{Command, HeaderWord, header_word};
 use crate::number::number;
 use crate::word::is_text;
 use ccsl_bind::Binder;
-use ccsl_vcd::{Limits, VcdFault};
+use ccsl_vcd::{Limits, VcdFault, is_code};
 use std::alloc::Global;
 
 /// What is kept of a header that is being read: the words of the declaration that is open, and of all before it what the

@@ -23,26 +23,15 @@ use Rattle.ccsl_vcd_write.specs.Text.{tick_line}
 use Rattle.ccsl_vcd_write.proofs.Lines.{behind, all_words, all_words-append}
 use Rattle.ccsl_vcd_write.proofs.CodeLaws.{code-some}
 use Rattle.ccsl_vcd_write.proofs.Stories.{goes, goes-append}
+use Rattle.ccsl_base.proofs.Digits.{are-digits, value-same}
 
 -- a TIME
-
-digits-are : (ds : List ℕ) → AllDigits 10 ds → list_all is_digit ds ≡ true
-digits-are [] h = refl
-digits-are (d ∷ ds) h =
-    let range = digit_from_value d h.0 in
-    ap₂ (λ s t. s && t) (ap₂ (λ s t. s && t) (le-leb 48 d range.0) (le-leb d 57 range.1)) (digits-are ds h.1)
-
-value-same : (n : ℕ) (ds : List ℕ) → AllDigits 10 ds → value_behind n ds ≡ digits_value_after 10 n ds
-value-same n [] h = refl
-value-same n (d ∷ ds) h =
-    let value : n * 10 + (d - 48) ≡ n * 10 + digit_value d = omega (arith, digit_value_digit d (digit_from_value d h.0)) in
-    ap (λ v. value_behind v ds) value ∙ value-same (n * 10 + digit_value d) ds h.1
 
 number-read : (most n : ℕ) (ds : List ℕ) → IsNumeral 10 ds → digits_value 10 ds ≡ n → n ≤ most → w.number most ds ≡ Some n
 unfolding w.number
 number-read most n [] h e l = absurd (omega (arith, h.0))
 number-read most n (d ∷ ds) h e l =
-    ap (λ b. cond (b && nat_le (value_behind 0 (d ∷ ds)) most) (Some (value_behind 0 (d ∷ ds))) None) (digits-are (d ∷ ds) h.1)
+    ap (λ b. cond (b && nat_le (value_behind 0 (d ∷ ds)) most) (Some (value_behind 0 (d ∷ ds))) None) (are-digits (d ∷ ds) h.1)
     ∙ ap (λ v. cond (nat_le v most) (Some v) None) (value-same 0 (d ∷ ds) h.1 ∙ e)
     ∙ ap (λ b. cond b (Some n) None) (le-leb n most l)
 

@@ -19,20 +19,12 @@ use Rattle.ccsl_vcd_write.proofs.CodeLaws.{code-visible, code-some, code-short}
 use Rattle.ccsl_vcd_write.proofs.HeaderStory.{var_words, vars_words}
 use Rattle.ccsl_vcd_write.proofs.BodyStory.{AreBelow, step_words, steps_words}
 use Rattle.ccsl_kernel.proofs.NamesInCertificates.{inner_visible}
+use Rattle.ccsl_base.proofs.Digits.{digits-visible}
 
 -- VISIBLE WORDS
 
 letter-visible : (b : ℕ) → is_letter b ≡ true → is_visible b ≡ true
 letter-visible b h = grind (arith, common_steps)
-
-inner-visible : (b : ℕ) → is_inner b ≡ true → is_visible b ≡ true
-inner-visible b h = grind (arith, common_steps)
-
-digits-visible : (ds : List ℕ) → AllDigits 10 ds → list_all is_visible ds ≡ true
-digits-visible [] h = refl
-digits-visible (d ∷ ds) h =
-    let range = digit_from_value d h.0 in
-    ap₂ (λ s t. s && t) (ap₂ (λ s t. s && t) (le-leb 33 d (omega (arith, range.0))) (le-leb d 126 (omega (arith, range.1)))) (digits-visible ds h.1)
 
 pub spelled : (w : List ℕ) → 1 ≤ length w → length w ≤ 64 → list_all is_visible w ≡ true → is_spelled w ≡ true
 spelled w s l v = ap₂ (λ a b. a && b) (le-leb 1 (length w) s) (ap₂ (λ a b. a && b) (le-leb (length w) 64 l) v)

@@ -5,10 +5,11 @@ use Rattle.ccsl_refute.specs.Read.{members}
 use Rattle.ccsl_refute.specs.Reading.{read_line, reading}
 use Rattle.ccsl_refute.specs.Text.{tokens}
 use Rattle.ccsl_refute.proofs.InOrder.{Reads-fault, put_before}
-use Rattle.ccsl_refute.proofs.Tokens.{rest-all, length-rest}
+use Rattle.ccsl_refute.proofs.Tokens.{length-rest}
 use Rattle.ccsl_refute.proofs.Lines.{later, step-none, step-one, step-fault}
 use Rattle.ccsl_refute.proofs.reader.read.Goals as goal
 use Rattle.ccsl_refute.proofs.reader.read.Goals.{in-Some+in_ok-push, in_default}
+use Rattle.ccsl_base.proofs.Cases.{rest-is}
 
 pub returns-in_err-found : goal.returns-in_err-found
 returns-in_err-found c =
@@ -18,7 +19,7 @@ returns-in_err-found c =
     (Reads-fault members (λ (v : Vec Line Global). v.items) (read_line c.args.names.now (c.lines.at + length w) (tokens c.lines.at w) (Ok [])) (reading c.args.names.now c.args.text.now)
     c.in_err-found.field-0.0
     (step-fault c.args.names.now c.args.text.now c.lines.at c.line_len-len.result _ w c.lines.lines.items
-    (rest-all c.lines.at c.args.text.now) c.line_len-len.ensures.len c.line_len-len.ensures.within c.first_line.ensures.line c.lines.invariant.same)
+    (rest-is c.lines.at c.args.text.now) c.line_len-len.ensures.len c.line_len-len.ensures.within c.first_line.ensures.line c.lines.invariant.same)
     c.in_err-found.ensures)
 
 pub lines-preserved : goal.lines-preserved
@@ -28,7 +29,7 @@ lines-preserved c =
     let at = c.lines.at in
     let n = c.line_len-len.result in
     let w = c.first_line.result.now in
-    let rest = rest-all at text in
+    let rest = rest-is at text in
     let len = c.line_len-len.ensures.len in
     let inside = c.line_len-len.ensures.within in
     let line = c.first_line.ensures.line in

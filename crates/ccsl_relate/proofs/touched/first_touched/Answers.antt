@@ -7,8 +7,8 @@ use Rattle.ccsl_relate.specs.Watching.{FailsFirst}
 use Rattle.ccsl_relate.specs.Reading.{clocks_of, AreReaders, FailsFrom, GoesOn}
 use Rattle.ccsl_relate.proofs.Ranges.{on-both, on-all, fails-first, some-more}
 use Rattle.ccsl_relate.proofs.Told.{told_at, touches-told, tell-of}
-use Rattle.ccsl_relate.proofs.Undeclared.{none-of}
 use Rattle.ccsl_relate.proofs.touched.first_touched.Goals as goal
+use Rattle.ccsl_base.proofs.Cases.{none-of}
 
 pub first_at-place-requires-clause-touched : goal.first_at-place-requires-clause-touched
 first_at-place-requires-clause-touched c =

@@ -2,8 +2,9 @@ use Rattle.std.proofs.Common.{ℕ, ◌≡◌, ◌⊎◌, ◌+◌, ◌-◌, lengt
 use Rattle.std.proofs.lemmas.Result.{err_from_is_err_and}
 use Rattle.ccsl_vcd.specs.declared.fault.VcdFault.TheVariants as faults
 use Rattle.ccsl_events.specs.Run.{Runs, Breaks}
-use Rattle.ccsl_events.proofs.Run.{runs-none, rest-none, rest-more, runs-more, rest-breaks, rest-is, place-fits}
+use Rattle.ccsl_events.proofs.Run.{runs-none, rest-none, rest-more, runs-more, rest-breaks, place-fits}
 use Rattle.ccsl_events.proofs.body.Body.run.Goals as goal
+use Rattle.ccsl_base.proofs.Cases.{rest-is}
 
 pub tokens-init : goal.tokens-init
 tokens-init c = record {

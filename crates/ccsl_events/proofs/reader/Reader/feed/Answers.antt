@@ -1,9 +1,10 @@
 use Rattle.std.proofs.Common.{◌≡◌, ℕ, ◌++◌, ◌-◌, ◌≤◌, length, take, ap, ◌∙◌, subst, arith, length-drop}
 use Rattle.std.proofs.lemmas.Result.{err_from_is_err_and}
 use Rattle.ccsl_events.specs.Fed.{Reaches}
-use Rattle.ccsl_events.proofs.Run.{rest-none, rest-more, rest-is, rest_at}
+use Rattle.ccsl_events.proofs.Run.{rest-none, rest-more}
 use Rattle.ccsl_events.proofs.Feeding.{feed-more, feed-breaks, rest-fits}
 use Rattle.ccsl_events.proofs.reader.Reader.feed.Goals as goal
+use Rattle.ccsl_base.proofs.Cases.{rest-is, rest_at}
 
 pub strides-init : goal.strides-init
 strides-init c =

@@ -2,9 +2,10 @@ use Rattle.std.proofs.Common.{◌∙◌, ℕ, ap, Ok, Err, ◌≡◌, ◌≤◌,
 use Rattle.std.proofs.lemmas.Grind.{common_steps}
 use Rattle.std.proofs.lemmas.Result.{err_from_is_err_and}
 use Rattle.ccsl_events.specs.declared.reader.Reader.{Reader}
-use Rattle.ccsl_events.proofs.Feeding.{closes, goes-on, open-to, kept-long, kept-breaks, kept-said, end-breaks, end-word, end-white, ends-in, no-items}
+use Rattle.ccsl_events.proofs.Feeding.{closes, goes-on, open-to, kept-long, kept-breaks, kept-said, end-breaks, end-word, end-white, ends-in}
 use Rattle.ccsl_events.proofs.reader.Reader.part.Goals as goal
 use Rattle.ccsl_events.proofs.reader.Reader.part.Goals.{then-not-is_empty+in_ok-hear, else-not-is_empty}
+use Rattle.ccsl_base.proofs.Cases.{no-items}
 
 pub returns-then-end-min-clause-feeds : goal.returns-then-end-min-clause-feeds
 returns-then-end-min-clause-feeds c plan start before p h fits =

@@ -4,9 +4,10 @@ use Rattle.std.proofs.lemmas.Result.{err_from_is_err_and}
 use Rattle.ccsl_events.specs.declared.reader.Reader.{Reader}
 use Rattle.ccsl_events.specs.Standing.{Stands}
 use Rattle.ccsl_events.specs.Fed.{Reaches}
-use Rattle.ccsl_events.proofs.Feeding.{same-body, no-items, fresh-runs, fresh-breaks, closes, still-there, feeds-next, reaches-here}
+use Rattle.ccsl_events.proofs.Feeding.{same-body, fresh-runs, fresh-breaks, closes, still-there, feeds-next, reaches-here}
 use Rattle.ccsl_events.proofs.reader.Reader.stride.Goals as goal
 use Rattle.ccsl_events.proofs.reader.Reader.stride.Goals.{then-is_empty+in-Some+in_ok-taken+else-taken-gt0, then-is_empty+in_default, else-is_empty}
+use Rattle.ccsl_base.proofs.Cases.{no-items}
 
 pub returns-in_err-taken-clause-feeds : goal.returns-in_err-taken-clause-feeds
 returns-in_err-taken-clause-feeds c plan start before p h fits =

@@ -8,15 +8,12 @@ use Rattle.ccsl_events.specs.Keeping.{with_users, settle_each}
 use Rattle.ccsl_events.proofs.Kept.{keeps-settled}
 use Rattle.ccsl_events.proofs.Names.{names-kept}
 use Rattle.ccsl_events.proofs.values.Values.settle.Goals as goal
-
-none-of : (xs : List ℕ) → length xs ≡ 0 → xs ≡ []
-none-of [] e = refl
-none-of (x ∷ xs) e = absurd (omega (arith, e))
+use Rattle.ccsl_base.proofs.Cases.{no-items}
 
 pub returns-then-is_empty-clause-row : goal.returns-then-is_empty-clause-row
 returns-then-is_empty-clause-row c plan views k =
     let v = c.args.self.now in
-    let none : v.touched.items ≡ [] = none-of v.touched.items (sym v.touched.ok.0 ∙ eqb-true _ 0 (sym c.is_empty.ensures ∙ c.if-is_empty.true)) in
+    let none : v.touched.items ≡ [] = no-items v.touched.items (sym v.touched.ok.0 ∙ eqb-true _ 0 (sym c.is_empty.ensures ∙ c.if-is_empty.true)) in
     let names : [] ≡ names_at plan.watches views =
     sym (ap (λ ns. with_users ns v.users.items v.watches.items (view_at v.signals.items) v.none) none ∙ k.none) ∙ names-kept plan views v k in
     sym (append-nil c.args.out.now.items) ∙ ap (λ ns. c.args.out.now.items ++ row_text (decimal c.args.time) ns) names

@@ -1,6 +1,7 @@
 use Rattle.std.proofs.Common.{◌≡◌, ◌-◌, [], List, ℕ, length, take, drop, sym, ap, ◌∙◌}
-use Rattle.ccsl_refute.proofs.Tokens.{tokens-end, tokens-next, rest-all}
+use Rattle.ccsl_refute.proofs.Tokens.{tokens-end, tokens-next}
 use Rattle.ccsl_refute.proofs.token.Tokens.next.Goals as goal
+use Rattle.ccsl_base.proofs.Cases.{rest-is}
 
 pub returns-then-len-eq0-clause-next : goal.returns-then-len-eq0-clause-next
 returns-then-len-eq0-clause-next c =
@@ -8,7 +9,7 @@ returns-then-len-eq0-clause-next c =
     let n = c.blanks-start.result in
     let none : c.args.self.now.0 ≡ [] =
     ap (λ (v : List (ℕ × List ℕ) × ℕ). v.0) (sym c.self.view_is)
-    ∙ tokens-end c.self.inside.at n c.letters-len.result xs _ c.blanks-start.ensures.count (rest-all n xs) c.letters-len.ensures.count c.if-len-eq0.true in
+    ∙ tokens-end c.self.inside.at n c.letters-len.result xs _ c.blanks-start.ensures.count (rest-is n xs) c.letters-len.ensures.count c.if-len-eq0.true in
     (none, none)
 
 pub returns-clause-next : goal.returns-clause-next
@@ -18,4 +19,4 @@ returns-clause-next c =
     let m = c.letters-len.result in
     let w = take (length xs - n) (drop n xs) in
     ap (λ (v : List (ℕ × List ℕ) × ℕ). v.0) (sym c.self.view_is)
-    ∙ tokens-next c.self.inside.at n m xs w _ c.blanks-start.ensures.count (rest-all n xs) c.letters-len.ensures.count c.if-len-eq0.false (rest-all m w)
+    ∙ tokens-next c.self.inside.at n m xs w _ c.blanks-start.ensures.count (rest-is n xs) c.letters-len.ensures.count c.if-len-eq0.false (rest-is m w)

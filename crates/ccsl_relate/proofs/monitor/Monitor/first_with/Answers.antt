@@ -7,8 +7,9 @@ use Rattle.ccsl_relate.specs.Few.{EachHasRoom}
 use Rattle.ccsl_relate.specs.Watching.{Watching, fails_in, next_in, FailsFirst, step_known, StandsFor, IsNext}
 use Rattle.ccsl_relate.proofs.Known.{undeclared-for}
 use Rattle.ccsl_relate.proofs.Passing.{states-after, few-steps, each-has-room, next-resting, next-violated, next-obeyed}
-use Rattle.ccsl_relate.proofs.Undeclared.{some-of, none-of}
+use Rattle.ccsl_relate.proofs.Undeclared.{some-of}
 use Rattle.ccsl_relate.proofs.monitor.Monitor.first_with.Goals as goal
+use Rattle.ccsl_base.proofs.Cases.{none-of}
 
 pub returns-then-is_some : goal.returns-then-is_some
 returns-then-is_some c = λ recorded rows s l.

@@ -1,7 +1,8 @@
 use Rattle.std.proofs.Common.{Some, length, sym, ap, subst, ◌<◌, ◌∙◌}
 use Rattle.ccsl_scopes.proofs.Added.{declared-more, result-length}
-use Rattle.ccsl_scopes.proofs.CodeLaws.{found-code, found-within, added-last}
+use Rattle.ccsl_scopes.proofs.CodeLaws.{found-code, added-last}
 use Rattle.ccsl_scopes.proofs.header.Header.code.Goals as goal
+use Rattle.ccsl_base.proofs.Tables.{found-within}
 
 pub invariant_of-self : goal.invariant_of-self
 invariant_of-self c =

@@ -2,8 +2,9 @@ use Rattle.std.proofs.Common.{◌≡◌, ◌∷◌, ◌++◌, [], None, is_some,
 use Rattle.std.specs.Str.{bytes_eq}
 use Rattle.std.specs.Map.{lookup}
 use Rattle.ccsl_spaces.specs.Places.{place_of}
-use Rattle.ccsl_spaces.proofs.Places.{lookup-map, none-of, inserted}
+use Rattle.ccsl_spaces.proofs.Places.{lookup-map, inserted}
 use Rattle.ccsl_spaces.proofs.index.Index.add.Goals as goal
+use Rattle.ccsl_base.proofs.Cases.{none-of}
 
 pub returns-then-contains_key-clause-fresh : goal.returns-then-contains_key-clause-fresh
 returns-then-contains_key-clause-fresh c =

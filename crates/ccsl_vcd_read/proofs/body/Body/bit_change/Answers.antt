@@ -1,9 +1,9 @@
 use Rattle.std.proofs.Common.{List, sym, ap, ◌∙◌, subst}
 use Rattle.ccsl_vcd_read.specs.declared.marks.Mark.{Mark}
 use Rattle.ccsl_vcd_lex.specs.ShortCodes.{IsCode}
-use Rattle.ccsl_vcd_read.proofs.Feeding.{rest-is}
 use Rattle.ccsl_vcd_read.proofs.ShortChanges.{none-made, bit-made}
 use Rattle.ccsl_vcd_read.proofs.body.Body.bit_change.Goals as goal
+use Rattle.ccsl_base.proofs.Cases.{rest-is}
 
 pub returns : goal.returns
 returns c =

@@ -1,6 +1,6 @@
-use Rattle.ccsl_vcd_read.proofs.Feeding.{rest-is}
 use Rattle.ccsl_vcd_read.proofs.ShortChanges.{made-to-none, made-to-more, made-to-end}
 use Rattle.ccsl_vcd_read.proofs.body.Body.changes.Goals as goal
+use Rattle.ccsl_base.proofs.Cases.{rest-is}
 
 pub loop-rest-init : goal.loop-rest-init
 loop-rest-init c = made-to-none c.args.self.now c.args.bytes.now

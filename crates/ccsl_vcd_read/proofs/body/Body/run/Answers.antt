@@ -1,8 +1,8 @@
 use Rattle.std.proofs.Common.{◌∙◌, ◌<◌, length, arith}
 use Rattle.std.proofs.lemmas.Grind.{common_steps}
-use Rattle.ccsl_vcd_read.proofs.Feeding.{rest-is}
 use Rattle.ccsl_vcd_read.proofs.Run.{runs-before-none, runs-before-more, runs-before-end, fills-last, runs-nothing}
 use Rattle.ccsl_vcd_read.proofs.body.Body.run.Goals as goal
+use Rattle.ccsl_base.proofs.Cases.{rest-is}
 
 pub loop-out-init : goal.loop-out-init
 loop-out-init c = record {

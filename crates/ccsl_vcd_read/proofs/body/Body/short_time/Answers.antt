@@ -1,8 +1,8 @@
 use Rattle.std.proofs.Common.{ℕ, List, length, take, sym, ap, ◌∙◌, subst, arith, length-drop}
 use Rattle.ccsl_vcd_lex.specs.Digits.{AreDigits}
-use Rattle.ccsl_vcd_read.proofs.Feeding.{rest-is}
 use Rattle.ccsl_vcd_read.proofs.ShortTimes.{time-heard}
 use Rattle.ccsl_vcd_read.proofs.body.Body.short_time.Goals as goal
+use Rattle.ccsl_base.proofs.Cases.{rest-is}
 
 pub returns-in-Ok-clause-heard : goal.returns-in-Ok-clause-heard
 returns-in-Ok-clause-heard c =

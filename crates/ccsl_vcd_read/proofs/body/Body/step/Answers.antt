@@ -1,9 +1,9 @@
 use Rattle.std.proofs.Common.{◌+◌, ◌<◌, length, take, arith}
 use Rattle.std.proofs.lemmas.Grind.{common_steps}
-use Rattle.ccsl_vcd_read.proofs.Feeding.{rest-is}
 use Rattle.ccsl_vcd_read.proofs.Run.{runs-on}
 use Rattle.ccsl_vcd_read.proofs.ShortTimes.{after-same}
 use Rattle.ccsl_vcd_read.proofs.body.Body.step.Goals as goal
+use Rattle.ccsl_base.proofs.Cases.{rest-is}
 
 pub returns-then-taken-gt0-clause-runs : goal.returns-then-taken-gt0-clause-runs
 returns-then-taken-gt0-clause-runs c =

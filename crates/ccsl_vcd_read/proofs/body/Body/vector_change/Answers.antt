@@ -5,9 +5,9 @@ use Rattle.ccsl_vcd.specs.Words.{last_of}
 use Rattle.ccsl_vcd_read.specs.Letters.{is_bit}
 use Rattle.ccsl_vcd_read.specs.Marks.{put}
 use Rattle.ccsl_vcd_read.specs.Run.{Made}
-use Rattle.ccsl_vcd_read.proofs.Feeding.{rest-is}
 use Rattle.ccsl_vcd_read.proofs.ShortChanges.{none-made, vector-made}
 use Rattle.ccsl_vcd_read.proofs.body.Body.vector_change.Goals as goal
+use Rattle.ccsl_base.proofs.Cases.{rest-is}
 
 pub returns : goal.returns
 returns c =
