@@ -1,5 +1,6 @@
 -- WHAT IS NOT REFUSED EXPANDS TO AN ACCEPTED SYSTEM.
-use Rattle.std.proofs.Common.{◌≡◌, ℕ, suc, ◌+◌, ◌≤◌, List, [], ◌∷◌, ◌++◌, Option, Some, None, Bool, true, false, cond, nat_lt, length, length-append, map, flat_map, filter_map, refl, sym, ap, ◌∙◌, subst, arith, if◌then◌else◌, lt-ltb}
+use Rattle.std.proofs.Common.{◌≡◌, ℕ, suc, ◌+◌, ◌≤◌, List, [], ◌∷◌, ◌++◌, Option, Some, None, Bool, true, false, cond, nat_lt, length, length-append, map}
+use Rattle.std.proofs.Common.{flat_map, filter_map, refl, sym, ap, ◌∙◌, subst, arith, if◌then◌else◌, lt-ltb}
 use Rattle.std.specs.Prelude.{All, IsTrue}
 use Rattle.std.specs.List.{AllByRecursion, list_all}
 use Rattle.std.proofs.lemmas.Bool.{and_parts, and_from}
@@ -49,7 +50,12 @@ few K e =
     let a = not-over (nat_lt MAX_CLOCKS (length K.names)) _ _ e in
     let b = not-over (nat_lt MAX_CONSTRAINTS (length K.constraints)) _ _ a.1 in
     let c = not-over (nat_lt MAX_CELLS (cells K)) _ _ b.1 in
-    record { clocks = not-less MAX_CLOCKS (length K.names) a.0; constraints = not-less MAX_CONSTRAINTS (length K.constraints) b.0; cells = not-less MAX_CELLS (cells K) c.0 }
+    record {
+      clocks = not-less MAX_CLOCKS (length K.names) a.0;
+      constraints = not-less MAX_CONSTRAINTS (length K.constraints) b.0;
+      cells =
+          not-less MAX_CELLS (cells K) c.0;
+    }
 
 unrefused : (o : Option Fault) (K : System) → refusal_with o K ≡ None → (o ≡ None) × (totals_refusal K ≡ None)
 unrefused None K e = (refl, e)
@@ -85,13 +91,15 @@ declared-named two (SClocks ss ∷ es) h =
     list_all-append is_name (map (λ s. s.name) ss) (flat_map declared_names es) ∙ and_from _ _ (spots-named ss v.1) (declared-named two es w.1)
 declared-named two (SLineOf l ∷ es) h = declared-named two es (and_parts (sline_kept two (SLineOf l)) (list_all (sline_kept two) es) h).1
 
-pub written-named : (K : Tables) (blocks : List PlainDefinition) (calls : K.calls ≡ calls_space 0 0 blocks) (xs : List Item) → AllByRecursion (Sound K blocks calls) xs → list_all is_name (written_names xs) ≡ true
+pub written-named : (K : Tables) (blocks : List PlainDefinition) (calls : K.calls ≡ calls_space 0 0 blocks) (xs : List Item)
+    → AllByRecursion (Sound K blocks calls) xs → list_all is_name (written_names xs) ≡ true
 written-named K blocks calls [] s = refl
 written-named K blocks calls (Defines [] name σ k e ∷ xs) s = and_from (is_name name) _ s.0.1 (written-named K blocks calls xs s.1)
 written-named K blocks calls (Defines (b ∷ bs) name σ k e ∷ xs) s = written-named K blocks calls xs s.1
 written-named K blocks calls (Binds path σ a r b ∷ xs) s = written-named K blocks calls xs s.1
 
-pub hidden-named : (K : Tables) (blocks : List PlainDefinition) (calls : K.calls ≡ calls_space 0 0 blocks) (xs : List Item) → AllByRecursion (Sound K blocks calls) xs → list_all is_hidden (hidden_names xs) ≡ true
+pub hidden-named : (K : Tables) (blocks : List PlainDefinition) (calls : K.calls ≡ calls_space 0 0 blocks) (xs : List Item)
+    → AllByRecursion (Sound K blocks calls) xs → list_all is_hidden (hidden_names xs) ≡ true
 hidden-named K blocks calls [] s = refl
 hidden-named K blocks calls (Defines [] name σ k e ∷ xs) s = hidden-named K blocks calls xs s.1
 hidden-named K blocks calls (Defines (b ∷ bs) name σ k e ∷ xs) s = and_from (is_hidden name) _ s.0.1 (hidden-named K blocks calls xs s.1)
@@ -135,21 +143,28 @@ module _ (library file : PlainFile) (lib : IsLibrary library) (is : IsFile file)
   group-bodies : Each (λ g members. All (IsBody system g) members) 0 system.groups
   group-bodies =
       let bodies = whole.bodies library file lib is none in
-      let first = groups-bodies K system blocks refl refl bodies (heights_of blocks) 0 0 [] library.definitions refl file.definitions refl (whole.library-faults library file lib is none)
+      let first = groups-bodies K system blocks refl refl bodies (heights_of blocks) 0 0 [] library.definitions refl file.definitions refl
+      (whole.library-faults library file lib is none)
       (whole.library-texts library file lib is none) (whole.depth-definitions library file lib is none library lib.file) in
-      let second = groups-bodies K system blocks refl refl bodies (heights_of blocks) (length library.definitions) (whole.first_text library file lib is none) library.definitions file.definitions refl [] at-end
-      (whole.file-faults library file lib is none) (whole.definition-texts library file lib is none) (whole.depth-definitions library file lib is none file is) in
+      let second = groups-bodies K system blocks refl refl bodies (heights_of blocks) (length library.definitions) (whole.first_text library file lib is none)
+      library.definitions file.definitions refl [] at-end
+      (whole.file-faults library file lib is none) (whole.definition-texts library file lib is none)
+      (whole.depth-definitions library file lib is none file is) in
       let start : groups_in (length library.definitions) blocks ≡ 0 + length (groups_of K 0 library.definitions) = (let f = first-groups in omega arith) in
-      each-append (λ g members. All (IsBody system g) members) 0 (groups_of K 0 library.definitions) (groups_of K (whole.first_text library file lib is none) file.definitions) first
+      each-append (λ g members. All (IsBody system g) members) 0 (groups_of K 0 library.definitions)
+      (groups_of K (whole.first_text library file lib is none) file.definitions) first
       (subst (λ n. Each (λ g members. All (IsBody system g) members) n (groups_of K (whole.first_text library file lib is none) file.definitions)) start second)
 
   group-heights : All (λ n. n ≤ 8) (group_levels [] system.groups)
   group-heights =
       let heights = heights_of blocks in
-      let first = advance K blocks refl heights refl 0 [] library.definitions file.definitions [] refl (none-tall K blocks refl) (whole.library-faults library file lib is none) in
+      let first = advance K blocks refl heights refl 0 [] library.definitions file.definitions [] refl (none-tall K blocks refl)
+      (whole.library-faults library file lib is none) in
       let tall = group_levels [] (groups_of K 0 library.definitions) in
-      let second = advance K blocks refl heights refl (whole.first_text library file lib is none) library.definitions file.definitions [] tall at-end first (whole.file-faults library file lib is none) in
-      subst (λ ns. All (λ n. n ≤ 8) ns) (sym (group_levels-append [] (groups_of K 0 library.definitions) (groups_of K (whole.first_text library file lib is none) file.definitions)))
+      let second = advance K blocks refl heights refl (whole.first_text library file lib is none) library.definitions file.definitions [] tall at-end first
+      (whole.file-faults library file lib is none) in
+      subst (λ ns. All (λ n. n ≤ 8) ns)
+      (sym (group_levels-append [] (groups_of K 0 library.definitions) (groups_of K (whole.first_text library file lib is none) file.definitions)))
       (all-listed (λ n. n ≤ 8) (group_levels tall (groups_of K (whole.first_text library file lib is none) file.definitions)) second.low)
 
   abbrev items : List Item
@@ -166,7 +181,8 @@ module _ (library file : PlainFile) (lib : IsLibrary library) (is : IsFile file)
 
   names-length : length system.names ≡ length declared + (length written + length hidden)
   names-length =
-      let parts : length system.names ≡ length (declared ++ (written_names items ++ hidden_names items)) = ap length (whole.three-parts library file lib is none) in
+      let parts : length system.names ≡ length (declared ++ (written_names items ++ hidden_names items)) =
+      ap length (whole.three-parts library file lib is none) in
       let a = length-append declared (written_names items ++ hidden_names items) in
       let b = length-append (written_names items) (hidden_names items) in
       let c = map-long item_name written in
@@ -183,10 +199,12 @@ module _ (library file : PlainFile) (lib : IsLibrary library) (is : IsFile file)
   all-named =
       let sound = whole.sound library file lib is none in
       let a : list_all is_name (declared ++ written_names items) ≡ true =
-      list_all-append is_name declared (written_names items) ∙ and_from _ _ (declared-named (is_two file) file.lines (whole.kept-lines library file lib is none)) (written-named K blocks refl items sound) in
+      list_all-append is_name declared (written_names items)
+      ∙ and_from _ _ (declared-named (is_two file) file.lines (whole.kept-lines library file lib is none)) (written-named K blocks refl items sound) in
       let l = length-append declared (written_names items) in
       let c = map-long item_name written in
-      each-append (Named system.written) 0 (declared ++ written_names items) (hidden_names items) (front-named system.written 0 (declared ++ written_names items) (omega arith) a)
+      each-append (Named system.written) 0 (declared ++ written_names items) (hidden_names items)
+      (front-named system.written 0 (declared ++ written_names items) (omega arith) a)
       (back-named system.written (0 + length (declared ++ written_names items)) (hidden_names items) (omega arith) (hidden-named K blocks refl items sound))
 
   all-definitions : Each (IsDefinition system) system.declared system.definitions
@@ -204,7 +222,8 @@ module _ (library file : PlainFile) (lib : IsLibrary library) (is : IsFile file)
   all-constraints : All (IsConstraint (length system.names)) system.constraints
   all-constraints =
       let good = whole.good library file lib is none in
-      all-listed (IsConstraint (length system.names)) system.constraints (bound-constraints K blocks refl system.groups items (whole.sound library file lib is none) good.bound)
+      all-listed (IsConstraint (length system.names)) system.constraints
+      (bound-constraints K blocks refl system.groups items (whole.sound library file lib is none) good.bound)
 
   accepted : AreFew system → IsAccepted system
   accepted f =

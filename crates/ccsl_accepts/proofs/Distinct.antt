@@ -60,22 +60,28 @@ module _ {X : Type 0} (f g : X → List (List ℕ)) where
   parts-in n [] (inl i) = i
   parts-in n [] (inr i) = i
   parts-in n (x ∷ xs) (inl i) =
-      ⊎_elim (λ j. in-left n (both x) (flat_map both xs) (in-left n (f x) (g x) j)) (λ j. in-right n (both x) (flat_map both xs) (parts-in n xs (inl j))) (in-parts n (f x) (flat_map f xs) i)
+      ⊎_elim (λ j. in-left n (both x) (flat_map both xs) (in-left n (f x) (g x) j)) (λ j. in-right n (both x) (flat_map both xs) (parts-in n xs (inl j)))
+      (in-parts n (f x) (flat_map f xs) i)
   parts-in n (x ∷ xs) (inr i) =
-      ⊎_elim (λ j. in-left n (both x) (flat_map both xs) (in-right n (f x) (g x) j)) (λ j. in-right n (both x) (flat_map both xs) (parts-in n xs (inr j))) (in-parts n (g x) (flat_map g xs) i)
+      ⊎_elim (λ j. in-left n (both x) (flat_map both xs) (in-right n (f x) (g x) j)) (λ j. in-right n (both x) (flat_map both xs) (parts-in n xs (inr j)))
+      (in-parts n (g x) (flat_map g xs) i)
 
   pub by-parts : (xs : List X) → Distinct (flat_map both xs) → Distinct (flat_map f xs ++ flat_map g xs)
   by-parts [] a = tt
   by-parts (x ∷ xs) a =
       let here = distinct-left (both x) (flat_map both xs) a in
       let rest = by-parts xs (distinct-right (both x) (flat_map both xs) a) in
-      let away : (n : List ℕ) → In n (both x) → In n (flat_map f xs) ⊎ In n (flat_map g xs) → ⊥ = λ n i j. distinct-across (both x) (flat_map both xs) a n i (parts-in n xs j) in
+      let away : (n : List ℕ) → In n (both x) → In n (flat_map f xs) ⊎ In n (flat_map g xs) → ⊥ =
+      λ n i j. distinct-across (both x) (flat_map both xs) a n i (parts-in n xs j) in
       distinct-join (f x ++ flat_map f xs) (g x ++ flat_map g xs)
-      (distinct-join (f x) (flat_map f xs) (distinct-left (f x) (g x) here) (distinct-left (flat_map f xs) (flat_map g xs) rest) (λ n i j. away n (in-left n (f x) (g x) i) (inl j)))
-      (distinct-join (g x) (flat_map g xs) (distinct-right (f x) (g x) here) (distinct-right (flat_map f xs) (flat_map g xs) rest) (λ n i j. away n (in-right n (f x) (g x) i) (inr j)))
+      (distinct-join (f x) (flat_map f xs) (distinct-left (f x) (g x) here) (distinct-left (flat_map f xs) (flat_map g xs) rest)
+      (λ n i j. away n (in-left n (f x) (g x) i) (inl j)))
+      (distinct-join (g x) (flat_map g xs) (distinct-right (f x) (g x) here) (distinct-right (flat_map f xs) (flat_map g xs) rest)
+      (λ n i j. away n (in-right n (f x) (g x) i) (inr j)))
       (λ n i j. ⊎_elim
       (λ k. ⊎_elim (λ l. distinct-across (f x) (g x) here n k l) (λ l. away n (in-left n (f x) (g x) k) (inr l)) (in-parts n (g x) (flat_map g xs) j))
-      (λ k. ⊎_elim (λ l. away n (in-right n (f x) (g x) l) (inl k)) (λ l. distinct-across (flat_map f xs) (flat_map g xs) rest n k l) (in-parts n (g x) (flat_map g xs) j))
+      (λ k. ⊎_elim (λ l. away n (in-right n (f x) (g x) l) (inl k)) (λ l. distinct-across (flat_map f xs) (flat_map g xs) rest n k l)
+      (in-parts n (g x) (flat_map g xs) j))
       (in-parts n (f x) (flat_map f xs) i))
 
 -- ## As tests
@@ -110,7 +116,8 @@ among-in x (y ∷ ys) e (inr i) = among-in x ys (right-false (bytes_eq x y) (is_
 abbrev pub names_of_spots : List Spot → List (List ℕ)
 names_of_spots ss = map (λ s. s.name) ss
 
-once : (seen : List (List ℕ)) (ss : List Spot) → repeated seen ss ≡ [] → ((x : List ℕ) → In x seen → In x (names_of_spots ss) → ⊥) × Distinct (names_of_spots ss)
+once : (seen : List (List ℕ)) (ss : List Spot) → repeated seen ss ≡ []
+    → ((x : List ℕ) → In x seen → In x (names_of_spots ss) → ⊥) × Distinct (names_of_spots ss)
 once seen [] e = ((λ x i j. j), tt)
 once seen (s ∷ ss) e =
     let here : is_among s.name seen ≡ false = no-fault (is_among s.name seen) Duplicate s.at (left-empty _ (repeated (seen ++ s.name ∷ []) ss) e) in

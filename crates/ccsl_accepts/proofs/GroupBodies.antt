@@ -1,5 +1,6 @@
 -- The members of groups without a fault are bodies of an accepted system.
-use Rattle.std.proofs.Common.{◌≡◌, ℕ, suc, ◌+◌, ◌≤◌, List, [], ◌∷◌, ◌++◌, Some, true, length, length-append, map, flat_map, take, drop, slice_get, refl, sym, ap, ap₂, ◌∙◌, subst, arith}
+use Rattle.std.proofs.Common.{◌≡◌, ℕ, suc, ◌+◌, ◌≤◌, List, [], ◌∷◌, ◌++◌, Some, true, length, length-append, map, flat_map, take, drop, slice_get, refl, sym}
+use Rattle.std.proofs.Common.{ap, ap₂, ◌∙◌, subst, arith}
 use Rattle.std.specs.Prelude.{All}
 use Rattle.std.specs.List.{AllByRecursion}
 use Rattle.ccsl_ast.specs.declared.definition.Param.{Param}
@@ -46,7 +47,8 @@ groups-behind [] (DGroup members) bs = refl
 groups-behind (DRelation name params lines ∷ done) b bs = groups-behind done b bs
 groups-behind (DGroup members ∷ done) b bs = let r = groups-behind done b bs in omega arith
 
-pub groups-next : (blocks done : List PlainDefinition) (b : PlainDefinition) (bs : List PlainDefinition) (home : ℕ) → length done ≡ home → blocks ≡ done ++ (b ∷ bs) →
+pub groups-next : (blocks done : List PlainDefinition) (b : PlainDefinition) (bs : List PlainDefinition) (home : ℕ) → length done ≡ home
+    → blocks ≡ done ++ (b ∷ bs) →
     groups_in (home + 1) blocks ≡ groups_in home blocks + groups_in 1 (b ∷ [])
 groups-next blocks done b bs home n whole =
     let up : home + 1 ≡ suc (length done) = omega arith in
@@ -62,11 +64,16 @@ module _ (K : Tables) (params : List ParamKind) where
   own-fits kind.Number i h = (refl, h)
   own-fits kind.Word i h = (refl, h)
 
-  own-aligned : (i : ℕ) (ps : List Param) → ((j : ℕ) → slice_get params (i + j) ≡ slice_get (map (λ p. kind_in p.kind) ps) j) → Aligned Own (params_space ps) (own_params i ps)
+  own-aligned : (i : ℕ) (ps : List Param) → ((j : ℕ) → slice_get params (i + j) ≡ slice_get (map (λ p. kind_in p.kind) ps) j)
+      → Aligned Own (params_space ps) (own_params i ps)
   own-aligned i [] f = tt
   own-aligned i (p ∷ ps) f =
-      let z : i ≡ i + 0 = omega arith in
-      (refl, own-fits p.kind i (ap (slice_get params) z ∙ f 0), own-aligned (i + 1) ps (λ j. let s : i + 1 + j ≡ i + suc j = omega arith in ap (slice_get params) s ∙ f (suc j)))
+      let z : i ≡ i + 0 = omega arith in (
+        refl,
+        own-fits p.kind i (ap (slice_get params) z ∙ f 0),
+        own-aligned (i + 1) ps (λ j. let s : i + 1 + j ≡ i + suc j =
+            omega arith in ap (slice_get params) s ∙ f (suc j)),
+      )
 
 module _ (K : Tables) (system : System) (blocks : List PlainDefinition) (calls : K.calls ≡ calls_space 0 0 blocks) (words : K.words ≡ system.words)
     (bodies : (name : List ℕ) (c : Known Callee) (group number : ℕ) → look name K.calls ≡ Some c → c.what.role ≡ member group number →
@@ -94,7 +101,8 @@ module _ (K : Tables) (system : System) (blocks : List PlainDefinition) (calls :
       let σ : Setting = own_params 0 m.params in
       let standing : Standing system.groups 0 params K S σ = record {
         same = refl;
-        atoms = λ name c l since. aligned-look (Own K params) locals σ name c (own-aligned K params 0 m.params (λ j. let z : 0 + j ≡ j = omega arith in ap (slice_get params) z)) l;
+        atoms = λ name c l since. aligned-look (Own K params) locals σ name c
+            (own-aligned K params 0 m.params (λ j. let z : 0 + j ≡ j = omega arith in ap (slice_get params) z)) l;
         bodies = bodies;
       } in
       let low = shallow K σ k m.body in
@@ -106,17 +114,21 @@ module _ (K : Tables) (system : System) (blocks : List PlainDefinition) (calls :
         shallow = omega arith;
       }
 
-  members-bodies : (home : ℕ) (levels : List ℕ) (k : ℕ) (ms : List PlainMember) → flat_map (part_faults K.calls home levels) ms ≡ [] → Texts k (flat_map (λ m. texts m.body) ms) → greatest (map member_depth ms) ≤ 128 →
+  members-bodies : (home : ℕ) (levels : List ℕ) (k : ℕ) (ms : List PlainMember) → flat_map (part_faults K.calls home levels) ms ≡ []
+      → Texts k (flat_map (λ m. texts m.body) ms) → greatest (map member_depth ms) ≤ 128 →
       AllByRecursion (IsBody system (groups_in home blocks)) (part_bodies K k ms)
   members-bodies home levels k [] f h d = tt
   members-bodies home levels k (m ∷ ms) f h d = (
-    member-body home levels k m (left-empty (part_faults K.calls home levels m) (flat_map (part_faults K.calls home levels) ms) f) (texts-left k (texts m.body) (flat_map (λ m. texts m.body) ms) h) (omega arith),
-    members-bodies home levels (k + length (texts m.body)) ms (right-empty (part_faults K.calls home levels m) (flat_map (part_faults K.calls home levels) ms) f)
+    member-body home levels k m (left-empty (part_faults K.calls home levels m) (flat_map (part_faults K.calls home levels) ms) f)
+        (texts-left k (texts m.body) (flat_map (λ m. texts m.body) ms) h) (omega arith),
+    members-bodies home levels (k + length (texts m.body)) ms
+        (right-empty (part_faults K.calls home levels m) (flat_map (part_faults K.calls home levels) ms) f)
         (texts-right k (texts m.body) (flat_map (λ m. texts m.body) ms) h) (omega arith),
   )
 
   -- the definitions from number `home` on
-  pub groups-bodies : (heights : Heights) (home k : ℕ) (done bs : List PlainDefinition) → length done ≡ home → (rest : List PlainDefinition) → blocks ≡ done ++ (bs ++ rest) →
+  pub groups-bodies : (heights : Heights) (home k : ℕ) (done bs : List PlainDefinition) → length done ≡ home → (rest : List PlainDefinition)
+      → blocks ≡ done ++ (bs ++ rest) →
       blocks_faults K.calls heights home bs ≡ [] → Texts k (flat_map block_texts bs) → greatest (map definition_depth bs) ≤ 128 →
       Each (λ g members. All (IsBody system g) members) (groups_in home blocks) (groups_of K k bs)
   groups-bodies heights home k done [] n rest whole f h d = tt
@@ -134,7 +146,8 @@ module _ (K : Tables) (system : System) (blocks : List PlainDefinition) (calls :
       let next : groups_in (home + 1) blocks ≡ groups_in home blocks + 1 = groups-next blocks done b (bs ++ rest) home n whole in
       let same : groups_in (home + 1) blocks ≡ suc (groups_in home blocks) = omega arith in (
         all-listed (IsBody system (groups_in home blocks)) (part_bodies K k members)
-            (members-bodies home (take home heights.groups) k members (left-empty (block_faults K.calls heights home b) (blocks_faults K.calls heights (home + 1) bs) f)
+            (members-bodies home (take home heights.groups) k members
+            (left-empty (block_faults K.calls heights home b) (blocks_faults K.calls heights (home + 1) bs) f)
             (texts-left k (block_texts b) (flat_map block_texts bs) h) (omega arith)),
         subst (λ g. Each (λ g members. All (IsBody system g) members) g (groups_of K (k + length (block_texts b)) bs)) same
             (groups-bodies heights (home + 1) (k + length (block_texts b)) (done ++ b ∷ []) bs (omega arith) rest (whole ∙ one-on done b (bs ++ rest))

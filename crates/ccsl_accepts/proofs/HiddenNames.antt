@@ -1,5 +1,6 @@
 -- Paths of calls, and the names of hidden clocks: a name of the grammar, an @, and bytes that are seen.
-use Rattle.std.proofs.Common.{◌≡◌, ℕ, zero, suc, ◌+◌, ◌%◌, ◌/◌, ◌<◌, List, [], ◌∷◌, ◌++◌, append_assoc, Bool, true, false, not, cond, ◌&&◌, ◌||◌, length, take, drop, nat_le, refl, ap, ◌∙◌, arith, if◌then◌else◌, le-leb, lt-ltb, ◌==◌}
+use Rattle.std.proofs.Common.{◌≡◌, ℕ, zero, suc, ◌+◌, ◌%◌, ◌/◌, ◌<◌, List, [], ◌∷◌, ◌++◌, append_assoc, Bool, true, false, not, cond, ◌&&◌, ◌||◌, length, take}
+use Rattle.std.proofs.Common.{drop, nat_le, refl, ap, ◌∙◌, arith, if◌then◌else◌, le-leb, lt-ltb, ◌==◌}
 use Rattle.std.specs.Prelude.{decimal}
 use Rattle.std.specs.Fmt.{digits, digits_onto, digit_glyph}
 use Rattle.std.specs.List.{list_all, take_while, prefix_len}
@@ -22,15 +23,18 @@ seen-append xs ys a b = list_all-append is_visible xs ys ∙ and_from _ _ a b
 glyph-seen : (n : ℕ) → is_visible (digit_glyph false (n % 10)) ≡ true
 glyph-seen n = by-test (n % 10) (let z : n % 10 < 10 = omega arith in z) where
   by-test : (d : ℕ) → d < 10 → is_visible (digit_glyph false d) ≡ true
-  by-test d h = ap (λ t. is_visible (cond t (48 + d) (87 + d))) (lt-ltb d 10 h) ∙ and_from _ _ (le-leb 33 (48 + d) (omega arith)) (le-leb (48 + d) 126 (omega arith))
+  by-test d h = ap (λ t. is_visible (cond t (48 + d) (87 + d))) (lt-ltb d 10 h)
+      ∙ and_from _ _ (le-leb 33 (48 + d) (omega arith)) (le-leb (48 + d) 126 (omega arith))
 
 digits-seen : (k n : ℕ) (acc : List ℕ) → list_all is_visible acc ≡ true → list_all is_visible (digits_onto k 10 false n acc) ≡ true
 digits-seen zero n acc h = h
-digits-seen (suc k) n acc h = on (n / 10 == 0) (and_from _ _ (glyph-seen n) h) (digits-seen k (n / 10) (digit_glyph false (n % 10) ∷ acc) (and_from _ _ (glyph-seen n) h)) where
-  on : (b : Bool) → list_all is_visible (digit_glyph false (n % 10) ∷ acc) ≡ true → list_all is_visible (digits_onto k 10 false (n / 10) (digit_glyph false (n % 10) ∷ acc)) ≡ true →
-      list_all is_visible (if b then digit_glyph false (n % 10) ∷ acc else digits_onto k 10 false (n / 10) (digit_glyph false (n % 10) ∷ acc)) ≡ true
-  on true a b = a
-  on false a b = b
+digits-seen (suc k) n acc h =
+    on (n / 10 == 0) (and_from _ _ (glyph-seen n) h) (digits-seen k (n / 10) (digit_glyph false (n % 10) ∷ acc) (and_from _ _ (glyph-seen n) h)) where
+      on : (b : Bool) → list_all is_visible (digit_glyph false (n % 10) ∷ acc) ≡ true
+          → list_all is_visible (digits_onto k 10 false (n / 10) (digit_glyph false (n % 10) ∷ acc)) ≡ true →
+          list_all is_visible (if b then digit_glyph false (n % 10) ∷ acc else digits_onto k 10 false (n / 10) (digit_glyph false (n % 10) ∷ acc)) ≡ true
+      on true a b = a
+      on false a b = b
 
 pub decimal-seen : (n : ℕ) → list_all is_visible (decimal n) ≡ true
 unfolding digits
@@ -69,7 +73,8 @@ drop-front (b ∷ front) rest = drop-front front rest
 
 pub hidden-is : (front rest : List ℕ) → is_name front ≡ true → list_all is_visible rest ≡ true → is_hidden (front ++ (64 ∷ rest)) ≡ true
 hidden-is front rest h s =
-    let first : take_while is_inner (front ++ (64 ∷ rest)) ≡ front = ap (λ n. take n (front ++ (64 ∷ rest))) (prefix-inner front rest (name-inner front h)) ∙ take-front front (64 ∷ rest) in
+    let first : take_while is_inner (front ++ (64 ∷ rest)) ≡ front =
+    ap (λ n. take n (front ++ (64 ∷ rest))) (prefix-inner front rest (name-inner front h)) ∙ take-front front (64 ∷ rest) in
     ap (λ f. is_name f && is_path_rest (drop (length f) (front ++ (64 ∷ rest)))) first
     ∙ and_from _ _ h (ap is_path_rest (drop-front front (64 ∷ rest)) ∙ s)
 
@@ -87,7 +92,8 @@ inside-path (b ∷ front) rest x = ap (λ l. b ∷ l) (append_assoc front (64 �
 
 pub inside-hidden : (path x : List ℕ) → IsPath path → list_all is_visible x ≡ true → is_hidden (inside path x) ≡ true
 inside-hidden path x p s =
-    ap (λ q. is_hidden (inside q x)) p.whole ∙ ap is_hidden (inside-path p.front p.rest x) ∙ hidden-is p.front (p.rest ++ (46 ∷ x)) p.name (seen-append p.rest (46 ∷ x) p.seen s)
+    ap (λ q. is_hidden (inside q x)) p.whole ∙ ap is_hidden (inside-path p.front p.rest x)
+    ∙ hidden-is p.front (p.rest ++ (46 ∷ x)) p.name (seen-append p.rest (46 ∷ x) p.seen s)
 
 call-text-seen : (name : List ℕ) (i : ℕ) → is_name name ≡ true → list_all is_visible (name ++ 64 ∷ decimal i) ≡ true
 call-text-seen name i h = seen-append name (64 ∷ decimal i) (name-seen name h) (decimal-seen i)

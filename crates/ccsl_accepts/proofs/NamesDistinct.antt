@@ -1,5 +1,6 @@
 -- NO NAME OF AN EXPANSION IS THERE TWICE.
-use Rattle.std.proofs.Common.{◌≡◌, ℕ, suc, ◌+◌, ◌<◌, ◌≤◌, ◌^◌, List, [], ◌∷◌, ◌++◌, Bool, true, false, cond, length, length-append, flat_map, take, drop, filter_map, refl, sym, ap, ap₂, ◌∙◌, subst, arith, inl, inr, ⊎_elim}
+use Rattle.std.proofs.Common.{◌≡◌, ℕ, suc, ◌+◌, ◌<◌, ◌≤◌, ◌^◌, List, [], ◌∷◌, ◌++◌, Bool, true, false, cond, length, length-append, flat_map, take, drop}
+use Rattle.std.proofs.Common.{filter_map, refl, sym, ap, ap₂, ◌∙◌, subst, arith, inl, inr, ⊎_elim}
 use Rattle.std.specs.List.{AllByRecursion, list_all, prefix_len}
 use Rattle.std.proofs.lemmas.Bool.{and_parts}
 use Rattle.ccsl_base.specs.Name.{is_name}
@@ -32,7 +33,8 @@ take-none : (xs : List ℕ) → list_all is_inner xs ≡ true → drop (prefix_l
 take-none [] h = refl
 take-none (x ∷ xs) h =
     let w = and_parts (is_inner x) (list_all is_inner xs) h in
-    ap (λ t. drop (cond t (1 + prefix_len is_inner xs) 0) (x ∷ xs)) w.0 ∙ (let z : 1 + prefix_len is_inner xs ≡ suc (prefix_len is_inner xs) = omega arith in ap (λ n. drop n (x ∷ xs)) z) ∙ take-none xs w.1
+    ap (λ t. drop (cond t (1 + prefix_len is_inner xs) 0) (x ∷ xs)) w.0
+    ∙ (let z : 1 + prefix_len is_inner xs ≡ suc (prefix_len is_inner xs) = omega arith in ap (λ n. drop n (x ∷ xs)) z) ∙ take-none xs w.1
 
 prefix-whole : (xs : List ℕ) → list_all is_inner xs ≡ true → length (take (prefix_len is_inner xs) xs) ≡ prefix_len is_inner xs
 prefix-whole [] h = refl
@@ -86,7 +88,8 @@ names-are (Defines (b ∷ bs) name σ k e ∷ xs) = ap (λ l. name ∷ l) (names
 names-are (Binds path σ a r b ∷ xs) = names-are xs
 
 -- each item is a written or a hidden definition, or a constraint
-items-counted : (names : List (List ℕ)) (xs : List Item) → length xs ≡ length (written_names xs) + length (hidden_names xs) + length (filter_map (constraint_of names) xs)
+items-counted : (names : List (List ℕ)) (xs : List Item)
+    → length xs ≡ length (written_names xs) + length (hidden_names xs) + length (filter_map (constraint_of names) xs)
 items-counted names [] = refl
 items-counted names (Defines [] name σ k e ∷ xs) = let r = items-counted names xs in omega arith
 items-counted names (Defines (b ∷ bs) name σ k e ∷ xs) = let r = items-counted names xs in omega arith
@@ -117,24 +120,33 @@ module _ (library file : PlainFile) (lib : IsLibrary library) (is : IsFile file)
   file-there : AreThere (whole.groups library file lib is ok.no_fault) K (length library.definitions) file.definitions
   file-there =
       let z : 0 + length library.definitions ≡ length library.definitions = omega arith in
-      subst (λ n. AreThere (whole.groups library file lib is ok.no_fault) K n file.definitions) z (there-right (whole.groups library file lib is ok.no_fault) K 0 library.definitions file.definitions there)
+      subst (λ n. AreThere (whole.groups library file lib is ok.no_fault) K n file.definitions) z
+      (there-right (whole.groups library file lib is ok.no_fault) K 0 library.definitions file.definitions there)
 
   first-long : length first ≡ length library.definitions
-  first-long = unfoldings-length K.words K.calls [] 0 library.definitions ∙ (let z : 0 + length library.definitions ≡ length library.definitions = omega arith in z)
+  first-long = unfoldings-length K.words K.calls [] 0 library.definitions
+      ∙ (let z : 0 + length library.definitions ≡ length library.definitions = omega arith in z)
 
   first-full : AreFull K blocks refl first
-  first-full = blocks-full K blocks refl (whole.groups library file lib is ok.no_fault) (is_two library) (heights_of blocks) [] (none-full K blocks refl) 0 0 refl library.definitions
-      (there-left (whole.groups library file lib is ok.no_fault) K 0 library.definitions file.definitions there) (whole.library-faults library file lib is ok.no_fault) (whole.kept-definitions library file lib is ok.no_fault library lib.file)
+  first-full = blocks-full K blocks refl (whole.groups library file lib is ok.no_fault) (is_two library) (heights_of blocks) [] (none-full K blocks refl) 0 0
+      refl library.definitions
+      (there-left (whole.groups library file lib is ok.no_fault) K 0 library.definitions file.definitions there)
+      (whole.library-faults library file lib is ok.no_fault) (whole.kept-definitions library file lib is ok.no_fault library lib.file)
 
   full : AreFull K blocks refl R
-  full = blocks-full K blocks refl (whole.groups library file lib is ok.no_fault) (is_two file) (heights_of blocks) first first-full text (length library.definitions) first-long file.definitions
+  full = blocks-full K blocks refl (whole.groups library file lib is ok.no_fault) (is_two file) (heights_of blocks) first first-full text
+      (length library.definitions) first-long file.definitions
       file-there (whole.file-faults library file lib is ok.no_fault) (whole.kept-definitions library file lib is ok.no_fault file is)
 
   parts : AllByRecursion Parts R
   parts =
-      let front : AllByRecursion Parts first = blocks-parts K blocks refl (whole.groups library file lib is ok.no_fault) (is_two library) (heights_of blocks) [] tt (none-full K blocks refl) 0 0 refl library.definitions
-      (there-left (whole.groups library file lib is ok.no_fault) K 0 library.definitions file.definitions there) (whole.library-faults library file lib is ok.no_fault) (whole.kept-definitions library file lib is ok.no_fault library lib.file) in
-      blocks-parts K blocks refl (whole.groups library file lib is ok.no_fault) (is_two file) (heights_of blocks) first front first-full text (length library.definitions) first-long file.definitions
+      let front : AllByRecursion Parts first =
+      blocks-parts K blocks refl (whole.groups library file lib is ok.no_fault) (is_two library) (heights_of blocks) [] tt (none-full K blocks refl) 0 0
+      refl library.definitions
+      (there-left (whole.groups library file lib is ok.no_fault) K 0 library.definitions file.definitions there)
+      (whole.library-faults library file lib is ok.no_fault) (whole.kept-definitions library file lib is ok.no_fault library lib.file) in
+      blocks-parts K blocks refl (whole.groups library file lib is ok.no_fault) (is_two file) (heights_of blocks) first front first-full text
+      (length library.definitions) first-long file.definitions
       file-there (whole.file-faults library file lib is ok.no_fault) (whole.kept-definitions library file lib is ok.no_fault file is)
 
   abbrev items : List Item
@@ -153,11 +165,13 @@ module _ (library file : PlainFile) (lib : IsLibrary library) (is : IsFile file)
   -- so many items, and so many lines, as decimal numbers tell apart
   few-items : (length declared + length items < 2 ^ 64) × (length file.lines < 2 ^ 64)
   few-items =
-      let names : length (expand library file).names ≡ length (declared ++ (written_names items ++ hidden_names items)) = ap length (whole.three-parts library file lib is ok.no_fault) in
+      let names : length (expand library file).names ≡ length (declared ++ (written_names items ++ hidden_names items)) =
+      ap length (whole.three-parts library file lib is ok.no_fault) in
       let a = length-append declared (written_names items ++ hidden_names items) in
       let b = length-append (written_names items) (hidden_names items) in
       let c = items-counted K.names items in
-      let d = body-full K blocks refl R full (is_two file) (whole.scene library file lib is ok.no_fault) refl all-there [] (whole.setting library file lib is ok.no_fault) (whole.system_text library file lib is ok.no_fault) 0 file.lines
+      let d = body-full K blocks refl R full (is_two file) (whole.scene library file lib is ok.no_fault) refl all-there []
+      (whole.setting library file lib is ok.no_fault) (whole.system_text library file lib is ok.no_fault) 0 file.lines
       (whole.lines-faults library file lib is ok.no_fault) (whole.kept-lines library file lib is ok.no_fault) in
       let e = ok.few_clocks in
       let f = ok.few_constraints in
@@ -169,18 +183,22 @@ module _ (library file : PlainFile) (lib : IsLibrary library) (is : IsFile file)
   items-distinct : Distinct (written_names items ++ hidden_names items)
   items-distinct =
       let few = few-items in
-      let a = body-apart K R parts [] [] (λ x. refl) (whole.setting library file lib is ok.no_fault) (is_two file) 0 (whole.system_text library file lib is ok.no_fault) file.lines (distinct-right declared (flat_map defined_names file.lines) own-distinct)
+      let a = body-apart K R parts [] [] (λ x. refl) (whole.setting library file lib is ok.no_fault) (is_two file) 0
+      (whole.system_text library file lib is ok.no_fault) file.lines (distinct-right declared (flat_map defined_names file.lines) own-distinct)
       (whole.kept-lines library file lib is ok.no_fault) (omega (arith, few.1)) (omega (arith, few.0)) in
-      subst Distinct (sym (ap₂ (λ p q. p ++ q) (written-are items) (hidden-are items))) (by-parts one_written one_hidden items (subst Distinct (names-are items) a.distinct))
+      subst Distinct (sym (ap₂ (λ p q. p ++ q) (written-are items) (hidden-are items)))
+      (by-parts one_written one_hidden items (subst Distinct (names-are items) a.distinct))
 
   all-distinct : Distinct (expand library file).names
   all-distinct =
       let sound = whole.sound library file lib is ok.no_fault in
       let two = items-distinct in
       subst Distinct (sym (whole.three-parts library file lib is ok.no_fault))
-      (distinct-join declared (written_names items ++ hidden_names items) (distinct-left declared (flat_map defined_names file.lines) own-distinct) two (λ n i j. ⊎_elim
+      (distinct-join declared (written_names items ++ hidden_names items) (distinct-left declared (flat_map defined_names file.lines) own-distinct) two
+      (λ n i j. ⊎_elim
       (λ k. distinct-across declared (flat_map defined_names file.lines) own-distinct n i (subst (In n) (whole.all-written library file lib is ok.no_fault) k))
-      (λ k. name-or-path n (in-all is_name declared (declared-named (is_two file) file.lines (whole.kept-lines library file lib is ok.no_fault)) n i) (in-all is_hidden (hidden_names items) (hidden-named K blocks refl items sound) n k))
+      (λ k. name-or-path n (in-all is_name declared (declared-named (is_two file) file.lines (whole.kept-lines library file lib is ok.no_fault)) n i)
+      (in-all is_hidden (hidden_names items) (hidden-named K blocks refl items sound) n k))
       (in-parts n (written_names items) (hidden_names items) j)))
 
 pub names-distinct : NamesAreDistinct

@@ -1,5 +1,6 @@
 -- Where names stand in the list of all names, and what the items that are written and those that are hidden say of it.
-use Rattle.std.proofs.Common.{◌≡◌, ℕ, suc, ◌+◌, ◌<◌, ◌≤◌, List, [], ◌∷◌, ◌++◌, append_assoc, Option, Some, None, length, length-append, map, filter_map, refl, sym, ap, ◌∙◌, subst, arith}
+use Rattle.std.proofs.Common.{◌≡◌, ℕ, suc, ◌+◌, ◌<◌, ◌≤◌, List, [], ◌∷◌, ◌++◌, append_assoc, Option, Some, None, length, length-append, map, filter_map, refl}
+use Rattle.std.proofs.Common.{sym, ap, ◌∙◌, subst, arith}
 use Rattle.std.specs.List.{AllByRecursion, cons_option}
 use Rattle.ccsl_ast.specs.declared.definition.Kind.TheVariants as kind
 use Rattle.ccsl_ast.specs.Trees.{PlainDefinition}
@@ -91,7 +92,8 @@ module _ (K : Tables) where
     names-hidden (Defines (b ∷ bs) name σ k e ∷ xs) v = ap (λ l. name ∷ l) (names-hidden xs v.1)
     names-hidden (Binds path σ a r b ∷ xs) v = names-hidden xs v.1
 
-    pub hidden-orderly : (X : ℕ) (xs : List Item) → AllByRecursion (Veiled K blocks calls) xs → Orderly groups K X xs → Orderly groups K X (filter_map hidden_item xs)
+    pub hidden-orderly : (X : ℕ) (xs : List Item) → AllByRecursion (Veiled K blocks calls) xs → Orderly groups K X xs
+        → Orderly groups K X (filter_map hidden_item xs)
     hidden-orderly X [] v o = tt
     hidden-orderly X (Defines [] name σ k e ∷ xs) v o = absurd v.0
     hidden-orderly X (Defines (b ∷ bs) name σ k e ∷ xs) v o = (o.0, hidden-orderly (suc X) xs v.1 o.1)
@@ -100,13 +102,18 @@ module _ (K : Tables) where
     -- the clocks of a constraint are named ones
     abbrev pub Bound : Item → Type 0
     Bound (Defines path name σ k e) = Unit {0}
-    Bound (Binds path σ a r b) = Fits groups (length K.names) [] K (nowhere groups K) [] kind.Clock (atom_of σ a) × Fits groups (length K.names) [] K (nowhere groups K) [] kind.Clock (atom_of σ b)
+    Bound (Binds path σ a r b) =
+        Fits groups (length K.names) [] K (nowhere groups K) [] kind.Clock (atom_of σ a)
+        × Fits groups (length K.names) [] K (nowhere groups K) [] kind.Clock (atom_of σ b)
 
     pub orderly-bound : (X : ℕ) (xs : List Item) → X + length (names_in xs) ≤ length K.names → Orderly groups K X xs → AllByRecursion Bound xs
     orderly-bound X [] l o = tt
     orderly-bound X (Defines path name σ k e ∷ xs) l o = (tt, orderly-bound (suc X) xs (omega arith) o.1)
     orderly-bound X (Binds path σ a r b ∷ xs) l o = (
-      (fits-more groups K X (length K.names) kind.Clock (atom_of σ a) (omega arith) o.0, fits-more groups K X (length K.names) kind.Clock (atom_of σ b) (omega arith) o.1),
+      (
+        fits-more groups K X (length K.names) kind.Clock (atom_of σ a) (omega arith) o.0,
+        fits-more groups K X (length K.names) kind.Clock (atom_of σ b) (omega arith) o.1,
+      ),
       orderly-bound X xs l o.2,
     )
 
@@ -122,14 +129,16 @@ module _ (K : Tables) where
     clock-below (ANumber n) f = absurd f
     clock-below (AWord w o) f = absurd f
 
-    pub bound-constraints : (xs : List Item) → AllByRecursion (Sound K blocks calls) xs → AllByRecursion Bound xs → AllByRecursion (IsConstraint (length K.names)) (filter_map (constraint_of K.names) xs)
+    pub bound-constraints : (xs : List Item) → AllByRecursion (Sound K blocks calls) xs → AllByRecursion Bound xs
+        → AllByRecursion (IsConstraint (length K.names)) (filter_map (constraint_of K.names) xs)
     bound-constraints [] s b = tt
     bound-constraints (Defines path name σ k e ∷ xs) s b = bound-constraints xs s.1 b.1
     bound-constraints (Binds path σ a r d ∷ xs) s b = ((clock-below (atom_of σ a) b.0.0, clock-below (atom_of σ d) b.0.1, s.0), bound-constraints xs s.1 b.1)
 
     -- ## Definitions
 
-    module _ (system : System) (same_groups : system.groups ≡ groups) (same_words : system.words ≡ K.words) (many : length groups ≡ groups_in (length blocks) blocks) where
+    module _ (system : System) (same_groups : system.groups ≡ groups) (same_words : system.words ≡ K.words)
+        (many : length groups ≡ groups_in (length blocks) blocks) where
       define : (X : ℕ) (e : kernel.Expression) → Fine K blocks calls e → IsKnown groups K.words X [] e → IsDefinition system X e
       define X e f o = record {
         calls = subst (λ g. Allowed g Inner e) (sym (ap length same_groups ∙ many)) f.0;
@@ -137,13 +146,15 @@ module _ (K : Tables) where
         shallow = f.1;
       }
 
-      pub written-definitions : (X : ℕ) (xs : List Item) → AllByRecursion (Sound K blocks calls) xs → Orderly groups K X (filter_map written_item xs) → Each (IsDefinition system) X (map (item_definition K) (filter_map written_item xs))
+      pub written-definitions : (X : ℕ) (xs : List Item) → AllByRecursion (Sound K blocks calls) xs → Orderly groups K X (filter_map written_item xs)
+          → Each (IsDefinition system) X (map (item_definition K) (filter_map written_item xs))
       written-definitions X [] s o = tt
       written-definitions X (Defines [] name σ k e ∷ xs) s o = (define X (resolve K σ k e) s.0.0 o.0, written-definitions (suc X) xs s.1 o.1)
       written-definitions X (Defines (b ∷ bs) name σ k e ∷ xs) s o = written-definitions X xs s.1 o
       written-definitions X (Binds path σ a r b ∷ xs) s o = written-definitions X xs s.1 o
 
-      pub hidden-definitions : (X : ℕ) (xs : List Item) → AllByRecursion (Sound K blocks calls) xs → Orderly groups K X (filter_map hidden_item xs) → Each (IsDefinition system) X (map (item_definition K) (filter_map hidden_item xs))
+      pub hidden-definitions : (X : ℕ) (xs : List Item) → AllByRecursion (Sound K blocks calls) xs → Orderly groups K X (filter_map hidden_item xs)
+          → Each (IsDefinition system) X (map (item_definition K) (filter_map hidden_item xs))
       hidden-definitions X [] s o = tt
       hidden-definitions X (Defines [] name σ k e ∷ xs) s o = hidden-definitions X xs s.1 o
       hidden-definitions X (Defines (b ∷ bs) name σ k e ∷ xs) s o = (define X (resolve K σ k e) s.0.0 o.0, hidden-definitions (suc X) xs s.1 o.1)

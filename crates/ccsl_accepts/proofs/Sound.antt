@@ -1,6 +1,7 @@
 -- What a file without a fault expands to is sound, item by item: its calls are allowed, it is not too deep, its bounds are at least 1, and
 -- its names are names of the grammar, or paths where a relation hides them.
-use Rattle.std.proofs.Common.{◌≡◌, ℕ, zero, suc, ◌+◌, ◌≤◌, List, [], ◌∷◌, ◌++◌, Option, Some, None, Bool, true, false, length, map, take, slice_get, nat_eq, refl, sym, ◌∙◌, subst, arith, inl, inr}
+use Rattle.std.proofs.Common.{◌≡◌, ℕ, zero, suc, ◌+◌, ◌≤◌, List, [], ◌∷◌, ◌++◌, Option, Some, None, Bool, true, false, length, map, take, slice_get, nat_eq}
+use Rattle.std.proofs.Common.{refl, sym, ◌∙◌, subst, arith, inl, inr}
 use Rattle.std.specs.List.{AllByRecursion, list_all}
 use Rattle.std.proofs.lemmas.Bool.{and_parts}
 use Rattle.std.proofs.lemmas.Bool.Decides.{nat_tests}
@@ -25,7 +26,8 @@ use Rattle.ccsl_rules.specs.Blocks.{Heights, relation_faults, line_faults, entry
 use Rattle.ccsl_rules.specs.Settings.{Atom, Setting, argument_atoms}
 use Rattle.ccsl_rules.specs.Texts.{entry_texts, block_texts}
 use Rattle.ccsl_rules.specs.Resolved.{Tables, resolve}
-use Rattle.ccsl_rules.specs.Unfolded.{Item, Defines, Binds, Unfolding, Unfoldings, unfolding_at, unfold_line, unfold_entry, unfold_body, unfold_block, unfoldings, inside, call_path, arguments, own_clocks}
+use Rattle.ccsl_rules.specs.Unfolded.{Item, Defines, Binds, Unfolding, Unfoldings, unfolding_at, unfold_line, unfold_entry, unfold_body, unfold_block}
+use Rattle.ccsl_rules.specs.Unfolded.{unfoldings, inside, call_path, arguments, own_clocks}
 use Rattle.ccsl_rules.specs.Expansion.{relation_in}
 use Rattle.ccsl_rules.proofs.Guarded.{left-empty, right-empty, no-fault, allowed}
 use Rattle.ccsl_rules.proofs.Ordered.{groups_in, space-ordered, all-append}
@@ -96,7 +98,8 @@ module _ (K : Tables) (blocks : List PlainDefinition) (calls : K.calls ≡ calls
   veiled-sound (Defines (b ∷ bs) name σ k e ∷ xs) a = (a.0, veiled-sound xs a.1)
   veiled-sound (Binds path σ c r d ∷ xs) a = (a.0, veiled-sound xs a.1)
 
-  veiled-define : (path name : List ℕ) (σ : Setting) (k : ℕ) (e : Expression) → IsPath path → Fine (resolve K σ k e) → is_hidden name ≡ true → Veiled (Defines path name σ k e)
+  veiled-define : (path name : List ℕ) (σ : Setting) (k : ℕ) (e : Expression) → IsPath path → Fine (resolve K σ k e) → is_hidden name ≡ true
+      → Veiled (Defines path name σ k e)
   veiled-define [] name σ k e p f h = absurd (nowhere-path p.front p.rest p.whole) where
     nowhere-path : (front rest : List ℕ) → [] ≡ front ++ (64 ∷ rest) → ⊥
     nowhere-path [] rest w = cc
@@ -120,12 +123,16 @@ module _ (K : Tables) (blocks : List PlainDefinition) (calls : K.calls ≡ calls
   fine-define : (S : Scene) (σ : Setting) (k : ℕ) (e : Expression) → S.calls ≡ K.calls → expr_faults S Inner e ≡ [] → depth e ≤ 128 → Fine (resolve K σ k e)
   fine-define S σ k e same f d =
       let g = groups_in S.home blocks in
-      let low = shallow K σ k e in
-      (more-groups g (groups_in (length blocks) blocks) (few-groups S.home blocks) (resolve K σ k e) (allowed K S g (sym same) (space-ordered S blocks (same ∙ calls)) σ k Inner e f), omega arith)
+      let low = shallow K σ k e in (
+        more-groups g (groups_in (length blocks) blocks) (few-groups S.home blocks) (resolve K σ k e)
+            (allowed K S g (sym same) (space-ordered S blocks (same ∙ calls)) σ k Inner e f),
+        omega arith,
+      )
 
   module _ (R : Unfoldings) (safe : AllByRecursion Safe R) (two : Bool) where
     -- a line of a relation
-    line-veiled : (S : Scene) → S.calls ≡ K.calls → (path : List ℕ) → IsPath path → (σ : Setting) (k i : ℕ) (l : Line) → line_faults S l ≡ [] → rline_kept two l ≡ true → rline_depth l ≤ 128 →
+    line-veiled : (S : Scene) → S.calls ≡ K.calls → (path : List ℕ) → IsPath path → (σ : Setting) (k i : ℕ) (l : Line) → line_faults S l ≡ []
+        → rline_kept two l ≡ true → rline_depth l ≤ 128 →
         AllByRecursion Veiled (unfold_line K.words K.calls R path σ k i l)
     line-veiled S same path p σ k i (LDefine s e) f h d =
         let name = (and_parts (is_name s.name) (expression_kept two e) h).0 in
@@ -136,35 +143,43 @@ module _ (K : Tables) (blocks : List PlainDefinition) (calls : K.calls ≡ calls
         let name = (and_parts (is_name s.name) (list_all arg_kept args) h).0 in
         safe-call R safe (look s.name K.calls) (call_path path s.name i) (argument_atoms K.words σ k args) (inner-path path s.name i p name)
 
-    lines-veiled : (S : Scene) → S.calls ≡ K.calls → (path : List ℕ) → IsPath path → (σ : Setting) (k i : ℕ) (ls : List Line) → entries_faults S i (map SLineOf ls) ≡ [] →
-        list_all (rline_kept two) ls ≡ true → greatest (map rline_depth ls) ≤ 128 → AllByRecursion Veiled (unfold_body K.words K.calls R path σ k i (map SLineOf ls))
+    lines-veiled : (S : Scene) → S.calls ≡ K.calls → (path : List ℕ) → IsPath path → (σ : Setting) (k i : ℕ) (ls : List Line)
+        → entries_faults S i (map SLineOf ls) ≡ [] →
+        list_all (rline_kept two) ls ≡ true → greatest (map rline_depth ls) ≤ 128
+        → AllByRecursion Veiled (unfold_body K.words K.calls R path σ k i (map SLineOf ls))
     lines-veiled S same path p σ k i [] f h d = tt
     lines-veiled S same path p σ k i (l ∷ ls) f h d =
         let w = and_parts (rline_kept two l) (list_all (rline_kept two) ls) h in
         all-append Veiled (unfold_line K.words K.calls R path σ k i l) _
         (line-veiled (record S { line = i }) same path p σ k i l (left-empty _ (entries_faults S (i + 1) (map SLineOf ls)) f) w.0 (omega arith))
-        (lines-veiled S same path p σ (k + length (entry_texts (SLineOf l))) (i + 1) ls (right-empty (line_faults (record S { line = i }) l) _ f) w.1 (omega arith))
+        (lines-veiled S same path p σ (k + length (entry_texts (SLineOf l))) (i + 1) ls (right-empty (line_faults (record S { line = i }) l) _ f) w.1
+        (omega arith))
 
-    block-safe : (heights : Heights) (home k : ℕ) (b : PlainDefinition) → block_faults K.calls heights home b ≡ [] → definition_kept two b ≡ true → definition_depth b ≤ 128 → Safe (unfold_block K.words K.calls R k b)
+    block-safe : (heights : Heights) (home k : ℕ) (b : PlainDefinition) → block_faults K.calls heights home b ≡ [] → definition_kept two b ≡ true
+        → definition_depth b ≤ 128 → Safe (unfold_block K.words K.calls R k b)
     block-safe heights home k (DRelation name params lines) f h d path args p =
         let locals : List (Known _) = params_space params ++ lines_space 0 (map SLineOf lines) in
         let S : Scene = record { locals = locals; line = 0; calls = K.calls; home = home; levels = take home heights.relations } in
-        let w = (and_parts (has_member lines) (list_all (rline_kept two) lines) (and_parts (list_all param_kept params) _ (and_parts (spot_kept name) _ h).1).1).1 in
-        lines-veiled S refl path p (arguments params args ++ own_clocks path (map SLineOf lines)) k 0 lines (right-empty (params_faults params ++ repeated [] (spots locals)) _ f) w d
+        let w = (and_parts (has_member lines) (list_all (rline_kept two) lines)
+        (and_parts (list_all param_kept params) _ (and_parts (spot_kept name) _ h).1).1).1 in
+        lines-veiled S refl path p (arguments params args ++ own_clocks path (map SLineOf lines)) k 0 lines
+        (right-empty (params_faults params ++ repeated [] (spots locals)) _ f) w d
     block-safe heights home k (DGroup members) f h d path args p = tt
 
     -- a line of the system
-    entry-sound : (S : Scene) → S.calls ≡ K.calls → (σ : Setting) (k i : ℕ) (e : SLine) → entry_faults S e ≡ [] → sline_kept two e ≡ true → sline_depth e ≤ 128 →
-        AllByRecursion Sound (unfold_entry K.words K.calls R [] σ k i e)
+    entry-sound : (S : Scene) → S.calls ≡ K.calls → (σ : Setting) (k i : ℕ) (e : SLine) → entry_faults S e ≡ [] → sline_kept two e ≡ true → sline_depth e ≤ 128
+        → AllByRecursion Sound (unfold_entry K.words K.calls R [] σ k i e)
     entry-sound S same σ k i (SClocks names) f h d = tt
     entry-sound S same σ k i (SLineOf (LDefine s e)) f h d = ((fine-define S σ k e same f d, (and_parts (is_name s.name) (expression_kept two e) h).0), tt)
     entry-sound S same σ k i (SLineOf (LConstraint a r b)) f h d =
         (bound-kept r (right-empty (used_as S kind.Clock a) _ (left-empty (used_as S kind.Clock a ++ relation_faults r) (used_as S kind.Clock b) f)), tt)
     entry-sound S same σ k i (SLineOf (LCall s args)) f h d =
         let name = (and_parts (is_name s.name) (list_all arg_kept args) h).0 in
-        veiled-sound (unfold_line K.words K.calls R [] σ k i (LCall s args)) (safe-call R safe (look s.name K.calls) (call_path [] s.name i) (argument_atoms K.words σ k args) (first-path s.name i name))
+        veiled-sound (unfold_line K.words K.calls R [] σ k i (LCall s args))
+        (safe-call R safe (look s.name K.calls) (call_path [] s.name i) (argument_atoms K.words σ k args) (first-path s.name i name))
 
-    pub body-sound : (S : Scene) → S.calls ≡ K.calls → (σ : Setting) (k i : ℕ) (es : List SLine) → entries_faults S i es ≡ [] → list_all (sline_kept two) es ≡ true → greatest (map sline_depth es) ≤ 128 →
+    pub body-sound : (S : Scene) → S.calls ≡ K.calls → (σ : Setting) (k i : ℕ) (es : List SLine) → entries_faults S i es ≡ []
+        → list_all (sline_kept two) es ≡ true → greatest (map sline_depth es) ≤ 128 →
         AllByRecursion Sound (unfold_body K.words K.calls R [] σ k i es)
     body-sound S same σ k i [] f h d = tt
     body-sound S same σ k i (e ∷ es) f h d =
@@ -174,11 +189,14 @@ module _ (K : Tables) (blocks : List PlainDefinition) (calls : K.calls ≡ calls
         (body-sound S same σ (k + length (entry_texts e)) (i + 1) es (right-empty (entry_faults (record S { line = i }) e) _ f) w.1 (omega arith))
 
   -- ALL DEFINITIONS
-  pub blocks-safe : (two : Bool) (heights : Heights) (R : Unfoldings) → AllByRecursion Safe R → (k home : ℕ) (bs : List PlainDefinition) → blocks_faults K.calls heights home bs ≡ [] →
+  pub blocks-safe : (two : Bool) (heights : Heights) (R : Unfoldings) → AllByRecursion Safe R → (k home : ℕ) (bs : List PlainDefinition)
+      → blocks_faults K.calls heights home bs ≡ [] →
       list_all (definition_kept two) bs ≡ true → greatest (map definition_depth bs) ≤ 128 → AllByRecursion Safe (unfoldings K.words K.calls R k bs)
   blocks-safe two heights R safe k home [] f h d = safe
   blocks-safe two heights R safe k home (b ∷ bs) f h d =
       let w = and_parts (definition_kept two b) (list_all (definition_kept two) bs) h in
-      let here : Safe (unfold_block K.words K.calls R k b) = block-safe R safe two heights home k b (left-empty _ (blocks_faults K.calls heights (home + 1) bs) f) w.0 (omega arith) in
-      blocks-safe two heights (R ++ unfold_block K.words K.calls R k b ∷ []) (all-append Safe R (unfold_block K.words K.calls R k b ∷ []) safe (here, tt)) (k + length (block_texts b)) (home + 1) bs
+      let here : Safe (unfold_block K.words K.calls R k b) =
+      block-safe R safe two heights home k b (left-empty _ (blocks_faults K.calls heights (home + 1) bs) f) w.0 (omega arith) in
+      blocks-safe two heights (R ++ unfold_block K.words K.calls R k b ∷ []) (all-append Safe R (unfold_block K.words K.calls R k b ∷ []) safe (here, tt))
+      (k + length (block_texts b)) (home + 1) bs
       (right-empty (block_faults K.calls heights home b) _ f) w.1 (omega arith)

@@ -1,5 +1,6 @@
 -- A file behind a library, where neither has a fault: its definitions in one space, its words, its unfoldings, and the places of its names.
-use Rattle.std.proofs.Common.{◌≡◌, ℕ, zero, suc, ◌+◌, ◌≤◌, List, [], ◌∷◌, ◌++◌, append_assoc, Option, Some, None, true, length, length-append, map, flat_map, take, slice_get, filter_map, refl, sym, ap, ap₂, ◌∙◌, subst, arith}
+use Rattle.std.proofs.Common.{◌≡◌, ℕ, zero, suc, ◌+◌, ◌≤◌, List, [], ◌∷◌, ◌++◌, append_assoc, Option, Some, None, true, length, length-append, map, flat_map}
+use Rattle.std.proofs.Common.{take, slice_get, filter_map, refl, sym, ap, ap₂, ◌∙◌, subst, arith}
 use Rattle.std.specs.List.{AllByRecursion, list_all}
 use Rattle.std.proofs.lemmas.Bool.{and_parts}
 use Rattle.std.proofs.lemmas.List.{append-nil}
@@ -43,30 +44,35 @@ get-behind (x ∷ front) rest w = get-behind front rest w
 word-at : (t : List ℕ) (v : BinaryWord) → read_word t ≡ Some v → word_or_empty (read_word t) ≡ v
 word-at t v e = ap word_or_empty e
 
-all-at : (K : Tables) (front : List BinaryWord) (ts : List (List ℕ)) → K.words ≡ front ++ map (λ t. word_or_empty (read_word t)) ts → AreAt [] 0 [] K (nowhere [] K) [] (length front) ts
+all-at : (K : Tables) (front : List BinaryWord) (ts : List (List ℕ)) → K.words ≡ front ++ map (λ t. word_or_empty (read_word t)) ts
+    → AreAt [] 0 [] K (nowhere [] K) [] (length front) ts
 all-at K front [] e = tt
 all-at K front (t ∷ ts) e =
     let w = word_or_empty (read_word t) in
     let rest : List BinaryWord = map (λ t. word_or_empty (read_word t)) ts in
-    let up : length (front ++ w ∷ []) ≡ suc (length front) = length-append front (w ∷ []) ∙ (let z : length front + 1 ≡ suc (length front) = omega arith in z) in (
+    let up : length (front ++ w ∷ []) ≡ suc (length front) =
+    length-append front (w ∷ []) ∙ (let z : length front + 1 ≡ suc (length front) = omega arith in z) in (
       (λ v r. ap (λ ws. slice_get ws (length front)) e ∙ get-behind front rest w ∙ ap Some (word-at t v r)),
       subst (λ n. AreAt [] 0 [] K (nowhere [] K) [] n ts) up (all-at K (front ++ w ∷ []) ts (e ∙ sym (append_assoc front (w ∷ []) rest))),
     )
 
 -- ## Definitions of two lists
 
-pub unfoldings-length : (words : List BinaryWord) (calls : List (Known Callee)) (R : Unfoldings) (k : ℕ) (bs : List PlainDefinition) → length (unfoldings words calls R k bs) ≡ length R + length bs
+pub unfoldings-length : (words : List BinaryWord) (calls : List (Known Callee)) (R : Unfoldings) (k : ℕ) (bs : List PlainDefinition)
+    → length (unfoldings words calls R k bs) ≡ length R + length bs
 unfoldings-length words calls R k [] = omega arith
 unfoldings-length words calls R k (b ∷ bs) =
     let a = length-append R (unfold_block words calls R k b ∷ []) in
     let r = unfoldings-length words calls (R ++ unfold_block words calls R k b ∷ []) (k + length (block_texts b)) bs in
     omega arith
 
-pub there-left : (groups : List (List Body)) (K : Tables) (home : ℕ) (bs cs : List PlainDefinition) → AreThere groups K home (bs ++ cs) → AreThere groups K home bs
+pub there-left : (groups : List (List Body)) (K : Tables) (home : ℕ) (bs cs : List PlainDefinition) → AreThere groups K home (bs ++ cs)
+    → AreThere groups K home bs
 there-left groups K home [] cs a = tt
 there-left groups K home (b ∷ bs) cs a = (a.0, there-left groups K (home + 1) bs cs a.1)
 
-pub there-right : (groups : List (List Body)) (K : Tables) (home : ℕ) (bs cs : List PlainDefinition) → AreThere groups K home (bs ++ cs) → AreThere groups K (home + length bs) cs
+pub there-right : (groups : List (List Body)) (K : Tables) (home : ℕ) (bs cs : List PlainDefinition) → AreThere groups K home (bs ++ cs)
+    → AreThere groups K (home + length bs) cs
 there-right groups K home [] cs a = let z : home ≡ home + 0 = omega arith in subst (λ n. AreThere groups K n cs) z a
 there-right groups K home (b ∷ bs) cs a =
     let z : home + 1 + length bs ≡ home + suc (length bs) = omega arith in subst (λ n. AreThere groups K n cs) z (there-right groups K (home + 1) bs cs a.1)
@@ -93,7 +99,8 @@ defs-mono es (suc a) zero h = absurd (omega arith)
 defs-mono [] (suc a) (suc b) h = omega arith
 defs-mono (e ∷ es) (suc a) (suc b) h = let p = defs-suc e es a in let q = defs-suc e es b in let r = defs-mono es a b (omega arith) in omega arith
 
-counts-of : (groups : List (List Body)) (K : Tables) (Xat : ℕ → ℕ) (i : ℕ) (es : List SLine) → ((n : ℕ) → Xat (i + n) ≡ Xat i + defs n es) → Counts groups K Xat i es
+counts-of : (groups : List (List Body)) (K : Tables) (Xat : ℕ → ℕ) (i : ℕ) (es : List SLine) → ((n : ℕ) → Xat (i + n) ≡ Xat i + defs n es)
+    → Counts groups K Xat i es
 counts-of groups K Xat i [] f = tt
 counts-of groups K Xat i (e ∷ es) f =
     let one = f 1 in
@@ -148,15 +155,19 @@ module _ (library file : PlainFile) (lib : IsLibrary library) (is : IsFile file)
     alone : blocks_faults (calls_space 0 0 library.definitions) (heights_of library.definitions) 0 library.definitions ≡ []
     alone =
         let e = none-empty (faults empty library) (unrefused (first_fault empty library) (expand empty library) lib.accepted) in
-        right-empty (repeated [] (flat_map heads library.definitions)) _ (left-empty (repeated [] (flat_map heads library.definitions) ++ blocks_faults (calls_space 0 0 library.definitions) (heights_of library.definitions) 0 library.definitions) _ e)
+        right-empty (repeated [] (flat_map heads library.definitions)) _
+        (left-empty (repeated [] (flat_map heads library.definitions)
+        ++ blocks_faults (calls_space 0 0 library.definitions) (heights_of library.definitions) 0 library.definitions) _ e)
 
   pub file-faults : blocks_faults calls (heights_of blocks) (length library.definitions) file.definitions ≡ []
   file-faults = right-empty (repeated (map (λ s. s.name) (flat_map heads library.definitions)) (flat_map heads file.definitions)) _
-      (left-empty (repeated (map (λ s. s.name) (flat_map heads library.definitions)) (flat_map heads file.definitions) ++ blocks_faults calls (heights_of blocks) (length library.definitions) file.definitions) _ none-faults)
+      (left-empty (repeated (map (λ s. s.name) (flat_map heads library.definitions)) (flat_map heads file.definitions)
+      ++ blocks_faults calls (heights_of blocks) (length library.definitions) file.definitions) _ none-faults)
 
   system-faults : body_faults calls (length blocks) [] [] file.lines ≡ []
   system-faults =
-      right-empty (repeated (map (λ s. s.name) (flat_map heads library.definitions)) (flat_map heads file.definitions) ++ blocks_faults calls (heights_of blocks) (length library.definitions) file.definitions) _ none-faults
+      right-empty (repeated (map (λ s. s.name) (flat_map heads library.definitions)) (flat_map heads file.definitions)
+      ++ blocks_faults calls (heights_of blocks) (length library.definitions) file.definitions) _ none-faults
 
   abbrev pub scene : Scene
   scene = record { locals = lines_space 0 file.lines; line = 0; calls = calls; home = length blocks; levels = [] }
@@ -185,7 +196,8 @@ module _ (library file : PlainFile) (lib : IsLibrary library) (is : IsFile file)
       subst (λ n. Texts n (sheet_texts file)) z (at-right [] 0 [] tables (nowhere [] tables) [] 0 (sheet_texts library) (sheet_texts file) all-texts)
 
   pub definition-texts : Texts first_text (flat_map block_texts file.definitions)
-  definition-texts = at-left [] 0 [] tables (nowhere [] tables) [] first_text (flat_map block_texts file.definitions) (flat_map entry_texts file.lines) file-texts
+  definition-texts = at-left [] 0 [] tables (nowhere [] tables) [] first_text (flat_map block_texts file.definitions) (flat_map entry_texts file.lines)
+      file-texts
 
   pub line-texts : Texts system_text (flat_map entry_texts file.lines)
   line-texts = at-right [] 0 [] tables (nowhere [] tables) [] first_text (flat_map block_texts file.definitions) (flat_map entry_texts file.lines) file-texts
@@ -201,12 +213,16 @@ module _ (library file : PlainFile) (lib : IsLibrary library) (is : IsFile file)
   pub ready : Ready groups tables R
   ready =
       let there = space-there groups tables blocks refl in
-      let first = blocks-ready groups tables (heights_of blocks) [] (none-ready groups tables bodies) 0 0 refl library.definitions (there-left groups tables 0 library.definitions file.definitions there) library-texts library-faults in
+      let first = blocks-ready groups tables (heights_of blocks) [] (none-ready groups tables bodies) 0 0 refl library.definitions
+      (there-left groups tables 0 library.definitions file.definitions there) library-texts library-faults in
       let long : length (unfoldings tables.words calls [] 0 library.definitions) ≡ length library.definitions =
-      unfoldings-length tables.words calls [] 0 library.definitions ∙ (let z : 0 + length library.definitions ≡ length library.definitions = omega arith in z) in
+      unfoldings-length tables.words calls [] 0 library.definitions
+      ∙ (let z : 0 + length library.definitions ≡ length library.definitions = omega arith in z) in
       let z : 0 + length library.definitions ≡ length library.definitions = omega arith in
-      blocks-ready groups tables (heights_of blocks) (unfoldings tables.words calls [] 0 library.definitions) first first_text (length library.definitions) long file.definitions
-      (subst (λ n. AreThere groups tables n file.definitions) z (there-right groups tables 0 library.definitions file.definitions there)) definition-texts file-faults
+      blocks-ready groups tables (heights_of blocks) (unfoldings tables.words calls [] 0 library.definitions) first first_text (length library.definitions) long
+      file.definitions
+      (subst (λ n. AreThere groups tables n file.definitions) z (there-right groups tables 0 library.definitions file.definitions there)) definition-texts
+      file-faults
 
   -- ## What files keep
 
@@ -214,7 +230,8 @@ module _ (library file : PlainFile) (lib : IsLibrary library) (is : IsFile file)
   kept-definitions f k = (and_parts (list_all (definition_kept (is_two f)) f.definitions) (list_all (sline_kept (is_two f)) f.lines) (and_parts _ _ k.kept).1).0
 
   pub kept-lines : list_all (sline_kept (is_two file)) file.lines ≡ true
-  kept-lines = (and_parts (list_all (definition_kept (is_two file)) file.definitions) (list_all (sline_kept (is_two file)) file.lines) (and_parts _ _ is.kept).1).1
+  kept-lines = (and_parts (list_all (definition_kept (is_two file)) file.definitions) (list_all (sline_kept (is_two file)) file.lines)
+      (and_parts _ _ is.kept).1).1
 
   pub depth-definitions : (f : PlainFile) → IsFile f → greatest (map definition_depth f.definitions) ≤ 128
   depth-definitions f k = let d = k.depth in omega arith
@@ -225,7 +242,8 @@ module _ (library file : PlainFile) (lib : IsLibrary library) (is : IsFile file)
   pub safe : AllByRecursion (Safe tables blocks refl) R
   safe =
       blocks-safe tables blocks refl (is_two file) (heights_of blocks) (unfoldings tables.words calls [] 0 library.definitions)
-      (blocks-safe tables blocks refl (is_two library) (heights_of blocks) [] tt 0 0 library.definitions library-faults (kept-definitions library lib.file) (depth-definitions library lib.file))
+      (blocks-safe tables blocks refl (is_two library) (heights_of blocks) [] tt 0 0 library.definitions library-faults (kept-definitions library lib.file)
+      (depth-definitions library lib.file))
       first_text (length library.definitions) file.definitions file-faults (kept-definitions file is) (depth-definitions file is)
 
   -- ## The items of the system
@@ -246,10 +264,13 @@ module _ (library file : PlainFile) (lib : IsLibrary library) (is : IsFile file)
   entry-names k i (SLineOf (LCall s args)) kept =
       let name = (and_parts (is_name s.name) (list_all arg_kept args) kept).0 in
       let xs = unfold_line tables.words calls R [] setting k i (LCall s args) in
-      let veiled : AllByRecursion (Veiled tables blocks refl) xs = safe-call tables blocks refl R safe (look s.name calls) (call_path [] s.name i) (argument_atoms tables.words setting k args) (first-path s.name i name) in
+      let veiled : AllByRecursion (Veiled tables blocks refl) xs =
+      safe-call tables blocks refl R safe (look s.name calls) (call_path [] s.name i) (argument_atoms tables.words setting k args)
+      (first-path s.name i name) in
       ap (map item_name) (none-written tables blocks refl groups xs veiled)
 
-  lines-names : (k i : ℕ) (es : List SLine) → list_all (sline_kept (is_two file)) es ≡ true → written_names (unfold_body tables.words calls R [] setting k i es) ≡ flat_map defined_names es
+  lines-names : (k i : ℕ) (es : List SLine) → list_all (sline_kept (is_two file)) es ≡ true
+      → written_names (unfold_body tables.words calls R [] setting k i es) ≡ flat_map defined_names es
   lines-names k i [] kept = refl
   lines-names k i (e ∷ es) kept =
       let w = and_parts (sline_kept (is_two file) e) (list_all (sline_kept (is_two file)) es) kept in
@@ -273,7 +294,13 @@ module _ (library file : PlainFile) (lib : IsLibrary library) (is : IsFile file)
   declared-stand = record { front = []; back = written_names items ++ hidden_names items; whole = three-parts; long = refl }
 
   written-stand : Stand tables (length declared) (flat_map defined_names file.lines)
-  written-stand = record { front = declared; back = hidden_names items; whole = three-parts ∙ ap (λ ns. declared ++ (ns ++ hidden_names items)) all-written; long = refl }
+  written-stand = record {
+    front = declared;
+    back = hidden_names items;
+    whole =
+        three-parts ∙ ap (λ ns. declared ++ (ns ++ hidden_names items)) all-written;
+    long = refl;
+  }
 
   abbrev pub count : ℕ
   count = length declared + length (flat_map defined_names file.lines)
@@ -308,6 +335,8 @@ module _ (library file : PlainFile) (lib : IsLibrary library) (is : IsFile file)
       let first = Xat-zero in
       let room = stand-room tables count (hidden_names items) hidden-stand in
       let none : Stand tables 0 declared = declared-stand in
-      let own = lines-aligned groups tables Xat 0 0 file.lines counts none (omega arith) (subst (λ n. Stand tables n (flat_map defined_names file.lines)) (sym first) written-stand) in
+      let own = lines-aligned groups tables Xat 0 0 file.lines counts none (omega arith)
+      (subst (λ n. Stand tables n (flat_map defined_names file.lines)) (sym first) written-stand) in
       subst (λ X. Good tables blocks refl groups X count items) first
-      (body-good groups tables Xat blocks refl R ready safe (is_two file) (length blocks) (lines_space 0 file.lines) setting mono own 0 system_text count file.lines counts (omega arith) line-texts lines-faults kept-lines (omega arith) hidden-stand)
+      (body-good groups tables Xat blocks refl R ready safe (is_two file) (length blocks) (lines_space 0 file.lines) setting mono own 0 system_text count
+      file.lines counts (omega arith) line-texts lines-faults kept-lines (omega arith) hidden-stand)

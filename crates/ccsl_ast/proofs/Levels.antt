@@ -9,7 +9,8 @@ greatest-append [] ys = omega arith
 greatest-append (x ∷ xs) ys = let h = greatest-append xs ys in omega arith
 
 -- an operand in parentheses reaches as many levels more as it is deep
-operand_reaches : (n : ℕ) (a : Expression) → greatest (levels (suc n) a) ≡ n + depth a → max n (greatest (operand_levels a (levels (suc n) a))) ≡ n + operand_depth a (depth a)
+operand_reaches : (n : ℕ) (a : Expression) → greatest (levels (suc n) a) ≡ n + depth a
+    → max n (greatest (operand_levels a (levels (suc n) a))) ≡ n + operand_depth a (depth a)
 operand_reaches n a h = by_parens (stands_in_parens a)
   where
     by_parens : (t : Bool) → max n (greatest (cond t (levels (suc n) a) [])) ≡ n + cond t (depth a) 0

@@ -1,7 +1,8 @@
 -- The depth of an expression: the greatest level of an expression in its text. The whole has level 1, and what stands in
 -- parentheses, or as a branch of an if, has a level one greater than the expression in which it stands.
 use Rattle.std.specs.Prelude.{ℕ, ◌+◌, max, Bool, true, false, List, [], ◌∷◌, map, if◌then◌else◌}
-use Rattle.ccsl_ast.specs.Trees.{Expression, EName, ECall, ENever, EBinary, EDelay, EAwait, EFilter, EDelayed, EIf, Line, LDefine, LConstraint, LCall, SLine, SClocks, SLineOf, PlainMember, PlainDefinition, DRelation, DGroup, PlainFile}
+use Rattle.ccsl_ast.specs.Trees.{Expression, EName, ECall, ENever, EBinary, EDelay, EAwait, EFilter, EDelayed, EIf, Line, LDefine, LConstraint, LCall, SLine}
+use Rattle.ccsl_ast.specs.Trees.{SClocks, SLineOf, PlainMember, PlainDefinition, DRelation, DGroup, PlainFile}
 
 -- whether an operand stands in parentheses: one with an operator does, and an if
 abbrev pub stands_in_parens : Expression → Bool

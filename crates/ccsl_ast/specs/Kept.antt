@@ -21,7 +21,8 @@ use Rattle.ccsl_ast.specs.declared.term.Argument.TheVariants as argument
 use Rattle.ccsl_ast.specs.declared.line.Relation.{Relation}
 use Rattle.ccsl_ast.specs.declared.line.Relation.TheVariants.{PrecedesWithin}
 use Rattle.ccsl_ast.specs.declared.definition.Param.{Param}
-use Rattle.ccsl_ast.specs.Trees.{Expression, EName, ECall, ENever, EBinary, EDelay, EAwait, EFilter, EDelayed, EIf, Line, LDefine, LConstraint, LCall, SLine, SClocks, SLineOf, PlainMember, PlainDefinition, DRelation, DGroup, PlainFile, binop_in, relop_in}
+use Rattle.ccsl_ast.specs.Trees.{Expression, EName, ECall, ENever, EBinary, EDelay, EAwait, EFilter, EDelayed, EIf, Line, LDefine, LConstraint, LCall, SLine}
+use Rattle.ccsl_ast.specs.Trees.{SClocks, SLineOf, PlainMember, PlainDefinition, DRelation, DGroup, PlainFile, binop_in, relop_in}
 
 -- whether a list has a member
 abbrev pub has_member : {A : Type 0} → List A → Bool

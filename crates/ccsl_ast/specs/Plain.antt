@@ -11,7 +11,8 @@ use Rattle.ccsl_ast.specs.declared.line.SystemLine.TheVariants.{Clocks, Line as 
 use Rattle.ccsl_ast.specs.declared.definition.Member.{Member}
 use Rattle.ccsl_ast.specs.declared.definition.Definition.{Definition}
 use Rattle.ccsl_ast.specs.declared.definition.Definition.TheVariants as definition
-use Rattle.ccsl_ast.specs.Trees.{Expression, EName, ECall, ENever, EBinary, EDelay, EAwait, EFilter, EDelayed, EIf, Line, LDefine, LConstraint, LCall, SLine, SClocks, SLineOf, PlainMember, PlainDefinition, DRelation, DGroup, PlainFile}
+use Rattle.ccsl_ast.specs.Trees.{Expression, EName, ECall, ENever, EBinary, EDelay, EAwait, EFilter, EDelayed, EIf, Line, LDefine, LConstraint, LCall, SLine}
+use Rattle.ccsl_ast.specs.Trees.{SClocks, SLineOf, PlainMember, PlainDefinition, DRelation, DGroup, PlainFile}
 
 abbrev pub plain : Tree → Expression
 plain (Name x) = EName x

@@ -11,7 +11,8 @@ use Rattle.ccsl_ast.specs.declared.term.Argument.TheVariants as argument
 use Rattle.ccsl_ast.specs.declared.tree.BinaryOp.TheVariants.{Union, UptoWeakly, SampledWeakly}
 use Rattle.ccsl_ast.specs.declared.line.Relation.TheVariants.{Precedes, PrecedesWithin}
 use Rattle.ccsl_ast.specs.declared.definition.Kind.TheVariants.{Number}
-use Rattle.ccsl_ast.specs.Trees.{Expression, EName, ECall, ENever, EBinary, EDelay, EAwait, EFilter, EDelayed, EIf, Line, LDefine, LConstraint, LCall, SLine, SClocks, SLineOf, PlainDefinition, DRelation, DGroup, PlainFile}
+use Rattle.ccsl_ast.specs.Trees.{Expression, EName, ECall, ENever, EBinary, EDelay, EAwait, EFilter, EDelayed, EIf, Line, LDefine, LConstraint, LCall, SLine}
+use Rattle.ccsl_ast.specs.Trees.{SClocks, SLineOf, PlainDefinition, DRelation, DGroup, PlainFile}
 use Rattle.ccsl_ast.specs.Depth.{depth}
 use Rattle.ccsl_ast.specs.Kept.{file_kept}
 

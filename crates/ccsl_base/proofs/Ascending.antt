@@ -1,5 +1,6 @@
 -- Ascending lists: one more member behind all, a part of one, and that sets with the same members are the same list.
-use Rattle.std.proofs.Common.{◌≡◌, ℕ, ◌<◌, ◌≤◌, ◌&&◌, if◌then◌else◌, subst, lt-ltb, ltb-false, List, [], ◌∷◌, ◌++◌, Bool, true, false, ◌||◌, cond, filter, nat_eq, nat_lt, refl, sym, ap, ap₂, ◌∙◌, arith, eq-eqb, le-ltb}
+use Rattle.std.proofs.Common.{◌≡◌, ℕ, ◌<◌, ◌≤◌, ◌&&◌, if◌then◌else◌, subst, lt-ltb, ltb-false, List, [], ◌∷◌, ◌++◌, Bool, true, false, ◌||◌, cond, filter}
+use Rattle.std.proofs.Common.{nat_eq, nat_lt, refl, sym, ap, ap₂, ◌∙◌, arith, eq-eqb, le-ltb}
 use Rattle.std.specs.List.{list_all}
 use Rattle.std.proofs.lemmas.Bool.{and_parts, and_from, ne_eqb, ltb-true, eqb-true, both_ways}
 use Rattle.ccsl_base.specs.Clocks.{ticks_in, with_clock, is_ascending, are_below}
@@ -18,7 +19,8 @@ above x [] y h t = absurd (cc)
 above x (z ∷ ys) y h t = by-first (nat_eq y z) refl (λ r. above x ys y (and_parts (nat_lt x z) (list_all (nat_lt x) ys) h).1 r)
   where
     by-first : (b : Bool) → nat_eq y z ≡ b → (ticks_in y ys ≡ true → x < y) → x < y
-    by-first true e k = let s : y ≡ z = eqb-true y z e in let l : x < z = ltb-true x z (and_parts (nat_lt x z) (list_all (nat_lt x) ys) h).0 in omega (arith, s, l)
+    by-first true e k = let s : y ≡ z = eqb-true y z e in let l : x < z =
+        ltb-true x z (and_parts (nat_lt x z) (list_all (nat_lt x) ys) h).0 in omega (arith, s, l)
     by-first false e k = k (sym (ap (λ b. b || ticks_in y ys) e) ∙ t)
 
 -- what is not above all is no member
@@ -102,7 +104,8 @@ all-with p x (y ∷ ys) is h = on (nat_lt x y) (nat_eq x y) (all-with p x ys is 
 -- a set stays ascending with one member more
 pub with_clock-ascends : (x : ℕ) (ys : List ℕ) → is_ascending ys ≡ true → is_ascending (with_clock x ys) ≡ true
 with_clock-ascends x [] h = refl
-with_clock-ascends x (y ∷ ys) h = let w = and_parts (list_all (nat_lt y) ys) (is_ascending ys) h in on (nat_lt x y) (nat_eq x y) refl refl w (with_clock-ascends x ys w.1)
+with_clock-ascends x (y ∷ ys) h = let w =
+    and_parts (list_all (nat_lt y) ys) (is_ascending ys) h in on (nat_lt x y) (nat_eq x y) refl refl w (with_clock-ascends x ys w.1)
   where
     on : (t u : Bool) → nat_lt x y ≡ t → nat_eq x y ≡ u → (list_all (nat_lt y) ys ≡ true) × (is_ascending ys ≡ true) → is_ascending (with_clock x ys) ≡ true →
         is_ascending (if t then x ∷ (y ∷ ys) else if u then y ∷ ys else y ∷ with_clock x ys) ≡ true
@@ -113,4 +116,5 @@ with_clock-ascends x (y ∷ ys) h = let w = and_parts (list_all (nat_lt y) ys) (
     on false false less e w rest =
         let l = ltb-false x y less in
         let ne : x ≡ y → ⊥ = λ s. both_ways (nat_eq x y) e (eq-eqb x y s) in
-        and_from (list_all (nat_lt y) (with_clock x ys)) (is_ascending (with_clock x ys)) (all-with (nat_lt y) x ys (lt-ltb y x (omega (arith, l, ne))) w.0) rest
+        and_from (list_all (nat_lt y) (with_clock x ys)) (is_ascending (with_clock x ys)) (all-with (nat_lt y) x ys (lt-ltb y x (omega (arith, l, ne))) w.0)
+        rest

@@ -1,5 +1,6 @@
 -- Truth values, options and short lists, case by case.
-use Rattle.std.proofs.Common.{◌≡◌, ℕ, suc, ◌+◌, ◌-◌, ◌<◌, ◌≤◌, List, [], ◌∷◌, ◌++◌, length, take, drop, take_all, length-drop, Bool, true, false, nat_lt, nat_le, Option, Some, None, is_some, slice_get, refl, arith}
+use Rattle.std.proofs.Common.{◌≡◌, ℕ, suc, ◌+◌, ◌-◌, ◌<◌, ◌≤◌, List, [], ◌∷◌, ◌++◌, length, take, drop, take_all, length-drop, Bool, true, false, nat_lt}
+use Rattle.std.proofs.Common.{nat_le, Option, Some, None, is_some, slice_get, refl, arith}
 use Rattle.std.proofs.lemmas.Grind.{common_steps}
 
 pub some-same : {A : Type 0} (x y : A) → Some x ≡ Some y → x ≡ y

@@ -1,5 +1,6 @@
 -- Sets that are kept in words, and the members of the one that are not the other's.
-use Rattle.std.proofs.Common.{◌≡◌, ◌≢◌, ℕ, ◌+◌, ◌*◌, ◌/◌, ◌%◌, ◌^◌, ◌<◌, ◌≤◌, List, [], length, get_or, slice_set, true, false, not, ◌&&◌, nat_eq, refl, sym, ap, ap₂, ◌∙◌, ⊎_elim, subst, arith}
+use Rattle.std.proofs.Common.{◌≡◌, ◌≢◌, ℕ, ◌+◌, ◌*◌, ◌/◌, ◌%◌, ◌^◌, ◌<◌, ◌≤◌, List, [], length, get_or, slice_set, true, false, not, ◌&&◌, nat_eq, refl, sym}
+use Rattle.std.proofs.Common.{ap, ap₂, ◌∙◌, ⊎_elim, subst, arith}
 use Rattle.std.specs.Int.{w64}
 use Rattle.std.proofs.lemmas.Bool.{cases_eq, cases_lt}
 use Rattle.std.proofs.lemmas.List.{get_or-set_same, get_or-set_other, length-set}
@@ -49,7 +50,8 @@ made-all IsWord i words old made past j =
 made-first : (IsWord : ℕ → ℕ → Type 0) (word : ℕ) (old : List ℕ) → 0 < length old → IsWord 0 word → Made IsWord 1 (slice_set old 0 word) old
 made-first IsWord word old l is = made-next IsWord 0 word old old (made-none IsWord old) l is
 
-pub made-begun : (IsWord : ℕ → ℕ → Type 0) (word : ℕ) (old : List ℕ) → 0 < length old → IsWord 0 word → Made IsWord 1 (slice_set old 0 word) (slice_set old 0 word)
+pub made-begun : (IsWord : ℕ → ℕ → Type 0) (word : ℕ) (old : List ℕ) → 0 < length old → IsWord 0 word
+    → Made IsWord 1 (slice_set old 0 word) (slice_set old 0 word)
 made-begun IsWord word old l is = record { size = refl; done = (made-first IsWord word old l is).done; later = λ j m. refl }
 
 pub made-behind : (IsWord : ℕ → ℕ → Type 0) (i word : ℕ) (words old : List ℕ) → 0 < length old → IsWord 0 word → Made IsWord i words (slice_set old 0 word) →
@@ -117,7 +119,8 @@ within-next i word words others within z bits = record {
 }
 
 -- a set is another's part where no word in use has such a bit
-pub within-all : (i used : ℕ) (words others : List ℕ) → Within i words others → used ≤ i → EmptyFrom used words → difference (members_of words) (members_of others) ≡ []
+pub within-all : (i used : ℕ) (words others : List ℕ) → Within i words others → used ≤ i → EmptyFrom used words
+    → difference (members_of words) (members_of others) ≡ []
 within-all i used words others within l empty =
     words-beyond words others
     ∙ members-empty (λ x. bit_of words x && not (bit_of others x)) 0 (64 * length words)
@@ -134,7 +137,8 @@ some-bit word n fits =
     (count_trailing_zeros 64 word, h.0, ap (λ b. nat_eq b 1) h.1)
 
 pub not-within : (i word : ℕ) (words others : List ℕ) → word ≢ 0 → word < 2 ^ 64 →
-    ((k : ℕ) → k < 64 → is_set word k ≡ (is_set (get_or words i 0) k && not (is_set (get_or others i 0) k))) → difference (members_of words) (members_of others) ≡ [] → ⊥
+    ((k : ℕ) → k < 64 → is_set word k ≡ (is_set (get_or words i 0) k && not (is_set (get_or others i 0) k)))
+    → difference (members_of words) (members_of others) ≡ [] → ⊥
 not-within i word words others n fits bits none =
     let some = some-bit word n fits in
     let x : ℕ = 64 * i + some.0 in

@@ -1,5 +1,6 @@
 -- The members that a test of clocks picks.
-use Rattle.std.proofs.Common.{◌≡◌, ◌≢◌, ℕ, zero, suc, ◌+◌, ◌<◌, ◌≤◌, List, [], ◌∷◌, filter, length, Bool, true, false, cond, ◌||◌, ◌&&◌, refl, sym, ap, ◌∙◌, ⊎_elim, arith, nat_eq, nat_lt, not, ap₂, add-suc, suc-add, add-zero, zero-add}
+use Rattle.std.proofs.Common.{◌≡◌, ◌≢◌, ℕ, zero, suc, ◌+◌, ◌<◌, ◌≤◌, List, [], ◌∷◌, filter, length, Bool, true, false, cond, ◌||◌, ◌&&◌, refl, sym, ap, ◌∙◌}
+use Rattle.std.proofs.Common.{⊎_elim, arith, nat_eq, nat_lt, not, ap₂, add-suc, suc-add, add-zero, zero-add}
 use Rattle.std.specs.List.{list_all}
 use Rattle.std.proofs.Math.Bool.{and-false, and-true}
 use Rattle.std.proofs.lemmas.Bool.{cases_eq, eq-eqb, ne_eqb, lt-ltb, le-ltb}
@@ -59,14 +60,18 @@ pub with_clock-front : (p : ℕ → Bool) (first count c : ℕ) → c < first �
 with_clock-front p first zero c l = rw (members-none p first) refl
 with_clock-front p first (suc count) c l =
     by_test p first _
-    (λ e. rw (members-set p first count e) (ap (λ t. cond t (c ∷ (first ∷ members_where p (suc first) count)) (cond (nat_eq c first) (first ∷ members_where p (suc first) count) (first ∷ with_clock c (members_where p (suc first) count)))) (lt-ltb c first l)))
+    (λ e. rw (members-set p first count e)
+    (ap (λ t. cond t (c ∷ (first ∷ members_where p (suc first) count))
+    (cond (nat_eq c first) (first ∷ members_where p (suc first) count) (first ∷ with_clock c (members_where p (suc first) count)))) (lt-ltb c first l)))
     (λ e. rw (members-clear p first count e) (with_clock-front p (suc first) count c (omega arith)))
 
 -- tests that are the same from a place on have the same members there
-pub members-same : (old new : ℕ → Bool) (first count : ℕ) → ((x : ℕ) → first ≤ x → x < first + count → new x ≡ old x) → members_where old first count ≡ members_where new first count
+pub members-same : (old new : ℕ → Bool) (first count : ℕ) → ((x : ℕ) → first ≤ x → x < first + count → new x ≡ old x)
+    → members_where old first count ≡ members_where new first count
 members-same old new first zero same = members-none old first ∙ sym (members-none new first)
 members-same old new first (suc count) same =
-    let later : members_where old (suc first) count ≡ members_where new (suc first) count = members-same old new (suc first) count (λ x l m. same x (omega arith) (omega arith)) in
+    let later : members_where old (suc first) count ≡ members_where new (suc first) count =
+    members-same old new (suc first) count (λ x l m. same x (omega arith) (omega arith)) in
     by_test old first _
     (λ e. members-set old first count e ∙ ap (λ xs. first ∷ xs) later ∙ sym (members-set new first count (same first (omega arith) (omega arith) ∙ e)))
     (λ e. members-clear old first count e ∙ later ∙ sym (members-clear new first count (same first (omega arith) (omega arith) ∙ e)))
@@ -78,20 +83,25 @@ with_clock-members old new first zero c l m here same = let h : c < first = omeg
 with_clock-members old new first (suc count) c l m here same =
     ⊎_elim
     (λ e.
-    let later : members_where old (suc first) count ≡ members_where new (suc first) count = members-same old new (suc first) count (λ x l m. same x (λ q. omega arith)) in
+    let later : members_where old (suc first) count ≡ members_where new (suc first) count =
+    members-same old new (suc first) count (λ x l m. same x (λ q. omega arith)) in
     let front : members_where new first (suc count) ≡ c ∷ members_where old (suc first) count =
     members-set new first count (ap (λ y. new y) (sym e) ∙ here) ∙ ap (λ y. y ∷ members_where new (suc first) count) (sym e) ∙ ap (λ xs. c ∷ xs) (sym later) in
     by_test old first _
     (λ s. rw (members-set old first count s, front)
-    (ap (λ t. cond t (c ∷ (first ∷ members_where old (suc first) count)) (cond (nat_eq c first) (first ∷ members_where old (suc first) count) (first ∷ with_clock c (members_where old (suc first) count)))) (le-ltb c first (omega arith))
+    (ap (λ t. cond t (c ∷ (first ∷ members_where old (suc first) count))
+    (cond (nat_eq c first) (first ∷ members_where old (suc first) count) (first ∷ with_clock c (members_where old (suc first) count))))
+    (le-ltb c first (omega arith))
     ∙ ap (λ t. cond t (first ∷ members_where old (suc first) count) (first ∷ with_clock c (members_where old (suc first) count))) (eq-eqb c first e)
     ∙ ap (λ y. y ∷ members_where old (suc first) count) (sym e)))
     (λ s. rw (members-clear old first count s, front) (with_clock-front old (suc first) count c (omega arith))))
     (λ other.
-    let later : with_clock c (members_where old (suc first) count) ≡ members_where new (suc first) count = with_clock-members old new (suc first) count c (omega arith) (omega arith) here same in
+    let later : with_clock c (members_where old (suc first) count) ≡ members_where new (suc first) count =
+    with_clock-members old new (suc first) count c (omega arith) (omega arith) here same in
     by_test old first _
     (λ s. rw (members-set old first count s, members-set new first count (same first (λ q. other (sym q)) ∙ s))
-    (ap (λ t. cond t (c ∷ (first ∷ members_where old (suc first) count)) (cond (nat_eq c first) (first ∷ members_where old (suc first) count) (first ∷ with_clock c (members_where old (suc first) count)))) (le-ltb c first l)
+    (ap (λ t. cond t (c ∷ (first ∷ members_where old (suc first) count))
+    (cond (nat_eq c first) (first ∷ members_where old (suc first) count) (first ∷ with_clock c (members_where old (suc first) count)))) (le-ltb c first l)
     ∙ ap (λ t. cond t (first ∷ members_where old (suc first) count) (first ∷ with_clock c (members_where old (suc first) count))) (ne_eqb c first other)
     ∙ ap (λ xs. first ∷ xs) later))
     (λ s. rw (members-clear old first count s, members-clear new first count (same first (λ q. other (sym q)) ∙ s)) later))
@@ -110,14 +120,17 @@ pub members-ascending : (p : ℕ → Bool) (first count : ℕ) → is_ascending 
 members-ascending p first zero = rw (members-none p first) refl
 members-ascending p first (suc count) =
     by_test p first _
-    (λ e. rw (members-set p first count e) (ap (λ t. t && is_ascending (members_where p (suc first) count)) (members-past p (suc first) count first (omega arith)) ∙ members-ascending p (suc first) count))
+    (λ e. rw (members-set p first count e)
+    (ap (λ t. t && is_ascending (members_where p (suc first) count)) (members-past p (suc first) count first (omega arith))
+    ∙ members-ascending p (suc first) count))
     (λ e. rw (members-clear p first count e) (members-ascending p (suc first) count))
 
 pub members-below : (p : ℕ → Bool) (first count bound : ℕ) → first + count ≤ bound → are_below bound (members_where p first count) ≡ true
 members-below p first zero bound l = rw (members-none p first) refl
 members-below p first (suc count) bound l =
     by_test p first _
-    (λ e. rw (members-set p first count e) (ap (λ t. t && are_below bound (members_where p (suc first) count)) (lt-ltb first bound (omega arith)) ∙ members-below p (suc first) count bound (omega arith)))
+    (λ e. rw (members-set p first count e) (ap (λ t. t && are_below bound (members_where p (suc first) count)) (lt-ltb first bound (omega arith))
+    ∙ members-below p (suc first) count bound (omega arith)))
     (λ e. rw (members-clear p first count e) (members-below p (suc first) count bound (omega arith)))
 
 -- the members that pass another test too
@@ -171,9 +184,11 @@ pub members-cut : (p : ℕ → Bool) (first count gap : ℕ) → ((x : ℕ) → 
     members_where p first (count + gap) ≡ members_where p first count
 members-cut p first zero gap clear = members-empty p first (zero + gap) (λ x l m. clear x (omega arith)) ∙ sym (members-none p first)
 members-cut p first (suc count) gap clear =
-    let later : members_where p (suc first) (count + gap) ≡ members_where p (suc first) count = members-cut p (suc first) count gap (λ x l. clear x (omega arith)) in
+    let later : members_where p (suc first) (count + gap) ≡ members_where p (suc first) count =
+    members-cut p (suc first) count gap (λ x l. clear x (omega arith)) in
     by_test p first _
-    (λ e. ap (members_where p first) (suc-add count gap) ∙ members-set p first (count + gap) e ∙ ap (λ xs. first ∷ xs) later ∙ sym (members-set p first count e))
+    (λ e. ap (members_where p first) (suc-add count gap) ∙ members-set p first (count + gap) e ∙ ap (λ xs. first ∷ xs) later
+    ∙ sym (members-set p first count e))
     (λ e. ap (members_where p first) (suc-add count gap) ∙ members-clear p first (count + gap) e ∙ later ∙ sym (members-clear p first count e))
 
 -- the members are as many as those of the front and those behind it
@@ -185,15 +200,19 @@ length-split p first zero count =
 length-split p first (suc front) count =
     let later = length-split p (suc first) front count in
     let place : suc first + front ≡ first + suc front = omega arith in
-    let moved : length (members_where p (suc first + front) count) ≡ length (members_where p (first + suc front) count) = ap (λ n. length (members_where p n count)) place in
-    let whole : length (members_where p first (suc front + count)) ≡ length (members_where p first (suc (front + count))) = ap (λ n. length (members_where p first n)) (suc-add front count) in
+    let moved : length (members_where p (suc first + front) count) ≡ length (members_where p (first + suc front) count) =
+    ap (λ n. length (members_where p n count)) place in
+    let whole : length (members_where p first (suc front + count)) ≡ length (members_where p first (suc (front + count))) =
+    ap (λ n. length (members_where p first n)) (suc-add front count) in
     by_test p first _
     (λ e.
-    let here : length (members_where p first (suc (front + count))) ≡ suc (length (members_where p (suc first) (front + count))) = ap length (members-set p first (front + count) e) in
+    let here : length (members_where p first (suc (front + count))) ≡ suc (length (members_where p (suc first) (front + count))) =
+    ap length (members-set p first (front + count) e) in
     let ahead : length (members_where p first (suc front)) ≡ suc (length (members_where p (suc first) front)) = ap length (members-set p first front e) in
     omega (arith, later, moved, whole, here, ahead))
     (λ e.
-    let here : length (members_where p first (suc (front + count))) ≡ length (members_where p (suc first) (front + count)) = ap length (members-clear p first (front + count) e) in
+    let here : length (members_where p first (suc (front + count))) ≡ length (members_where p (suc first) (front + count)) =
+    ap length (members-clear p first (front + count) e) in
     let ahead : length (members_where p first (suc front)) ≡ length (members_where p (suc first) front) = ap length (members-clear p first front e) in
     omega (arith, later, moved, whole, here, ahead))
 

@@ -14,10 +14,12 @@ use Rattle.ccsl_base.specs.KeptWords.{is_reserved, WordsReadBack}
 abbrev pub spells : List ℕ → Reserved → Bool
 spells text word = bytes_eq text (spelling word)
 
-pub found_at : (text : List ℕ) (i : ℕ) (d : Reserved) → i < length all_words → spells text (get_or all_words i d) ≡ true → find (spells text) (drop i all_words) ≡ Some (get_or all_words i d)
+pub found_at : (text : List ℕ) (i : ℕ) (d : Reserved) → i < length all_words → spells text (get_or all_words i d) ≡ true
+    → find (spells text) (drop i all_words) ≡ Some (get_or all_words i d)
 found_at text i d l h = ap (find (spells text)) (drop_more all_words i d l) ∙ rw h refl
 
-pub passed_at : (text : List ℕ) (i : ℕ) (d : Reserved) → i < length all_words → spells text (get_or all_words i d) ≡ false → find (spells text) (drop i all_words) ≡ find (spells text) (drop (i + 1) all_words)
+pub passed_at : (text : List ℕ) (i : ℕ) (d : Reserved) → i < length all_words → spells text (get_or all_words i d) ≡ false
+    → find (spells text) (drop i all_words) ≡ find (spells text) (drop (i + 1) all_words)
 passed_at text i d l h = ap (find (spells text)) (drop_more all_words i d l) ∙ rw h refl
 
 pub none_behind : (text : List ℕ) (i : ℕ) → length all_words ≤ i → find (spells text) (drop i all_words) ≡ None
@@ -27,7 +29,8 @@ none_any : (text : List ℕ) (words : List Reserved) → find (spells text) word
 none_any text [] h = refl
 none_any text (word ∷ words) h = by_first (spells text word) refl (none_any text words)
   where
-    by_first : (t : Bool) → spells text word ≡ t → (find (spells text) words ≡ None → list_any (bytes_eq text) (map spelling words) ≡ false) → list_any (bytes_eq text) (map spelling (word ∷ words)) ≡ false
+    by_first : (t : Bool) → spells text word ≡ t → (find (spells text) words ≡ None → list_any (bytes_eq text) (map spelling words) ≡ false)
+        → list_any (bytes_eq text) (map spelling (word ∷ words)) ≡ false
     by_first true e k = absurd (let i : Some word ≡ None = sym (rw e refl) ∙ h in cc)
     by_first false e k = rw e (k (sym (rw e refl) ∙ h))
 
@@ -41,7 +44,8 @@ found_spells text [] spelt h = absurd cc
 found_spells text (v ∷ words) spelt h = by_first (spells text v) refl (found_spells text words spelt)
   where
     by_first : (t : Bool) → spells text v ≡ t → (find (spells text) words ≡ Some spelt → text ≡ spelling spelt) → text ≡ spelling spelt
-    by_first true e k = let same : v ≡ spelt = (let i : Some v ≡ Some spelt = sym (rw e refl) ∙ h in cc) in (bytes_eq-Decides text (spelling v)).0 e ∙ ap spelling same
+    by_first true e k = let same : v ≡ spelt =
+        (let i : Some v ≡ Some spelt = sym (rw e refl) ∙ h in cc) in (bytes_eq-Decides text (spelling v)).0 e ∙ ap spelling same
     by_first false e k = k (sym (rw e refl) ∙ h)
 
 -- a text that is read as a word is its spelling
@@ -88,11 +92,13 @@ words_read_back w.Precedes = refl
 words_read_back w.Within = refl
 words_read_back w.From = refl
 
-spelled_any : (text : List ℕ) (word : Reserved) (words : List Reserved) → find (spells text) words ≡ Some word → list_any (bytes_eq text) (map spelling words) ≡ true
+spelled_any : (text : List ℕ) (word : Reserved) (words : List Reserved) → find (spells text) words ≡ Some word
+    → list_any (bytes_eq text) (map spelling words) ≡ true
 spelled_any text word [] h = absurd cc
 spelled_any text word (v ∷ words) h = by_first (spells text v) refl (spelled_any text word words)
   where
-    by_first : (t : Bool) → spells text v ≡ t → (find (spells text) words ≡ Some word → list_any (bytes_eq text) (map spelling words) ≡ true) → list_any (bytes_eq text) (map spelling (v ∷ words)) ≡ true
+    by_first : (t : Bool) → spells text v ≡ t → (find (spells text) words ≡ Some word → list_any (bytes_eq text) (map spelling words) ≡ true)
+        → list_any (bytes_eq text) (map spelling (v ∷ words)) ≡ true
     by_first true e k = rw e refl
     by_first false e k = rw e (k (sym (rw e refl) ∙ h))
 

@@ -26,7 +26,8 @@ without-one (y ∷ set) rest x h =
     let w = and_parts (list_all (nat_lt y) (set ++ x ∷ rest)) (is_ascending (set ++ x ∷ rest)) h in
     let parts = and_parts (list_all (nat_lt y) set) (list_all (nat_lt y) (x ∷ rest)) (sym (list_all-append (nat_lt y) set (x ∷ rest)) ∙ w.0) in
     and_from (list_all (nat_lt y) (set ++ rest)) (is_ascending (set ++ rest))
-    (list_all-append (nat_lt y) set rest ∙ and_from (list_all (nat_lt y) set) (list_all (nat_lt y) rest) parts.0 (and_parts (nat_lt y x) (list_all (nat_lt y) rest) parts.1).1)
+    (list_all-append (nat_lt y) set rest ∙ and_from (list_all (nat_lt y) set) (list_all (nat_lt y) rest) parts.0
+    (and_parts (nat_lt y x) (list_all (nat_lt y) rest) parts.1).1)
     (without-one set rest x w.1)
 
 pub taking-first : (bound : ℕ) (ticks : List ℕ) → is_ascending ticks ≡ true → IsTaking bound ticks [] ticks

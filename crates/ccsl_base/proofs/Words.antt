@@ -1,5 +1,7 @@
 -- What words of 64 bits say as a set of clocks.
-use Rattle.std.proofs.Common.{◌≡◌, ◌≢◌, ℕ, zero, suc, ◌+◌, ◌-◌, ◌<◌, ◌≤◌, ◌*◌, ◌/◌, ◌%◌, ◌^◌, List, [], ◌∷◌, length, Bool, true, false, refl, sym, ap, ◌∙◌, ⊎_elim, subst, arith, nat_eq, get_or, slice_set, replicate, add-suc, zero-mul, pow-suc, div-one, take, ap₂, ◌||◌, ◌&&◌, not, max, min, bit_or, bit_and}
+use Rattle.std.proofs.Common.{◌≡◌, ◌≢◌, ℕ, zero, suc, ◌+◌, ◌-◌, ◌<◌, ◌≤◌, ◌*◌, ◌/◌, ◌%◌, ◌^◌, List, [], ◌∷◌, length, Bool, true, false, refl, sym, ap, ◌∙◌}
+use Rattle.std.proofs.Common.{⊎_elim, subst, arith, nat_eq, get_or, slice_set, replicate, add-suc, zero-mul, pow-suc, div-one, take, ap₂, ◌||◌, ◌&&◌, not, max}
+use Rattle.std.proofs.Common.{min, bit_or, bit_and}
 use Rattle.std.specs.Int.{bit_at, bit_not, w64}
 use mir.Val.{bool_byte}
 use Rattle.std.specs.List.{sum_by}
@@ -10,11 +12,14 @@ use Rattle.std.proofs.lemmas.Nat.{div_below}
 use Rattle.std.specs.Int.Count.{ones, ones_step}
 use Rattle.std.proofs.Math.Nat.{div-div-eq-div-mul}
 use Rattle.std.proofs.Math.Bool.{or-false}
-use Rattle.std.proofs.lemmas.Nat.Bits.{bit_at-lt, bit_at-zero, bit_at_or, bit_at_and, bit_at_not, bit_at_set_same, bit_at_set_other, bit_at_clear_same, bit_at_clear_other}
+use Rattle.std.proofs.lemmas.Nat.Bits.{bit_at-lt, bit_at-zero, bit_at_or, bit_at_and, bit_at_not, bit_at_set_same, bit_at_set_other, bit_at_clear_same}
+use Rattle.std.proofs.lemmas.Nat.Bits.{bit_at_clear_other}
 use Rattle.ccsl_base.specs.Bits.{is_set, bit_of, members_where, members_of, members_left, EmptyFrom, size_of_word}
 use Rattle.ccsl_base.specs.Clocks.{ticks_in, with_clock, is_ascending, are_below}
 use Rattle.ccsl_base.specs.Changes.{without_clock, put_clock}
-use Rattle.ccsl_base.proofs.Picked.{members-set, members-clear, members-none, by_test, ticks_in-members, ticks_in-past, with_clock-members, without_clock-members, members-ascending, members-below, members-same, members-empty, members-skip, members-cut, length-split, length-moved, length-most}
+use Rattle.ccsl_base.proofs.Picked.{members-set, members-clear, members-none, by_test, ticks_in-members, ticks_in-past, with_clock-members}
+use Rattle.ccsl_base.proofs.Picked.{without_clock-members, members-ascending, members-below, members-same, members-empty, members-skip, members-cut}
+use Rattle.ccsl_base.proofs.Picked.{length-split, length-moved, length-most}
 
 pub is_set-zero : (x : ℕ) → is_set 0 x ≡ false
 is_set-zero x = ap (λ b. nat_eq b 1) (bit_at-zero x)
@@ -38,7 +43,8 @@ length-word word first zero l =
     ap length (members-none (is_set word) first) ∙ ap ones (sym none)
 length-word word first (suc count) l =
     let rest : word / 2 ^ suc first < 2 ^ count = subst (λ x. x < 2 ^ count) (shr-suc word first) (half-below (word / 2 ^ first) count l) in
-    let later : length (members_where (is_set word) (suc first) count) ≡ ones (word / 2 ^ first / 2) = length-word word (suc first) count rest ∙ ap ones (sym (shr-suc word first)) in
+    let later : length (members_where (is_set word) (suc first) count) ≡ ones (word / 2 ^ first / 2) =
+    length-word word (suc first) count rest ∙ ap ones (sym (shr-suc word first)) in
     let step : ones (word / 2 ^ first) ≡ bit_at word first + ones (word / 2 ^ first / 2) = ones_step (word / 2 ^ first) in
     by_test (is_set word) first _
     (λ e.
@@ -80,7 +86,8 @@ length-members (word ∷ words) =
     length-split all 0 64 (64 * length words) in
     let front : length (members_where all 0 64) ≡ size_of_word word =
     ap length (members-same all (is_set word) 0 64 (λ x l m. sym (bit_of-here word words x (omega arith)))) in
-    let behind : length (members_where all 64 (64 * length words)) ≡ length (members_of words) = length-moved all (bit_of words) 64 0 (64 * length words) (bit_of-later word words) in
+    let behind : length (members_where all 64 (64 * length words)) ≡ length (members_of words) =
+    length-moved all (bit_of words) 64 0 (64 * length words) (bit_of-later word words) in
     let others : length (members_of words) ≡ sum_by size_of_word words = length-members words in
     let sizes : sum_by size_of_word (word ∷ words) ≡ size_of_word word + sum_by size_of_word words = sum_by-cons size_of_word word words in
     omega (arith, whole, parts, front, behind, others, sizes)
@@ -115,7 +122,8 @@ members-used used words l empty =
     ap (λ n. members_where (bit_of (take used words)) 0 (64 * n)) size
     ∙ members-same (bit_of (take used words)) (bit_of words) 0 (64 * used)
     (λ x m n. ap (λ w. is_set w (x % 64)) (sym (get_or-take used words (x / 64) 0 (omega arith))))
-    ∙ sym (ap (members_where (bit_of words) 0) whole ∙ members-cut (bit_of words) 0 (64 * used) (64 * (length words - used)) (λ x m. clear-from used words empty x (omega (arith, m))))
+    ∙ sym (ap (members_where (bit_of words) 0) whole ∙ members-cut (bit_of words) 0 (64 * used) (64 * (length words - used))
+    (λ x m. clear-from used words empty x (omega (arith, m))))
 
 -- one bit of one word is changed
 pub bit_of-changed : (words : List ℕ) (c word : ℕ) (b : Bool) → c / 64 < length words → is_set word (c % 64) ≡ b →
@@ -164,7 +172,8 @@ resized words i word = ap (λ n. members_where (bit_of (slice_set words i word))
 
 -- a bit more is a member more
 pub words-with : (words : List ℕ) (c word : ℕ) → c / 64 < length words → is_set word (c % 64) ≡ true →
-    ((y : ℕ) → y < 64 → y ≢ c % 64 → is_set word y ≡ is_set (get_or words (c / 64) 0) y) → with_clock c (members_of words) ≡ members_of (slice_set words (c / 64) word)
+    ((y : ℕ) → y < 64 → y ≢ c % 64 → is_set word y ≡ is_set (get_or words (c / 64) 0) y)
+    → with_clock c (members_of words) ≡ members_of (slice_set words (c / 64) word)
 words-with words c word l here others =
     let h = bit_of-changed words c word true l here others in
     with_clock-members (bit_of words) (bit_of (slice_set words (c / 64) word)) 0 (64 * length words) c (omega arith) (omega arith) h.0 h.1
@@ -172,7 +181,8 @@ words-with words c word l here others =
 
 -- a bit less is a member less
 pub words-without : (words : List ℕ) (c word : ℕ) → c / 64 < length words → is_set word (c % 64) ≡ false →
-    ((y : ℕ) → y < 64 → y ≢ c % 64 → is_set word y ≡ is_set (get_or words (c / 64) 0) y) → without_clock c (members_of words) ≡ members_of (slice_set words (c / 64) word)
+    ((y : ℕ) → y < 64 → y ≢ c % 64 → is_set word y ≡ is_set (get_or words (c / 64) 0) y)
+    → without_clock c (members_of words) ≡ members_of (slice_set words (c / 64) word)
 words-without words c word l here others =
     let h = bit_of-changed words c word false l here others in
     without_clock-members (bit_of words) (bit_of (slice_set words (c / 64) word)) 0 (64 * length words) c h.0 (λ x m n. h.1 x)
@@ -211,7 +221,8 @@ is_set-without a b i fits inside =
 
 -- a bit more or less is a member more or less
 pub words-put : (words : List ℕ) (c word : ℕ) (one : Bool) → c / 64 < length words → is_set word (c % 64) ≡ one →
-    ((y : ℕ) → y < 64 → y ≢ c % 64 → is_set word y ≡ is_set (get_or words (c / 64) 0) y) → put_clock c one (members_of words) ≡ members_of (slice_set words (c / 64) word)
+    ((y : ℕ) → y < 64 → y ≢ c % 64 → is_set word y ≡ is_set (get_or words (c / 64) 0) y)
+    → put_clock c one (members_of words) ≡ members_of (slice_set words (c / 64) word)
 words-put words c word true l here others = words-with words c word l here others
 words-put words c word false l here others = words-without words c word l here others
 
@@ -219,7 +230,8 @@ words-put words c word false l here others = words-without words c word l here o
 shifted-none : (place : ℕ) → 0 * 2 ^ place % 2 ^ 64 ≡ 0
 shifted-none place = ap (λ n. n % 2 ^ 64) (zero-mul (2 ^ place))
 
-pub bit-put_same : (word place : ℕ) (one : Bool) → place < 64 → is_set (bit_or (bit_and word (bit_not w64 (1 * 2 ^ place % 2 ^ 64))) (bool_byte one * 2 ^ place % 2 ^ 64)) place ≡ one
+pub bit-put_same : (word place : ℕ) (one : Bool) → place < 64
+    → is_set (bit_or (bit_and word (bit_not w64 (1 * 2 ^ place % 2 ^ 64))) (bool_byte one * 2 ^ place % 2 ^ 64)) place ≡ one
 bit-put_same word place true l = ap (λ b. nat_eq b 1) (bit_at_set_same w64 _ place l)
 bit-put_same word place false l =
     is_set-or (bit_and word (bit_not w64 (1 * 2 ^ place % 2 ^ 64))) (0 * 2 ^ place % 2 ^ 64) place
@@ -288,7 +300,8 @@ has-none b word k z =
 
 -- it begins with all members
 pub left-all : (word : ℕ) (words : List ℕ) → members_left word 0 words ≡ members_of (word ∷ words)
-left-all word words = members-same (λ x. bit_of (word ∷ words) (x - 0)) (bit_of (word ∷ words)) 0 (64 * suc (length words)) (λ x l m. ap (bit_of (word ∷ words)) (omega arith))
+left-all word words = members-same (λ x. bit_of (word ∷ words) (x - 0)) (bit_of (word ∷ words)) 0 (64 * suc (length words))
+    (λ x l m. ap (bit_of (word ∷ words)) (omega arith))
 
 zero-here : (words : List ℕ) (first x : ℕ) → first ≤ x → x < first + 64 → bit_of (0 ∷ words) (x - first) ≡ false
 zero-here words first x l m = bit_of-here 0 words (x - first) (omega arith) ∙ is_set-zero (x - first)
@@ -337,7 +350,8 @@ left-next word without first place words inside set lower gone same =
     (λ h. bit_of-here without words (x - first) h ∙ same (x - first) h (λ q. omega arith) ∙ sym (bit_of-here word words (x - first) h))
     (λ h.
     let place : x - first ≡ 64 + (x - first - 64) = omega arith in
-    ap (bit_of (without ∷ words)) place ∙ bit_of-later without words (x - first - 64) ∙ sym (ap (bit_of (word ∷ words)) place ∙ bit_of-later word words (x - first - 64)))
+    ap (bit_of (without ∷ words)) place ∙ bit_of-later without words (x - first - 64)
+    ∙ sym (ap (bit_of (word ∷ words)) place ∙ bit_of-later word words (x - first - 64)))
     (cases_lt (x - first) 64))
     ∙ ap (λ n. members_where new n behind) (sym (add-suc first place))
     ∙ sym (ap (members_where new first) size' ∙ members-skip new first (suc place) behind

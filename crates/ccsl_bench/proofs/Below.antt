@@ -9,7 +9,8 @@ one-below v x n l e = ⊎_elim (λ q. subst (λ k. k < n) (sym q) l) (λ d. let 
 
 pub two-below : (v x y n : ℕ) → x < n → y < n → (nat_eq v x || nat_eq v y) ≡ true → v < n
 two-below v x y n l m e =
-    (elim (nat_eq v x) as (λ b. nat_eq v x ≡ b → (b || nat_eq v y) ≡ true → v < n) [ true ↦ λ q f. one-below v x n l q | false ↦ λ q f. one-below v y n m f ]) refl e
+    (elim (nat_eq v x) as (λ b. nat_eq v x ≡ b → (b || nat_eq v y) ≡ true → v < n) [ true ↦ λ q f. one-below v x n l q | false ↦ λ q f. one-below v y n m f ])
+    refl e
 
 pub all-append : (n : ℕ) (fs gs : List Formula) → AllBelow n fs → AllBelow n gs → AllBelow n (fs ++ gs)
 all-append n [] gs a b = b

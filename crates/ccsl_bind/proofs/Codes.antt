@@ -17,7 +17,8 @@ some-if true n = refl
 some-if false n = refl
 
 pub among-found : (name : List ℕ) (names : List (List ℕ)) → is_among name names ≡ is_some (find_name name names)
-among-found name names = any-within (bytes_eq name) names ∙ sym (some-if (nat_lt (position_or_len (bytes_eq name) names) (length names)) (position_or_len (bytes_eq name) names))
+among-found name names =
+    any-within (bytes_eq name) names ∙ sym (some-if (nat_lt (position_or_len (bytes_eq name) names) (length names)) (position_or_len (bytes_eq name) names))
 
 among-put : (code x : List ℕ) (codes : List (List ℕ)) → is_among code (put_code codes x) ≡ (is_among code codes || bytes_eq x code)
 among-put code x codes =
@@ -30,10 +31,12 @@ among-put code x codes =
       | false ↦ λ e. list_any-append (bytes_eq code) codes (x ∷ []) ∙ ap (λ w. is_among code codes || w) (or-false (bytes_eq code x) ∙ bytes_eq-comm code x)
     ]) refl
 
-among-all : (code : List ℕ) (ds : List Declaration) (codes : List (List ℕ)) → is_among code (fold (λ cs d. put_code cs d.code) codes ds) ≡ (is_among code codes || is_declared ds code)
+among-all : (code : List ℕ) (ds : List Declaration) (codes : List (List ℕ))
+    → is_among code (fold (λ cs d. put_code cs d.code) codes ds) ≡ (is_among code codes || is_declared ds code)
 among-all code [] codes = sym (or-false (is_among code codes))
 among-all code (d ∷ ds) codes =
-    among-all code ds (put_code codes d.code) ∙ ap (λ w. w || is_declared ds code) (among-put code d.code codes) ∙ or_assoc (is_among code codes) (bytes_eq d.code code) (is_declared ds code)
+    among-all code ds (put_code codes d.code) ∙ ap (λ w. w || is_declared ds code) (among-put code d.code codes)
+    ∙ or_assoc (is_among code codes) (bytes_eq d.code code) (is_declared ds code)
 
 -- A code is declared exactly where it has a number.
 pub declared-number : (ds : List Declaration) (code : List ℕ) → is_declared ds code ≡ is_some (number_of code (codes_of ds))

@@ -1,5 +1,6 @@
 -- What a binder stands for, declaration by declaration.
-use Rattle.std.proofs.Common.{◌≡◌, ℕ, zero, suc, ◌+◌, ◌≤◌, ◌<◌, List, [], ◌∷◌, ◌++◌, length, take, Bool, true, false, not, ◌||◌, ◌&&◌, Option, Some, None, get_or, refl, sym, ap, ◌∙◌, subst, arith}
+use Rattle.std.proofs.Common.{◌≡◌, ℕ, zero, suc, ◌+◌, ◌≤◌, ◌<◌, List, [], ◌∷◌, ◌++◌, length, take, Bool, true, false, not, ◌||◌, ◌&&◌, Option, Some, None}
+use Rattle.std.proofs.Common.{get_or, refl, sym, ap, ◌∙◌, subst, arith}
 use Rattle.std.specs.Prelude.{bytes_eq}
 use Rattle.std.specs.List.{slice_get}
 use Rattle.std.proofs.Math.ListN.{set}
@@ -18,11 +19,13 @@ use Rattle.ccsl_bind.specs.Gathered.{Collected, StandsFor}
 use Rattle.ccsl_bind.proofs.Finding.{find-last, put-grow, codes-more, not-among}
 use Rattle.ccsl_bind.proofs.Gathering.{all-grow, all-pass, all-noted, same-length}
 
-pub added-last : (old new : List (List ℕ)) (name : List ℕ) (o : Option ℕ) → find_name name old ≡ None → IsAdded old new name o → number_of name new ≡ Some (length old)
+pub added-last : (old new : List (List ℕ)) (name : List ℕ) (o : Option ℕ) → find_name name old ≡ None → IsAdded old new name o
+    → number_of name new ≡ Some (length old)
 added-last old new name None e h = absurd (let f = not-among name old e in let g : true ≡ false = sym h.0 ∙ f in cc)
 added-last old new name (Some n) e h = ap (number_of name) h.2 ∙ find-last name old h.0
 
-module _ (v w : Collected) (wanted : Wanted) (ds : List Declaration) (d : Declaration) (s : StandsFor wanted v ds) (e : w ≡ record v { codes = put_code v.codes d.code }) where
+module _ (v w : Collected) (wanted : Wanted) (ds : List Declaration) (d : Declaration) (s : StandsFor wanted v ds)
+    (e : w ≡ record v { codes = put_code v.codes d.code }) where
   table : w.codes ≡ put_code v.codes d.code
   table = ap (λ (x : Collected). x.codes) e
 
@@ -43,7 +46,8 @@ module _ (v w : Collected) (wanted : Wanted) (ds : List Declaration) (d : Declar
   pub passes : ((name : List ℕ) → is_among name w.wanted.names ≡ true → qualifies name d ≡ false) → StandsFor wanted w (ds ++ d ∷ [])
   passes h = record { wanted = wanted-then; codes = codes-then; found = all-pass w.codes ds d w.wanted.names w.found h grown; few = few-then }
 
-  pub notes : (x : Collected) (i n : ℕ) → number_of d.code w.codes ≡ Some n → may_bind d.kind d.size ≡ true → are_distinct w.wanted.names ≡ true → find_name d.reference w.wanted.names ≡ Some i
+  pub notes : (x : Collected) (i n : ℕ) → number_of d.code w.codes ≡ Some n → may_bind d.kind d.size ≡ true → are_distinct w.wanted.names ≡ true
+      → find_name d.reference w.wanted.names ≡ Some i
       → x ≡ record w { found = set w.found i (Some (noted (get_or w.found i None) d.depth n (is_event d))) } → StandsFor wanted x (ds ++ d ∷ [])
   notes x i n c m a f g =
       subst (λ (y : Collected). StandsFor wanted y (ds ++ d ∷ [])) (sym g)
@@ -84,7 +88,8 @@ take-next [] i x e = absurd (cc)
 take-next (n ∷ ns) zero x e = let k : n ≡ x = cc in ap (λ y. y ∷ []) k
 take-next (n ∷ ns) (suc i) x e = let k : suc i + 1 ≡ suc (i + 1) = omega arith in ap (λ j. take j (n ∷ ns)) k ∙ ap (λ ys. n ∷ ys) (take-next ns i x e)
 
-pub named-more : (names new written : List (List ℕ)) (os : List (Option Candidates)) (i : ℕ) (x : List ℕ) (o : Option ℕ) → are_distinct written ≡ true → slice_get written i ≡ Some x → Named names written os i → IsAdded names new x o
+pub named-more : (names new written : List (List ℕ)) (os : List (Option Candidates)) (i : ℕ) (x : List ℕ) (o : Option ℕ) → are_distinct written ≡ true
+    → slice_get written i ≡ Some x → Named names written os i → IsAdded names new x o
     → Named new written (os ++ None ∷ []) (i + 1)
 named-more names new written os i x None d e q h = absurd (let g : true ≡ false = sym h.0 ∙ ap (is_among x) q.names_are ∙ not-before written i x d e in cc)
 named-more names new written os i x (Some n) d e q h = record {

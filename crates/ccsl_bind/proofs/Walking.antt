@@ -1,5 +1,6 @@
 -- The clocks that are bound, one by one.
-use Rattle.std.proofs.Common.{◌≡◌, ℕ, ◌+◌, ◌≤◌, ◌<◌, List, [], ◌∷◌, ◌++◌, length, drop, Bool, true, false, nat_lt, cond, Option, Some, None, Result, Ok, Err, get_or, refl, sym, ap, ◌∙◌, append_assoc, arith, drop-cons, add-one}
+use Rattle.std.proofs.Common.{◌≡◌, ℕ, ◌+◌, ◌≤◌, ◌<◌, List, [], ◌∷◌, ◌++◌, length, drop, Bool, true, false, nat_lt, cond, Option, Some, None, Result, Ok, Err}
+use Rattle.std.proofs.Common.{get_or, refl, sym, ap, ◌∙◌, append_assoc, arith, drop-cons, add-one}
 use Rattle.std.proofs.lemmas.Bool.{lt-ltb, le-ltb}
 use Rattle.std.proofs.lemmas.List.{append-nil, drop_all}
 use Rattle.ccsl_base.specs.Clocks.{with_clock}
@@ -27,8 +28,11 @@ walk-start declared found bound e = record {
   low = Rattle.std.proofs.Common.subst (AllBelow 0) (sym e) tt;
 }
 
-here : (declared : ℕ) (found : List (Option Candidates)) (i : ℕ) (o : Option Candidates) → i < length found → get_or found i None ≡ o → clocks_from i declared (drop i found) ≡ clocks_from i declared (o ∷ drop (i + 1) found)
-here declared found i o h e = ap (clocks_from i declared) (drop-cons found i None h ∙ ap (λ p. p ∷ drop (Rattle.std.proofs.Common.suc i) found) e ∙ ap (λ k. o ∷ drop k found) (sym (add-one i)))
+here : (declared : ℕ) (found : List (Option Candidates)) (i : ℕ) (o : Option Candidates) → i < length found → get_or found i None ≡ o
+    → clocks_from i declared (drop i found) ≡ clocks_from i declared (o ∷ drop (i + 1) found)
+here declared found i o h e =
+    ap (clocks_from i declared) (drop-cons found i None h ∙ ap (λ p. p ∷ drop (Rattle.std.proofs.Common.suc i) found) e
+    ∙ ap (λ k. o ∷ drop k found) (sym (add-one i)))
 
 low-more : (i : ℕ) (xs : List ℕ) → AllBelow i xs → AllBelow (i + 1) xs
 low-more i [] h = tt
@@ -38,28 +42,40 @@ low-snoc : (i : ℕ) (xs : List ℕ) → AllBelow i xs → AllBelow (i + 1) (xs 
 low-snoc i [] h = (omega arith, tt)
 low-snoc i (x ∷ xs) h = (omega (arith, h.0), low-snoc i xs h.1)
 
-pub walk-none : (declared : ℕ) (found : List (Option Candidates)) (bound : List ℕ) (i : ℕ) → i < length found → get_or found i None ≡ None → declared ≤ i → Walked declared found bound i → Walked declared found bound (i + 1)
+pub walk-none : (declared : ℕ) (found : List (Option Candidates)) (bound : List ℕ) (i : ℕ) → i < length found → get_or found i None ≡ None → declared ≤ i
+    → Walked declared found bound i → Walked declared found bound (i + 1)
 walk-none declared found bound i h e d w = record {
-  so_far = w.so_far ∙ ap (behind bound) (here declared found i None h e ∙ ap (λ v. cond v (Err (Unbound i)) (clocks_from (i + 1) declared (drop (i + 1) found))) (le-ltb i declared d));
+  so_far = w.so_far ∙ ap (behind bound) (here declared found i None h e
+      ∙ ap (λ v. cond v (Err (Unbound i)) (clocks_from (i + 1) declared (drop (i + 1) found))) (le-ltb i declared d));
   low = low-more i bound w.low;
 }
 
-pub walk-some : (declared : ℕ) (found : List (Option Candidates)) (bound new : List ℕ) (i : ℕ) (c : Candidates) → i < length found → get_or found i None ≡ Some c → c.same ≡ true → new ≡ with_clock i bound → Walked declared found bound i → Walked declared found new (i + 1)
+pub walk-some : (declared : ℕ) (found : List (Option Candidates)) (bound new : List ℕ) (i : ℕ) (c : Candidates) → i < length found
+    → get_or found i None ≡ Some c → c.same ≡ true → new ≡ with_clock i bound → Walked declared found bound i → Walked declared found new (i + 1)
 walk-some declared found bound new i c h e s n w =
     let last : new ≡ bound ++ i ∷ [] = n ∙ with_clock-last i bound w.low in
     record {
-      so_far = w.so_far ∙ ap (behind bound) (here declared found i (Some c) h e ∙ ap (λ v. cond v (behind (i ∷ []) (clocks_from (i + 1) declared (drop (i + 1) found))) (Err (Ambiguous i))) s)
-          ∙ behind-both bound (i ∷ []) (clocks_from (i + 1) declared (drop (i + 1) found)) ∙ ap (λ xs. behind xs (clocks_from (i + 1) declared (drop (i + 1) found))) (sym last);
+      so_far = w.so_far ∙ ap (behind bound) (here declared found i (Some c) h e
+          ∙ ap (λ v. cond v (behind (i ∷ []) (clocks_from (i + 1) declared (drop (i + 1) found))) (Err (Ambiguous i))) s)
+          ∙ behind-both bound (i ∷ []) (clocks_from (i + 1) declared (drop (i + 1) found))
+          ∙ ap (λ xs. behind xs (clocks_from (i + 1) declared (drop (i + 1) found))) (sym last);
       low = Rattle.std.proofs.Common.subst (AllBelow (i + 1)) (sym last) (low-snoc i bound w.low);
     }
 
-pub walk-unbound : (declared : ℕ) (found : List (Option Candidates)) (bound : List ℕ) (i : ℕ) → i < length found → get_or found i None ≡ None → i < declared → Walked declared found bound i → clocks_from 0 declared found ≡ Err (Unbound i)
-walk-unbound declared found bound i h e d w = w.so_far ∙ ap (behind bound) (here declared found i None h e ∙ ap (λ v. cond v (Err (Unbound i)) (clocks_from (i + 1) declared (drop (i + 1) found))) (lt-ltb i declared d))
+pub walk-unbound : (declared : ℕ) (found : List (Option Candidates)) (bound : List ℕ) (i : ℕ) → i < length found → get_or found i None ≡ None → i < declared
+    → Walked declared found bound i → clocks_from 0 declared found ≡ Err (Unbound i)
+walk-unbound declared found bound i h e d w =
+    w.so_far ∙ ap (behind bound) (here declared found i None h e
+    ∙ ap (λ v. cond v (Err (Unbound i)) (clocks_from (i + 1) declared (drop (i + 1) found))) (lt-ltb i declared d))
 
-pub walk-ambiguous : (declared : ℕ) (found : List (Option Candidates)) (bound : List ℕ) (i : ℕ) (c : Candidates) → i < length found → get_or found i None ≡ Some c → c.same ≡ false → Walked declared found bound i → clocks_from 0 declared found ≡ Err (Ambiguous i)
-walk-ambiguous declared found bound i c h e s w = w.so_far ∙ ap (behind bound) (here declared found i (Some c) h e ∙ ap (λ v. cond v (behind (i ∷ []) (clocks_from (i + 1) declared (drop (i + 1) found))) (Err (Ambiguous i))) s)
+pub walk-ambiguous : (declared : ℕ) (found : List (Option Candidates)) (bound : List ℕ) (i : ℕ) (c : Candidates) → i < length found
+    → get_or found i None ≡ Some c → c.same ≡ false → Walked declared found bound i → clocks_from 0 declared found ≡ Err (Ambiguous i)
+walk-ambiguous declared found bound i c h e s w =
+    w.so_far ∙ ap (behind bound) (here declared found i (Some c) h e
+    ∙ ap (λ v. cond v (behind (i ∷ []) (clocks_from (i + 1) declared (drop (i + 1) found))) (Err (Ambiguous i))) s)
 
-pub walk-end : (declared : ℕ) (found : List (Option Candidates)) (bound : List ℕ) (i : ℕ) → length found ≤ i → Walked declared found bound i → clocks_from 0 declared found ≡ Ok bound
+pub walk-end : (declared : ℕ) (found : List (Option Candidates)) (bound : List ℕ) (i : ℕ) → length found ≤ i → Walked declared found bound i
+    → clocks_from 0 declared found ≡ Ok bound
 walk-end declared found bound i h w = w.so_far ∙ ap (λ os. behind bound (clocks_from i declared os)) (drop_all i found h) ∙ ap (λ xs. Ok xs) (append-nil bound)
 
 pub not-true : (b : Bool) → Rattle.std.proofs.Common.not b ≡ true → b ≡ false

@@ -1,5 +1,6 @@
 -- What a binder binds the clocks to.
-use Rattle.std.specs.Prelude.{ℕ, ◌+◌, List, [], ◌∷◌, ◌++◌, Bool, true, Option, Some, None, Result, Ok, Err, nat_lt, ◌==◌, ◌&&◌, if◌then◌else◌, slice_get, unwrap_or}
+use Rattle.std.specs.Prelude.{ℕ, ◌+◌, List, [], ◌∷◌, ◌++◌, Bool, true, Option, Some, None, Result, Ok, Err, nat_lt, ◌==◌, ◌&&◌, if◌then◌else◌, slice_get}
+use Rattle.std.specs.Prelude.{unwrap_or}
 use Rattle.ccsl_vcd.specs.Binding.{Bound}
 use Rattle.ccsl_bind.specs.declared.candidate.Candidates.{Candidates}
 use Rattle.ccsl_bind.specs.declared.fault.BindFault.{BindFault}

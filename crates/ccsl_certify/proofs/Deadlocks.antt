@@ -24,12 +24,14 @@ use Rattle.ccsl_relate.proofs.History.{X-length}
 use Rattle.ccsl_certify.specs.Laws.{IsDeadlocked}
 
 -- the declared clocks of each row are a set
-declared-sets : (K : System) (rows : List Row) → list_all (λ (row : Row). is_ascending row.ticks) rows ≡ true → list_all (is_declared K) (map (λ (row : Row). declared_part K row.ticks) rows) ≡ true
+declared-sets : (K : System) (rows : List Row) → list_all (λ (row : Row). is_ascending row.ticks) rows ≡ true
+    → list_all (is_declared K) (map (λ (row : Row). declared_part K row.ticks) rows) ≡ true
 declared-sets K [] h = refl
 declared-sets K (row ∷ rows) h =
     let w = and_parts (is_ascending row.ticks) (list_all (λ (r : Row). is_ascending r.ticks) rows) h in
     and_from (is_declared K (declared_part K row.ticks)) (list_all (is_declared K) (map (λ (r : Row). declared_part K r.ticks) rows))
-    (and_from (is_ascending (declared_part K row.ticks)) (are_below K.declared (declared_part K row.ticks)) (below-ascending K.declared row.ticks w.0) (below-below K.declared row.ticks))
+    (and_from (is_ascending (declared_part K row.ticks)) (are_below K.declared (declared_part K row.ticks)) (below-ascending K.declared row.ticks w.0)
+    (below-below K.declared row.ticks))
     (declared-sets K rows w.1)
 
 none-of : (o : Option ℕ) → is_some o ≡ false → o ≡ None
@@ -57,10 +59,12 @@ module _ (K : System) (bound : List ℕ) (rows : List Row) (count : ℕ) where
   pub deadlocked : IsAccepted K → (lines : List Line) → list_all (λ (row : Row). is_ascending row.ticks) rows ≡ true → verdict K bound rows ≡ Run count
       → is_certificate (scope_of K) (item_formulas K (completed_rows K rows)) lines ≡ true → IsDeadlocked K rows count
   deadlocked ok lines sets e certificate =
-      let run : IsNamedRun K (completed_rows K rows) = record { run = run-holds e; named = completion_named K (map (λ (row : Row). declared_part K row.ticks) rows) (declared-sets K rows sets) } in
+      let run : IsNamedRun K (completed_rows K rows) =
+      record { run = run-holds e; named = completion_named K (map (λ (row : Row). declared_part K row.ticks) rows) (declared-sets K rows sets) } in
       record {
         run = run;
         count = X-length K rows ∙ (no-step (first_step K bound rows) e).1;
         ends = blocked_ends K ok (completed_rows K rows) run
-            (λ set solves. sound (scope_of K) (item_formulas K (completed_rows K rows)) lines (in_set set) (certificate-none (scope_of K) (item_formulas K (completed_rows K rows)) lines certificate) solves);
+            (λ set solves. sound (scope_of K) (item_formulas K (completed_rows K rows)) lines (in_set set)
+            (certificate-none (scope_of K) (item_formulas K (completed_rows K rows)) lines certificate) solves);
       }

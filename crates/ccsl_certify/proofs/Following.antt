@@ -10,8 +10,10 @@ use Rattle.ccsl_relate.proofs.Blocks.{few-rows, take-more}
 use Rattle.ccsl_relate.proofs.History.{X-more, X-length}
 use Rattle.ccsl_certify.specs.Replaying.{AreAfter}
 
-pub after-more : (K : System) (rows : List Row) (row : Row) (h h' : states.Held) (d : Step) → AreAfter K rows h → d ≡ declared_part K row.ticks → h'.system ≡ h.system
-    → ((T : List Step) → states.StandsFor h T → length T + 1 < 2 ^ 64 → states.StandsFor h' (T ++ full_step h.system T d ∷ [])) → length rows + 1 < 2 ^ 64 → AreAfter K (rows ++ row ∷ []) h'
+pub after-more : (K : System) (rows : List Row) (row : Row) (h h' : states.Held) (d : Step) → AreAfter K rows h → d ≡ declared_part K row.ticks
+    → h'.system ≡ h.system
+    → ((T : List Step) → states.StandsFor h T → length T + 1 < 2 ^ 64 → states.StandsFor h' (T ++ full_step h.system T d ∷ [])) → length rows + 1 < 2 ^ 64
+    → AreAfter K (rows ++ row ∷ []) h'
 after-more K rows row h h' d a e system goes few =
     let T = completed_rows K rows in
     record {
@@ -23,8 +25,10 @@ after-more K rows row h h' d a e system goes few =
     }
 
 -- one row more of a block
-pub block-more : (K K' : System) (rows block : List Row) (i : ℕ) (row : Row) (h h' : states.Held) → K' ≡ K → slice_get block i ≡ Some row → i < length block → AreAfter K (rows ++ take i block) h
-    → ((rs : List Row) → AreAfter K' rs h → length rs + 1 < 2 ^ 64 → AreAfter K' (rs ++ row ∷ []) h') → length rows + length block < 2 ^ 64 → AreAfter K (rows ++ take (i + 1) block) h'
+pub block-more : (K K' : System) (rows block : List Row) (i : ℕ) (row : Row) (h h' : states.Held) → K' ≡ K → slice_get block i ≡ Some row → i < length block
+    → AreAfter K (rows ++ take i block) h
+    → ((rs : List Row) → AreAfter K' rs h → length rs + 1 < 2 ^ 64 → AreAfter K' (rs ++ row ∷ []) h') → length rows + length block < 2 ^ 64
+    → AreAfter K (rows ++ take (i + 1) block) h'
 block-more K K' rows block i row h h' same e l a step few =
     subst (λ rs. AreAfter K rs h') (append_assoc rows (take i block) (row ∷ []) ∙ ap (λ rs. rows ++ rs) (sym (take-more block i row e)))
     (subst (λ (X : System). AreAfter X ((rows ++ take i block) ++ row ∷ []) h') same

@@ -1,5 +1,6 @@
 -- The recorded rows of every trace are sets of clocks: clocks are bound in their order.
-use Rattle.std.proofs.Common.{◌≡◌, ◌⊎◌, ℕ, ◌+◌, ◌<◌, List, [], ◌∷◌, ◌++◌, length, map, filter, fold, take, Bool, true, false, cond, ◌&&◌, nat_lt, nat_le, bytes_eq, Option, Some, None, Result, Ok, Err, refl, sym, ap, ◌∙◌, subst, ⊎_elim, inl, inr, arith, lt-ltb}
+use Rattle.std.proofs.Common.{◌≡◌, ◌⊎◌, ℕ, ◌+◌, ◌<◌, List, [], ◌∷◌, ◌++◌, length, map, filter, fold, take, Bool, true, false, cond, ◌&&◌, nat_lt, nat_le}
+use Rattle.std.proofs.Common.{bytes_eq, Option, Some, None, Result, Ok, Err, refl, sym, ap, ◌∙◌, subst, ⊎_elim, inl, inr, arith, lt-ltb}
 use Rattle.std.specs.List.{list_all}
 use Rattle.std.specs.Prelude.{codes}
 use Rattle.std.proofs.lemmas.Bool.{and_parts, and_from}
@@ -10,8 +11,10 @@ use Rattle.ccsl_vcd.specs.declared.fault.VcdFault.{VcdFault}
 use Rattle.ccsl_vcd.specs.declared.fault.VcdFault.TheVariants as faults
 use Rattle.ccsl_vcd.specs.declared.limits.Limits.{Limits}
 use Rattle.ccsl_vcd.specs.Binding.{Declaration, is_event, Wanted, Bound, candidates, bind_one, joined, bind_from, bind}
-use Rattle.ccsl_vcd.specs.Places.{Change, Among, commands, inside, Header, Amid, changes, remark, code_of, code_skipped, Body, Where, header, body, Said, goes, refused}
-use Rattle.ccsl_vcd.specs.Header.{HeaderWord, var, scope, upscope, end_definitions, other_command, end_command, plain, header_word, word_fits, declares, put_declared, opens, starts, ends, inside_says, header_says}
+use Rattle.ccsl_vcd.specs.Places.{Change, Among, commands, inside, Header, Amid, changes, remark, code_of, code_skipped, Body, Where, header, body, Said, goes}
+use Rattle.ccsl_vcd.specs.Places.{refused}
+use Rattle.ccsl_vcd.specs.Header.{HeaderWord, var, scope, upscope, end_definitions, other_command, end_command, plain, header_word, word_fits, declares}
+use Rattle.ccsl_vcd.specs.Header.{put_declared, opens, starts, ends, inside_says, header_says}
 use Rattle.ccsl_vcd.specs.Words.{Word, time, scalar, vector, skipped, comment, dump, gap, close, bad_time, bad_change, unknown, word_of}
 use Rattle.ccsl_vcd.specs.Body.{is_declared, changed, change_says, body_says}
 use Rattle.ccsl_vcd.specs.Reading.{stands_at, says, Story, told, next_from, next, begin, story, decides, ends_at, is_over, so_far, reading}
@@ -136,7 +139,8 @@ module _ (wanted : Wanted) (limits : Limits) where
     changed-on : (code : List ℕ) (one : Bool) → LeadsOn (changed b t code one)
     changed-on code one =
         leads-if (is_declared b.declared code)
-        (goes (body (record b { amid = changes })) (record { time = b.now; code = code; one = one; dumped = b.dumping } ∷ [])) (refused (faults.UnknownCode t.at))
+        (goes (body (record b { amid = changes })) (record { time = b.now; code = code; one = one; dumped = b.dumping } ∷ []))
+        (refused (faults.UnknownCode t.at))
         sorted tt
 
     change-on : (w : Word) → LeadsOn (change_says b t w)
@@ -216,7 +220,8 @@ some-ascend p (b ∷ bs) h = by-test (p b) (and_parts (list_all (nat_lt b.clock)
   where
     by-test : (t : Bool) → (list_all (nat_lt b.clock) (clocks bs) ≡ true) × (is_ascending (clocks bs) ≡ true) →
         (is_ascending (clocks bs) ≡ true → is_ascending (clocks (filter p bs)) ≡ true) → is_ascending (clocks (cond t (b ∷ filter p bs) (filter p bs))) ≡ true
-    by-test true q rest = and_from (list_all (nat_lt b.clock) (clocks (filter p bs))) (is_ascending (clocks (filter p bs))) (some-above b.clock p bs q.0) (rest q.1)
+    by-test true q rest = and_from (list_all (nat_lt b.clock) (clocks (filter p bs))) (is_ascending (clocks (filter p bs))) (some-above b.clock p bs q.0)
+        (rest q.1)
     by-test false q rest = rest q.1
 
 rows-sets : (bs : List Bound) (cs : List Change) (ts : List ℕ) → is_ascending (clocks bs) ≡ true → are_sets (filter has_ticks (map (row_at bs cs) ts)) ≡ true
@@ -225,10 +230,12 @@ rows-sets bs cs (t ∷ ts) h = by-test (has_ticks (row_at bs cs t)) (rows-sets b
   where
     by-test : (b : Bool) → are_sets (filter has_ticks (map (row_at bs cs) ts)) ≡ true →
         are_sets (cond b (row_at bs cs t ∷ filter has_ticks (map (row_at bs cs) ts)) (filter has_ticks (map (row_at bs cs) ts))) ≡ true
-    by-test true rest = and_from (is_ascending (row_at bs cs t).ticks) (are_sets (filter has_ticks (map (row_at bs cs) ts))) (some-ascend (ticks (at t cs) (before t cs)) bs h) rest
+    by-test true rest = and_from (is_ascending (row_at bs cs t).ticks) (are_sets (filter has_ticks (map (row_at bs cs) ts)))
+        (some-ascend (ticks (at t cs) (before t cs)) bs h) rest
     by-test false rest = rest
 
 pub recorded-sets : (wanted : Wanted) (limits : Limits) (file : List ℕ) → are_sets (recorded wanted limits file) ≡ true
 unfolding recorded rows
 recorded-sets wanted limits file =
-    rows-sets (bound_at (reading wanted limits file).place) (reading wanted limits file).changes (times (reading wanted limits file).changes) (bound-sorted wanted limits file)
+    rows-sets (bound_at (reading wanted limits file).place) (reading wanted limits file).changes (times (reading wanted limits file).changes)
+    (bound-sorted wanted limits file)

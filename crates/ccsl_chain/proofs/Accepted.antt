@@ -1,5 +1,6 @@
 -- A chain is an accepted system.
-use Rattle.std.proofs.Common.{◌≡◌, ℕ, zero, suc, ◌+◌, ◌-◌, ◌*◌, ◌<◌, ◌≤◌, List, [], ◌∷◌, ◌++◌, map, flat_map, length, length-append, get_or, Bool, true, nat_lt, lt-ltb, le-ltb, refl, sym, ap, ◌∙◌, subst, ⊎_elim, arith, inr, Option, Some, None, if◌then◌else◌}
+use Rattle.std.proofs.Common.{◌≡◌, ℕ, zero, suc, ◌+◌, ◌-◌, ◌*◌, ◌<◌, ◌≤◌, List, [], ◌∷◌, ◌++◌, map, flat_map, length, length-append, get_or, Bool, true, nat_lt}
+use Rattle.std.proofs.Common.{lt-ltb, le-ltb, refl, sym, ap, ◌∙◌, subst, ⊎_elim, arith, inr, Option, Some, None, if◌then◌else◌}
 use Rattle.std.specs.Prelude.{All, IsTrue, codes, decimal}
 use Rattle.std.specs.Fmt.{digits}
 use Rattle.std.specs.List.{range_with_len, list_all}
@@ -27,7 +28,8 @@ passes : (p : ℕ → Bool) (a m i : ℕ) → list_all p (range_with_len a m) �
 passes p a zero i h l u = absurd (omega arith)
 passes p a (suc m) i h l u =
     let w = and_parts (p a) (list_all p (range_with_len (a + 1) m)) h in
-    ⊎_elim (λ (e : a ≡ i). ap p (sym e) ∙ w.0) (λ (ne : a ≡ i → ⊥). passes p (a + 1) m i w.1 (let s : a ≤ i = l in further a i s ne) (omega arith)) (cases_eq a i)
+    ⊎_elim (λ (e : a ≡ i). ap p (sym e) ∙ w.0) (λ (ne : a ≡ i → ⊥). passes p (a + 1) m i w.1 (let s : a ≤ i = l in further a i s ne) (omega arith))
+    (cases_eq a i)
   where
     further : (a i : ℕ) → a ≤ i → (a ≡ i → ⊥) → a + 1 ≤ i
     further a i l ne = ⊎_elim (λ (s : a < i). let z : a + 1 ≤ i = omega arith in z) (λ (s : i ≤ a). absurd (ne (omega arith))) (cases_lt a i)
@@ -61,16 +63,19 @@ name-at n few k d l = ⊎_elim declared hidden (cases_lt k n)
     declared : k < n → IsNamed n k (get_or (names n) k d)
     declared h =
         let at : get_or (names n) k d ≡ clock_name k =
-        get_or-append (map clock_name (range_with_len 0 n)) (map hidden_name (range_with_len 0 (n - 1))) d k (let many = length-map-range_with_len clock_name 0 n in omega arith)
+        get_or-append (map clock_name (range_with_len 0 n)) (map hidden_name (range_with_len 0 (n - 1))) d k (let many =
+        length-map-range_with_len clock_name 0 n in omega arith)
         ∙ get_or-map-range_with_len clock_name 0 n k k d h (omega arith) in
         subst (IsNamed n k) (sym at) (cond-true (nat_lt k n) (is_name (clock_name k)) (is_hidden (clock_name k)) (lt-ltb k n h) ∙ clock-is k (omega arith))
 
     hidden : n ≤ k → IsNamed n k (get_or (names n) k d)
     hidden h =
         let at : get_or (names n) k d ≡ hidden_name (k - n) =
-        get_or-append_right (map clock_name (range_with_len 0 n)) (map hidden_name (range_with_len 0 (n - 1))) n k d (length-map-range_with_len clock_name 0 n) h
+        get_or-append_right (map clock_name (range_with_len 0 n)) (map hidden_name (range_with_len 0 (n - 1))) n k d (length-map-range_with_len clock_name 0 n)
+        h
         ∙ get_or-map-range_with_len hidden_name 0 (n - 1) (k - n) (k - n) d (let many = length-names n in omega arith) (omega arith) in
-        subst (IsNamed n k) (sym at) (cond-false (nat_lt k n) (is_name (hidden_name (k - n))) (is_hidden (hidden_name (k - n))) (le-ltb k n h) ∙ hidden-so (k - n))
+        subst (IsNamed n k) (sym at) (cond-false (nat_lt k n) (is_name (hidden_name (k - n))) (is_hidden (hidden_name (k - n))) (le-ltb k n h)
+        ∙ hidden-so (k - n))
 
 -- ## Groups
 
@@ -113,7 +118,10 @@ filter_by_body n = record {
 }
 
 bodies : (n : ℕ) → Each (λ g members. All (IsBody (chain n) g) members) 0 library_groups
-bodies n = (only (chain n) 0 (slice_body 0) (periodic_body n), (only (chain n) 1 (slice_body 1) (skip_body n), (only (chain n) 2 (slice_body 2) (filter_by_body n), tt)))
+bodies n = (
+  only (chain n) 0 (slice_body 0) (periodic_body n),
+  (only (chain n) 1 (slice_body 1) (skip_body n), (only (chain n) 2 (slice_body 2) (filter_by_body n), tt)),
+)
 
 abbrev IsLow : ℕ → Type 0
 IsLow n = n ≤ MAX_CALL_LEVELS
@@ -141,7 +149,8 @@ constraints n = each 0 (n - 1) (omega arith)
     each a zero l = All-nil Named
     each a (suc m) l =
         let rest = flat_map (alternation n) (range_with_len (a + 1) m) in
-        let behind : All Named (precedes a (a + 1) (n + a) ∷ rest) = All-cons Named (precedes a (a + 1) (n + a)) rest (omega arith, omega arith, tt) (each (a + 1) m (omega arith)) in
+        let behind : All Named (precedes a (a + 1) (n + a) ∷ rest) =
+        All-cons Named (precedes a (a + 1) (n + a)) rest (omega arith, omega arith, tt) (each (a + 1) m (omega arith)) in
         All-cons Named (precedes a a (a + 1)) (precedes a (a + 1) (n + a) ∷ rest) (omega arith, omega arith, tt) behind
 
 length-constraints : (n : ℕ) → length (flat_map (alternation n) (range_with_len 0 (n - 1))) ≡ 2 * (n - 1)

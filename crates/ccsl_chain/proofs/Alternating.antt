@@ -1,5 +1,6 @@
 -- In every run of a chain each clock is ahead of the next one by 0 or 1.
-use Rattle.std.proofs.Common.{◌≡◌, ℕ, zero, suc, ◌+◌, ◌-◌, ◌*◌, ◌<◌, ◌≤◌, List, [], map, take, length, Bool, true, false, not, nat_eq, nat_le, slice_get, refl, sym, ap, ap₂, ◌∙◌, arith, zero-add, eq-eqb, if◌then◌else◌}
+use Rattle.std.proofs.Common.{◌≡◌, ℕ, zero, suc, ◌+◌, ◌-◌, ◌*◌, ◌<◌, ◌≤◌, List, [], map, take, length, Bool, true, false, not, nat_eq, nat_le, slice_get, refl}
+use Rattle.std.proofs.Common.{sym, ap, ap₂, ◌∙◌, arith, zero-add, eq-eqb, if◌then◌else◌}
 use Rattle.std.proofs.Math.Seq.{take-suc}
 use Rattle.std.proofs.lemmas.Bool.{cond-true, not-true}
 use Rattle.std.proofs.lemmas.Bool.Decides.{nat_tests}
@@ -75,7 +76,8 @@ module _ (n : ℕ) where
         (ap (slice_get (chain n).constraints) (let s : first_item n i - length (chain n).definitions ≡ 2 * i = omega (arith, length-definitions) in s)
         ∙ first-two_each (λ i. precedes i i (i + 1)) (λ i. precedes i (i + 1) (n + i)) 0 (n - 1) i i l (zero-add i))
 
-    pub second-formula : item_formula (chain n) T m (second_item n i) ≡ relation_formula Precedes (i + 1) (n + i) (clock_count T (i + 1) m) (clock_count T (n + i) m)
+    pub second-formula : item_formula (chain n) T m (second_item n i) ≡ relation_formula Precedes (i + 1) (n + i) (clock_count T (i + 1) m)
+        (clock_count T (n + i) m)
     unfolding chain
     second-formula =
         item-constraint (chain n) T m (second_item n i) (precedes i (i + 1) (n + i)) (omega (arith, length-definitions))
@@ -120,7 +122,8 @@ module _ (n : ℕ) (T : List Step) (run : IsRun (chain n) T) (i : ℕ) (l : i < 
       let q = clock_count T (i + 1) m in
       let h = clock_count T (n + i) m in
       let hidden : ticks_in (n + i) s ≡ (if nat_le 1 p then ticks_in i s else false) =
-      same-values (ticks_in (n + i) s) (eval (if nat_le 1 p then FVar i else FFalse) s) (sym (ap (λ f. eval f s) (hidden-formula n T m i l (omega arith))) ∙ item m i u (omega arith))
+      same-values (ticks_in (n + i) s) (eval (if nat_le 1 p then FVar i else FFalse) s)
+      (sym (ap (λ f. eval f s) (hidden-formula n T m i l (omega arith))) ∙ item m i u (omega arith))
       ∙ eval_cond (nat_le 1 p) (FVar i) FFalse s in
       let first = held i (i + 1) p q s (sym (ap (λ f. eval f s) (first-formula n T m i l)) ∙ item m (first_item n i) u (omega arith)) in
       let second = held (i + 1) (n + i) q h s (sym (ap (λ f. eval f s) (second-formula n T m i l)) ∙ item m (second_item n i) u (omega arith)) in

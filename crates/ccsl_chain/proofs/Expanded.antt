@@ -1,5 +1,6 @@
 -- What the lines of a chain's text expand to.
-use Rattle.std.proofs.Common.{◌≡◌, ℕ, zero, suc, ◌+◌, ◌-◌, ◌<◌, ◌≤◌, ◌^◌, List, [], ◌∷◌, ◌++◌, append-nil, map, flat_map, filter_map, length, get_or, not, cond, Some, find, bytes_eq, refl, sym, ap, ap₂, ◌∙◌, arith}
+use Rattle.std.proofs.Common.{◌≡◌, ℕ, zero, suc, ◌+◌, ◌-◌, ◌<◌, ◌≤◌, ◌^◌, List, [], ◌∷◌, ◌++◌, append-nil, map, flat_map, filter_map, length, get_or, not, cond}
+use Rattle.std.proofs.Common.{Some, find, bytes_eq, refl, sym, ap, ap₂, ◌∙◌, arith}
 use Rattle.std.specs.Prelude.{codes}
 use Rattle.std.specs.List.{range_with_len}
 use Rattle.std.proofs.lemmas.List.FromFn.{length-map-range_with_len}
@@ -18,7 +19,8 @@ use Rattle.ccsl_rules.specs.Settings.{Atom, AClock, Setting, atom_of, snd_of}
 use Rattle.ccsl_rules.specs.Texts.{entry_texts}
 use Rattle.ccsl_rules.specs.Resolved.{Tables, clock_number}
 use Rattle.ccsl_rules.specs.Unfolded.{Item, Defines, Binds, unfoldings, unfold_body, own_clocks, inside}
-use Rattle.ccsl_rules.specs.Expansion.{declared_names, written_item, hidden_item, item_name, item_definition, constraint_of, names_of, expand, words_of, items_of}
+use Rattle.ccsl_rules.specs.Expansion.{declared_names, written_item, hidden_item, item_name, item_definition, constraint_of, names_of, expand, words_of}
+use Rattle.ccsl_rules.specs.Expansion.{items_of}
 use Rattle.ccsl_library.specs.Library.{the_library, name_at, clock_at, number_at}
 use Rattle.ccsl_chain.specs.Chain.{clock_name, call_path, hidden_name, all_but_first, precedes, alternation, chain}
 use Rattle.ccsl_chain.specs.Text.{call_line, chain_file}
@@ -37,7 +39,8 @@ number-among f rest a (suc m) zero l h =
     ((bytes_eq-Decides (f a) (f (a + 0))).1 (ap f (let s : a ≡ a + 0 = omega arith in s)))
 number-among f rest a (suc m) (suc i) l h =
     let shift : a + suc i ≡ a + 1 + i = omega arith in
-    ap (λ t. cond (not t) (1 + clock_number (map f (range_with_len (a + 1) m) ++ rest) (f (a + suc i))) 0) (other (f a) (f (a + suc i)) (h a (omega arith) (omega arith)))
+    ap (λ t. cond (not t) (1 + clock_number (map f (range_with_len (a + 1) m) ++ rest) (f (a + suc i))) 0)
+    (other (f a) (f (a + suc i)) (h a (omega arith) (omega arith)))
     ∙ ap (λ k. 1 + clock_number (map f (range_with_len (a + 1) m) ++ rest) (f k)) shift
     ∙ ap (λ k. 1 + k) (number-among f rest (a + 1) m i (omega arith) (λ j l' u e. h j (omega arith) (omega arith) (e ∙ ap f (sym shift))))
     ∙ (let s : 1 + i ≡ suc i = omega arith in s)
@@ -55,7 +58,8 @@ number-behind f rest x a (suc m) h =
 abbrev own : ℕ → List ℕ × Atom
 own j = (clock_name j, AClock (clock_name j))
 
-atom-among : (a m i : ℕ) → i < m → a + m < 2 ^ 63 → snd_of (find (λ p. bytes_eq p.0 (clock_name (a + i))) (map own (range_with_len a m))) ≡ AClock (clock_name (a + i))
+atom-among : (a m i : ℕ) → i < m → a + m < 2 ^ 63
+    → snd_of (find (λ p. bytes_eq p.0 (clock_name (a + i))) (map own (range_with_len a m))) ≡ AClock (clock_name (a + i))
 atom-among a zero i l u = absurd (omega arith)
 atom-among a (suc m) zero l u =
     let same : a ≡ a + 0 = omega arith in
@@ -105,11 +109,13 @@ module _ (where_at : ℕ → ℕ → ℕ) (n : ℕ) (few : n < 2 ^ 62) where
   -- the setting of the system's own lines
   own-setting : own_clocks [] (chain_file where_at n).lines ≡ map own (range_with_len 0 n)
   own-setting =
-      ap (λ ss. map (λ s. (s.name, AClock (inside [] s.name))) (map (λ j. name_at (where_at 0 j) (clock_name j)) (range_with_len 0 n) ++ ss)) (no-declared 0 (n - 1))
+      ap (λ ss. map (λ s. (s.name, AClock (inside [] s.name))) (map (λ j. name_at (where_at 0 j) (clock_name j)) (range_with_len 0 n) ++ ss))
+      (no-declared 0 (n - 1))
       ∙ ap (map (λ s. (s.name, AClock (inside [] s.name)))) (append-nil (map (λ j. name_at (where_at 0 j) (clock_name j)) (range_with_len 0 n)))
       ∙ spots 0 n
     where
-      spots : (a m : ℕ) → map (λ s. (s.name, AClock (inside [] s.name))) (map (λ j. name_at (where_at 0 j) (clock_name j)) (range_with_len a m)) ≡ map own (range_with_len a m)
+      spots : (a m : ℕ) → map (λ s. (s.name, AClock (inside [] s.name))) (map (λ j. name_at (where_at 0 j) (clock_name j)) (range_with_len a m)) ≡ map own
+          (range_with_len a m)
       spots a zero = refl
       spots a (suc m) = ap (λ ps. own a ∷ ps) (spots (a + 1) m)
 
@@ -120,11 +126,13 @@ module _ (where_at : ℕ → ℕ → ℕ) (n : ℕ) (few : n < 2 ^ 62) where
 
   -- each call is its three items
   calls-unfold : (words : List BinaryWord) (k a m : ℕ) → a + m ≤ n - 1 →
-      unfold_body words calls (unfoldings words calls [] 0 the_library.definitions) [] (map own (range_with_len 0 n)) k (a + 1) (map (call_line where_at) (range_with_len a m))
+      unfold_body words calls (unfoldings words calls [] 0 the_library.definitions) [] (map own (range_with_len 0 n)) k (a + 1)
+      (map (call_line where_at) (range_with_len a m))
       ≡ flat_map items_at (range_with_len a m)
   calls-unfold words k a zero l = refl
   calls-unfold words k a (suc m) l =
-      ap₂ (λ (x y : Atom). three a x y ++ unfold_body words calls (unfoldings words calls [] 0 the_library.definitions) [] (map own (range_with_len 0 n)) (k + 0) (a + 1 + 1) (map (call_line where_at) (range_with_len (a + 1) m)))
+      ap₂ (λ (x y : Atom). three a x y ++ unfold_body words calls (unfoldings words calls [] 0 the_library.definitions) [] (map own (range_with_len 0 n))
+      (k + 0) (a + 1 + 1) (map (call_line where_at) (range_with_len (a + 1) m)))
       (own-atom a (omega arith)) (own-atom (a + 1) (omega arith))
       ∙ ap (λ xs. items_at a ++ xs) (calls-unfold words (k + 0) (a + 1) m (omega arith))
 
@@ -136,7 +144,8 @@ module _ (where_at : ℕ → ℕ → ℕ) (n : ℕ) (few : n < 2 ^ 62) where
 
   items-are : items_of the_library file ≡ flat_map items_at links
   items-are =
-      ap (λ σ. unfold_body (words_of the_library file) calls (unfoldings (words_of the_library file) calls [] 0 the_library.definitions) [] σ (0 + 0 + 0) (0 + 1) (map (call_line where_at) links)) own-setting
+      ap (λ σ. unfold_body (words_of the_library file) calls (unfoldings (words_of the_library file) calls [] 0 the_library.definitions) [] σ (0 + 0 + 0)
+      (0 + 1) (map (call_line where_at) links)) own-setting
       ∙ calls-unfold (words_of the_library file) (0 + 0 + 0) 0 (n - 1) (omega arith)
 
   -- ## Names
@@ -150,7 +159,8 @@ module _ (where_at : ℕ → ℕ → ℕ) (n : ℕ) (few : n < 2 ^ 62) where
       ∙ append-nil (map (λ (s : Spot). s.name) (map (λ j. name_at (where_at 0 j) (clock_name j)) (range_with_len 0 n)))
       ∙ spelled 0 n
     where
-      spelled : (a m : ℕ) → map (λ (s : Spot). s.name) (map (λ j. name_at (where_at 0 j) (clock_name j)) (range_with_len a m)) ≡ map clock_name (range_with_len a m)
+      spelled : (a m : ℕ) → map (λ (s : Spot). s.name) (map (λ j. name_at (where_at 0 j) (clock_name j)) (range_with_len a m)) ≡ map clock_name
+          (range_with_len a m)
       spelled a zero = refl
       spelled a (suc m) = ap (λ xs. clock_name a ∷ xs) (spelled (a + 1) m)
 
@@ -191,16 +201,23 @@ module _ (where_at : ℕ → ℕ → ℕ) (n : ℕ) (few : n < 2 ^ 62) where
       ap₂ (λ x es. kernel.EDelay (kernel.EName (place.Clock x)) (record { first = num.Num 1; rest = [] }) ∷ es)
       (ap (λ xs. clock_number xs (clock_name a)) is ∙ clock-number a (omega arith)) (definitions-of tables is (a + 1) m (omega arith))
 
-  constraints-of : (a m : ℕ) → a + m ≤ n - 1 → filter_map (constraint_of names) (flat_map items_at (range_with_len a m)) ≡ flat_map (alternation n) (range_with_len a m)
+  constraints-of : (a m : ℕ) → a + m ≤ n - 1
+      → filter_map (constraint_of names) (flat_map items_at (range_with_len a m)) ≡ flat_map (alternation n) (range_with_len a m)
   constraints-of a zero l = refl
   constraints-of a (suc m) l =
-      ap₂ (λ x y. precedes a x y ∷ precedes a y (clock_number names (hidden_name a)) ∷ filter_map (constraint_of names) (flat_map items_at (range_with_len (a + 1) m)))
+      ap₂ (λ x y. precedes a x y ∷ precedes a y (clock_number names (hidden_name a)) ∷ filter_map (constraint_of names)
+      (flat_map items_at (range_with_len (a + 1) m)))
       (clock-number a (omega arith)) (clock-number (a + 1) (omega arith))
       ∙ ap₂ (λ z cs. precedes a a (a + 1) ∷ precedes a (a + 1) z ∷ cs) (hidden-number a (omega arith)) (constraints-of (a + 1) m (omega arith))
 
   definitions-are : (expand the_library file).definitions ≡ map all_but_first links
   definitions-are =
-      let tables : Tables = record { names = names_of (flat_map declared_names file.lines) (items_of the_library file); words = words_of the_library file; calls = calls } in
+      let tables : Tables = record {
+        names = names_of (flat_map declared_names file.lines) (items_of the_library file);
+        words =
+            words_of the_library file;
+        calls = calls;
+      } in
       ap (λ xs. map (item_definition tables) (filter_map written_item xs ++ filter_map hidden_item xs)) items-are
       ∙ ap (λ w. map (item_definition tables) (w ++ filter_map hidden_item (flat_map items_at links))) (written-none 0 (n - 1))
       ∙ definitions-of tables names-are 0 (n - 1) (omega arith)
@@ -225,4 +242,5 @@ module _ (where_at : ℕ → ℕ → ℕ) (n : ℕ) (few : n < 2 ^ 62) where
   pub expanded : expand the_library file ≡ chain n
   expanded =
       let K = expand the_library file in
-      whole n K.names K.declared K.written K.groups K.words K.definitions K.constraints names-are count-declared count-written refl words-none definitions-are constraints-are
+      whole n K.names K.declared K.written K.groups K.words K.definitions K.constraints names-are count-declared count-written refl words-none definitions-are
+      constraints-are

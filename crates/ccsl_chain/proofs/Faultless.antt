@@ -1,5 +1,6 @@
 -- The text of a chain has no fault.
-use Rattle.std.proofs.Common.{◌≡◌, ℕ, zero, suc, ◌+◌, ◌-◌, ◌<◌, ◌≤◌, ◌^◌, List, [], ◌∷◌, ◌++◌, append-nil, map, length, true, false, ◌||◌, cond, Option, Some, None, Ok, nat_lt, le-ltb, refl, sym, ap, ap₂, ◌∙◌, arith}
+use Rattle.std.proofs.Common.{◌≡◌, ℕ, zero, suc, ◌+◌, ◌-◌, ◌<◌, ◌≤◌, ◌^◌, List, [], ◌∷◌, ◌++◌, append-nil, map, length, true, false, ◌||◌, cond, Option, Some}
+use Rattle.std.proofs.Common.{None, Ok, nat_lt, le-ltb, refl, sym, ap, ap₂, ◌∙◌, arith}
 use Rattle.std.specs.List.{range_with_len}
 use Rattle.std.proofs.lemmas.Bool.{cond-false}
 use Rattle.std.proofs.lemmas.List.FromFn.{map-range_with_len_more}
@@ -40,7 +41,8 @@ module _ (where_at : ℕ → ℕ → ℕ) where
 
   new-name : (x : List ℕ) (a m : ℕ) → ((j : ℕ) → a ≤ j → j < a + m → clock_name j ≡ x → ⊥) → is_among x (map clock_name (range_with_len a m)) ≡ false
   new-name x a zero h = refl
-  new-name x a (suc m) h = ap₂ ◌||◌ (other x (clock_name a) (λ e. h a (omega arith) (omega arith) (sym e))) (new-name x (a + 1) m (λ j l u. h j (omega arith) (omega arith)))
+  new-name x a (suc m) h =
+      ap₂ ◌||◌ (other x (clock_name a) (λ e. h a (omega arith) (omega arith) (sym e))) (new-name x (a + 1) m (λ j l u. h j (omega arith) (omega arith)))
 
   none-repeated : (a m : ℕ) → a + m < 2 ^ 62 → repeated (map clock_name (range_with_len 0 a)) (map spot (range_with_len a m)) ≡ []
   none-repeated a zero l = refl
@@ -52,7 +54,8 @@ module _ (where_at : ℕ → ℕ → ℕ) where
 
   -- ## Each call names declared clocks
 
-  find-known : (rest : List (Known Kind)) (a m i : ℕ) → i < m → a + m < 2 ^ 62 → look (clock_name (a + i)) (map known (range_with_len a m) ++ rest) ≡ Some (known (a + i))
+  find-known : (rest : List (Known Kind)) (a m i : ℕ) → i < m → a + m < 2 ^ 62
+      → look (clock_name (a + i)) (map known (range_with_len a m) ++ rest) ≡ Some (known (a + i))
   find-known rest a zero i l u = absurd (omega arith)
   find-known rest a (suc m) zero l u =
       let same : a ≡ a + 0 = omega arith in
@@ -128,7 +131,8 @@ module _ (where_at : ℕ → ℕ → ℕ) where
 
     no-faults : faults the_library file ≡ []
     no-faults =
-        ap (λ (ls : List (Known Kind)). repeated [] (spots ls) ++ entries_faults (record { locals = ls; line = 0; calls = calls; home = 4; levels = [] }) 0 file.lines) locals-are
+        ap (λ (ls : List (Known Kind)). repeated [] (spots ls)
+        ++ entries_faults (record { locals = ls; line = 0; calls = calls; home = 4; levels = [] }) 0 file.lines) locals-are
         ∙ ap (λ ss. repeated [] ss ++ entries_faults (scene 0) 0 file.lines) (spots-are 0 n)
         ∙ ap₂ (λ (xs ys : List Fault). xs ++ ys) (none-repeated 0 n (omega arith)) (calls-faultless 0 (n - 1) (omega arith))
 

@@ -1,5 +1,6 @@
 -- After every run of a chain some clock may tick alone: the first one that is level with the next one, or the last.
-use Rattle.std.proofs.Common.{◌≡◌, ◌≢◌, ℕ, zero, suc, ◌+◌, ◌-◌, ◌*◌, ◌<◌, ◌≤◌, List, [], ◌∷◌, length, Bool, true, false, not, ◌&&◌, ◌||◌, cond, nat_eq, nat_lt, nat_le, filter, refl, sym, ap, ap₂, ◌∙◌, subst, ◌⊎◌, inl, inr, ⊎_elim, arith, lt-ltb, le-ltb, eq-eqb, if◌then◌else◌}
+use Rattle.std.proofs.Common.{◌≡◌, ◌≢◌, ℕ, zero, suc, ◌+◌, ◌-◌, ◌*◌, ◌<◌, ◌≤◌, List, [], ◌∷◌, length, Bool, true, false, not, ◌&&◌, ◌||◌, cond, nat_eq, nat_lt}
+use Rattle.std.proofs.Common.{nat_le, filter, refl, sym, ap, ap₂, ◌∙◌, subst, ◌⊎◌, inl, inr, ⊎_elim, arith, lt-ltb, le-ltb, eq-eqb, if◌then◌else◌}
 use Rattle.std.proofs.lemmas.Bool.{cases_lt, cases_eq, cond-false, ne_eqb, leb-true, ltb-true, and_from, and_parts}
 use Rattle.ccsl_base.specs.Clocks.{ticks_in, is_ascending, are_below}
 use Rattle.ccsl_formula.specs.Formula.{FFalse, FTrue, FVar, FNot, eval, same}
@@ -11,7 +12,8 @@ use Rattle.ccsl_kernel.specs.Laws.{ExtendsToStep}
 use Rattle.ccsl_kernel.specs.Runs.{IsRun, declared_part, is_named}
 use Rattle.ccsl_kernel.proofs.Quiet.{eval_cond}
 use Rattle.ccsl_chain.specs.Chain.{chain}
-use Rattle.ccsl_chain.proofs.Alternating.{alternates, first_item, second_item, hidden-formula, first-formula, second-formula, item_count-chain, length-definitions}
+use Rattle.ccsl_chain.proofs.Alternating.{alternates, first_item, second_item, hidden-formula, first-formula, second-formula, item_count-chain}
+use Rattle.ccsl_chain.proofs.Alternating.{length-definitions}
 use Rattle.ccsl_formula.proofs.Same.{same-if}
 
 -- ## The clock that ticks
@@ -33,7 +35,15 @@ free count (suc m) = on (free count m)
         (λ (l : m ≤ i).
         let same : i ≡ m = omega (arith, f.low) in
         ⊎_elim
-        (λ (e : count m ≡ count (m + 1)). (i, record { low = omega arith; level = λ l'. ap count same ∙ e ∙ ap (λ k. count (k + 1)) (sym same); ahead = f.ahead }))
+        (λ (e : count m ≡ count (m + 1)). (
+          i,
+          record {
+            low = omega arith;
+            level = λ l'. ap count same ∙ e ∙ ap (λ k. count (k + 1)) (sym same);
+            ahead =
+                f.ahead;
+          },
+        ))
         (λ (ne : count m ≡ count (m + 1) → ⊥). (
           m + 1,
           record {
@@ -149,7 +159,8 @@ module _ (n : ℕ) (pos : 0 < n) (T : List Step) (run : IsRun (chain n) T) where
         ap (λ g. eval g step) (second-formula n T (length T) j l)
         ∙ ⊎_elim
         (λ (e : j ≡ i). here e follows refl)
-        (λ (ne : j ≡ i → ⊥). silent (j + 1) (n + j) (count (j + 1)) (count (n + j)) step (quiet n i follows (n + j) (λ e. omega (arith, f.low)) (λ e. ne (omega arith))))
+        (λ (ne : j ≡ i → ⊥). silent (j + 1) (n + j) (count (j + 1)) (count (n + j)) step
+        (quiet n i follows (n + j) (λ e. omega (arith, f.low)) (λ e. ne (omega arith))))
         (cases_eq j i)
       where
         here : j ≡ i → (t : Bool) → follows ≡ t → eval (relation_formula Precedes (j + 1) (n + j) (count (j + 1)) (count (n + j))) step ≡ true
@@ -173,9 +184,11 @@ module _ (n : ℕ) (pos : 0 < n) (T : List Step) (run : IsRun (chain n) T) where
 
         pair : n - 1 ≤ k → (j : ℕ) × ((k - (n - 1) ≡ 2 * j) ⊎ (k - (n - 1) ≡ 2 * j + 1)) → eval (item_formula (chain n) T (length T) k) step ≡ true
         pair l (j, inl e) =
-            ap (λ m. eval (item_formula (chain n) T (length T) m) step) (let s : k ≡ first_item n j = omega arith in s) ∙ first-item j (omega (arith, item_count-chain n))
+            ap (λ m. eval (item_formula (chain n) T (length T) m) step) (let s : k ≡ first_item n j = omega arith in s)
+            ∙ first-item j (omega (arith, item_count-chain n))
         pair l (j, inr e) =
-            ap (λ m. eval (item_formula (chain n) T (length T) m) step) (let s : k ≡ second_item n j = omega arith in s) ∙ second-item j (omega (arith, item_count-chain n))
+            ap (λ m. eval (item_formula (chain n) T (length T) m) step) (let s : k ≡ second_item n j = omega arith in s)
+            ∙ second-item j (omega (arith, item_count-chain n))
 
     named : is_named (chain n) step ≡ true
     unfolding chain

@@ -1,5 +1,6 @@
 -- Each name of a chain is new behind those before it.
-use Rattle.std.proofs.Common.{◌≡◌, ℕ, zero, suc, ◌+◌, ◌<◌, ◌≤◌, ◌^◌, List, [], ◌∷◌, ◌++◌, append_assoc, map, length, length-append, get_or, false, ◌||◌, Option, Some, None, bytes_eq, refl, sym, ap, ap₂, ◌∙◌, arith}
+use Rattle.std.proofs.Common.{◌≡◌, ℕ, zero, suc, ◌+◌, ◌<◌, ◌≤◌, ◌^◌, List, [], ◌∷◌, ◌++◌, append_assoc, map, length, length-append, get_or, false, ◌||◌, Option}
+use Rattle.std.proofs.Common.{Some, None, bytes_eq, refl, sym, ap, ap₂, ◌∙◌, arith}
 use Rattle.std.specs.Prelude.{codes, decimal}
 use Rattle.std.specs.List.{range_with_len}
 use Rattle.std.proofs.lemmas.Bool.{false_from_ne_true}
@@ -43,7 +44,8 @@ added old new name None e h = let z : ⊥ = cc (e, h.0) in absurd z
 added old new name (Some k) e h = h.2
 
 -- one more clock, and one more hidden one
-pub clock_added : (old new : List (List ℕ)) (name : List ℕ) (i : ℕ) (o : Option ℕ) → i < 2 ^ 64 → name ≡ clock_name i → old ≡ map clock_name (range_with_len 0 i) →
+pub clock_added : (old new : List (List ℕ)) (name : List ℕ) (i : ℕ) (o : Option ℕ) → i < 2 ^ 64 → name ≡ clock_name i
+    → old ≡ map clock_name (range_with_len 0 i) →
     IsAdded old new name o → new ≡ map clock_name (range_with_len 0 (i + 1))
 clock_added old new name i o l is e h =
     added old new name o (ap₂ is_among is e ∙ clock-new i l) h
@@ -63,7 +65,8 @@ hidden_added n old new name i o l is e h =
 pub length-declared : (names : List (List ℕ)) (i : ℕ) → names ≡ map clock_name (range_with_len 0 i) → length names ≡ i
 length-declared names i e = ap length e ∙ length-map-range_with_len clock_name 0 i
 
-pub length-so_far : (names : List (List ℕ)) (n i : ℕ) → names ≡ map clock_name (range_with_len 0 n) ++ map hidden_name (range_with_len 0 i) → length names ≡ n + i
+pub length-so_far : (names : List (List ℕ)) (n i : ℕ) → names ≡ map clock_name (range_with_len 0 n) ++ map hidden_name (range_with_len 0 i)
+    → length names ≡ n + i
 length-so_far names n i e =
     ap length e
     ∙ length-append (map clock_name (range_with_len 0 n)) (map hidden_name (range_with_len 0 i))

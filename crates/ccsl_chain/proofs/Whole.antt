@@ -11,6 +11,15 @@ pub whole : (n : ℕ) (names : List (List ℕ)) (declared written : ℕ) (groups
     (constraints : List Constraint) → names ≡ map clock_name (range_with_len 0 n) ++ map hidden_name (range_with_len 0 (n - 1)) → declared ≡ n → written ≡ n →
     groups ≡ library_groups → words ≡ [] → definitions ≡ map all_but_first (range_with_len 0 (n - 1)) →
     constraints ≡ flat_map (alternation n) (range_with_len 0 (n - 1)) →
-    record { names = names; declared = declared; written = written; groups = groups; words = words; definitions = definitions; constraints = constraints } ≡ chain n
+    record {
+      names = names;
+      declared = declared;
+      written = written;
+      groups = groups;
+      words = words;
+      definitions = definitions;
+      constraints =
+          constraints;
+    } ≡ chain n
 unfolding chain
 whole n names declared written groups words definitions constraints a b c d e f g = cc

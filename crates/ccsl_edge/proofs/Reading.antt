@@ -1,5 +1,6 @@
 -- Reads in a row: what they take goes on, and a failure leaves what was taken.
-use Rattle.std.proofs.Common.{◌≡◌, ℕ, ◌+◌, ◌<◌, ◌≤◌, List, [], ◌++◌, length, take, IsTrue, ◌∙◌, sym, ap, subst, refl, arith, append_assoc, append-nil, length-append, length-take-le}
+use Rattle.std.proofs.Common.{◌≡◌, ℕ, ◌+◌, ◌<◌, ◌≤◌, List, [], ◌++◌, length, take, IsTrue, ◌∙◌, sym, ap, subst, refl, arith, append_assoc, append-nil}
+use Rattle.std.proofs.Common.{length-append, length-take-le}
 use Rattle.ccsl_edge.specs.declared.slot.Slot.{Slot}
 use Rattle.ccsl_edge.specs.World.{State, SlotState, Told, held}
 use Rattle.ccsl_edge.specs.Calls.{Fails, OpensIn, Reads, Takes, ReadsThenFails, ReadsAll, ReadsTooMuch, ReadsIntoFault, ReadsPart}

@@ -1,5 +1,6 @@
 -- A world in memory that never fails, in which one slot's source has changed.
-use Rattle.std.proofs.Common.{◌≡◌, ℕ, ◌<◌, ◌≤◌, min, List, [], ◌∷◌, true, false, cond, map, length, take, drop, set, get_or, Option, Some, None, IsTrue, refl, sym, ap, ◌∙◌, subst, nat_lt, slice_get, slice_index_or, unwrap_or, zero, suc}
+use Rattle.std.proofs.Common.{◌≡◌, ℕ, ◌<◌, ◌≤◌, min, List, [], ◌∷◌, true, false, cond, map, length, take, drop, set, get_or, Option, Some, None, IsTrue, refl}
+use Rattle.std.proofs.Common.{sym, ap, ◌∙◌, subst, nat_lt, slice_get, slice_index_or, unwrap_or, zero, suc}
 use Rattle.std.specs.List.{position, position_or_len}
 use Rattle.std.specs.Option.{option_map}
 use Rattle.std.specs.Str.{bytes_eq}
@@ -34,7 +35,8 @@ module _ (files : List (List ℕ × List ℕ)) (sources : List Source) (slot : S
   pub sets : SetsSlot slot (slot_of_source files (get_or sources i closed)) (slot_of_source files now)
       (file_state (map (slot_of_source files) sources)) (file_state (map (slot_of_source files) (set sources j now)))
   sets =
-      let s = SetsSlot-at [] (map (slot_of_source files) sources) slot j (slot_of_source files closed) (slot_of_source files now) at' (length-map sources (slot_of_source files) ∙ long) in
+      let s = SetsSlot-at [] (map (slot_of_source files) sources) slot j (slot_of_source files closed) (slot_of_source files now) at'
+      (length-map sources (slot_of_source files) ∙ long) in
       record {
         only = subst (λ xs. ChangesOnly slot (file_state (map (slot_of_source files) sources)) (file_state xs)) (sym moved-there) s.only;
         was_is = s.was_is ∙ was-there;

@@ -43,14 +43,16 @@ module _ (K : Tables) (G : List ℕ) where
   total-append (x ∷ xs) ys = omega (arith, total-append xs ys)
 
   -- written definitions, hidden ones and constraints are all items
-  total-weight : (names : List (List ℕ)) (xs : List Item) → total (filter_map written_item xs) + total (filter_map hidden_item xs) + 2 * length (filter_map (constraint_of names) xs) ≡ weight exact xs
+  total-weight : (names : List (List ℕ)) (xs : List Item)
+      → total (filter_map written_item xs) + total (filter_map hidden_item xs) + 2 * length (filter_map (constraint_of names) xs) ≡ weight exact xs
   total-weight names [] = refl
   total-weight names (Defines [] name σ k e ∷ xs) = grind (arith, common_steps, tree-cells K G σ k e, total-weight names xs)
   total-weight names (Defines (b ∷ bs) name σ k e ∷ xs) = grind (arith, common_steps, tree-cells K G σ k e, total-weight names xs)
   total-weight names (Binds path σ a r b ∷ xs) = grind (arith, common_steps, total-weight names xs)
 
   all-weight : (names : List (List ℕ)) (xs : List Item) →
-      sum (map (cells_in G) (map (item_definition K) (filter_map written_item xs ++ filter_map hidden_item xs))) + 2 * length (filter_map (constraint_of names) xs) ≡ weight exact xs
+      sum (map (cells_in G) (map (item_definition K) (filter_map written_item xs ++ filter_map hidden_item xs)))
+      + 2 * length (filter_map (constraint_of names) xs) ≡ weight exact xs
   all-weight names xs =
       let both = sum-total (filter_map written_item xs ++ filter_map hidden_item xs) in
       let split = total-append (filter_map written_item xs) (filter_map hidden_item xs) in
@@ -64,7 +66,8 @@ file_groups library file =
 
 -- THE CELLS are what the trees weigh
 pub cells-agree : (library file : PlainFile) →
-    saturated (cells (expand library file)) ≡ file_count (record { definition = tree_cells (calls_of library file) (file_groups library file); constraint = 2 }) library file
+    saturated (cells (expand library file)) ≡ file_count (record { definition = tree_cells (calls_of library file) (file_groups library file); constraint = 2 })
+    library file
 cells-agree library file =
     let calls = calls_of library file in
     let items = items_of library file in

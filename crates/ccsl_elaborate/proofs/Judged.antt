@@ -39,9 +39,11 @@ module _ (library file : PlainFile) where
   no-fault e = ap (λ f. refusal_with f K) e
 
   totals : (a b d : Bool) → clocks_test ≡ a → constraints_test ≡ b → cells_test ≡ d →
-      totals_refusal K ≡ first_of_three a b d (refused.TooManyClocks (saturated (length K.names))) (refused.TooManyConstraints (saturated (length K.constraints))) (refused.StateTooLarge (saturated (cells K)))
+      totals_refusal K ≡ first_of_three a b d (refused.TooManyClocks (saturated (length K.names)))
+      (refused.TooManyConstraints (saturated (length K.constraints))) (refused.StateTooLarge (saturated (cells K)))
   totals a b d p q r = tests clocks_test constraints_test cells_test a b d _ _ _ p q r
 
   pub not-refused : IsFaultless library file → cells K ≤ MAX_CELLS → refusal library file ≡ None
   not-refused s h =
-      no-fault s.no_fault ∙ totals false false false (within MAX_CLOCKS (length K.names) s.few_clocks) (within MAX_CONSTRAINTS (length K.constraints) s.few_constraints) (within MAX_CELLS (cells K) h)
+      no-fault s.no_fault ∙ totals false false false (within MAX_CLOCKS (length K.names) s.few_clocks)
+      (within MAX_CONSTRAINTS (length K.constraints) s.few_constraints) (within MAX_CELLS (cells K) h)

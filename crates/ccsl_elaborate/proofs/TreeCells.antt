@@ -1,7 +1,8 @@
 -- The cells of trees are those of what they become, whatever their names stand for.
 use Rattle.std.proofs.Common.{◌≡◌, ℕ, ◌+◌, ◌/◌, List, [], ◌∷◌, ◌++◌, length, map, max, Option, Some, None, refl, sym, ap, ap₂, ◌∙◌}
 use Rattle.std.proofs.lemmas.List.{map_push, length-map}
-use Rattle.ccsl_ast.specs.Trees.{Expression, EName, ECall, ENever, EBinary, EDelay, EAwait, EFilter, EDelayed, EIf, PlainMember, PlainDefinition, DRelation, DGroup}
+use Rattle.ccsl_ast.specs.Trees.{Expression, EName, ECall, ENever, EBinary, EDelay, EAwait, EFilter, EDelayed, EIf, PlainMember, PlainDefinition, DRelation}
+use Rattle.ccsl_ast.specs.Trees.{DGroup}
 use Rattle.ccsl_ast.specs.declared.definition.Param.{Param}
 use Rattle.ccsl_kernel.specs.declared.expr.Value.{Value}
 use Rattle.ccsl_kernel.specs.Syntax.{Body}
@@ -45,7 +46,8 @@ module _ (K : Tables) where
   most-params k [] = refl
   most-params k (m ∷ ms) = ap₂ max (length-map m.params (λ (p : Param). kind_in p.kind)) (most-params (k + length (texts m.body)) ms)
 
-  most-cells : (G : List ℕ) (k : ℕ) (ms : List PlainMember) → greatest (map (λ b. cells_in G b.root) (part_bodies K k ms)) ≡ greatest (map (λ m. tree_cells K.calls G m.body) ms)
+  most-cells : (G : List ℕ) (k : ℕ) (ms : List PlainMember)
+      → greatest (map (λ b. cells_in G b.root) (part_bodies K k ms)) ≡ greatest (map (λ m. tree_cells K.calls G m.body) ms)
   most-cells G k [] = refl
   most-cells G k (m ∷ ms) = ap₂ max (tree-cells G (own_params 0 m.params) k m.body) (most-cells G (k + length (texts m.body)) ms)
 
@@ -53,7 +55,8 @@ module _ (K : Tables) where
   members-cells G k ms = ap₂ (λ x y. saturated (1 + x + y)) (most-params k ms) (most-cells G k ms)
 
   -- OF ALL GROUPS
-  pub all-groups : (G : List ℕ) (k : ℕ) (bs : List PlainDefinition) → groups_before K.calls (map saturated G) bs ≡ map saturated (groups_cells G (groups_of K k bs))
+  pub all-groups : (G : List ℕ) (k : ℕ) (bs : List PlainDefinition)
+      → groups_before K.calls (map saturated G) bs ≡ map saturated (groups_cells G (groups_of K k bs))
   all-groups G k [] = refl
   all-groups G k (DRelation name params lines ∷ bs) = all-groups G (k + length (block_texts (DRelation name params lines))) bs
   all-groups G k (DGroup members ∷ bs) =

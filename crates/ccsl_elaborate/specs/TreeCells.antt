@@ -1,6 +1,7 @@
 -- The cells of expressions and groups as their trees have them.
 use Rattle.std.specs.Prelude.{ℕ, ◌+◌, ◌/◌, List, [], ◌∷◌, ◌++◌, length, map, max, slice_index, Option, Some, None}
-use Rattle.ccsl_ast.specs.Trees.{Expression, EName, ECall, ENever, EBinary, EDelay, EAwait, EFilter, EDelayed, EIf, PlainMember, PlainDefinition, DRelation, DGroup}
+use Rattle.ccsl_ast.specs.Trees.{Expression, EName, ECall, ENever, EBinary, EDelay, EAwait, EFilter, EDelayed, EIf, PlainMember, PlainDefinition, DRelation}
+use Rattle.ccsl_ast.specs.Trees.{DGroup}
 use Rattle.ccsl_kernel.specs.Cells.{saturated, greatest, cells_of_two}
 use Rattle.ccsl_rules.specs.Spaces.{Known, Callee, Role, relation, member, look}
 use Rattle.ccsl_rules.specs.Resolved.{resolve_op}

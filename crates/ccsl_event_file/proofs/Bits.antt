@@ -1,5 +1,6 @@
 -- Letters that are written one behind another.
-use Rattle.std.proofs.Common.{◌≡◌, ◌<◌, ◌≤◌, ◌&&◌, Some, None, add-one, ◌+◌, ◌-◌, ◌/◌, ◌^◌, ℕ, suc, List, [], ◌∷◌, ◌++◌, length, get_or, drop, Bool, true, false, cond, ◌==◌, refl, sym, ap, ◌∙◌, append_assoc, arith}
+use Rattle.std.proofs.Common.{◌≡◌, ◌<◌, ◌≤◌, ◌&&◌, Some, None, add-one, ◌+◌, ◌-◌, ◌/◌, ◌^◌, ℕ, suc, List, [], ◌∷◌, ◌++◌, length, get_or, drop, Bool, true}
+use Rattle.std.proofs.Common.{false, cond, ◌==◌, refl, sym, ap, ◌∙◌, append_assoc, arith}
 use Rattle.std.specs.List.{list_all, flat_map}
 use Rattle.std.proofs.Math.Seq.{drop-cons}
 use Rattle.ccsl_event_file.specs.Values.{bit, bits, without_zeros, is_hex, hex_value, hex_bits}
@@ -35,12 +36,14 @@ bits-more c i n h =
     ap (λ k. bits k n) more ∙ ap (λ k. bit (n / 2 ^ k) ∷ bits (c - (i + 1)) n) top
 
 -- one more bit of a number
-pub put : (c i n : ℕ) (ls new : List ℕ) → i < c → new ≡ extended ls (bit (n / 2 ^ (c - 1 - i)) ∷ []) → extended new (bits (c - (i + 1)) n) ≡ extended ls (bits (c - i) n)
+pub put : (c i n : ℕ) (ls new : List ℕ) → i < c → new ≡ extended ls (bit (n / 2 ^ (c - 1 - i)) ∷ [])
+    → extended new (bits (c - (i + 1)) n) ≡ extended ls (bits (c - i) n)
 put c i n ls new h e =
     ap (λ xs. extended xs (bits (c - (i + 1)) n)) e ∙ extended-one ls _ _ ∙ ap (extended ls) (sym (bits-more c i n h))
 
 -- the digits behind one
-pub digits-more : (i : ℕ) (digits : List ℕ) → i < length digits → flat_map hex_bits (drop i digits) ≡ hex_bits (get_or digits i 0) ++ flat_map hex_bits (drop (i + 1) digits)
+pub digits-more : (i : ℕ) (digits : List ℕ) → i < length digits
+    → flat_map hex_bits (drop i digits) ≡ hex_bits (get_or digits i 0) ++ flat_map hex_bits (drop (i + 1) digits)
 digits-more i digits h =
     ap (flat_map hex_bits) (drop-cons digits i 0 h) ∙ ap (λ n. hex_bits (get_or digits i 0) ++ flat_map hex_bits (drop n digits)) (sym (add-one i))
 
@@ -49,7 +52,8 @@ pub put_digit : (i : ℕ) (digits ls new : List ℕ) → i < length digits → n
 put_digit i digits ls new h e =
     ap (λ xs. extended xs (flat_map hex_bits (drop (i + 1) digits))) e ∙ extended-append ls _ _ ∙ ap (extended ls) (sym (digits-more i digits h))
 
-pub all-more : (i : ℕ) (digits : List ℕ) → i < length digits → is_hex (get_or digits i 0) ≡ true → list_all is_hex (drop (i + 1) digits) ≡ list_all is_hex (drop i digits)
+pub all-more : (i : ℕ) (digits : List ℕ) → i < length digits → is_hex (get_or digits i 0) ≡ true
+    → list_all is_hex (drop (i + 1) digits) ≡ list_all is_hex (drop i digits)
 all-more i digits h e =
     ap (λ n. list_all is_hex (drop n digits)) (add-one i) ∙ ap (λ b. b && list_all is_hex (drop (suc i) digits)) (sym e)
     ∙ sym (ap (list_all is_hex) (drop-cons digits i 0 h))

@@ -1,7 +1,9 @@
 -- What a byte at the front of a text says of its tokens.
-use Rattle.std.proofs.Common.{◌≡◌, ◌<◌, ◌≤◌, ◌+◌, ◌-◌, ℕ, zero, suc, List, [], ◌∷◌, length, get_or, take, drop, Bool, true, false, not, Some, refl, sym, ap, ◌∙◌, cond, ◌==◌, arith, rules, tests, add-one, length-drop}
+use Rattle.std.proofs.Common.{◌≡◌, ◌<◌, ◌≤◌, ◌+◌, ◌-◌, ℕ, zero, suc, List, [], ◌∷◌, length, get_or, take, drop, Bool, true, false, not, Some, refl, sym, ap}
+use Rattle.std.proofs.Common.{◌∙◌, cond, ◌==◌, arith, rules, tests, add-one, length-drop}
 use Rattle.std.proofs.lemmas.Bool.{false≢true}
-use Rattle.ccsl_event_file.specs.Tokens.{Placed, placed, Amid, remark, token, tokens_in, piece_at, begins_remark, is_white, is_word_byte, is_letter, begins_with, up_to}
+use Rattle.ccsl_event_file.specs.Tokens.{Placed, placed, Amid, remark, token, tokens_in, piece_at, begins_remark, is_white, is_word_byte, is_letter}
+use Rattle.ccsl_event_file.specs.Tokens.{begins_with, up_to}
 use Rattle.ccsl_event_file.specs.Tokens as tokens
 use Rattle.ccsl_event_file.specs.Fronts.{is_blank, seen, IsFront, IsFrontOf, IsBehindBlank}
 use Rattle.ccsl_event_file.specs.declared.token.Token as code
@@ -19,7 +21,8 @@ some : (text : List ℕ) → (length text == 0) ≡ false → 0 < length text
 some [] e = absurd (false≢true (sym e))
 some (b ∷ bs) e = omega arith
 
-of_remark : (len : ℕ) (text : List ℕ) → (length text == 0) ≡ false → tokens_in len remark text ≡ tokens_in len (amid (not (get_or text 0 0 == 10))) (drop 1 text)
+of_remark : (len : ℕ) (text : List ℕ) → (length text == 0) ≡ false
+    → tokens_in len remark text ≡ tokens_in len (amid (not (get_or text 0 0 == 10))) (drop 1 text)
 unfolding tokens_in
 of_remark len [] h = absurd (false≢true (sym h))
 of_remark len (b ∷ bs) h = elim (b == 10) as (λ v. tokens_in len (cond v (token 0) remark) bs ≡ tokens_in len (amid (not v)) bs) [ true ↦ refl | false ↦ refl ]
@@ -42,7 +45,8 @@ module _ (whole text tail : List ℕ) (some : (length text == 0) ≡ false) (cut
       ap (tokens_in len (amid (not (get_or text 0 0 == 10)))) cut ∙ sym (of_remark len text some)
       ∙ ap (λ r. tokens_in len (amid r) text) (sym e) ∙ same len
 
-  pub at_slash : (is_remark : Bool) → is_remark ≡ false → begins_remark (get_or text 0 0) tail ≡ true → AreSame whole (amid is_remark) text → AreSame whole remark tail
+  pub at_slash : (is_remark : Bool) → is_remark ≡ false → begins_remark (get_or text 0 0) tail ≡ true → AreSame whole (amid is_remark) text
+      → AreSame whole remark tail
   at_slash is_remark e slash same len =
       ap (tokens_in len remark) cut ∙ sym (of_slash len text some (ap (begins_remark (get_or text 0 0)) (sym cut) ∙ slash))
       ∙ ap (λ r. tokens_in len (amid r) text) (sym e) ∙ same len
@@ -83,7 +87,8 @@ stops whole text tail is_remark cut e slash white same shorter = record {
   shorter = shorter;
 }
 
-pub ends : (whole text : List ℕ) (is_remark : Bool) → (length text == 0) ≡ true → AreSame whole (amid is_remark) text → length text ≤ length whole → IsBehindBlank whole text
+pub ends : (whole text : List ℕ) (is_remark : Bool) → (length text == 0) ≡ true → AreSame whole (amid is_remark) text → length text ≤ length whole
+    → IsBehindBlank whole text
 unfolding tokens_in
 ends whole [] is_remark over same shorter = record { same = λ len. same len; bare = refl; shorter = shorter }
 ends whole (b ∷ bs) is_remark over same shorter = absurd (search (rules, tests))
@@ -91,7 +96,8 @@ ends whole (b ∷ bs) is_remark over same shorter = absurd (search (rules, tests
 pub shorter : (text tail : List ℕ) → tail ≡ drop 1 text → length tail ≤ length text
 shorter text tail cut = omega (arith, ap length cut, length-drop 1 text)
 
-pub front : (text : List ℕ) (found : code.Token) (rest : List ℕ) → (length text == 0) ≡ false → seen found ≡ Some (piece_at (get_or text 0 0) (drop 1 text)).token
+pub front : (text : List ℕ) (found : code.Token) (rest : List ℕ) → (length text == 0) ≡ false
+    → seen found ≡ Some (piece_at (get_or text 0 0) (drop 1 text)).token
     → rest ≡ drop (piece_at (get_or text 0 0) (drop 1 text)).more (drop 1 text) → IsFront text found rest
 front [] found rest h t r = absurd (false≢true (sym h))
 front (b ∷ bs) found rest h t r = (t, r)
@@ -111,4 +117,5 @@ letters_behind first [] text rest w q l b t r = absurd (false≢true b)
 letters_behind first (c ∷ bs) text rest w q l b t r =
     let quote : (first == 34) ≡ false = search (rules, tests) in
     let tick : (first == 39) ≡ true = search (rules, tests) in
-    rw (w, quote, tick, b) (r ∙ ap (λ x. drop (up_to (λ c. not (is_letter c)) x) x) t ∙ ap (λ n. drop n (c ∷ bs)) (sym (add-one (up_to (λ c. not (is_letter c)) bs))))
+    rw (w, quote, tick, b) (r ∙ ap (λ x. drop (up_to (λ c. not (is_letter c)) x) x) t
+    ∙ ap (λ n. drop n (c ∷ bs)) (sym (add-one (up_to (λ c. not (is_letter c)) bs))))

@@ -8,8 +8,11 @@ use Rattle.ccsl_event_file.specs.declared.fault.EventFault.{EventFault}
 use Rattle.ccsl_event_file.specs.declared.fault.EventFault.TheVariants as faults
 use Rattle.ccsl_event_file.specs.Tokens.{Token, Placed}
 use Rattle.ccsl_event_file.specs.Values.{value_of}
-use Rattle.ccsl_event_file.specs.File.{Path, Condition, path, Draft, Use, trigger_of, becoming, condition_of, first_part, part, behind_part, left, behind_left, right, bracket, behind_path, value, behind, Said, goes, syntax, expects, is_mark, part_of, with_part, index_of, with_left, with_right, comparison_of, compares, path_says, with_condition, with_value, says, story}
-use Rattle.ccsl_event_file.specs.Parsing.{place_of, next_is, next_value, TakesOne, ReadsOne, next_token, behind_next, part_seen, value_seen, PutsPart, IsValueFault, IsFault, is_condition}
+use Rattle.ccsl_event_file.specs.File.{Path, Condition, path, Draft, Use, trigger_of, becoming, condition_of, first_part, part, behind_part, left, behind_left}
+use Rattle.ccsl_event_file.specs.File.{right, bracket, behind_path, value, behind, Said, goes, syntax, expects, is_mark, part_of, with_part, index_of}
+use Rattle.ccsl_event_file.specs.File.{with_left, with_right, comparison_of, compares, path_says, with_condition, with_value, says, story}
+use Rattle.ccsl_event_file.specs.Parsing.{place_of, next_is, next_value, TakesOne, ReadsOne, next_token, behind_next, part_seen, value_seen, PutsPart}
+use Rattle.ccsl_event_file.specs.Parsing.{IsValueFault, IsFault, is_condition}
 use Rattle.ccsl_event_file.proofs.Story.{taken, same, ExpectsAt, expected, unexpected, valued, unvalued}
 
 -- behind a part: whether a dot is next, and whether a bracket is
@@ -22,12 +25,15 @@ module _ (d : Draft) (at : ℕ) (parts : List ℕ) where
   unfolding says
   at_bracket select t = refl
 
-  pub no_colon : (len n : ℕ) (old : List Placed) → next_is (is_mark 58) old ≡ false → story len (behind_left d at parts n) old ≡ story len (bracket d (path at parts (Bit n))) old
+  pub no_colon : (len n : ℕ) (old : List Placed) → next_is (is_mark 58) old ≡ false
+      → story len (behind_left d at parts n) old ≡ story len (bracket d (path at parts (Bit n))) old
   unfolding says
   no_colon len n old h = same len (behind_left d at parts n) (bracket d (path at parts (Bit n))) old refl
-      (λ t us e. ap (λ b. cond b (goes (right d at parts n)) (expects (is_mark 93 t.token) (behind_path d (path at parts (Bit n))) t)) (sym (ap (next_is (is_mark 58)) e) ∙ h))
+      (λ t us e. ap (λ b. cond b (goes (right d at parts n)) (expects (is_mark 93 t.token) (behind_path d (path at parts (Bit n))) t))
+      (sym (ap (next_is (is_mark 58)) e) ∙ h))
 
-  pub colon : (len n : ℕ) (old new : List Placed) → TakesOne (is_mark 58) old new → story len (behind_left d at parts n) old ≡ story len (right d at parts n) new
+  pub colon : (len n : ℕ) (old new : List Placed) → TakesOne (is_mark 58) old new
+      → story len (behind_left d at parts n) old ≡ story len (right d at parts n) new
   unfolding says
   colon len n old new one = taken len (behind_left d at parts n) (right d at parts n) one.next old new one.is
       (ap (λ b. cond b (goes (right d at parts n)) (expects (is_mark 93 one.next.token) (behind_path d (path at parts (Bit n))) one.next)) one.passes)
@@ -40,7 +46,8 @@ module _ (d : Draft) (at : ℕ) (parts : List ℕ) where
   unfolding says
   right_no n t e = ap (with_right d at parts n t) e
 
-  pub second : (len n m : ℕ) (old new : List Placed) → ReadsOne index_of m old new → story len (right d at parts n) old ≡ story len (bracket d (path at parts (Range n m))) new
+  pub second : (len n m : ℕ) (old new : List Placed) → ReadsOne index_of m old new
+      → story len (right d at parts n) old ≡ story len (bracket d (path at parts (Range n m))) new
   second len n m old new one = valued len (right d at parts n) (λ _. bracket d (path at parts (Range n m))) index_of m old new (right_says n m) one
 
   pub no_second : (f : EventFault) (len n : ℕ) (old : List Placed) → IsValueFault f index_of len old → IsFault f (story len (right d at parts n) old)
@@ -60,12 +67,14 @@ module _ (d : Draft) (at : ℕ) (parts : List ℕ) where
   pub no_first : (f : EventFault) (len : ℕ) (old : List Placed) → IsValueFault f index_of len old → IsFault f (story len (left d at parts) old)
   no_first f len old h = unvalued f len (left d at parts) index_of old (λ _. refl) left_no h
 
-  pub dot : (len : ℕ) (old new : List Placed) → TakesOne (is_mark 46) old new → story len (behind_part d at parts) old ≡ story len (part d at (parts ++ 32 ∷ [])) new
+  pub dot : (len : ℕ) (old new : List Placed) → TakesOne (is_mark 46) old new
+      → story len (behind_part d at parts) old ≡ story len (part d at (parts ++ 32 ∷ [])) new
   unfolding says
   dot len old new one = taken len (behind_part d at parts) (part d at (parts ++ 32 ∷ [])) one.next old new one.is
       (ap (λ b. part_says d at parts one.next b (is_mark 91 one.next.token)) one.passes)
 
-  pub opens : (len : ℕ) (old new : List Placed) → next_is (is_mark 46) old ≡ false → TakesOne (is_mark 91) old new → story len (behind_part d at parts) old ≡ story len (left d at parts) new
+  pub opens : (len : ℕ) (old new : List Placed) → next_is (is_mark 46) old ≡ false → TakesOne (is_mark 91) old new
+      → story len (behind_part d at parts) old ≡ story len (left d at parts) new
   unfolding says
   opens len old new absent one = taken len (behind_part d at parts) (left d at parts) one.next old new one.is
       (ap (λ b. part_says d at parts one.next b (is_mark 91 one.next.token)) (sym (ap (next_is (is_mark 46)) one.is) ∙ absent)
@@ -82,7 +91,8 @@ module _ (d : Draft) (at : ℕ) (parts : List ℕ) where
   unfolding says
   part_no t e = ap (with_part d at parts t) e
 
-  pub puts : (len : ℕ) (now : List ℕ) (old new : List Placed) → PutsPart parts now old new → story len (part d at parts) old ≡ story len (behind_part d at now) new
+  pub puts : (len : ℕ) (now : List ℕ) (old new : List Placed) → PutsPart parts now old new
+      → story len (part d at parts) old ≡ story len (behind_part d at now) new
   unfolding says
   puts len now old new one = taken len (part d at parts) (behind_part d at now) one.next old new one.is
       (ap (with_part d at parts one.next) one.value ∙ ap (λ x. goes (behind_part d at x)) (sym one.put))
@@ -95,7 +105,8 @@ module _ (d : Draft) where
   unfolding says
   first_no t e = ap (with_part d t.at [] t) e
 
-  pub puts_first : (len : ℕ) (now : List ℕ) (old new : List Placed) → PutsPart [] now old new → story len (first_part d) old ≡ story len (behind_part d (place_of len old) now) new
+  pub puts_first : (len : ℕ) (now : List ℕ) (old new : List Placed) → PutsPart [] now old new
+      → story len (first_part d) old ≡ story len (behind_part d (place_of len old) now) new
   unfolding says
   puts_first len now old new one = taken len (first_part d) (behind_part d (place_of len old) now) one.next old new one.is
       (ap (with_part d one.next.at [] one.next) one.value
@@ -125,7 +136,8 @@ module _ (d : Draft) (p : Path) where
   compared is len equal old new one = valued len (behind_path d p) (λ _. value d p equal) comparison_of equal old new
       (λ t e. path_compares is t ∙ ap (compares d p t) e) one
 
-  pub not_compared : is_condition d.use_of ≡ true → (f : EventFault) (len : ℕ) (old : List Placed) → IsValueFault f comparison_of len old → IsFault f (story len (behind_path d p) old)
+  pub not_compared : is_condition d.use_of ≡ true → (f : EventFault) (len : ℕ) (old : List Placed) → IsValueFault f comparison_of len old
+      → IsFault f (story len (behind_path d p) old)
   not_compared is f len old h = unvalued f len (behind_path d p) comparison_of old (λ _. refl) (λ t e. path_compares is t ∙ ap (compares d p t) e) h
 
   value_says : (equal : Bool) (ls : List ℕ) (t : Placed) → value_of t.token ≡ Some ls
@@ -140,7 +152,8 @@ module _ (d : Draft) (p : Path) where
   pub has_value : (len : ℕ) (equal : Bool) (ls : List ℕ) (old new : List Placed) → ReadsOne value_of ls old new
       → story len (value d p equal) old ≡ story len (behind d.events (with_condition d (condition_at p equal (place_of len old) ls) d.use_of)) new
   has_value len equal ls old new one =
-      valued len (value d p equal) (λ at. behind d.events (with_condition d (condition_at p equal at ls) d.use_of)) value_of ls old new (value_says equal ls) one
+      valued len (value d p equal) (λ at. behind d.events (with_condition d (condition_at p equal at ls) d.use_of)) value_of ls old new (value_says equal ls)
+      one
 
   pub no_value : (f : EventFault) (len : ℕ) (equal : Bool) (old : List Placed) → IsValueFault f value_of len old → IsFault f (story len (value d p equal) old)
   no_value f len equal old h = unvalued f len (value d p equal) value_of old (λ _. refl) (value_no equal) h

@@ -1,5 +1,6 @@
 -- How a token leads on in a statement, and in front of the first one.
-use Rattle.std.proofs.Common.{◌≡◌, ◌<◌, ◌≤◌, ◌&&◌, nat_lt, ◌==◌, arith, rules, tests, ℕ, List, [], ◌∷◌, ◌++◌, length, Bool, true, false, Option, Some, None, Result, Ok, Err, cond, codes, refl, sym, ap, ◌∙◌, subst}
+use Rattle.std.proofs.Common.{◌≡◌, ◌<◌, ◌≤◌, ◌&&◌, nat_lt, ◌==◌, arith, rules, tests, ℕ, List, [], ◌∷◌, ◌++◌, length, Bool, true, false, Option, Some, None}
+use Rattle.std.proofs.Common.{Result, Ok, Err, cond, codes, refl, sym, ap, ◌∙◌, subst}
 use Rattle.std.proofs.lemmas.Bool.{lt-ltb, le-ltb}
 use Rattle.std.proofs.lemmas.List.{length-map}
 use Rattle.std.proofs.Math.Bool.{and-false}
@@ -10,7 +11,9 @@ use Rattle.ccsl_base.specs.Names.{is_among}
 use Rattle.ccsl_event_file.specs.declared.fault.EventFault.{EventFault}
 use Rattle.ccsl_event_file.specs.declared.fault.EventFault.TheVariants as faults
 use Rattle.ccsl_event_file.specs.Tokens.{tokens_in, Token, word, quoted, letters, equal, unequal, mark, Placed}
-use Rattle.ccsl_event_file.specs.File.{Path, Condition, Trigger, Event, event, draft, Use, trigger_of, condition_of, keyword, version, head_end, statement, sign, kind, first_part, behind_path, behind, Said, goes, refused, told, syntax, expects, is_word, is_mark, may_be_named, names_of, named, use_of_token, used, text_of, joint, says, story, reading, events, fault}
+use Rattle.ccsl_event_file.specs.File.{Path, Condition, Trigger, Event, event, draft, Use, trigger_of, condition_of, keyword, version, head_end, statement}
+use Rattle.ccsl_event_file.specs.File.{sign, kind, first_part, behind_path, behind, Said, goes, refused, told, syntax, expects, is_word, is_mark, may_be_named}
+use Rattle.ccsl_event_file.specs.File.{names_of, named, use_of_token, used, text_of, joint, says, story, reading, events, fault}
 use Rattle.ccsl_event_file.specs.Parsing.{ahead, place_of, next_is, next_value, TakesOne, ReadsOne, IsValueFault, IsFault, Expects, Reads}
 use Rattle.ccsl_event_file.proofs.Story.{moved, taken, same, stops, Refuses, ExpectsAt, expected, unexpected, valued, unvalued}
 
@@ -23,7 +26,8 @@ module _ (es : List Event) (name : List ℕ) where
   unfolding says
   kind_no t e = ap (used es name t) e
 
-  pub kinds : (len : ℕ) (u : Use) (old new : List Placed) → ReadsOne use_of_token u old new → story len (kind es name) old ≡ story len (first_part (draft es name u)) new
+  pub kinds : (len : ℕ) (u : Use) (old new : List Placed) → ReadsOne use_of_token u old new
+      → story len (kind es name) old ≡ story len (first_part (draft es name u)) new
   kinds len u old new one = valued len (kind es name) (λ _. first_part (draft es name u)) use_of_token u old new (kind_says u) one
 
   pub no_kind : (f : EventFault) (len : ℕ) (old : List Placed) → IsValueFault f use_of_token len old → IsFault f (story len (kind es name) old)
@@ -38,7 +42,8 @@ module _ (es : List Event) (name : List ℕ) where
       → story len (behind es (event name t cs)) old ≡ story len (first_part (draft es name (condition_of t cs))) new
   unfolding says
   joins t cs len old new one = taken len (behind es (event name t cs)) (first_part (draft es name (condition_of t cs))) one.next old new one.is
-      (ap (λ b. cond b (goes (first_part (draft es name (condition_of t cs)))) (expects (is_mark 59 one.next.token) (statement (es ++ event name t cs ∷ [])) one.next)) one.passes)
+      (ap (λ b. cond b (goes (first_part (draft es name (condition_of t cs))))
+      (expects (is_mark 59 one.next.token) (statement (es ++ event name t cs ∷ [])) one.next)) one.passes)
 
   at_sign : ExpectsAt (sign es name) (is_mark 61) (kind es name)
   unfolding says
@@ -47,13 +52,16 @@ module _ (es : List Event) (name : List ℕ) where
   pub signs : (len : ℕ) (old new : List Placed) → TakesOne (is_mark 61) old new → story len (sign es name) old ≡ story len (kind es name) new
   signs len old new one = expected len (sign es name) (kind es name) (is_mark 61) old new at_sign one
 
-  pub no_sign : (f : EventFault) (len : ℕ) (old : List Placed) → (next_is (is_mark 61) old ≡ false) × (f ≡ faults.Syntax (place_of len old)) → IsFault f (story len (sign es name) old)
+  pub no_sign : (f : EventFault) (len : ℕ) (old : List Placed) → (next_is (is_mark 61) old ≡ false) × (f ≡ faults.Syntax (place_of len old))
+      → IsFault f (story len (sign es name) old)
   no_sign f len old h = unexpected f len (sign es name) (kind es name) (is_mark 61) old (λ _. refl) at_sign h
 
 module _ (es : List Event) (e : Event) where
-  behind_expects : (t : Placed) → is_word (joint e.conditions) t.token ≡ false → says (behind es e) t ≡ expects (is_mark 59 t.token) (statement (es ++ e ∷ [])) t
+  behind_expects : (t : Placed) → is_word (joint e.conditions) t.token ≡ false
+      → says (behind es e) t ≡ expects (is_mark 59 t.token) (statement (es ++ e ∷ [])) t
   unfolding says
-  behind_expects t h = ap (λ b. cond b (goes (first_part (draft es e.name (condition_of e.trigger e.conditions)))) (expects (is_mark 59 t.token) (statement (es ++ e ∷ [])) t)) h
+  behind_expects t h = ap (λ b. cond b (goes (first_part (draft es e.name (condition_of e.trigger e.conditions))))
+      (expects (is_mark 59 t.token) (statement (es ++ e ∷ [])) t)) h
 
   pub closes : (len : ℕ) (old new : List Placed) → next_is (is_word (joint e.conditions)) old ≡ false → TakesOne (is_mark 59) old new
       → story len (behind es e) old ≡ story len (statement (es ++ e ∷ [])) new
@@ -113,22 +121,26 @@ module _ (es : List Event) (name : List ℕ) (len : ℕ) (old new : List Placed)
   pub is_there : may_be_named es name ≡ true → is_among name (names_of es) ≡ true → story len (statement es) old ≡ fault (faults.Duplicate (place_of len old))
   unfolding story
   is_there may there = ap (story len (statement es)) one.is
-      ∙ ap (λ s. told s (λ q. story len q new)) (says_name ∙ ap (λ b. name_says es name one.next b (is_among name (names_of es))) may ∙ ap (λ b. name_says es name one.next true b) there)
+      ∙ ap (λ s. told s (λ q. story len q new)) (says_name ∙ ap (λ b. name_says es name one.next b (is_among name (names_of es))) may
+      ∙ ap (λ b. name_says es name one.next true b) there)
       ∙ ap (λ n. fault (faults.Duplicate n)) (sym (ap (place_of len) one.is))
 
 no_name_says : (es : List Event) (t : Placed) → text_of t.token ≡ None → says (statement es) t ≡ syntax t
 unfolding says
 no_name_says es t e = named_none es t t.token e
 
-no_name_story : (es : List Event) (len : ℕ) (old : List Placed) → (old ≡ [] → ⊥) → next_value text_of old ≡ None → story len (statement es) old ≡ fault (faults.Syntax (place_of len old))
+no_name_story : (es : List Event) (len : ℕ) (old : List Placed) → (old ≡ [] → ⊥) → next_value text_of old ≡ None
+    → story len (statement es) old ≡ fault (faults.Syntax (place_of len old))
 unfolding story
 no_name_story es len [] some h = absurd (some refl)
 no_name_story es len (t ∷ ts) some h = ap (λ s. told s (λ q. story len q ts)) (no_name_says es t h)
 
-no_name_at : (f : EventFault) (es : List Event) (len : ℕ) (old : List Placed) → (old ≡ [] → ⊥) → (next_value text_of old ≡ None) × (f ≡ faults.Syntax (place_of len old)) → IsFault f (story len (statement es) old)
+no_name_at : (f : EventFault) (es : List Event) (len : ℕ) (old : List Placed) → (old ≡ [] → ⊥)
+    → (next_value text_of old ≡ None) × (f ≡ faults.Syntax (place_of len old)) → IsFault f (story len (statement es) old)
 no_name_at f es len old some h = subst (λ g. IsFault g (story len (statement es) old)) (sym h.1) (no_name_story es len old some h.0)
 
-pub no_name : (f : EventFault) (es : List Event) (len : ℕ) (old : List Placed) → (old ≡ [] → ⊥) → IsValueFault f text_of len old → IsFault f (story len (statement es) old)
+pub no_name : (f : EventFault) (es : List Event) (len : ℕ) (old : List Placed) → (old ≡ [] → ⊥) → IsValueFault f text_of len old
+    → IsFault f (story len (statement es) old)
 no_name faults.Memory es len old some h = tt
 no_name f es len old some h = no_name_at f es len old some h
 
@@ -146,7 +158,8 @@ pub at_end : ExpectsAt head_end (is_mark 59) (statement [])
 unfolding says
 at_end t = refl
 
-pub head_closes : {X : Type 0} (r : Result X EventFault) (len other : ℕ) (old mid new : List Placed) → other ≡ len → story len keyword old ≡ story len head_end mid
+pub head_closes : {X : Type 0} (r : Result X EventFault) (len other : ℕ) (old mid new : List Placed) → other ≡ len
+    → story len keyword old ≡ story len head_end mid
     → Expects r (is_mark 59) other mid new → Reads r len keyword old (λ _. statement []) new
 head_closes (Ok x) len other old mid new same e h = e ∙ expected len head_end (statement []) (is_mark 59) mid new at_end h
 head_closes (Err f) len other old mid new same e h =
@@ -174,15 +187,18 @@ too_many es names name is h =
     let count : length names ≡ length es = ap length is ∙ length-map es (λ e. e.name) in
     ap (λ b. is_name name && b) (le-ltb (length es) MAX_CLOCKS (omega (arith, h, count))) ∙ and-false (is_name name)
 
-pub may : (es : List Event) (names : List (List ℕ)) (name : List ℕ) → names ≡ names_of es → length names < MAX_CLOCKS → is_name name ≡ true → may_be_named es name ≡ true
+pub may : (es : List Event) (names : List (List ℕ)) (name : List ℕ) → names ≡ names_of es → length names < MAX_CLOCKS → is_name name ≡ true
+    → may_be_named es name ≡ true
 may es names name is h is_one =
     let count : length names ≡ length es = ap length is ∙ length-map es (λ e. e.name) in
     ap (λ b. b && nat_lt (length es) MAX_CLOCKS) is_one ∙ lt-ltb (length es) MAX_CLOCKS (omega (arith, h, count))
 
-pub was_new : (es : List Event) (old new : List (List ℕ)) (name : List ℕ) (o : Option ℕ) (n : ℕ) → old ≡ names_of es → IsAdded old new name o → o ≡ Some n → is_among name (names_of es) ≡ false
+pub was_new : (es : List Event) (old new : List (List ℕ)) (name : List ℕ) (o : Option ℕ) (n : ℕ) → old ≡ names_of es → IsAdded old new name o → o ≡ Some n
+    → is_among name (names_of es) ≡ false
 was_new es old new name None n is h e = absurd (cc)
 was_new es old new name (Some m) n is h e = ap (is_among name) (sym is) ∙ h.0
 
-pub was_there : (es : List Event) (old new : List (List ℕ)) (name : List ℕ) (o : Option ℕ) → old ≡ names_of es → IsAdded old new name o → o ≡ None → is_among name (names_of es) ≡ true
+pub was_there : (es : List Event) (old new : List (List ℕ)) (name : List ℕ) (o : Option ℕ) → old ≡ names_of es → IsAdded old new name o → o ≡ None
+    → is_among name (names_of es) ≡ true
 was_there es old new name None is h e = ap (is_among name) (sym is) ∙ h.0
 was_there es old new name (Some m) is h e = absurd (cc)

@@ -48,7 +48,8 @@ same len p q (t ∷ ts) e h = ap (λ s. told s (λ q. story len q ts)) (h t ts r
 abbrev pub ExpectsAt : Place → (Token → Bool) → Place → Type 0
 ExpectsAt p test q = (t : Placed) → says p t ≡ expects (test t.token) q t
 
-pub expected : (len : ℕ) (p q : Place) (test : Token → Bool) (old new : List Placed) → ExpectsAt p test q → TakesOne test old new → story len p old ≡ story len q new
+pub expected : (len : ℕ) (p q : Place) (test : Token → Bool) (old new : List Placed) → ExpectsAt p test q → TakesOne test old new
+    → story len p old ≡ story len q new
 expected len p q test old new at one =
     taken len p q one.next old new one.is (at one.next ∙ ap (λ b. expects b q one.next) one.passes)
 
@@ -63,22 +64,26 @@ unexpected f len p q test old absent at h =
 
 -- ## A token with a value
 
-pub valued : {X : Type 0} (len : ℕ) (p : Place) (q : ℕ → Place) (of : Token → Option X) (x : X) (old new : List Placed) → ((t : Placed) → of t.token ≡ Some x → says p t ≡ goes (q t.at))
+pub valued : {X : Type 0} (len : ℕ) (p : Place) (q : ℕ → Place) (of : Token → Option X) (x : X) (old new : List Placed)
+    → ((t : Placed) → of t.token ≡ Some x → says p t ≡ goes (q t.at))
     → ReadsOne of x old new → story len p old ≡ story len (q (place_of len old)) new
 valued len p q of x old new at one =
     taken len p (q one.next.at) one.next old new one.is (at one.next one.value)
     ∙ ap (λ n. story len (q n) new) (sym (ap (place_of len) one.is))
 
-refuses_value : {X : Type 0} (p : Place) (of : Token → Option X) (old : List Placed) → ((t : Placed) → of t.token ≡ None → says p t ≡ syntax t) → next_value of old ≡ None → Refuses p old
+refuses_value : {X : Type 0} (p : Place) (of : Token → Option X) (old : List Placed) → ((t : Placed) → of t.token ≡ None → says p t ≡ syntax t)
+    → next_value of old ≡ None → Refuses p old
 refuses_value p of [] at absent = tt
 refuses_value p of (t ∷ ts) at absent = at t absent
 
-unvalued_at : {X : Type 0} (f : EventFault) (len : ℕ) (p : Place) (of : Token → Option X) (old : List Placed) → NoEnd p → ((t : Placed) → of t.token ≡ None → says p t ≡ syntax t)
+unvalued_at : {X : Type 0} (f : EventFault) (len : ℕ) (p : Place) (of : Token → Option X) (old : List Placed) → NoEnd p
+    → ((t : Placed) → of t.token ≡ None → says p t ≡ syntax t)
     → (next_value of old ≡ None) × (f ≡ faults.Syntax (place_of len old)) → IsFault f (story len p old)
 unvalued_at f len p of old absent at h =
     subst (λ g. IsFault g (story len p old)) (sym h.1) (stops len p old absent (refuses_value p of old at h.0))
 
-pub unvalued : {Y : Type 0} (f : EventFault) (len : ℕ) (p : Place) (of : Token → Option Y) (old : List Placed) → NoEnd p → ((t : Placed) → of t.token ≡ None → says p t ≡ syntax t)
+pub unvalued : {Y : Type 0} (f : EventFault) (len : ℕ) (p : Place) (of : Token → Option Y) (old : List Placed) → NoEnd p
+    → ((t : Placed) → of t.token ≡ None → says p t ≡ syntax t)
     → IsValueFault f of len old → IsFault f (story len p old)
 unvalued faults.Memory len p of old absent at h = tt
 unvalued f len p of old absent at h = unvalued_at f len p of old absent at h

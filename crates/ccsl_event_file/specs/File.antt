@@ -3,7 +3,8 @@
 --     TRIGGER is rise, fall, change or event and a PATH, or becomes and a CONDITION, which is a PATH, == or != and a value
 --     PATH is one or more parts with dots between, and may end with [N] or [N:N]
 -- Each place in a file says which tokens may stand there, and which place each of them leads to.
-use Rattle.std.specs.Prelude.{ℕ, List, [], ◌∷◌, ◌++◌, length, Bool, true, false, not, Option, Some, None, nat_lt, ◌==◌, ◌&&◌, if◌then◌else◌, codes, bytes_eq, filter, map}
+use Rattle.std.specs.Prelude.{ℕ, List, [], ◌∷◌, ◌++◌, length, Bool, true, false, not, Option, Some, None, nat_lt, ◌==◌, ◌&&◌, if◌then◌else◌, codes, bytes_eq}
+use Rattle.std.specs.Prelude.{filter, map}
 use Rattle.ccsl_base.specs.declared.limits.TheConstants.{MAX_CLOCKS}
 use Rattle.ccsl_base.specs.Name.{is_name}
 use Rattle.ccsl_base.specs.Names.{is_among}

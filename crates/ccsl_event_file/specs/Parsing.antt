@@ -12,7 +12,8 @@ use Rattle.ccsl_event_file.specs.declared.statement.Moment.{Moment}
 use Rattle.ccsl_event_file.specs.declared.statement.Moment.TheVariants as m
 use Rattle.ccsl_event_file.specs.declared.statement.Kind.{Kind}
 use Rattle.ccsl_event_file.specs.declared.statement.Kind.TheVariants as k
-use Rattle.ccsl_event_file.specs.File.{Path, Condition, Trigger, Event, rise, fall, change, becomes, record_of, path, event, Place, keyword, statement, sign, kind, behind, Reading, fault, events, story, part_of, Use, trigger_of, becoming, condition_of, names_of}
+use Rattle.ccsl_event_file.specs.File.{Path, Condition, Trigger, Event, rise, fall, change, becomes, record_of, path, event, Place, keyword, statement, sign}
+use Rattle.ccsl_event_file.specs.File.{kind, behind, Reading, fault, events, story, part_of, Use, trigger_of, becoming, condition_of, names_of}
 use Rattle.ccsl_event_file.specs.Values.{value_of}
 
 -- ## What the code has, as it is said

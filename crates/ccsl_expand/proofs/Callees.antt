@@ -13,4 +13,5 @@ what-found (Some k) = refl
 pub callee-found : (name : List ℕ) (space : List (Known Callee)) (found : Option (Known Callee)) → found ≡ look name space →
     option_map (λ k. seen_callee k.what) found ≡ option_map (λ k. k.what) (look name (map seen_call space))
 callee-found name space found e =
-    sym (ap (option_map (λ k. k.what)) (look-map seen_call (λ k. refl) name space) ∙ (what-found (look name space) ∙ ap (option_map (λ k. seen_callee k.what)) (sym e)))
+    sym (ap (option_map (λ k. k.what)) (look-map seen_call (λ k. refl) name space)
+    ∙ (what-found (look name space) ∙ ap (option_map (λ k. seen_callee k.what)) (sym e)))

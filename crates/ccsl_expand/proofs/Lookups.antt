@@ -1,5 +1,6 @@
 -- What is found by a number of a table of names is what is found by the name.
-use Rattle.std.proofs.Common.{◌≡◌, ℕ, zero, suc, ◌+◌, ◌<◌, ◌≤◌, List, [], ◌∷◌, ◌++◌, Bool, true, false, not, cond, nat_lt, Option, Some, None, is_none, if◌then◌else◌, map, length, slice_get, bytes_eq, refl, sym, ap, ◌∙◌, arith}
+use Rattle.std.proofs.Common.{◌≡◌, ℕ, zero, suc, ◌+◌, ◌<◌, ◌≤◌, List, [], ◌∷◌, ◌++◌, Bool, true, false, not, cond, nat_lt, Option, Some, None, is_none}
+use Rattle.std.proofs.Common.{if◌then◌else◌, map, length, slice_get, bytes_eq, refl, sym, ap, ◌∙◌, arith}
 use Rattle.std.specs.List.{zip, position_or_len}
 use Rattle.std.specs.Option.{option_map}
 use Rattle.std.proofs.lemmas.Bool.Decides.{nat_tests}
@@ -21,7 +22,8 @@ bytes-turned false false xs ys p q = refl
 bytes-turned true false xs ys p q = sym ((bytes_eq-Decides ys xs).1 (sym ((bytes_eq-Decides xs ys).0 p))) ∙ q
 bytes-turned false true xs ys p q = sym p ∙ (bytes_eq-Decides xs ys).1 (sym ((bytes_eq-Decides ys xs).0 q))
 
-found-step : (b c : Bool) → b ≡ c → (n : List ℕ) (a : Atom) (as' : List Atom) (m : ℕ) (rest : Option (List ℕ × Atom)) → snd_of rest ≡ atom_or_zero (slice_get as' m) →
+found-step : (b c : Bool) → b ≡ c → (n : List ℕ) (a : Atom) (as' : List Atom) (m : ℕ) (rest : Option (List ℕ × Atom))
+    → snd_of rest ≡ atom_or_zero (slice_get as' m) →
     snd_of (cond b (Some (n, a)) rest) ≡ atom_or_zero (slice_get (a ∷ as') (cond (not c) (1 + m) 0))
 found-step true true e n a as' m rest h = refl
 found-step false false e n a as' m rest h = let more : suc m ≡ 1 + m = omega arith in h ∙ ap (λ i. atom_or_zero (slice_get (a ∷ as') i)) more
@@ -29,7 +31,8 @@ found-step true false e n a as' m rest h = absurd (cc)
 found-step false true e n a as' m rest h = absurd (cc)
 
 -- the first entry of a name, by its place
-pub atom_of-zip : (ns : List (List ℕ)) (as' : List Atom) (name : List ℕ) → length ns ≡ length as' → atom_of (zip ns as') name ≡ atom_or_zero (slice_get as' (position_or_len (bytes_eq name) ns))
+pub atom_of-zip : (ns : List (List ℕ)) (as' : List Atom) (name : List ℕ) → length ns ≡ length as'
+    → atom_of (zip ns as') name ≡ atom_or_zero (slice_get as' (position_or_len (bytes_eq name) ns))
 atom_of-zip [] [] name h = refl
 atom_of-zip [] (a ∷ as') name h = absurd (omega arith)
 atom_of-zip (n ∷ ns) [] name h = absurd (omega arith)
@@ -44,14 +47,17 @@ place-none : (m n : ℕ) → cond (nat_lt m n) (Some m) None ≡ None → n ≤ 
 place-none m n e = grind (arith, nat_tests)
 
 -- what stands at the number of a name
-pub atom_of-there : (ns : List (List ℕ)) (as' : List Atom) (name : List ℕ) (i : ℕ) (a : Atom) → length ns ≡ length as' → find_name name ns ≡ Some i → slice_get as' i ≡ Some a →
+pub atom_of-there : (ns : List (List ℕ)) (as' : List Atom) (name : List ℕ) (i : ℕ) (a : Atom) → length ns ≡ length as' → find_name name ns ≡ Some i
+    → slice_get as' i ≡ Some a →
     a ≡ atom_of (zip ns as') name
 atom_of-there ns as' name i a h found at =
-    let same : position_or_len (bytes_eq name) ns ≡ i = place-some (nat_lt (position_or_len (bytes_eq name) ns) (length ns)) (position_or_len (bytes_eq name) ns) i found in
+    let same : position_or_len (bytes_eq name) ns ≡ i =
+    place-some (nat_lt (position_or_len (bytes_eq name) ns) (length ns)) (position_or_len (bytes_eq name) ns) i found in
     sym (atom_of-zip ns as' name h ∙ ap (λ j. atom_or_zero (slice_get as' j)) same ∙ ap atom_or_zero at)
 
 -- what a name stands for that is not there
-pub atom_of-missing : (ns : List (List ℕ)) (as' : List Atom) (name : List ℕ) → length ns ≡ length as' → find_name name ns ≡ None → ANumber 0 ≡ atom_of (zip ns as') name
+pub atom_of-missing : (ns : List (List ℕ)) (as' : List Atom) (name : List ℕ) → length ns ≡ length as' → find_name name ns ≡ None
+    → ANumber 0 ≡ atom_of (zip ns as') name
 atom_of-missing ns as' name h missing =
     let past = place-none (position_or_len (bytes_eq name) ns) (length ns) missing in
     sym (atom_of-zip ns as' name h ∙ ap atom_or_zero (slice_get_past as' (position_or_len (bytes_eq name) ns) (omega arith)))
@@ -82,7 +88,8 @@ number-missing ns name e =
     let same = place-turned ns name in
     omega arith
 
-pub zip-append : {X Y : Type 0} (xs : List X) (ys : List Y) (x : X) (y : Y) → length xs ≡ length ys → zip (xs ++ x ∷ []) (ys ++ y ∷ []) ≡ zip xs ys ++ (x, y) ∷ []
+pub zip-append : {X Y : Type 0} (xs : List X) (ys : List Y) (x : X) (y : Y) → length xs ≡ length ys
+    → zip (xs ++ x ∷ []) (ys ++ y ∷ []) ≡ zip xs ys ++ (x, y) ∷ []
 zip-append [] [] x y h = refl
 zip-append [] (b ∷ ys) x y h = absurd (omega arith)
 zip-append (a ∷ xs) [] x y h = absurd (omega arith)
@@ -103,12 +110,14 @@ get-map f [] i x e = absurd (cc)
 get-map f (y ∷ xs) zero x e = ap (λ z. Some (f z)) (some-same y x e)
 get-map f (y ∷ xs) (suc i) x e = get-map f xs i x e
 
-look-step : {X Y : Type 0} (f : X → Y) (b : Bool) (x : X) (found : Option X) (others : Option Y) → others ≡ option_map f found → cond b (Some (f x)) others ≡ option_map f (cond b (Some x) found)
+look-step : {X Y : Type 0} (f : X → Y) (b : Bool) (x : X) (found : Option X) (others : Option Y) → others ≡ option_map f found
+    → cond b (Some (f x)) others ≡ option_map f (cond b (Some x) found)
 look-step f true x found others e = refl
 look-step f false x found others e = e
 
 -- what a name stands for in a space that is seen otherwise, with the same names
-pub look-map : {A B : Type 0} (f : Known A → Known B) → ((k : Known A) → (f k).name ≡ k.name) → (name : List ℕ) (space : List (Known A)) → look name (map f space) ≡ option_map f (look name space)
+pub look-map : {A B : Type 0} (f : Known A → Known B) → ((k : Known A) → (f k).name ≡ k.name) → (name : List ℕ) (space : List (Known A))
+    → look name (map f space) ≡ option_map f (look name space)
 look-map f same name [] = refl
 look-map f same name (k ∷ ks) =
     ap (λ (x : Spot). cond (bytes_eq x.name name) (Some (f k)) (look name (map f ks))) (same k)
@@ -118,7 +127,8 @@ look-map f same name (k ∷ ks) =
 pub firsts-more : (first new : List (List ℕ × ℕ)) (names : List (List ℕ)) (name : List ℕ) (fresh : Bool) → fresh ≡ is_none (place_of name first) →
     new ≡ (if fresh then first ++ (name, length names) ∷ [] else first) → HasFirsts first names → HasFirsts new (names ++ name ∷ [])
 firsts-more first new names name fresh f e has = by fresh (place_of name first) refl f e where
-  by : (b : Bool) (o : Option ℕ) → place_of name first ≡ o → b ≡ is_none o → new ≡ (if b then first ++ (name, length names) ∷ [] else first) → HasFirsts new (names ++ name ∷ [])
+  by : (b : Bool) (o : Option ℕ) → place_of name first ≡ o → b ≡ is_none o → new ≡ (if b then first ++ (name, length names) ∷ [] else first)
+      → HasFirsts new (names ++ name ∷ [])
   by true None p g h = rw h (first-added first names name has p)
   by false (Some i) p g h = rw h (first-kept first names name i has p)
   by true (Some i) p g h = absurd (cc)

@@ -1,5 +1,6 @@
 -- What a call of an earlier definition becomes.
-use Rattle.std.proofs.Common.{◌≡◌, ℕ, zero, suc, ◌+◌, ◌<◌, ◌≤◌, List, [], ◌∷◌, ◌++◌, take, length, length-append, Option, Some, None, slice_get, refl, ap, ◌∙◌, arith}
+use Rattle.std.proofs.Common.{◌≡◌, ℕ, zero, suc, ◌+◌, ◌<◌, ◌≤◌, List, [], ◌∷◌, ◌++◌, take, length, length-append, Option, Some, None, slice_get, refl, ap, ◌∙◌}
+use Rattle.std.proofs.Common.{arith}
 use Rattle.std.specs.Option.{option_map}
 use Rattle.std.proofs.lemmas.Grind.{common_steps}
 use Rattle.std.proofs.lemmas.Option.{slice_get_past}
@@ -59,8 +60,10 @@ module _ (words : List BinaryWord) (calls : List (Known Callee)) where
   many R (b ∷ bs) = omega (arith, many (R ++ this R b ∷ []) bs, length-append R (this R b ∷ []))
 
   -- a call of an earlier definition, in a body of definition number `home`
-  pub call-earlier : (blocks : List NumberedDefinition) (home b : ℕ) (block : NumberedDefinition) (path : List ℕ) (args : List Atom) → b < home → slice_get blocks b ≡ Some block →
-      unfolding_at (slice_get (unfold_all words calls [] (take home blocks)) b) path args ≡ unfold_block words calls (unfold_all words calls [] (take b blocks)) block.start block.definition path args
+  pub call-earlier : (blocks : List NumberedDefinition) (home b : ℕ) (block : NumberedDefinition) (path : List ℕ) (args : List Atom) → b < home
+      → slice_get blocks b ≡ Some block →
+      unfolding_at (slice_get (unfold_all words calls [] (take home blocks)) b) path args ≡ unfold_block words calls (unfold_all words calls [] (take b blocks))
+      block.start block.definition path args
   call-earlier blocks home b block path args h e =
       let zero_b : b ≡ 0 + b = omega arith in
       ap (λ i. unfolding_at (slice_get (unfold_all words calls [] (take home blocks)) i) path args) zero_b
@@ -85,6 +88,7 @@ found-step : (R : Unfoldings) (looked : Option (Known Callee)) (path : List ℕ)
 found-step R None path args = refl
 found-step R (Some k) path args = refl
 
-pub unfolding-found : (R : Unfoldings) (calls : List (Known Callee)) (name : List ℕ) (found : Option Callee) → found ≡ option_map (λ k. k.what) (look name calls) →
+pub unfolding-found : (R : Unfoldings) (calls : List (Known Callee)) (name : List ℕ) (found : Option Callee)
+    → found ≡ option_map (λ k. k.what) (look name calls) →
     (path : List ℕ) (args : List Atom) → unfolding_found R found path args ≡ unfolding_of calls R name path args
 unfolding-found R calls name found e path args = ap (λ f. unfolding_found R f path args) e ∙ found-step R (look name calls) path args

@@ -1,5 +1,6 @@
 -- One step of a walk over a list: what stands so far, and what the rest adds, stays the whole.
-use Rattle.std.proofs.Common.{◌≡◌, ℕ, zero, suc, ◌+◌, ◌<◌, ◌≤◌, List, [], ◌∷◌, ◌++◌, append_assoc, append-nil, length, length-append, drop, drop-cons, get_or, add-one, map, flat_map, slice_get, refl, sym, ap, ◌∙◌, arith}
+use Rattle.std.proofs.Common.{◌≡◌, ℕ, zero, suc, ◌+◌, ◌<◌, ◌≤◌, List, [], ◌∷◌, ◌++◌, append_assoc, append-nil, length, length-append, drop, drop-cons, get_or}
+use Rattle.std.proofs.Common.{add-one, map, flat_map, slice_get, refl, sym, ap, ◌∙◌, arith}
 use Rattle.std.proofs.lemmas.List.{map-append}
 use Rattle.std.proofs.lemmas.Option.{slice_get_past}
 use Rattle.std.proofs.lemmas.Grind.{common_steps}
@@ -22,14 +23,16 @@ more-then : {X : Type 0} (so_far more rest added whole : List X) → so_far ≡ 
 more-then so_far more rest added whole e h = ap (λ l. l ++ rest) e ∙ (append_assoc more added rest ∙ h)
 
 -- one more line of a body
-pub own_clocks-step : (path : List ℕ) (l : SLine) (ls : List SLine) (σ τ whole : Setting) → τ ≡ σ ++ map (λ x. (x.name, AClock (inside path x.name))) (declares l) →
+pub own_clocks-step : (path : List ℕ) (l : SLine) (ls : List SLine) (σ τ whole : Setting)
+    → τ ≡ σ ++ map (λ x. (x.name, AClock (inside path x.name))) (declares l) →
     σ ++ own_clocks path (l ∷ ls) ≡ whole → τ ++ own_clocks path ls ≡ whole
 own_clocks-step path l ls σ τ whole e h =
     more-then τ σ (own_clocks path ls) (map (λ x. (x.name, AClock (inside path x.name))) (declares l)) whole e
     (ap (λ k. σ ++ k) (sym (map-append (λ x. (x.name, AClock (inside path x.name))) (declares l) (flat_map declares ls))) ∙ h)
 
 -- one more argument, for the parameter of its place
-bound-then : (ps : List Param) (i : ℕ) (a : Atom) (as' : List Atom) → arguments (drop i ps) (a ∷ as') ≡ bound (slice_get ps i) a ++ arguments (drop (suc i) ps) as'
+bound-then : (ps : List Param) (i : ℕ) (a : Atom) (as' : List Atom)
+    → arguments (drop i ps) (a ∷ as') ≡ bound (slice_get ps i) a ++ arguments (drop (suc i) ps) as'
 bound-then [] zero a as' = refl
 bound-then [] (suc i) a as' = refl
 bound-then (p ∷ ps) zero a as' = refl

@@ -8,7 +8,8 @@ use Rattle.ccsl_rules.specs.Spaces.{Known, Callee, calls_space}
 use Rattle.ccsl_rules.specs.Texts.{block_texts, sheet_texts}
 use Rattle.ccsl_rules.specs.Resolved.{Tables}
 use Rattle.ccsl_rules.specs.Unfolded.{Item, Unfoldings, unfold_block, unfoldings, unfold_body, own_clocks}
-use Rattle.ccsl_rules.specs.Expansion.{groups_of, part_bodies, declared_names, written_item, hidden_item, item_definition, constraint_of, names_of, words_of, items_of, expand}
+use Rattle.ccsl_rules.specs.Expansion.{groups_of, part_bodies, declared_names, written_item, hidden_item, item_definition, constraint_of, names_of, words_of}
+use Rattle.ccsl_rules.specs.Expansion.{items_of, expand}
 use Rattle.ccsl_expand.specs.Numbered.{NumberedDefinition, numbered, unfold_all, group_in, numbered_groups}
 use Rattle.ccsl_expand.specs.Expanded.{numbered_files, expanded, expanded_texts}
 
@@ -18,7 +19,8 @@ module _ (words : List BinaryWord) (calls : List (Known Callee)) where
   unfoldings-numbered R k [] = refl
   unfoldings-numbered R k (b ∷ bs) = unfoldings-numbered (R ++ unfold_block words calls R k b ∷ []) (k + length (block_texts b)) bs
 
-  unfold_all-append : (R : Unfoldings) (xs ys : List NumberedDefinition) → unfold_all words calls R (xs ++ ys) ≡ unfold_all words calls (unfold_all words calls R xs) ys
+  unfold_all-append : (R : Unfoldings) (xs ys : List NumberedDefinition)
+      → unfold_all words calls R (xs ++ ys) ≡ unfold_all words calls (unfold_all words calls R xs) ys
   unfolding unfold_all
   unfold_all-append R [] ys = refl
   unfold_all-append R (x ∷ xs) ys = unfold_all-append (R ++ unfold_block words calls R x.start x.definition ∷ []) xs ys
@@ -40,7 +42,9 @@ groups-numbered K k (DGroup members ∷ bs) = ap (λ gs. part_bodies K k members
 
 groups-append : (K : Tables) (xs ys : List NumberedDefinition) → numbered_groups K (xs ++ ys) ≡ numbered_groups K xs ++ numbered_groups K ys
 groups-append K [] ys = refl
-groups-append K (x ∷ xs) ys = ap (λ gs. group_in K x.start x.definition ++ gs) (groups-append K xs ys) ∙ sym (append_assoc (group_in K x.start x.definition) (numbered_groups K xs) (numbered_groups K ys))
+groups-append K (x ∷ xs) ys =
+    ap (λ gs. group_in K x.start x.definition ++ gs) (groups-append K xs ys)
+    ∙ sym (append_assoc (group_in K x.start x.definition) (numbered_groups K xs) (numbered_groups K ys))
 
 pub groups-whole : (K : Tables) (library file : PlainFile) →
     numbered_groups K (numbered_files library file) ≡ groups_of K 0 library.definitions ++ groups_of K (length (sheet_texts library)) file.definitions
@@ -63,8 +67,8 @@ pub parts-whole : (words : List BinaryWord) (calls : List (Known Callee)) (block
     (W : List BinaryWord) (names : List (List ℕ)) (d w : ℕ) (groups : List (List Body)) (definitions : List Expression) (constraints : List Constraint) →
     W ≡ words → names ≡ names_of declared items → d ≡ length declared → w ≡ length declared + length (filter_map written_item items) →
     groups ≡ numbered_groups (record { names = names; words = words; calls = calls }) blocks →
-    definitions ≡ map (item_definition (record { names = names; words = words; calls = calls })) (filter_map written_item items ++ filter_map hidden_item items) →
-    constraints ≡ filter_map (constraint_of names) items →
+    definitions ≡ map (item_definition (record { names = names; words = words; calls = calls })) (filter_map written_item items ++ filter_map hidden_item items)
+    → constraints ≡ filter_map (constraint_of names) items →
     system_of W names d w groups definitions constraints ≡ expanded words calls blocks declared items
 parts-whole words calls blocks declared items W names d w groups definitions constraints eW en ed ew eg ef ec =
     let K : List (List ℕ) → Tables = λ n. record { names = n; words = words; calls = calls } in
@@ -73,12 +77,16 @@ parts-whole words calls blocks declared items W names d w groups definitions con
     ∙ (ap (λ x. system_of words names x w groups definitions constraints) ed
     ∙ (ap (λ x. system_of words names (length declared) x groups definitions constraints) ew
     ∙ (ap (λ x. system_of words names (length declared) (length declared + length (filter_map written_item items)) x definitions constraints) eg
-    ∙ (ap (λ x. system_of words names (length declared) (length declared + length (filter_map written_item items)) (numbered_groups (K names) blocks) x constraints) ef
-    ∙ (ap (λ x. system_of words names (length declared) (length declared + length (filter_map written_item items)) (numbered_groups (K names) blocks) (map (item_definition (K names)) all) x) ec
-    ∙ ap (λ n. system_of words n (length declared) (length declared + length (filter_map written_item items)) (numbered_groups (K n) blocks) (map (item_definition (K n)) all) (filter_map (constraint_of n) items)) en)))))
+    ∙ (ap (λ x. system_of words names (length declared) (length declared + length (filter_map written_item items)) (numbered_groups (K names) blocks) x
+    constraints) ef
+    ∙ (ap (λ x. system_of words names (length declared) (length declared + length (filter_map written_item items)) (numbered_groups (K names) blocks)
+    (map (item_definition (K names)) all) x) ec
+    ∙ ap (λ n. system_of words n (length declared) (length declared + length (filter_map written_item items)) (numbered_groups (K n) blocks)
+    (map (item_definition (K n)) all) (filter_map (constraint_of n) items)) en)))))
 
 -- the expansion, from what is read
-pub expand-whole : (library file : PlainFile) (words : List BinaryWord) (calls : List (Known Callee)) (blocks : List NumberedDefinition) (start : ℕ) (lines : List SLine) →
+pub expand-whole : (library file : PlainFile) (words : List BinaryWord) (calls : List (Known Callee)) (blocks : List NumberedDefinition) (start : ℕ)
+    (lines : List SLine) →
     words ≡ words_of library file → calls ≡ calls_space 0 0 (library.definitions ++ file.definitions) → blocks ≡ numbered_files library file →
     start ≡ length (sheet_texts library) + length (flat_map block_texts file.definitions) → lines ≡ file.lines →
     expanded_texts calls words blocks start lines ≡ expand library file

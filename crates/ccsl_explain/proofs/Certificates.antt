@@ -92,7 +92,8 @@ cites-core core (Item j lits) c = c
 cites-core core (Derived lits hints) c = tt
 
 -- and it cites no others
-pub cites-masked : (scope : Scope) (fs ms : List Formula) (core : List ℕ) (lines : List Line) → IsMasked fs (Contains core) ms → is_certificate scope ms lines ≡ true →
+pub cites-masked : (scope : Scope) (fs ms : List Formula) (core : List ℕ) (lines : List Line) → IsMasked fs (Contains core) ms
+    → is_certificate scope ms lines ≡ true →
     All (CitesOnly core) lines
 cites-masked scope fs ms core lines m h =
     let parts = and_parts (are_valid scope ms lines) (ends_empty scope.declared lines) h in

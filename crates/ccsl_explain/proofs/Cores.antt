@@ -31,7 +31,8 @@ minimal scope fs core h i c =
     (All-contains (λ k. AreOpen scope fs (BesideIt core k)) core i h.kept c)
 
 -- the items that are left when the turn comes to an item block
-left-block : (scope : Scope) (fs : List Formula) (core : List ℕ) → Blocks scope fs → IsCore scope fs core → (n : ℕ) → n ≤ length fs → Block scope fs (IsLeft core n)
+left-block : (scope : Scope) (fs : List Formula) (core : List ℕ) → Blocks scope fs → IsCore scope fs core → (n : ℕ) → n ≤ length fs
+    → Block scope fs (IsLeft core n)
 left-block scope fs core b h zero l = blocks-all scope fs (IsLeft core zero) (λ j m. inr (omega arith)) b
 left-block scope fs core b h (suc n) l =
     ⊎_elim
@@ -67,11 +68,13 @@ step scope fs a b h k i below c =
     (λ d.
     let open-set : AreOpen scope fs (BesideIt a i) = All-contains (λ j. AreOpen scope fs (BesideIt a j)) a i h.kept c in
     let inside : i < length fs = All-contains (λ j. j < length fs) a i h.items c in
-    let beside : AreOpen scope fs (BesideIt b i) = fewer-open scope fs (BesideIt a i) (BesideIt b i) (λ j p. ⊎_elim (λ m. inl (below j m.1 m.0, m.1)) inr p) open-set in
+    let beside : AreOpen scope fs (BesideIt b i) =
+    fewer-open scope fs (BesideIt a i) (BesideIt b i) (λ j p. ⊎_elim (λ m. inl (below j m.1 m.0, m.1)) inr p) open-set in
     absurd (k.dropped i inside d beside.set beside.satisfies))
     (is-in b i)
 
-agree : (scope : Scope) (fs : List Formula) (a b : List ℕ) → IsCore scope fs a → IsCore scope fs b → (n j : ℕ) → j < n → (Contains a j → Contains b j) × (Contains b j → Contains a j)
+agree : (scope : Scope) (fs : List Formula) (a b : List ℕ) → IsCore scope fs a → IsCore scope fs b → (n j : ℕ) → j < n
+    → (Contains a j → Contains b j) × (Contains b j → Contains a j)
 agree scope fs a b h k zero j l = absurd (omega arith)
 agree scope fs a b h k (suc n) j l = (
   step scope fs a b h k j (λ i m. (agree scope fs a b h k n i (omega arith)).1),
@@ -85,5 +88,6 @@ one-core scope fs a b h k =
     let both = agree scope fs a b h k (suc x) x (omega arith) in
     ⊎_elim
     (λ t. t ∙ sym (contains-ticks b x (both.0 (ticks-contains a x t))))
-    (λ f. f ∙ sym (false_from_ne_true (ticks_in x b) (λ t. let bad : true ≡ false = sym (contains-ticks a x (both.1 (ticks-contains b x t))) ∙ f in absurd (cc))))
+    (λ f. f ∙ sym (false_from_ne_true (ticks_in x b) (λ t. let bad : true ≡ false =
+    sym (contains-ticks a x (both.1 (ticks-contains b x t))) ∙ f in absurd (cc))))
     (cases_Bool (ticks_in x a)))

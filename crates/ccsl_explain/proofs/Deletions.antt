@@ -1,5 +1,6 @@
 -- Items are taken out one after the other.
-use Rattle.std.proofs.Common.{◌≡◌, ◌≢◌, ℕ, zero, suc, ◌<◌, ◌+◌, List, [], ◌∷◌, ◌++◌, length, Bool, true, false, Some, slice_get, slice_set, refl, sym, ap, subst, ◌∙◌, ⊎_elim, inl, inr, arith}
+use Rattle.std.proofs.Common.{◌≡◌, ◌≢◌, ℕ, zero, suc, ◌<◌, ◌+◌, List, [], ◌∷◌, ◌++◌, length, Bool, true, false, Some, slice_get, slice_set, refl, sym, ap}
+use Rattle.std.proofs.Common.{subst, ◌∙◌, ⊎_elim, inl, inr, arith}
 use Rattle.std.specs.List.{All, Contains}
 use Rattle.std.proofs.lemmas.Bool.{cases_eq}
 use Rattle.std.proofs.lemmas.List.Elements.{All-weaker, All-push, All-contains, Contains-append_left, Contains-push, Contains-push_cases}
@@ -26,7 +27,8 @@ pub put-back : {A : Type 0} (xs ts ys : List A) (i : ℕ) (a y : A) → ts ≡ s
 put-back xs ts ys i a y out was back = back ∙ ap (λ zs. slice_set zs i y) out ∙ set-back xs i a y was
 
 -- the items in use block without one that is not
-pub unused-block : (scope : Scope) (fs : List Formula) (us : List Bool) (i : ℕ) → slice_get us i ≡ Some false → Block scope fs (IsUsed us) → Block scope (without fs i) (IsUsed us)
+pub unused-block : (scope : Scope) (fs : List Formula) (us : List Bool) (i : ℕ) → slice_get us i ≡ Some false → Block scope fs (IsUsed us)
+    → Block scope (without fs i) (IsUsed us)
 unused-block scope fs us i n b = λ set s. b set (record {
   member = s.member;
   each = λ j f u g. s.each j f u (get-other fs i j FTrue (λ e. u (subst (λ k. slice_get us k ≡ Some false) (sym e) n)) ∙ g);
@@ -34,7 +36,8 @@ unused-block scope fs us i n b = λ set s. b set (record {
 
 module _ (scope : Scope) (fs ms : List Formula) (core : List ℕ) (n : ℕ) (h : IsCoreBelow scope fs n core) (m : IsMasked fs (IsLeft core n) ms) where
   -- what stands beside item n, where a core agrees with this one below it
-  beside-masked : (core' : List ℕ) → ((j : ℕ) → j < n → Contains core' j → Contains core j) → ((j : ℕ) → Contains core j → Contains core' j) → IsMasked fs (BesideIt core' n) (without ms n)
+  beside-masked : (core' : List ℕ) → ((j : ℕ) → j < n → Contains core' j → Contains core j) → ((j : ℕ) → Contains core j → Contains core' j)
+      → IsMasked fs (BesideIt core' n) (without ms n)
   beside-masked core' to from = without-masked fs ms (IsLeft core n) (BesideIt core' n) n m
       (λ j p. ⊎_elim (λ q. (inl (to j q.1 q.0, q.1), omega (arith, q.1))) (λ q. (inr (omega (arith, q)), omega (arith, q))) p)
       (λ j p d. ⊎_elim (λ q. inl (from j q.0, q.1)) (λ q. inr (omega (arith, q, d))) p)
@@ -50,7 +53,8 @@ module _ (scope : Scope) (fs ms : List Formula) (core : List ℕ) (n : ℕ) (h :
     kept = h.kept;
     dropped = λ i l c.
         ⊎_elim
-        (λ e. subst (λ k. Block scope fs (BesideIt core k)) (sym e) (block-masked scope fs (without ms n) (BesideIt core n) (beside-masked core (λ j k p. p) (λ j p. p)) b))
+        (λ e. subst (λ k. Block scope fs (BesideIt core k)) (sym e)
+        (block-masked scope fs (without ms n) (BesideIt core n) (beside-masked core (λ j k p. p) (λ j p. p)) b))
         (λ d. h.dropped i (omega (arith, l, d)) c)
         (cases_eq i n);
   }
@@ -92,7 +96,8 @@ module _ (scope : Scope) (fs ms : List Formula) (core : List ℕ) (n : ℕ) (h :
 
       push : (j : ℕ) → IsLeft core n j → IsLeft (core ++ n ∷ []) (n + 1) j
       push j p = ⊎_elim (λ q. inl (pushed j q.0, omega (arith, q.1)))
-          (λ q. ⊎_elim (λ e. inl (subst (Contains (core ++ n ∷ [])) (sym e) (Contains-push core n), omega (arith, e))) (λ d. inr (omega (arith, q, d))) (cases_eq j n)) p
+          (λ q. ⊎_elim (λ e. inl (subst (Contains (core ++ n ∷ [])) (sym e) (Contains-push core n), omega (arith, e))) (λ d. inr (omega (arith, q, d)))
+          (cases_eq j n)) p
 
   -- the next item, where it stays or goes
   pub next-stays : (next : List Formula) → Stays scope ms next n true →
@@ -115,7 +120,8 @@ core-all scope fs n core e h = record {
   dropped = λ i l c. h.dropped i (omega (arith, e, l)) c;
 }
 
-pub left-all : (fs ms : List Formula) (n : ℕ) (core : List ℕ) → n ≡ length fs → All (λ i. i < n) core → IsMasked fs (IsLeft core n) ms → IsMasked fs (Contains core) ms
+pub left-all : (fs ms : List Formula) (n : ℕ) (core : List ℕ) → n ≡ length fs → All (λ i. i < n) core → IsMasked fs (IsLeft core n) ms
+    → IsMasked fs (Contains core) ms
 left-all fs ms n core e b m = record {
   kept = λ j f c g. m.kept j f (inl (c, All-contains (λ i. i < n) core j b c)) g;
   others = λ j f g.

@@ -1,5 +1,6 @@
 -- Formulas over named clocks have an explanation.
-use Rattle.std.proofs.Common.{◌≡◌, ◌≢◌, ◌⊎◌, ℕ, zero, suc, ◌+◌, ◌<◌, ◌≤◌, List, [], ◌∷◌, length, true, Some, slice_get, refl, sym, ap, ◌∙◌, ⊎_elim, inl, inr, subst, arith}
+use Rattle.std.proofs.Common.{◌≡◌, ◌≢◌, ◌⊎◌, ℕ, zero, suc, ◌+◌, ◌<◌, ◌≤◌, List, [], ◌∷◌, length, true, Some, slice_get, refl, sym, ap, ◌∙◌, ⊎_elim, inl, inr}
+use Rattle.std.proofs.Common.{subst, arith}
 use Rattle.std.specs.List.{All, AllZip, Contains}
 use Rattle.std.proofs.lemmas.List.Elements.{All-nil, All-cons, All-head, All-tail}
 use Rattle.ccsl_formula.specs.declared.scope.Scope.{Scope}
@@ -62,7 +63,8 @@ module _ (certify : UnsolvedHaveCertificates) (scope : Scope) (low : scope.decla
           let q = next-stays scope fs h.left h.core n h.is h.masked h.left (refl, record { set = s.0; named = s.1.named; solves = s.1.solves }) in
           subst (IsDecided fs) more (record { core = _; left = h.left; is = q.0; masked = q.1 }))
           (λ blocks.
-          let q = next-goes scope fs h.left h.core n h.is h.masked (without h.left n) [] refl (blocks-all scope (without h.left n) _ (λ j l e. absurd (cc)) blocks) in
+          let q = next-goes scope fs h.left h.core n h.is h.masked (without h.left n) [] refl
+          (blocks-all scope (without h.left n) _ (λ j l e. absurd (cc)) blocks) in
           subst (IsDecided fs) more (record { core = h.core; left = without h.left n; is = q.0; masked = q.1 }))
           (least-or-none scope (without h.left n) low (without-below scope.named h.left n (masked-below scope.named fs h.left (IsLeft h.core n) h.masked b)))
 

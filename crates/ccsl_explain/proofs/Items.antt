@@ -25,7 +25,8 @@ all-true [] v h = tt
 all-true (f ∷ fs) v h = (h zero f refl, all-true fs v (λ j g e. h (suc j) g e))
 
 -- values that satisfy the formulas of all items
-pub solves-all : (scope : Scope) (fs : List Formula) (P : ℕ → Type 0) (v : Assignment) → ((j : ℕ) → j < length fs → P j) → Satisfies scope fs P v → Solves scope fs v
+pub solves-all : (scope : Scope) (fs : List Formula) (P : ℕ → Type 0) (v : Assignment) → ((j : ℕ) → j < length fs → P j) → Satisfies scope fs P v
+    → Solves scope fs v
 solves-all scope fs P v h s = record { member = s.member; all = all-true fs v (λ j f e. s.each j f (h j (slice_get_within fs j f e)) e) }
 
 -- some items block only where all do

@@ -1,5 +1,6 @@
 -- Least sets: there is one, and the solver finds it by the wish that no clock ticks.
-use Rattle.std.proofs.Common.{◌≡◌, ℕ, zero, suc, ◌<◌, List, [], ◌∷◌, ◌++◌, Bool, true, false, refl, sym, ap, ◌∙◌, ⊎_elim, inl, arith, append_assoc, append-nil, ◌+◌}
+use Rattle.std.proofs.Common.{◌≡◌, ℕ, zero, suc, ◌<◌, List, [], ◌∷◌, ◌++◌, Bool, true, false, refl, sym, ap, ◌∙◌, ⊎_elim, inl, arith, append_assoc, append-nil}
+use Rattle.std.proofs.Common.{◌+◌}
 use Rattle.std.specs.List.{AllZip}
 use Rattle.std.proofs.lemmas.Bool.{cases_eq}
 use Rattle.ccsl_base.specs.Clocks.{ticks_in, is_ascending}
@@ -20,12 +21,14 @@ use Rattle.ccsl_base.proofs.Ascending.{same-members}
 use Rattle.ccsl_formula.proofs.Same.{same-self}
 
 -- of two least sets none has a first clock that the other has not
-module _ (scope : Scope) (fs : List Formula) (core : List ℕ) (i : ℕ) (s t : List ℕ) (h : IsLeastWithout scope fs core i s) (k : IsLeastWithout scope fs core i t) where
+module _ (scope : Scope) (fs : List Formula) (core : List ℕ) (i : ℕ) (s t : List ℕ) (h : IsLeastWithout scope fs core i s)
+    (k : IsLeastWithout scope fs core i t) where
   at-clock : (c : ℕ) → ((d : ℕ) → d < c → ticks_in d s ≡ ticks_in d t) → (a b : Bool) → ticks_in c s ≡ a → ticks_in c t ≡ b → a ≡ b
   at-clock c before true true p q = refl
   at-clock c before false false p q = refl
   at-clock c before false true p q = absurd (k.least (in_set s) h.satisfies (record { clock = c; named = k.named c q; out = p; in_other = q; before = before }))
-  at-clock c before true false p q = absurd (h.least (in_set t) k.satisfies (record { clock = c; named = h.named c p; out = q; in_other = p; before = λ d l. sym (before d l) }))
+  at-clock c before true false p q =
+      absurd (h.least (in_set t) k.satisfies (record { clock = c; named = h.named c p; out = q; in_other = p; before = λ d l. sym (before d l) }))
 
   agree : (n c : ℕ) → c < n → ticks_in c s ≡ ticks_in c t
   agree zero c l = absurd (omega arith)

@@ -1,5 +1,6 @@
 -- Lists of formulas with items taken out.
-use Rattle.std.proofs.Common.{◌≡◌, ◌≢◌, ℕ, zero, suc, List, [], ◌∷◌, length, map, true, Some, slice_get, slice_set, refl, sym, ap, subst, ◌∙◌, ⊎_elim, inl, inr, arith}
+use Rattle.std.proofs.Common.{◌≡◌, ◌≢◌, ℕ, zero, suc, List, [], ◌∷◌, length, map, true, Some, slice_get, slice_set, refl, sym, ap, subst, ◌∙◌, ⊎_elim, inl, inr}
+use Rattle.std.proofs.Common.{arith}
 use Rattle.std.proofs.lemmas.Bool.{cases_eq}
 use Rattle.std.proofs.lemmas.List.{length-map, length-set}
 use Rattle.ccsl_formula.specs.declared.formula.Formula.{Formula as Boxed}
@@ -79,7 +80,8 @@ asked-masked : (scope : Scope) (fs ms : List Formula) (P : ℕ → Type 0) → I
 asked-masked scope fs ms P m l a = record {
   declared = a.declared;
   named = a.named;
-  reads = each-below scope.named ms (λ j f g. ⊎_elim (λ e. subst (ReadsBelow scope.named) (sym e) (λ v r. absurd (cc))) (λ p. below-each scope.named fs j f a.reads p.1) (m.others j f g));
+  reads = each-below scope.named ms
+      (λ j f g. ⊎_elim (λ e. subst (ReadsBelow scope.named) (sym e) (λ v r. absurd (cc))) (λ p. below-each scope.named fs j f a.reads p.1) (m.others j f g));
   few = omega (arith, a.few, l);
 }
 

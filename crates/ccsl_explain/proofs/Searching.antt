@@ -1,6 +1,7 @@
 -- The least set that satisfies formulas over named clocks, or that there is none: by one clock after the other from the first on,
 -- first without it and then with it.
-use Rattle.std.proofs.Common.{◌≡◌, ◌≢◌, ◌⊎◌, ℕ, zero, suc, ◌+◌, ◌<◌, ◌≤◌, List, [], ◌∷◌, Bool, true, false, cond, Some, slice_get, refl, sym, ap, ◌∙◌, ⊎_elim, inl, inr, subst, arith, nat_eq}
+use Rattle.std.proofs.Common.{◌≡◌, ◌≢◌, ◌⊎◌, ℕ, zero, suc, ◌+◌, ◌<◌, ◌≤◌, List, [], ◌∷◌, Bool, true, false, cond, Some, slice_get, refl, sym, ap, ◌∙◌, ⊎_elim}
+use Rattle.std.proofs.Common.{inl, inr, subst, arith, nat_eq}
 use Rattle.std.proofs.lemmas.Bool.{cases_eq, cases_lt, cases_Bool, eq-eqb, ne_eqb}
 use Rattle.ccsl_base.specs.Clocks.{ticks_in, is_ascending}
 use Rattle.ccsl_base.specs.Bits.{members_where}
@@ -172,6 +173,15 @@ module _ (scope : Scope) (fs : List Formula) (low : scope.declared ≤ scope.nam
   -- THE LEAST STEP, or none
   pub least-or-none : ((s : List ℕ) × IsLeastStep scope fs s) ⊎ Blocks scope fs
   least-or-none = ⊎_elim
-      (λ b. inl (b.set, record { ascending = b.ascending; named = b.named; solves = b.solves; least = λ t g r. b.least t (λ x l. absurd (omega (arith, l))) g r }))
+      (λ b. inl (
+        b.set,
+        record {
+          ascending = b.ascending;
+          named = b.named;
+          solves = b.solves;
+          least =
+              λ t g r. b.least t (λ x l. absurd (omega (arith, l))) g r;
+        },
+      ))
       (λ none. inr (λ set s. none (in_set set) (λ x l. absurd (omega (arith, l))) s))
       (find-from scope.named 0 (omega arith) (λ x. false))

@@ -1,5 +1,6 @@
 -- The items that the lines of a certificate cite block.
-use Rattle.std.proofs.Common.{◌≡◌, ◌⊎◌, ℕ, zero, suc, ◌<◌, ◌+◌, List, [], ◌∷◌, ◌++◌, length, take, drop, get_or, Bool, true, false, cond, Some, slice_get, refl, sym, ap, ◌∙◌, inl, inr, arith, append-nil}
+use Rattle.std.proofs.Common.{◌≡◌, ◌⊎◌, ℕ, zero, suc, ◌<◌, ◌+◌, List, [], ◌∷◌, ◌++◌, length, take, drop, get_or, Bool, true, false, cond, Some, slice_get, refl}
+use Rattle.std.proofs.Common.{sym, ap, ◌∙◌, inl, inr, arith, append-nil}
 use Rattle.std.specs.List.{All}
 use Rattle.std.proofs.lemmas.List.{take_all, drop_all}
 use Rattle.std.proofs.lemmas.List.Elements.{All-weaker, All-more}
@@ -39,7 +40,8 @@ spared-same (true ∷ us) (f ∷ fs) zero u = refl
 spared-same (false ∷ us) (f ∷ fs) zero u = absurd (u refl)
 spared-same (b ∷ us) (f ∷ fs) (suc j) u = spared-same us fs j u
 
-spared-others : (us : List Bool) (fs : List Formula) (j : ℕ) (f : Formula) → slice_get (spared us fs) j ≡ Some f → (f ≡ FTrue) ⊎ (IsUsed us j × (slice_get fs j ≡ Some f))
+spared-others : (us : List Bool) (fs : List Formula) (j : ℕ) (f : Formula) → slice_get (spared us fs) j ≡ Some f
+    → (f ≡ FTrue) ⊎ (IsUsed us j × (slice_get fs j ≡ Some f))
 unfolding spared
 spared-others [] fs j f g = inr (λ e. absurd (cc), g)
 spared-others (b ∷ us) [] j f g = absurd (cc)
@@ -51,7 +53,8 @@ spared-masked : (us : List Bool) (fs : List Formula) → IsMasked fs (IsUsed us)
 spared-masked us fs = record { kept = λ j f u g. sym (spared-same us fs j u) ∙ g; others = spared-others us fs }
 
 -- the items that the lines cite block
-pub used-block : (scope : Scope) (fs : List Formula) (us : List Bool) (lines : List Line) → All (Cites (IsUsed us)) lines → is_certificate scope fs lines ≡ true → Block scope fs (IsUsed us)
+pub used-block : (scope : Scope) (fs : List Formula) (us : List Bool) (lines : List Line) → All (Cites (IsUsed us)) lines → is_certificate scope fs lines ≡ true
+    → Block scope fs (IsUsed us)
 used-block scope fs us lines c h =
     block-masked scope fs (spared us fs) (IsUsed us) (spared-masked us fs)
     (certificate-blocks scope (spared us fs) lines

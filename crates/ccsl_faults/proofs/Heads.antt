@@ -35,7 +35,8 @@ pub spots-all : (space : List (Known Callee)) (bs : List PlainDefinition) → ma
 spots-all space bs e = spots-seen space ∙ ap spots e ∙ spots-calls 0 0 bs
 
 -- the number of names in a space
-pub length-space : (space : List (Known Callee)) (bs : List PlainDefinition) → map seen_call space ≡ calls_space 0 0 bs → length space ≡ length (flat_map heads bs)
+pub length-space : (space : List (Known Callee)) (bs : List PlainDefinition) → map seen_call space ≡ calls_space 0 0 bs
+    → length space ≡ length (flat_map heads bs)
 length-space space bs e = sym (length-map space (λ k. k.name)) ∙ ap length (spots-all space bs e)
 
 -- those of the library are within those of the library and the file
@@ -43,7 +44,8 @@ pub length-within : (xs ys : List PlainDefinition) → length (flat_map heads xs
 length-within xs ys = omega (arith, ap length (flat_map-append heads xs ys), length-append (flat_map heads xs) (flat_map heads ys))
 
 -- the names that a file repeats, behind a library
-pub own-repeated : {A : Type 0} (space : List (Known A)) (xs ys : List PlainDefinition) (n : ℕ) → spots space ≡ flat_map heads (xs ++ ys) → n ≡ length (flat_map heads xs) →
+pub own-repeated : {A : Type 0} (space : List (Known A)) (xs ys : List PlainDefinition) (n : ℕ) → spots space ≡ flat_map heads (xs ++ ys)
+    → n ≡ length (flat_map heads xs) →
     repeated (take n (names space)) (drop n (spots space)) ≡ repeated (map (λ s. s.name) (flat_map heads xs)) (flat_map heads ys)
 own-repeated space xs ys n e count =
     let all : spots space ≡ flat_map heads xs ++ flat_map heads ys = e ∙ flat_map-append heads xs ys in
@@ -51,14 +53,16 @@ own-repeated space xs ys n e count =
     names-spots space ∙ ap (map (λ s. s.name)) all ∙ map-append (λ s. s.name) (flat_map heads xs) (flat_map heads ys) in
     let named : take n (names space) ≡ map (λ s. s.name) (flat_map heads xs) =
     ap (λ l. take n l) own
-    ∙ ap (λ k. take k (map (λ s. s.name) (flat_map heads xs) ++ map (λ s. s.name) (flat_map heads ys))) (count ∙ sym (length-map (flat_map heads xs) (λ s. s.name)))
+    ∙ ap (λ k. take k (map (λ s. s.name) (flat_map heads xs) ++ map (λ s. s.name) (flat_map heads ys)))
+    (count ∙ sym (length-map (flat_map heads xs) (λ s. s.name)))
     ∙ take-append_seam (map (λ s. s.name) (flat_map heads xs)) (map (λ s. s.name) (flat_map heads ys)) in
     let behind : drop n (spots space) ≡ flat_map heads ys =
     ap (λ l. drop n l) all ∙ ap (λ k. drop k (flat_map heads xs ++ flat_map heads ys)) count ∙ drop-append_seam (flat_map heads xs) (flat_map heads ys) in
     ap (λ l. repeated l (drop n (spots space))) named ∙ ap (repeated (map (λ s. s.name) (flat_map heads xs))) behind
 
 -- the number of declarations in the space of the first definitions
-pub length-declared : {T : Type 0} (ds : List T) (seen : T → Known Callee) (none space : List (Known Callee)) (bs : List PlainDefinition) → map seen ds ≡ space → none ≡ [] →
+pub length-declared : {T : Type 0} (ds : List T) (seen : T → Known Callee) (none space : List (Known Callee)) (bs : List PlainDefinition) → map seen ds ≡ space
+    → none ≡ [] →
     map seen_call space ≡ map seen_call none ++ calls_space 0 0 bs → length ds ≡ length (flat_map heads bs)
 length-declared ds seen none space bs view e added =
     sym (length-map ds seen) ∙ ap length view ∙ length-space space bs (added ∙ ap (λ l. map seen_call l ++ calls_space 0 0 bs) e)

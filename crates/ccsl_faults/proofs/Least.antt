@@ -1,5 +1,6 @@
 -- The least of joined lists.
-use Rattle.std.proofs.Common.{◌≡◌, ℕ, List, [], ◌∷◌, ◌++◌, Bool, true, false, Option, Some, None, nat_lt, nat_eq, ◌&&◌, ◌||◌, refl, sym, ap, ◌∙◌, arith, if◌then◌else◌}
+use Rattle.std.proofs.Common.{◌≡◌, ℕ, List, [], ◌∷◌, ◌++◌, Bool, true, false, Option, Some, None, nat_lt, nat_eq, ◌&&◌, ◌||◌, refl, sym, ap, ◌∙◌, arith}
+use Rattle.std.proofs.Common.{if◌then◌else◌}
 use Rattle.std.proofs.lemmas.Bool.Decides.{nat_tests}
 use Rattle.ccsl_rules.specs.Faults.{Fault, rank, comes_before, earlier, least}
 use Rattle.ccsl_rules.proofs.Least.{lex-not, lex-trans}
@@ -41,7 +42,8 @@ least-append [] ys = refl
 least-append (x ∷ xs) ys = ap (earlier (Some x)) (least-append xs ys) ∙ sym (earlier-assoc (Some x) (least xs) (least ys))
 
 -- one step of a walk: the worst so far, the least of this, and the least of the rest
-pub least-step : (w f : Option Fault) (xs ys : List Fault) {all : Option Fault} → f ≡ least xs → earlier w (least (xs ++ ys)) ≡ all → earlier (earlier w f) (least ys) ≡ all
+pub least-step : (w f : Option Fault) (xs ys : List Fault) {all : Option Fault} → f ≡ least xs → earlier w (least (xs ++ ys)) ≡ all
+    → earlier (earlier w f) (least ys) ≡ all
 least-step w f xs ys e h =
     ap (λ x. earlier (earlier w x) (least ys)) e ∙ (earlier-assoc w (least xs) (least ys) ∙ (sym (ap (earlier w) (least-append xs ys)) ∙ h))
 

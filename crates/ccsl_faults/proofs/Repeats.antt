@@ -26,7 +26,8 @@ next-name space worst {place} k {found} h at n e so_far =
     let here : drop place (spots space) ≡ k.name ∷ drop (place + 1) (spots space) =
     drop-at (spots space) (omega (arith, h, length-map space (λ x. x.name))) (ap (λ x. x.name) at ∙ sym (get_or-map (λ x. x.name) space place k)) in
     let seen : take (place + 1) (names space) ≡ take place (names space) ++ k.name.name ∷ [] =
-    take-at (names space) k.name.name (omega (arith, h, length-map space (λ x. x.name.name))) (ap (λ x. x.name.name) at ∙ sym (get_or-map (λ x. x.name.name) space place k)) in
+    take-at (names space) k.name.name (omega (arith, h, length-map space (λ x. x.name.name)))
+    (ap (λ x. x.name.name) at ∙ sym (get_or-map (λ x. x.name.name) space place k)) in
     ap (λ w. earlier w (least (repeated (take (place + 1) (names space)) (drop (place + 1) (spots space))))) n
     ∙ ap (λ l. earlier (earlier worst found) (least (repeated l (drop (place + 1) (spots space))))) seen
     ∙ least-step worst found (where_so (is_among k.name.name (take place (names space))) Duplicate k.name.at)
@@ -35,7 +36,8 @@ next-name space worst {place} k {found} h at n e so_far =
     (sym (ap (λ l. earlier worst (least (repeated (take place (names space)) l))) here) ∙ so_far)
 
 -- one step over the declarations of a space, from their list
-pub repeated-step : {T : Type 0} (ds : List (Declaration T)) (space : List (Known T)) (worst : Option Fault) {place : ℕ} {d : Declaration T} {found next all : Option Fault} →
+pub repeated-step : {T : Type 0} (ds : List (Declaration T)) (space : List (Known T))
+    (worst : Option Fault) {place : ℕ} {d : Declaration T} {found next all : Option Fault} →
     map known ds ≡ space → place < length ds → d ≡ get_or ds place d → next ≡ earlier worst found →
     found ≡ least (where_so (is_among (name_at space place) (take place (names space))) Duplicate d.name.now.at) →
     earlier worst (least (repeated (take place (names space)) (drop place (spots space)))) ≡ all →

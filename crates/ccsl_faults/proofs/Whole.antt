@@ -28,7 +28,8 @@ parts-are-all library own lines calls heights place first s h p f =
     ∙ ap (λ k. parts_faults space (heights_of space (library ++ own)) place k own lines) f
     ∙ ap (λ k. k ++ blocks_faults space (heights_of space (library ++ own)) (length library) own ++ body_faults space (length library + length own) [] [] lines)
     (own-repeated space library own place (spots-calls 0 0 (library ++ own)) p)
-    ∙ ap (λ k. repeated (map (λ s. s.name) (flat_map heads library)) (flat_map heads own) ++ blocks_faults space (heights_of space (library ++ own)) (length library) own
+    ∙ ap (λ k. repeated (map (λ s. s.name) (flat_map heads library)) (flat_map heads own)
+    ++ blocks_faults space (heights_of space (library ++ own)) (length library) own
     ++ body_faults space k [] [] lines) (sym (length-append library own))
   where
     space : List (Known Callee)
@@ -39,13 +40,15 @@ names-seen [] = refl
 names-seen (k ∷ ks) = ap (λ l. k.name.name ∷ l) (names-seen ks)
 
 -- the least of the three parts
-pub parts-joined : (space : List (Known code.Callee)) (heights : Heights) (place first number : ℕ) (own : List PlainDefinition) (lines : List SLine) {a b c next all : Option Fault} →
+pub parts-joined : (space : List (Known code.Callee)) (heights : Heights) (place first number : ℕ) (own : List PlainDefinition)
+    (lines : List SLine) {a b c next all : Option Fault} →
     next ≡ earlier a b → all ≡ earlier next c → a ≡ least (repeated (take place (names space)) (drop place (spots space))) →
     b ≡ least (blocks_faults (map seen_call space) heights first own) → number ≡ length own →
     c ≡ least (body_faults (map seen_call space) (first + number) [] [] lines) → all ≡ least (parts_faults (map seen_call space) heights place first own lines)
 parts-joined space heights place first number own lines {c = c} n t a b m y =
     t ∙ ap (λ x. earlier x c) n
-    ∙ three-parts (repeated (take place (names (map seen_call space))) (drop place (spots (map seen_call space)))) (blocks_faults (map seen_call space) heights first own)
+    ∙ three-parts (repeated (take place (names (map seen_call space))) (drop place (spots (map seen_call space))))
+    (blocks_faults (map seen_call space) heights first own)
     (body_faults (map seen_call space) (first + length own) [] [] lines)
     (a ∙ ap (λ l. least (repeated (take place l) (drop place (spots space)))) (names-seen space)
     ∙ ap (λ l. least (repeated (take place (names (map seen_call space))) (drop place l))) (spots-seen space))

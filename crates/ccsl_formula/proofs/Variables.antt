@@ -10,18 +10,24 @@ truth-same FTrue v w h = refl
 truth-same FFalse v w h = refl
 truth-same (FVar x) v w h = h x (eq-eqb x x refl)
 truth-same (FNot f) v w h = ap not (truth-same f v w h)
-truth-same (FAnd f g) v w h = ap₂ (λ a b. a && b) (truth-same f v w (λ x e. h x (or_left (reads f x) (reads g x) e))) (truth-same g v w (λ x e. h x (or_right (reads f x) (reads g x) e)))
-truth-same (FOr f g) v w h = ap₂ (λ a b. a || b) (truth-same f v w (λ x e. h x (or_left (reads f x) (reads g x) e))) (truth-same g v w (λ x e. h x (or_right (reads f x) (reads g x) e)))
-truth-same (FIff f g) v w h = ap₂ same (truth-same f v w (λ x e. h x (or_left (reads f x) (reads g x) e))) (truth-same g v w (λ x e. h x (or_right (reads f x) (reads g x) e)))
+truth-same (FAnd f g) v w h =
+    ap₂ (λ a b. a && b) (truth-same f v w (λ x e. h x (or_left (reads f x) (reads g x) e))) (truth-same g v w (λ x e. h x (or_right (reads f x) (reads g x) e)))
+truth-same (FOr f g) v w h =
+    ap₂ (λ a b. a || b) (truth-same f v w (λ x e. h x (or_left (reads f x) (reads g x) e))) (truth-same g v w (λ x e. h x (or_right (reads f x) (reads g x) e)))
+truth-same (FIff f g) v w h =
+    ap₂ same (truth-same f v w (λ x e. h x (or_left (reads f x) (reads g x) e))) (truth-same g v w (λ x e. h x (or_right (reads f x) (reads g x) e)))
 
 pub kleene-same : (f : Formula) (p q : Part) → ((x : ℕ) → reads f x ≡ true → p x ≡ q x) → kleene f p ≡ kleene f q
 kleene-same FTrue p q h = refl
 kleene-same FFalse p q h = refl
 kleene-same (FVar x) p q h = h x (eq-eqb x x refl)
 kleene-same (FNot f) p q h = ap not3 (kleene-same f p q h)
-kleene-same (FAnd f g) p q h = ap₂ and3 (kleene-same f p q (λ x e. h x (or_left (reads f x) (reads g x) e))) (kleene-same g p q (λ x e. h x (or_right (reads f x) (reads g x) e)))
-kleene-same (FOr f g) p q h = ap₂ or3 (kleene-same f p q (λ x e. h x (or_left (reads f x) (reads g x) e))) (kleene-same g p q (λ x e. h x (or_right (reads f x) (reads g x) e)))
-kleene-same (FIff f g) p q h = ap₂ iff3 (kleene-same f p q (λ x e. h x (or_left (reads f x) (reads g x) e))) (kleene-same g p q (λ x e. h x (or_right (reads f x) (reads g x) e)))
+kleene-same (FAnd f g) p q h =
+    ap₂ and3 (kleene-same f p q (λ x e. h x (or_left (reads f x) (reads g x) e))) (kleene-same g p q (λ x e. h x (or_right (reads f x) (reads g x) e)))
+kleene-same (FOr f g) p q h =
+    ap₂ or3 (kleene-same f p q (λ x e. h x (or_left (reads f x) (reads g x) e))) (kleene-same g p q (λ x e. h x (or_right (reads f x) (reads g x) e)))
+kleene-same (FIff f g) p q h =
+    ap₂ iff3 (kleene-same f p q (λ x e. h x (or_left (reads f x) (reads g x) e))) (kleene-same g p q (λ x e. h x (or_right (reads f x) (reads g x) e)))
 
 -- the three-valued tables at known values are the two-valued ones
 not3-known : (a : Bool) → not3 (known_as a) ≡ known_as (not a)

@@ -8,18 +8,27 @@ use Rattle.ccsl_ast.specs.declared.term.Test.TheVariants.{Equal, Less, Head, End
 use Rattle.ccsl_ast.specs.declared.term.Argument.TheVariants as arg
 use Rattle.ccsl_ast.specs.declared.tree.BinaryOp.TheVariants as op
 use Rattle.ccsl_ast.specs.declared.line.Relation.TheVariants as rel
-use Rattle.ccsl_ast.specs.Trees.{Expression, EName, ECall, ENever, EBinary, EDelay, EAwait, EFilter, EDelayed, EIf, LDefine, LConstraint, LCall, SClocks, SLineOf, DRelation, DGroup, PlainFile}
+use Rattle.ccsl_ast.specs.Trees.{Expression, EName, ECall, ENever, EBinary, EDelay, EAwait, EFilter, EDelayed, EIf, LDefine, LConstraint, LCall, SClocks}
+use Rattle.ccsl_ast.specs.Trees.{SLineOf, DRelation, DGroup, PlainFile}
 use Rattle.ccsl_grammar.specs.Terminals.{Terminal, word, symbol, name, number, quoted}
 use Rattle.ccsl_grammar.specs.Kinds.{is_word, is_symbol, is_name, is_quoted}
 use Rattle.ccsl_grammar.specs.Grammar.{version}
 use Rattle.ccsl_grammar.specs.Reader.{no_syntax, too_deep, Reply, took, stopped, Reader, ◌>>=◌, given, many, ◌>>◌}
-use Rattle.ccsl_grammar.specs.Parser.{name_at, num_of, num_at, quoted_of, quoted_at, further_at, list_at, prim_of, prim_at, sign_of, sign_at, is_sign, signed_at, term_at, wterm_at, comparison_at, test_at, arg_at, kind_of, kind_at, param_at, relop_of, goes_on_by, within_at, precedes_at, relop_at, binop_of, sampled_at, upto_at, binop_at, is_binop, named_at, parens_at, operand_at, binary_at, second_at, delayed_at, delay_at, await_at, filter_at, rest_at, branches_at, choice_at, expr_with, is_expr, no_room, expr_at, define_at, call_at, constraint_at, rline_at, clocks_at, sline_at, no_brace, relation_at, member_at, further_member_at, group_at, definition_at, is_definition, version_of, version_at, system_at, ends, file_at, word_at}
+use Rattle.ccsl_grammar.specs.Parser.{name_at, num_of, num_at, quoted_of, quoted_at, further_at, list_at, prim_of, prim_at, sign_of, sign_at, is_sign}
+use Rattle.ccsl_grammar.specs.Parser.{signed_at, term_at, wterm_at, comparison_at, test_at, arg_at, kind_of, kind_at, param_at, relop_of, goes_on_by, within_at}
+use Rattle.ccsl_grammar.specs.Parser.{precedes_at, relop_at, binop_of, sampled_at, upto_at, binop_at, is_binop, named_at, parens_at, operand_at, binary_at}
+use Rattle.ccsl_grammar.specs.Parser.{second_at, delayed_at, delay_at, await_at, filter_at, rest_at, branches_at, choice_at, expr_with, is_expr, no_room}
+use Rattle.ccsl_grammar.specs.Parser.{expr_at, define_at, call_at, constraint_at, rline_at, clocks_at, sline_at, no_brace, relation_at, member_at}
+use Rattle.ccsl_grammar.specs.Parser.{further_member_at, group_at, definition_at, is_definition, version_of, version_at, system_at, ends, file_at, word_at}
 use Rattle.ccsl_grammar.specs.File.{Parses}
 use Rattle.ccsl_grammar.specs.Verdict.{Verdict}
-use Rattle.ccsl_grammar.specs.Bare.{bare_spot, bare, bares, bare_prim, bare_signed, bare_term, bare_wterm, bare_test, bare_arg, bare_param, bare_relop, bare_expression, bare_line, bare_sline, bare_member, bare_definition, bare_file}
+use Rattle.ccsl_grammar.specs.Bare.{bare_spot, bare, bares, bare_prim, bare_signed, bare_term, bare_wterm, bare_test, bare_arg, bare_param, bare_relop}
+use Rattle.ccsl_grammar.specs.Bare.{bare_expression, bare_line, bare_sline, bare_member, bare_definition, bare_file}
 use Rattle.ccsl_grammar.specs.Canonical.{canonical_terminals}
 use Rattle.ccsl_grammar.specs.Laws.{CanonicalReadsBack}
-use Rattle.ccsl_grammar.proofs.Blind.{bared, Blind, give, stop, bind, option_bare, one, either, again, word_same, symbol_same, name_same, quoted_same, goes_on_same, sign_same, binop_same, expr_same, brace_same, definition_same, kept, option_kept, word_then, symbol_then, name_blind}
+use Rattle.ccsl_grammar.proofs.Blind.{bared, Blind, give, stop, bind, option_bare, one, either, again, word_same, symbol_same, name_same, quoted_same}
+use Rattle.ccsl_grammar.proofs.Blind.{goes_on_same, sign_same, binop_same, expr_same, brace_same, definition_same, kept, option_kept, word_then, symbol_then}
+use Rattle.ccsl_grammar.proofs.Blind.{name_blind}
 use Rattle.ccsl_grammar.proofs.Verdict.{reader_is_right, one_verdict}
 use Rattle.ccsl_grammar.proofs.Canonical.{canonical_parses}
 
@@ -97,10 +106,13 @@ signed_blind = bind kept bare_signed _ _ _ _ (one kept sign_of sign_is) (λ s. b
 
 term_blind : Blind bare_term term_at term_at
 unfolding term_at
-term_blind = bind bare_prim bare_term _ _ _ _ prim_blind (λ p. bind (map bare_signed) bare_term _ _ _ _ (again bare_signed is_sign sign_same signed_at signed_blind) (λ ps. give bare_term (record { first = p; rest = ps })))
+term_blind = bind bare_prim bare_term _ _ _ _ prim_blind
+    (λ p. bind (map bare_signed) bare_term _ _ _ _ (again bare_signed is_sign sign_same signed_at signed_blind)
+    (λ ps. give bare_term (record { first = p; rest = ps })))
 
 -- what a name makes
-named : {A : Type 0} (b : A → A) (whole : Spot → A) → ((x : Spot) → b (whole x) ≡ whole (bare_spot x)) → Blind b (name_at >>= λ x. given (whole x)) (name_at >>= λ x. given (whole x))
+named : {A : Type 0} (b : A → A) (whole : Spot → A) → ((x : Spot) → b (whole x) ≡ whole (bare_spot x))
+    → Blind b (name_at >>= λ x. given (whole x)) (name_at >>= λ x. given (whole x))
 named b whole h = bind bare_spot b _ _ _ _ name_blind (λ x. rw (← h x) (give b (whole x)))
 
 wterm_blind : Blind bare_wterm wterm_at wterm_at
@@ -129,7 +141,8 @@ test_blind = either bare_test (is_word w.Head) (word_same w.Head) _ _ _ _ (word_
 
 param_blind : Blind bare_param param_at param_at
 unfolding param_at kind_at
-param_blind = bind kept bare_param _ _ _ _ (one kept kind_of kind_is) (λ k. bind bare_spot bare_param _ _ _ _ name_blind (λ x. give bare_param (record { kind = k; name = x })))
+param_blind = bind kept bare_param _ _ _ _ (one kept kind_of kind_is)
+    (λ k. bind bare_spot bare_param _ _ _ _ name_blind (λ x. give bare_param (record { kind = k; name = x })))
 
 within_blind : Blind bare_relop (word_at w.Within >> within_at) (word_at w.Within >> within_at)
 unfolding within_at
@@ -139,7 +152,8 @@ module _ (two : Bool) where
   relop_blind : Blind bare_relop (relop_at two) (relop_at two)
   unfolding relop_at precedes_at
   relop_blind = either bare_relop (is_word w.Precedes) (word_same w.Precedes) _ _ _ _
-      (word_then bare_relop _ _ (either bare_relop (is_word w.Weakly) (word_same w.Weakly) _ _ _ _ (word_then bare_relop _ _ (give bare_relop rel.PrecedesWeakly) w.Weakly)
+      (word_then bare_relop _ _
+      (either bare_relop (is_word w.Weakly) (word_same w.Weakly) _ _ _ _ (word_then bare_relop _ _ (give bare_relop rel.PrecedesWeakly) w.Weakly)
       (either bare_relop (goes_on_by two w.Within) (goes_on_same two w.Within) _ _ _ _ within_blind (give bare_relop rel.Precedes))) w.Precedes)
       (one bare_relop relop_of relop_is)
 
@@ -150,7 +164,8 @@ module _ (two : Bool) where
       (word_then kept _ _ (word_then kept _ _ (give kept op.SampledWeakly) w.On) w.Weakly)
       (word_then kept _ _ (give kept op.Sampled) w.On)) w.Sampled)
       (either kept (is_word w.Upto) (word_same w.Upto) _ _ _ _
-      (word_then kept _ _ (either kept (goes_on_by two w.Weakly) (goes_on_same two w.Weakly) _ _ _ _ (word_then kept _ _ (give kept op.UptoWeakly) w.Weakly) (give kept op.Upto)) w.Upto)
+      (word_then kept _ _ (either kept (goes_on_by two w.Weakly) (goes_on_same two w.Weakly) _ _ _ _ (word_then kept _ _ (give kept op.UptoWeakly) w.Weakly)
+      (give kept op.Upto)) w.Upto)
       (one kept binop_of binop_is))
 
 -- ---- expressions
@@ -186,12 +201,14 @@ module _ (two : Bool) (inner : Reader Expression) (h : Blind bare_expression inn
   module _ (a : Expression) where
     binary_blind : Blind bare_expression (binary_at inner two (bare_expression a)) (binary_at inner two a)
     unfolding binary_at second_at
-    binary_blind = bind kept bare_expression _ _ _ _ (binop_blind two) (λ o. bind bare_expression bare_expression _ _ _ _ operand_blind (λ d. give bare_expression (EBinary o a d)))
+    binary_blind = bind kept bare_expression _ _ _ _ (binop_blind two)
+        (λ o. bind bare_expression bare_expression _ _ _ _ operand_blind (λ d. give bare_expression (EBinary o a d)))
 
     delayed_blind : Blind bare_expression (word_at w.Delayed >> delayed_at inner (bare_expression a)) (word_at w.Delayed >> delayed_at inner a)
     unfolding delayed_at
     delayed_blind = word_then bare_expression _ _ (bind bare_pair bare_expression _ _ _ _ num_blind
-        (λ n. word_then bare_expression _ _ (bind bare_expression bare_expression _ _ _ _ operand_blind (λ d. give bare_expression (EDelayed a n.0 n.1 d))) w.On)) w.Delayed
+        (λ n. word_then bare_expression _ _ (bind bare_expression bare_expression _ _ _ _ operand_blind (λ d. give bare_expression (EDelayed a n.0 n.1 d)))
+        w.On)) w.Delayed
 
     rest_blind : Blind bare_expression (rest_at inner two (bare_expression a)) (rest_at inner two a)
     unfolding rest_at
@@ -206,7 +223,8 @@ module _ (two : Bool) (inner : Reader Expression) (h : Blind bare_expression inn
   unfolding expr_with choice_at branches_at
   with_blind = either bare_expression (is_word w.If) (word_same w.If) _ _ _ _
       (word_then bare_expression _ _ (bind bare_test bare_expression _ _ _ _ test_blind (λ q. word_then bare_expression _ _
-      (bind bare_expression bare_expression _ _ _ _ h (λ a. word_then bare_expression _ _ (bind bare_expression bare_expression _ _ _ _ h (λ d. give bare_expression (EIf q a d))) w.Else)) w.Use)) w.If)
+      (bind bare_expression bare_expression _ _ _ _ h
+      (λ a. word_then bare_expression _ _ (bind bare_expression bare_expression _ _ _ _ h (λ d. give bare_expression (EIf q a d))) w.Else)) w.Use)) w.If)
       (bind bare_expression bare_expression _ _ _ _ operand_blind rest_blind)
 
 expr_blind : (two : Bool) (room : ℕ) → Blind bare_expression (expr_at two room) (expr_at two room)
@@ -223,32 +241,45 @@ module _ (two : Bool) (room : ℕ) where
   rline_blind : Blind bare_line (rline_at two room) (rline_at two room)
   unfolding rline_at define_at call_at constraint_at
   rline_blind = either bare_line (is_word w.Define) (word_same w.Define) _ _ _ _
-      (word_then bare_line _ _ (bind bare_spot bare_line _ _ _ _ name_blind (λ x. symbol_then bare_line _ _ (bind bare_expression bare_line _ _ _ _ (expr_blind two room) (λ e. symbol_then bare_line _ _ (give bare_line (LDefine x e)) 59)) 61)) w.Define)
+      (word_then bare_line _ _
+      (bind bare_spot bare_line _ _ _ _ name_blind
+      (λ x. symbol_then bare_line _ _
+      (bind bare_expression bare_line _ _ _ _ (expr_blind two room) (λ e. symbol_then bare_line _ _ (give bare_line (LDefine x e)) 59)) 61))
+      w.Define)
       (bind bare_spot bare_line _ _ _ _ name_blind (λ x. either bare_line (is_symbol 40) (symbol_same 40) _ _ _ _
       (symbol_then bare_line _ _ (bind (map bare_arg) bare_line _ _ _ _ args_blind (λ args. symbol_then bare_line _ _ (give bare_line (LCall x args)) 59)) 40)
-      (bind bare_relop bare_line _ _ _ _ (relop_blind two) (λ r. bind bare_spot bare_line _ _ _ _ name_blind (λ y. symbol_then bare_line _ _ (give bare_line (LConstraint x r y)) 59)))))
+      (bind bare_relop bare_line _ _ _ _ (relop_blind two)
+      (λ r. bind bare_spot bare_line _ _ _ _ name_blind (λ y. symbol_then bare_line _ _ (give bare_line (LConstraint x r y)) 59)))))
 
   sline_blind : Blind bare_sline (sline_at two room) (sline_at two room)
   unfolding sline_at clocks_at
   sline_blind = either bare_sline (is_word w.Clock) (word_same w.Clock) _ _ _ _
-      (word_then bare_sline _ _ (bind bare_spot bare_sline _ _ _ _ name_blind (λ x. bind (map bare_spot) bare_sline _ _ _ _ (furthers_blind bare_spot name_at name_blind) (λ xs. symbol_then bare_sline _ _ (give bare_sline (SClocks (x ∷ xs))) 59))) w.Clock)
+      (word_then bare_sline _ _
+      (bind bare_spot bare_sline _ _ _ _ name_blind
+      (λ x. bind (map bare_spot) bare_sline _ _ _ _ (furthers_blind bare_spot name_at name_blind)
+      (λ xs. symbol_then bare_sline _ _ (give bare_sline (SClocks (x ∷ xs))) 59))) w.Clock)
       (bind bare_line bare_sline _ _ _ _ rline_blind (λ l. give bare_sline (SLineOf l)))
 
   relation_blind : Blind bare_definition (word_at w.Relation >> relation_at two room) (word_at w.Relation >> relation_at two room)
   unfolding relation_at
-  relation_blind = word_then bare_definition _ _ (bind bare_spot bare_definition _ _ _ _ name_blind (λ x. symbol_then bare_definition _ _ (bind (map bare_param) bare_definition _ _ _ _ params_blind
-      (λ ps. symbol_then bare_definition _ _ (bind bare_line bare_definition _ _ _ _ rline_blind (λ l. bind (map bare_line) bare_definition _ _ _ _ (again bare_line no_brace brace_same (rline_at two room) rline_blind)
+  relation_blind = word_then bare_definition _ _
+      (bind bare_spot bare_definition _ _ _ _ name_blind (λ x. symbol_then bare_definition _ _ (bind (map bare_param) bare_definition _ _ _ _ params_blind
+      (λ ps. symbol_then bare_definition _ _
+      (bind bare_line bare_definition _ _ _ _ rline_blind
+      (λ l. bind (map bare_line) bare_definition _ _ _ _ (again bare_line no_brace brace_same (rline_at two room) rline_blind)
       (λ ls. symbol_then bare_definition _ _ (give bare_definition (DRelation x ps (l ∷ ls))) 125))) 123)) 40)) w.Relation
 
   member_blind : Blind bare_member (member_at two room) (member_at two room)
   unfolding member_at
   member_blind = bind bare_spot bare_member _ _ _ _ name_blind (λ x. symbol_then bare_member _ _ (bind (map bare_param) bare_member _ _ _ _ params_blind
-      (λ ps. symbol_then bare_member _ _ (bind bare_expression bare_member _ _ _ _ (expr_blind two room) (λ e. give bare_member (record { name = x; params = ps; body = e }))) 61)) 40)
+      (λ ps. symbol_then bare_member _ _
+      (bind bare_expression bare_member _ _ _ _ (expr_blind two room) (λ e. give bare_member (record { name = x; params = ps; body = e }))) 61)) 40)
 
   group_blind : Blind bare_definition (word_at w.Expression >> group_at two room) (word_at w.Expression >> group_at two room)
   unfolding group_at further_member_at
   group_blind = word_then bare_definition _ _ (bind bare_member bare_definition _ _ _ _ member_blind (λ m. bind (map bare_member) bare_definition _ _ _ _
-      (again bare_member (is_word w.And) (word_same w.And) _ (word_then bare_member _ _ member_blind w.And)) (λ ms. symbol_then bare_definition _ _ (give bare_definition (DGroup (m ∷ ms))) 59))) w.Expression
+      (again bare_member (is_word w.And) (word_same w.And) _ (word_then bare_member _ _ member_blind w.And))
+      (λ ms. symbol_then bare_definition _ _ (give bare_definition (DGroup (m ∷ ms))) 59))) w.Expression
 
   definition_blind : Blind bare_definition (definition_at two room) (definition_at two room)
   unfolding definition_at
@@ -256,7 +287,8 @@ module _ (two : Bool) (room : ℕ) where
 
   system_blind : Blind (map bare_sline) (system_at two room) (system_at two room)
   unfolding system_at
-  system_blind = word_then (map bare_sline) _ _ (symbol_then (map bare_sline) _ _ (bind (map bare_sline) (map bare_sline) _ _ _ _ (again bare_sline no_brace brace_same (sline_at two room) sline_blind)
+  system_blind = word_then (map bare_sline) _ _
+      (symbol_then (map bare_sline) _ _ (bind (map bare_sline) (map bare_sline) _ _ _ _ (again bare_sline no_brace brace_same (sline_at two room) sline_blind)
       (λ ls. symbol_then (map bare_sline) _ _ (give (map bare_sline) ls) 125)) 123) w.System
 
 version_blind : Blind kept version_at version_at
@@ -269,12 +301,16 @@ ends_at f (t ∷ ts) = refl
 
 file_blind : (room : ℕ) → Blind bare_file (file_at room) (file_at room)
 unfolding file_at
-file_blind room = bind kept bare_file _ _ _ _ version_blind (λ two. bind (map bare_definition) bare_file _ _ _ _ (again bare_definition is_definition definition_same (definition_at two room) (definition_blind two room))
-    (λ ds. bind (map bare_sline) bare_file _ _ _ _ (system_blind two room) (λ ls. record { at = ends_at (record { version = version two; definitions = ds; lines = ls }) })))
+file_blind room = bind kept bare_file _ _ _ _ version_blind
+    (λ two. bind (map bare_definition) bare_file _ _ _ _
+    (again bare_definition is_definition definition_same (definition_at two room) (definition_blind two room))
+    (λ ds. bind (map bare_sline) bare_file _ _ _ _ (system_blind two room)
+    (λ ls. record { at = ends_at (record { version = version two; definitions = ds; lines = ls }) })))
 
 -- ---- the law
 
-read_back : (room : ℕ) (f : PlainFile) (ts : List Terminal) (r : Reply PlainFile) → bared bare_file r ≡ took (bare_file f) [] → Verdict room ts r → (g : PlainFile) × Parses room ts g × (bare_file g ≡ bare_file f)
+read_back : (room : ℕ) (f : PlainFile) (ts : List Terminal) (r : Reply PlainFile) → bared bare_file r ≡ took (bare_file f) [] → Verdict room ts r
+    → (g : PlainFile) × Parses room ts g × (bare_file g ≡ bare_file f)
 read_back room f ts (took g rest) e v = (g, v.0, cc)
 read_back room f ts (stopped k rest) e v = absurd cc
 

@@ -5,7 +5,8 @@ use Rattle.ccsl_base.specs.declared.reserved.Reserved.{Reserved}
 use Rattle.ccsl_base.specs.declared.reserved.Reserved.TheVariants as w
 use Rattle.ccsl_grammar.specs.Terminals.{Terminal, word, symbol, name, quoted}
 use Rattle.ccsl_grammar.specs.Kinds.{is_word, is_symbol, is_name, is_quoted}
-use Rattle.ccsl_grammar.specs.Reader.{Fault, Reply, took, stopped, Reader, followed, ◌>>=◌, ◌>>◌, given, valued, accept, begins, picked, choose, many_within, many}
+use Rattle.ccsl_grammar.specs.Reader.{Fault, Reply, took, stopped, Reader, followed, ◌>>=◌, ◌>>◌, given, valued, accept, begins, picked, choose, many_within}
+use Rattle.ccsl_grammar.specs.Reader.{many}
 use Rattle.ccsl_grammar.specs.Parser.{passed, word_at, symbol_at, name_of, name_at, goes_on_by, is_sign, is_binop, is_expr, no_brace, is_definition}
 use Rattle.ccsl_grammar.specs.Bare.{bare_spot, bare, bares}
 
@@ -94,7 +95,8 @@ quoted_same _ = refl
 pub goes_on_same : (two : Bool) (v : Reserved) (t : Terminal) → goes_on_by two v (bare t) ≡ goes_on_by two v t
 goes_on_same two v t = ap (λ b. b && two) (word_same v t)
 
-either_same : (p q : Terminal → Bool) → ((t : Terminal) → p (bare t) ≡ p t) → ((t : Terminal) → q (bare t) ≡ q t) → (t : Terminal) → (p (bare t) || q (bare t)) ≡ (p t || q t)
+either_same : (p q : Terminal → Bool) → ((t : Terminal) → p (bare t) ≡ p t) → ((t : Terminal) → q (bare t) ≡ q t) → (t : Terminal)
+    → (p (bare t) || q (bare t)) ≡ (p t || q t)
 either_same p q h i t = rw (h t, i t) refl
 
 pub sign_same : (t : Terminal) → is_sign (bare t) ≡ is_sign t
@@ -127,11 +129,13 @@ option_kept (Some v) = refl
 module _ {B : Type 0} (c : B → B) (g' g : Reader B) (h : Blind c g' g) where
   pub word_then : (v : Reserved) → Blind c (word_at v >> g') (word_at v >> g)
   unfolding word_at
-  word_then v = bind kept c _ _ (λ _. g') (λ _. g) (one kept (λ t. passed (is_word v t)) (λ t. rw (word_same v t) (option_kept (passed (is_word v t))))) (λ _. h)
+  word_then v = bind kept c _ _ (λ _. g') (λ _. g) (one kept (λ t. passed (is_word v t)) (λ t. rw (word_same v t) (option_kept (passed (is_word v t)))))
+      (λ _. h)
 
   pub symbol_then : (b : ℕ) → Blind c (symbol_at b >> g') (symbol_at b >> g)
   unfolding symbol_at
-  symbol_then b = bind kept c _ _ (λ _. g') (λ _. g) (one kept (λ t. passed (is_symbol b t)) (λ t. rw (symbol_same b t) (option_kept (passed (is_symbol b t))))) (λ _. h)
+  symbol_then b = bind kept c _ _ (λ _. g') (λ _. g) (one kept (λ t. passed (is_symbol b t)) (λ t. rw (symbol_same b t) (option_kept (passed (is_symbol b t)))))
+      (λ _. h)
 
 name_is : (t : Terminal) → name_of (bare t) ≡ option_bare bare_spot (name_of t)
 name_is (name x) = refl

@@ -8,13 +8,19 @@ use Rattle.std.proofs.lemmas.Grind.{flat_map-append}
 use Rattle.ccsl_base.specs.declared.reserved.Reserved.TheVariants as w
 use Rattle.ccsl_ast.specs.declared.spot.Spot.{Spot}
 use Rattle.ccsl_ast.specs.declared.definition.Param.{Param}
-use Rattle.ccsl_ast.specs.Trees.{Expression, EName, ECall, ENever, EBinary, EDelay, EAwait, EFilter, EDelayed, EIf, Line, LDefine, LConstraint, LCall, SLine, SClocks, SLineOf, PlainMember, PlainDefinition, DRelation, DGroup, PlainFile, binop_in, relop_in}
+use Rattle.ccsl_ast.specs.Trees.{Expression, EName, ECall, ENever, EBinary, EDelay, EAwait, EFilter, EDelayed, EIf, Line, LDefine, LConstraint, LCall, SLine}
+use Rattle.ccsl_ast.specs.Trees.{SClocks, SLineOf, PlainMember, PlainDefinition, DRelation, DGroup, PlainFile, binop_in, relop_in}
 use Rattle.ccsl_ast.specs.Depth as tree
 use Rattle.ccsl_ast.specs.Depth.{stands_in_parens, depth, greatest}
-use Rattle.ccsl_ast.specs.Kept.{spot_kept, number_kept, term_kept, wterm_kept, test_kept, relop_kept, expression_kept, rline_kept, sline_kept, param_kept, member_kept, definition_kept, is_two, file_kept}
+use Rattle.ccsl_ast.specs.Kept.{spot_kept, number_kept, term_kept, wterm_kept, test_kept, relop_kept, expression_kept, rline_kept, sline_kept, param_kept}
+use Rattle.ccsl_ast.specs.Kept.{member_kept, definition_kept, is_two, file_kept}
 use Rattle.ccsl_grammar.specs.Terminals.{Terminal, word, name, number}
-use Rattle.ccsl_grammar.specs.Grammar.{opening, closing, semicolon, left_brace, right_brace, params_spelled, alone, binary, delay, await, filter, delayed, choice, named, called, never, parens, expr_spelled, operand_spelled, expr_tree, operand_tree, define, constrain, call, rline_spelled, rline_tree, clocks, line, sline_spelled, sline_tree, member_spelled, further_member, member_tree, relation, group, definition_spelled, definition_tree, version, file_spelled, file_tree}
-use Rattle.ccsl_grammar.specs.Canonical.{operand_tokens, expr_tokens, rline_tokens, sline_tokens, member_tokens, further_tokens, TextLine, body_lines, definition_lines, system_lines, canonical_terminals}
+use Rattle.ccsl_grammar.specs.Grammar.{opening, closing, semicolon, left_brace, right_brace, params_spelled, alone, binary, delay, await, filter, delayed}
+use Rattle.ccsl_grammar.specs.Grammar.{choice, named, called, never, parens, expr_spelled, operand_spelled, expr_tree, operand_tree, define, constrain, call}
+use Rattle.ccsl_grammar.specs.Grammar.{rline_spelled, rline_tree, clocks, line, sline_spelled, sline_tree, member_spelled, further_member, member_tree}
+use Rattle.ccsl_grammar.specs.Grammar.{relation, group, definition_spelled, definition_tree, version, file_spelled, file_tree}
+use Rattle.ccsl_grammar.specs.Canonical.{operand_tokens, expr_tokens, rline_tokens, sline_tokens, member_tokens, further_tokens, TextLine, body_lines}
+use Rattle.ccsl_grammar.specs.Canonical.{definition_lines, system_lines, canonical_terminals}
 use Rattle.ccsl_grammar.specs.Laws.{CanonicalParses}
 use Rattle.ccsl_grammar.proofs.Depth.{expr_depth, operand_depth, rline_depth, sline_depth, member_depth, definition_depth, derivation_depth, file_shallow}
 
@@ -56,40 +62,83 @@ module _ (two : Bool) where
       let q = and_parts (expression_kept two a) (expression_kept two d) p.1 in
       let x = (canonical a q.0).operand in
       let y = (canonical d q.1).operand in
-      in_parens (EBinary op a d) refl (record { whole = binary op p.0 x.whole y.whole; spelled_is = rw (x.spelled_is, y.spelled_is) refl; tree_is = rw (x.tree_is, y.tree_is) refl; depth_is = rw (x.depth_is, y.depth_is) (omega arith) })
+      in_parens (EBinary op a d) refl (record {
+        whole = binary op p.0 x.whole y.whole;
+        spelled_is = rw (x.spelled_is, y.spelled_is) refl;
+        tree_is =
+            rw (x.tree_is, y.tree_is) refl;
+        depth_is = rw (x.depth_is, y.depth_is) (omega arith);
+      })
   canonical (EDelay a m) k =
       let x = (canonical a (and_parts (expression_kept two a) (term_kept m) k).0).operand in
-      in_parens (EDelay a m) refl (record { whole = delay x.whole m; spelled_is = rw x.spelled_is refl; tree_is = rw x.tree_is refl; depth_is = rw x.depth_is (omega arith) })
+      in_parens (EDelay a m) refl (record {
+        whole = delay x.whole m;
+        spelled_is = rw x.spelled_is refl;
+        tree_is = rw x.tree_is refl;
+        depth_is =
+            rw x.depth_is (omega arith);
+      })
   canonical (EAwait a m) k =
       let x = (canonical a (and_parts (expression_kept two a) (term_kept m) k).0).operand in
-      in_parens (EAwait a m) refl (record { whole = await x.whole m; spelled_is = rw x.spelled_is refl; tree_is = rw x.tree_is refl; depth_is = rw x.depth_is (omega arith) })
+      in_parens (EAwait a m) refl (record {
+        whole = await x.whole m;
+        spelled_is = rw x.spelled_is refl;
+        tree_is = rw x.tree_is refl;
+        depth_is =
+            rw x.depth_is (omega arith);
+      })
   canonical (EFilter a m) k =
       let x = (canonical a (and_parts (expression_kept two a) (wterm_kept m) k).0).operand in
-      in_parens (EFilter a m) refl (record { whole = filter x.whole m; spelled_is = rw x.spelled_is refl; tree_is = rw x.tree_is refl; depth_is = rw x.depth_is (omega arith) })
+      in_parens (EFilter a m) refl (record {
+        whole = filter x.whole m;
+        spelled_is = rw x.spelled_is refl;
+        tree_is = rw x.tree_is refl;
+        depth_is =
+            rw x.depth_is (omega arith);
+      })
   canonical (EDelayed a at n d) k =
       let p = and_parts (expression_kept two a) (number_kept n && expression_kept two d) k in
       let q = and_parts (number_kept n) (expression_kept two d) p.1 in
       let x = (canonical a p.0).operand in
       let y = (canonical d q.1).operand in
-      in_parens (EDelayed a at n d) refl (record { whole = delayed x.whole at n y.whole; spelled_is = rw (x.spelled_is, y.spelled_is) refl; tree_is = rw (x.tree_is, y.tree_is) refl; depth_is = rw (x.depth_is, y.depth_is) (omega arith) })
+      in_parens (EDelayed a at n d) refl (record {
+        whole = delayed x.whole at n y.whole;
+        spelled_is = rw (x.spelled_is, y.spelled_is) refl;
+        tree_is =
+            rw (x.tree_is, y.tree_is) refl;
+        depth_is = rw (x.depth_is, y.depth_is) (omega arith);
+      })
   canonical (EIf q a d) k =
       let p = and_parts (test_kept q) (expression_kept two a && expression_kept two d) k in
       let r = and_parts (expression_kept two a) (expression_kept two d) p.1 in
       let x = (canonical a r.0).expr in
       let y = (canonical d r.1).expr in
-      in_parens (EIf q a d) refl (record { whole = choice q x.whole y.whole; spelled_is = rw (x.spelled_is, y.spelled_is) refl; tree_is = rw (x.tree_is, y.tree_is) refl; depth_is = rw (x.depth_is, y.depth_is) (omega arith) })
+      in_parens (EIf q a d) refl (record {
+        whole = choice q x.whole y.whole;
+        spelled_is = rw (x.spelled_is, y.spelled_is) refl;
+        tree_is =
+            rw (x.tree_is, y.tree_is) refl;
+        depth_is = rw (x.depth_is, y.depth_is) (omega arith);
+      })
 
 -- ---- lists
 
 module _ {C T : Type 0} (spelled : C → List Terminal) (tree : C → T) (depth : C → ℕ) (tokens : T → List Terminal) (level : T → ℕ) (test : T → Bool)
     (one : (t : T) → test t ≡ true → Derives spelled tree depth (tokens t) t (level t)) where
-  each : (ts : List T) → list_all test ts ≡ true → Derives (flat_map spelled) (map tree) (λ cs. greatest (map depth cs)) (flat_map tokens ts) ts (greatest (map level ts))
+  each : (ts : List T) → list_all test ts ≡ true
+      → Derives (flat_map spelled) (map tree) (λ cs. greatest (map depth cs)) (flat_map tokens ts) ts (greatest (map level ts))
   each [] k = record { whole = []; spelled_is = refl; tree_is = refl; depth_is = refl }
   each (t ∷ ts) k =
       let p = and_parts (test t) (list_all test ts) k in
       let x = one t p.0 in
       let y = each ts p.1 in
-      record { whole = x.whole ∷ y.whole; spelled_is = rw (x.spelled_is, y.spelled_is) refl; tree_is = rw (x.tree_is, y.tree_is) refl; depth_is = rw (x.depth_is, y.depth_is) refl }
+      record {
+        whole = x.whole ∷ y.whole;
+        spelled_is = rw (x.spelled_is, y.spelled_is) refl;
+        tree_is = rw (x.tree_is, y.tree_is) refl;
+        depth_is =
+            rw (x.depth_is, y.depth_is) refl;
+      }
 
 -- ---- the terminals of lines
 
@@ -122,13 +171,21 @@ module _ (two : Bool) where
 
   -- ---- definitions
 
-  member_canonical : (m : PlainMember) → member_kept two m ≡ true → Derives (member_spelled {two = two}) member_tree member_depth (member_tokens m) m (tree.member_depth m)
+  member_canonical : (m : PlainMember) → member_kept two m ≡ true
+      → Derives (member_spelled {two = two}) member_tree member_depth (member_tokens m) m (tree.member_depth m)
   member_canonical m k =
       let p = and_parts (spot_kept m.name) (list_all param_kept m.params && expression_kept two m.body) k in
       let c = (canonical two m.body (and_parts (list_all param_kept m.params) (expression_kept two m.body) p.1).1).expr in
-      record { whole = record { name = m.name; params = m.params; body = c.whole }; spelled_is = rw c.spelled_is refl; tree_is = rw c.tree_is refl; depth_is = c.depth_is }
+      record {
+        whole = record { name = m.name; params = m.params; body = c.whole };
+        spelled_is = rw c.spelled_is refl;
+        tree_is = rw c.tree_is refl;
+        depth_is =
+            c.depth_is;
+      }
 
-  further_canonical : (m : PlainMember) → member_kept two m ≡ true → Derives (further_member {two = two}) member_tree member_depth (further_tokens m) m (tree.member_depth m)
+  further_canonical : (m : PlainMember) → member_kept two m ≡ true
+      → Derives (further_member {two = two}) member_tree member_depth (further_tokens m) m (tree.member_depth m)
   further_canonical m k =
       let c = member_canonical m k in
       record { whole = c.whole; spelled_is = ap (λ z. word w.And ∷ z) c.spelled_is; tree_is = c.tree_is; depth_is = c.depth_is }
@@ -179,7 +236,8 @@ tokens_append xs ys = flat_map-append (λ l. l.tokens) xs ys
 
 definitions_tokens : (ds : List PlainDefinition) → tokens_in (flat_map definition_lines ds) ≡ flat_map (λ d. tokens_in (definition_lines d)) ds
 definitions_tokens [] = refl
-definitions_tokens (d ∷ ds) = tokens_append (definition_lines d) (flat_map definition_lines ds) ∙ ap (λ z. tokens_in (definition_lines d) ++ z) (definitions_tokens ds)
+definitions_tokens (d ∷ ds) =
+    tokens_append (definition_lines d) (flat_map definition_lines ds) ∙ ap (λ z. tokens_in (definition_lines d) ++ z) (definitions_tokens ds)
 
 -- the version of a kept file
 version_kept : (n : ℕ) → (nat_eq n 1 || nat_eq n 2) ≡ true → version (nat_eq n 2) ≡ n
@@ -195,7 +253,8 @@ file_canonical f k =
     let p = and_parts (nat_eq f.version 1 || is_two f) (list_all (definition_kept two) f.definitions && list_all (sline_kept two) f.lines) k in
     let q = and_parts (list_all (definition_kept two) f.definitions) (list_all (sline_kept two) f.lines) p.1 in
     let v = version_kept f.version p.0 in
-    let a = each (definition_spelled {two = two}) definition_tree definition_depth (λ d. tokens_in (definition_lines d)) tree.definition_depth (definition_kept two) (definition_canonical two) f.definitions q.0 in
+    let a = each (definition_spelled {two = two}) definition_tree definition_depth (λ d. tokens_in (definition_lines d)) tree.definition_depth
+    (definition_kept two) (definition_canonical two) f.definitions q.0 in
     let c = each (sline_spelled {two = two}) sline_tree sline_depth sline_tokens tree.sline_depth (sline_kept two) (sline_canonical two) f.lines q.1 in
     record {
       whole = record { at = 0; two = two; definitions = a.whole; lines = c.whole };

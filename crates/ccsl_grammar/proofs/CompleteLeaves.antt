@@ -20,8 +20,10 @@ use Rattle.ccsl_ast.specs.declared.definition.Param.{Param}
 use Rattle.ccsl_grammar.specs.Terminals.{Terminal, word, name, number}
 use Rattle.ccsl_grammar.specs.Kinds.{is_word, is_symbol, is_quoted}
 use Rattle.ccsl_grammar.specs.Reader.{took, Reader, followed, ◌>>=◌, ◌>>◌, given, begins, many}
-use Rattle.ccsl_grammar.specs.Grammar.{comma, closing, equals, below, further_spelled, prim_spelled, signed_spelled, term_spelled, wterm_spelled, test_spelled, arg_spelled, kind_spelled, param_spelled, clock_spelled}
-use Rattle.ccsl_grammar.specs.Parser.{word_at, symbol_at, name_at, quoted_at, further_at, list_at, prim_at, sign_at, is_sign, signed_at, term_at, wterm_at, comparison_at, test_at, arg_at, kind_at, param_at}
+use Rattle.ccsl_grammar.specs.Grammar.{comma, closing, equals, below, further_spelled, prim_spelled, signed_spelled, term_spelled, wterm_spelled, test_spelled}
+use Rattle.ccsl_grammar.specs.Grammar.{arg_spelled, kind_spelled, param_spelled, clock_spelled}
+use Rattle.ccsl_grammar.specs.Parser.{word_at, symbol_at, name_at, quoted_at, further_at, list_at, prim_at, sign_at, is_sign, signed_at, term_at, wterm_at}
+use Rattle.ccsl_grammar.specs.Parser.{comparison_at, test_at, arg_at, kind_at, param_at}
 use Rattle.ccsl_grammar.proofs.Parts.{Self}
 use Rattle.ccsl_grammar.proofs.Leaves.{some_spot, signed_reads, further_reads, closed_spelled, arg_reads, param_reads, clock_reads}
 use Rattle.ccsl_grammar.proofs.Outcome.{many_self_complete}
@@ -47,15 +49,18 @@ unfolding term_at
 term_complete t rest b = rw (
   append_assoc (prim_spelled t.first) (flat_map signed_spelled t.rest) rest,
   prim_complete t.first (flat_map signed_spelled t.rest ++ rest),
-  many_self_complete signed_spelled is_sign signed_at (λ z. Unit {0}) (λ c. omega arith) signed_reads signed_goes_on (λ c z. tt) (λ c z u. signed_complete c z) t.rest rest b tt,
+  many_self_complete signed_spelled is_sign signed_at (λ z. Unit {0}) (λ c. omega arith) signed_reads signed_goes_on (λ c z. tt) (λ c z u. signed_complete c z)
+      t.rest rest b tt,
 ) refl
 
 -- a sum begins with a number or a name
-prim_first : (test : Terminal → Bool) → ((at n : ℕ) → test (number at n) ≡ false) → ((x : Spot) → test (name x) ≡ false) → (p : Primary) (ps z : List Terminal) → begins test ((prim_spelled p ++ ps) ++ z) ≡ false
+prim_first : (test : Terminal → Bool) → ((at n : ℕ) → test (number at n) ≡ false) → ((x : Spot) → test (name x) ≡ false) → (p : Primary) (ps z : List Terminal)
+    → begins test ((prim_spelled p ++ ps) ++ z) ≡ false
 prim_first test h i (prim.Num at n) ps z = h at n
 prim_first test h i (prim.Name x) ps z = i x
 
-term_first : (test : Terminal → Bool) → ((at n : ℕ) → test (number at n) ≡ false) → ((x : Spot) → test (name x) ≡ false) → (t : Term) (z : List Terminal) → begins test (term_spelled t ++ z) ≡ false
+term_first : (test : Terminal → Bool) → ((at n : ℕ) → test (number at n) ≡ false) → ((x : Spot) → test (name x) ≡ false) → (t : Term) (z : List Terminal)
+    → begins test (term_spelled t ++ z) ≡ false
 term_first test h i t z = prim_first test h i t.first (flat_map signed_spelled t.rest) z
 
 -- ---- lists
@@ -66,17 +71,21 @@ module _ {C : Type 0} (spelled : C → List Terminal) (item : Reader C) (some : 
   unfolding further_at symbol_at
   further_complete c z h = complete c z h
 
-  pub furthers_complete : (cs : List C) (rest : List Terminal) → begins (is_symbol 44) rest ≡ false → Follows rest → many (is_symbol 44) (further_at item) (flat_map (further_spelled spelled) cs ++ rest) ≡ took cs rest
-  furthers_complete cs rest b h = many_self_complete (further_spelled spelled) (is_symbol 44) (further_at item) Follows (λ c. omega arith) (further_reads spelled item some reads)
+  pub furthers_complete : (cs : List C) (rest : List Terminal) → begins (is_symbol 44) rest ≡ false → Follows rest
+      → many (is_symbol 44) (further_at item) (flat_map (further_spelled spelled) cs ++ rest) ≡ took cs rest
+  furthers_complete cs rest b h =
+      many_self_complete (further_spelled spelled) (is_symbol 44) (further_at item) Follows (λ c. omega arith) (further_reads spelled item some reads)
       (λ c z. refl) (λ c z. follows_comma (spelled c ++ z)) further_complete cs rest b h
 
-  module _ (follows_closing : (z : List Terminal) → Follows (closing ∷ z)) (first : (c : C) (z : List Terminal) → begins (is_symbol 41) (spelled c ++ z) ≡ false) where
+  module _ (follows_closing : (z : List Terminal) → Follows (closing ∷ z))
+      (first : (c : C) (z : List Terminal) → begins (is_symbol 41) (spelled c ++ z) ≡ false) where
     -- what stands behind the first
     next : (cs : List C) (rest : List Terminal) → Follows (flat_map (further_spelled spelled) cs ++ closing ∷ rest)
     next [] rest = follows_closing rest
     next (c ∷ cs) rest = follows_comma ((spelled c ++ flat_map (further_spelled spelled) cs) ++ closing ∷ rest)
 
-    list_open : (c : C) (z : List Terminal) → list_at item (spelled c ++ z) ≡ followed (item (spelled c ++ z)) (λ v. many (is_symbol 44) (further_at item) >>= λ vs. symbol_at 41 >> given (v ∷ vs))
+    list_open : (c : C) (z : List Terminal)
+        → list_at item (spelled c ++ z) ≡ followed (item (spelled c ++ z)) (λ v. many (is_symbol 44) (further_at item) >>= λ vs. symbol_at 41 >> given (v ∷ vs))
     unfolding list_at
     list_open c z = rw (first c z) refl
 
@@ -84,7 +93,9 @@ module _ {C : Type 0} (spelled : C → List Terminal) (item : Reader C) (some : 
     unfolding list_at symbol_at
     list_nothing rest = refl
 
-    list_close : (c : C) (cs : List C) (rest : List Terminal) → (many (is_symbol 44) (further_at item) >>= λ vs. symbol_at 41 >> given (c ∷ vs)) (flat_map (further_spelled spelled) cs ++ closing ∷ rest) ≡ took (c ∷ cs) rest
+    list_close : (c : C) (cs : List C) (rest : List Terminal)
+        → (many (is_symbol 44) (further_at item) >>= λ vs. symbol_at 41 >> given (c ∷ vs)) (flat_map (further_spelled spelled) cs ++ closing ∷ rest) ≡ took
+        (c ∷ cs) rest
     unfolding symbol_at
     list_close c cs rest = rw (furthers_complete cs (closing ∷ rest) refl (follows_closing rest)) refl
 
@@ -115,21 +126,28 @@ compare_below a b rest h = rw (term_complete b rest h) refl
 
 test_open : (a : Term) (z : List Terminal) → begins is_sign z ≡ false → test_at (term_spelled a ++ z) ≡ comparison_at a z
 unfolding test_at
-test_open a z h = rw (term_first (is_word w.Head) (λ at n. refl) (λ x. refl) a z, term_first (is_word w.Ended) (λ at n. refl) (λ x. refl) a z, term_complete a z h) refl
+test_open a z h = rw (
+  term_first (is_word w.Head) (λ at n. refl) (λ x. refl) a z,
+  term_first (is_word w.Ended) (λ at n. refl) (λ x. refl) a z,
+  term_complete a z h,
+) refl
 
 test_word : (x : Spot) (z : List Terminal) → (test_at (word w.Head ∷ name x ∷ z) ≡ took (Head x) z) × (test_at (word w.Ended ∷ name x ∷ z) ≡ took (Ended x) z)
 unfolding test_at word_at name_at
 test_word x z = (refl, refl)
 
 pub test_complete : (q : Test) (rest : List Terminal) → begins is_sign rest ≡ false → test_at (test_spelled q ++ rest) ≡ took q rest
-test_complete (Equal a b) rest h = rw (append_assoc (term_spelled a) (equals ∷ term_spelled b) rest) (test_open a (equals ∷ (term_spelled b ++ rest)) refl ∙ compare a b rest h)
-test_complete (Less a b) rest h = rw (append_assoc (term_spelled a) (below ∷ term_spelled b) rest) (test_open a (below ∷ (term_spelled b ++ rest)) refl ∙ compare_below a b rest h)
+test_complete (Equal a b) rest h =
+    rw (append_assoc (term_spelled a) (equals ∷ term_spelled b) rest) (test_open a (equals ∷ (term_spelled b ++ rest)) refl ∙ compare a b rest h)
+test_complete (Less a b) rest h =
+    rw (append_assoc (term_spelled a) (below ∷ term_spelled b) rest) (test_open a (below ∷ (term_spelled b ++ rest)) refl ∙ compare_below a b rest h)
 test_complete (Head x) rest h = (test_word x rest).0
 test_complete (Ended x) rest h = (test_word x rest).1
 
 arg_complete : (a : Argument) (rest : List Terminal) → begins is_sign rest ≡ false → arg_at (arg_spelled a ++ rest) ≡ took a rest
 unfolding arg_at word_at name_at quoted_at
-arg_complete (arg.Term t) rest h = rw (term_first is_quoted (λ at n. refl) (λ x. refl) t rest, term_first (is_word w.Tail) (λ at n. refl) (λ x. refl) t rest, term_complete t rest h) refl
+arg_complete (arg.Term t) rest h =
+    rw (term_first is_quoted (λ at n. refl) (λ x. refl) t rest, term_first (is_word w.Tail) (λ at n. refl) (λ x. refl) t rest, term_complete t rest h) refl
 arg_complete (arg.Text at bytes) rest h = refl
 arg_complete (arg.Tail x) rest h = refl
 
@@ -157,11 +175,13 @@ kind_first kind.Number = refl
 kind_first kind.Word = refl
 
 pub params_complete : (ps : List Param) (rest : List Terminal) → list_at param_at (closed_spelled param_spelled ps ++ rest) ≡ took ps rest
-params_complete = list_complete param_spelled param_at (record { kind = kind.Clock; name = some_spot }) param_reads (λ z. Unit {0}) (λ z. tt) (λ p z h. param_complete p z) (λ z. tt) (λ p z. kind_first p.kind)
+params_complete = list_complete param_spelled param_at (record { kind = kind.Clock; name = some_spot }) param_reads (λ z. Unit {0}) (λ z. tt)
+    (λ p z h. param_complete p z) (λ z. tt) (λ p z. kind_first p.kind)
 
 clock_complete : (x : Spot) (z : List Terminal) → name_at (clock_spelled x ++ z) ≡ took x z
 unfolding name_at
 clock_complete x z = refl
 
-pub clocks_complete : (xs : List Spot) (rest : List Terminal) → begins (is_symbol 44) rest ≡ false → many (is_symbol 44) (further_at name_at) (flat_map (further_spelled clock_spelled) xs ++ rest) ≡ took xs rest
+pub clocks_complete : (xs : List Spot) (rest : List Terminal) → begins (is_symbol 44) rest ≡ false
+    → many (is_symbol 44) (further_at name_at) (flat_map (further_spelled clock_spelled) xs ++ rest) ≡ took xs rest
 clocks_complete xs rest b = furthers_complete clock_spelled name_at some_spot clock_reads (λ z. Unit {0}) (λ z. tt) (λ x z h. clock_complete x z) xs rest b tt

@@ -4,7 +4,10 @@ use Rattle.std.specs.List.{flat_map}
 use Rattle.ccsl_base.specs.declared.reserved.Reserved.TheVariants as w
 use Rattle.ccsl_ast.specs.Depth.{greatest}
 use Rattle.ccsl_grammar.specs.Terminals.{Terminal, word, number}
-use Rattle.ccsl_grammar.specs.Grammar.{closing, semicolon, right_brace, binop_spelled, term_spelled, wterm_spelled, Expr, alone, binary, delay, await, filter, delayed, choice, Operand, named, called, never, parens, expr_spelled, operand_spelled, Rline, define, constrain, call, rline_spelled, Sline, clocks, line, sline_spelled, Member, further_member, Definition, relation, group, definition_spelled, Derivation, system_spelled}
+use Rattle.ccsl_grammar.specs.Grammar.{closing, semicolon, right_brace, binop_spelled, term_spelled, wterm_spelled, Expr, alone, binary, delay, await, filter}
+use Rattle.ccsl_grammar.specs.Grammar.{delayed, choice, Operand, named, called, never, parens, expr_spelled, operand_spelled, Rline, define, constrain, call}
+use Rattle.ccsl_grammar.specs.Grammar.{rline_spelled, Sline, clocks, line, sline_spelled, Member, further_member, Definition, relation, group}
+use Rattle.ccsl_grammar.specs.Grammar.{definition_spelled, Derivation, system_spelled}
 use Rattle.ccsl_grammar.specs.Deep.{expr_deep, operand_deep, all_deep, rline_deep, sline_deep, member_deep, definition_deep, file_deep}
 
 -- ---- the depth of a derivation: the greatest level of an expression in it
@@ -56,12 +59,16 @@ mutual
   expr_shallow zero (delayed a at n d) after h = absurd (omega arith)
   expr_shallow zero (choice q a d) after h = absurd (omega arith)
   expr_shallow (suc room) (alone o) after h = operand_shallow room o after (omega arith)
-  expr_shallow (suc room) (binary op v a d) after h = rw (operand_shallow room a (binop_spelled op ++ (operand_spelled d ++ after)) (omega arith)) (operand_shallow room d after (omega arith))
+  expr_shallow (suc room) (binary op v a d) after h =
+      rw (operand_shallow room a (binop_spelled op ++ (operand_spelled d ++ after)) (omega arith)) (operand_shallow room d after (omega arith))
   expr_shallow (suc room) (delay a m) after h = operand_shallow room a (word w.Delay ∷ (term_spelled m ++ after)) (omega arith)
   expr_shallow (suc room) (await a m) after h = operand_shallow room a (word w.Await ∷ (term_spelled m ++ after)) (omega arith)
   expr_shallow (suc room) (filter a m) after h = operand_shallow room a (word w.Filter ∷ (wterm_spelled m ++ after)) (omega arith)
-  expr_shallow (suc room) (delayed a at n d) after h = rw (operand_shallow room a (word w.Delayed ∷ number at n ∷ word w.On ∷ (operand_spelled d ++ after)) (omega arith)) (operand_shallow room d after (omega arith))
-  expr_shallow (suc room) (choice q a d) after h = rw (expr_shallow room a (word w.Else ∷ (expr_spelled d ++ after)) (omega arith)) (expr_shallow room d after (omega arith))
+  expr_shallow (suc room) (delayed a at n d) after h =
+      rw (operand_shallow room a (word w.Delayed ∷ number at n ∷ word w.On ∷ (operand_spelled d ++ after)) (omega arith))
+      (operand_shallow room d after (omega arith))
+  expr_shallow (suc room) (choice q a d) after h =
+      rw (expr_shallow room a (word w.Else ∷ (expr_spelled d ++ after)) (omega arith)) (expr_shallow room d after (omega arith))
 
   operand_shallow : {two : Bool} (room : ℕ) (o : Operand two) (after : List Terminal) → operand_depth o ≤ room → operand_deep room o after ≡ None
   operand_shallow room (named x) after h = refl
@@ -94,10 +101,14 @@ module _ (two : Bool) (room : ℕ) where
 
   definition_shallow : (d : Definition two) (after : List Terminal) → definition_depth d ≤ room → definition_deep room d after ≡ None
   definition_shallow (relation x ps l ls) after h =
-      rw (rline_shallow l (flat_map rline_spelled ls ++ right_brace ∷ after) (omega arith)) (all_shallow rline_spelled (rline_deep room) rline_depth room rline_shallow ls (right_brace ∷ after) (omega arith))
+      rw (rline_shallow l (flat_map rline_spelled ls ++ right_brace ∷ after) (omega arith))
+      (all_shallow rline_spelled (rline_deep room) rline_depth room rline_shallow ls (right_brace ∷ after) (omega arith))
   definition_shallow (group m ms) after h =
-      rw (member_shallow m (flat_map further_member ms ++ semicolon ∷ after) (omega arith)) (all_shallow further_member (member_deep room) member_depth room member_shallow ms (semicolon ∷ after) (omega arith))
+      rw (member_shallow m (flat_map further_member ms ++ semicolon ∷ after) (omega arith))
+      (all_shallow further_member (member_deep room) member_depth room member_shallow ms (semicolon ∷ after) (omega arith))
 
 pub file_shallow : (room : ℕ) (d : Derivation) (after : List Terminal) → derivation_depth d ≤ room → file_deep room d after ≡ None
-file_shallow room d after h = rw (all_shallow definition_spelled (definition_deep room) definition_depth room (definition_shallow d.two room) d.definitions (system_spelled d.lines ++ after) (omega arith))
+file_shallow room d after h =
+    rw (all_shallow definition_spelled (definition_deep room) definition_depth room (definition_shallow d.two room) d.definitions
+    (system_spelled d.lines ++ after) (omega arith))
     (all_shallow sline_spelled (sline_deep room) sline_depth room (sline_shallow d.two room) d.lines (right_brace ∷ after) (omega arith))

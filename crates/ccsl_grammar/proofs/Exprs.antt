@@ -13,16 +13,21 @@ use Rattle.ccsl_grammar.specs.Kinds.{is_word, is_symbol, is_name}
 use Rattle.ccsl_grammar.specs.Reader.{Fault, no_syntax, too_deep, stopped, Reader, ◌>>=◌, ◌>>◌, given, begins}
 use Rattle.ccsl_grammar.specs.Deep.{expr_deep, operand_deep}
 use Rattle.ccsl_grammar.specs.Places.{BeginsDeep, Stops, Is}
-use Rattle.ccsl_grammar.specs.Grammar.{opening, closing, arg_spelled, binop_spelled, term_spelled, wterm_spelled, test_spelled, Expr, alone, binary, delay, await, filter, delayed, choice, Operand, named, called, never, parens, expr_spelled, operand_spelled, expr_tree, operand_tree}
-use Rattle.ccsl_grammar.specs.Parser.{word_at, arg_at, term_at, wterm_at, named_at, parens_at, operand_at, is_binop, binary_at, second_at, delayed_at, delay_at, await_at, filter_at, rest_at, branches_at, choice_at, expr_with, is_expr, no_room, expr_at}
+use Rattle.ccsl_grammar.specs.Grammar.{opening, closing, arg_spelled, binop_spelled, term_spelled, wterm_spelled, test_spelled, Expr, alone, binary, delay}
+use Rattle.ccsl_grammar.specs.Grammar.{await, filter, delayed, choice, Operand, named, called, never, parens, expr_spelled, operand_spelled, expr_tree}
+use Rattle.ccsl_grammar.specs.Grammar.{operand_tree}
+use Rattle.ccsl_grammar.specs.Parser.{word_at, arg_at, term_at, wterm_at, named_at, parens_at, operand_at, is_binop, binary_at, second_at, delayed_at, delay_at}
+use Rattle.ccsl_grammar.specs.Parser.{await_at, filter_at, rest_at, branches_at, choice_at, expr_with, is_expr, no_room, expr_at}
 use Rattle.ccsl_grammar.proofs.Good.{Good, give, either}
 use Rattle.ccsl_grammar.proofs.Parts.{Reads, Self, within, inside, begun, built, part_then}
 use Rattle.ccsl_grammar.proofs.Steps.{word_then, symbol_then, name_then, word_is, symbol_is}
-use Rattle.ccsl_grammar.proofs.Leaves.{some_spot, some_term, closed_spelled, list_reads, arg_reads, num_then, Binop, binop_reads, term_reads, wterm_reads, test_reads}
+use Rattle.ccsl_grammar.proofs.Leaves.{some_spot, some_term, closed_spelled, list_reads, arg_reads, num_then, Binop, binop_reads, term_reads, wterm_reads}
+use Rattle.ccsl_grammar.proofs.Leaves.{test_reads}
 
 -- ---- no level left
 
-stop : {A : Type 0} (S : Fault → List Terminal → List Terminal → Type 0) (Q : A → List Terminal → Type 0) (k : Fault) (ts : List Terminal) → S k [] ts → Good S Q (stopped k) ts
+stop : {A : Type 0} (S : Fault → List Terminal → List Terminal → Type 0) (Q : A → List Terminal → Type 0) (k : Fault) (ts : List Terminal) → S k [] ts
+    → Good S Q (stopped k) ts
 stop S Q k ts h = record { is = record { front = []; whole = refl; holds = h; again = λ t us more e. refl } }
 
 -- a derivation of an expression that begins with t
@@ -80,14 +85,16 @@ module _ (two : Bool) (room : ℕ) (inner : Reader Expression) (reads : Reads (e
         (λ x z. either _ _ (is_symbol 40) _ _ z
         (λ b. symbol_then _ _ 40 _ z (λ z. begun (named x) [] refl)
         (λ z. part_then (list_reads arg_spelled arg_at (arg.Tail some_spot) arg_reads) _ _ _ z
-        (inside (closed_spelled arg_spelled) (operand_spelled {two = two}) (operand_deep room) (λ args. called x args) (λ q. name x ∷ opening ∷ q) [] (λ x y. refl) (λ args. rw (append-nil (closed_spelled arg_spelled args)) refl))
+        (inside (closed_spelled arg_spelled) (operand_spelled {two = two}) (operand_deep room) (λ args. called x args) (λ q. name x ∷ opening ∷ q) []
+        (λ x y. refl) (λ args. rw (append-nil (closed_spelled arg_spelled args)) refl))
         (λ args d y. give _ _ (ECall x args) y (built (called x args) (rw (append-nil (closed_spelled arg_spelled args)) refl) (λ after. refl)))))
         (λ b. give _ _ (EName x) z (built (named x) refl (λ after. refl)))))
         (λ b. either _ _ (is_word w.Never) _ _ ts
         (λ b. word_then _ _ w.Never _ ts (λ z. begun never (word w.Never ∷ []) refl) (λ z. give _ _ ENever z (built never refl (λ after. refl))))
         (λ b. symbol_then _ _ 40 _ ts (λ z. begun never (word w.Never ∷ []) refl)
         (λ z. part_then reads _ _ _ z
-        (within (expr_spelled {two = two}) (expr_deep room) (operand_spelled {two = two}) (operand_deep room) (λ e. parens e) (λ q. opening ∷ q) (closing ∷ []) (λ x y. refl) (λ e. refl) (λ e z after h. h))
+        (within (expr_spelled {two = two}) (expr_deep room) (operand_spelled {two = two}) (operand_deep room) (λ e. parens e) (λ q. opening ∷ q) (closing ∷ [])
+        (λ x y. refl) (λ e. refl) (λ e z after h. h))
         (λ e d y. symbol_then _ _ 41 _ y (λ z. begun (parens e) (closing ∷ []) (rw (append-nil (expr_spelled e)) refl))
         (λ z. give _ _ (expr_tree e) z (built (parens e) refl (λ after. d (closing ∷ after))))))));
   }
@@ -108,9 +115,11 @@ module _ (two : Bool) (room : ℕ) (inner : Reader Expression) (reads : Reads (e
     binary_reads : (ts : List Terminal) → Good Here Found (binary_at inner two (operand_tree o)) ts
     unfolding binary_at second_at
     binary_reads ts = part_then (binop_reads two) _ _ _ ts
-        (inside (λ (p : Binop two). binop_spelled p.0) (expr_spelled {two = two}) (expr_deep (suc room)) (λ p. binary p.0 p.1 o never) (λ q. operand_spelled o ++ q) (word w.Never ∷ []) (λ x y. sym (append_assoc (operand_spelled o) x y)) (λ p. refl))
+        (inside (λ (p : Binop two). binop_spelled p.0) (expr_spelled {two = two}) (expr_deep (suc room)) (λ p. binary p.0 p.1 o never)
+        (λ q. operand_spelled o ++ q) (word w.Never ∷ []) (λ x y. sym (append_assoc (operand_spelled o) x y)) (λ p. refl))
         (λ p d y. part_then operand_reads _ _ _ y
-        (within (operand_spelled {two = two}) (operand_deep room) (expr_spelled {two = two}) (expr_deep (suc room)) (λ c. binary p.0 p.1 o c) (λ r. operand_spelled o ++ (binop_spelled p.0 ++ r)) []
+        (within (operand_spelled {two = two}) (operand_deep room) (expr_spelled {two = two}) (expr_deep (suc room)) (λ c. binary p.0 p.1 o c)
+        (λ r. operand_spelled o ++ (binop_spelled p.0 ++ r)) []
         (λ x y. rw (← append_assoc (binop_spelled p.0) x y) (sym (append_assoc (operand_spelled o) (binop_spelled p.0 ++ x) y)))
         (λ c. rw (append-nil (operand_spelled c)) refl)
         (λ c z after h. rw (shallow_is (binop_spelled p.0 ++ (operand_spelled c ++ after))) h))
@@ -120,10 +129,14 @@ module _ (two : Bool) (room : ℕ) (inner : Reader Expression) (reads : Reads (e
     delayed_reads : (ts : List Terminal) → Good Here Found (word_at w.Delayed >> delayed_at inner (operand_tree o)) ts
     unfolding delayed_at
     delayed_reads ts = word_then _ _ w.Delayed _ ts here
-        (λ z. num_then _ _ _ z (λ z. begun (delayed o 0 0 never) (number 0 0 ∷ word w.On ∷ word w.Never ∷ []) (sym (append_assoc (operand_spelled o) (word w.Delayed ∷ []) (number 0 0 ∷ word w.On ∷ word w.Never ∷ []))))
-        (λ n z. word_then _ _ w.On _ z (λ z. begun (delayed o n.0 n.1 never) (word w.On ∷ word w.Never ∷ []) (sym (append_assoc (operand_spelled o) (word w.Delayed ∷ number n.0 n.1 ∷ []) (word w.On ∷ word w.Never ∷ []))))
+        (λ z. num_then _ _ _ z (λ z. begun (delayed o 0 0 never) (number 0 0 ∷ word w.On ∷ word w.Never ∷ [])
+        (sym (append_assoc (operand_spelled o) (word w.Delayed ∷ []) (number 0 0 ∷ word w.On ∷ word w.Never ∷ []))))
+        (λ n z. word_then _ _ w.On _ z
+        (λ z. begun (delayed o n.0 n.1 never) (word w.On ∷ word w.Never ∷ [])
+        (sym (append_assoc (operand_spelled o) (word w.Delayed ∷ number n.0 n.1 ∷ []) (word w.On ∷ word w.Never ∷ []))))
         (λ z. part_then operand_reads _ _ _ z
-        (within (operand_spelled {two = two}) (operand_deep room) (expr_spelled {two = two}) (expr_deep (suc room)) (λ c. delayed o n.0 n.1 c) (λ r. operand_spelled o ++ word w.Delayed ∷ number n.0 n.1 ∷ word w.On ∷ r) []
+        (within (operand_spelled {two = two}) (operand_deep room) (expr_spelled {two = two}) (expr_deep (suc room)) (λ c. delayed o n.0 n.1 c)
+        (λ r. operand_spelled o ++ word w.Delayed ∷ number n.0 n.1 ∷ word w.On ∷ r) []
         (λ x y. sym (append_assoc (operand_spelled o) (word w.Delayed ∷ number n.0 n.1 ∷ word w.On ∷ x) y))
         (λ c. rw (append-nil (operand_spelled c)) refl)
         (λ c z after h. rw (shallow_is (word w.Delayed ∷ number n.0 n.1 ∷ word w.On ∷ (operand_spelled c ++ after))) h))
@@ -132,38 +145,54 @@ module _ (two : Bool) (room : ℕ) (inner : Reader Expression) (reads : Reads (e
 
     -- a word, and a part in which no expression stands
     worded : {C : Type 0} (v : Reserved) (spelled : C → List Terminal) (f : Reader C) → Self spelled f → (some : C) (whole : C → Expr two)
-        → ((c : C) → expr_spelled (whole c) ≡ operand_spelled o ++ word v ∷ spelled c) → ((c : C) (after : List Terminal) → expr_deep (suc room) (whole c) after ≡ None)
+        → ((c : C) → expr_spelled (whole c) ≡ operand_spelled o ++ word v ∷ spelled c)
+        → ((c : C) (after : List Terminal) → expr_deep (suc room) (whole c) after ≡ None)
         → (ts : List Terminal) → Good Here Found (word_at v >> f >>= λ c. given (expr_tree (whole c))) ts
     worded v spelled f self some whole is deep_is ts = word_then _ _ v _ ts here
         (λ z. part_then self _ _ _ z
-        (inside spelled (expr_spelled {two = two}) (expr_deep (suc room)) whole (λ q. operand_spelled o ++ word v ∷ q) [] (λ x y. sym (append_assoc (operand_spelled o) (word v ∷ x) y)) (λ c. rw (append-nil (spelled c)) (is c)))
+        (inside spelled (expr_spelled {two = two}) (expr_deep (suc room)) whole (λ q. operand_spelled o ++ word v ∷ q) []
+        (λ x y. sym (append_assoc (operand_spelled o) (word v ∷ x) y)) (λ c. rw (append-nil (spelled c)) (is c)))
         (λ c d y. give _ _ (expr_tree (whole c)) y (built (whole c) (rw (append-nil (spelled c)) (is c)) (deep_is c))))
 
     rest_reads : (ts : List Terminal) → Good Here Found (rest_at inner two (operand_tree o)) ts
     unfolding rest_at delay_at await_at filter_at
     rest_reads ts = either _ _ is_binop _ _ ts (λ b. binary_reads ts)
-        (λ b. either _ _ (is_word w.Delay) _ _ ts (λ b. worded w.Delay term_spelled term_at term_reads some_term (λ m. delay o m) (λ m. refl) (λ m after. shallow_is (word w.Delay ∷ (term_spelled m ++ after))) ts)
-        (λ b. either _ _ (is_word w.Await) _ _ ts (λ b. worded w.Await term_spelled term_at term_reads some_term (λ m. await o m) (λ m. refl) (λ m after. shallow_is (word w.Await ∷ (term_spelled m ++ after))) ts)
-        (λ b. either _ _ (is_word w.Filter) _ _ ts (λ b. worded w.Filter wterm_spelled wterm_at wterm_reads (wterm.Name some_spot) (λ m. filter o m) (λ m. refl) (λ m after. shallow_is (word w.Filter ∷ (wterm_spelled m ++ after))) ts)
+        (λ b. either _ _ (is_word w.Delay) _ _ ts
+        (λ b. worded w.Delay term_spelled term_at term_reads some_term (λ m. delay o m) (λ m. refl)
+        (λ m after. shallow_is (word w.Delay ∷ (term_spelled m ++ after))) ts)
+        (λ b. either _ _ (is_word w.Await) _ _ ts
+        (λ b. worded w.Await term_spelled term_at term_reads some_term (λ m. await o m) (λ m. refl)
+        (λ m after. shallow_is (word w.Await ∷ (term_spelled m ++ after))) ts)
+        (λ b. either _ _ (is_word w.Filter) _ _ ts
+        (λ b. worded w.Filter wterm_spelled wterm_at wterm_reads (wterm.Name some_spot) (λ m. filter o m) (λ m. refl)
+        (λ m after. shallow_is (word w.Filter ∷ (wterm_spelled m ++ after))) ts)
         (λ b. either _ _ (is_word w.Delayed) _ _ ts (λ b. delayed_reads ts)
         (λ b. give _ _ (operand_tree o) ts (built (alone o) (sym (append-nil (operand_spelled o))) shallow_is))))))
 
   -- ---- an if
 
-  choice_reads : (ts : List Terminal) → Good (Stops (expr_spelled {two = two}) (expr_deep (suc room))) (Is (expr_spelled {two = two}) (expr_deep (suc room)) expr_tree) (word_at w.If >> choice_at inner) ts
+  choice_reads : (ts : List Terminal)
+      → Good (Stops (expr_spelled {two = two}) (expr_deep (suc room))) (Is (expr_spelled {two = two}) (expr_deep (suc room)) expr_tree)
+      (word_at w.If >> choice_at inner) ts
   unfolding choice_at branches_at
   choice_reads ts = word_then _ _ w.If _ ts (λ z. begun (alone never) (word w.Never ∷ []) refl)
       (λ z. part_then test_reads _ _ _ z
-      (inside test_spelled (expr_spelled {two = two}) (expr_deep (suc room)) (λ q. choice q (alone never) (alone never)) (λ q. word w.If ∷ q) (word w.Use ∷ word w.Never ∷ word w.Else ∷ word w.Never ∷ []) (λ x y. refl) (λ q. refl))
-      (λ q d z. word_then _ _ w.Use _ z (λ z. begun (choice q (alone never) (alone never)) (word w.Use ∷ word w.Never ∷ word w.Else ∷ word w.Never ∷ []) (rw (append-nil (test_spelled q)) refl))
+      (inside test_spelled (expr_spelled {two = two}) (expr_deep (suc room)) (λ q. choice q (alone never) (alone never)) (λ q. word w.If ∷ q)
+      (word w.Use ∷ word w.Never ∷ word w.Else ∷ word w.Never ∷ []) (λ x y. refl) (λ q. refl))
+      (λ q d z. word_then _ _ w.Use _ z
+      (λ z. begun (choice q (alone never) (alone never)) (word w.Use ∷ word w.Never ∷ word w.Else ∷ word w.Never ∷ [])
+      (rw (append-nil (test_spelled q)) refl))
       (λ z. part_then reads _ _ _ z
-      (within (expr_spelled {two = two}) (expr_deep room) (expr_spelled {two = two}) (expr_deep (suc room)) (λ e. choice q e (alone never)) (λ r. word w.If ∷ (test_spelled q ++ word w.Use ∷ r)) (word w.Else ∷ word w.Never ∷ [])
+      (within (expr_spelled {two = two}) (expr_deep room) (expr_spelled {two = two}) (expr_deep (suc room)) (λ e. choice q e (alone never))
+      (λ r. word w.If ∷ (test_spelled q ++ word w.Use ∷ r)) (word w.Else ∷ word w.Never ∷ [])
       (λ x y. ap (λ r. word w.If ∷ r) (sym (append_assoc (test_spelled q) (word w.Use ∷ x) y))) (λ e. refl) (λ e z after h. rw h refl))
       (λ a i y. word_then _ _ w.Else _ y (λ z. begun (choice q a (alone never)) (word w.Else ∷ word w.Never ∷ [])
       (rw (append-nil (expr_spelled a), append_assoc (test_spelled q) (word w.Use ∷ expr_spelled a) (word w.Else ∷ word w.Never ∷ [])) refl))
       (λ z. part_then reads _ _ _ z
-      (within (expr_spelled {two = two}) (expr_deep room) (expr_spelled {two = two}) (expr_deep (suc room)) (λ e. choice q a e) (λ r. word w.If ∷ (test_spelled q ++ word w.Use ∷ (expr_spelled a ++ word w.Else ∷ r))) []
-      (λ x y. ap (λ r. word w.If ∷ r) (rw (← append_assoc (expr_spelled a) (word w.Else ∷ x) y) (sym (append_assoc (test_spelled q) (word w.Use ∷ (expr_spelled a ++ word w.Else ∷ x)) y))))
+      (within (expr_spelled {two = two}) (expr_deep room) (expr_spelled {two = two}) (expr_deep (suc room)) (λ e. choice q a e)
+      (λ r. word w.If ∷ (test_spelled q ++ word w.Use ∷ (expr_spelled a ++ word w.Else ∷ r))) []
+      (λ x y. ap (λ r. word w.If ∷ r)
+      (rw (← append_assoc (expr_spelled a) (word w.Else ∷ x) y) (sym (append_assoc (test_spelled q) (word w.Use ∷ (expr_spelled a ++ word w.Else ∷ x)) y))))
       (λ e. rw (append-nil (expr_spelled e)) refl)
       (λ e z after h. rw (i (word w.Else ∷ (expr_spelled e ++ after))) h))
       (λ e j x. give _ _ (EIf q (expr_tree a) (expr_tree e)) x (built (choice q a e) (rw (append-nil (expr_spelled e)) refl)
@@ -175,7 +204,8 @@ module _ (two : Bool) (room : ℕ) (inner : Reader Expression) (reads : Reads (e
     at = λ ts. either _ _ (is_word w.If) _ _ ts
         (λ b. choice_reads ts)
         (λ b. part_then operand_reads _ _ _ ts
-        (within (operand_spelled {two = two}) (operand_deep room) (expr_spelled {two = two}) (expr_deep (suc room)) (λ o. alone o) (λ q. q) [] (λ x y. refl) (λ o. sym (append-nil (operand_spelled o))) (λ o z after h. h))
+        (within (operand_spelled {two = two}) (operand_deep room) (expr_spelled {two = two}) (expr_deep (suc room)) (λ o. alone o) (λ q. q) [] (λ x y. refl)
+        (λ o. sym (append-nil (operand_spelled o))) (λ o z after h. h))
         (λ o d y. rest_reads o d y));
   }
 

@@ -27,9 +27,15 @@ use Rattle.ccsl_ast.specs.declared.definition.Kind.{Kind}
 use Rattle.ccsl_ast.specs.declared.definition.Kind.TheVariants as kind
 use Rattle.ccsl_ast.specs.declared.definition.Param.{Param}
 use Rattle.ccsl_ast.specs.Trees.{PlainFile, relop_in}
-use Rattle.ccsl_ast.specs.Kept.{text_kept, spot_kept, number_kept, prim_kept, signed_kept, term_kept, wterm_kept, test_kept, arg_kept, relop_kept, expression_kept, rline_kept, sline_kept, param_kept, member_kept, definition_kept, file_kept}
+use Rattle.ccsl_ast.specs.Kept.{text_kept, spot_kept, number_kept, prim_kept, signed_kept, term_kept, wterm_kept, test_kept, arg_kept, relop_kept}
+use Rattle.ccsl_ast.specs.Kept.{expression_kept, rline_kept, sline_kept, param_kept, member_kept, definition_kept, file_kept}
 use Rattle.ccsl_grammar.specs.Terminals.{Terminal, word, name, number, seen_as, terminals}
-use Rattle.ccsl_grammar.specs.Grammar.{closing, semicolon, equals, below, left_brace, right_brace, further_spelled, list_spelled, prim_spelled, signed_spelled, term_spelled, wterm_spelled, test_spelled, arg_spelled, kind_spelled, param_spelled, relop_spelled, binop_spelled, Expr, alone, binary, delay, await, filter, delayed, choice, Operand, named, called, never, parens, expr_spelled, operand_spelled, expr_tree, operand_tree, Rline, define, constrain, call, rline_spelled, rline_tree, Sline, clocks, line, clock_spelled, sline_spelled, sline_tree, Member, member_spelled, further_member, member_tree, Definition, relation, group, definition_spelled, definition_tree, Derivation, version, system_spelled, file_spelled, file_tree}
+use Rattle.ccsl_grammar.specs.Grammar.{closing, semicolon, equals, below, left_brace, right_brace, further_spelled, list_spelled, prim_spelled, signed_spelled}
+use Rattle.ccsl_grammar.specs.Grammar.{term_spelled, wterm_spelled, test_spelled, arg_spelled, kind_spelled, param_spelled, relop_spelled, binop_spelled, Expr}
+use Rattle.ccsl_grammar.specs.Grammar.{alone, binary, delay, await, filter, delayed, choice, Operand, named, called, never, parens, expr_spelled}
+use Rattle.ccsl_grammar.specs.Grammar.{operand_spelled, expr_tree, operand_tree, Rline, define, constrain, call, rline_spelled, rline_tree, Sline, clocks, line}
+use Rattle.ccsl_grammar.specs.Grammar.{clock_spelled, sline_spelled, sline_tree, Member, member_spelled, further_member, member_tree, Definition, relation}
+use Rattle.ccsl_grammar.specs.Grammar.{group, definition_spelled, definition_tree, Derivation, version, system_spelled, file_spelled, file_tree}
 use Rattle.ccsl_grammar.specs.Kept.{terminal_kept, kept}
 use Rattle.ccsl_grammar.specs.Laws.{FileKeeps}
 
@@ -42,18 +48,22 @@ parts xs ys h = and_parts (kept xs) (kept ys) (sym (list_all-append terminal_kep
 next : (t : Terminal) (ts : List Terminal) → kept (t ∷ ts) ≡ true → (terminal_kept t ≡ true) × (kept ts ≡ true)
 next t ts h = and_parts (terminal_kept t) (kept ts) h
 
-each : {C : Type 0} (spelled : C → List Terminal) (test : C → Bool) → ((c : C) → kept (spelled c) ≡ true → test c ≡ true) → (cs : List C) → kept (flat_map spelled cs) ≡ true → list_all test cs ≡ true
+each : {C : Type 0} (spelled : C → List Terminal) (test : C → Bool) → ((c : C) → kept (spelled c) ≡ true → test c ≡ true) → (cs : List C)
+    → kept (flat_map spelled cs) ≡ true → list_all test cs ≡ true
 each spelled test one [] h = refl
 each spelled test one (c ∷ cs) h = let p = parts (spelled c) (flat_map spelled cs) h in rw (one c p.0) (each spelled test one cs p.1)
 
 -- the trees of derivations
-each_tree : {C T : Type 0} (spelled : C → List Terminal) (tree : C → T) (test : T → Bool) → ((c : C) → kept (spelled c) ≡ true → test (tree c) ≡ true) → (cs : List C) → kept (flat_map spelled cs) ≡ true → list_all test (map tree cs) ≡ true
+each_tree : {C T : Type 0} (spelled : C → List Terminal) (tree : C → T) (test : T → Bool) → ((c : C) → kept (spelled c) ≡ true → test (tree c) ≡ true)
+    → (cs : List C) → kept (flat_map spelled cs) ≡ true → list_all test (map tree cs) ≡ true
 each_tree spelled tree test one [] h = refl
 each_tree spelled tree test one (c ∷ cs) h = let p = parts (spelled c) (flat_map spelled cs) h in rw (one c p.0) (each_tree spelled tree test one cs p.1)
 
-listed : {C : Type 0} (spelled : C → List Terminal) (test : C → Bool) → ((c : C) → kept (spelled c) ≡ true → test c ≡ true) → (cs : List C) → kept (list_spelled spelled cs) ≡ true → list_all test cs ≡ true
+listed : {C : Type 0} (spelled : C → List Terminal) (test : C → Bool) → ((c : C) → kept (spelled c) ≡ true → test c ≡ true) → (cs : List C)
+    → kept (list_spelled spelled cs) ≡ true → list_all test cs ≡ true
 listed spelled test one [] h = refl
-listed spelled test one (c ∷ cs) h = let p = parts (spelled c) (flat_map (further_spelled spelled) cs) h in rw (one c p.0) (each (further_spelled spelled) test one cs p.1)
+listed spelled test one (c ∷ cs) h = let p =
+    parts (spelled c) (flat_map (further_spelled spelled) cs) h in rw (one c p.0) (each (further_spelled spelled) test one cs p.1)
 
 one_more : (a : Bool) → (a && true) ≡ true → a ≡ true
 one_more a h = (and_parts a true h).0
@@ -69,7 +79,9 @@ signed_keeps (Plus, p) h = prim_keeps p h
 signed_keeps (Minus, p) h = prim_keeps p h
 
 term_keeps : (t : Term) → kept (term_spelled t) ≡ true → term_kept t ≡ true
-term_keeps t h = let p = parts (prim_spelled t.first) (flat_map signed_spelled t.rest) h in and_from (prim_kept t.first) (list_all signed_kept t.rest) (prim_keeps t.first p.0) (each signed_spelled signed_kept signed_keeps t.rest p.1)
+term_keeps t h = let p =
+    parts (prim_spelled t.first) (flat_map signed_spelled t.rest) h in
+    and_from (prim_kept t.first) (list_all signed_kept t.rest) (prim_keeps t.first p.0) (each signed_spelled signed_kept signed_keeps t.rest p.1)
 
 wterm_keeps : (m : WordTerm) → kept (wterm_spelled m) ≡ true → wterm_kept m ≡ true
 wterm_keeps (wterm.Text at bytes) h = one_more (text_kept bytes) h
@@ -77,8 +89,10 @@ wterm_keeps (wterm.Name x) h = one_more (spot_kept x) h
 wterm_keeps (wterm.Tail x) h = one_more (spot_kept x) h
 
 test_keeps : (q : Test) → kept (test_spelled q) ≡ true → test_kept q ≡ true
-test_keeps (Equal a b) h = let p = parts (term_spelled a) (equals ∷ term_spelled b) h in and_from (term_kept a) (term_kept b) (term_keeps a p.0) (term_keeps b p.1)
-test_keeps (Less a b) h = let p = parts (term_spelled a) (below ∷ term_spelled b) h in and_from (term_kept a) (term_kept b) (term_keeps a p.0) (term_keeps b p.1)
+test_keeps (Equal a b) h = let p =
+    parts (term_spelled a) (equals ∷ term_spelled b) h in and_from (term_kept a) (term_kept b) (term_keeps a p.0) (term_keeps b p.1)
+test_keeps (Less a b) h = let p =
+    parts (term_spelled a) (below ∷ term_spelled b) h in and_from (term_kept a) (term_kept b) (term_keeps a p.0) (term_keeps b p.1)
 test_keeps (Head x) h = one_more (spot_kept x) h
 test_keeps (Ended x) h = one_more (spot_kept x) h
 
@@ -158,7 +172,8 @@ clock_keeps x h = one_more (spot_kept x) h
 sline_keeps : {two : Bool} (l : Sline two) → kept (sline_spelled l) ≡ true → sline_kept two (sline_tree l) ≡ true
 sline_keeps (clocks x xs) h =
     let p = and_parts (spot_kept x) (kept (flat_map (further_spelled clock_spelled) xs ++ semicolon ∷ [])) h in
-    and_from (spot_kept x) (list_all spot_kept xs) p.0 (each (further_spelled clock_spelled) spot_kept clock_keeps xs (parts (flat_map (further_spelled clock_spelled) xs) (semicolon ∷ []) p.1).0)
+    and_from (spot_kept x) (list_all spot_kept xs) p.0
+    (each (further_spelled clock_spelled) spot_kept clock_keeps xs (parts (flat_map (further_spelled clock_spelled) xs) (semicolon ∷ []) p.1).0)
 sline_keeps (line l) h = rline_keeps l h
 
 -- ---- definitions
@@ -172,17 +187,20 @@ member_keeps {two} m h =
 
 definition_keeps : {two : Bool} (d : Definition two) → kept (definition_spelled d) ≡ true → definition_kept two (definition_tree d) ≡ true
 definition_keeps {two} (relation x ps l ls) h =
-    let p = and_parts (spot_kept x) (kept (list_spelled param_spelled ps ++ closing ∷ left_brace ∷ (rline_spelled l ++ (flat_map rline_spelled ls ++ right_brace ∷ [])))) h in
+    let p = and_parts (spot_kept x)
+    (kept (list_spelled param_spelled ps ++ closing ∷ left_brace ∷ (rline_spelled l ++ (flat_map rline_spelled ls ++ right_brace ∷ [])))) h in
     let q = parts (list_spelled param_spelled ps) (closing ∷ left_brace ∷ (rline_spelled l ++ (flat_map rline_spelled ls ++ right_brace ∷ []))) p.1 in
     let r = parts (rline_spelled l) (flat_map rline_spelled ls ++ right_brace ∷ []) q.1 in
     let s = parts (flat_map rline_spelled ls) (right_brace ∷ []) r.1 in
     and_from (spot_kept x) (list_all param_kept ps && (rline_kept two (rline_tree l) && list_all (rline_kept two) (map rline_tree ls))) p.0
     (and_from (list_all param_kept ps) (rline_kept two (rline_tree l) && list_all (rline_kept two) (map rline_tree ls)) (params_keep ps q.0)
-    (and_from (rline_kept two (rline_tree l)) (list_all (rline_kept two) (map rline_tree ls)) (rline_keeps l r.0) (each_tree rline_spelled rline_tree (rline_kept two) rline_keeps ls s.0)))
+    (and_from (rline_kept two (rline_tree l)) (list_all (rline_kept two) (map rline_tree ls)) (rline_keeps l r.0)
+    (each_tree rline_spelled rline_tree (rline_kept two) rline_keeps ls s.0)))
 definition_keeps {two} (group m ms) h =
     let p = parts (member_spelled m) (flat_map further_member ms ++ semicolon ∷ []) h in
     let q = parts (flat_map further_member ms) (semicolon ∷ []) p.1 in
-    and_from (member_kept two (member_tree m)) (list_all (member_kept two) (map member_tree ms)) (member_keeps m p.0) (each_tree further_member member_tree (member_kept two) member_keeps ms q.0)
+    and_from (member_kept two (member_tree m)) (list_all (member_kept two) (map member_tree ms)) (member_keeps m p.0)
+    (each_tree further_member member_tree (member_kept two) member_keeps ms q.0)
 
 -- ---- files
 
@@ -202,7 +220,8 @@ derivation_keeps d h =
     let q = parts (flat_map sline_spelled d.lines) (right_brace ∷ []) p.1 in
     rw (version_keeps two, is_two_version two)
     (and_from (list_all (definition_kept two) (map definition_tree d.definitions)) (list_all (sline_kept two) (map sline_tree d.lines))
-    (each_tree definition_spelled definition_tree (definition_kept two) definition_keeps d.definitions p.0) (each_tree sline_spelled sline_tree (sline_kept two) sline_keeps d.lines q.0))
+    (each_tree definition_spelled definition_tree (definition_kept two) definition_keeps d.definitions p.0)
+    (each_tree sline_spelled sline_tree (sline_kept two) sline_keeps d.lines q.0))
 
 seen_kept : (k : TokenKind) (at : ℕ) → IsTrue (kind_kept k) → terminal_kept (seen_as at k) ≡ true
 seen_kept (token.Name text) at h = h

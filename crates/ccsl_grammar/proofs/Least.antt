@@ -6,7 +6,11 @@ use Rattle.ccsl_ast.specs.Trees.{Expression, EName, ECall, ENever, PlainFile}
 use Rattle.ccsl_ast.specs.Depth as tree
 use Rattle.ccsl_ast.specs.Depth.{depth, greatest, file_depth}
 use Rattle.ccsl_grammar.specs.Terminals.{Terminal, word, number}
-use Rattle.ccsl_grammar.specs.Grammar.{closing, semicolon, right_brace, binop_spelled, term_spelled, wterm_spelled, Expr, alone, binary, delay, await, filter, delayed, choice, Operand, named, called, never, parens, expr_spelled, operand_spelled, expr_tree, operand_tree, Rline, define, constrain, call, rline_spelled, rline_tree, Sline, clocks, line, sline_spelled, sline_tree, Member, further_member, member_tree, Definition, relation, group, definition_spelled, definition_tree, Derivation, system_spelled, file_tree}
+use Rattle.ccsl_grammar.specs.Grammar.{closing, semicolon, right_brace, binop_spelled, term_spelled, wterm_spelled, Expr, alone, binary, delay, await, filter}
+use Rattle.ccsl_grammar.specs.Grammar.{delayed, choice, Operand, named, called, never, parens, expr_spelled, operand_spelled, expr_tree, operand_tree, Rline}
+use Rattle.ccsl_grammar.specs.Grammar.{define, constrain, call, rline_spelled, rline_tree, Sline, clocks, line, sline_spelled, sline_tree, Member}
+use Rattle.ccsl_grammar.specs.Grammar.{further_member, member_tree, Definition, relation, group, definition_spelled, definition_tree, Derivation}
+use Rattle.ccsl_grammar.specs.Grammar.{system_spelled, file_tree}
 use Rattle.ccsl_grammar.specs.Deep.{expr_deep, operand_deep, all_deep, rline_deep, sline_deep, member_deep, definition_deep, file_deep}
 use Rattle.std.specs.Option.{option_or}
 use Rattle.ccsl_grammar.specs.Laws.{LeastDepth}
@@ -91,20 +95,24 @@ module _ (two : Bool) (room : ℕ) where
 
   definition_least : (d : Definition two) (after : List Terminal) → definition_deep room d after ≡ None → tree.definition_depth (definition_tree d) ≤ room
   definition_least (relation x ps l ls) after h =
-      let n = neither (rline_deep room l (flat_map rline_spelled ls ++ right_brace ∷ after)) (all_deep rline_spelled (rline_deep room) ls (right_brace ∷ after)) h in
+      let n = neither (rline_deep room l (flat_map rline_spelled ls ++ right_brace ∷ after)) (all_deep rline_spelled (rline_deep room) ls (right_brace ∷ after))
+      h in
       let i = rline_least l (flat_map rline_spelled ls ++ right_brace ∷ after) n.0 in
       let j = all_least rline_spelled (rline_deep room) rline_tree tree.rline_depth room rline_least ls (right_brace ∷ after) n.1 in
       omega arith
   definition_least (group m ms) after h =
-      let n = neither (member_deep room m (flat_map further_member ms ++ semicolon ∷ after)) (all_deep further_member (member_deep room) ms (semicolon ∷ after)) h in
+      let n = neither (member_deep room m (flat_map further_member ms ++ semicolon ∷ after)) (all_deep further_member (member_deep room) ms (semicolon ∷ after))
+      h in
       let i = member_least m (flat_map further_member ms ++ semicolon ∷ after) n.0 in
       let j = all_least further_member (member_deep room) member_tree tree.member_depth room member_least ms (semicolon ∷ after) n.1 in
       omega arith
 
 file_least : (room : ℕ) (d : Derivation) → file_deep room d [] ≡ None → file_depth (file_tree d) ≤ room
 file_least room d h =
-    let n = neither (all_deep definition_spelled (definition_deep room) d.definitions (system_spelled d.lines ++ [])) (all_deep sline_spelled (sline_deep room) d.lines (right_brace ∷ [])) h in
-    let i = all_least definition_spelled (definition_deep room) definition_tree tree.definition_depth room (definition_least d.two room) d.definitions (system_spelled d.lines ++ []) n.0 in
+    let n = neither (all_deep definition_spelled (definition_deep room) d.definitions (system_spelled d.lines ++ []))
+    (all_deep sline_spelled (sline_deep room) d.lines (right_brace ∷ [])) h in
+    let i = all_least definition_spelled (definition_deep room) definition_tree tree.definition_depth room (definition_least d.two room) d.definitions
+    (system_spelled d.lines ++ []) n.0 in
     let j = all_least sline_spelled (sline_deep room) sline_tree tree.sline_depth room (sline_least d.two room) d.lines (right_brace ∷ []) n.1 in
     omega arith
 

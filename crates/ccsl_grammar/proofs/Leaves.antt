@@ -27,8 +27,11 @@ use Rattle.ccsl_grammar.specs.Terminals.{Terminal, word, symbol, name, number, q
 use Rattle.ccsl_grammar.specs.Kinds.{is_word, is_symbol, is_name, is_quoted}
 use Rattle.ccsl_grammar.specs.Reader.{Fault, no_syntax, Reader, ◌>>=◌, ◌>>◌, given, begins, many}
 use Rattle.ccsl_grammar.specs.Places.{Stops, Is, shallow}
-use Rattle.ccsl_grammar.specs.Grammar.{comma, closing, equals, further_spelled, list_spelled, prim_spelled, sign_spelled, signed_spelled, term_spelled, wterm_spelled, test_spelled, arg_spelled, kind_spelled, param_spelled, relop_spelled, binop_spelled, clock_spelled}
-use Rattle.ccsl_grammar.specs.Parser.{word_at, symbol_at, name_of, name_at, quoted_of, quoted_at, further_at, list_at, prim_of, prim_at, sign_of, sign_at, is_sign, signed_at, term_at, wterm_at, comparison_at, test_at, arg_at, kind_of, kind_at, param_at, relop_of, precedes_at, relop_at, binop_of, sampled_at, upto_at, binop_at, goes_on_by, within_at, num_of, num_at}
+use Rattle.ccsl_grammar.specs.Grammar.{comma, closing, equals, further_spelled, list_spelled, prim_spelled, sign_spelled, signed_spelled, term_spelled}
+use Rattle.ccsl_grammar.specs.Grammar.{wterm_spelled, test_spelled, arg_spelled, kind_spelled, param_spelled, relop_spelled, binop_spelled, clock_spelled}
+use Rattle.ccsl_grammar.specs.Parser.{word_at, symbol_at, name_of, name_at, quoted_of, quoted_at, further_at, list_at, prim_of, prim_at, sign_of, sign_at}
+use Rattle.ccsl_grammar.specs.Parser.{is_sign, signed_at, term_at, wterm_at, comparison_at, test_at, arg_at, kind_of, kind_at, param_at, relop_of, precedes_at}
+use Rattle.ccsl_grammar.specs.Parser.{relop_at, binop_of, sampled_at, upto_at, binop_at, goes_on_by, within_at, num_of, num_at}
 use Rattle.ccsl_grammar.proofs.Good.{Good, give, either, take_one}
 use Rattle.ccsl_grammar.proofs.Parts.{Reads, Self, itself, begun, built, inside, part_then, part_last}
 use Rattle.ccsl_grammar.proofs.Many.{many_self}
@@ -94,7 +97,8 @@ clock_reads = record { at = λ ts. take_one _ _ name_of ts (λ z. begun some_spo
 
 module _ {B : Type 0} (S : Fault → List Terminal → List Terminal → Type 0) (Q : B → List Terminal → Type 0) where
   pub quoted_then : (g : ℕ × List ℕ → Reader B) (ts : List Terminal) → ((z : List Terminal) → S no_syntax [] z)
-      → ((q : ℕ × List ℕ) (z : List Terminal) → Good (λ k p y. S k (quoted q.0 q.1 ∷ p) y) (λ v p. Q v (quoted q.0 q.1 ∷ p)) (g q) z) → Good S Q (quoted_at >>= g) ts
+      → ((q : ℕ × List ℕ) (z : List Terminal) → Good (λ k p y. S k (quoted q.0 q.1 ∷ p) y) (λ v p. Q v (quoted q.0 q.1 ∷ p)) (g q) z)
+      → Good S Q (quoted_at >>= g) ts
   unfolding quoted_at
   quoted_then g ts out on = one S Q quoted_of g ts out
       (λ u q z e. rw (quoted_is u q e) (on q z))
@@ -116,21 +120,27 @@ term_reads = record {
   at = λ ts. part_then prim_reads _ _ _ ts
       (inside prim_spelled term_spelled shallow (λ p. record { first = p; rest = [] }) (λ q. q) [] (λ x y. refl) (λ c. refl))
       (λ p d y. part_then (many_self signed_spelled is_sign signed_at (λ c. omega arith) signed_reads) _ _ _ y
-      (inside (flat_map signed_spelled) term_spelled shallow (λ ps. record { first = p; rest = ps }) (λ q. prim_spelled p ++ q) [] (λ x y. sym (append_assoc (prim_spelled p) x y)) (λ ps. rw (append-nil (flat_map signed_spelled ps)) refl))
+      (inside (flat_map signed_spelled) term_spelled shallow (λ ps. record { first = p; rest = ps }) (λ q. prim_spelled p ++ q) []
+      (λ x y. sym (append_assoc (prim_spelled p) x y)) (λ ps. rw (append-nil (flat_map signed_spelled ps)) refl))
       (λ ps d z. give _ _ (record { first = p; rest = ps }) z (itself (rw (append-nil (flat_map signed_spelled ps)) refl))));
 }
 
 -- ---- lists
 
-pub further_reads : {C : Type 0} (spelled : C → List Terminal) (item : Reader C) (some : C) → Self spelled item → Self (further_spelled spelled) (further_at item)
+pub further_reads : {C : Type 0} (spelled : C → List Terminal) (item : Reader C) (some : C) → Self spelled item
+    → Self (further_spelled spelled) (further_at item)
 unfolding further_at
 further_reads spelled item some reads = record {
   at = λ ts. symbol_then _ _ 44 item ts (λ z. begun some (comma ∷ spelled some) refl)
-      (λ z. part_last reads _ _ z (inside spelled (further_spelled spelled) shallow (λ c. c) (λ q. comma ∷ q) [] (λ x y. refl) (λ c. rw (append-nil (spelled c)) refl)) (λ c d. itself refl));
+      (λ z. part_last reads _ _ z
+      (inside spelled (further_spelled spelled) shallow (λ c. c) (λ q. comma ∷ q) [] (λ x y. refl) (λ c. rw (append-nil (spelled c)) refl))
+      (λ c d. itself refl));
 }
 
-pub further_some : {C : Type 0} (spelled : C → List Terminal) (item : Reader C) (some : C) → Self spelled item → Self (flat_map (further_spelled spelled)) (many (is_symbol 44) (further_at item))
-further_some spelled item some reads = many_self (further_spelled spelled) (is_symbol 44) (further_at item) (λ c. omega arith) (further_reads spelled item some reads)
+pub further_some : {C : Type 0} (spelled : C → List Terminal) (item : Reader C) (some : C) → Self spelled item
+    → Self (flat_map (further_spelled spelled)) (many (is_symbol 44) (further_at item))
+further_some spelled item some reads =
+    many_self (further_spelled spelled) (is_symbol 44) (further_at item) (λ c. omega arith) (further_reads spelled item some reads)
 
 -- a list, and the parenthesis behind it
 abbrev pub closed_spelled : {C : Type 0} → (C → List Terminal) → List C → List Terminal
@@ -144,7 +154,8 @@ list_reads spelled item some reads = record {
       (λ b. part_then reads _ _ _ ts
       (inside spelled (closed_spelled spelled) shallow (λ c. c ∷ []) (λ q. q) (closing ∷ []) (λ x y. refl) (λ c. rw (append-nil (spelled c)) refl))
       (λ c d y. part_then (further_some spelled item some reads) _ _ _ y
-      (inside (flat_map (further_spelled spelled)) (closed_spelled spelled) shallow (λ cs. c ∷ cs) (λ q. spelled c ++ q) (closing ∷ []) (λ x y. sym (append_assoc (spelled c) x y))
+      (inside (flat_map (further_spelled spelled)) (closed_spelled spelled) shallow (λ cs. c ∷ cs) (λ q. spelled c ++ q) (closing ∷ [])
+      (λ x y. sym (append_assoc (spelled c) x y))
       (λ cs. append_assoc (spelled c) (flat_map (further_spelled spelled) cs) (closing ∷ [])))
       (λ cs d x. symbol_then _ _ 41 (given (c ∷ cs)) x
       (λ z. begun (c ∷ cs) (closing ∷ []) (rw (append-nil (flat_map (further_spelled spelled) cs)) refl))
@@ -183,10 +194,12 @@ arg_reads = record {
 
 -- what stands behind a test's first term
 compared : (a : Term) (b : ℕ) (whole : Term → Test) → ((t : Term) → test_spelled (whole t) ≡ term_spelled a ++ symbol b ∷ term_spelled t)
-    → (ts : List Terminal) → Good (λ k q z. Stops test_spelled shallow k (term_spelled a ++ q) z) (λ v q. Is test_spelled shallow (λ c. c) v (term_spelled a ++ q)) (symbol_at b >> term_at >>= λ t. given (whole t)) ts
+    → (ts : List Terminal) → Good (λ k q z. Stops test_spelled shallow k (term_spelled a ++ q) z)
+    (λ v q. Is test_spelled shallow (λ c. c) v (term_spelled a ++ q)) (symbol_at b >> term_at >>= λ t. given (whole t)) ts
 compared a b whole is ts = symbol_then _ _ b _ ts (λ z. begun (whole some_term) (symbol b ∷ number 0 0 ∷ []) (rw (append-nil (term_spelled a)) (is some_term)))
     (λ z. part_then term_reads _ _ _ z
-    (inside term_spelled test_spelled shallow whole (λ q. term_spelled a ++ symbol b ∷ q) [] (λ x y. sym (append_assoc (term_spelled a) (symbol b ∷ x) y)) (λ t. rw (append-nil (term_spelled t)) (is t)))
+    (inside term_spelled test_spelled shallow whole (λ q. term_spelled a ++ symbol b ∷ q) [] (λ x y. sym (append_assoc (term_spelled a) (symbol b ∷ x) y))
+    (λ t. rw (append-nil (term_spelled t)) (is t)))
     (λ t d z. give _ _ (whole t) z (itself (rw (append-nil (term_spelled t)) (is t)))))
 
 pub test_reads : Self test_spelled test_at
@@ -260,7 +273,8 @@ module _ (two : Bool) where
   relop_tree c = c.0
 
   within_reads : two ≡ true → (ts : List Terminal)
-      → Good (λ k q z. Stops relop_terminals shallow k (word w.Precedes ∷ q) z) (λ v q. Is relop_terminals shallow relop_tree v (word w.Precedes ∷ q)) (word_at w.Within >> within_at) ts
+      → Good (λ k q z. Stops relop_terminals shallow k (word w.Precedes ∷ q) z) (λ v q. Is relop_terminals shallow relop_tree v (word w.Precedes ∷ q))
+      (word_at w.Within >> within_at) ts
   unfolding within_at
   within_reads h ts = word_then _ _ w.Within _ ts (λ z. begun (rel.PrecedesWithin 0 0, h) (word w.Within ∷ number 0 0 ∷ []) refl)
       (λ z. num_then _ _ _ z (λ z. begun (rel.PrecedesWithin 0 0, h) (number 0 0 ∷ []) refl)
@@ -272,11 +286,13 @@ module _ (two : Bool) where
     at = λ ts. either _ _ (is_word w.Precedes) _ _ ts
         (λ b. word_then _ _ w.Precedes _ ts (λ z. begun (rel.Precedes, refl) (word w.Precedes ∷ []) refl)
         (λ z. either _ _ (is_word w.Weakly) _ _ z
-        (λ b. word_then _ _ w.Weakly _ z (λ z. begun (rel.PrecedesWeakly, refl) (word w.Weakly ∷ []) refl) (λ z. give _ _ rel.PrecedesWeakly z (built (rel.PrecedesWeakly, refl) refl (λ after. refl))))
+        (λ b. word_then _ _ w.Weakly _ z (λ z. begun (rel.PrecedesWeakly, refl) (word w.Weakly ∷ []) refl)
+        (λ z. give _ _ rel.PrecedesWeakly z (built (rel.PrecedesWeakly, refl) refl (λ after. refl))))
         (λ b. either _ _ (goes_on_by two w.Within) _ _ z
         (λ b. within_reads (goes_on_two two w.Within z b) z)
         (λ b. give _ _ rel.Precedes z (built (rel.Precedes, refl) refl (λ after. refl))))))
-        (λ b. take_one _ _ relop_of ts (λ z. begun (rel.Subclock, refl) (word w.Subclock ∷ []) refl) (λ u r e. built (r, relop_old two u r e) (relop_is u r e) (λ after. refl)));
+        (λ b. take_one _ _ relop_of ts (λ z. begun (rel.Subclock, refl) (word w.Subclock ∷ []) refl)
+        (λ u r e. built (r, relop_old two u r e) (relop_is u r e) (λ after. refl)));
   }
 
   pub binop_reads : Reads (λ (c : Binop two). binop_spelled c.0) shallow (λ c. c.0) (binop_at two)
@@ -286,13 +302,17 @@ module _ (two : Bool) where
         (λ b. word_then _ _ w.Sampled _ ts (λ z. begun (op.Sampled, refl) (word w.Sampled ∷ word w.On ∷ []) refl)
         (λ z. either _ _ (is_word w.Weakly) _ _ z
         (λ b. word_then _ _ w.Weakly _ z (λ z. begun (op.SampledWeakly, refl) (word w.Weakly ∷ word w.On ∷ []) refl)
-        (λ z. word_then _ _ w.On _ z (λ z. begun (op.SampledWeakly, refl) (word w.On ∷ []) refl) (λ z. give _ _ op.SampledWeakly z (built (op.SampledWeakly, refl) refl (λ after. refl)))))
-        (λ b. word_then _ _ w.On _ z (λ z. begun (op.Sampled, refl) (word w.On ∷ []) refl) (λ z. give _ _ op.Sampled z (built (op.Sampled, refl) refl (λ after. refl))))))
+        (λ z. word_then _ _ w.On _ z (λ z. begun (op.SampledWeakly, refl) (word w.On ∷ []) refl)
+        (λ z. give _ _ op.SampledWeakly z (built (op.SampledWeakly, refl) refl (λ after. refl)))))
+        (λ b. word_then _ _ w.On _ z (λ z. begun (op.Sampled, refl) (word w.On ∷ []) refl)
+        (λ z. give _ _ op.Sampled z (built (op.Sampled, refl) refl (λ after. refl))))))
         (λ b. either _ _ (is_word w.Upto) _ _ ts
         (λ b. word_then _ _ w.Upto _ ts (λ z. begun (op.Upto, refl) (word w.Upto ∷ []) refl)
         (λ z. either _ _ (goes_on_by two w.Weakly) _ _ z
         (λ b. let h = goes_on_two two w.Weakly z b in
-        word_then _ _ w.Weakly _ z (λ z. begun (op.UptoWeakly, h) (word w.Weakly ∷ []) refl) (λ z. give _ _ op.UptoWeakly z (built (op.UptoWeakly, h) refl (λ after. refl))))
+        word_then _ _ w.Weakly _ z (λ z. begun (op.UptoWeakly, h) (word w.Weakly ∷ []) refl)
+        (λ z. give _ _ op.UptoWeakly z (built (op.UptoWeakly, h) refl (λ after. refl))))
         (λ b. give _ _ op.Upto z (built (op.Upto, refl) refl (λ after. refl)))))
-        (λ b. take_one _ _ binop_of ts (λ z. begun (op.Union, refl) (word w.Union ∷ []) refl) (λ u o e. built (o, binop_old two u o e) (binop_is u o e) (λ after. refl))));
+        (λ b. take_one _ _ binop_of ts (λ z. begun (op.Union, refl) (word w.Union ∷ []) refl)
+        (λ u o e. built (o, binop_old two u o e) (binop_is u o e) (λ after. refl))));
   }

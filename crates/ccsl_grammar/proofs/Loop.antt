@@ -8,7 +8,8 @@ use Rattle.ccsl_grammar.specs.Reader.{Fault, Reply, took, stopped, Reader, follo
 use Rattle.ccsl_grammar.specs.Loop.{prefixed}
 use Rattle.ccsl_grammar.specs.Deep.{rline_deep, sline_deep, member_deep, definition_deep}
 use Rattle.ccsl_grammar.specs.Places.{shallow}
-use Rattle.ccsl_grammar.specs.Grammar.{further_spelled, signed_spelled, arg_spelled, param_spelled, clock_spelled, rline_spelled, rline_tree, sline_spelled, sline_tree, further_member, member_tree, definition_spelled, definition_tree}
+use Rattle.ccsl_grammar.specs.Grammar.{further_spelled, signed_spelled, arg_spelled, param_spelled, clock_spelled, rline_spelled, rline_tree, sline_spelled}
+use Rattle.ccsl_grammar.specs.Grammar.{sline_tree, further_member, member_tree, definition_spelled, definition_tree}
 use Rattle.ccsl_grammar.specs.Parser.{name_at, further_at, signed_at, arg_at, param_at, rline_at, sline_at, further_member_at, definition_at}
 use Rattle.ccsl_grammar.proofs.Parts.{Reads, Self}
 use Rattle.ccsl_grammar.proofs.Many.{step, item_falls}
@@ -26,11 +27,13 @@ module _ {A : Type 0} (test : Terminal → Bool) (f : Reader A) (falls : Falls f
   prefixed_one front v (stopped k rest) = refl
 
   -- one more turn
-  pub goes_on : (front : List A) (v : A) (ts rest : List Terminal) (r : Reply (List A)) → begins test ts ≡ true → f ts ≡ took v rest → prefixed front (many test f ts) ≡ r → prefixed (front ++ v ∷ []) (many test f rest) ≡ r
+  pub goes_on : (front : List A) (v : A) (ts rest : List Terminal) (r : Reply (List A)) → begins test ts ≡ true → f ts ≡ took v rest
+      → prefixed front (many test f ts) ≡ r → prefixed (front ++ v ∷ []) (many test f rest) ≡ r
   goes_on front v ts rest r b e h = prefixed_one front v (many test f rest) ∙ ap (prefixed front) (sym (step test f falls.at ts ∙ rw (b, e) refl)) ∙ h
 
   -- a turn that fails
-  pub stops : (front : List A) (k : Fault) (ts rest : List Terminal) (r : Reply (List A)) → begins test ts ≡ true → f ts ≡ stopped k rest → prefixed front (many test f ts) ≡ r → r ≡ stopped k rest
+  pub stops : (front : List A) (k : Fault) (ts rest : List Terminal) (r : Reply (List A)) → begins test ts ≡ true → f ts ≡ stopped k rest
+      → prefixed front (many test f ts) ≡ r → r ≡ stopped k rest
   stops front k ts rest r b e h =
       let s : many test f ts ≡ stopped k rest = step test f falls.at ts ∙ rw (b, e) refl in
       sym h ∙ ap (prefixed front) s
@@ -43,14 +46,16 @@ module _ {A : Type 0} (test : Terminal → Bool) (f : Reader A) (falls : Falls f
 
 -- ---- the loops of the grammar
 
-reads_fall : {C T : Type 0} (spelled : C → List Terminal) (deep : C → List Terminal → Option (List Terminal)) (tree : C → T) (f : Reader T) → ((c : C) → 0 < length (spelled c)) → Reads spelled deep tree f → Falls f
+reads_fall : {C T : Type 0} (spelled : C → List Terminal) (deep : C → List Terminal → Option (List Terminal)) (tree : C → T) (f : Reader T)
+    → ((c : C) → 0 < length (spelled c)) → Reads spelled deep tree f → Falls f
 reads_fall spelled deep tree f nonempty reads = record { at = item_falls spelled deep tree (is_symbol 0) f nonempty reads }
 
 pub signed_falls : Falls signed_at
 signed_falls = reads_fall signed_spelled shallow (λ c. c) signed_at (λ c. omega arith) signed_reads
 
 further_falls : {C : Type 0} (spelled : C → List Terminal) (item : Reader C) (some : C) → Self spelled item → Falls (further_at item)
-further_falls spelled item some reads = reads_fall (further_spelled spelled) shallow (λ c. c) (further_at item) (λ c. omega arith) (further_reads spelled item some reads)
+further_falls spelled item some reads =
+    reads_fall (further_spelled spelled) shallow (λ c. c) (further_at item) (λ c. omega arith) (further_reads spelled item some reads)
 
 pub further_arg_falls : Falls (further_at arg_at)
 further_arg_falls = further_falls arg_spelled arg_at (arg.Tail some_spot) arg_reads
@@ -68,7 +73,9 @@ pub sline_falls : (two : Bool) (room : ℕ) → Falls (sline_at two room)
 sline_falls two room = reads_fall (sline_spelled {two = two}) (sline_deep room) sline_tree (sline_at two room) sline_nonempty (sline_reads two room)
 
 pub further_member_falls : (two : Bool) (room : ℕ) → Falls (further_member_at two room)
-further_member_falls two room = reads_fall (further_member {two = two}) (member_deep room) member_tree (further_member_at two room) (λ m. omega arith) (further_member_reads two room)
+further_member_falls two room =
+    reads_fall (further_member {two = two}) (member_deep room) member_tree (further_member_at two room) (λ m. omega arith) (further_member_reads two room)
 
 pub definition_falls : (two : Bool) (room : ℕ) → Falls (definition_at two room)
-definition_falls two room = reads_fall (definition_spelled {two = two}) (definition_deep room) definition_tree (definition_at two room) definition_nonempty (definition_reads two room)
+definition_falls two room =
+    reads_fall (definition_spelled {two = two}) (definition_deep room) definition_tree (definition_at two room) definition_nonempty (definition_reads two room)

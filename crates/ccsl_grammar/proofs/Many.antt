@@ -1,9 +1,11 @@
 -- The same reader again and again.
-use Rattle.std.proofs.Common.{◌≡◌, ℕ, zero, suc, ◌<◌, ◌≤◌, Bool, true, false, List, [], ◌∷◌, ◌++◌, length, map, Option, None, refl, sym, ap, subst, ◌∙◌, append_assoc, arith, length-append}
+use Rattle.std.proofs.Common.{◌≡◌, ℕ, zero, suc, ◌<◌, ◌≤◌, Bool, true, false, List, [], ◌∷◌, ◌++◌, length, map, Option, None, refl, sym, ap, subst, ◌∙◌}
+use Rattle.std.proofs.Common.{append_assoc, arith, length-append}
 use Rattle.std.specs.List.{flat_map}
 use Rattle.std.proofs.lemmas.List.{append-nil, map-id}
 use Rattle.ccsl_grammar.specs.Terminals.{Terminal}
-use Rattle.ccsl_grammar.specs.Reader.{Fault, no_syntax, too_deep, Reply, took, stopped, Reader, followed, ◌>>=◌, given, begins, picked, choose, many_within, many}
+use Rattle.ccsl_grammar.specs.Reader.{Fault, no_syntax, too_deep, Reply, took, stopped, Reader, followed, ◌>>=◌, given, begins, picked, choose, many_within}
+use Rattle.ccsl_grammar.specs.Reader.{many}
 use Rattle.ccsl_grammar.specs.Deep.{all_deep}
 use Rattle.ccsl_grammar.specs.Places.{Stops, Is, shallow}
 use Rattle.ccsl_grammar.proofs.Good.{Took, Good, GoodAs, bind, give, either, same, weaker}
@@ -11,7 +13,8 @@ use Rattle.ccsl_grammar.proofs.Parts.{within, Reads, Self}
 
 -- ---- the number of turns allowed does not matter, where there is enough of it
 
-module _ {A : Type 0} (test : Terminal → Bool) (f : Reader A) (falls : (ts : List Terminal) (v : A) (rest : List Terminal) → f ts ≡ took v rest → length rest < length ts) where
+module _ {A : Type 0} (test : Terminal → Bool) (f : Reader A)
+    (falls : (ts : List Terminal) (v : A) (rest : List Terminal) → f ts ≡ took v rest → length rest < length ts) where
   enough_reply : (n m : ℕ) → ((us : List Terminal) → length us ≤ n → length us ≤ m → many_within n test f us ≡ many_within m test f us)
       → (r : Reply A) (ts : List Terminal) → f ts ≡ r → length ts ≤ suc n → length ts ≤ suc m
       → followed r (λ v. many_within n test f >>= λ vs. given (v ∷ vs)) ≡ followed r (λ v. many_within m test f >>= λ vs. given (v ∷ vs))
@@ -22,7 +25,8 @@ module _ {A : Type 0} (test : Terminal → Bool) (f : Reader A) (falls : (ts : L
 
   enough_picked : (n m : ℕ) → ((us : List Terminal) → length us ≤ n → length us ≤ m → many_within n test f us ≡ many_within m test f us)
       → (b : Bool) (ts : List Terminal) → length ts ≤ suc n → length ts ≤ suc m
-      → picked b (f >>= λ v. many_within n test f >>= λ vs. given (v ∷ vs)) (given []) ts ≡ picked b (f >>= λ v. many_within m test f >>= λ vs. given (v ∷ vs)) (given []) ts
+      → picked b (f >>= λ v. many_within n test f >>= λ vs. given (v ∷ vs)) (given []) ts ≡ picked b (f >>= λ v. many_within m test f >>= λ vs. given (v ∷ vs))
+      (given []) ts
   enough_picked n m ih false ts h i = refl
   enough_picked n m ih true ts h i = enough_reply n m ih (f ts) ts refl h i
 
@@ -43,7 +47,8 @@ module _ {A : Type 0} (test : Terminal → Bool) (f : Reader A) (falls : (ts : L
       ap (λ (r : Reply (List A)). followed r (λ vs. given (v ∷ vs))) (enough (length ts) (length rest) rest (omega arith) (omega arith))
 
   step_picked : (t : Terminal) (ts : List Terminal) (b : Bool)
-      → picked b (f >>= λ v. many_within (length ts) test f >>= λ vs. given (v ∷ vs)) (given []) (t ∷ ts) ≡ picked b (f >>= λ v. many test f >>= λ vs. given (v ∷ vs)) (given []) (t ∷ ts)
+      → picked b (f >>= λ v. many_within (length ts) test f >>= λ vs. given (v ∷ vs)) (given []) (t ∷ ts) ≡ picked b
+      (f >>= λ v. many test f >>= λ vs. given (v ∷ vs)) (given []) (t ∷ ts)
   step_picked t ts false = refl
   step_picked t ts true = step_reply t ts (f (t ∷ ts)) refl
 
@@ -64,13 +69,18 @@ module _ {C T : Type 0} (spelled : C → List Terminal) (deep : C → List Termi
   item_falls ts v rest e = falls_as ts v rest (subst (λ r. GoodAs (Stops spelled deep) (Is spelled deep tree) f ts r) e (item.at ts).is)
 
   one_stops : (k : Fault) (p z : List Terminal) → Stops spelled deep k p z → Stops (flat_map spelled) (all_deep spelled deep) k p z
-  one_stops k p z h = within spelled deep (flat_map spelled) (all_deep spelled deep) (λ c. c ∷ []) (λ q. q) [] (λ x y. refl) (λ c. refl) (λ c z after e. rw e refl) k p z h
+  one_stops k p z h = within spelled deep (flat_map spelled) (all_deep spelled deep) (λ c. c ∷ []) (λ q. q) [] (λ x y. refl) (λ c. refl)
+      (λ c z after e. rw e refl) k p z h
 
-  further_stops : (v : T) (p : List Terminal) → Is spelled deep tree v p → (k : Fault) (q z : List Terminal) → Stops (flat_map spelled) (all_deep spelled deep) k q z → Stops (flat_map spelled) (all_deep spelled deep) k (p ++ q) z
-  further_stops v p i k q z h = within (flat_map spelled) (all_deep spelled deep) (flat_map spelled) (all_deep spelled deep) (λ cs. i.whole ∷ cs) (λ q. p ++ q) []
-      (λ x y. sym (append_assoc p x y)) (λ cs. rw (i.is, append-nil (flat_map spelled cs)) refl) (λ cs z after e. rw (i.deep_is (flat_map spelled cs ++ after)) e) k q z h
+  further_stops : (v : T) (p : List Terminal) → Is spelled deep tree v p → (k : Fault) (q z : List Terminal)
+      → Stops (flat_map spelled) (all_deep spelled deep) k q z → Stops (flat_map spelled) (all_deep spelled deep) k (p ++ q) z
+  further_stops v p i k q z h =
+      within (flat_map spelled) (all_deep spelled deep) (flat_map spelled) (all_deep spelled deep) (λ cs. i.whole ∷ cs) (λ q. p ++ q) []
+      (λ x y. sym (append_assoc p x y)) (λ cs. rw (i.is, append-nil (flat_map spelled cs)) refl)
+      (λ cs z after e. rw (i.deep_is (flat_map spelled cs ++ after)) e) k q z h
 
-  further_is : (v : T) (p : List Terminal) → Is spelled deep tree v p → (vs : List T) (q : List Terminal) → Is (flat_map spelled) (all_deep spelled deep) (map tree) vs q → Is (flat_map spelled) (all_deep spelled deep) (map tree) (v ∷ vs) (p ++ (q ++ []))
+  further_is : (v : T) (p : List Terminal) → Is spelled deep tree v p → (vs : List T) (q : List Terminal)
+      → Is (flat_map spelled) (all_deep spelled deep) (map tree) vs q → Is (flat_map spelled) (all_deep spelled deep) (map tree) (v ∷ vs) (p ++ (q ++ []))
   further_is v p i vs q j = record {
     whole = i.whole ∷ j.whole;
     is = rw (i.is, append-nil q, j.is) refl;
@@ -78,7 +88,9 @@ module _ {C T : Type 0} (spelled : C → List Terminal) (deep : C → List Termi
     deep_is = λ after. rw (i.deep_is (flat_map spelled j.whole ++ after)) (j.deep_is after);
   }
 
-  turn_good : (ts : List Terminal) → ((us : List Terminal) → length us < length ts → Good (Stops (flat_map spelled) (all_deep spelled deep)) (Is (flat_map spelled) (all_deep spelled deep) (map tree)) (many test f) us)
+  turn_good : (ts : List Terminal)
+      → ((us : List Terminal) → length us < length ts
+      → Good (Stops (flat_map spelled) (all_deep spelled deep)) (Is (flat_map spelled) (all_deep spelled deep) (map tree)) (many test f) us)
       → Good (Stops (flat_map spelled) (all_deep spelled deep)) (Is (flat_map spelled) (all_deep spelled deep) (map tree)) (many test f) ts
   turn_good ts ih = same _ _ (many test f) (choose test (f >>= λ v. many test f >>= λ vs. given (v ∷ vs)) (given [])) ts (step test f item_falls)
       (either _ _ test _ _ ts
@@ -89,7 +101,8 @@ module _ {C T : Type 0} (spelled : C → List Terminal) (deep : C → List Termi
       (λ vs q y j d. give _ _ (v ∷ vs) y (further_is v p i vs q j))))
       (λ b. give _ _ [] ts (record { whole = []; is = refl; tree_is = refl; deep_is = λ after. refl })))
 
-  within_good : (n : ℕ) (ts : List Terminal) → length ts < n → Good (Stops (flat_map spelled) (all_deep spelled deep)) (Is (flat_map spelled) (all_deep spelled deep) (map tree)) (many test f) ts
+  within_good : (n : ℕ) (ts : List Terminal) → length ts < n
+      → Good (Stops (flat_map spelled) (all_deep spelled deep)) (Is (flat_map spelled) (all_deep spelled deep) (map tree)) (many test f) ts
   within_good zero ts h = absurd (omega arith)
   within_good (suc n) ts h = turn_good ts (λ us lt. within_good n us (omega arith))
 
@@ -102,12 +115,15 @@ pub none_deep : {C : Type 0} (spelled : C → List Terminal) (cs : List C) (afte
 none_deep spelled [] after = refl
 none_deep spelled (c ∷ cs) after = none_deep spelled cs after
 
-lists_stop : {C : Type 0} (spelled : C → List Terminal) (k : Fault) (p z : List Terminal) → Stops (flat_map spelled) (all_deep spelled shallow) k p z → Stops (flat_map spelled) shallow k p z
+lists_stop : {C : Type 0} (spelled : C → List Terminal) (k : Fault) (p z : List Terminal) → Stops (flat_map spelled) (all_deep spelled shallow) k p z
+    → Stops (flat_map spelled) shallow k p z
 lists_stop spelled no_syntax p z h = h
 lists_stop spelled too_deep p z h = let n = none_deep spelled h.whole [] in let e = h.deep_is [] in absurd cc
 
-pub many_self : {C : Type 0} (spelled : C → List Terminal) (test : Terminal → Bool) (f : Reader C) → ((c : C) → 0 < length (spelled c)) → Self spelled f → Self (flat_map spelled) (many test f)
+pub many_self : {C : Type 0} (spelled : C → List Terminal) (test : Terminal → Bool) (f : Reader C) → ((c : C) → 0 < length (spelled c)) → Self spelled f
+    → Self (flat_map spelled) (many test f)
 many_self spelled test f nonempty h = record {
-  at = λ ts. weaker _ _ _ _ (many test f) ts (lists_stop spelled) (λ v p i. record { whole = i.whole; is = i.is; tree_is = sym (map-id i.whole) ∙ i.tree_is; deep_is = λ after. refl })
+  at = λ ts. weaker _ _ _ _ (many test f) ts (lists_stop spelled)
+      (λ v p i. record { whole = i.whole; is = i.is; tree_is = sym (map-id i.whole) ∙ i.tree_is; deep_is = λ after. refl })
       ((many_reads spelled shallow (λ c. c) test f nonempty h).at ts);
 }

@@ -26,9 +26,15 @@ use Rattle.ccsl_ast.specs.declared.definition.Kind.{Kind}
 use Rattle.ccsl_ast.specs.declared.definition.Kind.TheVariants as kind
 use Rattle.ccsl_ast.specs.declared.definition.Param.{Param}
 use Rattle.ccsl_ast.specs.Trees.{PlainFile, binop_in, relop_in}
-use Rattle.ccsl_ast.specs.Kept.{text_kept, spot_kept, number_kept, prim_kept, signed_kept, term_kept, wterm_kept, test_kept, arg_kept, relop_kept, expression_kept, rline_kept, sline_kept, param_kept, member_kept, definition_kept, is_two, file_kept}
+use Rattle.ccsl_ast.specs.Kept.{text_kept, spot_kept, number_kept, prim_kept, signed_kept, term_kept, wterm_kept, test_kept, arg_kept, relop_kept}
+use Rattle.ccsl_ast.specs.Kept.{expression_kept, rline_kept, sline_kept, param_kept, member_kept, definition_kept, is_two, file_kept}
 use Rattle.ccsl_grammar.specs.Terminals.{Terminal, word, symbol, name, number, quoted}
-use Rattle.ccsl_grammar.specs.Grammar.{opening, closing, semicolon, equals, left_brace, right_brace, further_spelled, list_spelled, prim_spelled, signed_spelled, term_spelled, wterm_spelled, test_spelled, arg_spelled, kind_spelled, param_spelled, relop_spelled, binop_spelled, Expr, alone, binary, delay, await, filter, delayed, choice, Operand, named, called, never, parens, expr_spelled, operand_spelled, expr_tree, operand_tree, Rline, define, constrain, call, rline_spelled, rline_tree, Sline, clocks, line, clock_spelled, sline_spelled, sline_tree, Member, member_spelled, further_member, member_tree, Definition, relation, group, definition_spelled, definition_tree, Derivation, version, system_spelled, file_spelled, file_tree}
+use Rattle.ccsl_grammar.specs.Grammar.{opening, closing, semicolon, equals, left_brace, right_brace, further_spelled, list_spelled, prim_spelled}
+use Rattle.ccsl_grammar.specs.Grammar.{signed_spelled, term_spelled, wterm_spelled, test_spelled, arg_spelled, kind_spelled, param_spelled, relop_spelled}
+use Rattle.ccsl_grammar.specs.Grammar.{binop_spelled, Expr, alone, binary, delay, await, filter, delayed, choice, Operand, named, called, never, parens}
+use Rattle.ccsl_grammar.specs.Grammar.{expr_spelled, operand_spelled, expr_tree, operand_tree, Rline, define, constrain, call, rline_spelled, rline_tree, Sline}
+use Rattle.ccsl_grammar.specs.Grammar.{clocks, line, clock_spelled, sline_spelled, sline_tree, Member, member_spelled, further_member, member_tree, Definition}
+use Rattle.ccsl_grammar.specs.Grammar.{relation, group, definition_spelled, definition_tree, Derivation, version, system_spelled, file_spelled, file_tree}
 use Rattle.ccsl_grammar.specs.Canonical.{canonical_terminals}
 use Rattle.ccsl_grammar.specs.Kept.{terminal_kept}
 use Rattle.ccsl_grammar.specs.Laws.{CanonicalKeeps}
@@ -67,21 +73,28 @@ module _ (test : Terminal → Bool) (h : Holds test) where
   numbered : (at n : ℕ) (ts : List Terminal) → number_kept n ≡ true → all ts ≡ true → all (number at n ∷ ts) ≡ true
   numbered at n ts k p = and_from (test (number at n)) (all ts) (h.numbers at n k) p
 
-  each : {C T : Type 0} (spelled : C → List Terminal) (tree : C → T) (kept : T → Bool) → ((c : C) → kept (tree c) ≡ true → all (spelled c) ≡ true) → (cs : List C) → list_all kept (map tree cs) ≡ true → all (flat_map spelled cs) ≡ true
+  each : {C T : Type 0} (spelled : C → List Terminal) (tree : C → T) (kept : T → Bool) → ((c : C) → kept (tree c) ≡ true → all (spelled c) ≡ true)
+      → (cs : List C) → list_all kept (map tree cs) ≡ true → all (flat_map spelled cs) ≡ true
   each spelled tree kept one [] k = refl
-  each spelled tree kept one (c ∷ cs) k = let p = and_parts (kept (tree c)) (list_all kept (map tree cs)) k in join (spelled c) (flat_map spelled cs) (one c p.0) (each spelled tree kept one cs p.1)
+  each spelled tree kept one (c ∷ cs) k = let p =
+      and_parts (kept (tree c)) (list_all kept (map tree cs)) k in join (spelled c) (flat_map spelled cs) (one c p.0) (each spelled tree kept one cs p.1)
 
   -- parts that are their own trees
-  each_part : {C : Type 0} (spelled : C → List Terminal) (kept : C → Bool) → ((c : C) → kept c ≡ true → all (spelled c) ≡ true) → (cs : List C) → list_all kept cs ≡ true → all (flat_map spelled cs) ≡ true
+  each_part : {C : Type 0} (spelled : C → List Terminal) (kept : C → Bool) → ((c : C) → kept c ≡ true → all (spelled c) ≡ true) → (cs : List C)
+      → list_all kept cs ≡ true → all (flat_map spelled cs) ≡ true
   each_part spelled kept one [] k = refl
-  each_part spelled kept one (c ∷ cs) k = let p = and_parts (kept c) (list_all kept cs) k in join (spelled c) (flat_map spelled cs) (one c p.0) (each_part spelled kept one cs p.1)
+  each_part spelled kept one (c ∷ cs) k = let p =
+      and_parts (kept c) (list_all kept cs) k in join (spelled c) (flat_map spelled cs) (one c p.0) (each_part spelled kept one cs p.1)
 
-  furthers : {C : Type 0} (spelled : C → List Terminal) (kept : C → Bool) → ((c : C) → kept c ≡ true → all (spelled c) ≡ true) → (cs : List C) → list_all kept cs ≡ true → all (flat_map (further_spelled spelled) cs) ≡ true
+  furthers : {C : Type 0} (spelled : C → List Terminal) (kept : C → Bool) → ((c : C) → kept c ≡ true → all (spelled c) ≡ true) → (cs : List C)
+      → list_all kept cs ≡ true → all (flat_map (further_spelled spelled) cs) ≡ true
   furthers spelled kept one = each_part (further_spelled spelled) kept (λ c k. marked 44 (spelled c) refl (one c k))
 
-  listed : {C : Type 0} (spelled : C → List Terminal) (kept : C → Bool) → ((c : C) → kept c ≡ true → all (spelled c) ≡ true) → (cs : List C) → list_all kept cs ≡ true → all (list_spelled spelled cs) ≡ true
+  listed : {C : Type 0} (spelled : C → List Terminal) (kept : C → Bool) → ((c : C) → kept c ≡ true → all (spelled c) ≡ true) → (cs : List C)
+      → list_all kept cs ≡ true → all (list_spelled spelled cs) ≡ true
   listed spelled kept one [] k = refl
-  listed spelled kept one (c ∷ cs) k = let p = and_parts (kept c) (list_all kept cs) k in join (spelled c) (flat_map (further_spelled spelled) cs) (one c p.0) (furthers spelled kept one cs p.1)
+  listed spelled kept one (c ∷ cs) k = let p =
+      and_parts (kept c) (list_all kept cs) k in join (spelled c) (flat_map (further_spelled spelled) cs) (one c p.0) (furthers spelled kept one cs p.1)
 
   -- ---- the parts in which no expression stands
 
@@ -94,7 +107,9 @@ module _ (test : Terminal → Bool) (h : Holds test) where
   signed_all (Minus, p) k = marked 45 (prim_spelled p) refl (prim_all p k)
 
   term_all : (t : Term) → term_kept t ≡ true → all (term_spelled t) ≡ true
-  term_all t k = let p = and_parts (prim_kept t.first) (list_all signed_kept t.rest) k in join (prim_spelled t.first) (flat_map signed_spelled t.rest) (prim_all t.first p.0) (each_part signed_spelled signed_kept signed_all t.rest p.1)
+  term_all t k =
+      let p = and_parts (prim_kept t.first) (list_all signed_kept t.rest) k in
+      join (prim_spelled t.first) (flat_map signed_spelled t.rest) (prim_all t.first p.0) (each_part signed_spelled signed_kept signed_all t.rest p.1)
 
   word_name : (v : Reserved) (x : Spot) → spot_kept x ≡ true → all (word v ∷ name x ∷ []) ≡ true
   word_name v x k = worded v (name x ∷ []) (named_by x [] k refl)
@@ -108,7 +123,9 @@ module _ (test : Terminal → Bool) (h : Holds test) where
   wterm_all (wterm.Tail x) k = word_name w.Tail x k
 
   compared : (b : ℕ) (a d : Term) → is_mark b ≡ true → (term_kept a && term_kept d) ≡ true → all (term_spelled a ++ symbol b ∷ term_spelled d) ≡ true
-  compared b a d m k = let p = and_parts (term_kept a) (term_kept d) k in join (term_spelled a) (symbol b ∷ term_spelled d) (term_all a p.0) (marked b (term_spelled d) m (term_all d p.1))
+  compared b a d m k = let p =
+      and_parts (term_kept a) (term_kept d) k in
+      join (term_spelled a) (symbol b ∷ term_spelled d) (term_all a p.0) (marked b (term_spelled d) m (term_all d p.1))
 
   test_all : (q : Test) → test_kept q ≡ true → all (test_spelled q) ≡ true
   test_all (Equal a b) k = compared 61 a b refl k
@@ -163,7 +180,8 @@ module _ (test : Terminal → Bool) (h : Holds test) where
     expr_all {two} (binary op v a d) k =
         let p = and_parts (binop_in two op) (expression_kept two (operand_tree a) && expression_kept two (operand_tree d)) k in
         let q = and_parts (expression_kept two (operand_tree a)) (expression_kept two (operand_tree d)) p.1 in
-        join (operand_spelled a) (binop_spelled op ++ operand_spelled d) (operand_all a q.0) (join (binop_spelled op) (operand_spelled d) (binop_all op) (operand_all d q.1))
+        join (operand_spelled a) (binop_spelled op ++ operand_spelled d) (operand_all a q.0)
+        (join (binop_spelled op) (operand_spelled d) (binop_all op) (operand_all d q.1))
     expr_all {two} (delay a m) k =
         let p = and_parts (expression_kept two (operand_tree a)) (term_kept m) k in
         join (operand_spelled a) (word w.Delay ∷ term_spelled m) (operand_all a p.0) (worded w.Delay (term_spelled m) (term_all m p.1))
@@ -177,20 +195,23 @@ module _ (test : Terminal → Bool) (h : Holds test) where
         let p = and_parts (expression_kept two (operand_tree a)) (number_kept n && expression_kept two (operand_tree d)) k in
         let q = and_parts (number_kept n) (expression_kept two (operand_tree d)) p.1 in
         join (operand_spelled a) (word w.Delayed ∷ number at n ∷ word w.On ∷ operand_spelled d) (operand_all a p.0)
-        (worded w.Delayed (number at n ∷ word w.On ∷ operand_spelled d) (numbered at n (word w.On ∷ operand_spelled d) q.0 (worded w.On (operand_spelled d) (operand_all d q.1))))
+        (worded w.Delayed (number at n ∷ word w.On ∷ operand_spelled d)
+        (numbered at n (word w.On ∷ operand_spelled d) q.0 (worded w.On (operand_spelled d) (operand_all d q.1))))
     expr_all {two} (choice q a d) k =
         let p = and_parts (test_kept q) (expression_kept two (expr_tree a) && expression_kept two (expr_tree d)) k in
         let r = and_parts (expression_kept two (expr_tree a)) (expression_kept two (expr_tree d)) p.1 in
         worded w.If (test_spelled q ++ word w.Use ∷ (expr_spelled a ++ word w.Else ∷ expr_spelled d))
         (join (test_spelled q) (word w.Use ∷ (expr_spelled a ++ word w.Else ∷ expr_spelled d)) (test_all q p.0)
-        (worded w.Use (expr_spelled a ++ word w.Else ∷ expr_spelled d) (join (expr_spelled a) (word w.Else ∷ expr_spelled d) (expr_all a r.0) (worded w.Else (expr_spelled d) (expr_all d r.1)))))
+        (worded w.Use (expr_spelled a ++ word w.Else ∷ expr_spelled d)
+        (join (expr_spelled a) (word w.Else ∷ expr_spelled d) (expr_all a r.0) (worded w.Else (expr_spelled d) (expr_all d r.1)))))
 
     operand_all : {two : Bool} (c : Operand two) → expression_kept two (operand_tree c) ≡ true → all (operand_spelled c) ≡ true
     operand_all (named x) k = named_by x [] k refl
     operand_all (called x args) k =
         let p = and_parts (spot_kept x) (list_all arg_kept args) k in
         named_by x (opening ∷ (list_spelled arg_spelled args ++ closing ∷ [])) p.0
-        (marked 40 (list_spelled arg_spelled args ++ closing ∷ []) refl (join (list_spelled arg_spelled args) (closing ∷ []) (args_all args p.1) (marked 41 [] refl refl)))
+        (marked 40 (list_spelled arg_spelled args ++ closing ∷ []) refl
+        (join (list_spelled arg_spelled args) (closing ∷ []) (args_all args p.1) (marked 41 [] refl refl)))
     operand_all never k = worded w.Never [] refl
     operand_all (parens e) k = marked 40 (expr_spelled e ++ closing ∷ []) refl (join (expr_spelled e) (closing ∷ []) (expr_all e k) (marked 41 [] refl refl))
 
@@ -202,22 +223,26 @@ module _ (test : Terminal → Bool) (h : Holds test) where
   rline_all : {two : Bool} (l : Rline two) → rline_kept two (rline_tree l) ≡ true → all (rline_spelled l) ≡ true
   rline_all {two} (define x e) k =
       let p = and_parts (spot_kept x) (expression_kept two (expr_tree e)) k in
-      worded w.Define (name x ∷ equals ∷ (expr_spelled e ++ semicolon ∷ [])) (named_by x (equals ∷ (expr_spelled e ++ semicolon ∷ [])) p.0 (marked 61 (expr_spelled e ++ semicolon ∷ []) refl (ended e p.1)))
+      worded w.Define (name x ∷ equals ∷ (expr_spelled e ++ semicolon ∷ []))
+      (named_by x (equals ∷ (expr_spelled e ++ semicolon ∷ [])) p.0 (marked 61 (expr_spelled e ++ semicolon ∷ []) refl (ended e p.1)))
   rline_all {two} (constrain a r v b) k =
       let p = and_parts (spot_kept a) (relop_in two r && (relop_kept r && spot_kept b)) k in
       let q = and_parts (relop_in two r) (relop_kept r && spot_kept b) p.1 in
       let s = and_parts (relop_kept r) (spot_kept b) q.1 in
-      named_by a (relop_spelled r ++ name b ∷ semicolon ∷ []) p.0 (join (relop_spelled r) (name b ∷ semicolon ∷ []) (relop_all r s.0) (named_by b (semicolon ∷ []) s.1 (marked 59 [] refl refl)))
+      named_by a (relop_spelled r ++ name b ∷ semicolon ∷ []) p.0
+      (join (relop_spelled r) (name b ∷ semicolon ∷ []) (relop_all r s.0) (named_by b (semicolon ∷ []) s.1 (marked 59 [] refl refl)))
   rline_all (call x args) k =
       let p = and_parts (spot_kept x) (list_all arg_kept args) k in
       named_by x (opening ∷ (list_spelled arg_spelled args ++ closing ∷ semicolon ∷ [])) p.0
-      (marked 40 (list_spelled arg_spelled args ++ closing ∷ semicolon ∷ []) refl (join (list_spelled arg_spelled args) (closing ∷ semicolon ∷ []) (args_all args p.1) (marked 41 (semicolon ∷ []) refl (marked 59 [] refl refl))))
+      (marked 40 (list_spelled arg_spelled args ++ closing ∷ semicolon ∷ []) refl
+      (join (list_spelled arg_spelled args) (closing ∷ semicolon ∷ []) (args_all args p.1) (marked 41 (semicolon ∷ []) refl (marked 59 [] refl refl))))
 
   sline_all : {two : Bool} (l : Sline two) → sline_kept two (sline_tree l) ≡ true → all (sline_spelled l) ≡ true
   sline_all (clocks x xs) k =
       let p = and_parts (spot_kept x) (list_all spot_kept xs) k in
       let furthers_all : all (flat_map (further_spelled clock_spelled) xs) ≡ true = furthers clock_spelled spot_kept (λ y i. named_by y [] i refl) xs p.1 in
-      worded w.Clock (name x ∷ (flat_map (further_spelled clock_spelled) xs ++ semicolon ∷ [])) (named_by x (flat_map (further_spelled clock_spelled) xs ++ semicolon ∷ []) p.0
+      worded w.Clock (name x ∷ (flat_map (further_spelled clock_spelled) xs ++ semicolon ∷ []))
+      (named_by x (flat_map (further_spelled clock_spelled) xs ++ semicolon ∷ []) p.0
       (join (flat_map (further_spelled clock_spelled) xs) (semicolon ∷ []) furthers_all (marked 59 [] refl refl)))
   sline_all (line l) k = rline_all l k
 
@@ -227,7 +252,8 @@ module _ (test : Terminal → Bool) (h : Holds test) where
       let q = and_parts (list_all param_kept m.params) (expression_kept two (expr_tree m.body)) p.1 in
       let rest : List Terminal = closing ∷ equals ∷ expr_spelled m.body in
       named_by m.name (opening ∷ (list_spelled param_spelled m.params ++ rest)) p.0 (marked 40 (list_spelled param_spelled m.params ++ rest) refl
-      (join (list_spelled param_spelled m.params) rest (params_all m.params q.0) (marked 41 (equals ∷ expr_spelled m.body) refl (marked 61 (expr_spelled m.body) refl (expr_all m.body q.1)))))
+      (join (list_spelled param_spelled m.params) rest (params_all m.params q.0)
+      (marked 41 (equals ∷ expr_spelled m.body) refl (marked 61 (expr_spelled m.body) refl (expr_all m.body q.1)))))
 
   definition_all : {two : Bool} (d : Definition two) → definition_kept two (definition_tree d) ≡ true → all (definition_spelled d) ≡ true
   definition_all {two} (relation x ps l ls) k =
@@ -237,26 +263,35 @@ module _ (test : Terminal → Bool) (h : Holds test) where
       let body : List Terminal = rline_spelled l ++ (flat_map rline_spelled ls ++ right_brace ∷ []) in
       let body_all : all body ≡ true = join (rline_spelled l) (flat_map rline_spelled ls ++ right_brace ∷ []) (rline_all l r.0)
       (join (flat_map rline_spelled ls) (right_brace ∷ []) (each rline_spelled rline_tree (rline_kept two) rline_all ls r.1) (marked 125 [] refl refl)) in
-      worded w.Relation (name x ∷ opening ∷ (list_spelled param_spelled ps ++ closing ∷ left_brace ∷ body)) (named_by x (opening ∷ (list_spelled param_spelled ps ++ closing ∷ left_brace ∷ body)) p.0
-      (marked 40 (list_spelled param_spelled ps ++ closing ∷ left_brace ∷ body) refl (join (list_spelled param_spelled ps) (closing ∷ left_brace ∷ body) (params_all ps q.0)
+      worded w.Relation (name x ∷ opening ∷ (list_spelled param_spelled ps ++ closing ∷ left_brace ∷ body))
+      (named_by x (opening ∷ (list_spelled param_spelled ps ++ closing ∷ left_brace ∷ body)) p.0
+      (marked 40 (list_spelled param_spelled ps ++ closing ∷ left_brace ∷ body) refl
+      (join (list_spelled param_spelled ps) (closing ∷ left_brace ∷ body) (params_all ps q.0)
       (marked 41 (left_brace ∷ body) refl (marked 123 body refl body_all)))))
   definition_all {two} (group m ms) k =
       let p = and_parts (member_kept two (member_tree m)) (list_all (member_kept two) (map member_tree ms)) k in
-      let furthers_all : all (flat_map further_member ms) ≡ true = each further_member member_tree (member_kept two) (λ c i. worded w.And (member_spelled c) (member_all c i)) ms p.1 in
+      let furthers_all : all (flat_map further_member ms) ≡ true =
+      each further_member member_tree (member_kept two) (λ c i. worded w.And (member_spelled c) (member_all c i)) ms p.1 in
       worded w.Expression (member_spelled m ++ (flat_map further_member ms ++ semicolon ∷ []))
-      (join (member_spelled m) (flat_map further_member ms ++ semicolon ∷ []) (member_all m p.0) (join (flat_map further_member ms) (semicolon ∷ []) furthers_all (marked 59 [] refl refl)))
+      (join (member_spelled m) (flat_map further_member ms ++ semicolon ∷ []) (member_all m p.0)
+      (join (flat_map further_member ms) (semicolon ∷ []) furthers_all (marked 59 [] refl refl)))
 
   version_all : (at : ℕ) (two : Bool) (ts : List Terminal) → all ts ≡ true → all (number at (version two) ∷ ts) ≡ true
   version_all at true ts p = numbered at 2 ts refl p
   version_all at false ts p = numbered at 1 ts refl p
 
-  derivation_all : (d : Derivation) → list_all (definition_kept d.two) (map definition_tree d.definitions) ≡ true → list_all (sline_kept d.two) (map sline_tree d.lines) ≡ true → all (file_spelled d) ≡ true
+  derivation_all : (d : Derivation) → list_all (definition_kept d.two) (map definition_tree d.definitions) ≡ true
+      → list_all (sline_kept d.two) (map sline_tree d.lines) ≡ true → all (file_spelled d) ≡ true
   derivation_all d p q =
       let two = d.two in
       let lines : List Terminal = flat_map sline_spelled d.lines ++ right_brace ∷ [] in
-      let lines_all : all lines ≡ true = join (flat_map sline_spelled d.lines) (right_brace ∷ []) (each sline_spelled sline_tree (sline_kept two) sline_all d.lines q) (marked 125 [] refl refl) in
+      let lines_all : all lines ≡ true =
+      join (flat_map sline_spelled d.lines) (right_brace ∷ []) (each sline_spelled sline_tree (sline_kept two) sline_all d.lines q)
+      (marked 125 [] refl refl) in
       let body : List Terminal = flat_map definition_spelled d.definitions ++ system_spelled d.lines in
-      let body_all : all body ≡ true = join (flat_map definition_spelled d.definitions) (system_spelled d.lines) (each definition_spelled definition_tree (definition_kept two) definition_all d.definitions p)
+      let body_all : all body ≡ true =
+      join (flat_map definition_spelled d.definitions) (system_spelled d.lines)
+      (each definition_spelled definition_tree (definition_kept two) definition_all d.definitions p)
       (worded w.System (left_brace ∷ lines) (marked 123 lines refl lines_all)) in
       worded w.Ccsl (number d.at (version two) ∷ semicolon ∷ body) (version_all d.at two (semicolon ∷ body) (marked 59 body refl body_all))
 
@@ -275,4 +310,11 @@ module _ (test : Terminal → Bool) (h : Holds test) where
       ap all (sym c.spelled_is) ∙ derivation_parts c.whole (ap file_kept c.tree_is ∙ k)
 
 pub canonical_keeps : CanonicalKeeps
-canonical_keeps f k = canonical_all terminal_kept (record { words = λ v. refl; marks = λ b m. refl; names = λ x k. k; numbers = λ at n k. k; texts = λ at bytes k. k }) f k
+canonical_keeps f k = canonical_all terminal_kept (record {
+  words = λ v. refl;
+  marks = λ b m. refl;
+  names = λ x k. k;
+  numbers = λ at n k. k;
+  texts =
+      λ at bytes k. k;
+}) f k

@@ -51,7 +51,8 @@ passed_is false v e = absurd cc
 abbrev pub Nowhere : Fault → List Terminal → List Terminal → Type 0
 Nowhere k p z = (k ≡ no_syntax) × (p ≡ [])
 
-module _ {A B : Type 0} (S : Fault → List Terminal → List Terminal → Type 0) (Q : B → List Terminal → Type 0) (value : Terminal → Option A) (g : A → Reader B) (ts : List Terminal) where
+module _ {A B : Type 0} (S : Fault → List Terminal → List Terminal → Type 0) (Q : B → List Terminal → Type 0) (value : Terminal → Option A) (g : A → Reader B)
+    (ts : List Terminal) where
   pub one : ((z : List Terminal) → S no_syntax [] z)
       → ((u : Terminal) (v : A) (z : List Terminal) → value u ≡ Some v → Good (λ k q y. S k (u ∷ q) y) (λ w q. Q w (u ∷ q)) (g v) z)
       → Good S Q (accept value >>= g) ts

@@ -19,7 +19,8 @@ use Rattle.ccsl_grammar.proofs.Depth.{derivation_depth, file_shallow}
 
 -- ---- what the code needs: a reply that takes leaves nothing
 
-reply_ends : {A B : Type 0} (r : Reply A) (g : A → Reader B) → ((v : A) (ts : List Terminal) (w : B) (z : List Terminal) → g v ts ≡ took w z → z ≡ []) → (w : B) (z : List Terminal) → followed r g ≡ took w z → z ≡ []
+reply_ends : {A B : Type 0} (r : Reply A) (g : A → Reader B) → ((v : A) (ts : List Terminal) (w : B) (z : List Terminal) → g v ts ≡ took w z → z ≡ [])
+    → (w : B) (z : List Terminal) → followed r g ≡ took w z → z ≡ []
 reply_ends (took v ts) g h w z e = h v ts w z e
 reply_ends (stopped k ts) g h w z e = absurd cc
 
@@ -29,7 +30,10 @@ ends_ends v (t ∷ ts) w z e = absurd cc
 
 file_ends : (room : ℕ) (ts : List Terminal) (v : PlainFile) (z : List Terminal) → file_at room ts ≡ took v z → z ≡ []
 unfolding file_at
-file_ends room ts v z e = reply_ends (version_at ts) _ (λ two ts1. reply_ends (many is_definition (definition_at two room) ts1) _ (λ ds ts2. reply_ends (system_at two room ts2) _ (λ ls ts3. ends_ends (record { version = version two; definitions = ds; lines = ls }) ts3))) v z e
+file_ends room ts v z e =
+    reply_ends (version_at ts) _
+    (λ two ts1. reply_ends (many is_definition (definition_at two room) ts1) _
+    (λ ds ts2. reply_ends (system_at two room ts2) _ (λ ls ts3. ends_ends (record { version = version two; definitions = ds; lines = ls }) ts3))) v z e
 
 -- ---- no file gives a fault of syntax
 
@@ -72,7 +76,8 @@ cut_again x y z e = cut_as (cuts x z y z e)
 -- ---- an expression that stands too deep is answered
 
 deep_as : (room : ℕ) (front behind more : List Terminal) (first : Terminal) (r : Reply PlainFile) → r ≡ stopped too_deep (first ∷ more)
-    → GoodAs (Stops file_spelled (file_deep room)) (Is file_spelled (file_deep room) file_tree) (file_at room) (front ++ first ∷ more) r → file_at room (front ++ first ∷ behind) ≡ stopped too_deep (first ∷ behind)
+    → GoodAs (Stops file_spelled (file_deep room)) (Is file_spelled (file_deep room) file_tree) (file_at room) (front ++ first ∷ more) r
+    → file_at room (front ++ first ∷ behind) ≡ stopped too_deep (first ∷ behind)
 deep_as room front behind more first (took v z) e h = absurd cc
 deep_as room front behind more first (stopped k z) e h =
     let k-is : k ≡ too_deep = cc in
@@ -83,7 +88,8 @@ deep_as room front behind more first (stopped k z) e h =
 
 pub deep_replies : (room : ℕ) (front rest : List Terminal) → DeepAt room front rest → file_at room (front ++ rest) ≡ stopped too_deep rest
 deep_replies room front rest d =
-    let e : file_at room (front ++ d.first ∷ d.more) ≡ stopped too_deep (d.first ∷ d.more) = spelled_reply room d.derivation (front ++ d.first ∷ d.more) d.spelled ∙ rw d.deep refl in
+    let e : file_at room (front ++ d.first ∷ d.more) ≡ stopped too_deep (d.first ∷ d.more) =
+    spelled_reply room d.derivation (front ++ d.first ∷ d.more) d.spelled ∙ rw d.deep refl in
     rw d.rest_is (deep_as room front d.behind d.more d.first (file_at room (front ++ d.first ∷ d.more)) e ((file_reads room).at (front ++ d.first ∷ d.more)).is)
 
 -- ---- THE READER IS RIGHT
@@ -91,10 +97,21 @@ deep_replies room front rest d =
 can_go_on : (front : List Terminal) → Begins file_spelled front → CanGoOn front
 can_go_on front b = record { more = b.more; tree = file_tree b.whole; is = record { derivation = b.whole; spelled = b.is; tree = refl } }
 
-verdict_as : (room : ℕ) (ts : List Terminal) (r : Reply PlainFile) → file_at room ts ≡ r → GoodAs (Stops file_spelled (file_deep room)) (Is file_spelled (file_deep room) file_tree) (file_at room) ts r → Verdict room ts r
+verdict_as : (room : ℕ) (ts : List Terminal) (r : Reply PlainFile) → file_at room ts ≡ r
+    → GoodAs (Stops file_spelled (file_deep room)) (Is file_spelled (file_deep room) file_tree) (file_at room) ts r → Verdict room ts r
 verdict_as room ts (took f rest) e h =
-    let z : rest ≡ [] = file_ends room ts f rest e in
-    (record { is = record { derivation = h.holds.whole; spelled = h.holds.is ∙ sym (append-nil h.front) ∙ ap (λ q. h.front ++ q) (sym z) ∙ sym h.whole; tree = h.holds.tree_is }; none_deep = h.holds.deep_is [] }, z)
+    let z : rest ≡ [] = file_ends room ts f rest e in (
+      record {
+        is = record {
+          derivation = h.holds.whole;
+          spelled = h.holds.is ∙ sym (append-nil h.front) ∙ ap (λ q. h.front ++ q) (sym z) ∙ sym h.whole;
+          tree =
+              h.holds.tree_is;
+        };
+        none_deep = h.holds.deep_is [];
+      },
+      z,
+    )
 verdict_as room ts (stopped too_deep rest) e h = (
   h.front,
   h.whole,
@@ -115,7 +132,8 @@ verdict_as room ts (stopped no_syntax rest) e h = (
     before = can_go_on h.front h.holds;
     no_more = λ t us i c.
         let w : file_spelled c.is.derivation ≡ h.front ++ t ∷ c.more = c.is.spelled ∙ append_assoc h.front (t ∷ []) c.more in
-        never_syntax (file_deep room c.is.derivation []) (file_tree c.is.derivation) [] (t ∷ c.more) (sym (spelled_reply room c.is.derivation (h.front ++ t ∷ c.more) w) ∙ h.again t us c.more i);
+        never_syntax (file_deep room c.is.derivation []) (file_tree c.is.derivation) [] (t ∷ c.more)
+        (sym (spelled_reply room c.is.derivation (h.front ++ t ∷ c.more) w) ∙ h.again t us c.more i);
     no_end = λ f i c.
         let w : file_spelled c.derivation ≡ ts = c.spelled ∙ sym (append-nil h.front) ∙ ap (λ q. h.front ++ q) (sym i) ∙ sym h.whole in
         never_syntax (file_deep room c.derivation []) (file_tree c.derivation) [] rest (sym (spelled_reply room c.derivation ts w) ∙ e);
@@ -162,12 +180,20 @@ fails_once room x y p q f g (sooner t us vs h i) = absurd (g.no_more t vs i (goe
 -- a list that is a file, or fails, does not do both
 not_both : (room : ℕ) (ts front rest : List Terminal) (f : PlainFile) → ts ≡ front ++ rest → FailsAt room front rest → IsFile ts f → ⊥
 not_both room ts front [] f e h i = h.no_end f refl (record { derivation = i.derivation; spelled = i.spelled ∙ e ∙ append-nil front; tree = i.tree })
-not_both room ts front (t ∷ us) f e h i = h.no_more t us refl (record { more = us; tree = f; is = record { derivation = i.derivation; spelled = i.spelled ∙ e ∙ sym (append_assoc front (t ∷ []) us); tree = i.tree } })
+not_both room ts front (t ∷ us) f e h i =
+    h.no_more t us refl (record {
+      more = us;
+      tree = f;
+      is =
+          record { derivation = i.derivation; spelled = i.spelled ∙ e ∙ sym (append_assoc front (t ∷ []) us); tree = i.tree };
+    })
 
-syntax_as : (room : ℕ) (ts front rest : List Terminal) → ts ≡ front ++ rest → FailsAt room front rest → (r : Reply PlainFile) → Verdict room ts r → r ≡ stopped no_syntax rest
+syntax_as : (room : ℕ) (ts front rest : List Terminal) → ts ≡ front ++ rest → FailsAt room front rest → (r : Reply PlainFile) → Verdict room ts r
+    → r ≡ stopped no_syntax rest
 syntax_as room ts front rest e h (took f z) v = absurd (not_both room ts front rest f e h v.0.is)
 syntax_as room ts front rest e h (stopped too_deep z) v = absurd (h.none_deep v.0 z (sym e ∙ v.1) v.2)
-syntax_as room ts front rest e h (stopped no_syntax z) v = ap (stopped no_syntax) (sym (fails_once room front rest v.0 z h v.2 (cuts front rest v.0 z (sym e ∙ v.1))))
+syntax_as room ts front rest e h (stopped no_syntax z) v =
+    ap (stopped no_syntax) (sym (fails_once room front rest v.0 z h v.2 (cuts front rest v.0 z (sym e ∙ v.1))))
 
 pub one_verdict : OneVerdict
 one_verdict room ts (took f rest) v =

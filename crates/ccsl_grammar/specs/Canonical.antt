@@ -5,10 +5,12 @@ use Rattle.std.specs.List.{flat_map}
 use Rattle.ccsl_base.specs.declared.reserved.Reserved.TheVariants as w
 use Rattle.ccsl_ast.specs.declared.spot.Spot.{Spot}
 use Rattle.ccsl_ast.specs.declared.definition.Param.{Param}
-use Rattle.ccsl_ast.specs.Trees.{Expression, EName, ECall, ENever, EBinary, EDelay, EAwait, EFilter, EDelayed, EIf, Line, LDefine, LConstraint, LCall, SLine, SClocks, SLineOf, PlainMember, PlainDefinition, DRelation, DGroup, PlainFile}
+use Rattle.ccsl_ast.specs.Trees.{Expression, EName, ECall, ENever, EBinary, EDelay, EAwait, EFilter, EDelayed, EIf, Line, LDefine, LConstraint, LCall, SLine}
+use Rattle.ccsl_ast.specs.Trees.{SClocks, SLineOf, PlainMember, PlainDefinition, DRelation, DGroup, PlainFile}
 use Rattle.ccsl_ast.specs.Depth.{stands_in_parens}
 use Rattle.ccsl_grammar.specs.Terminals.{Terminal, word, name, number}
-use Rattle.ccsl_grammar.specs.Grammar.{opening, closing, semicolon, equals, left_brace, right_brace, list_spelled, term_spelled, wterm_spelled, test_spelled, args_spelled, params_spelled, relop_spelled, binop_spelled, clock_spelled}
+use Rattle.ccsl_grammar.specs.Grammar.{opening, closing, semicolon, equals, left_brace, right_brace, list_spelled, term_spelled, wterm_spelled, test_spelled}
+use Rattle.ccsl_grammar.specs.Grammar.{args_spelled, params_spelled, relop_spelled, binop_spelled, clock_spelled}
 
 -- an operand, where ts are the terminals of its expression
 abbrev pub operand_tokens : Expression → List Terminal → List Terminal

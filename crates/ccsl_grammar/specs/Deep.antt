@@ -5,7 +5,9 @@ use Rattle.std.specs.Option.{option_or}
 use Rattle.std.specs.List.{flat_map}
 use Rattle.ccsl_base.specs.declared.reserved.Reserved.TheVariants as w
 use Rattle.ccsl_grammar.specs.Terminals.{Terminal, word, number}
-use Rattle.ccsl_grammar.specs.Grammar.{closing, semicolon, right_brace, binop_spelled, term_spelled, wterm_spelled, Expr, alone, binary, delay, await, filter, delayed, choice, Operand, parens, expr_spelled, operand_spelled, Rline, define, rline_spelled, Sline, clocks, line, sline_spelled, Member, further_member, Definition, relation, group, definition_spelled, Derivation, system_spelled}
+use Rattle.ccsl_grammar.specs.Grammar.{closing, semicolon, right_brace, binop_spelled, term_spelled, wterm_spelled, Expr, alone, binary, delay, await, filter}
+use Rattle.ccsl_grammar.specs.Grammar.{delayed, choice, Operand, parens, expr_spelled, operand_spelled, Rline, define, rline_spelled, Sline, clocks, line}
+use Rattle.ccsl_grammar.specs.Grammar.{sline_spelled, Member, further_member, Definition, relation, group, definition_spelled, Derivation, system_spelled}
 
 -- The first expression that stands too deep, as the terminals from it on; nothing stands too deep where there is none.
 --     room     how many levels are left

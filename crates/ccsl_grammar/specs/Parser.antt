@@ -23,7 +23,8 @@ use Rattle.ccsl_ast.specs.declared.line.Relation.TheVariants as rel
 use Rattle.ccsl_ast.specs.declared.definition.Kind.{Kind}
 use Rattle.ccsl_ast.specs.declared.definition.Kind.TheVariants as kind
 use Rattle.ccsl_ast.specs.declared.definition.Param.{Param}
-use Rattle.ccsl_ast.specs.Trees.{Expression, EName, ECall, ENever, EBinary, EDelay, EAwait, EFilter, EDelayed, EIf, Line, LDefine, LConstraint, LCall, SLine, SClocks, SLineOf, PlainMember, PlainDefinition, DRelation, DGroup, PlainFile}
+use Rattle.ccsl_ast.specs.Trees.{Expression, EName, ECall, ENever, EBinary, EDelay, EAwait, EFilter, EDelayed, EIf, Line, LDefine, LConstraint, LCall, SLine}
+use Rattle.ccsl_ast.specs.Trees.{SClocks, SLineOf, PlainMember, PlainDefinition, DRelation, DGroup, PlainFile}
 use Rattle.ccsl_grammar.specs.Terminals.{Terminal, word, symbol, name, number, quoted}
 use Rattle.ccsl_grammar.specs.Kinds.{is_word, is_symbol, is_name, is_quoted}
 use Rattle.ccsl_grammar.specs.Grammar.{version}

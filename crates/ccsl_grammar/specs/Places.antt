@@ -21,12 +21,14 @@ pub record BeginsDeep {C : Type 0} (spelled : C → List Terminal) (deep : C →
   pub is : spelled whole ≡ front ++ first ∷ more
   pub deep_is : (after : List Terminal) → deep whole after ≡ Some (first ∷ (more ++ after))
 
-abbrev pub Stops : {C : Type 0} (spelled : C → List Terminal) (deep : C → List Terminal → Option (List Terminal)) → Fault → List Terminal → List Terminal → Type 0
+abbrev pub Stops : {C : Type 0} (spelled : C → List Terminal) (deep : C → List Terminal → Option (List Terminal)) → Fault → List Terminal → List Terminal
+    → Type 0
 Stops spelled deep no_syntax front rest = Begins spelled front
 Stops spelled deep too_deep front rest = BeginsDeep spelled deep front rest
 
 -- front is a derivation with this tree, and nothing in it stands too deep
-pub record Is {C T : Type 0} (spelled : C → List Terminal) (deep : C → List Terminal → Option (List Terminal)) (tree : C → T) (v : T) (front : List Terminal) : Type 0 where
+pub record Is {C T : Type 0} (spelled : C → List Terminal) (deep : C → List Terminal → Option (List Terminal)) (tree : C → T) (v : T)
+    (front : List Terminal) : Type 0 where
   pub whole : C
   pub is : spelled whole ≡ front
   pub tree_is : tree whole ≡ v

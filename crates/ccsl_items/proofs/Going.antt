@@ -1,5 +1,6 @@
 -- A run goes on by a step that satisfies every item's formula.
-use Rattle.std.proofs.Common.{⊎_elim, ◌≡◌, ℕ, ◌+◌, ◌-◌, ◌<◌, ◌≤◌, List, [], ◌∷◌, ◌++◌, length, map, true, ◌&&◌, Option, Some, None, slice_get, refl, sym, ap, ap₂, ◌∙◌, arith, length-append}
+use Rattle.std.proofs.Common.{⊎_elim, ◌≡◌, ℕ, ◌+◌, ◌-◌, ◌<◌, ◌≤◌, List, [], ◌∷◌, ◌++◌, length, map, true, ◌&&◌, Option, Some, None, slice_get, refl, sym, ap}
+use Rattle.std.proofs.Common.{ap₂, ◌∙◌, arith, length-append}
 use Rattle.std.specs.List.{list_all}
 use Rattle.std.proofs.lemmas.List.{take-append-le}
 use Rattle.std.proofs.lemmas.List.Folds.{list_all-append}
@@ -51,4 +52,5 @@ module _ (K : System) (ok : IsAccepted K) (T : List Step) (s : Step) where
       (cases_lt n (length T))
 
 pub named_more : (K : System) (T : List Step) (s : Step) → list_all (is_named K) T ≡ true → is_named K s ≡ true → list_all (is_named K) (T ++ s ∷ []) ≡ true
-named_more K T s t h = list_all-append (is_named K) T (s ∷ []) ∙ and_from (list_all (is_named K) T) (is_named K s && true) t (and_from (is_named K s) true h refl)
+named_more K T s t h = list_all-append (is_named K) T (s ∷ [])
+    ∙ and_from (list_all (is_named K) T) (is_named K s && true) t (and_from (is_named K s) true h refl)

@@ -1,5 +1,6 @@
 -- The formulas of the items read named clocks alone.
-use Rattle.std.proofs.Common.{◌≡◌, ℕ, zero, suc, ◌+◌, ◌-◌, ◌<◌, ◌≤◌, List, [], ◌∷◌, length, map, Bool, true, false, ◌||◌, cond, Option, Some, None, slice_get, nat_eq, nat_le, nat_lt, All, refl, sym, ap, ◌∙◌, ⊎_elim, ◌⊎◌, inl, inr, subst, arith, le-ltb, eqb-true}
+use Rattle.std.proofs.Common.{◌≡◌, ℕ, zero, suc, ◌+◌, ◌-◌, ◌<◌, ◌≤◌, List, [], ◌∷◌, length, map, Bool, true, false, ◌||◌, cond, Option, Some, None, slice_get}
+use Rattle.std.proofs.Common.{nat_eq, nat_le, nat_lt, All, refl, sym, ap, ◌∙◌, ⊎_elim, ◌⊎◌, inl, inr, subst, arith, le-ltb, eqb-true}
 use Rattle.std.proofs.lemmas.List.Elements.{All-nil, All-push}
 use Rattle.std.proofs.lemmas.Option.{slice_get_within, get_or_from_slice_get}
 use Rattle.ccsl_formula.specs.Formula.{Formula, FTrue, FVar, FNot, FAnd, FOr, FIff}
@@ -27,7 +28,8 @@ relation_reads n Coincides a b i j p q = (p, q)
 relation_reads n Excludes a b i j p q = (p, q)
 relation_reads n Precedes a b i j p q = if_reads n (nat_eq i j) (FNot (FVar b)) q
 relation_reads n PrecedesWeakly a b i j p q = if_reads n (nat_eq i j) (FOr (FNot (FVar b)) (FVar a)) (q, p)
-relation_reads n (PrecedesWithin k) a b i j p q = (if_reads n (nat_eq i j) (FNot (FVar b)) q, if_reads n (nat_le (j + k) i) (FOr (FNot (FVar a)) (FVar b)) (p, q))
+relation_reads n (PrecedesWithin k) a b i j p q =
+    (if_reads n (nat_eq i j) (FNot (FVar b)) q, if_reads n (nat_le (j + k) i) (FOr (FNot (FVar a)) (FVar b)) (p, q))
 
 module _ (K : System) (ok : IsAccepted K) (lower : ReadsLower K) (T : List Step) where
   constraint_reads : (o : Option Constraint) (j : ℕ) → slice_get K.constraints j ≡ o → ReadsBelow (length K.names) (constraint_or_true T (length T) o)
@@ -41,7 +43,8 @@ module _ (K : System) (ok : IsAccepted K) (lower : ReadsLower K) (T : List Step)
   is_definition : (i : ℕ) (e : Expression) → slice_get K.definitions i ≡ Some e → definition_of K (K.declared + i) ≡ Some e
   is_definition i e at =
       let place : K.declared + i - K.declared ≡ i = omega arith in
-      ap (λ b. cond b None (slice_get K.definitions (K.declared + i - K.declared))) (le-ltb (K.declared + i) K.declared (omega arith)) ∙ ap (slice_get K.definitions) place ∙ at
+      ap (λ b. cond b None (slice_get K.definitions (K.declared + i - K.declared))) (le-ltb (K.declared + i) K.declared (omega arith))
+      ∙ ap (slice_get K.definitions) place ∙ at
 
   item_reads : (i : ℕ) (o : Option Expression) → slice_get K.definitions i ≡ o → ReadsBelow (length K.names) (item_or_constraint K T (length T) i o)
   item_reads i None at = constraint_reads (slice_get K.constraints (i - length K.definitions)) (i - length K.definitions) refl

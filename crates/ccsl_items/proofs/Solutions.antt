@@ -1,5 +1,6 @@
 -- The sets that solve the items' formulas after a run: they are full steps, and their declared members are what is admissible.
-use Rattle.std.proofs.Common.{◌≡◌, ◌≢◌, ℕ, suc, ◌+◌, ◌<◌, List, [], ◌∷◌, ◌++◌, length, map, Bool, true, false, Some, slice_get, if◌then◌else◌, refl, sym, ap, ◌∙◌, subst, arith}
+use Rattle.std.proofs.Common.{◌≡◌, ◌≢◌, ℕ, suc, ◌+◌, ◌<◌, List, [], ◌∷◌, ◌++◌, length, map, Bool, true, false, Some, slice_get, if◌then◌else◌, refl, sym, ap}
+use Rattle.std.proofs.Common.{◌∙◌, subst, arith}
 use Rattle.std.proofs.lemmas.Bool.{and_parts}
 use Rattle.std.proofs.lemmas.Option.{slice_get_within}
 use Rattle.ccsl_base.specs.Clocks.{ticks_in, with_clock, is_ascending, are_below}
@@ -26,11 +27,13 @@ use Rattle.ccsl_items.proofs.Going.{run_more, named_more}
 
 -- a step whose defined clocks tick as their formulas say is its own full step
 settled : (K : System) (T : List Step) (es : List Expression) (x : ℕ) (u : Step) → is_ascending u ≡ true
-    → ((j : ℕ) (e : Expression) → slice_get es j ≡ Some e → ticks_in (x + j) u ≡ eval (formula_at K T (x + j) e [] 0 (length T)) u) → derived_from K T es x u ≡ u
+    → ((j : ℕ) (e : Expression) → slice_get es j ≡ Some e → ticks_in (x + j) u ≡ eval (formula_at K T (x + j) e [] 0 (length T)) u)
+    → derived_from K T es x u ≡ u
 settled K T [] x u a h = refl
 settled K T (e ∷ es) x u a h =
     let here : x + 0 ≡ x = omega arith in
-    let first : ticks_in x u ≡ eval (formula_at K T x e [] 0 (length T)) u = subst (λ y. ticks_in y u ≡ eval (formula_at K T y e [] 0 (length T)) u) here (h 0 e refl) in
+    let first : ticks_in x u ≡ eval (formula_at K T x e [] 0 (length T)) u =
+    subst (λ y. ticks_in y u ≡ eval (formula_at K T y e [] 0 (length T)) u) here (h 0 e refl) in
     ap (derived_from K T es (suc x)) (one (eval (formula_at K T x e [] 0 (length T)) u) first)
     ∙ settled K T es (suc x) u a
     (λ j f at. let next : x + suc j ≡ suc x + j = omega arith in subst (λ y. ticks_in y u ≡ eval (formula_at K T y f [] 0 (length T)) u) next (h (suc j) f at))
@@ -51,7 +54,8 @@ module _ (K : System) (ok : IsAccepted K) (T : List Step) (r : IsNamedRun K T) w
     pub solution_run : IsNamedRun K (T ++ u ∷ [])
     solution_run = record { run = run_more K ok T u r.run solution_items; named = named_more K T u r.named h.named }
 
-    defined : (j : ℕ) (e : Expression) → slice_get K.definitions j ≡ Some e → ticks_in (K.declared + j) u ≡ eval (formula_at K T (K.declared + j) e [] 0 (length T)) u
+    defined : (j : ℕ) (e : Expression) → slice_get K.definitions j ≡ Some e
+        → ticks_in (K.declared + j) u ≡ eval (formula_at K T (K.declared + j) e [] 0 (length T)) u
     defined j e at =
         let within : j < item_count K = (let l = slice_get_within K.definitions j e at in omega arith) in
         same_values (ticks_in (K.declared + j) u) (eval (formula_at K T (K.declared + j) e [] 0 (length T)) u)

@@ -17,29 +17,34 @@ module _ (K : System) (bound : List ℕ) (rows : List Row) (low high : ℕ) wher
   each-item P below above j l = ⊎_elim (λ (m : j < low). below j m) (λ (m : low ≤ j). above j m l) (cases_lt j low)
 
   both-obeyed : AreObeyed K bound rows 0 low → AreObeyed K bound rows low high → AreObeyed K bound rows 0 (low + high)
-  both-obeyed f g n j l a b = each-item (λ j. is_violated K bound rows n j ≡ false) (λ j m. f n j l (omega arith) (omega (arith, m))) (λ j m m'. g n j l m m') j (omega (arith, b))
+  both-obeyed f g n j l a b =
+      each-item (λ j. is_violated K bound rows n j ≡ false) (λ j m. f n j l (omega arith) (omega (arith, m))) (λ j m m'. g n j l m m') j (omega (arith, b))
 
   -- the lower items have the first one, at a step that is not behind that of the others
-  lower-first : (v : Violation) → IsFirst K bound rows 0 low v → ((n j : ℕ) → n < v.step → low ≤ j → j < low + high → is_violated K bound rows n j ≡ false) → IsFirst K bound rows 0 (low + high) v
+  lower-first : (v : Violation) → IsFirst K bound rows 0 low v → ((n j : ℕ) → n < v.step → low ≤ j → j < low + high → is_violated K bound rows n j ≡ false)
+      → IsFirst K bound rows 0 (low + high) v
   lower-first v f g = record {
     step = f.step;
     time = f.time;
     from = f.from;
     below = omega (arith, f.below);
     violated = f.violated;
-    earlier = λ n j l a b. each-item (λ j. is_violated K bound rows n j ≡ false) (λ j m. f.earlier n j l (omega arith) (omega (arith, m))) (λ j m m'. g n j l m m') j (omega (arith, b));
+    earlier = λ n j l a b. each-item (λ j. is_violated K bound rows n j ≡ false) (λ j m. f.earlier n j l (omega arith) (omega (arith, m)))
+        (λ j m m'. g n j l m m') j (omega (arith, b));
     lower = f.lower;
   }
 
   -- the higher items have it, at a step before that of the others
-  higher-first : (w : Violation) → IsFirst K bound rows low high w → ((n j : ℕ) → n ≤ w.step → j < low → is_violated K bound rows n j ≡ false) → IsFirst K bound rows 0 (low + high) w
+  higher-first : (w : Violation) → IsFirst K bound rows low high w → ((n j : ℕ) → n ≤ w.step → j < low → is_violated K bound rows n j ≡ false)
+      → IsFirst K bound rows 0 (low + high) w
   higher-first w g f = record {
     step = g.step;
     time = g.time;
     from = omega arith;
     below = omega (arith, g.below);
     violated = g.violated;
-    earlier = λ n j l a b. each-item (λ j. is_violated K bound rows n j ≡ false) (λ j m. f n j (omega (arith, l)) m) (λ j m m'. g.earlier n j l m m') j (omega (arith, b));
+    earlier = λ n j l a b. each-item (λ j. is_violated K bound rows n j ≡ false) (λ j m. f n j (omega (arith, l)) m) (λ j m m'. g.earlier n j l m m') j
+        (omega (arith, b));
     lower = λ j a b. ⊎_elim (λ (m : j < low). f w.step j (omega arith) m) (λ (m : low ≤ j). g.lower j m b) (cases_lt j low);
   }
 

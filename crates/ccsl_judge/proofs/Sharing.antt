@@ -8,7 +8,8 @@ use Rattle.ccsl_judge.specs.Shares.{CanTake, Takes, IsAt}
 use Rattle.ccsl_judge.specs.Divided.{Follow}
 
 -- one share more
-pub follow-more : (K : System) (bound : List ℕ) (rows : List Row) (i : ℕ) (shares : List Share) (end : ℕ) (s : Share) → Follow K bound rows i shares end → IsAt K bound rows end s.monitor
+pub follow-more : (K : System) (bound : List ℕ) (rows : List Row) (i : ℕ) (shares : List Share) (end : ℕ) (s : Share) → Follow K bound rows i shares end
+    → IsAt K bound rows end s.monitor
     → Follow K bound rows i (shares ++ s ∷ []) (end + length s.monitor.kept)
 follow-more K bound rows i [] end s e at = (subst (λ n. IsAt K bound rows n s.monitor) (sym e) at, ap (λ n. n + length s.monitor.kept) e)
 follow-more K bound rows i (x ∷ shares) end s f at = (f.0, follow-more K bound rows (i + length x.monitor.kept) shares end s f.1 at)
@@ -27,7 +28,8 @@ module _ (K : System) (bound : List ℕ) (rows block : List Row) (few : length r
   }
 
   -- where each took it, they stand for the rows with it
-  pub each-took : (i : ℕ) (old new : List Share) (end : ℕ) → Follow K bound rows i old end → Pairwise (λ (p q : Share). Takes p.monitor block q.monitor) old new → Follow K bound (rows ++ block) i new end
+  pub each-took : (i : ℕ) (old new : List Share) (end : ℕ) → Follow K bound rows i old end → Pairwise (λ (p q : Share). Takes p.monitor block q.monitor) old new
+      → Follow K bound (rows ++ block) i new end
   each-took i [] [] end f p = f
   each-took i [] (t ∷ new) end f p = absurd p
   each-took i (s ∷ old) [] end f p = absurd p

@@ -15,8 +15,10 @@ use Rattle.ccsl_judge.specs.Divided.{FollowAll}
 use Rattle.ccsl_judge.specs.Going.{Goes, HasEnded}
 
 -- the shares that took the rows go on, or have ended with them
-module _ (told : Told) (K : System) (limits : Limits) (start now : State) (before : Option (List ℕ)) (bound : List ℕ) (known : before ≡ Some bound) (feed : Feeding) (rows : List Row) (shares : List Share) (follow : FollowAll K bound (rows ++ feed.block.rows) shares) where
-  pub goes-on : (next : Next) → Gives told (wanted_of K) limits start now next before feed rows → (next ≡ Bound) ⊎ (next ≡ Rows) → Goes told K limits start now feed shares
+module _ (told : Told) (K : System) (limits : Limits) (start now : State) (before : Option (List ℕ)) (bound : List ℕ) (known : before ≡ Some bound)
+    (feed : Feeding) (rows : List Row) (shares : List Share) (follow : FollowAll K bound (rows ++ feed.block.rows) shares) where
+  pub goes-on : (next : Next) → Gives told (wanted_of K) limits start now next before feed rows → (next ≡ Bound) ⊎ (next ≡ Rows)
+      → Goes told K limits start now feed shares
   goes-on Bound g e = not-bound told (wanted_of K) limits start now before bound known feed rows g
   goes-on (Ended n) g e = ⊎_elim (λ s. absurd (cc s)) (λ s. absurd (cc s)) e
   goes-on Rows g e = record {

@@ -1,5 +1,6 @@
 -- What the parts of an accepted system obey: guarded calls, scopes, offsets that fit, and bounded depth.
-use Rattle.std.proofs.Common.{◌≡◌, ℕ, zero, suc, ◌+◌, ◌-◌, ◌≤◌, List, [], ◌∷◌, All, Bool, true, false, Option, Some, None, slice_get, nat_lt, if◌then◌else◌, refl, sym, ap, subst, arith, ltb-false}
+use Rattle.std.proofs.Common.{◌≡◌, ℕ, zero, suc, ◌+◌, ◌-◌, ◌≤◌, List, [], ◌∷◌, All, Bool, true, false, Option, Some, None, slice_get, nat_lt, if◌then◌else◌}
+use Rattle.std.proofs.Common.{refl, sym, ap, subst, arith, ltb-false}
 use Rattle.std.proofs.lemmas.List.Elements.{All-nil, All-cons}
 use Rattle.std.proofs.lemmas.Option.{slice_get_within, get_or_from_slice_get}
 use Rattle.ccsl_base.specs.declared.limits.TheConstants.{MAX_LEVELS}
@@ -14,10 +15,12 @@ use Rattle.ccsl_kernel.specs.declared.expr.ExprTest.{ExprTest}
 use Rattle.ccsl_kernel.specs.declared.expr.ExprTest.TheVariants as test
 use Rattle.ccsl_kernel.specs.declared.group.ParamKind.{ParamKind}
 use Rattle.ccsl_kernel.specs.declared.group.ParamKind.TheVariants as kind
-use Rattle.ccsl_kernel.specs.Syntax.{Expression, EName, ECall, ENever, EBinary, EDelay, EAwait, EFilter, EDelayed, EIf, Body, System, body_of, root_or_never, root_of, definition_of}
+use Rattle.ccsl_kernel.specs.Syntax.{Expression, EName, ECall, ENever, EBinary, EDelay, EAwait, EFilter, EDelayed, EIf, Body, System, body_of, root_or_never}
+use Rattle.ccsl_kernel.specs.Syntax.{root_of, definition_of}
 use Rattle.ccsl_kernel.specs.Actuals.{word_or_empty}
 use Rattle.ccsl_kernel.specs.Guarded.{Tail, Allowed}
-use Rattle.ccsl_kernel.specs.Accepted.{IsOffset, IsKnown, IsClock, IsWord, IsTest, IsArgument, AreArguments, nesting, depth, IsBody, IsDefinition, Each, IsAccepted}
+use Rattle.ccsl_kernel.specs.Accepted.{IsOffset, IsKnown, IsClock, IsWord, IsTest, IsArgument, AreArguments, nesting, depth, IsBody, IsDefinition, Each}
+use Rattle.ccsl_kernel.specs.Accepted.{IsAccepted}
 use Rattle.ccsl_kernel.specs.Fit.{PlaceFits, TestFits, ValueFits}
 use Rattle.ccsl_kernel.specs.Fitting.{ValuesFit, ExprFits}
 use Rattle.ccsl_kernel.specs.Deep.{deep}
@@ -40,7 +43,8 @@ body_is K g m b ok e = on (slice_get K.groups g) refl e
     on None at e = let z : ⊥ = cc in absurd z
     on (Some members) at e =
         let same : 0 + g ≡ g = omega arith in
-        All-at (IsBody K g) members m b (subst (λ k. All (IsBody K k) members) same (Each-at (λ g members. All (IsBody K g) members) 0 K.groups g members ok.bodies at)) e
+        All-at (IsBody K g) members m b
+        (subst (λ k. All (IsBody K k) members) same (Each-at (λ g members. All (IsBody K g) members) 0 K.groups g members ok.bodies at)) e
 
 -- the definition of a clock
 pub definition_is : (K : System) (x : ℕ) (e : Expression) → IsAccepted K → definition_of K x ≡ Some e → IsDefinition K x e

@@ -1,5 +1,6 @@
 -- The admissible sets after a run are the declared members of the steps that satisfy every item's formula.
-use Rattle.std.proofs.Common.{⊎_elim, ◌≡◌, ◌≢◌, ℕ, ◌+◌, ◌-◌, ◌<◌, ◌≤◌, List, [], ◌∷◌, ◌++◌, length, map, true, ◌&&◌, Option, Some, None, slice_get, refl, sym, ap, ap₂, ◌∙◌, subst, arith, length-append}
+use Rattle.std.proofs.Common.{⊎_elim, ◌≡◌, ◌≢◌, ℕ, ◌+◌, ◌-◌, ◌<◌, ◌≤◌, List, [], ◌∷◌, ◌++◌, length, map, true, ◌&&◌, Option, Some, None, slice_get, refl, sym}
+use Rattle.std.proofs.Common.{ap, ap₂, ◌∙◌, subst, arith, length-append}
 use Rattle.std.specs.List.{list_all}
 use Rattle.std.proofs.lemmas.List.{take-append-le}
 use Rattle.std.proofs.lemmas.List.Folds.{list_all-append}
@@ -55,7 +56,8 @@ module _ (K : System) (ok : IsGuarded K) (scoped : IsScoped K) where
       (cases_lt n (length T))
 
   named_more : (T : List Step) (s : Step) → list_all (is_named K) T ≡ true → is_named K s ≡ true → list_all (is_named K) (T ++ s ∷ []) ≡ true
-  named_more T s t h = list_all-append (is_named K) T (s ∷ []) ∙ and_from (list_all (is_named K) T) (is_named K s && true) t (and_from (is_named K s) true h refl)
+  named_more T s t h = list_all-append (is_named K) T (s ∷ [])
+      ∙ and_from (list_all (is_named K) T) (is_named K s && true) t (and_from (is_named K s) true h refl)
 
   module _ (T : List Step) (run : IsRun K T) (named : list_all (is_named K) T ≡ true) (s : Step) where
     -- the run and one more set of declared ticks, completed

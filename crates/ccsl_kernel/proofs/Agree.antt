@@ -1,5 +1,6 @@
 -- The rows determine the meaning: two meanings that obey them agree.
-use Rattle.std.proofs.Common.{if◌then◌else◌, ◌≡◌, ℕ, zero, suc, ◌+◌, ◌-◌, ◌<◌, ◌≤◌, List, map, length, Bool, true, false, Option, Some, None, refl, sym, ap, ap₂, ◌∙◌, arith}
+use Rattle.std.proofs.Common.{if◌then◌else◌, ◌≡◌, ℕ, zero, suc, ◌+◌, ◌-◌, ◌<◌, ◌≤◌, List, map, length, Bool, true, false, Option, Some, None, refl, sym, ap}
+use Rattle.std.proofs.Common.{ap₂, ◌∙◌, arith}
 use Rattle.ccsl_formula.specs.Formula.{FVar, eval}
 use Rattle.ccsl_kernel.specs.declared.expr.ExprOp.{ExprOp}
 use Rattle.ccsl_kernel.specs.declared.actual.Actual.{Actual}
@@ -8,7 +9,8 @@ use Rattle.ccsl_kernel.specs.declared.actual.Actual.TheVariants as actual
 use Rattle.ccsl_kernel.specs.Syntax.{Expression, System, root_of}
 use Rattle.ccsl_kernel.specs.Lives.{Step, Life, step_at, ticks_at, operand, over_one, over_two, end_of, at_end, followed_by, joined}
 use Rattle.ccsl_kernel.specs.Actuals.{place_of, number_of, suffix_of, value_of, test_of, word_of}
-use Rattle.ccsl_kernel.specs.Table.{Now, Operand, union_row, inter_row, minus_row, inf_row, sup_row, upto_row, upto_weakly_row, sampled_row, sampled_weakly_row, delay_row, await_row, filter_row, delayed_row}
+use Rattle.ccsl_kernel.specs.Table.{Now, Operand, union_row, inter_row, minus_row, inf_row, sup_row, upto_row, upto_weakly_row, sampled_row, sampled_weakly_row}
+use Rattle.ccsl_kernel.specs.Table.{delay_row, await_row, filter_row, delayed_row}
 use Rattle.ccsl_kernel.specs.Meaning.{named, life, bodies}
 use Rattle.ccsl_kernel.specs.Guarded.{Inner, Tail, Allowed}
 use Rattle.ccsl_kernel.specs.Rows.{IsTable, CallsAreBodies}
@@ -24,37 +26,47 @@ module _ (T T' : List Step) (N : ℕ) (same : (i : ℕ) → i < N → step_at T 
   pub operand_agree : (L M : Life) (b n : ℕ) → Agree N b L M → b ≤ n → n ≤ N → operand T L b n ≡ operand T' M b n
   operand_agree L M b n h l u =
       ap₂ (λ (now : Now) (ts : List Bool). record { formula = now.formula; dead = now.dead; ticks = ts }) (h.at n l u)
-      (map-steps (ticks_at T L b) (ticks_at T' M b) b n (λ i l' u'. ap₂ (λ (now : Now) (s : Step). eval now.formula s) (h.at i l' (omega arith)) (same i (omega arith))))
+      (map-steps (ticks_at T L b) (ticks_at T' M b) b n
+      (λ i l' u'. ap₂ (λ (now : Now) (s : Step). eval now.formula s) (h.at i l' (omega arith)) (same i (omega arith))))
 
   pub one_agree : (row : Operand → Now) (L M : Life) (b n : ℕ) → Agree N b L M → b ≤ n → n ≤ N → over_one T row L b n ≡ over_one T' row M b n
   one_agree row L M b n h l u = ap row (operand_agree L M b n h l u)
 
-  pub two_agree : (row : Operand → Operand → Now) (L M L' M' : Life) (b n : ℕ) → Agree N b L M → Agree N b L' M' → b ≤ n → n ≤ N → over_two T row L L' b n ≡ over_two T' row M M' b n
+  pub two_agree : (row : Operand → Operand → Now) (L M L' M' : Life) (b n : ℕ) → Agree N b L M → Agree N b L' M' → b ≤ n → n ≤ N
+      → over_two T row L L' b n ≡ over_two T' row M M' b n
   two_agree row L M L' M' b n h h' l u = ap₂ row (operand_agree L M b n h l u) (operand_agree L' M' b n h' l u)
 
   pub end_agree : (L M : Life) (b n : ℕ) → Agree N b L M → n ≤ N → end_of L b n ≡ end_of M b n
   end_agree L M b n h u = find-steps _ _ (suc b) (suc n) (λ i l' u'. ap (λ (now : Now). now.dead) (h.at i (omega arith) (omega arith)))
 
   -- the right operand needs to agree at later births alone
-  pub followed_agree : (L M L' M' : Life) (b n : ℕ) → Agree N b L M → ((k : ℕ) → b < k → k ≤ N → Agree N k L' M') → b ≤ n → n ≤ N → followed_by L L' b n ≡ followed_by M M' b n
+  pub followed_agree : (L M L' M' : Life) (b n : ℕ) → Agree N b L M → ((k : ℕ) → b < k → k ≤ N → Agree N k L' M') → b ≤ n → n ≤ N
+      → followed_by L L' b n ≡ followed_by M M' b n
   followed_agree L M L' M' b n h h' l u =
-      ap₂ (λ o (now : Now). at_end o (record { formula = now.formula; dead = false }) (λ k. L' k n)) (end_agree L M b n h u) (h.at n l u) ∙ later (end_of M b n) refl
+      ap₂ (λ o (now : Now). at_end o (record { formula = now.formula; dead = false }) (λ k. L' k n)) (end_agree L M b n h u) (h.at n l u)
+      ∙ later (end_of M b n) refl
     where
-      later : (o : Option ℕ) → end_of M b n ≡ o → at_end o (record { formula = (M b n).formula; dead = false }) (λ k. L' k n) ≡ at_end o (record { formula = (M b n).formula; dead = false }) (λ k. M' k n)
+      later : (o : Option ℕ) → end_of M b n ≡ o
+          → at_end o (record { formula = (M b n).formula; dead = false }) (λ k. L' k n) ≡ at_end o (record { formula = (M b n).formula; dead = false })
+          (λ k. M' k n)
       later None e = refl
       later (Some k) e = let w = find-within _ (suc b) (suc n) k e in (h' k w.0 (omega (arith, w.1))).at n (omega (arith, w.1)) u
 
-  pub joined_agree : (o : ExprOp) (L M L' M' : Life) (b n : ℕ) → Agree N b L M → ((k : ℕ) → b ≤ k → k ≤ N → (o ≡ op.Then → b < k) → Agree N k L' M') → b ≤ n → n ≤ N → joined T o L L' b n ≡ joined T' o M M' b n
+  pub joined_agree : (o : ExprOp) (L M L' M' : Life) (b n : ℕ) → Agree N b L M → ((k : ℕ) → b ≤ k → k ≤ N → (o ≡ op.Then → b < k) → Agree N k L' M') → b ≤ n
+      → n ≤ N → joined T o L L' b n ≡ joined T' o M M' b n
   joined_agree op.Union L M L' M' b n h h' l u = two_agree union_row L M L' M' b n h (h' b (omega arith) (omega arith) (λ e. let z : ⊥ = cc in absurd z)) l u
   joined_agree op.Inter L M L' M' b n h h' l u = two_agree inter_row L M L' M' b n h (h' b (omega arith) (omega arith) (λ e. let z : ⊥ = cc in absurd z)) l u
   joined_agree op.Minus L M L' M' b n h h' l u = two_agree minus_row L M L' M' b n h (h' b (omega arith) (omega arith) (λ e. let z : ⊥ = cc in absurd z)) l u
   joined_agree op.Inf L M L' M' b n h h' l u = two_agree inf_row L M L' M' b n h (h' b (omega arith) (omega arith) (λ e. let z : ⊥ = cc in absurd z)) l u
   joined_agree op.Sup L M L' M' b n h h' l u = two_agree sup_row L M L' M' b n h (h' b (omega arith) (omega arith) (λ e. let z : ⊥ = cc in absurd z)) l u
   joined_agree op.Upto L M L' M' b n h h' l u = two_agree upto_row L M L' M' b n h (h' b (omega arith) (omega arith) (λ e. let z : ⊥ = cc in absurd z)) l u
-  joined_agree op.UptoWeakly L M L' M' b n h h' l u = two_agree upto_weakly_row L M L' M' b n h (h' b (omega arith) (omega arith) (λ e. let z : ⊥ = cc in absurd z)) l u
+  joined_agree op.UptoWeakly L M L' M' b n h h' l u =
+      two_agree upto_weakly_row L M L' M' b n h (h' b (omega arith) (omega arith) (λ e. let z : ⊥ = cc in absurd z)) l u
   joined_agree op.Then L M L' M' b n h h' l u = followed_agree L M L' M' b n h (λ k l u. h' k (omega arith) u (λ e. l)) l u
-  joined_agree op.Sampled L M L' M' b n h h' l u = two_agree sampled_row L M L' M' b n h (h' b (omega arith) (omega arith) (λ e. let z : ⊥ = cc in absurd z)) l u
-  joined_agree op.SampledWeakly L M L' M' b n h h' l u = two_agree sampled_weakly_row L M L' M' b n h (h' b (omega arith) (omega arith) (λ e. let z : ⊥ = cc in absurd z)) l u
+  joined_agree op.Sampled L M L' M' b n h h' l u =
+      two_agree sampled_row L M L' M' b n h (h' b (omega arith) (omega arith) (λ e. let z : ⊥ = cc in absurd z)) l u
+  joined_agree op.SampledWeakly L M L' M' b n h h' l u =
+      two_agree sampled_weakly_row L M L' M' b n h (h' b (omega arith) (omega arith) (λ e. let z : ⊥ = cc in absurd z)) l u
 
 -- the table's rows hold of the meaning that was defined by them
 pub life_rows : (K : System) (T : List Step) (gone : ℕ → ℕ → Bool) (calls : ℕ → ℕ → List Actual → Life) → IsTable K T gone (life K T gone calls)
@@ -66,7 +78,8 @@ life_rows K T gone calls = record {
   await = λ a m ρ b n l u. refl;
   filter = λ a w ρ b n l u. refl;
   delayed = λ a m d ρ pos b n l u. refl;
-  choice = λ q a d ρ b n l u. elim (test_of K.words q ρ) as (λ t. (if t then life K T gone calls a ρ else life K T gone calls d ρ) b n ≡ (if t then life K T gone calls a ρ b n else life K T gone calls d ρ b n)) [ true ↦ refl | false ↦ refl ];
+  choice = λ q a d ρ b n l u. elim (test_of K.words q ρ) as (λ t. (if t then life K T gone calls a ρ else life K T gone calls d ρ) b
+      n ≡ (if t then life K T gone calls a ρ b n else life K T gone calls d ρ b n)) [ true ↦ refl | false ↦ refl ];
 }
 
 -- Two meanings that obey the rows, over lists of steps and deaths of names that are the same up to N: that they agree is kept by
@@ -88,7 +101,10 @@ module _ (K : System) (T T' : List Step) (N : ℕ) (in_T : N ≤ length T) (in_T
 
     pub agree_closed : IsClosed K N AgreeOn
     agree_closed = record {
-      name = λ x ρ b u. record { at = λ n l' u'. rows.name x ρ b n l' (omega arith) ∙ name_agree (place_of x ρ) b n u' ∙ sym (rows'.name x ρ b n l' (omega arith)) };
+      name = λ x ρ b u. record {
+        at =
+            λ n l' u'. rows.name x ρ b n l' (omega arith) ∙ name_agree (place_of x ρ) b n u' ∙ sym (rows'.name x ρ b n l' (omega arith));
+      };
       never = λ ρ b u. record { at = λ n l' u'. rows.never ρ b n l' (omega arith) ∙ sym (rows'.never ρ b n l' (omega arith)) };
       binary = λ o a d ρ b u ra rd. record {
         at = λ n l' u'.
@@ -130,14 +146,19 @@ module _ (K : System) (T T' : List Step) (N : ℕ) (in_T : N ≤ length T) (in_T
     }
 
     -- THE ROWS DETERMINE THE MEANING
-    pub unique : AreGuarded K → CallsAreBodies K T M → CallsAreBodies K T' M' → (e : Expression) (ρ : List Actual) (b : ℕ) → Allowed (length K.groups) Inner e → b ≤ N → Agree N b (M e ρ) (M' e ρ)
+    pub unique : AreGuarded K → CallsAreBodies K T M → CallsAreBodies K T' M' → (e : Expression) (ρ : List Actual) (b : ℕ) → Allowed (length K.groups) Inner e
+        → b ≤ N → Agree N b (M e ρ) (M' e ρ)
     unique ok calls calls' e ρ b ok_e u =
         induct K N AgreeOn agree_closed ok
-        (λ group m args v b' g u' h. record { at = λ n l' un. calls group m args v g b' n l' (omega arith) ∙ h.at n l' un ∙ sym (calls' group m args v g b' n l' (omega arith)) })
+        (λ group m args v b' g u' h. record {
+          at =
+              λ n l' un. calls group m args v g b' n l' (omega arith) ∙ h.at n l' un ∙ sym (calls' group m args v g b' n l' (omega arith));
+        })
         e ρ b ok_e u
 
   -- bodies through f calls one in another, and through f', where both are enough
-  pub bodies_agree : AreGuarded K → (f f' g member : ℕ) (ρ : List Actual) (b : ℕ) → g + (N - b) < f → g + (N - b) < f' → b ≤ N → Agree N b (bodies K T gone f g member ρ) (bodies K T' gone' f' g member ρ)
+  pub bodies_agree : AreGuarded K → (f f' g member : ℕ) (ρ : List Actual) (b : ℕ) → g + (N - b) < f → g + (N - b) < f' → b ≤ N
+      → Agree N b (bodies K T gone f g member ρ) (bodies K T' gone' f' g member ρ)
   bodies_agree ok zero f' g member ρ b h h' u = let z : ⊥ = omega arith in absurd z
   bodies_agree ok (suc f) zero g member ρ b h h' u = let z : ⊥ = omega arith in absurd z
   bodies_agree ok (suc f) (suc f') g member ρ b h h' u =

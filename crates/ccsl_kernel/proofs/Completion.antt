@@ -1,5 +1,6 @@
 -- The completion of declared ticks obeys the definitions, has those declared ticks, and is the only such list.
-use Rattle.std.proofs.Common.{⊎_elim, ◌≡◌, ℕ, zero, suc, ◌+◌, ◌-◌, ◌<◌, ◌≤◌, List, [], ◌∷◌, ◌++◌, length, map, Bool, true, false, ◌||◌, ◌&&◌, Some, None, slice_get, eq-eqb, lt-ltb, refl, sym, ap, ap₂, ◌∙◌, subst, arith, append-nil, append_assoc, length-append, if◌then◌else◌}
+use Rattle.std.proofs.Common.{⊎_elim, ◌≡◌, ℕ, zero, suc, ◌+◌, ◌-◌, ◌<◌, ◌≤◌, List, [], ◌∷◌, ◌++◌, length, map, Bool, true, false, ◌||◌, ◌&&◌, Some, None}
+use Rattle.std.proofs.Common.{slice_get, eq-eqb, lt-ltb, refl, sym, ap, ap₂, ◌∙◌, subst, arith, append-nil, append_assoc, length-append, if◌then◌else◌}
 use Rattle.std.specs.List.{list_all}
 use Rattle.std.proofs.lemmas.List.Folds.{list_all-append}
 use Rattle.std.proofs.lemmas.Bool.{cases_lt, ne_eqb, and_parts, and_from}
@@ -17,7 +18,8 @@ use Rattle.ccsl_kernel.specs.Runs.{IsRun, ObeysDefinitions, derived_from, full_s
 use Rattle.ccsl_kernel.proofs.Scoped.{IsScoped}
 use Rattle.ccsl_kernel.proofs.GuardedCalls.{IsGuarded}
 use Rattle.ccsl_base.proofs.Ascending.{with_clock-last}
-use Rattle.ccsl_kernel.proofs.Sets.{NoneFrom, NoneFrom-are_below, below, ticks_in-with_clock, below-with_clock, below-all, below-suc, ticks_in-below, ascending-last, are_below-last, are_below-more}
+use Rattle.ccsl_kernel.proofs.Sets.{NoneFrom, NoneFrom-are_below, below, ticks_in-with_clock, below-with_clock, below-all, below-suc, ticks_in-below}
+use Rattle.ccsl_kernel.proofs.Sets.{ascending-last, are_below-last, are_below-more}
 use Rattle.ccsl_kernel.proofs.Scope.{ReadsOnly, eval_same, reads_below}
 use Rattle.ccsl_kernel.proofs.TableHolds.{first_steps_matter}
 use Rattle.ccsl_kernel.proofs.Definitions.{step_at-front, step_at-last, definitions-are, definition_allowed, dead_below-same}
@@ -40,7 +42,8 @@ module _ (K : System) (T : List Step) where
   derived_keeps [] x s y l = refl
   derived_keeps (e ∷ es) x s y l = derived_keeps es (suc x) (next x e s) y (omega arith) ∙ other_clock (eval (asked x e) s) s x y (λ e. omega arith)
 
-  derived_ticks : (es : List Expression) (x : ℕ) (s : Step) → NoneFrom x s → ((j : ℕ) (e : Expression) → slice_get es j ≡ Some e → ReadsOnly (x + j) (asked (x + j) e)) →
+  derived_ticks : (es : List Expression) (x : ℕ) (s : Step) → NoneFrom x s
+      → ((j : ℕ) (e : Expression) → slice_get es j ≡ Some e → ReadsOnly (x + j) (asked (x + j) e)) →
       (j : ℕ) (e : Expression) → slice_get es j ≡ Some e → ticks_in (x + j) (derived_from K T es x s) ≡ eval (asked (x + j) e) (derived_from K T es x s)
   derived_ticks [] x s fresh reads j e h = let z : ⊥ = cc in absurd z
   derived_ticks (e' ∷ es) x s fresh reads zero e h =
@@ -85,8 +88,10 @@ module _ (K : System) (T : List Step) where
       one false = refl
 
   -- a step that ticks as the definitions say is derived from its declared part, clock by clock
-  derived_is : (es : List Expression) (x : ℕ) (s : Step) → is_ascending s ≡ true → ((j : ℕ) (e : Expression) → slice_get es j ≡ Some e → ReadsOnly (x + j) (asked (x + j) e)) →
-      ((j : ℕ) (e : Expression) → slice_get es j ≡ Some e → ticks_in (x + j) s ≡ eval (asked (x + j) e) s) → derived_from K T es x (below x s) ≡ below (x + length es) s
+  derived_is : (es : List Expression) (x : ℕ) (s : Step) → is_ascending s ≡ true
+      → ((j : ℕ) (e : Expression) → slice_get es j ≡ Some e → ReadsOnly (x + j) (asked (x + j) e)) →
+      ((j : ℕ) (e : Expression) → slice_get es j ≡ Some e → ticks_in (x + j) s ≡ eval (asked (x + j) e) s)
+      → derived_from K T es x (below x s) ≡ below (x + length es) s
   derived_is [] x s h reads obeys = ap (λ k. below k s) (omega arith)
   derived_is (e ∷ es) x s h reads obeys =
       let at : x + 0 ≡ x = omega arith in
@@ -112,7 +117,8 @@ past_declared K x e is =
 
 module _ (K : System) (ok : IsGuarded K) (scoped : IsScoped K) where
   reads_at : (T : List Step) (x : ℕ) (e : Expression) → definition_of K x ≡ Some e → (n : ℕ) → n ≤ length T → ReadsOnly x (formula_at K T x e [] 0 n)
-  reads_at T x e is n u = reads_below x K T (dead_below K T x) ok.bodies scoped.bodies e [] 0 (definition_allowed K ok x e is) (omega arith) (scoped.definitions x e is) tt n (omega arith) u
+  reads_at T x e is n u = reads_below x K T (dead_below K T x) ok.bodies scoped.bodies e [] 0 (definition_allowed K ok x e is) (omega arith)
+      (scoped.definitions x e is) tt n (omega arith) u
 
   abbrev defined_at : (j : ℕ) (e : Expression) → slice_get K.definitions j ≡ Some e → definition_of K (K.declared + j) ≡ Some e
   defined_at j e h = sym (definitions-are K j) ∙ h
@@ -127,7 +133,8 @@ module _ (K : System) (ok : IsGuarded K) (scoped : IsScoped K) where
       let front : (i : ℕ) → i < n → step_at (T ++ s ∷ []) i ≡ step_at T i = λ i l. step_at-front T s i (omega arith) in
       let u' : n ≤ length (T ++ s ∷ []) = omega (arith, length-snoc T s) in
       ap (λ (now : Now). now.formula)
-      (first_steps_matter K (T ++ s ∷ []) T (dead_below K (T ++ s ∷ []) x) (dead_below K T x) ok.bodies e [] 0 n (definition_allowed K ok x e is) (omega arith) u' u front
+      (first_steps_matter K (T ++ s ∷ []) T (dead_below K (T ++ s ∷ []) x) (dead_below K T x) ok.bodies e [] 0 n (definition_allowed K ok x e is) (omega arith)
+      u' u front
       (λ i y l. dead_below-same K ok (T ++ s ∷ []) T n u' u front x i y l))
 
   obeys-snoc : (T : List Step) (s : Step) → ObeysDefinitions K T →
@@ -145,7 +152,8 @@ module _ (K : System) (ok : IsGuarded K) (scoped : IsScoped K) where
       (cases_lt n (length T))
 
   -- by the place of a definition
-  by_place : (P : ℕ → Expression → Type 0) → ((j : ℕ) (e : Expression) → slice_get K.definitions j ≡ Some e → P (K.declared + j) e) → (x : ℕ) (e : Expression) → definition_of K x ≡ Some e → P x e
+  by_place : (P : ℕ → Expression → Type 0) → ((j : ℕ) (e : Expression) → slice_get K.definitions j ≡ Some e → P (K.declared + j) e) → (x : ℕ) (e : Expression)
+      → definition_of K x ≡ Some e → P x e
   by_place P each x e is =
       let l = past_declared K x e is in
       let at : K.declared + (x - K.declared) ≡ x = omega arith in
@@ -155,7 +163,8 @@ module _ (K : System) (ok : IsGuarded K) (scoped : IsScoped K) where
       ticks_in x (full_step K T s) ≡ eval (formula_at K T x e [] 0 (length T)) (full_step K T s)
   full_obeys T s b =
       by_place (λ x e. ticks_in x (full_step K T s) ≡ eval (formula_at K T x e [] 0 (length T)) (full_step K T s))
-      (derived_ticks K T K.definitions K.declared s (NoneFrom-are_below K.declared s b) (λ j e h. reads_at T (K.declared + j) e (defined_at j e h) (length T) (omega arith)))
+      (derived_ticks K T K.definitions K.declared s (NoneFrom-are_below K.declared s b)
+      (λ j e h. reads_at T (K.declared + j) e (defined_at j e h) (length T) (omega arith)))
 
   -- THE COMPLETION OBEYS THE DEFINITIONS
   completed_obeys : (R T : List Step) → list_all (is_declared K) R ≡ true → ObeysDefinitions K T → ObeysDefinitions K (completed_after K T R)
@@ -170,9 +179,11 @@ module _ (K : System) (ok : IsGuarded K) (scoped : IsScoped K) where
 
   -- AND IT IS THE ONLY ONE. A step of a list that obeys the definitions is the full step of its declared part
   full_is : (T : List Step) (s : Step) → is_ascending s ≡ true → are_below (K.declared + length K.definitions) s ≡ true →
-      ((x : ℕ) (e : Expression) → definition_of K x ≡ Some e → ticks_in x s ≡ eval (formula_at K T x e [] 0 (length T)) s) → full_step K T (declared_part K s) ≡ s
+      ((x : ℕ) (e : Expression) → definition_of K x ≡ Some e → ticks_in x s ≡ eval (formula_at K T x e [] 0 (length T)) s)
+      → full_step K T (declared_part K s) ≡ s
   full_is T s h b obeys =
-      derived_is K T K.definitions K.declared s h (λ j e i. reads_at T (K.declared + j) e (defined_at j e i) (length T) (omega arith)) (λ j e i. obeys (K.declared + j) e (defined_at j e i))
+      derived_is K T K.definitions K.declared s h (λ j e i. reads_at T (K.declared + j) e (defined_at j e i) (length T) (omega arith))
+      (λ j e i. obeys (K.declared + j) e (defined_at j e i))
       ∙ below-all (K.declared + length K.definitions) s b
 
   -- what obeys the definitions obeyed them before its later steps
@@ -185,7 +196,8 @@ module _ (K : System) (ok : IsGuarded K) (scoped : IsScoped K) where
       ap (ticks_in x) (sym here) ∙ obeys x e (length T) is longer
       ∙ ap₂ eval
       (ap (λ (now : Now). now.formula)
-      (first_steps_matter K (T ++ s ∷ U) T (dead_below K (T ++ s ∷ U) x) (dead_below K T x) ok.bodies e [] 0 (length T) (definition_allowed K ok x e is) (omega arith) (omega (arith, longer)) (omega arith) front
+      (first_steps_matter K (T ++ s ∷ U) T (dead_below K (T ++ s ∷ U) x) (dead_below K T x) ok.bodies e [] 0 (length T) (definition_allowed K ok x e is)
+      (omega arith) (omega (arith, longer)) (omega arith) front
       (λ i y l. dead_below-same K ok (T ++ s ∷ U) T (length T) (omega (arith, longer)) (omega arith) front x i y l)))
       here
 
@@ -239,7 +251,8 @@ module _ (K : System) where
   length-completed [] T = omega arith
   length-completed (s ∷ R) T = let e = length-completed R (T ++ full_step K T s ∷ []) in omega (arith, e, length-append T (full_step K T s ∷ []))
 
-  completed_named : (R T : List Step) → list_all (is_declared K) R ≡ true → list_all (is_named K) T ≡ true → list_all (is_named K) (completed_after K T R) ≡ true
+  completed_named : (R T : List Step) → list_all (is_declared K) R ≡ true → list_all (is_named K) T ≡ true
+      → list_all (is_named K) (completed_after K T R) ≡ true
   completed_named [] T h t = t
   completed_named (s ∷ R) T h t =
       let w = and_parts (is_declared K s) (list_all (is_declared K) R) h in

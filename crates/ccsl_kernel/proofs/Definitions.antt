@@ -1,5 +1,6 @@
 -- The definitions of a system: where they stand, that they are allowed, and the deaths of the clocks that they define.
-use Rattle.std.proofs.Common.{◌≡◌, ℕ, zero, suc, ◌+◌, ◌-◌, ◌<◌, ◌≤◌, ⊎_elim, List, [], ◌∷◌, ◌++◌, length, Bool, true, false, Option, Some, None, slice_get, nat_eq, nat_lt, if◌then◌else◌, refl, sym, ap, ap₂, ◌∙◌, subst, arith, eq-eqb, le-ltb}
+use Rattle.std.proofs.Common.{◌≡◌, ℕ, zero, suc, ◌+◌, ◌-◌, ◌<◌, ◌≤◌, ⊎_elim, List, [], ◌∷◌, ◌++◌, length, Bool, true, false, Option, Some, None, slice_get}
+use Rattle.std.proofs.Common.{nat_eq, nat_lt, if◌then◌else◌, refl, sym, ap, ap₂, ◌∙◌, subst, arith, eq-eqb, le-ltb}
 use Rattle.std.proofs.lemmas.Bool.{cases_lt, ne_eqb}
 use Rattle.std.proofs.Math.ListN.{get_or-append}
 use Rattle.std.proofs.Math.Seq.{get_or-append_seam}
@@ -27,7 +28,8 @@ allowed_at K (e' ∷ es) (suc i) e ok h = allowed_at K es i e ok.1 h
 
 -- the definitions stand in the order of their clocks
 pub definitions-are : (K : System) (j : ℕ) → slice_get K.definitions j ≡ definition_of K (K.declared + j)
-definitions-are K j = ap (slice_get K.definitions) (omega arith) ∙ sym (ap (λ t. if t then None else slice_get K.definitions (K.declared + j - K.declared)) (le-ltb (K.declared + j) K.declared (omega arith)))
+definitions-are K j = ap (slice_get K.definitions) (omega arith)
+    ∙ sym (ap (λ t. if t then None else slice_get K.definitions (K.declared + j - K.declared)) (le-ltb (K.declared + j) K.declared (omega arith)))
 
 -- whether clock y is dead is the same for all clocks above it: where its definition is
 pub dead_below-at : (K : System) (T : List Step) (x n y : ℕ) → y < x → dead_below K T x n y ≡ definition_dead K T (dead_below K T y) n (definition_of K y)
@@ -61,7 +63,10 @@ module _ (K : System) (ok : IsGuarded K) where
       (at (dead_below K T x) (dead_below K T' x) (λ j z h. dead_below-same T T' N u u' same x j z (omega arith)) (definition_of K x) refl)
       (dead_below-same T T' N u u' same x i y l)
     where
-      at : (gone gone' : ℕ → ℕ → Bool) → ((j z : ℕ) → j ≤ i → gone j z ≡ gone' j z) → (o : Option Expression) → definition_of K x ≡ o → definition_dead K T gone i o ≡ definition_dead K T' gone' i o
+      at : (gone gone' : ℕ → ℕ → Bool) → ((j z : ℕ) → j ≤ i → gone j z ≡ gone' j z) → (o : Option Expression) → definition_of K x ≡ o
+          → definition_dead K T gone i o ≡ definition_dead K T' gone' i o
       at gone gone' h None e = refl
       at gone gone' h (Some e) is =
-          ap (λ (now : Now). now.dead) (first_steps_matter K T T' gone gone' ok.bodies e [] 0 i (definition_allowed x e is) (omega arith) (omega arith) (omega arith) (λ j h. same j (omega arith)) h)
+          ap (λ (now : Now). now.dead)
+          (first_steps_matter K T T' gone gone' ok.bodies e [] 0 i (definition_allowed x e is) (omega arith) (omega arith) (omega arith)
+          (λ j h. same j (omega arith)) h)

@@ -1,5 +1,6 @@
 -- The empty set satisfies the formula of every item at every step: no expression asks for a tick where nothing ticks.
-use Rattle.std.proofs.Common.{◌≡◌, ℕ, suc, ◌+◌, ◌-◌, ◌<◌, ◌≤◌, List, [], length, Bool, true, false, ◌&&◌, ◌||◌, Option, Some, None, slice_get, nat_eq, nat_lt, nat_le, refl, sym, ap, ap₂, ◌∙◌, arith, if◌then◌else◌}
+use Rattle.std.proofs.Common.{◌≡◌, ℕ, suc, ◌+◌, ◌-◌, ◌<◌, ◌≤◌, List, [], length, Bool, true, false, ◌&&◌, ◌||◌, Option, Some, None, slice_get, nat_eq, nat_lt}
+use Rattle.std.proofs.Common.{nat_le, refl, sym, ap, ap₂, ◌∙◌, arith, if◌then◌else◌}
 use Rattle.ccsl_formula.specs.Formula.{Formula, FTrue, FFalse, FVar, FAnd, FOr, FNot, eval, same}
 use Rattle.ccsl_words.specs.Word.{letter}
 use Rattle.ccsl_kernel.specs.declared.expr.ExprOp.{ExprOp}
@@ -48,13 +49,15 @@ module _ (K : System) (T : List Step) (gone : ℕ → ℕ → Bool) (ok : AreGua
   named_idle (actual.Number k) b n = refl
   named_idle (actual.Word w o) b n = refl
 
-  joined_idle : (o : ExprOp) (L M : Life) (b n : ℕ) → IdleFrom b L → ((k : ℕ) → b ≤ k → k ≤ length T → (o ≡ op.Then → b < k) → IdleFrom k M) → b ≤ n → n ≤ length T → Idle (joined T o L M b n).formula
+  joined_idle : (o : ExprOp) (L M : Life) (b n : ℕ) → IdleFrom b L → ((k : ℕ) → b ≤ k → k ≤ length T → (o ≡ op.Then → b < k) → IdleFrom k M) → b ≤ n
+      → n ≤ length T → Idle (joined T o L M b n).formula
   joined_idle op.Then L M b n h h' l u = on (end_of L b n) refl
     where
       on : (e : Option ℕ) → end_of L b n ≡ e → Idle (at_end e (record { formula = (L b n).formula; dead = false }) (λ k. M k n)).formula
       on None e = h n l u
       on (Some k) e = let w = find-within _ (suc b) (suc n) k e in h' k (omega (arith, w.0)) (omega (arith, w.1)) (λ _. w.0) n (omega (arith, w.1)) u
-  joined_idle op.Union L M b n h h' l u = or_idle (L b n).formula (M b n).formula (h n l u) (h' b (omega arith) (omega arith) (λ e. let z : ⊥ = cc in absurd z) n l u)
+  joined_idle op.Union L M b n h h' l u =
+      or_idle (L b n).formula (M b n).formula (h n l u) (h' b (omega arith) (omega arith) (λ e. let z : ⊥ = cc in absurd z) n l u)
   joined_idle op.Inter L M b n h h' l u = and_idle (L b n).formula (M b n).formula (h n l u)
   joined_idle op.Minus L M b n h h' l u = and_idle (L b n).formula (FNot (M b n).formula) (h n l u)
   joined_idle op.Inf L M b n h h' l u =
@@ -67,12 +70,17 @@ module _ (K : System) (T : List Step) (gone : ℕ → ℕ → Bool) (ok : AreGua
       let p = h n l u in let q = h' b (omega arith) (omega arith) (λ e. let z : ⊥ = cc in absurd z) n l u in
       chosen (nat_lt (count a.ticks) (count d.ticks)) a.formula (if nat_lt (count d.ticks) (count a.ticks) then d.formula else FAnd a.formula d.formula) p
       (chosen (nat_lt (count d.ticks) (count a.ticks)) d.formula (FAnd a.formula d.formula) q (and_idle a.formula d.formula p))
-  joined_idle op.Upto L M b n h h' l u = chosen (ever (operand T M b n).ticks) FFalse (FAnd (L b n).formula (FNot (M b n).formula)) refl (and_idle (L b n).formula (FNot (M b n).formula) (h n l u))
+  joined_idle op.Upto L M b n h h' l u =
+      chosen (ever (operand T M b n).ticks) FFalse (FAnd (L b n).formula (FNot (M b n).formula)) refl
+      (and_idle (L b n).formula (FNot (M b n).formula) (h n l u))
   joined_idle op.UptoWeakly L M b n h h' l u = chosen (ever (operand T M b n).ticks) FFalse (L b n).formula refl (h n l u)
-  joined_idle op.Sampled L M b n h h' l u = chosen (waits (operand T L b n).ticks (operand T M b n).ticks) (M b n).formula FFalse (h' b (omega arith) (omega arith) (λ e. let z : ⊥ = cc in absurd z) n l u) refl
+  joined_idle op.Sampled L M b n h h' l u =
+      chosen (waits (operand T L b n).ticks (operand T M b n).ticks) (M b n).formula FFalse
+      (h' b (omega arith) (omega arith) (λ e. let z : ⊥ = cc in absurd z) n l u) refl
   joined_idle op.SampledWeakly L M b n h h' l u =
       let q = h' b (omega arith) (omega arith) (λ e. let z : ⊥ = cc in absurd z) n l u in
-      chosen (waits_weakly (operand T L b n).ticks (operand T M b n).ticks) (M b n).formula (FAnd (M b n).formula (L b n).formula) q (and_idle (M b n).formula (L b n).formula q)
+      chosen (waits_weakly (operand T L b n).ticks (operand T M b n).ticks) (M b n).formula (FAnd (M b n).formula (L b n).formula) q
+      (and_idle (M b n).formula (L b n).formula q)
 
   choose : (t : Bool) (L M : Life) (b n : ℕ) → Idle (L b n).formula → Idle (M b n).formula → Idle ((if t then L else M) b n).formula
   choose true L M b n p q = p
@@ -83,10 +91,14 @@ module _ (K : System) (T : List Step) (gone : ℕ → ℕ → Bool) (ok : AreGua
     name = λ x ρ b u n l u'. named_idle (place_of x ρ) b n;
     never = λ ρ b u n l u'. refl;
     binary = λ o a d ρ b u ra rd n l u'. joined_idle o (life_given K T gone a ρ) (life_given K T gone d ρ) b n ra rd l u';
-    delay = λ a m ρ b u ra n l u'. let x = operand T (life_given K T gone a ρ) b n in chosen (nat_le (number_of m ρ) (count x.ticks)) x.formula FFalse (ra n l u') refl;
-    await = λ a m ρ b u ra n l u'. let x = operand T (life_given K T gone a ρ) b n in chosen (nat_eq (suc (count x.ticks)) (number_of m ρ)) x.formula FFalse (ra n l u') refl;
-    filter = λ a w ρ b u ra n l u'. let x = operand T (life_given K T gone a ρ) b n in let s = suffix_of K.words w ρ in chosen (letter (word_of K.words s.word) (s.offset + count x.ticks)) x.formula FFalse (ra n l u') refl;
-    delayed = λ a m d ρ b u pos ra rd n l u'. let x = operand T (life_given K T gone a ρ) b n in let y = operand T (life_given K T gone d ρ) b n in chosen (waits_since (m - 1) x.ticks y.ticks) y.formula FFalse (rd n l u') refl;
+    delay = λ a m ρ b u ra n l u'. let x =
+        operand T (life_given K T gone a ρ) b n in chosen (nat_le (number_of m ρ) (count x.ticks)) x.formula FFalse (ra n l u') refl;
+    await = λ a m ρ b u ra n l u'. let x =
+        operand T (life_given K T gone a ρ) b n in chosen (nat_eq (suc (count x.ticks)) (number_of m ρ)) x.formula FFalse (ra n l u') refl;
+    filter = λ a w ρ b u ra n l u'. let x = operand T (life_given K T gone a ρ) b n in let s =
+        suffix_of K.words w ρ in chosen (letter (word_of K.words s.word) (s.offset + count x.ticks)) x.formula FFalse (ra n l u') refl;
+    delayed = λ a m d ρ b u pos ra rd n l u'. let x = operand T (life_given K T gone a ρ) b n in let y =
+        operand T (life_given K T gone d ρ) b n in chosen (waits_since (m - 1) x.ticks y.ticks) y.formula FFalse (rd n l u') refl;
     choice = λ q a d ρ b u ra rd n l u'. choose (test_of K.words q ρ) (life_given K T gone a ρ) (life_given K T gone d ρ) b n (ra n l u') (rd n l u');
   }
 
@@ -101,7 +113,8 @@ relation_holds kind.Subclock a b m n = refl
 relation_holds kind.Coincides a b m n = refl
 relation_holds kind.Excludes a b m n = refl
 relation_holds kind.Precedes a b m n = elim (nat_eq m n) as (λ t. eval (if t then FNot (FVar b) else FTrue) [] ≡ true) [ true ↦ refl | false ↦ refl ]
-relation_holds kind.PrecedesWeakly a b m n = elim (nat_eq m n) as (λ t. eval (if t then FOr (FNot (FVar b)) (FVar a) else FTrue) [] ≡ true) [ true ↦ refl | false ↦ refl ]
+relation_holds kind.PrecedesWeakly a b m n =
+    elim (nat_eq m n) as (λ t. eval (if t then FOr (FNot (FVar b)) (FVar a) else FTrue) [] ≡ true) [ true ↦ refl | false ↦ refl ]
 relation_holds (kind.PrecedesWithin k) a b m n =
     ap₂ (λ x y. x && y)
     (elim (nat_eq m n) as (λ t. eval (if t then FNot (FVar b) else FTrue) [] ≡ true) [ true ↦ refl | false ↦ refl ])

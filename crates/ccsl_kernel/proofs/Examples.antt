@@ -32,7 +32,8 @@ clock x = EName (Clock x)
 
 -- a system of declared clocks, definitions and constraints, with no words and no groups
 abbrev of_clocks : ℕ → List Expression → List Constraint → System
-of_clocks declared definitions constraints = record { names = []; declared = declared; written = 0; groups = []; words = []; definitions = definitions; constraints = constraints }
+of_clocks declared definitions constraints =
+    record { names = []; declared = declared; written = 0; groups = []; words = []; definitions = definitions; constraints = constraints }
 
 -- the runs of a system with one definition, the clock behind the declared ones
 abbrev defines : ℕ → Expression → List Step → List Step
@@ -46,10 +47,12 @@ deaths declared e T = map (λ n. dead_at (of_clocks declared [] []) T declared e
 sampled : defines 2 (EBinary op.Sampled (clock 0) (clock 1)) ((0 ∷ 1 ∷ []) ∷ (1 ∷ []) ∷ (1 ∷ []) ∷ []) ≡ (0 ∷ 1 ∷ []) ∷ (1 ∷ 2 ∷ []) ∷ (1 ∷ []) ∷ []
 sampled = refl
 
-sampled_weakly : defines 2 (EBinary op.SampledWeakly (clock 0) (clock 1)) ((0 ∷ 1 ∷ []) ∷ (1 ∷ []) ∷ (1 ∷ []) ∷ []) ≡ (0 ∷ 1 ∷ 2 ∷ []) ∷ (1 ∷ []) ∷ (1 ∷ []) ∷ []
+sampled_weakly : defines 2 (EBinary op.SampledWeakly (clock 0) (clock 1))
+    ((0 ∷ 1 ∷ []) ∷ (1 ∷ []) ∷ (1 ∷ []) ∷ []) ≡ (0 ∷ 1 ∷ 2 ∷ []) ∷ (1 ∷ []) ∷ (1 ∷ []) ∷ []
 sampled_weakly = refl
 
-delayed : defines 2 (EDelayed (clock 0) 2 (clock 1)) ((0 ∷ []) ∷ (0 ∷ 1 ∷ []) ∷ (1 ∷ []) ∷ (1 ∷ []) ∷ []) ≡ (0 ∷ []) ∷ (0 ∷ 1 ∷ []) ∷ (1 ∷ 2 ∷ []) ∷ (1 ∷ 2 ∷ []) ∷ []
+delayed : defines 2 (EDelayed (clock 0) 2 (clock 1))
+    ((0 ∷ []) ∷ (0 ∷ 1 ∷ []) ∷ (1 ∷ []) ∷ (1 ∷ []) ∷ []) ≡ (0 ∷ []) ∷ (0 ∷ 1 ∷ []) ∷ (1 ∷ 2 ∷ []) ∷ (1 ∷ 2 ∷ []) ∷ []
 delayed = refl
 
 inf : defines 2 (EBinary op.Inf (clock 0) (clock 1)) ((0 ∷ []) ∷ (1 ∷ []) ∷ (1 ∷ []) ∷ []) ≡ (0 ∷ 2 ∷ []) ∷ (1 ∷ []) ∷ (1 ∷ 2 ∷ []) ∷ []
@@ -71,7 +74,8 @@ a = 0 ∷ []
 filtered : completed (one_word (EFilter (clock 0) (word.Word 0 0) ∷ [])) (a ∷ a ∷ a ∷ a ∷ []) ≡ (0 ∷ 1 ∷ []) ∷ a ∷ (0 ∷ 1 ∷ []) ∷ a ∷ []
 filtered = refl
 
-filtered_dead : map (λ n. dead_at (one_word []) (a ∷ a ∷ a ∷ a ∷ []) 1 (EFilter (clock 0) (word.Word 0 0)) [] 0 n) (steps 0 5) ≡ false ∷ false ∷ false ∷ true ∷ true ∷ []
+filtered_dead : map (λ n. dead_at (one_word []) (a ∷ a ∷ a ∷ a ∷ []) 1 (EFilter (clock 0) (word.Word 0 0)) [] 0 n)
+    (steps 0 5) ≡ false ∷ false ∷ false ∷ true ∷ true ∷ []
 filtered_dead = refl
 
 never_then : defines 1 (EBinary op.Then ENever (clock 0)) (a ∷ a ∷ []) ≡ a ∷ a ∷ []
@@ -81,7 +85,8 @@ never_then_dead : deaths 1 (EBinary op.Then ENever (clock 0)) (a ∷ a ∷ []) �
 never_then_dead = refl
 
 -- y = (a await 2) then (b await 1), with a, b, y: 0, 1, 2
-awaits : defines 2 (EBinary op.Then (EAwait (clock 0) (num 2)) (EAwait (clock 1) (num 1))) ((0 ∷ []) ∷ (0 ∷ 1 ∷ []) ∷ (1 ∷ []) ∷ []) ≡ (0 ∷ []) ∷ (0 ∷ 1 ∷ 2 ∷ []) ∷ (1 ∷ 2 ∷ []) ∷ []
+awaits : defines 2 (EBinary op.Then (EAwait (clock 0) (num 2)) (EAwait (clock 1) (num 1)))
+    ((0 ∷ []) ∷ (0 ∷ 1 ∷ []) ∷ (1 ∷ []) ∷ []) ≡ (0 ∷ []) ∷ (0 ∷ 1 ∷ 2 ∷ []) ∷ (1 ∷ 2 ∷ []) ∷ []
 awaits = refl
 
 -- y = (a await 0) then b
@@ -89,14 +94,16 @@ await_none : defines 2 (EBinary op.Then (EAwait (clock 0) (num 0)) (clock 1)) ((
 await_none = refl
 
 -- x = (a await 1) sup b; y = x then c, with a, b, c, x, y: 0 to 4
-sup_then : completed (of_clocks 3 (EBinary op.Sup (EAwait (clock 0) (num 1)) (clock 1) ∷ EBinary op.Then (clock 3) (clock 2) ∷ []) []) ((0 ∷ []) ∷ (1 ∷ []) ∷ (2 ∷ []) ∷ []) ≡ (0 ∷ []) ∷ (1 ∷ 3 ∷ 4 ∷ []) ∷ (2 ∷ 4 ∷ []) ∷ []
+sup_then : completed (of_clocks 3 (EBinary op.Sup (EAwait (clock 0) (num 1)) (clock 1) ∷ EBinary op.Then (clock 3) (clock 2) ∷ []) [])
+    ((0 ∷ []) ∷ (1 ∷ []) ∷ (2 ∷ []) ∷ []) ≡ (0 ∷ []) ∷ (1 ∷ 3 ∷ 4 ∷ []) ∷ (2 ∷ 4 ∷ []) ∷ []
 sup_then = refl
 
 -- period(c, n) = (c await n) then period(c, n + 1)
 abbrev period : Body
 period = record {
   params = kind.Clock ∷ kind.Number ∷ [];
-  root = EBinary op.Then (EAwait (EName (Param 0)) (param 1)) (ECall 0 0 (value.Clock (Param 0) ∷ value.Number (record { first = prim.Param 1; rest = (sign.Plus, prim.Num 1) ∷ [] }) ∷ []));
+  root = EBinary op.Then (EAwait (EName (Param 0)) (param 1))
+      (ECall 0 0 (value.Clock (Param 0) ∷ value.Number (record { first = prim.Param 1; rest = (sign.Plus, prim.Num 1) ∷ [] }) ∷ []));
 }
 
 -- p = period(a, 1), with a, p: 0, 1
@@ -104,7 +111,8 @@ abbrev growing : System
 growing = record (of_clocks 1 (ECall 0 0 (value.Clock (Clock 0) ∷ value.Number (num 1) ∷ []) ∷ []) []) { groups = (period ∷ []) ∷ [] }
 
 -- at the first ten steps: the ticks 1, 3, 6 and 10 of a
-growing_period : completed growing (a ∷ a ∷ a ∷ a ∷ a ∷ a ∷ a ∷ a ∷ a ∷ a ∷ []) ≡ (0 ∷ 1 ∷ []) ∷ a ∷ (0 ∷ 1 ∷ []) ∷ a ∷ a ∷ (0 ∷ 1 ∷ []) ∷ a ∷ a ∷ a ∷ (0 ∷ 1 ∷ []) ∷ []
+growing_period : completed growing
+    (a ∷ a ∷ a ∷ a ∷ a ∷ a ∷ a ∷ a ∷ a ∷ a ∷ []) ≡ (0 ∷ 1 ∷ []) ∷ a ∷ (0 ∷ 1 ∷ []) ∷ a ∷ a ∷ (0 ∷ 1 ∷ []) ∷ a ∷ a ∷ a ∷ (0 ∷ 1 ∷ []) ∷ []
 growing_period = refl
 
 -- a precedes b, with a, b: 0, 1
@@ -149,7 +157,11 @@ missing : verdict recorded (0 ∷ 1 ∷ 2 ∷ []) (row 0 (1 ∷ []) ∷ row 1 (1
 missing = refl
 
 -- cells: a delay 1 has 2, and two constraints 4; 127 times delayed 4096 over a has 8510
-alternation_cells : cells (record (relates Precedes) { definitions = EDelay (clock 0) (num 1) ∷ []; constraints = (record { kind = Precedes; left = 0; right = 1; label = [] }) ∷ (record { kind = Precedes; left = 1; right = 2; label = [] }) ∷ [] }) ≡ 6
+alternation_cells : cells (record (relates Precedes) {
+  definitions = EDelay (clock 0) (num 1) ∷ [];
+  constraints =
+      (record { kind = Precedes; left = 0; right = 1; label = [] }) ∷ (record { kind = Precedes; left = 1; right = 2; label = [] }) ∷ [];
+}) ≡ 6
 alternation_cells = refl
 
 abbrev nested : ℕ → Expression

@@ -21,7 +21,8 @@ module _ (K : System) (T : List Step) (n i : ℕ) where
   pub item-definition : (e : Expression) → slice_get K.definitions i ≡ Some e → item_formula K T n i ≡ definition_formula K T n (K.declared + i) e
   item-definition e is = ap (item_or_constraint K T n i) is
 
-  pub item-constraint : (c : Constraint) → length K.definitions ≤ i → slice_get K.constraints (i - length K.definitions) ≡ Some c → item_formula K T n i ≡ constraint_formula T n c
+  pub item-constraint : (c : Constraint) → length K.definitions ≤ i → slice_get K.constraints (i - length K.definitions) ≡ Some c
+      → item_formula K T n i ≡ constraint_formula T n c
   item-constraint c l is = ap (item_or_constraint K T n i) (slice_get_past K.definitions i l) ∙ ap (constraint_or_true T n) is
 
 -- a definition of an accepted system can be opened
@@ -30,7 +31,8 @@ ready_at K j e ok is = definition_ready K (K.declared + j) e (definition_is K (K
 
 -- ticks of a clock, counted in the steps themselves
 pub clock_count-is : (T : List Step) (x : ℕ) → clock_count T x (length T) ≡ count_by (ticks_in x) T
-clock_count-is T x = ap (λ U. count (map (ticks_in x) U)) (take-length T) ∙ is_count_by (λ U. count (map (ticks_in x) U)) (ticks_in x) refl (λ s U. count-cons (ticks_in x s) (map (ticks_in x) U)) T
+clock_count-is T x = ap (λ U. count (map (ticks_in x) U)) (take-length T)
+    ∙ is_count_by (λ U. count (map (ticks_in x) U)) (ticks_in x) refl (λ s U. count-cons (ticks_in x s) (map (ticks_in x) U)) T
   where
     count-cons : (t : Bool) (ts : List Bool) → count (t ∷ ts) ≡ cond t (1 + count ts) (count ts)
     count-cons true ts = omega arith

@@ -1,5 +1,6 @@
 -- The names of an accepted system can stand in certificates.
-use Rattle.std.proofs.Common.{◌≡◌, ℕ, zero, suc, ◌≤◌, List, [], ◌∷◌, ◌++◌, length, take, drop, Bool, true, false, not, ◌&&◌, ◌||◌, ⊎_elim, refl, sym, ap, ◌∙◌, subst, arith, nat_eq, nat_le, nat_lt, codes, IsTrue, leb-true, le-leb, eqb-true, if◌then◌else◌}
+use Rattle.std.proofs.Common.{◌≡◌, ℕ, zero, suc, ◌≤◌, List, [], ◌∷◌, ◌++◌, length, take, drop, Bool, true, false, not, ◌&&◌, ◌||◌, ⊎_elim, refl, sym, ap, ◌∙◌}
+use Rattle.std.proofs.Common.{subst, arith, nat_eq, nat_le, nat_lt, codes, IsTrue, leb-true, le-leb, eqb-true, if◌then◌else◌}
 use Rattle.std.proofs.lemmas.Bool.{and_parts, and_from, or_cases, not_from_false, false_from_ne_true, true≢false}
 use Rattle.std.proofs.lemmas.List.Folds.{list_all-append}
 use Rattle.std.proofs.lemmas.Slice.Eq.{bytes_eq-Decides}
@@ -49,18 +50,21 @@ not_from : (P : List ℕ → Bool) → P (codes "from") ≡ false → (bs : List
 not_from P away bs h = false_from_ne_true (bytes_eq bs (codes "from")) (λ e. true≢false (sym h ∙ ap P ((bytes_eq-Decides bs (codes "from")).0 e) ∙ away))
 
 -- a name of the grammar, and visible bytes behind it
-name_and_rest : (front rest : List ℕ) → is_name front ≡ true → list_all is_visible rest ≡ true → bytes_eq (front ++ rest) (codes "from") ≡ false → is_cert_name (front ++ rest) ≡ true
+name_and_rest : (front rest : List ℕ) → is_name front ≡ true → list_all is_visible rest ≡ true → bytes_eq (front ++ rest) (codes "from") ≡ false
+    → is_cert_name (front ++ rest) ≡ true
 name_and_rest [] rest h v e = let z : ⊥ = cc in absurd z
 name_and_rest (b ∷ bs) rest h v e =
     let short = (and_parts (is_word (b ∷ bs) && nat_le (length (b ∷ bs)) MAX_NAME_BYTES) (not (is_reserved (b ∷ bs))) h).0 in
     let word = (and_parts (is_letter b && list_all is_inner bs) (nat_le (length (b ∷ bs)) MAX_NAME_BYTES) short).0 in
     let parts = and_parts (is_letter b) (list_all is_inner bs) word in
     let letter = letter_between b parts.0 in
-    let behind : list_all is_visible (bs ++ rest) ≡ true = list_all-append is_visible bs rest ∙ and_from (list_all is_visible bs) (list_all is_visible rest) (inner_visible bs parts.1) v in
+    let behind : list_all is_visible (bs ++ rest) ≡ true =
+    list_all-append is_visible bs rest ∙ and_from (list_all is_visible bs) (list_all is_visible rest) (inner_visible bs parts.1) v in
     let minus : nat_eq b 45 ≡ false = false_from_ne_true (nat_eq b 45) (λ e. let i = eqb-true b 45 e in absurd (omega (arith, letter.0))) in
     and_from (is_visible b && list_all is_visible (bs ++ rest)) (not (nat_eq b 45) && not (bytes_eq (b ∷ (bs ++ rest)) (codes "from")))
     (and_from (is_visible b) (list_all is_visible (bs ++ rest)) (visible b (omega (arith, letter.0)) (omega (arith, letter.1))) behind)
-    (and_from (not (nat_eq b 45)) (not (bytes_eq (b ∷ (bs ++ rest)) (codes "from"))) (not_from_false (nat_eq b 45) minus) (not_from_false (bytes_eq (b ∷ (bs ++ rest)) (codes "from")) e))
+    (and_from (not (nat_eq b 45)) (not (bytes_eq (b ∷ (bs ++ rest)) (codes "from"))) (not_from_false (nat_eq b 45) minus)
+    (not_from_false (bytes_eq (b ∷ (bs ++ rest)) (codes "from")) e))
 
 name_certified : (name : List ℕ) → is_name name ≡ true → is_cert_name name ≡ true
 name_certified name h =
@@ -89,9 +93,11 @@ hidden_certified name h =
     subst (λ n. is_cert_name n ≡ true) whole
     (name_and_rest front rest w.0 (path_visible rest w.1) (subst (λ n. bytes_eq n (codes "from") ≡ false) (sym whole) (not_from is_hidden refl name h)))
 
-all_certified : (written i : ℕ) (names : List (List ℕ)) → Each (λ i name. IsTrue (if nat_lt i written then is_name name else is_hidden name)) i names → are_cert_names names ≡ true
+all_certified : (written i : ℕ) (names : List (List ℕ)) → Each (λ i name. IsTrue (if nat_lt i written then is_name name else is_hidden name)) i names
+    → are_cert_names names ≡ true
 all_certified written i [] h = refl
-all_certified written i (name ∷ names) h = and_from (is_cert_name name) (are_cert_names names) (one (nat_lt i written) h.0) (all_certified written (suc i) names h.1)
+all_certified written i (name ∷ names) h =
+    and_from (is_cert_name name) (are_cert_names names) (one (nat_lt i written) h.0) (all_certified written (suc i) names h.1)
   where
     one : (t : Bool) → IsTrue (if t then is_name name else is_hidden name) → is_cert_name name ≡ true
     one true h = name_certified name h

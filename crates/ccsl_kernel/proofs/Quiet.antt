@@ -1,10 +1,12 @@
 -- Each row keeps it that what is dead does not tick and stays dead.
-use Rattle.std.proofs.Common.{◌≡◌, ℕ, suc, ◌+◌, ◌-◌, ◌≤◌, ◌⊎◌, inl, inr, ⊎_elim, List, [], ◌∷◌, ◌++◌, length, Bool, true, false, not, ◌&&◌, ◌||◌, refl, sym, ap, ap₂, ◌∙◌, arith, nat_le, nat_lt, nat_eq, if◌then◌else◌, leb-true, le-leb, ltb-true, ltb-false, lt-ltb, eqb-true}
+use Rattle.std.proofs.Common.{◌≡◌, ℕ, suc, ◌+◌, ◌-◌, ◌≤◌, ◌⊎◌, inl, inr, ⊎_elim, List, [], ◌∷◌, ◌++◌, length, Bool, true, false, not, ◌&&◌, ◌||◌, refl, sym, ap}
+use Rattle.std.proofs.Common.{ap₂, ◌∙◌, arith, nat_le, nat_lt, nat_eq, if◌then◌else◌, leb-true, le-leb, ltb-true, ltb-false, lt-ltb, eqb-true}
 use Rattle.std.proofs.lemmas.Bool.{and_parts, or_cases, and_from, or_left, or_right, not-true, not_from_false, cond-false, false_from_ne_true, both_ways}
 use Rattle.ccsl_formula.specs.Formula.{Formula, FFalse, eval}
 use Rattle.ccsl_words.specs.Word.{BinaryWord, letter, is_finite}
 use Rattle.ccsl_kernel.specs.Lives.{Step}
-use Rattle.ccsl_kernel.specs.Table.{Now, Operand, union_row, inter_row, minus_row, inf_row, sup_row, upto_row, upto_weakly_row, sampled_row, sampled_weakly_row, delay_row, await_row, filter_row, delayed_row}
+use Rattle.ccsl_kernel.specs.Table.{Now, Operand, union_row, inter_row, minus_row, inf_row, sup_row, upto_row, upto_weakly_row, sampled_row, sampled_weakly_row}
+use Rattle.ccsl_kernel.specs.Table.{delay_row, await_row, filter_row, delayed_row}
 use Rattle.ccsl_kernel.specs.Ticks.{count, ever, waits, waits_weakly, waits_since, waits_below}
 use Rattle.ccsl_kernel.proofs.Words.{past}
 use Rattle.ccsl_words.proofs.Letters.{past_finite}
@@ -26,7 +28,9 @@ eval_cond false f g s = refl
 
 pub count-snoc : (ts : List Bool) (t : Bool) → count (ts ++ t ∷ []) ≡ (if t then suc (count ts) else count ts)
 count-snoc [] t = elim t as (λ t. count (t ∷ []) ≡ (if t then 1 else 0)) [ true ↦ refl | false ↦ refl ]
-count-snoc (true ∷ ts) t = ap suc (count-snoc ts t) ∙ elim t as (λ t. suc (if t then suc (count ts) else count ts) ≡ (if t then suc (suc (count ts)) else suc (count ts))) [ true ↦ refl | false ↦ refl ]
+count-snoc (true ∷ ts) t =
+    ap suc (count-snoc ts t)
+    ∙ elim t as (λ t. suc (if t then suc (count ts) else count ts) ≡ (if t then suc (suc (count ts)) else suc (count ts))) [ true ↦ refl | false ↦ refl ]
 count-snoc (false ∷ ts) t = count-snoc ts t
 
 pub ever-snoc : (ts : List Bool) (t : Bool) → ever (ts ++ t ∷ []) ≡ (ever ts || t)
@@ -57,14 +61,16 @@ waits_weakly-snoc (x ∷ ts) (y ∷ ds) t u e =
     ∙ weak_bits x y (ever ds) t u (waits_weakly ts ds)
 
 -- no new tick waits where a does not tick
-waits_below-snoc : (m : ℕ) (ts ds : List Bool) (u : Bool) → length ts ≡ length ds → waits_below m (ts ++ false ∷ []) (ds ++ u ∷ []) ≡ true → waits_below m ts ds ≡ true
+waits_below-snoc : (m : ℕ) (ts ds : List Bool) (u : Bool) → length ts ≡ length ds → waits_below m (ts ++ false ∷ []) (ds ++ u ∷ []) ≡ true
+    → waits_below m ts ds ≡ true
 waits_below-snoc m [] [] u e h = let z : ⊥ = cc in absurd z
 waits_below-snoc m [] (y ∷ ds) u e h = let z : ⊥ = omega arith in absurd z
 waits_below-snoc m (x ∷ ts) [] u e h = let z : ⊥ = omega arith in absurd z
 waits_below-snoc m (x ∷ ts) (y ∷ ds) u e h =
     ⊎_elim
     (λ w. let v = and_parts x (nat_lt (count (ds ++ u ∷ [])) m) w in
-    or_left (x && nat_lt (count ds) m) (waits_below m ts ds) (and_from x (nat_lt (count ds) m) v.0 (lt-ltb (count ds) m (let l = ltb-true (count (ds ++ u ∷ [])) m v.1 in omega (arith, l, grows ds u)))))
+    or_left (x && nat_lt (count ds) m) (waits_below m ts ds)
+    (and_from x (nat_lt (count ds) m) v.0 (lt-ltb (count ds) m (let l = ltb-true (count (ds ++ u ∷ [])) m v.1 in omega (arith, l, grows ds u)))))
     (λ w. or_right (x && nat_lt (count ds) m) (waits_below m ts ds) (waits_below-snoc m ts ds u (omega arith) w))
     (or_cases (x && nat_lt (count (ds ++ u ∷ [])) m) (waits_below m (ts ++ false ∷ []) (ds ++ u ∷ [])) h)
   where
@@ -78,7 +84,8 @@ since_below m pos (x ∷ ts) [] h = let z : ⊥ = cc in absurd z
 since_below m pos (x ∷ ts) (y ∷ ds) h =
     ⊎_elim
     (λ w. let v = and_parts x (nat_eq (count ds) (m - 1)) w in
-    or_left (x && nat_lt (count ds) m) (waits_below m ts ds) (and_from x (nat_lt (count ds) m) v.0 (lt-ltb (count ds) m (let e = eqb-true (count ds) (m - 1) v.1 in omega arith))))
+    or_left (x && nat_lt (count ds) m) (waits_below m ts ds)
+    (and_from x (nat_lt (count ds) m) v.0 (lt-ltb (count ds) m (let e = eqb-true (count ds) (m - 1) v.1 in omega arith))))
     (λ w. or_right (x && nat_lt (count ds) m) (waits_below m ts ds) (since_below m pos ts ds w))
     (or_cases (x && nat_eq (count ds) (m - 1)) (waits_since (m - 1) ts ds) h)
 
@@ -112,25 +119,33 @@ module _ (s : Step) (a a' : Operand) (p : Passes s a a') where
 
   pub await_quiet : (m : ℕ) → IsQuiet s (await_row m a) (await_row m a')
   await_quiet m = record {
-    quiet = λ h. eval_cond (nat_eq (suc (count a.ticks)) m) a.formula FFalse s ∙ at (nat_eq (suc (count a.ticks)) m) refl (or_cases a.dead (nat_le m (count a.ticks)) h);
-    stays = λ h. ⊎_elim (λ x. or_left a'.dead (nat_le m (count a'.ticks)) (p.stays x)) (λ l. or_right a'.dead (nat_le m (count a'.ticks)) (le-leb m (count a'.ticks) (let l' = leb-true m (count a.ticks) l in omega (arith, more, l')))) (or_cases a.dead (nat_le m (count a.ticks)) h);
+    quiet = λ h. eval_cond (nat_eq (suc (count a.ticks)) m) a.formula FFalse s
+        ∙ at (nat_eq (suc (count a.ticks)) m) refl (or_cases a.dead (nat_le m (count a.ticks)) h);
+    stays = λ h. ⊎_elim (λ x. or_left a'.dead (nat_le m (count a'.ticks)) (p.stays x))
+        (λ l. or_right a'.dead (nat_le m (count a'.ticks)) (le-leb m (count a'.ticks) (let l' = leb-true m (count a.ticks) l in omega (arith, more, l'))))
+        (or_cases a.dead (nat_le m (count a.ticks)) h);
   }
     where
-      at : (c : Bool) → nat_eq (suc (count a.ticks)) m ≡ c → (a.dead ≡ true) ⊎ (nat_le m (count a.ticks) ≡ true) → (if c then eval a.formula s else false) ≡ false
+      at : (c : Bool) → nat_eq (suc (count a.ticks)) m ≡ c → (a.dead ≡ true) ⊎ (nat_le m (count a.ticks) ≡ true)
+          → (if c then eval a.formula s else false) ≡ false
       at false e h = refl
       at true e (inl x) = p.quiet x
       at true e (inr l) = let e' = eqb-true (suc (count a.ticks)) m e in let l' = leb-true m (count a.ticks) l in let z : ⊥ = omega arith in absurd z
 
   pub filter_quiet : (w : BinaryWord) (o : ℕ) → IsQuiet s (filter_row w o a) (filter_row w o a')
   filter_quiet w o = record {
-    quiet = λ h. eval_cond (letter w (o + count a.ticks)) a.formula FFalse s ∙ at (letter w (o + count a.ticks)) refl (or_cases a.dead (past w (o + count a.ticks)) h);
+    quiet = λ h. eval_cond (letter w (o + count a.ticks)) a.formula FFalse s
+        ∙ at (letter w (o + count a.ticks)) refl (or_cases a.dead (past w (o + count a.ticks)) h);
     stays = λ h. ⊎_elim (λ x. or_left a'.dead (past w (o + count a'.ticks)) (p.stays x))
         (λ e. let v = and_parts (is_finite w) (nat_le (length w.prefix) (o + count a.ticks)) e in
-        or_right a'.dead (past w (o + count a'.ticks)) (and_from (is_finite w) (nat_le (length w.prefix) (o + count a'.ticks)) v.0 (le-leb (length w.prefix) (o + count a'.ticks) (let l = leb-true (length w.prefix) (o + count a.ticks) v.1 in omega (arith, l, more)))))
+        or_right a'.dead (past w (o + count a'.ticks))
+        (and_from (is_finite w) (nat_le (length w.prefix) (o + count a'.ticks)) v.0
+        (le-leb (length w.prefix) (o + count a'.ticks) (let l = leb-true (length w.prefix) (o + count a.ticks) v.1 in omega (arith, l, more)))))
         (or_cases a.dead (past w (o + count a.ticks)) h);
   }
     where
-      at : (c : Bool) → letter w (o + count a.ticks) ≡ c → (a.dead ≡ true) ⊎ (past w (o + count a.ticks) ≡ true) → (if c then eval a.formula s else false) ≡ false
+      at : (c : Bool) → letter w (o + count a.ticks) ≡ c → (a.dead ≡ true) ⊎ (past w (o + count a.ticks) ≡ true)
+          → (if c then eval a.formula s else false) ≡ false
       at false e h = refl
       at true e (inl x) = p.quiet x
       at true e (inr l) = let v = and_parts (is_finite w) (nat_le (length w.prefix) (o + count a.ticks)) l in
@@ -164,16 +179,22 @@ module _ (s : Step) (a a' d d' : Operand) (p : Passes s a a') (q : Passes s d d'
   pub sup_quiet : IsQuiet s (sup_row a d) (sup_row a' d')
   sup_quiet = record {
     quiet = λ h. ⊎_elim
-        (λ l. let w = and_parts a.dead (nat_le (count a.ticks) (count d.ticks)) l in let l' = leb-true (count a.ticks) (count d.ticks) w.1 in let n = p.quiet w.0 in grind (arith, eval_cond, ltb-true, ltb-false))
-        (λ l. let w = and_parts d.dead (nat_le (count d.ticks) (count a.ticks)) l in let l' = leb-true (count d.ticks) (count a.ticks) w.1 in let n = q.quiet w.0 in grind (arith, eval_cond, ltb-true, ltb-false))
+        (λ l. let w = and_parts a.dead (nat_le (count a.ticks) (count d.ticks)) l in let l' = leb-true (count a.ticks) (count d.ticks) w.1 in let n =
+        p.quiet w.0 in grind (arith, eval_cond, ltb-true, ltb-false))
+        (λ l. let w = and_parts d.dead (nat_le (count d.ticks) (count a.ticks)) l in let l' = leb-true (count d.ticks) (count a.ticks) w.1 in let n =
+        q.quiet w.0 in grind (arith, eval_cond, ltb-true, ltb-false))
         (or_cases (a.dead && nat_le (count a.ticks) (count d.ticks)) (d.dead && nat_le (count d.ticks) (count a.ticks)) h);
     stays = λ h. ⊎_elim
         (λ l. let w = and_parts a.dead (nat_le (count a.ticks) (count d.ticks)) l in
-        let l' : count a'.ticks ≤ count d'.ticks = let l'' = leb-true (count a.ticks) (count d.ticks) w.1 in omega (arith, still s a a' p w.0, more s d d' q, l'') in
-        or_left (a'.dead && nat_le (count a'.ticks) (count d'.ticks)) (d'.dead && nat_le (count d'.ticks) (count a'.ticks)) (and_from a'.dead (nat_le (count a'.ticks) (count d'.ticks)) (p.stays w.0) (le-leb (count a'.ticks) (count d'.ticks) l')))
+        let l' : count a'.ticks ≤ count d'.ticks = let l'' =
+        leb-true (count a.ticks) (count d.ticks) w.1 in omega (arith, still s a a' p w.0, more s d d' q, l'') in
+        or_left (a'.dead && nat_le (count a'.ticks) (count d'.ticks)) (d'.dead && nat_le (count d'.ticks) (count a'.ticks))
+        (and_from a'.dead (nat_le (count a'.ticks) (count d'.ticks)) (p.stays w.0) (le-leb (count a'.ticks) (count d'.ticks) l')))
         (λ l. let w = and_parts d.dead (nat_le (count d.ticks) (count a.ticks)) l in
-        let l' : count d'.ticks ≤ count a'.ticks = let l'' = leb-true (count d.ticks) (count a.ticks) w.1 in omega (arith, still s d d' q w.0, more s a a' p, l'') in
-        or_right (a'.dead && nat_le (count a'.ticks) (count d'.ticks)) (d'.dead && nat_le (count d'.ticks) (count a'.ticks)) (and_from d'.dead (nat_le (count d'.ticks) (count a'.ticks)) (q.stays w.0) (le-leb (count d'.ticks) (count a'.ticks) l')))
+        let l' : count d'.ticks ≤ count a'.ticks = let l'' =
+        leb-true (count d.ticks) (count a.ticks) w.1 in omega (arith, still s d d' q w.0, more s a a' p, l'') in
+        or_right (a'.dead && nat_le (count a'.ticks) (count d'.ticks)) (d'.dead && nat_le (count d'.ticks) (count a'.ticks))
+        (and_from d'.dead (nat_le (count d'.ticks) (count a'.ticks)) (q.stays w.0) (le-leb (count d'.ticks) (count a'.ticks) l')))
         (or_cases (a.dead && nat_le (count a.ticks) (count d.ticks)) (d.dead && nat_le (count d.ticks) (count a.ticks)) h);
   }
 
@@ -217,9 +238,12 @@ module _ (s : Step) (a a' d d' : Operand) (p : Passes s a a') (q : Passes s d d'
           (λ w. let v = and_parts a.dead (not (waits_below m a.ticks d.ticks)) w in
           or_right d'.dead (a'.dead && not (waits_below m a'.ticks d'.ticks))
           (and_from a'.dead (not (waits_below m a'.ticks d'.ticks)) (p.stays v.0)
-          (not_from_false (waits_below m a'.ticks d'.ticks) (false_from_ne_true (waits_below m a'.ticks d'.ticks) (λ b. both_ways (waits_below m a.ticks d.ticks) (not-true (waits_below m a.ticks d.ticks) v.1) (below_before m v.0 b))))))
+          (not_from_false (waits_below m a'.ticks d'.ticks)
+          (false_from_ne_true (waits_below m a'.ticks d'.ticks)
+          (λ b. both_ways (waits_below m a.ticks d.ticks) (not-true (waits_below m a.ticks d.ticks) v.1) (below_before m v.0 b))))))
           (or_cases d.dead (a.dead && not (waits_below m a.ticks d.ticks)) h);
     }
       where
         below_before : (m : ℕ) → a.dead ≡ true → waits_below m a'.ticks d'.ticks ≡ true → waits_below m a.ticks d.ticks ≡ true
-        below_before m x h = waits_below-snoc m a.ticks d.ticks (eval d.formula s) len (sym (ap₂ (waits_below m) (p.ticks ∙ ap (λ t. a.ticks ++ t ∷ []) (p.quiet x)) q.ticks) ∙ h)
+        below_before m x h = waits_below-snoc m a.ticks d.ticks (eval d.formula s) len
+            (sym (ap₂ (waits_below m) (p.ticks ∙ ap (λ t. a.ticks ++ t ∷ []) (p.quiet x)) q.ticks) ∙ h)

@@ -1,5 +1,6 @@
 -- The formula of an expression reads only the clocks that the expression and its values name.
-use Rattle.std.proofs.Common.{◌≡◌, ℕ, zero, suc, ◌+◌, ◌-◌, ◌<◌, ◌≤◌, nat_le, nat_lt, nat_eq, List, [], ◌∷◌, map, length, get_or, Bool, true, false, not, ◌&&◌, ◌||◌, Option, Some, None, refl, sym, ap, ap₂, subst, arith, if◌then◌else◌, ⊎_elim, eqb-true}
+use Rattle.std.proofs.Common.{◌≡◌, ℕ, zero, suc, ◌+◌, ◌-◌, ◌<◌, ◌≤◌, nat_le, nat_lt, nat_eq, List, [], ◌∷◌, map, length, get_or, Bool, true, false, not, ◌&&◌}
+use Rattle.std.proofs.Common.{◌||◌, Option, Some, None, refl, sym, ap, ap₂, subst, arith, if◌then◌else◌, ⊎_elim, eqb-true}
 use Rattle.std.proofs.lemmas.Bool.{or_cases}
 use Rattle.ccsl_base.specs.Clocks.{ticks_in}
 use Rattle.ccsl_formula.specs.Formula.{Formula, FTrue, FFalse, FVar, FNot, FAnd, FOr, FIff, eval, same}
@@ -16,7 +17,8 @@ use Rattle.ccsl_kernel.specs.declared.actual.Actual.TheVariants as actual
 use Rattle.ccsl_kernel.specs.Syntax.{Expression, EName, ECall, ENever, EBinary, EDelay, EAwait, EFilter, EDelayed, EIf, System, root_of}
 use Rattle.ccsl_kernel.specs.Lives.{Step, Life, operand, end_of, at_end, joined}
 use Rattle.ccsl_kernel.specs.Actuals.{place_of, number_of, suffix_of, value_of, test_of, word_of}
-use Rattle.ccsl_kernel.specs.Table.{Now, Operand, delay_row, await_row, filter_row, delayed_row, inf_row, sup_row, upto_row, upto_weakly_row, sampled_row, sampled_weakly_row}
+use Rattle.ccsl_kernel.specs.Table.{Now, Operand, delay_row, await_row, filter_row, delayed_row, inf_row, sup_row, upto_row, upto_weakly_row, sampled_row}
+use Rattle.ccsl_kernel.specs.Table.{sampled_weakly_row}
 use Rattle.ccsl_kernel.specs.Ticks.{count, ever, waits, waits_weakly, waits_since}
 use Rattle.ccsl_kernel.specs.Meaning.{named, life_given}
 use Rattle.ccsl_kernel.specs.Guarded.{IsAllowed}
@@ -124,10 +126,14 @@ module _ (X : ℕ) where
   delayed_reads m a d r = chosen (waits_since (m - 1) a.ticks d.ticks) d.formula FFalse r tt
 
   inf_reads : (a d : Operand) → ReadsOnly X a.formula → ReadsOnly X d.formula → ReadsOnly X (inf_row a d).formula
-  inf_reads a d r r' = chosen (nat_lt (count d.ticks) (count a.ticks)) a.formula (if nat_lt (count a.ticks) (count d.ticks) then d.formula else FOr a.formula d.formula) r (chosen (nat_lt (count a.ticks) (count d.ticks)) d.formula (FOr a.formula d.formula) r' (r, r'))
+  inf_reads a d r r' = chosen (nat_lt (count d.ticks) (count a.ticks)) a.formula
+      (if nat_lt (count a.ticks) (count d.ticks) then d.formula else FOr a.formula d.formula) r
+      (chosen (nat_lt (count a.ticks) (count d.ticks)) d.formula (FOr a.formula d.formula) r' (r, r'))
 
   sup_reads : (a d : Operand) → ReadsOnly X a.formula → ReadsOnly X d.formula → ReadsOnly X (sup_row a d).formula
-  sup_reads a d r r' = chosen (nat_lt (count a.ticks) (count d.ticks)) a.formula (if nat_lt (count d.ticks) (count a.ticks) then d.formula else FAnd a.formula d.formula) r (chosen (nat_lt (count d.ticks) (count a.ticks)) d.formula (FAnd a.formula d.formula) r' (r, r'))
+  sup_reads a d r r' = chosen (nat_lt (count a.ticks) (count d.ticks)) a.formula
+      (if nat_lt (count d.ticks) (count a.ticks) then d.formula else FAnd a.formula d.formula) r
+      (chosen (nat_lt (count d.ticks) (count a.ticks)) d.formula (FAnd a.formula d.formula) r' (r, r'))
 
   upto_reads : (a d : Operand) → ReadsOnly X a.formula → ReadsOnly X d.formula → ReadsOnly X (upto_row a d).formula
   upto_reads a d r r' = chosen (ever d.ticks) FFalse (FAnd a.formula (FNot d.formula)) tt (r, r')
@@ -152,7 +158,8 @@ module _ (X : ℕ) where
     name_reads (actual.Word w o) h b n = tt
 
     joined_reads : (o : ExprOp) (L M : Life) (b n : ℕ) → ((i : ℕ) → b ≤ i → i ≤ length T → ReadsOnly X (L b i).formula) →
-        ((k i : ℕ) → b ≤ k → (o ≡ op.Then → b < k) → k ≤ i → i ≤ length T → ReadsOnly X (M k i).formula) → b ≤ n → n ≤ length T → ReadsOnly X (joined T o L M b n).formula
+        ((k i : ℕ) → b ≤ k → (o ≡ op.Then → b < k) → k ≤ i → i ≤ length T → ReadsOnly X (M k i).formula) → b ≤ n → n ≤ length T
+        → ReadsOnly X (joined T o L M b n).formula
     joined_reads op.Then L M b n h h' l u = on (end_of L b n) refl
       where
         on : (e : Option ℕ) → end_of L b n ≡ e → ReadsOnly X (at_end e (record { formula = (L b n).formula; dead = false }) (λ k. M k n)).formula
@@ -163,10 +170,12 @@ module _ (X : ℕ) where
     joined_reads op.Minus L M b n h h' l u = (h n l u, h' b n (omega arith) (λ e. let z : ⊥ = cc in absurd z) l u)
     joined_reads op.Inf L M b n h h' l u = inf_reads (operand T L b n) (operand T M b n) (h n l u) (h' b n (omega arith) (λ e. let z : ⊥ = cc in absurd z) l u)
     joined_reads op.Sup L M b n h h' l u = sup_reads (operand T L b n) (operand T M b n) (h n l u) (h' b n (omega arith) (λ e. let z : ⊥ = cc in absurd z) l u)
-    joined_reads op.Upto L M b n h h' l u = upto_reads (operand T L b n) (operand T M b n) (h n l u) (h' b n (omega arith) (λ e. let z : ⊥ = cc in absurd z) l u)
+    joined_reads op.Upto L M b n h h' l u =
+        upto_reads (operand T L b n) (operand T M b n) (h n l u) (h' b n (omega arith) (λ e. let z : ⊥ = cc in absurd z) l u)
     joined_reads op.UptoWeakly L M b n h h' l u = upto_weakly_reads (operand T L b n) (operand T M b n) (h n l u)
     joined_reads op.Sampled L M b n h h' l u = sampled_reads (operand T L b n) (operand T M b n) (h' b n (omega arith) (λ e. let z : ⊥ = cc in absurd z) l u)
-    joined_reads op.SampledWeakly L M b n h h' l u = sampled_weakly_reads (operand T L b n) (operand T M b n) (h n l u) (h' b n (omega arith) (λ e. let z : ⊥ = cc in absurd z) l u)
+    joined_reads op.SampledWeakly L M b n h h' l u =
+        sampled_weakly_reads (operand T L b n) (operand T M b n) (h n l u) (h' b n (omega arith) (λ e. let z : ⊥ = cc in absurd z) l u)
 
     choose : (t : Bool) (L M : Life) (b n : ℕ) → ReadsOnly X (L b n).formula → ReadsOnly X (M b n).formula → ReadsOnly X ((if t then L else M) b n).formula
     choose true L M b n r r' = r
@@ -176,12 +185,16 @@ module _ (X : ℕ) where
     reads_closed = record {
       name = λ x ρ b u h v n l u'. name_reads (place_of x ρ) (place_in x ρ h v) b n;
       never = λ ρ b u h v n l u'. tt;
-      binary = λ o a d ρ b u ra rd h v n l u'. joined_reads o (life_given K T gone a ρ) (life_given K T gone d ρ) b n (λ i l u. ra h.0 v i l u) (λ k i l s l' u. rd k l (omega arith) s h.1 v i l' u) l u';
+      binary = λ o a d ρ b u ra rd h v n l u'. joined_reads o (life_given K T gone a ρ) (life_given K T gone d ρ) b n (λ i l u. ra h.0 v i l u)
+          (λ k i l s l' u. rd k l (omega arith) s h.1 v i l' u) l u';
       delay = λ a m ρ b u ra h v n l u'. delay_reads (number_of m ρ) (operand T (life_given K T gone a ρ) b n) (ra h v n l u');
       await = λ a m ρ b u ra h v n l u'. await_reads (number_of m ρ) (operand T (life_given K T gone a ρ) b n) (ra h v n l u');
-      filter = λ a w ρ b u ra h v n l u'. let s = suffix_of K.words w ρ in filter_reads (word_of K.words s.word) s.offset (operand T (life_given K T gone a ρ) b n) (ra h v n l u');
-      delayed = λ a m d ρ b u pos ra rd h v n l u'. delayed_reads m (operand T (life_given K T gone a ρ) b n) (operand T (life_given K T gone d ρ) b n) (rd h.1 v n l u');
-      choice = λ q a d ρ b u ra rd h v n l u'. choose (test_of K.words q ρ) (life_given K T gone a ρ) (life_given K T gone d ρ) b n (ra h.0 v n l u') (rd h.1 v n l u');
+      filter = λ a w ρ b u ra h v n l u'. let s =
+          suffix_of K.words w ρ in filter_reads (word_of K.words s.word) s.offset (operand T (life_given K T gone a ρ) b n) (ra h v n l u');
+      delayed = λ a m d ρ b u pos ra rd h v n l u'. delayed_reads m (operand T (life_given K T gone a ρ) b n) (operand T (life_given K T gone d ρ) b n)
+          (rd h.1 v n l u');
+      choice = λ q a d ρ b u ra rd h v n l u'. choose (test_of K.words q ρ) (life_given K T gone a ρ) (life_given K T gone d ρ) b n (ra h.0 v n l u')
+          (rd h.1 v n l u');
     }
 
     -- A DEFINITION READS LOWER CLOCKS ALONE

@@ -1,5 +1,6 @@
 -- Sets of clocks as ascending lists: one more member, and the members below a bound.
-use Rattle.std.proofs.Common.{◌≡◌, ℕ, suc, ◌<◌, ◌≤◌, ⊎_elim, List, [], ◌∷◌, ◌++◌, Bool, true, false, ◌||◌, nat_eq, nat_lt, if◌then◌else◌, refl, sym, ap, ap₂, ◌∙◌, arith, lt-ltb, ltb-true, le-ltb, eq-eqb}
+use Rattle.std.proofs.Common.{◌≡◌, ℕ, suc, ◌<◌, ◌≤◌, ⊎_elim, List, [], ◌∷◌, ◌++◌, Bool, true, false, ◌||◌, nat_eq, nat_lt, if◌then◌else◌, refl, sym, ap, ap₂}
+use Rattle.std.proofs.Common.{◌∙◌, arith, lt-ltb, ltb-true, le-ltb, eq-eqb}
 use Rattle.std.specs.List.{list_all, filter}
 use Rattle.std.proofs.lemmas.Bool.{cases_lt, cases_eq, ne_eqb, and_parts, and_from}
 use Rattle.ccsl_base.specs.Clocks.{ticks_in, with_clock, is_ascending, are_below}
@@ -21,10 +22,12 @@ NoneFrom-are_below x (z ∷ s) h y l =
     ap (λ t. t || ticks_in y s) (ne_eqb y z (λ e. omega (arith, z_below))) ∙ NoneFrom-are_below x s w.1 y l
 
 -- where x stands in a set, seen at the first member
-at_first : (x y : ℕ) (s : List ℕ) (P : List ℕ → Type 0) → (x < y → P (x ∷ (y ∷ s))) → (x ≡ y → P (y ∷ s)) → (y < x → P (y ∷ with_clock x s)) → P (with_clock x (y ∷ s))
+at_first : (x y : ℕ) (s : List ℕ) (P : List ℕ → Type 0) → (x < y → P (x ∷ (y ∷ s))) → (x ≡ y → P (y ∷ s)) → (y < x → P (y ∷ with_clock x s))
+    → P (with_clock x (y ∷ s))
 at_first x y s P before same after =
     ⊎_elim
-    (λ (l : x < y). let Q : Bool → Type 0 = λ t. P (if t then x ∷ (y ∷ s) else if nat_eq x y then y ∷ s else y ∷ with_clock x s) in subst_at Q (lt-ltb x y l) (before l))
+    (λ (l : x < y). let Q : Bool → Type 0 =
+    λ t. P (if t then x ∷ (y ∷ s) else if nat_eq x y then y ∷ s else y ∷ with_clock x s) in subst_at Q (lt-ltb x y l) (before l))
     (λ (l : y ≤ x).
     let Q : Bool → Type 0 = λ t. P (if t then x ∷ (y ∷ s) else if nat_eq x y then y ∷ s else y ∷ with_clock x s) in
     subst_at Q (le-ltb x y l)
@@ -96,7 +99,8 @@ below-suc x [] h = refl
 below-suc x (y ∷ s) h =
     let w = and_parts (list_all (nat_lt y) s) (is_ascending s) h in
     ⊎_elim
-    (λ (l : y < x). below-first (suc x) y s (omega arith) ∙ ap (λ r. y ∷ r) (below-suc x s w.1) ∙ under l (ticks_in x s) ∙ sym (ap₂ (λ t r. if t then with_clock x r else r) (ap (λ t. t || ticks_in x s) (ne_eqb x y (λ e. omega arith))) (below-first x y s l)))
+    (λ (l : y < x). below-first (suc x) y s (omega arith) ∙ ap (λ r. y ∷ r) (below-suc x s w.1) ∙ under l (ticks_in x s)
+    ∙ sym (ap₂ (λ t r. if t then with_clock x r else r) (ap (λ t. t || ticks_in x s) (ne_eqb x y (λ e. omega arith))) (below-first x y s l)))
     (λ (l : x ≤ y).
     ⊎_elim
     (λ (e : x ≡ y).
@@ -107,13 +111,15 @@ below-suc x (y ∷ s) h =
     (λ (ne : x ≡ y → ⊥).
     below-past (suc x) y s (omega (arith, ne))
     ∙ below-none (suc x) y s (omega (arith, ne)) w.0
-    ∙ sym (ap₂ (λ t r. if t then with_clock x r else r) (ap (λ t. t || ticks_in x s) (ne_eqb x y ne) ∙ ticks_in-before x y s l w.0) (below-past x y s l ∙ below-none x y s (omega arith) w.0)))
+    ∙ sym (ap₂ (λ t r. if t then with_clock x r else r) (ap (λ t. t || ticks_in x s) (ne_eqb x y ne) ∙ ticks_in-before x y s l w.0)
+    (below-past x y s l ∙ below-none x y s (omega arith) w.0)))
     (cases_eq x y))
     (cases_lt y x)
   where
     under : y < x → (t : Bool) → y ∷ (if t then with_clock x (below x s) else below x s) ≡ (if t then with_clock x (y ∷ below x s) else y ∷ below x s)
     under l false = refl
-    under l true = at_first x y (below x s) (λ r. y ∷ with_clock x (below x s) ≡ r) (λ m. let z : ⊥ = omega arith in absurd z) (λ e. let z : ⊥ = omega arith in absurd z) (λ _. refl)
+    under l true = at_first x y (below x s) (λ r. y ∷ with_clock x (below x s) ≡ r) (λ m. let z : ⊥ = omega arith in absurd z) (λ e. let z : ⊥ =
+        omega arith in absurd z) (λ _. refl)
 
 -- a clock below the bound is there where it was
 pub ticks_in-below : (x y : ℕ) (s : List ℕ) → y < x → ticks_in y (below x s) ≡ ticks_in y s
@@ -134,7 +140,8 @@ ascending-last x (y ∷ s) h b =
   where
     above : (s : List ℕ) → list_all (nat_lt y) s ≡ true → nat_lt y x ≡ true → list_all (nat_lt y) (s ++ x ∷ []) ≡ true
     above [] h l = and_from (nat_lt y x) true l refl
-    above (z ∷ s) h l = let w = and_parts (nat_lt y z) (list_all (nat_lt y) s) h in and_from (nat_lt y z) (list_all (nat_lt y) (s ++ x ∷ [])) w.0 (above s w.1 l)
+    above (z ∷ s) h l = let w =
+        and_parts (nat_lt y z) (list_all (nat_lt y) s) h in and_from (nat_lt y z) (list_all (nat_lt y) (s ++ x ∷ [])) w.0 (above s w.1 l)
 
 pub are_below-last : (x : ℕ) (s : List ℕ) → are_below x s ≡ true → are_below (suc x) (s ++ x ∷ []) ≡ true
 are_below-last x [] b = and_from (nat_lt x (suc x)) true (lt-ltb x (suc x) (omega arith)) refl

@@ -1,5 +1,6 @@
 -- Laws of the steps from a birth on.
-use Rattle.std.proofs.Common.{append-nil, append_assoc, ◌≡◌, ℕ, zero, suc, ◌<◌, ◌≤◌, List, [], ◌∷◌, ◌++◌, map, find, Bool, true, false, cond, Option, Some, None, refl, sym, ap, ⊎_elim, ap₂, ◌∙◌, subst, arith, le-leb}
+use Rattle.std.proofs.Common.{append-nil, append_assoc, ◌≡◌, ℕ, zero, suc, ◌<◌, ◌≤◌, List, [], ◌∷◌, ◌++◌, map, find, Bool, true, false, cond, Option, Some}
+use Rattle.std.proofs.Common.{None, refl, sym, ap, ⊎_elim, ap₂, ◌∙◌, subst, arith, le-leb}
 use Rattle.std.proofs.lemmas.Bool.{lt-leb, cases_lt}
 use Rattle.ccsl_kernel.specs.Lives.{steps}
 
@@ -25,7 +26,10 @@ map-snoc f (y ∷ xs) x = ap (λ ys. f y ∷ ys) (map-snoc f xs x)
 pub find-snoc : (f : ℕ → Bool) (xs : List ℕ) (x : ℕ) → find f (xs ++ x ∷ []) ≡ or_else (find f xs) (if_at (f x) x)
 find-snoc f [] x = elim (f x) as (λ t. cond t (Some x) None ≡ if_at t x) [ true ↦ refl | false ↦ refl ]
 find-snoc f (y ∷ xs) x =
-    elim (f y) as (λ t. cond t (Some y) (find f (xs ++ x ∷ [])) ≡ or_else (cond t (Some y) (find f xs)) (if_at (f x) x)) [ true ↦ refl | false ↦ find-snoc f xs x ]
+    elim (f y) as (λ t. cond t (Some y) (find f (xs ++ x ∷ [])) ≡ or_else (cond t (Some y) (find f xs)) (if_at (f x) x)) [
+      | true ↦ refl
+      | false ↦ find-snoc f xs x
+    ]
 
 pub map-steps-suc : {X : Type 0} (f : ℕ → X) (b n : ℕ) → b ≤ n → map f (steps b (suc n)) ≡ map f (steps b n) ++ f n ∷ []
 map-steps-suc f b n l = ap (map f) (steps-suc b n l) ∙ map-snoc f (steps b n) n
@@ -99,7 +103,8 @@ find-some f b (suc n) k e =
     (λ l. here (find f (steps b n)) (f n) l refl refl (λ w. find-some f b n k w) (sym (find-steps-suc f b n l) ∙ e))
     (λ l. none_some (sym (ap (find f) (steps-empty b (suc n) l)) ∙ e))
   where
-    here : (o : Option ℕ) (t : Bool) → b ≤ n → find f (steps b n) ≡ o → f n ≡ t → (o ≡ Some k → (f k ≡ true) × ((i : ℕ) → b ≤ i → i < k → f i ≡ false)) → or_else o (if_at t n) ≡ Some k → (f k ≡ true) × ((i : ℕ) → b ≤ i → i < k → f i ≡ false)
+    here : (o : Option ℕ) (t : Bool) → b ≤ n → find f (steps b n) ≡ o → f n ≡ t → (o ≡ Some k → (f k ≡ true) × ((i : ℕ) → b ≤ i → i < k → f i ≡ false))
+        → or_else o (if_at t n) ≡ Some k → (f k ≡ true) × ((i : ℕ) → b ≤ i → i < k → f i ≡ false)
     here (Some j) t l w ft ih e = ih e
     here None true l w ft ih e = let s : n ≡ k = cc in (ap f (sym s) ∙ ft, λ i l' u. find-none f b n w i l' (omega arith))
     here None false l w ft ih e = none_some e
@@ -108,5 +113,6 @@ pub steps-split : (b k n : ℕ) → b ≤ k → k ≤ n → steps b n ≡ steps 
 steps-split b k n l l' =
     from_birth (λ n. steps b n ≡ steps b k ++ steps k n) k
     (sym (ap (λ xs. steps b k ++ xs) (steps-empty k k (omega arith)) ∙ append-nil (steps b k)))
-    (λ n l' ih. steps-suc b n (omega arith) ∙ ap (λ xs. xs ++ n ∷ []) ih ∙ append_assoc (steps b k) (steps k n) (n ∷ []) ∙ ap (λ xs. steps b k ++ xs) (sym (steps-suc k n l')))
+    (λ n l' ih. steps-suc b n (omega arith) ∙ ap (λ xs. xs ++ n ∷ []) ih ∙ append_assoc (steps b k) (steps k n) (n ∷ [])
+    ∙ ap (λ xs. steps b k ++ xs) (sym (steps-suc k n l')))
     n l'

@@ -1,14 +1,17 @@
 -- Words from an offset on.
-use Rattle.std.proofs.Common.{◌≡◌, ℕ, suc, ◌+◌, ◌-◌, ◌%◌, ◌<◌, ◌≤◌, ⊎_elim, length, get_or, Bool, true, false, ◌&&◌, cond, refl, sym, ap, ap₂, ◌∙◌, arith, nat_le, nat_eq, le-leb, eq-eqb}
+use Rattle.std.proofs.Common.{◌≡◌, ℕ, suc, ◌+◌, ◌-◌, ◌%◌, ◌<◌, ◌≤◌, ⊎_elim, length, get_or, Bool, true, false, ◌&&◌, cond, refl, sym, ap, ap₂, ◌∙◌, arith}
+use Rattle.std.proofs.Common.{nat_le, nat_eq, le-leb, eq-eqb}
 use Rattle.std.proofs.lemmas.Bool.{cases_Bool, cases_lt, cases_eq, lt-leb, ne_eqb, le-ltb}
 use Rattle.std.proofs.Math.Nat.{add-mod_left}
 use Rattle.ccsl_words.specs.Word.{BinaryWord, letter, rest, is_finite}
 use Rattle.ccsl_words.proofs.Letters.{past_infinite, past_finite}
 
-rest_cases : (w : BinaryWord) (o : ℕ) (fin past wrap : Bool) → is_finite w ≡ fin → nat_le (length w.prefix) o ≡ past → nat_eq (o + 1) (length w.prefix + length w.period) ≡ wrap →
+rest_cases : (w : BinaryWord) (o : ℕ) (fin past wrap : Bool) → is_finite w ≡ fin → nat_le (length w.prefix) o ≡ past
+    → nat_eq (o + 1) (length w.prefix + length w.period) ≡ wrap →
     rest w o ≡ cond fin (cond past (length w.prefix) (o + 1)) (cond wrap (length w.prefix) (o + 1))
 rest_cases w o fin past wrap e e' e'' =
-    ap (λ c. cond c (cond (nat_le (length w.prefix) o) (length w.prefix) (o + 1)) (cond (nat_eq (o + 1) (length w.prefix + length w.period)) (length w.prefix) (o + 1))) e
+    ap (λ c. cond c (cond (nat_le (length w.prefix) o) (length w.prefix) (o + 1))
+    (cond (nat_eq (o + 1) (length w.prefix + length w.period)) (length w.prefix) (o + 1))) e
     ∙ ap₂ (λ c d. cond fin (cond c (length w.prefix) (o + 1)) (cond d (length w.prefix) (o + 1))) e' e''
 
 -- the offset after o, as far as letters and the end go: o + 1
@@ -38,7 +41,8 @@ letter-rest w o k = ⊎_elim finite infinite (cases_Bool (is_finite w))
         ∙ ap (λ i. get_or w.period i false) (sym (add-mod_left (length w.period) k))
         ∙ ap (λ i. get_or w.period (i % length w.period) false) (let s : length w.period + k ≡ o + suc k - length w.prefix = omega (arith, e) in s)
         ∙ sym (past_infinite w (o + suc k) fin (omega (arith, e))))
-        (λ (e : o + 1 ≡ length w.prefix + length w.period → ⊥). onward (rest_cases w o false _ false fin refl (ne_eqb (o + 1) (length w.prefix + length w.period) e)))
+        (λ (e : o + 1 ≡ length w.prefix + length w.period → ⊥). onward
+        (rest_cases w o false _ false fin refl (ne_eqb (o + 1) (length w.prefix + length w.period) e)))
         (cases_eq (o + 1) (length w.prefix + length w.period))
 
 -- whether a word has ended at an offset

@@ -1,5 +1,6 @@
 -- WHICH SYSTEMS ARE ACCEPTED, one field of IsAccepted a sentence.
-use Rattle.std.specs.Prelude.{◌≡◌, ℕ, ◌+◌, ◌<◌, ◌≤◌, suc, List, [], ◌∷◌, ◌++◌, length, map, max, All, Bool, false, ◌&&◌, IsTrue, Some, slice_get, slice_index, nat_eq, nat_lt, nat_le, take_while, drop, if◌then◌else◌}
+use Rattle.std.specs.Prelude.{◌≡◌, ℕ, ◌+◌, ◌<◌, ◌≤◌, suc, List, [], ◌∷◌, ◌++◌, length, map, max, All, Bool, false, ◌&&◌, IsTrue, Some, slice_get, slice_index}
+use Rattle.std.specs.Prelude.{nat_eq, nat_lt, nat_le, take_while, drop, if◌then◌else◌}
 use Rattle.std.specs.List.{list_all, AllByRecursion}
 use Rattle.ccsl_base.specs.declared.limits.TheConstants.{MAX_CLOCKS, MAX_CONSTRAINTS, MAX_CELLS, MAX_LEVELS, MAX_CALL_LEVELS, MAX_PARAMS}
 use Rattle.ccsl_base.specs.Name.{is_name}
@@ -12,7 +13,8 @@ use Rattle.ccsl_kernel.specs.declared.expr.Value.TheVariants as value
 use Rattle.ccsl_kernel.specs.declared.expr.ExprTest.TheVariants as test
 use Rattle.ccsl_kernel.specs.declared.group.ParamKind.TheVariants as kind
 use Rattle.ccsl_kernel.specs.declared.constraint.RelationKind.TheVariants.{PrecedesWithin}
-use Rattle.ccsl_kernel.specs.Syntax.{Place, NumPrim, NumTerm, WordPlace, Value, ExprTest, ParamKind, RelationKind, Constraint, Expression, EName, ECall, ENever, EBinary, EDelay, EAwait, EFilter, EDelayed, EIf, Body, System, body_of}
+use Rattle.ccsl_kernel.specs.Syntax.{Place, NumPrim, NumTerm, WordPlace, Value, ExprTest, ParamKind, RelationKind, Constraint, Expression, EName, ECall, ENever}
+use Rattle.ccsl_kernel.specs.Syntax.{EBinary, EDelay, EAwait, EFilter, EDelayed, EIf, Body, System, body_of}
 use Rattle.ccsl_kernel.specs.Guarded.{Tail, Inner, Allowed}
 use Rattle.ccsl_kernel.specs.Cells.{cells, greatest}
 

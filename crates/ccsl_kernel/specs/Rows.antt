@@ -1,6 +1,7 @@
 -- The table as equations on any meaning of expressions, one for each row.
 use Rattle.std.specs.Prelude.{◌≡◌, ℕ, ◌≤◌, ◌<◌, List, map, Bool, length, if◌then◌else◌}
-use Rattle.ccsl_kernel.specs.Syntax.{Place, NumTerm, WordPlace, Value, ExprTest, ExprOp, Expression, EName, ECall, ENever, EBinary, EDelay, EAwait, EFilter, EDelayed, EIf, System, root_of}
+use Rattle.ccsl_kernel.specs.Syntax.{Place, NumTerm, WordPlace, Value, ExprTest, ExprOp, Expression, EName, ECall, ENever, EBinary, EDelay, EAwait, EFilter}
+use Rattle.ccsl_kernel.specs.Syntax.{EDelayed, EIf, System, root_of}
 use Rattle.ccsl_kernel.specs.Actuals.{Actual, place_of, number_of, suffix_of, value_of, test_of, word_of}
 use Rattle.ccsl_kernel.specs.Table.{never_row, delay_row, await_row, filter_row, delayed_row}
 use Rattle.ccsl_kernel.specs.Lives.{Step, Life, over_one, over_two, joined}

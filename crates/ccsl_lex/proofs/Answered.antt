@@ -1,5 +1,6 @@
 -- Each text has tokens, or a first fault.
-use Rattle.std.proofs.Common.{◌≡◌, ℕ, zero, suc, ◌+◌, ◌≤◌, ◌<◌, Bool, true, false, List, [], ◌∷◌, ◌++◌, length, take, drop, get_or, Option, Some, None, refl, sym, ap, subst, inl, inr, arith, length-drop, leb}
+use Rattle.std.proofs.Common.{◌≡◌, ℕ, zero, suc, ◌+◌, ◌≤◌, ◌<◌, Bool, true, false, List, [], ◌∷◌, ◌++◌, length, take, drop, get_or, Option, Some, None, refl}
+use Rattle.std.proofs.Common.{sym, ap, subst, inl, inr, arith, length-drop, leb}
 use Rattle.std.specs.Prelude.{◌⊎◌}
 use Rattle.std.specs.List.{prefix_len}
 use Rattle.std.proofs.lemmas.Bool.{leb-true, leb-false, cases_Bool}
@@ -16,7 +17,8 @@ use Rattle.ccsl_base.specs.ReservedWords.{reserved}
 use Rattle.ccsl_lex.specs.Tokens.{starts, is_white, is_mark, is_remark, token_at, PlainToken, AreTokens, CutAt, is_bad, IsFirstFault}
 use Rattle.ccsl_lex.specs.Laws.{TokensOrFault}
 use Rattle.ccsl_lex.specs.Found.{Found}
-use Rattle.ccsl_lex.proofs.Front.{found_blank, found_mark, found_comment, found_name, found_word, long_name, found_number, large_number, found_quoted, open_text}
+use Rattle.ccsl_lex.proofs.Front.{found_blank, found_mark, found_comment, found_name, found_word, long_name, found_number, large_number, found_quoted}
+use Rattle.ccsl_lex.proofs.Front.{open_text}
 use Rattle.ccsl_lex.proofs.Cutting.{Lexed, lexed_none, lexed_more, lexed_all}
 
 -- what stands in front of a text that begins at byte at: a piece within the limits, or what is the first fault of each text
@@ -28,7 +30,8 @@ data InFront (at : ℕ) (rest : List ℕ) : Type 0 where
 above : (m n : ℕ) → (n < m) ⊎ (m ≤ n)
 above m n = elim (cases_Bool (leb m n)) [ inl l ↦ inr (leb-true m n l) | inr l ↦ inl (leb-false m n l) ]
 
-name_in : (at : ℕ) (text : List ℕ) → starts is_letter text ≡ true → (found : Option Reserved) → reserved (take (prefix_len is_inner text) text) ≡ found → prefix_len is_inner text ≤ MAX_NAME_BYTES → InFront at text
+name_in : (at : ℕ) (text : List ℕ) → starts is_letter text ≡ true → (found : Option Reserved) → reserved (take (prefix_len is_inner text) text) ≡ found
+    → prefix_len is_inner text ≤ MAX_NAME_BYTES → InFront at text
 name_in at text h None r l = piece (prefix_len is_inner text) _ (found_name text h l r)
 name_in at text h (Some word) r l = piece (prefix_len is_inner text) _ (found_word text h word l r)
 
@@ -100,9 +103,12 @@ Answer text = ((ts : List PlainToken) × AreTokens text ts) ⊎ ((e : LexFault) 
 -- one piece after the other, as many as the text has bytes left at most
 answered : (left : ℕ) (text : List ℕ) (at : ℕ) (ts : List PlainToken) → Lexed text at ts → length text ≤ at + left → Answer text
 answered zero text at ts l h = inl (ts, lexed_all text at ts l (omega arith))
-answered (suc left) text at ts l h = by_rest (drop at text) refl (λ len kind f. answered left text (at + len) (ts ++ token_at at (at + len) kind) (lexed_more text at len kind ts l f) (let s = f.some in omega arith))
+answered (suc left) text at ts l h =
+    by_rest (drop at text) refl (λ len kind f. answered left text (at + len) (ts ++ token_at at (at + len) kind) (lexed_more text at len kind ts l f) (let s =
+    f.some in omega arith))
   where
-    by_front : (rest : List ℕ) → drop at text ≡ rest → ((len : ℕ) (kind : Option TokenKind) → Found (drop at text) len kind → Answer text) → InFront at rest → Answer text
+    by_front : (rest : List ℕ) → drop at text ≡ rest → ((len : ℕ) (kind : Option TokenKind) → Found (drop at text) len kind → Answer text) → InFront at rest
+        → Answer text
     by_front rest e go (piece len kind f) = go len kind (subst (λ (z : List ℕ). Found z len kind) (sym e) f)
     by_front rest e go (fault x f) = inr (x, f text (subst (λ (z : List ℕ). CutAt text at z) e l.cut))
 

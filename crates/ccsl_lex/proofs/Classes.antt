@@ -68,7 +68,12 @@ digit_shape b h = rw (white_no is_digit b h refl, false_from_ne_true (is_letter 
 
 mark_shape : (b : ℕ) → is_mark b ≡ true → shape b ≡ 3
 unfolding shape
-mark_shape b h = rw (apart is_white b (codes "(){},;=<+-") h refl, apart is_letter b (codes "(){},;=<+-") h refl, apart is_digit b (codes "(){},;=<+-") h refl, h) refl
+mark_shape b h = rw (
+  apart is_white b (codes "(){},;=<+-") h refl,
+  apart is_letter b (codes "(){},;=<+-") h refl,
+  apart is_digit b (codes "(){},;=<+-") h refl,
+  h,
+) refl
 
 -- the first byte of a piece tells its kind
 pub class_is : (p : Piece) (r : List ℕ) → is_piece p ≡ true → class_at (text_of p ++ r) ≡ class_of p

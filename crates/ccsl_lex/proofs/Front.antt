@@ -1,5 +1,6 @@
 -- The piece in front of a text.
-use Rattle.std.proofs.Common.{◌≡◌, ℕ, suc, ◌+◌, ◌≤◌, ◌<◌, Bool, true, false, ◌&&◌, ◌||◌, List, [], ◌∷◌, ◌++◌, length, take, drop, get_or, Option, Some, None, refl, sym, ap, ◌∙◌, inl, inr, arith}
+use Rattle.std.proofs.Common.{◌≡◌, ℕ, suc, ◌+◌, ◌≤◌, ◌<◌, Bool, true, false, ◌&&◌, ◌||◌, List, [], ◌∷◌, ◌++◌, length, take, drop, get_or, Option, Some, None}
+use Rattle.std.proofs.Common.{refl, sym, ap, ◌∙◌, inl, inr, arith}
 use Rattle.std.specs.Prelude.{nat_eq, IsTrue}
 use Rattle.std.specs.List.{list_all, prefix_len}
 use Rattle.std.proofs.lemmas.List.{take-append-drop, length-take, length-drop, get_or-drop}
@@ -17,7 +18,8 @@ use Rattle.ccsl_lex.specs.declared.token.TokenKind.TheVariants.{Name, Num, Quote
 use Rattle.ccsl_lex.specs.Kept.{kind_kept}
 use Rattle.ccsl_base.specs.Quoted.{is_quotable}
 use Rattle.ccsl_base.specs.ReservedWords.{reserved}
-use Rattle.ccsl_lex.specs.Tokens.{Piece, blank, comment, letters, digits, quoted, mark, text_of, starts, is_piece, is_remark, Stands, fits, is_white, is_mark, kind_of, IsPastLimit, IsOpen}
+use Rattle.ccsl_lex.specs.Tokens.{Piece, blank, comment, letters, digits, quoted, mark, text_of, starts, is_piece, is_remark, Stands, fits, is_white, is_mark}
+use Rattle.ccsl_lex.specs.Tokens.{kind_of, IsPastLimit, IsOpen}
 use Rattle.ccsl_lex.specs.Found.{Found, IsKept}
 use Rattle.ccsl_lex.proofs.RunLists.{run_passes, run_ends}
 use Rattle.ccsl_lex.proofs.Values.{some_digits}
@@ -44,7 +46,8 @@ letters_word b bytes h = by_first (is_letter b) refl h
     by_first false e i = absurd cc
 
 -- the piece p, which has the first n bytes
-front : (text : List ℕ) (n : ℕ) (p : Piece) (kind : Option TokenKind) → text_of p ≡ take n text → n ≤ length text → 0 < n → Stands p (drop n text) → fits p ≡ true → kind_of p ≡ kind → IsKept kind → Found text n kind
+front : (text : List ℕ) (n : ℕ) (p : Piece) (kind : Option TokenKind) → text_of p ≡ take n text → n ≤ length text → 0 < n → Stands p (drop n text)
+    → fits p ≡ true → kind_of p ≡ kind → IsKept kind → Found text n kind
 front text n p kind e l s stands fit kind_is kept = record {
   piece = p;
   whole = sym (take-append-drop n text) ∙ ap (λ z. z ++ drop n text) (sym e);
@@ -69,16 +72,20 @@ module _ (text : List ℕ) (h : starts is_letter text ≡ true) where
   letters_long : length (take (prefix_len is_inner text) text) ≡ prefix_len is_inner text
   letters_long = omega (arith, length-take (prefix_len is_inner text) text, prefix_len-le-length is_inner text)
 
-  found_letters : (kind : TokenKind) → prefix_len is_inner text ≤ MAX_NAME_BYTES → kind_of (letters (take (prefix_len is_inner text) text)) ≡ Some kind → IsTrue (kind_kept kind) → Found text (prefix_len is_inner text) (Some kind)
+  found_letters : (kind : TokenKind) → prefix_len is_inner text ≤ MAX_NAME_BYTES → kind_of (letters (take (prefix_len is_inner text) text)) ≡ Some kind
+      → IsTrue (kind_kept kind) → Found text (prefix_len is_inner text) (Some kind)
   found_letters kind l k kept = front text (prefix_len is_inner text) (letters (take (prefix_len is_inner text) text)) (Some kind) refl
       (prefix_len-le-length is_inner text) (run_some is_letter is_inner letter_inner text h) letters_stand
       (le-leb (length (take (prefix_len is_inner text) text)) MAX_NAME_BYTES (omega (arith, letters_long))) k kept
 
-  pub found_word : (word : Reserved) → prefix_len is_inner text ≤ MAX_NAME_BYTES → reserved (take (prefix_len is_inner text) text) ≡ Some word → Found text (prefix_len is_inner text) (Some (Word word))
+  pub found_word : (word : Reserved) → prefix_len is_inner text ≤ MAX_NAME_BYTES → reserved (take (prefix_len is_inner text) text) ≡ Some word
+      → Found text (prefix_len is_inner text) (Some (Word word))
   found_word word l r = found_letters (Word word) l (rw r refl) refl
 
-  pub found_name : prefix_len is_inner text ≤ MAX_NAME_BYTES → reserved (take (prefix_len is_inner text) text) ≡ None → Found text (prefix_len is_inner text) (Some (Name (take (prefix_len is_inner text) text)))
-  found_name l r = found_letters (Name (take (prefix_len is_inner text) text)) l (rw r refl) (name_is (take (prefix_len is_inner text) text) letters_stand.is (omega (arith, letters_long)) r)
+  pub found_name : prefix_len is_inner text ≤ MAX_NAME_BYTES → reserved (take (prefix_len is_inner text) text) ≡ None
+      → Found text (prefix_len is_inner text) (Some (Name (take (prefix_len is_inner text) text)))
+  found_name l r = found_letters (Name (take (prefix_len is_inner text) text)) l (rw r refl)
+      (name_is (take (prefix_len is_inner text) text) letters_stand.is (omega (arith, letters_long)) r)
 
   pub long_name : MAX_NAME_BYTES < prefix_len is_inner text → IsPastLimit letters text
   long_name l = record {
@@ -126,15 +133,19 @@ pub found_comment : (rest : List ℕ) → Found (47 ∷ 47 ∷ rest) (prefix_len
 found_comment rest =
     let two : prefix_len is_remark rest + 2 ≡ suc (suc (prefix_len is_remark rest)) = omega arith in
     rw two (front (47 ∷ 47 ∷ rest) (suc (suc (prefix_len is_remark rest))) (comment (take (prefix_len is_remark rest) rest)) None refl
-    (omega (arith, prefix_len-le-length is_remark rest)) (omega arith) (record { is = run_passes is_remark rest; longest = run_ends is_remark rest }) refl refl tt)
+    (omega (arith, prefix_len-le-length is_remark rest)) (omega arith) (record { is = run_passes is_remark rest; longest = run_ends is_remark rest }) refl refl
+    tt)
 
 -- a quoted text: its n bytes and the quote behind them
 module _ (rest : List ℕ) (h : prefix_len is_quotable rest < length rest) (q : get_or rest (prefix_len is_quotable rest) 0 ≡ 34) where
   pub found_quoted : Found (34 ∷ rest) (prefix_len is_quotable rest + 2) (Some (Quoted (take (prefix_len is_quotable rest) rest)))
   found_quoted =
       let two : prefix_len is_quotable rest + 2 ≡ suc (suc (prefix_len is_quotable rest)) = omega arith in
-      rw two (front (34 ∷ rest) (suc (suc (prefix_len is_quotable rest))) (quoted (take (prefix_len is_quotable rest) rest)) (Some (Quoted (take (prefix_len is_quotable rest) rest)))
-      (ap (λ z. 34 ∷ z) (ap (λ b. take (prefix_len is_quotable rest) rest ++ b ∷ []) (sym q) ∙ sym (take-suc rest (prefix_len is_quotable rest) 0 h))) (omega arith) (omega arith) (record { is = run_passes is_quotable rest; longest = never_starts (drop (suc (prefix_len is_quotable rest)) rest) }) refl refl (run_passes is_quotable rest))
+      rw two (front (34 ∷ rest) (suc (suc (prefix_len is_quotable rest))) (quoted (take (prefix_len is_quotable rest) rest))
+      (Some (Quoted (take (prefix_len is_quotable rest) rest)))
+      (ap (λ z. 34 ∷ z) (ap (λ b. take (prefix_len is_quotable rest) rest ++ b ∷ []) (sym q) ∙ sym (take-suc rest (prefix_len is_quotable rest) 0 h)))
+      (omega arith) (omega arith) (record { is = run_passes is_quotable rest; longest = never_starts (drop (suc (prefix_len is_quotable rest)) rest) }) refl
+      refl (run_passes is_quotable rest))
 
 no_quote : (zs : List ℕ) → starts is_quotable zs ≡ false → (0 < length zs → get_or zs 0 0 ≡ 34 → ⊥) → starts (λ b. is_quotable b || nat_eq b 34) zs ≡ false
 no_quote [] h q = refl

@@ -17,21 +17,26 @@ run_longest test (b ∷ bs) r (c ∷ cs) s f h e =
     let l : length cs ≤ length bs = run_longest test bs r cs s f (and_parts (test c) (list_all test cs) h).1 t in
     omega arith
 
-longer_in_class : (p q : Piece) (rest behind : List ℕ) → class_of p ≡ class_of q → Stands p rest → is_piece q ≡ true → text_of p ++ rest ≡ text_of q ++ behind → length (text_of q) ≤ length (text_of p)
+longer_in_class : (p q : Piece) (rest behind : List ℕ) → class_of p ≡ class_of q → Stands p rest → is_piece q ≡ true → text_of p ++ rest ≡ text_of q ++ behind
+    → length (text_of q) ≤ length (text_of p)
 longer_in_class (blank b) (blank c) rest behind k s h e = omega arith
 longer_in_class (comment bs) (comment cs) rest behind k s h e =
     let t : bs ++ rest ≡ cs ++ behind = cc in
     let l : length cs ≤ length bs = run_longest is_remark bs rest cs behind s.longest h t in omega arith
-longer_in_class (letters bs) (letters cs) rest behind k s h e = run_longest is_inner bs rest cs behind s.longest (and_parts (starts is_letter cs) (list_all is_inner cs) h).1 e
-longer_in_class (digits bs) (digits cs) rest behind k s h e = run_longest is_digit bs rest cs behind s.longest (and_parts (starts is_digit cs) (list_all is_digit cs) h).1 e
+longer_in_class (letters bs) (letters cs) rest behind k s h e =
+    run_longest is_inner bs rest cs behind s.longest (and_parts (starts is_letter cs) (list_all is_inner cs) h).1 e
+longer_in_class (digits bs) (digits cs) rest behind k s h e =
+    run_longest is_digit bs rest cs behind s.longest (and_parts (starts is_digit cs) (list_all is_digit cs) h).1 e
 longer_in_class (quoted bs) (quoted cs) rest behind k s h e =
     let t : (bs ++ 34 ∷ []) ++ rest ≡ (cs ++ 34 ∷ []) ++ behind = cc in
-    let l : length cs ≤ length bs = run_longest is_quotable bs (34 ∷ rest) cs (34 ∷ behind) refl h (sym (append_assoc bs (34 ∷ []) rest) ∙ t ∙ append_assoc cs (34 ∷ []) behind) in
+    let l : length cs ≤ length bs =
+    run_longest is_quotable bs (34 ∷ rest) cs (34 ∷ behind) refl h (sym (append_assoc bs (34 ∷ []) rest) ∙ t ∙ append_assoc cs (34 ∷ []) behind) in
     omega (arith, length-append bs (34 ∷ []), length-append cs (34 ∷ []))
 longer_in_class (mark b) (mark c) rest behind k s h e = omega arith
 longer_in_class p q rest behind k s h e = absurd (omega arith)
 
-pub same_class : (p q : Piece) (rest behind : List ℕ) → is_piece p ≡ true → is_piece q ≡ true → text_of p ++ rest ≡ text_of q ++ behind → class_of p ≡ class_of q
+pub same_class : (p q : Piece) (rest behind : List ℕ) → is_piece p ≡ true → is_piece q ≡ true → text_of p ++ rest ≡ text_of q ++ behind
+    → class_of p ≡ class_of q
 same_class p q rest behind g h e = sym (class_is p rest g) ∙ ap class_at e ∙ class_is q behind h
 
 pub none_longer : NoneLonger

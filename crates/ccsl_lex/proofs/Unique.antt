@@ -9,7 +9,8 @@ use Rattle.ccsl_base.specs.Letters.{is_letter, is_digit, is_inner}
 use Rattle.ccsl_lex.specs.declared.fault.LexFault.{LexFault}
 use Rattle.ccsl_lex.specs.declared.fault.LexFault.TheVariants.{BadByte, NameTooLong, NumberTooLarge, OpenText, Memory}
 use Rattle.ccsl_base.specs.Quoted.{is_quotable}
-use Rattle.ccsl_lex.specs.Tokens.{Piece, blank, comment, letters, digits, quoted, mark, text_of, starts, is_piece, Stands, AreCut, is_white, is_mark, fits, PlainToken, tokens_of, AreTokens, CutAt, is_bad, IsBad, IsOpen, IsPastLimit, IsFirstFault}
+use Rattle.ccsl_lex.specs.Tokens.{Piece, blank, comment, letters, digits, quoted, mark, text_of, starts, is_piece, Stands, AreCut, is_white, is_mark, fits}
+use Rattle.ccsl_lex.specs.Tokens.{PlainToken, tokens_of, AreTokens, CutAt, is_bad, IsBad, IsOpen, IsPastLimit, IsFirstFault}
 use Rattle.ccsl_lex.specs.Found.{UnlessMemory}
 use Rattle.ccsl_lex.proofs.Classes.{class_of, class_at, class_is, bad_class, quote_class, piece_some}
 use Rattle.ccsl_lex.proofs.Longest.{first_same, run_longest, split_same}
@@ -22,25 +23,30 @@ record IsBroken (r : List ℕ) : Type 0 where
 -- two cuts of one text: they end level, or one goes on where the other ends
 data Ahead (ps : List Piece) (r : List ℕ) (qs : List Piece) (s : List ℕ) : Type 0 where
   level : ps ≡ qs → r ≡ s → Ahead ps r qs s
-  behind : (m : Piece) (ms : List Piece) → qs ≡ ps ++ m ∷ ms → r ≡ text_of m ++ (flat_map text_of ms ++ s) → Stands m (flat_map text_of ms ++ s) → Ahead ps r qs s
-  before : (m : Piece) (ms : List Piece) → ps ≡ qs ++ m ∷ ms → s ≡ text_of m ++ (flat_map text_of ms ++ r) → Stands m (flat_map text_of ms ++ r) → Ahead ps r qs s
+  behind : (m : Piece) (ms : List Piece) → qs ≡ ps ++ m ∷ ms → r ≡ text_of m ++ (flat_map text_of ms ++ s) → Stands m (flat_map text_of ms ++ s)
+      → Ahead ps r qs s
+  before : (m : Piece) (ms : List Piece) → ps ≡ qs ++ m ∷ ms → s ≡ text_of m ++ (flat_map text_of ms ++ r) → Stands m (flat_map text_of ms ++ r)
+      → Ahead ps r qs s
 
 ahead_cons : (p q : Piece) (ps qs : List Piece) (r s : List ℕ) → p ≡ q → Ahead ps r qs s → Ahead (p ∷ ps) r (q ∷ qs) s
 ahead_cons p q ps qs r s e (level h i) = level (rw (e, h) refl) i
 ahead_cons p q ps qs r s e (behind m ms h i j) = behind m ms (rw (e, h) refl) i j
 ahead_cons p q ps qs r s e (before m ms h i j) = before m ms (rw (e, h) refl) i j
 
-ahead : (ps : List Piece) (r : List ℕ) (qs : List Piece) (s : List ℕ) → AreCut ps r → AreCut qs s → flat_map text_of ps ++ r ≡ flat_map text_of qs ++ s → Ahead ps r qs s
+ahead : (ps : List Piece) (r : List ℕ) (qs : List Piece) (s : List ℕ) → AreCut ps r → AreCut qs s → flat_map text_of ps ++ r ≡ flat_map text_of qs ++ s
+    → Ahead ps r qs s
 ahead [] r [] s c d e = level refl e
 ahead [] r (q ∷ qs) s c d e = behind q qs refl (e ∙ append_assoc (text_of q) (flat_map text_of qs) s) d.0
 ahead (p ∷ ps) r [] s c d e = before p ps refl (sym e ∙ append_assoc (text_of p) (flat_map text_of ps) r) c.0
 ahead (p ∷ ps) r (q ∷ qs) s c d e =
-    let h : text_of p ++ (flat_map text_of ps ++ r) ≡ text_of q ++ (flat_map text_of qs ++ s) = sym (append_assoc (text_of p) (flat_map text_of ps) r) ∙ e ∙ append_assoc (text_of q) (flat_map text_of qs) s in
+    let h : text_of p ++ (flat_map text_of ps ++ r) ≡ text_of q ++ (flat_map text_of qs ++ s) =
+    sym (append_assoc (text_of p) (flat_map text_of ps) r) ∙ e ∙ append_assoc (text_of q) (flat_map text_of qs) s in
     let n = first_same p q (flat_map text_of ps ++ r) (flat_map text_of qs ++ s) c.0 d.0 h in
     ahead_cons p q ps qs r s n.0 (ahead ps r qs s c.1 d.1 n.1)
 
 fit_in : (qs : List Piece) (m : Piece) (ms ps : List Piece) → ps ≡ qs ++ m ∷ ms → list_all fits ps ≡ true → fits m ≡ true
-fit_in qs m ms ps e h = (and_parts (fits m) (list_all fits ms) (and_parts (list_all fits qs) (list_all fits (m ∷ ms)) (sym (list_all-append fits qs (m ∷ ms)) ∙ ap (list_all fits) (sym e) ∙ h)).1).0
+fit_in qs m ms ps e h = (and_parts (fits m) (list_all fits ms)
+    (and_parts (list_all fits qs) (list_all fits (m ∷ ms)) (sym (list_all-append fits qs (m ∷ ms)) ∙ ap (list_all fits) (sym e) ∙ h)).1).0
 
 pub one_tokens : (text : List ℕ) (ts us : List PlainToken) → AreTokens text ts → AreTokens text us → ts ≡ us
 one_tokens text ts us a b = one_as (ahead a.pieces [] b.pieces [] a.cut b.cut (ap (λ z. z ++ []) (sym a.whole ∙ b.whole)))
@@ -110,7 +116,8 @@ starts_less (b ∷ bs) h = left_false (is_quotable b) (nat_eq b 34) h
     left_false false y h = refl
 
 -- a piece in front of a text that isn't closed would be a quoted text with the same bytes, and then a quote
-closed : (m : Piece) (bytes after z : List ℕ) → class_of m ≡ 4 → is_piece m ≡ true → list_all is_quotable bytes ≡ true → starts (λ b. is_quotable b || nat_eq b 34) after ≡ false → 34 ∷ (bytes ++ after) ≡ text_of m ++ z → ⊥
+closed : (m : Piece) (bytes after z : List ℕ) → class_of m ≡ 4 → is_piece m ≡ true → list_all is_quotable bytes ≡ true
+    → starts (λ b. is_quotable b || nat_eq b 34) after ≡ false → 34 ∷ (bytes ++ after) ≡ text_of m ++ z → ⊥
 closed (quoted cs) bytes after z k p h o e =
     let t : bytes ++ after ≡ cs ++ (34 ∷ z) = (let u : bytes ++ after ≡ (cs ++ 34 ∷ []) ++ z = cc in u ∙ append_assoc cs (34 ∷ []) z) in
     let below : length cs ≤ length bytes = run_longest is_quotable bytes after cs (34 ∷ z) (starts_less after o) p t in
@@ -121,7 +128,8 @@ closed m bytes after z k p h o e = omega arith
 
 open_is_broken : (r : List ℕ) → IsOpen r → IsBroken r
 open_is_broken r h = record {
-  none = λ m z e t f. closed m h.bytes h.behind z (sym (class_is m z t.is) ∙ ap class_at (sym e ∙ h.whole) ∙ quote_class (h.bytes ++ h.behind)) t.is h.quotable h.open_end (sym h.whole ∙ e);
+  none = λ m z e t f. closed m h.bytes h.behind z (sym (class_is m z t.is) ∙ ap class_at (sym e ∙ h.whole) ∙ quote_class (h.bytes ++ h.behind)) t.is h.quotable
+      h.open_end (sym h.whole ∙ e);
   some = λ e. let i : [] ≡ 34 ∷ (h.bytes ++ h.behind) = sym e ∙ h.whole in cc;
 }
 
@@ -149,8 +157,10 @@ record IsBrokenBy (text : List ℕ) (e : LexFault) : Type 0 where
 broken_by : (text : List ℕ) (e : LexFault) → IsFirstFault e text → IsBrokenBy text e
 unfolding fault_class place_of
 broken_by text (BadByte at) x = record { rest = x.rest; before = x.before; broken = bad_is_broken x.rest x.fault; class = bad_class x.rest x.fault }
-broken_by text (NameTooLong at) x = record { rest = x.rest; before = x.before; broken = past_limit_is_broken letters x.rest x.fault; class = past_limit_class letters x.rest x.fault }
-broken_by text (NumberTooLarge at) x = record { rest = x.rest; before = x.before; broken = past_limit_is_broken digits x.rest x.fault; class = past_limit_class digits x.rest x.fault }
+broken_by text (NameTooLong at) x =
+    record { rest = x.rest; before = x.before; broken = past_limit_is_broken letters x.rest x.fault; class = past_limit_class letters x.rest x.fault }
+broken_by text (NumberTooLarge at) x =
+    record { rest = x.rest; before = x.before; broken = past_limit_is_broken digits x.rest x.fault; class = past_limit_class digits x.rest x.fault }
 broken_by text (OpenText at) x = record {
   rest = x.rest;
   before = x.before;

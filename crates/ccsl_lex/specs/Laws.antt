@@ -15,7 +15,8 @@ TokensOrFault = (text : List ℕ) → ((ts : List PlainToken) × AreTokens text 
 
 -- a piece that stands in front is the longest piece in front
 abbrev pub NoneLonger : Type 0
-NoneLonger = (p q : Piece) (rest behind : List ℕ) → Stands p rest → is_piece q ≡ true → text_of p ++ rest ≡ text_of q ++ behind → length (text_of q) ≤ length (text_of p)
+NoneLonger = (p q : Piece) (rest behind : List ℕ) → Stands p rest → is_piece q ≡ true → text_of p ++ rest ≡ text_of q ++ behind
+    → length (text_of q) ≤ length (text_of p)
 
 -- these bytes spell a token of this kind
 abbrev pub IsSpelled : TokenKind → List ℕ → Type 0

@@ -20,7 +20,9 @@ map-append t [] ys = refl
 map-append t (x ∷ xs) ys = ap (λ zs. t x ∷ zs) (map-append t xs ys)
 
 pub count-split : (t : ℕ → Bool) (b k n : ℕ) → b ≤ k → k ≤ n → count_from t b n ≡ count_from t b k + count_from t k n
-count-split t b k n l l' = ap (λ xs. count (map t xs)) (steps-split b k n l l') ∙ ap count (map-append t (steps b k) (steps k n)) ∙ count-append (map t (steps b k)) (map t (steps k n))
+count-split t b k n l l' =
+    ap (λ xs. count (map t xs)) (steps-split b k n l l') ∙ ap count (map-append t (steps b k) (steps k n))
+    ∙ count-append (map t (steps b k)) (map t (steps k n))
 
 -- there is a tick where there is at least one
 pub ever-count : (ts : List Bool) → ever ts ≡ true → 1 ≤ count ts
@@ -40,4 +42,5 @@ count-ever (false ∷ ts) h = count-ever ts h
 
 -- a gone clock stays gone
 pub stays-gone : (T : List Step) (gone : ℕ → ℕ → Bool) → AreGoneQuiet T gone → (c k n : ℕ) → k ≤ n → n < length T → gone k c ≡ true → gone n c ≡ true
-stays-gone T gone quiet c k n l u h = from_birth (λ n. n < length T → gone n c ≡ true) k (λ u. h) (λ n l ih u. quiet.stays n c (omega arith) (ih (omega arith))) n l u
+stays-gone T gone quiet c k n l u h =
+    from_birth (λ n. n < length T → gone n c ≡ true) k (λ u. h) (λ n l ih u. quiet.stays n c (omega arith) (ih (omega arith))) n l u

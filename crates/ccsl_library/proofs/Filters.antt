@@ -1,5 +1,6 @@
 -- What the library's filters mean: they tick as `filter` does.
-use Rattle.std.proofs.Common.{◌≡◌, ℕ, zero, suc, ◌+◌, ◌-◌, ◌<◌, ◌≤◌, ◌⊎◌, inl, inr, ⊎_elim, List, [], ◌∷◌, map, length, Bool, true, false, Option, Some, None, refl, sym, ap, ◌∙◌, arith, nat_le, nat_eq, eqb-true, leb-true, le-leb, if◌then◌else◌}
+use Rattle.std.proofs.Common.{◌≡◌, ℕ, zero, suc, ◌+◌, ◌-◌, ◌<◌, ◌≤◌, ◌⊎◌, inl, inr, ⊎_elim, List, [], ◌∷◌, map, length, Bool, true, false, Option, Some, None}
+use Rattle.std.proofs.Common.{refl, sym, ap, ◌∙◌, arith, nat_le, nat_eq, eqb-true, leb-true, le-leb, if◌then◌else◌}
 use Rattle.std.proofs.lemmas.Bool.{or_cases, or_right, and_parts, cases_lt}
 use Rattle.ccsl_base.specs.Clocks.{ticks_in}
 use Rattle.ccsl_formula.specs.Formula.{FFalse, FVar, FNot, FAnd, eval}
@@ -57,7 +58,10 @@ module _ (K : System) (T : List Step) (gone : ℕ → ℕ → Bool) (ok : AreGua
 
   first_U : (b : ℕ) → IsFirst U b false
   first_U b = record {
-    ticks = λ n l z. elim (ever (map tc (steps b n))) as (λ e. eval (if e then FFalse else FAnd FFalse (FNot (FVar c))) (step_at T n) ≡ false) [ true ↦ refl | false ↦ refl ];
+    ticks = λ n l z. elim (ever (map tc (steps b n))) as (λ e. eval (if e then FFalse else FAnd FFalse (FNot (FVar c))) (step_at T n) ≡ false) [
+      | true ↦ refl
+      | false ↦ refl
+    ];
     dies = λ n l d. inr (ever-count (map tc (steps b n)) d);
     dead = λ n l x. count-ever (map tc (steps b n)) x;
   }
@@ -84,7 +88,8 @@ module _ (K : System) (T : List Step) (gone : ℕ → ℕ → Bool) (ok : AreGua
       eval (followed_by X M b n).formula (step_at T n) ≡ passes_at o b n
   step X M h o b n first is_h l u later = on (end_of X b n) refl
     where
-      on : (e : Option ℕ) → end_of X b n ≡ e → eval (at_end e (record { formula = (X b n).formula; dead = false }) (λ k. M k n)).formula (step_at T n) ≡ passes_at o b n
+      on : (e : Option ℕ) → end_of X b n ≡ e
+          → eval (at_end e (record { formula = (X b n).formula; dead = false }) (λ k. M k n)).formula (step_at T n) ≡ passes_at o b n
       on None e =
           let z = none_dead_yet X b n h first l (find-none (λ k. (X b k).dead) (suc b) (suc n) e) in
           first.ticks n l z
@@ -121,13 +126,16 @@ module _ (K : System) (T : List Step) (gone : ℕ → ℕ → Bool) (ok : AreGua
   filter_by-filter (suc f) o b n h l u =
       pick (has_ended (word_of K.words w) o) refl (letter (word_of K.words w) o) refl
       (λ k l' u'.
-      ap (λ (now : Now). eval now.formula (step_at T n)) (meaning_calls K T gone ok 2 0 (value.Clock own_clock ∷ value.Word own_tail ∷ []) (actual.Clock c ∷ actual.Word w o ∷ []) in_K k n u' (omega arith))
+      ap (λ (now : Now). eval now.formula (step_at T n))
+      (meaning_calls K T gone ok 2 0 (value.Clock own_clock ∷ value.Word own_tail ∷ []) (actual.Clock c ∷ actual.Word w o ∷ []) in_K k n u' (omega arith))
       ∙ ap (λ e. eval (life_given K T gone e (actual.Clock c ∷ actual.Word w (rest (word_of K.words w) o) ∷ []) k n).formula (step_at T n)) is
       ∙ filter_by-filter f (rest (word_of K.words w) o) k n (omega arith) u' u)
     where
       pick : (ended : Bool) → has_ended (word_of K.words w) o ≡ ended → (head : Bool) → letter (word_of K.words w) o ≡ head →
-          ((k : ℕ) → b < k → k ≤ n → eval (life_given K T gone again (actual.Clock c ∷ actual.Word w o ∷ []) k n).formula (step_at T n) ≡ passes_at (rest (word_of K.words w) o) k n) →
-          eval ((if ended then (λ b n. never_row) else if head then followed_by A (life_given K T gone again (actual.Clock c ∷ actual.Word w o ∷ [])) else followed_by U (life_given K T gone again (actual.Clock c ∷ actual.Word w o ∷ []))) b n).formula (step_at T n) ≡ passes_at o b n
+          ((k : ℕ) → b < k → k ≤ n
+          → eval (life_given K T gone again (actual.Clock c ∷ actual.Word w o ∷ []) k n).formula (step_at T n) ≡ passes_at (rest (word_of K.words w) o) k n)
+          → eval ((if ended then (λ b n. never_row) else if head then followed_by A (life_given K T gone again (actual.Clock c ∷ actual.Word w o ∷ []))
+          else followed_by U (life_given K T gone again (actual.Clock c ∷ actual.Word w o ∷ []))) b n).formula (step_at T n) ≡ passes_at o b n
       pick true e head e' later = sym (ap (λ t. if t then tc n else false) (over (word_of K.words w) (and_parts (is_finite (word_of K.words w)) _ e)))
         where
           over : (v : BinaryWord) → (is_finite v ≡ true) × (nat_eq o (length v.prefix) ≡ true) → letter v (o + count_from tc b n) ≡ false

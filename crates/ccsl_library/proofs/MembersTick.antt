@@ -63,7 +63,12 @@ members-tick file is none T obeys =
     let K : System = expand the_library file in
     let ok = accepted_guarded K (files-expand the_library file is-library is none) in
     let quiet : (y : ℕ) → AreGoneQuiet T (dead_below K T y) = λ y. clocks_quiet K T ok obeys y in
-    record { filters = filters K T ok.bodies quiet (three file) refl; skips = skips K T ok.bodies quiet (three file) refl; periods = periods K T ok.bodies quiet (three file) refl }
+    record {
+      filters = filters K T ok.bodies quiet (three file) refl;
+      skips = skips K T ok.bodies quiet (three file) refl;
+      periods =
+          periods K T ok.bodies quiet (three file) refl;
+    }
   where
     three : (file : PlainFile) → 2 < length (expand the_library file).groups
     three file = omega arith

@@ -1,5 +1,6 @@
 -- What the library's periodic means: it ticks with each tick whose number since its birth is a multiple.
-use Rattle.std.proofs.Common.{◌≡◌, ℕ, zero, suc, ◌+◌, ◌-◌, ◌%◌, ◌<◌, ◌≤◌, ⊎_elim, List, [], ◌∷◌, length, Bool, true, false, ◌&&◌, Option, Some, None, refl, sym, ap, ap₂, ◌∙◌, arith, nat_le, nat_lt, nat_eq, eq-eqb, leb-true, le-leb, lt-ltb, mod-eq_of_lt, if◌then◌else◌}
+use Rattle.std.proofs.Common.{◌≡◌, ℕ, zero, suc, ◌+◌, ◌-◌, ◌%◌, ◌<◌, ◌≤◌, ⊎_elim, List, [], ◌∷◌, length, Bool, true, false, ◌&&◌, Option, Some, None, refl, sym}
+use Rattle.std.proofs.Common.{ap, ap₂, ◌∙◌, arith, nat_le, nat_lt, nat_eq, eq-eqb, leb-true, le-leb, lt-ltb, mod-eq_of_lt, if◌then◌else◌}
 use Rattle.std.proofs.lemmas.Bool.{or_cases, or_right, cases_lt, cases_eq, ne_eqb}
 use Rattle.std.proofs.Math.Nat.{add-mod_left, mod_self}
 use Rattle.ccsl_base.specs.Clocks.{ticks_in}
@@ -34,7 +35,8 @@ module _ (K : System) (T : List Step) (gone : ℕ → ℕ → Bool) (ok : AreGua
       ⊎_elim (λ (s : count_from tc b n < m). s)
       (λ (s : m ≤ count_from tc b n).
       ⊎_elim
-      (λ (r : b < n). let d = or_right (gone n c) (nat_le m (count_from tc b n)) (le-leb m (count_from tc b n) s) in let a = alive n r (omega arith) in let z : ⊥ = cc in absurd z)
+      (λ (r : b < n). let d = or_right (gone n c) (nat_le m (count_from tc b n)) (le-leb m (count_from tc b n) s) in let a =
+      alive n r (omega arith) in let z : ⊥ = cc in absurd z)
       (λ (r : n ≤ b). let e : n ≡ b = omega arith in let z = ap (count_from tc b) e ∙ count-first tc b in omega arith)
       (cases_lt b n))
       (cases_lt (count_from tc b n) m)
@@ -64,7 +66,8 @@ module _ (K : System) (T : List Step) (gone : ℕ → ℕ → Bool) (ok : AreGua
           let below : suc k < suc m = omega arith in
           ap (λ t. if t then tc n else false) (ne_eqb (suc k) (suc m) ne)
           ∙ and_false (tc n)
-          ∙ ap₂ (λ x y. tc n && (x && y)) (sym (lt-ltb 0 (suc m) (omega arith))) (sym (ne_eqb (suc k % suc m) 0 (λ e. let e' = sym (mod-eq_of_lt below) ∙ e in omega arith))))
+          ∙ ap₂ (λ x y. tc n && (x && y)) (sym (lt-ltb 0 (suc m) (omega arith)))
+          (sym (ne_eqb (suc k % suc m) 0 (λ e. let e' = sym (mod-eq_of_lt below) ∙ e in omega arith))))
           (cases_eq (suc k) (suc m))
 
   none : (t : Bool) (x : Bool) → t ≡ false → (t && x) ≡ false
@@ -73,10 +76,13 @@ module _ (K : System) (T : List Step) (gone : ℕ → ℕ → Bool) (ok : AreGua
 
   -- PERIODIC TICKS WITH EACH m-TH TICK
   pub periodic-turns : (f b n : ℕ) → length T - b < f → b ≤ n → n < length T →
-      eval (life_given K T gone periodic_root (actual.Clock c ∷ actual.Number m ∷ []) b n).formula (step_at T n) ≡ (tc n && is_multiple m (suc (count_from tc b n)))
+      eval (life_given K T gone periodic_root (actual.Clock c ∷ actual.Number m ∷ []) b n).formula
+      (step_at T n) ≡ (tc n && is_multiple m (suc (count_from tc b n)))
   periodic-turns zero b n h l u = let z : ⊥ = omega arith in absurd z
   periodic-turns (suc f) b n h l u = on (end_of A b n) refl (λ k l' u'.
-      ap (λ (now : Now). eval now.formula (step_at T n)) (meaning_calls K T gone ok 0 0 (value.Clock own_clock ∷ value.Number own_number ∷ []) (actual.Clock c ∷ actual.Number m ∷ []) in_K k n u' (omega arith))
+      ap (λ (now : Now). eval now.formula (step_at T n))
+      (meaning_calls K T gone ok 0 0 (value.Clock own_clock ∷ value.Number own_number ∷ []) (actual.Clock c ∷ actual.Number m ∷ []) in_K k n u'
+      (omega arith))
       ∙ ap (λ e. eval (life_given K T gone e (actual.Clock c ∷ actual.Number m ∷ []) k n).formula (step_at T n)) is
       ∙ periodic-turns f k n (omega arith) u' u)
     where
@@ -84,8 +90,12 @@ module _ (K : System) (T : List Step) (gone : ℕ → ℕ → Bool) (ok : AreGua
       M = life_given K T gone (periodic own_clock own_number) (actual.Clock c ∷ actual.Number m ∷ [])
 
       on : (e : Option ℕ) → end_of A b n ≡ e →
-          ((k : ℕ) → b < k → k ≤ n → eval (life_given K T gone (periodic own_clock own_number) (actual.Clock c ∷ actual.Number m ∷ []) k n).formula (step_at T n) ≡ (tc n && is_multiple m (suc (count_from tc k n)))) →
-          eval (at_end e (record { formula = (A b n).formula; dead = false }) (λ k. life_given K T gone (periodic own_clock own_number) (actual.Clock c ∷ actual.Number m ∷ []) k n)).formula (step_at T n) ≡ (tc n && is_multiple m (suc (count_from tc b n)))
+          ((k : ℕ) → b < k → k ≤ n
+          → eval (life_given K T gone (periodic own_clock own_number) (actual.Clock c ∷ actual.Number m ∷ []) k n).formula
+          (step_at T n) ≡ (tc n && is_multiple m (suc (count_from tc k n)))) →
+          eval (at_end e (record { formula = (A b n).formula; dead = false })
+          (λ k. life_given K T gone (periodic own_clock own_number) (actual.Clock c ∷ actual.Number m ∷ []) k n)).formula
+          (step_at T n) ≡ (tc n && is_multiple m (suc (count_from tc b n)))
       on None e later =
           eval_cond (nat_eq (suc (count_from tc b n)) m) (FVar c) FFalse (step_at T n)
           ∙ first_turn (count_from tc b n) n (λ pos. few b n pos l (find-none (λ k. (A b k).dead) (suc b) (suc n) e))
@@ -101,10 +111,13 @@ module _ (K : System) (T : List Step) (gone : ℕ → ℕ → Bool) (ok : AreGua
           (λ x.
           let full = leb-true m (count_from tc b (suc k)) x in
           let all = count-split tc b (suc k) n (omega (arith, r.0)) (omega (arith, r.1)) in
-          turn (count_from tc b (suc k)) (λ pos. let before = few b k pos (omega (arith, r.0)) d.1 in at_most (tc k) (count-next tc b k (omega (arith, r.0))) before full) full (count_from tc (suc k) n) (count_from tc b n) all)
+          turn (count_from tc b (suc k)) (λ pos. let before =
+          few b k pos (omega (arith, r.0)) d.1 in at_most (tc k) (count-next tc b k (omega (arith, r.0))) before full) full (count_from tc (suc k) n)
+          (count_from tc b n) all)
           (or_cases (gone (suc k) c) (nat_le m (count_from tc b (suc k))) d.0)
         where
-          at_most : (t : Bool) → count_from tc b (suc k) ≡ (if t then suc (count_from tc b k) else count_from tc b k) → count_from tc b k < m → m ≤ count_from tc b (suc k) → count_from tc b (suc k) ≡ m
+          at_most : (t : Bool) → count_from tc b (suc k) ≡ (if t then suc (count_from tc b k) else count_from tc b k) → count_from tc b k < m
+              → m ≤ count_from tc b (suc k) → count_from tc b (suc k) ≡ m
           at_most true e l f = omega arith
           at_most false e l f = omega arith
 

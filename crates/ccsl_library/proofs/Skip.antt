@@ -1,5 +1,6 @@
 -- What the library's skip means: it ticks as delay does.
-use Rattle.std.proofs.Common.{◌≡◌, ℕ, suc, ◌<◌, ◌≤◌, ⊎_elim, List, [], ◌∷◌, map, Bool, true, false, ◌||◌, Option, Some, None, refl, sym, ap, ap₂, ◌∙◌, arith, nat_le, nat_eq, eqb-true, eq-eqb, leb-true, le-leb, if◌then◌else◌}
+use Rattle.std.proofs.Common.{◌≡◌, ℕ, suc, ◌<◌, ◌≤◌, ⊎_elim, List, [], ◌∷◌, map, Bool, true, false, ◌||◌, Option, Some, None, refl, sym, ap, ap₂, ◌∙◌, arith}
+use Rattle.std.proofs.Common.{nat_le, nat_eq, eqb-true, eq-eqb, leb-true, le-leb, if◌then◌else◌}
 use Rattle.std.proofs.lemmas.Bool.{cases_lt, cases_eq, ne_eqb, lt-leb, cond-true, cond-false}
 use Rattle.ccsl_base.specs.Clocks.{ticks_in}
 use Rattle.ccsl_formula.specs.Formula.{FFalse, FVar, FNot, FAnd, eval}
@@ -65,16 +66,20 @@ module _ (K : System) (T : List Step) (gone : ℕ → ℕ → Bool) (c m : ℕ) 
           or_none true = refl
           or_none false = refl
 
-  later : 0 < m → (b n : ℕ) → b ≤ n → eval (followed_by U (named K T gone (actual.Clock c)) b n).formula (step_at T n) ≡ (if nat_le m (count_from tc b n) then tc n else false)
+  later : 0 < m → (b n : ℕ) → b ≤ n
+      → eval (followed_by U (named K T gone (actual.Clock c)) b n).formula (step_at T n) ≡ (if nat_le m (count_from tc b n) then tc n else false)
   later pos b n l = on (end_of U b n) refl
     where
-      on : (e : Option ℕ) → end_of U b n ≡ e → eval (at_end e (record { formula = (U b n).formula; dead = false }) (λ k. named K T gone (actual.Clock c) k n)).formula (step_at T n) ≡ (if nat_le m (count_from tc b n) then tc n else false)
+      on : (e : Option ℕ) → end_of U b n ≡ e
+          → eval (at_end e (record { formula = (U b n).formula; dead = false }) (λ k. named K T gone (actual.Clock c) k n)).formula
+          (step_at T n) ≡ (if nat_le m (count_from tc b n) then tc n else false)
       on None e =
           let few : count_from tc b n < m =
           ⊎_elim (λ (s : count_from tc b n < m). s)
           (λ (s : m ≤ count_from tc b n).
           ⊎_elim
-          (λ (r : b < n). let d = ticked pos b n l ∙ le-leb m (count_from tc b n) s in let a = find-none (λ k. (U b k).dead) (suc b) (suc n) e n r (omega arith) in let z : ⊥ = cc in absurd z)
+          (λ (r : b < n). let d = ticked pos b n l ∙ le-leb m (count_from tc b n) s in let a =
+          find-none (λ k. (U b k).dead) (suc b) (suc n) e n r (omega arith) in let z : ⊥ = cc in absurd z)
           (λ (r : n ≤ b). let e' : n ≡ b = omega arith in let z = ap (count_from tc b) e' ∙ count-first tc b in omega arith)
           (cases_lt b n))
           (cases_lt (count_from tc b n) m) in
@@ -92,9 +97,14 @@ module _ (K : System) (T : List Step) (gone : ℕ → ℕ → Bool) (c m : ℕ) 
           sym (cond-true (nat_le m (count_from tc b n)) (tc n) false (le-leb m (count_from tc b n) (omega (arith, full, all))))
 
   -- SKIP TICKS AS DELAY DOES
-  pub skip-delay : (b n : ℕ) → b ≤ n → eval (life_given K T gone skip_root (actual.Clock c ∷ actual.Number m ∷ []) b n).formula (step_at T n) ≡ (if nat_le m (count_from tc b n) then tc n else false)
+  pub skip-delay : (b n : ℕ) → b ≤ n
+      → eval (life_given K T gone skip_root (actual.Clock c ∷ actual.Number m ∷ []) b n).formula
+      (step_at T n) ≡ (if nat_le m (count_from tc b n) then tc n else false)
   skip-delay b n l = on (nat_eq m 0) refl
     where
-      on : (t : Bool) → nat_eq m 0 ≡ t → eval ((if t then named K T gone (actual.Clock c) else followed_by U (named K T gone (actual.Clock c))) b n).formula (step_at T n) ≡ (if nat_le m (count_from tc b n) then tc n else false)
+      on : (t : Bool) → nat_eq m 0 ≡ t
+          → eval ((if t then named K T gone (actual.Clock c) else followed_by U (named K T gone (actual.Clock c))) b n).formula
+          (step_at T n) ≡ (if nat_le m (count_from tc b n) then tc n else false)
       on true e = let z = eqb-true m 0 e in sym (cond-true (nat_le m (count_from tc b n)) (tc n) false (le-leb m (count_from tc b n) (omega arith)))
-      on false e = later (⊎_elim (λ (s : 0 < m). s) (λ (s : m ≤ 0). let e' : m ≡ 0 = omega arith in let e'' = eq-eqb m 0 e' in let z : ⊥ = cc in absurd z) (cases_lt 0 m)) b n l
+      on false e = later (⊎_elim (λ (s : 0 < m). s) (λ (s : m ≤ 0). let e' : m ≡ 0 = omega arith in let e'' = eq-eqb m 0 e' in let z : ⊥ =
+          cc in absurd z) (cases_lt 0 m)) b n l

@@ -8,7 +8,11 @@ use Rattle.ccsl_grammar.specs.Terminals.{Terminal, seen_as, terminals}
 use Rattle.ccsl_grammar.specs.Reader.{took, many}
 use Rattle.ccsl_grammar.specs.File.{Parses}
 use Rattle.ccsl_grammar.specs.Verdict.{Verdict}
-use Rattle.ccsl_grammar.specs.Parser.{word_at, symbol_at, name_at, num_at, quoted_at, further_at, list_at, prim_at, sign_at, signed_at, term_at, wterm_at, comparison_at, test_at, arg_at, kind_at, param_at, precedes_at, relop_at, within_at, upto_at, sampled_at, binop_at, named_at, parens_at, operand_at, binary_at, second_at, delayed_at, delay_at, await_at, filter_at, rest_at, branches_at, choice_at, expr_with, no_room, expr_at, define_at, call_at, constraint_at, rline_at, clocks_at, sline_at, relation_at, member_at, further_member_at, group_at, definition_at, version_at, system_at, file_at}
+use Rattle.ccsl_grammar.specs.Parser.{word_at, symbol_at, name_at, num_at, quoted_at, further_at, list_at, prim_at, sign_at, signed_at, term_at, wterm_at}
+use Rattle.ccsl_grammar.specs.Parser.{comparison_at, test_at, arg_at, kind_at, param_at, precedes_at, relop_at, within_at, upto_at, sampled_at, binop_at}
+use Rattle.ccsl_grammar.specs.Parser.{named_at, parens_at, operand_at, binary_at, second_at, delayed_at, delay_at, await_at, filter_at, rest_at, branches_at}
+use Rattle.ccsl_grammar.specs.Parser.{choice_at, expr_with, no_room, expr_at, define_at, call_at, constraint_at, rline_at, clocks_at, sline_at, relation_at}
+use Rattle.ccsl_grammar.specs.Parser.{member_at, further_member_at, group_at, definition_at, version_at, system_at, file_at}
 use Rattle.ccsl_grammar.proofs.Verdict.{reader_is_right}
 use Rattle.ccsl_library.specs.declared.source.TheConstants.{TEXT}
 use Rattle.ccsl_library.specs.Library.{the_library}
@@ -31,7 +35,10 @@ abbrev seen : List Terminal
 seen = map (λ t. seen_as t.at t.kind) found
 
 read : file_at 128 seen ≡ took the_library []
-unfolding reserved many word_at symbol_at name_at num_at quoted_at further_at list_at prim_at sign_at signed_at term_at wterm_at comparison_at test_at arg_at kind_at param_at precedes_at relop_at within_at upto_at sampled_at binop_at named_at parens_at operand_at binary_at second_at delayed_at delay_at await_at filter_at rest_at branches_at choice_at expr_with no_room expr_at define_at call_at constraint_at rline_at clocks_at sline_at relation_at member_at further_member_at group_at definition_at version_at system_at file_at
+unfolding reserved many word_at symbol_at name_at num_at quoted_at further_at list_at prim_at sign_at signed_at term_at wterm_at comparison_at test_at arg_at
+    kind_at param_at precedes_at relop_at within_at upto_at sampled_at binop_at named_at parens_at operand_at binary_at second_at delayed_at delay_at await_at
+    filter_at rest_at branches_at choice_at expr_with no_room expr_at define_at call_at constraint_at rline_at clocks_at sline_at relation_at member_at
+    further_member_at group_at definition_at version_at system_at file_at
 read = refl
 
 seen-parses : Parses MAX_LEVELS seen the_library

@@ -12,7 +12,8 @@ use Rattle.ccsl_ast.specs.declared.definition.Kind.TheVariants as kind
 use Rattle.ccsl_ast.specs.declared.definition.Param.{Param}
 use Rattle.ccsl_ast.specs.declared.line.Relation.TheVariants.{Precedes}
 use Rattle.ccsl_ast.specs.declared.tree.BinaryOp.TheVariants.{Then, Upto}
-use Rattle.ccsl_ast.specs.Trees.{Expression, EName, ECall, ENever, EBinary, EDelay, EAwait, EIf, LDefine, LConstraint, PlainMember, PlainDefinition, DRelation, DGroup, PlainFile}
+use Rattle.ccsl_ast.specs.Trees.{Expression, EName, ECall, ENever, EBinary, EDelay, EAwait, EIf, LDefine, LConstraint, PlainMember, PlainDefinition, DRelation}
+use Rattle.ccsl_ast.specs.Trees.{DGroup, PlainFile}
 
 abbrev pub name_at : ℕ → List ℕ → Spot
 name_at at name = record { at = at; name = name }

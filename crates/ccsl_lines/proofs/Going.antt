@@ -1,5 +1,6 @@
 -- What a reader stands for, step by step.
-use Rattle.std.proofs.Common.{◌≡◌, ℕ, ◌+◌, ◌-◌, ◌<◌, ◌≤◌, List, [], ◌∷◌, ◌++◌, length, take, cond, true, false, None, Some, sym, ap, ◌∙◌, ⊎_elim, arith, append_assoc, length-append}
+use Rattle.std.proofs.Common.{◌≡◌, ℕ, ◌+◌, ◌-◌, ◌<◌, ◌≤◌, List, [], ◌∷◌, ◌++◌, length, take, cond, true, false, None, Some, sym, ap, ◌∙◌, ⊎_elim, arith}
+use Rattle.std.proofs.Common.{append_assoc, length-append}
 use Rattle.std.proofs.Math.Seq.{take-append-add}
 use Rattle.std.proofs.lemmas.Bool.{cases_lt, lt-ltb, le-ltb}
 use Rattle.std.proofs.lemmas.List.{append-nil, take_all, take-append-le}
@@ -91,7 +92,8 @@ module _ (h : Held) (bytes : List ℕ) (given : List Line) (g : Goes h bytes giv
         record {
           closed = g.closed ++ (part ++ 10 ∷ []);
           front = [];
-          seen = ap (λ n. take n bytes) limit ∙ g.seen ∙ ap (λ w. (g.closed ++ g.front) ++ w) (e.pending ∙ ap (λ w. e.bytes ++ 10 ∷ w) (sym pending)) ∙ simp (append_assoc, append-nil);
+          seen = ap (λ n. take n bytes) limit ∙ g.seen ∙ ap (λ w. (g.closed ++ g.front) ++ w) (e.pending ∙ ap (λ w. e.bytes ++ 10 ∷ w) (sym pending))
+              ∙ simp (append_assoc, append-nil);
           are_lines =
               AreLines-more g.closed part given line g.are_lines
               (All-append (λ b. is_line_feed b ≡ false) g.front e.bytes g.unended e.unended)
@@ -156,7 +158,8 @@ module _ (h : Held) (bytes : List ℕ) (given : List Line) (g : Goes h bytes giv
             ∙ lines-then-all g.closed g.front given g.are_lines
 
         -- the last line had no line feed
-        pub HasEnded-last : (k : Held) (line : Line) → k.limit ≡ h.limit → (h.part ≡ Whole [] → ⊥) → stripped h.part ≡ line → HasEnded k bytes (given ++ line ∷ [])
+        pub HasEnded-last : (k : Held) (line : Line) → k.limit ≡ h.limit → (h.part ≡ Whole [] → ⊥) → stripped h.part ≡ line
+            → HasEnded k bytes (given ++ line ∷ [])
         HasEnded-last k line limit begins is = record {
           few = omega (arith, limit, few-read);
           lines_are =

@@ -1,5 +1,6 @@
 -- How far a call on a reader of lines has come, and what it gives.
-use Rattle.std.proofs.Common.{◌≡◌, ◌≢◌, ℕ, ◌+◌, ◌<◌, ◌≤◌, List, [], ◌∷◌, ◌++◌, length, take, Bool, cond, true, false, Option, None, Some, refl, sym, ap, ◌∙◌, subst, ⊎_elim, arith, append_assoc, length-append, length-take}
+use Rattle.std.proofs.Common.{◌≡◌, ◌≢◌, ℕ, ◌+◌, ◌<◌, ◌≤◌, List, [], ◌∷◌, ◌++◌, length, take, Bool, cond, true, false, Option, None, Some, refl, sym, ap, ◌∙◌}
+use Rattle.std.proofs.Common.{subst, ⊎_elim, arith, append_assoc, length-append, length-take}
 use Rattle.std.proofs.lemmas.Bool.{cases_lt}
 use Rattle.std.proofs.lemmas.List.{append-nil, take_all}
 use Rattle.std.proofs.lemmas.List.Elements.{All-append}
@@ -133,7 +134,8 @@ module _ (told : Told) (s t : State) (b h : Held) (c : Comes told s t b h) (p : 
     given-line : (line : Line) → stripped p.part ≡ line → (taken : List ℕ) (given : List Line) → StandsFor b taken given
         → StandsFor k (taken ++ c.bytes) (given ++ line ∷ [])
     given-line line is taken given stands =
-        going runs (Goes-line h (taken ++ c.bytes) given (c.goes taken given stands) c.fresh k p line e is kept.pending_is kept.handed_is limit (kept.left ∙ keeps.left))
+        going runs (Goes-line h (taken ++ c.bytes) given (c.goes taken given stands) c.fresh k p line e is kept.pending_is kept.handed_is limit
+        (kept.left ∙ keeps.left))
 
     follows-line : (f : Next) → HandsOut f p.part k.line → (taken : List ℕ) (given : List Line) → StandsFor b taken given → Follows f k (taken ++ c.bytes) given
     follows-line next.Line o = given-line (Whole k.line) o

@@ -31,7 +31,8 @@ module _ (h : Held) (bytes more : List ℕ) (given : List Line) (g : Goes h byte
   none-ended : (k : ℕ) → IsSeen k → HasNoLineFeed (h.pending ++ more) → ended_lines (parts (take h.limit (bytes ++ more))) ≡ given
   none-ended k e u =
       let rest : List ℕ = take k (h.pending ++ more) in
-      let none : HasNoLineFeed (g.front ++ rest) = All-append (λ b. is_line_feed b ≡ false) g.front rest g.unended (All-take (λ b. is_line_feed b ≡ false) k (h.pending ++ more) u) in
+      let none : HasNoLineFeed (g.front ++ rest) =
+      All-append (λ b. is_line_feed b ≡ false) g.front rest g.unended (All-take (λ b. is_line_feed b ≡ false) k (h.pending ++ more) u) in
       ap (λ xs. ended_lines (parts xs)) (e ∙ append_assoc g.closed g.front rest)
       ∙ lines-then-ended g.closed (g.front ++ rest) given g.are_lines
       ∙ ap (λ ls. given ++ ls) (ended-none (g.front ++ rest) none)

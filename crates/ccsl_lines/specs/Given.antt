@@ -19,7 +19,8 @@ Follows next.TooLong h bytes given = (h.limit < length bytes) × ((rest : List �
 -- nothing was read, or no line feed stood in what was pending and in what was read before the last piece
 pub data IsPrompt (pending bytes : List ℕ) : Type 0 where
   at_once : (none : bytes ≡ []) → IsPrompt pending bytes
-  late : (before piece : List ℕ) (all : bytes ≡ before ++ piece) (few : length piece ≤ PIECE) (unended : HasNoLineFeed (pending ++ before)) → IsPrompt pending bytes
+  late : (before piece : List ℕ) (all : bytes ≡ before ++ piece) (few : length piece ≤ PIECE) (unended : HasNoLineFeed (pending ++ before))
+      → IsPrompt pending bytes
 
 -- bytes were read from standard input, none where a line was there, and this is what follows
 pub record Gives (told : Told) (old new : State) (before after : Held) (found : Next) : Type 0 where

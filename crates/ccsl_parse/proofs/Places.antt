@@ -1,5 +1,6 @@
 -- From the reader's reply to the parser's answer.
-use Rattle.std.proofs.Common.{◌≡◌, ℕ, zero, suc, ◌-◌, ◌≤◌, List, [], ◌∷◌, ◌++◌, length, take, drop, Some, refl, sym, ap, subst, ◌∙◌, inl, inr, arith, length-append}
+use Rattle.std.proofs.Common.{◌≡◌, ℕ, zero, suc, ◌-◌, ◌≤◌, List, [], ◌∷◌, ◌++◌, length, take, drop, Some, refl, sym, ap, subst, ◌∙◌, inl, inr, arith}
+use Rattle.std.proofs.Common.{length-append}
 use Rattle.std.specs.Prelude.{Result, Err, IsOkAnd, ◌⊎◌}
 use Rattle.std.specs.List.{slice_get}
 use Rattle.std.proofs.lemmas.List.{length-map, map-append, take-map, drop-map, take_at, drop_at, take-append-drop}
@@ -44,10 +45,13 @@ record Cut (ts rest : List Token) (front : List Terminal) : Type 0 where
 
 cut : (ts rest : List Token) (front : List Terminal) → terminals ts ≡ front ++ terminals rest → Cut ts rest front
 cut ts rest front e =
-    let n : length front ≡ length ts - length rest = omega (arith, ap length e, length-append front (terminals rest), length-map ts terminal, length-map rest terminal) in
+    let n : length front ≡ length ts - length rest =
+    omega (arith, ap length e, length-append front (terminals rest), length-map ts terminal, length-map rest terminal) in
     record {
-      front_is = sym (take-map terminal (length ts - length rest) ts) ∙ ap (take (length ts - length rest)) e ∙ take_at front (terminals rest) (length ts - length rest) n;
-      back_is = sym (drop-map terminal (length ts - length rest) ts) ∙ ap (drop (length ts - length rest)) e ∙ drop_at front (terminals rest) (length ts - length rest) n;
+      front_is = sym (take-map terminal (length ts - length rest) ts) ∙ ap (take (length ts - length rest)) e
+          ∙ take_at front (terminals rest) (length ts - length rest) n;
+      back_is = sym (drop-map terminal (length ts - length rest) ts) ∙ ap (drop (length ts - length rest)) e
+          ∙ drop_at front (terminals rest) (length ts - length rest) n;
     }
 
 pub syntax_at : (ts rest : List Token) (at : ℕ) → file_at MAX_LEVELS (terminals ts) ≡ stopped no_syntax (terminals rest)
@@ -55,14 +59,28 @@ pub syntax_at : (ts rest : List Token) (at : ℕ) → file_at MAX_LEVELS (termin
 syntax_at ts rest at e h =
     let v = said ts (stopped no_syntax (terminals rest)) e in
     let c = cut ts rest v.0 v.1 in
-    record { front = take (length ts - length rest) ts; back = drop (length ts - length rest) ts; whole = sym (take-append-drop (length ts - length rest) ts); fails = rw (c.front_is, c.back_is) v.2; is = h }
+    record {
+      front = take (length ts - length rest) ts;
+      back = drop (length ts - length rest) ts;
+      whole =
+          sym (take-append-drop (length ts - length rest) ts);
+      fails = rw (c.front_is, c.back_is) v.2;
+      is = h;
+    }
 
 pub too_deep_at : (ts rest : List Token) (at : ℕ) → file_at MAX_LEVELS (terminals ts) ≡ stopped too_deep (terminals rest)
     → at ≡ place (take (length ts - length rest) ts) (drop (length ts - length rest) ts) → TooDeepAt MAX_LEVELS ts at
 too_deep_at ts rest at e h =
     let v = said ts (stopped too_deep (terminals rest)) e in
     let c = cut ts rest v.0 v.1 in
-    record { front = take (length ts - length rest) ts; back = drop (length ts - length rest) ts; whole = sym (take-append-drop (length ts - length rest) ts); deep = rw (c.front_is, c.back_is) v.2; is = h }
+    record {
+      front = take (length ts - length rest) ts;
+      back = drop (length ts - length rest) ts;
+      whole =
+          sym (take-append-drop (length ts - length rest) ts);
+      deep = rw (c.front_is, c.back_is) v.2;
+      is = h;
+    }
 
 -- ---- one answer alone is true of the tokens
 
@@ -73,15 +91,18 @@ split : (ts front back : List Token) → ts ≡ front ++ back → terminals ts �
 split ts front back e = ap terminals e ∙ map-append terminal front back
 
 syntax_reply : (ts : List Token) (at : ℕ) (s : SyntaxAt MAX_LEVELS ts at) → file_at MAX_LEVELS (terminals ts) ≡ stopped no_syntax (terminals s.back)
-syntax_reply ts at s = one_verdict MAX_LEVELS (terminals ts) (stopped no_syntax (terminals s.back)) (terminals s.front, split ts s.front s.back s.whole, s.fails)
+syntax_reply ts at s = one_verdict MAX_LEVELS (terminals ts) (stopped no_syntax (terminals s.back))
+    (terminals s.front, split ts s.front s.back s.whole, s.fails)
 
 too_deep_reply : (ts : List Token) (at : ℕ) (s : TooDeepAt MAX_LEVELS ts at) → file_at MAX_LEVELS (terminals ts) ≡ stopped too_deep (terminals s.back)
-too_deep_reply ts at s = one_verdict MAX_LEVELS (terminals ts) (stopped too_deep (terminals s.back)) (terminals s.front, split ts s.front s.back s.whole, s.deep)
+too_deep_reply ts at s =
+    one_verdict MAX_LEVELS (terminals ts) (stopped too_deep (terminals s.back)) (terminals s.front, split ts s.front s.back s.whole, s.deep)
 
 -- before as many tokens a list is cut at one place
 same_place : (ts x y p q : List Token) → ts ≡ x ++ y → ts ≡ p ++ q → terminals y ≡ terminals q → place x y ≡ place p q
 same_place ts x y p q e h i =
-    let n : length x ≡ length p = omega (arith, ap length e, ap length h, length-append x y, length-append p q, ap length i, length-map y terminal, length-map q terminal) in
+    let n : length x ≡ length p =
+    omega (arith, ap length e, ap length h, length-append x y, length-append p q, ap length i, length-map y terminal, length-map q terminal) in
     let a : x ≡ p = sym (take_at x y (length p) n) ∙ ap (take (length p)) (sym e ∙ h) ∙ take_at p q (length p) refl in
     let b : y ≡ q = sym (drop_at x y (length p) n) ∙ ap (drop (length p)) (sym e ∙ h) ∙ drop_at p q (length p) refl in
     rw (a, b) refl
@@ -114,17 +135,20 @@ abbrev pub failed : ParseFault → Result File ParseFault
 failed e = Err e
 
 -- where a fault is answered, no other answer is true of the tokens
-pub fault_tree : (ts : List Token) (e : ParseFault) → StandsIn e ts → (f : PlainFile) → Parses MAX_LEVELS (terminals ts) f → IsOkAnd (failed e) (λ file. plain_file file ≡ f) ⊎ (failed e ≡ Err Memory)
+pub fault_tree : (ts : List Token) (e : ParseFault) → StandsIn e ts → (f : PlainFile) → Parses MAX_LEVELS (terminals ts) f
+    → IsOkAnd (failed e) (λ file. plain_file file ≡ f) ⊎ (failed e ≡ Err Memory)
 fault_tree ts Memory h f p = inr refl
 fault_tree ts (Syntax n) h f p = absurd (tree_or_syntax ts f n p h)
 fault_tree ts (TooDeep n) h f p = absurd (tree_or_too_deep ts f n p h)
 
-pub fault_syntax : (ts : List Token) (e : ParseFault) → StandsIn e ts → (at : ℕ) → SyntaxAt MAX_LEVELS ts at → (failed e ≡ Err (Syntax at)) ⊎ (failed e ≡ Err Memory)
+pub fault_syntax : (ts : List Token) (e : ParseFault) → StandsIn e ts → (at : ℕ) → SyntaxAt MAX_LEVELS ts at
+    → (failed e ≡ Err (Syntax at)) ⊎ (failed e ≡ Err Memory)
 fault_syntax ts Memory h at s = inr refl
 fault_syntax ts (Syntax n) h at s = inl (ap (λ q. Err (Syntax q)) (one_syntax ts n at h s))
 fault_syntax ts (TooDeep n) h at s = absurd (syntax_or_too_deep ts at n s h)
 
-pub fault_too_deep : (ts : List Token) (e : ParseFault) → StandsIn e ts → (at : ℕ) → TooDeepAt MAX_LEVELS ts at → (failed e ≡ Err (TooDeep at)) ⊎ (failed e ≡ Err Memory)
+pub fault_too_deep : (ts : List Token) (e : ParseFault) → StandsIn e ts → (at : ℕ) → TooDeepAt MAX_LEVELS ts at
+    → (failed e ≡ Err (TooDeep at)) ⊎ (failed e ≡ Err Memory)
 fault_too_deep ts Memory h at s = inr refl
 fault_too_deep ts (Syntax n) h at s = absurd (syntax_or_too_deep ts n at h s)
 fault_too_deep ts (TooDeep n) h at s = inl (ap (λ q. Err (TooDeep q)) (one_too_deep ts n at h s))

@@ -55,13 +55,15 @@ module _ (w : BinaryWord) (infinite : is_finite w ≡ false) where
   one_turn (suc i) =
       let here = length w.prefix + i in
       let there = here + length w.period in
-      let e : ones w (length w.prefix + suc i + length w.period) ≡ ones w (suc there) = let s : length w.prefix + suc i + length w.period ≡ suc there = omega arith in ap (ones w) s in
+      let e : ones w (length w.prefix + suc i + length w.period) ≡ ones w (suc there) = let s : length w.prefix + suc i + length w.period ≡ suc there =
+      omega arith in ap (ones w) s in
       let f : ones w (length w.prefix + suc i) ≡ ones w (suc here) = let s : length w.prefix + suc i ≡ suc here = omega arith in ap (ones w) s in
       let g : as_number (letter w there) ≡ as_number (letter w here) = ap as_number (letter_turn w here infinite (omega arith)) in
       omega (arith, e, f, g, ones-suc w there, ones-suc w here, one_turn i)
 
   pub ones-turn : (k : ℕ) → length w.prefix ≤ k → ones w (k + length w.period) ≡ ones w k + period_ones w
-  ones-turn k l = subst (λ n. ones w (n + length w.period) ≡ ones w n + period_ones w) (let s : length w.prefix + (k - length w.prefix) ≡ k = omega arith in s) (one_turn (k - length w.prefix))
+  ones-turn k l = subst (λ n. ones w (n + length w.period) ≡ ones w n + period_ones w) (let s : length w.prefix + (k - length w.prefix) ≡ k = omega arith in s)
+      (one_turn (k - length w.prefix))
 
   pub repeats-period : Repeats w (length w.prefix) (length w.period) (period_ones w)
   repeats-period = record { letters = λ k l. letter_turn w k infinite l; ones = ones-turn }

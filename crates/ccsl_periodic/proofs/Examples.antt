@@ -48,7 +48,8 @@ excluded : fails_at Excludes late_two one_two 1 ≡ false
 excluded = refl
 
 -- (110) on (10) is 100100..
-on_two_three : on_letter two_three one_two 0 ∷ on_letter two_three one_two 1 ∷ on_letter two_three one_two 2 ∷ on_letter two_three one_two 3 ∷ on_letter two_three one_two 4 ∷ []
+on_two_three : on_letter two_three one_two 0 ∷ on_letter two_three one_two 1 ∷ on_letter two_three one_two 2 ∷ on_letter two_three one_two 3 ∷ on_letter
+    two_three one_two 4 ∷ []
     ≡ true ∷ false ∷ false ∷ true ∷ false ∷ []
 on_two_three = refl
 

@@ -1,5 +1,6 @@
 -- That there is a canonical spelling, a first failure where a relation fails, and a word for each two.
-use Rattle.std.proofs.Common.{◌≡◌, ◌⊎◌, ℕ, zero, suc, ◌+◌, ◌*◌, ◌/◌, ◌%◌, ◌<◌, ◌≤◌, length, max, Bool, true, false, refl, sym, ap, ◌∙◌, ⊎_elim, inl, inr, subst, arith}
+use Rattle.std.proofs.Common.{◌≡◌, ◌⊎◌, ℕ, zero, suc, ◌+◌, ◌*◌, ◌/◌, ◌%◌, ◌<◌, ◌≤◌, length, max, Bool, true, false, refl, sym, ap, ◌∙◌, ⊎_elim, inl, inr, subst}
+use Rattle.std.proofs.Common.{arith}
 use Rattle.std.specs.Int.{IsGcd}
 use Rattle.std.proofs.lemmas.Bool.{cases_eq, cases_lt, cases_Bool}
 use Rattle.std.proofs.lemmas.Nat.Gcd.{IsGcd-from_zero, IsGcd-from_mod}
@@ -125,7 +126,8 @@ has-gcd : (a b : ℕ) → (g : ℕ) × IsGcd a b g
 has-gcd a b = gcd-within b a b (omega arith)
 
 -- A RELATION holds or has a first failure
-module _ (u v : BinaryWord) (inf_u : is_finite u ≡ false) (inf_v : is_finite v ≡ false) (few_u : word_len u ≤ MAX_LETTERS) (few_v : word_len v ≤ MAX_LETTERS) where
+module _ (u v : BinaryWord) (inf_u : is_finite u ≡ false) (inf_v : is_finite v ≡ false) (few_u : word_len u ≤ MAX_LETTERS)
+    (few_v : word_len v ≤ MAX_LETTERS) where
   start : ℕ
   start = max (length u.prefix) (length v.prefix)
 
@@ -162,7 +164,8 @@ module _ (u v : BinaryWord) (inf_u : is_finite u ≡ false) (inf_v : is_finite v
 
   pub holds_or_fails : (r : Between) → NeverFails r u v ⊎ ((k : ℕ) × IsFirstFailure r u v k)
   holds_or_fails r = ⊎_elim
-      (λ (l : turn.0.left < turn.0.right). by-relation r (λ e none. overtakes l (subst (λ b. (k : ℕ) → k < turn.0.start + (ones u turn.0.start + 1) * turn.0.letters → fails_at b u v k ≡ false) e none)))
+      (λ (l : turn.0.left < turn.0.right). by-relation r
+      (λ e none. overtakes l (subst (λ b. (k : ℕ) → k < turn.0.start + (ones u turn.0.start + 1) * turn.0.letters → fails_at b u v k ≡ false) e none)))
       (λ (l : turn.0.right ≤ turn.0.left). keeps r (λ e. l))
       (cases_lt turn.0.left turn.0.right)
     where

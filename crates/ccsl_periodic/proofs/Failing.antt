@@ -1,5 +1,6 @@
 -- Where two words that repeat together fail one another.
-use Rattle.std.proofs.Common.{◌≡◌, ℕ, zero, suc, ◌+◌, ◌-◌, ◌*◌, ◌/◌, ◌%◌, ◌<◌, ◌≤◌, ◌≢◌, min, Bool, true, false, not, ◌&&◌, refl, sym, ap, ap₂, ◌∙◌, subst, arith, ⊎_elim, nat_eq, eqb-true, eq-eqb}
+use Rattle.std.proofs.Common.{◌≡◌, ℕ, zero, suc, ◌+◌, ◌-◌, ◌*◌, ◌/◌, ◌%◌, ◌<◌, ◌≤◌, ◌≢◌, min, Bool, true, false, not, ◌&&◌, refl, sym, ap, ap₂, ◌∙◌, subst}
+use Rattle.std.proofs.Common.{arith, ⊎_elim, nat_eq, eqb-true, eq-eqb}
 use Rattle.std.specs.Int.{div_ceil}
 use Rattle.std.proofs.lemmas.Bool.{cases_Bool, cases_lt, and_parts, and_from, false_from_ne_true, both_ways}
 use Rattle.std.proofs.lemmas.Grind.{div_ceil_times}
@@ -163,8 +164,10 @@ module _ (u v : BinaryWord) (t : Turn) (is : IsTurn u v t) where
           let at : first ≡ place + turns * t.letters = is_first in
           let lead : ones v place + turns * t.right ≤ ones u place + turns * t.left =
           subst (λ n. n ≤ ones u place + turns * t.left) (ones_v turns place from)
-          (subst (λ n. ones v (place + turns * t.letters) ≤ n) (ones_u turns place from) (leads u v (place + turns * t.letters) (λ j l. none j (omega (arith, at, l))))) in
-          let most : ones u place - ones v place ≤ turns * (t.right - t.left) = (div_ceil_times (ones u place - ones v place) (t.right - t.left) (omega arith)).0 in
+          (subst (λ n. ones v (place + turns * t.letters) ≤ n) (ones_u turns place from)
+          (leads u v (place + turns * t.letters) (λ j l. none j (omega (arith, at, l))))) in
+          let most : ones u place - ones v place ≤ turns * (t.right - t.left) =
+          (div_ceil_times (ones u place - ones v place) (t.right - t.left) (omega arith)).0 in
           let sums = lost_exactly (ones u place) (ones v place) turns t.left t.right gains most lead in
           ap (fails_at Precedes u v) at
           ∙ precedes_fails u v (place + turns * t.letters) (letter_v turns place from ∙ ticks) (ones_u turns place from ∙ sums ∙ sym (ones_v turns place from))

@@ -1,5 +1,6 @@
 -- How filters tick: by the letters that the ticks of the filtered clock have.
-use Rattle.std.proofs.Common.{◌≡◌, ℕ, zero, suc, ◌+◌, ◌<◌, ◌≤◌, List, [], ◌∷◌, ◌++◌, map, length, take, Bool, true, false, not, ◌&&◌, ◌||◌, cond, Some, None, refl, sym, ap, ap₂, ◌∙◌, arith, ⊎_elim, nat_eq, if◌then◌else◌}
+use Rattle.std.proofs.Common.{◌≡◌, ℕ, zero, suc, ◌+◌, ◌<◌, ◌≤◌, List, [], ◌∷◌, ◌++◌, map, length, take, Bool, true, false, not, ◌&&◌, ◌||◌, cond, Some, None}
+use Rattle.std.proofs.Common.{refl, sym, ap, ap₂, ◌∙◌, arith, ⊎_elim, nat_eq, if◌then◌else◌}
 use Rattle.std.proofs.Math.Seq.{take-suc}
 use Rattle.std.proofs.lemmas.Bool.{cases_Bool, cases_lt, and_left, and_right, and_from, not_from_true, not_from_false}
 use Rattle.ccsl_base.specs.Clocks.{ticks_in}
@@ -22,7 +23,8 @@ use Rattle.ccsl_periodic.specs.declared.between.Between.TheVariants.{Precedes, S
 use Rattle.ccsl_periodic.specs.Ones.{ones}
 use Rattle.ccsl_periodic.specs.Failures.{fails_at, IsFirstFailure, NeverFails}
 use Rattle.ccsl_periodic.specs.Filtered.{IsOn}
-use Rattle.ccsl_periodic.specs.Filters.{kind_of, IsWordAt, filter_by_word, IsFilter, relation_holds, FiltersAreRelated, ExpressionsTick, ClocksTick, FiltersCompose}
+use Rattle.ccsl_periodic.specs.Filters.{kind_of, IsWordAt, filter_by_word, IsFilter, relation_holds, FiltersAreRelated, ExpressionsTick, ClocksTick}
+use Rattle.ccsl_periodic.specs.Filters.{FiltersCompose}
 use Rattle.ccsl_kernel.proofs.Counts.{count_from, count-next, count-none}
 
 -- at the ticks of t from b on, m ticks with the ones of w, as far as n
@@ -66,7 +68,8 @@ twice m o t u v w b n is l f here outer =
 -- EXPRESSIONS
 module _ (T : List Step) where
   -- a filter's row by ticks
-  row_ticks : (w : BinaryWord) (L : Life) (b n : ℕ) → ticks_at T (over_one T (filter_row w 0) L) b n ≡ (letter w (count_from (ticks_at T L b) b n) && ticks_at T L b n)
+  row_ticks : (w : BinaryWord) (L : Life) (b n : ℕ)
+      → ticks_at T (over_one T (filter_row w 0) L) b n ≡ (letter w (count_from (ticks_at T L b) b n) && ticks_at T L b n)
   row_ticks w L b n = chosen (letter w (0 + k)) (letter w k) (L b n).formula (ap (letter w) (let s : 0 + k ≡ k = omega arith in s))
     where
       k : ℕ
@@ -83,7 +86,8 @@ word_at K i w e = ap word_or_empty e
 module _ (K : System) (T : List Step) where
   -- a filter ticks by the letters of its word
   expression_ticks : (i : ℕ) (w : BinaryWord) → IsWordAt K i w → (x : ℕ) (e : Expression) (ρ : List Actual) (b n : ℕ) →
-      ticks_at T (meaning K T x (filter_by_word e i) ρ) b n ≡ (letter w (count_from (ticks_at T (meaning K T x e ρ) b) b n) && ticks_at T (meaning K T x e ρ) b n)
+      ticks_at T (meaning K T x (filter_by_word e i) ρ) b
+      n ≡ (letter w (count_from (ticks_at T (meaning K T x e ρ) b) b n) && ticks_at T (meaning K T x e ρ) b n)
   expression_ticks i w at x e ρ b n =
       row_ticks T (word_of K.words i) (meaning K T x e ρ) b n
       ∙ ap (λ (z : BinaryWord). letter z (count_from (ticks_at T (meaning K T x e ρ) b) b n) && ticks_at T (meaning K T x e ρ) b n) (word_at K i w at)
@@ -115,7 +119,8 @@ module _ (K : System) (T : List Step) where
         obeys x (filter_by_word (EName (place.Clock c)) is.number) i is.definition l
         ∙ expression_ticks is.number w is.word x (EName (place.Clock c)) [] 0 i
 
-    pub filter_ticks : (x c : ℕ) (w : BinaryWord) → IsFilter K x c w → (n : ℕ) → n < length T → clock_ticks x n ≡ (letter w (clock_count T c n) && clock_ticks c n)
+    pub filter_ticks : (x c : ℕ) (w : BinaryWord) → IsFilter K x c w → (n : ℕ) → n < length T
+        → clock_ticks x n ≡ (letter w (clock_count T c n) && clock_ticks c n)
     filter_ticks x c w is n l =
         clock_filters x c w is n (omega arith) l
         ∙ ap (λ (k : ℕ). letter w k && clock_ticks c n) (sym (clock_count-is c n (omega arith)))
@@ -130,7 +135,8 @@ module _ (K : System) (T : List Step) where
     pub relation_is : (r : Between) (x y c : ℕ) (u v : BinaryWord) → IsFilter K x c u → IsFilter K y c v → (n : ℕ) → n < length T →
         relation_holds T r x y n ≡ not (clock_ticks c n && fails_at r u v (clock_count T c n))
     relation_is r x y c u v is_x is_y n l =
-        ap₂ (λ (i j : ℕ). eval (relation_formula (kind_of r) x y i j) (step_at T n)) (filter_count x c u is_x n (omega arith)) (filter_count y c v is_y n (omega arith))
+        ap₂ (λ (i j : ℕ). eval (relation_formula (kind_of r) x y i j) (step_at T n)) (filter_count x c u is_x n (omega arith))
+        (filter_count y c v is_y n (omega arith))
         ∙ by_relation r
       where
         k : ℕ
@@ -168,8 +174,10 @@ module _ (K : System) (T : List Step) where
 
         by_relation : (r : Between) → eval (relation_formula (kind_of r) x y (ones u k) (ones v k)) (step_at T n) ≡ not (clock_ticks c n && fails_at r u v k)
         by_relation Precedes = precedes (clock_ticks y n) (letter v k) (clock_ticks c n) (nat_eq (ones u k) (ones v k)) y (filter_ticks y c v is_y n l) refl
-        by_relation Subclock = subclock (clock_ticks x n) (clock_ticks y n) (letter u k) (letter v k) (clock_ticks c n) (filter_ticks x c u is_x n l) (filter_ticks y c v is_y n l)
-        by_relation Excludes = excludes (clock_ticks x n) (clock_ticks y n) (letter u k) (letter v k) (clock_ticks c n) (filter_ticks x c u is_x n l) (filter_ticks y c v is_y n l)
+        by_relation Subclock = subclock (clock_ticks x n) (clock_ticks y n) (letter u k) (letter v k) (clock_ticks c n) (filter_ticks x c u is_x n l)
+            (filter_ticks y c v is_y n l)
+        by_relation Excludes = excludes (clock_ticks x n) (clock_ticks y n) (letter u k) (letter v k) (clock_ticks c n) (filter_ticks x c u is_x n l)
+            (filter_ticks y c v is_y n l)
 
 -- THE LAWS
 pub related_until : (r : Between) (u v : BinaryWord) (k : ℕ) → IsFirstFailure r u v k → FiltersAreRelated r u v (Some k)
@@ -182,11 +190,13 @@ related_until r u v k first K T x y c obeys is_x is_y = record { before = before
     before n l below = is n l ∙ ⊎_elim ticking resting (cases_Bool (clock_ticks K T c n))
       where
         resting : clock_ticks K T c n ≡ false → not (clock_ticks K T c n && fails_at r u v (clock_count T c n)) ≡ true
-        resting t = not_from_false (clock_ticks K T c n && fails_at r u v (clock_count T c n)) (and_left (clock_ticks K T c n) (fails_at r u v (clock_count T c n)) t)
+        resting t = not_from_false (clock_ticks K T c n && fails_at r u v (clock_count T c n))
+            (and_left (clock_ticks K T c n) (fails_at r u v (clock_count T c n)) t)
 
         ticking : clock_ticks K T c n ≡ true → not (clock_ticks K T c n && fails_at r u v (clock_count T c n)) ≡ true
         ticking t =
-            let more : clock_count T c (suc n) ≡ suc (clock_count T c n) = clock_count-more K T c n l ∙ ap (λ z. cond z (suc (clock_count T c n)) (clock_count T c n)) t in
+            let more : clock_count T c (suc n) ≡ suc (clock_count T c n) =
+            clock_count-more K T c n l ∙ ap (λ z. cond z (suc (clock_count T c n)) (clock_count T c n)) t in
             not_from_false (clock_ticks K T c n && fails_at r u v (clock_count T c n))
             (and_right (clock_ticks K T c n) (fails_at r u v (clock_count T c n)) (first.least (clock_count T c n) (omega arith)))
 
@@ -199,7 +209,8 @@ related_until r u v k first K T x y c obeys is_x is_y = record { before = before
 pub related_always : (r : Between) (u v : BinaryWord) → NeverFails r u v → FiltersAreRelated r u v None
 related_always r u v never K T x y c obeys is_x is_y n l =
     relation_is K T obeys r x y c u v is_x is_y n l
-    ∙ not_from_false (clock_ticks K T c n && fails_at r u v (clock_count T c n)) (and_right (clock_ticks K T c n) (fails_at r u v (clock_count T c n)) (never (clock_count T c n)))
+    ∙ not_from_false (clock_ticks K T c n && fails_at r u v (clock_count T c n))
+    (and_right (clock_ticks K T c n) (fails_at r u v (clock_count T c n)) (never (clock_count T c n)))
 
 pub composed : (u v w : BinaryWord) → IsOn u v w → FiltersCompose u v w
 composed u v w is = record { expressions = expressions; clocks = clocks }

@@ -84,8 +84,10 @@ module _ (u v : BinaryWord) (left : is_finite u ≡ false) (right : is_finite v 
       let n = d / g in
       let q_is : q ≡ n * length u.period = is ∙ mul_comm (length u.period) n in
       let from : length u.prefix ≤ k = omega (arith, behind.behind_left, l) in
-      let letter_u : letter u (k + q) ≡ letter u k = ap (λ m. letter u (k + m)) q_is ∙ letter-turns u (length u.prefix) (length u.period) h (repeats-period u left) n k from in
-      let ones_u : ones u (k + q) ≡ ones u k + n * h = ap (λ m. ones u (k + m)) q_is ∙ ones-turns u (length u.prefix) (length u.period) h (repeats-period u left) n k from in
+      let letter_u : letter u (k + q) ≡ letter u k =
+      ap (λ m. letter u (k + m)) q_is ∙ letter-turns u (length u.prefix) (length u.period) h (repeats-period u left) n k from in
+      let ones_u : ones u (k + q) ≡ ones u k + n * h =
+      ap (λ m. ones u (k + m)) q_is ∙ ones-turns u (length u.prefix) (length u.period) h (repeats-period u left) n k from in
       let same : n * h ≡ h / g * d = same_turn h d g (is_gcd.1, is_gcd.0, λ e a b. is_gcd.2 e b a) in
       let far = ones-monotone u p k l in
       let letter_v : letter v (ones u (k + q)) ≡ letter v (ones u k) =

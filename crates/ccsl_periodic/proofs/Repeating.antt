@@ -59,11 +59,13 @@ module _ (w : BinaryWord) (infinite : is_finite w ≡ false) where
       ∙ is.letters k
 
   -- THE SHORTEST PERIOD and then the shortest prefix make the canonical spelling
-  pub shortest_is_canonical : (p q : ℕ) → 0 < q → RepeatsFrom w p q → ((n : ℕ) → 0 < n → RepeatsFrom w (length w.prefix) n → q ≤ n) → ((n : ℕ) → RepeatsFrom w n q → p ≤ n) →
+  pub shortest_is_canonical : (p q : ℕ) → 0 < q → RepeatsFrom w p q → ((n : ℕ) → 0 < n → RepeatsFrom w (length w.prefix) n → q ≤ n)
+      → ((n : ℕ) → RepeatsFrom w n q → p ≤ n) →
       IsCanonical (spelled (letter w) p q) w
   shortest_is_canonical p q some repeats shortest first = record {
     spells = record { infinite = infinite-spelled (letter w) p q some repeats; letters = letter-spelled (letter w) p q some repeats };
-    period = λ x is. let n = period-spelled (letter w) p q some repeats in let m = shortest (length x.period) (infinite_len x is.infinite) (spelled_repeats x is) in omega (arith, n, m);
+    period = λ x is. let n = period-spelled (letter w) p q some repeats in let m =
+        shortest (length x.period) (infinite_len x is.infinite) (spelled_repeats x is) in omega (arith, n, m);
     prefix = λ x is e.
         let n = prefix-spelled (letter w) p q some repeats in
         let m = first (length x.prefix) (spelled_from x q is (e ∙ period-spelled (letter w) p q some repeats)) in
@@ -80,7 +82,8 @@ none_more w q none here n some below h =
     (cases_lt n q)
 
 -- ONE PLACE BEFORE from which on the letters come again
-pub one_before : (w : BinaryWord) (p q : ℕ) → RepeatsFrom w p q → (a b : Bool) → a ≡ letter w (p - 1 + q) → b ≡ letter w (p - 1) → not (beq a b) ≡ false → RepeatsFrom w (p - 1) q
+pub one_before : (w : BinaryWord) (p q : ℕ) → RepeatsFrom w p q → (a b : Bool) → a ≡ letter w (p - 1 + q) → b ≡ letter w (p - 1) → not (beq a b) ≡ false
+    → RepeatsFrom w (p - 1) q
 one_before w p q repeats a b e f same k l =
     ⊎_elim
     (λ (here : k < p).

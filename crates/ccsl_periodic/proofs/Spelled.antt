@@ -1,5 +1,6 @@
 -- Words that are spelled from a list of their first letters.
-use Rattle.std.proofs.Common.{◌≡◌, ℕ, zero, suc, ◌+◌, ◌-◌, ◌*◌, ◌/◌, ◌%◌, ◌<◌, ◌≤◌, List, [], ◌∷◌, map, length, take, drop, get_or, Bool, false, cond, refl, sym, ap, ap₂, ◌∙◌, subst, arith, ⊎_elim, lt-ltb}
+use Rattle.std.proofs.Common.{◌≡◌, ℕ, zero, suc, ◌+◌, ◌-◌, ◌*◌, ◌/◌, ◌%◌, ◌<◌, ◌≤◌, List, [], ◌∷◌, map, length, take, drop, get_or, Bool, false, cond, refl}
+use Rattle.std.proofs.Common.{sym, ap, ap₂, ◌∙◌, subst, arith, ⊎_elim, lt-ltb}
 use Rattle.std.specs.Prelude.{Result, Ok, Err, IfOk}
 use Rattle.std.specs.List.{range_with_len}
 use Rattle.std.proofs.lemmas.Bool.{cases_lt}
@@ -21,7 +22,8 @@ pub front_len : (f : ℕ → Bool) (n : ℕ) → length (front f n) ≡ n
 front_len f n = length-map-range_with_len f 0 n
 
 pub in_prefix : (w : BinaryWord) (k : ℕ) → k < length w.prefix → letter w k ≡ get_or w.prefix k false
-in_prefix w k l = ap (λ c. cond c (get_or w.prefix k false) (cond (is_finite w) false (get_or w.period ((k - length w.prefix) % length w.period) false))) (lt-ltb k (length w.prefix) l)
+in_prefix w k l = ap (λ c. cond c (get_or w.prefix k false) (cond (is_finite w) false (get_or w.period ((k - length w.prefix) % length w.period) false)))
+    (lt-ltb k (length w.prefix) l)
 
 -- a word by its letters
 nonempty : (xs : List Bool) → 0 < length xs → is_empty xs ≡ false
@@ -42,9 +44,11 @@ prefix_read w =
 pub period_read : (w : BinaryWord) → drop (length w.prefix) (front (letter w) (word_len w)) ≡ w.period
 period_read w =
     let xs = front (letter w) (word_len w) in
-    let long : length (drop (length w.prefix) xs) ≡ length w.period = length-drop (length w.prefix) xs ∙ (let n = front_len (letter w) (word_len w) in omega arith) in
+    let long : length (drop (length w.prefix) xs) ≡ length w.period =
+    length-drop (length w.prefix) xs ∙ (let n = front_len (letter w) (word_len w) in omega arith) in
     ext_get_or false (drop (length w.prefix) xs) w.period long
-    (λ i l. get_or-drop (length w.prefix) xs i false ∙ front_at (letter w) (word_len w) (length w.prefix + i) (omega (arith, l, long)) ∙ in_period w i (omega (arith, l, long)))
+    (λ i l. get_or-drop (length w.prefix) xs i false ∙ front_at (letter w) (word_len w) (length w.prefix + i) (omega (arith, l, long))
+    ∙ in_period w i (omega (arith, l, long)))
 
 -- p values of a function as a prefix, and q as a period
 abbrev pub spelled : (ℕ → Bool) → ℕ → ℕ → BinaryWord

@@ -37,12 +37,20 @@ module _ (w : BinaryWord) (start turn gain : ℕ) (repeats : Repeats w start tur
 -- BOTH WORDS repeat after the least common multiple of their periods
 pub common_turn : (u v : BinaryWord) (g start : ℕ) → is_finite u ≡ false → is_finite v ≡ false → IsGcd (length u.period) (length v.period) g →
     length u.prefix ≤ start → length v.prefix ≤ start → start ≤ MAX_LETTERS → length u.period ≤ MAX_LETTERS → length v.period ≤ MAX_LETTERS →
-    IsTurn u v (record { start = start; letters = length v.period / g * length u.period; left = length v.period / g * period_ones u; right = length u.period / g * period_ones v })
+    IsTurn u v (record {
+      start = start;
+      letters = length v.period / g * length u.period;
+      left = length v.period / g * period_ones u;
+      right =
+          length u.period / g * period_ones v;
+    })
 common_turn u v g start inf_u inf_v is_gcd left right small small_u small_v =
     let a = length u.period in
     let b = length v.period in
-    let later_u = repeats-later u (length u.prefix) (b / g * a) (b / g * period_ones u) (repeats-turns u (length u.prefix) a (period_ones u) (repeats-period u inf_u) (b / g)) start left in
-    let later_v = repeats-later v (length v.prefix) (a / g * b) (a / g * period_ones v) (repeats-turns v (length v.prefix) b (period_ones v) (repeats-period v inf_v) (a / g)) start right in
+    let later_u = repeats-later u (length u.prefix) (b / g * a) (b / g * period_ones u)
+    (repeats-turns u (length u.prefix) a (period_ones u) (repeats-period u inf_u) (b / g)) start left in
+    let later_v = repeats-later v (length v.prefix) (a / g * b) (a / g * period_ones v)
+    (repeats-turns v (length v.prefix) b (period_ones v) (repeats-period v inf_v) (a / g)) start right in
     let same = same_turn a b g is_gcd in
     let pos_turns = quotient_pos a b g is_gcd (infinite_len v inf_v) in
     let turns_small : b / g ≤ MAX_LETTERS = omega (arith, div-le_self b g) in

@@ -1,5 +1,6 @@
 -- The table of deaths, and what is followed with it.
-use Rattle.std.proofs.Common.{◌≡◌, ℕ, zero, suc, ◌+◌, ◌-◌, ◌<◌, ◌≤◌, ⊎_elim, List, [], ◌∷◌, ◌++◌, map, length, get_or, Bool, false, Some, None, slice_get, if◌then◌else◌, refl, sym, ap, ap₂, ◌∙◌, arith, length-append, lt-ltb, le-ltb}
+use Rattle.std.proofs.Common.{◌≡◌, ℕ, zero, suc, ◌+◌, ◌-◌, ◌<◌, ◌≤◌, ⊎_elim, List, [], ◌∷◌, ◌++◌, map, length, get_or, Bool, false, Some, None, slice_get}
+use Rattle.std.proofs.Common.{if◌then◌else◌, refl, sym, ap, ap₂, ◌∙◌, arith, length-append, lt-ltb, le-ltb}
 use Rattle.std.proofs.lemmas.Bool.{cases_lt, ne_eqb}
 use Rattle.std.proofs.lemmas.List.{get_or_past}
 use Rattle.std.proofs.Math.ListN.{get_or-append}
@@ -23,7 +24,8 @@ use Rattle.ccsl_plain.proofs.Follows.{course_is}
 -- one value for each step
 length-steps : {X : Type 0} (f : ℕ → X) (n : ℕ) → length (map f (steps 0 n)) ≡ n
 length-steps f zero = refl
-length-steps f (suc n) = ap length (map-steps-suc f 0 n (omega arith)) ∙ (let e = length-steps f n in omega (arith, e, length-append (map f (steps 0 n)) (f n ∷ [])))
+length-steps f (suc n) =
+    ap length (map-steps-suc f 0 n (omega arith)) ∙ (let e = length-steps f n in omega (arith, e, length-append (map f (steps 0 n)) (f n ∷ [])))
 
 steps-at : {X : Type 0} (f : ℕ → X) (n i : ℕ) (d : X) → i < n → get_or (map f (steps 0 n)) i d ≡ f i
 steps-at f zero i d l = let z : ⊥ = omega arith in absurd z
@@ -48,12 +50,15 @@ module _ (K : System) (T : List Step) where
       (λ (m : k < j). get_or-append (columns K T j) (column K T (K.declared + j) ∷ []) [] k (omega (arith, length-columns j, m)) ∙ columns-at j k m)
       (λ (m : j ≤ k).
       let at : k ≡ length (columns K T j) = omega (arith, length-columns j) in
-      ap (λ i. get_or (columns K T j ++ column K T (K.declared + j) ∷ []) i []) at ∙ get_or-append_seam (columns K T j) (column K T (K.declared + j)) [] [] ∙ ap (λ i. column K T (K.declared + i)) (let same : j ≡ k = omega arith in same))
+      ap (λ i. get_or (columns K T j ++ column K T (K.declared + j) ∷ []) i []) at ∙ get_or-append_seam (columns K T j) (column K T (K.declared + j)) [] []
+      ∙ ap (λ i. column K T (K.declared + i)) (let same : j ≡ k = omega arith in same))
       (cases_lt k j)
 
   dead_below-past : (x n y : ℕ) → x ≤ y → dead_below K T x n y ≡ false
   dead_below-past zero n y l = refl
-  dead_below-past (suc x) n y l = ap (λ t. choice t (definition_dead K T (dead_below K T x) n (definition_of K x)) (dead_below K T x n y)) (ne_eqb y x (λ e. omega arith)) ∙ dead_below-past x n y (omega arith)
+  dead_below-past (suc x) n y l =
+      ap (λ t. choice t (definition_dead K T (dead_below K T x) n (definition_of K x)) (dead_below K T x n y)) (ne_eqb y x (λ e. omega arith))
+      ∙ dead_below-past x n y (omega arith)
 
   -- the table tells which clocks are dead
   pub table_tells : (j n y : ℕ) → n ≤ length T → gone_at K.declared (columns K T j) n y ≡ dead_below K T (K.declared + j) n y
@@ -85,13 +90,16 @@ module _ (K : System) (T : List Step) where
     pub followed_is : (n : ℕ) → n ≤ length T → course_life K T (gone_at K.declared (columns K T j)) e [] 0 n ≡ meaning K T (K.declared + j) e [] 0 n
     followed_is n u =
         course_is K ok.bodies T (gone_at K.declared (columns K T j)) e [] 0 n (definition_allowed K ok (K.declared + j) e defined) (omega arith) u
-        ∙ first_steps_matter K T T (gone_at K.declared (columns K T j)) (dead_below K T (K.declared + j)) ok.bodies e [] 0 n (definition_allowed K ok (K.declared + j) e defined) (omega arith) u u
+        ∙ first_steps_matter K T T (gone_at K.declared (columns K T j)) (dead_below K T (K.declared + j)) ok.bodies e [] 0 n
+        (definition_allowed K ok (K.declared + j) e defined) (omega arith) u u
         (λ i l. refl) (λ i y l. table_tells j i y (omega arith))
 
     -- and so are its deaths
-    pub followed_column : map (λ n. (course_life K T (gone_at K.declared (columns K T j)) e [] 0 n).dead) (steps 0 (suc (length T))) ≡ column K T (K.declared + j)
+    pub followed_column : map (λ n. (course_life K T (gone_at K.declared (columns K T j)) e [] 0 n).dead) (steps 0 (suc (length T))) ≡ column K T
+        (K.declared + j)
     followed_column =
-        map-steps (λ n. (course_life K T (gone_at K.declared (columns K T j)) e [] 0 n).dead) (λ n. definition_dead K T (dead_below K T (K.declared + j)) n (definition_of K (K.declared + j))) 0 (suc (length T))
+        map-steps (λ n. (course_life K T (gone_at K.declared (columns K T j)) e [] 0 n).dead)
+        (λ n. definition_dead K T (dead_below K T (K.declared + j)) n (definition_of K (K.declared + j))) 0 (suc (length T))
         (λ n l u. ap (λ (now : Now). now.dead) (followed_is n (omega arith)) ∙ sym (ap (definition_dead K T (dead_below K T (K.declared + j)) n) defined))
 
     pub followed_formula : (course_life K T (gone_at K.declared (columns K T j)) e [] 0 (length T)).formula ≡ formula_at K T (K.declared + j) e [] 0 (length T)
@@ -99,11 +107,13 @@ module _ (K : System) (T : List Step) where
 
     -- one more column, where the table is held under other names
     pub column_step : (declared : ℕ) (held old new : List (List Bool)) (more : List Bool) → declared ≡ K.declared → held ≡ old → old ≡ columns K T j →
-        more ≡ map (λ n. (course_life K T (gone_at declared held) e [] 0 n).dead) (steps 0 (suc (length T))) → new ≡ old ++ more ∷ [] → new ≡ columns K T (j + 1)
+        more ≡ map (λ n. (course_life K T (gone_at declared held) e [] 0 n).dead) (steps 0 (suc (length T))) → new ≡ old ++ more ∷ []
+        → new ≡ columns K T (j + 1)
     column_step declared held old new more d h o m n =
         let one : suc j ≡ j + 1 = omega arith in
         n
-        ∙ ap₂ (λ xs x. xs ++ x ∷ []) o (m ∙ ap₂ (λ d h. map (λ n. (course_life K T (gone_at d h) e [] 0 n).dead) (steps 0 (suc (length T)))) d (h ∙ o) ∙ followed_column)
+        ∙ ap₂ (λ xs x. xs ++ x ∷ []) o (m ∙ ap₂ (λ d h. map (λ n. (course_life K T (gone_at d h) e [] 0 n).dead) (steps 0 (suc (length T)))) d (h ∙ o)
+        ∙ followed_column)
         ∙ ap (columns K T) one
 
     -- the formula of the definition, from that of the course that was followed

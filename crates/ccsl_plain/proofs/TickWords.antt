@@ -1,5 +1,6 @@
 -- Words on ticks, as std has them for lists.
-use Rattle.std.proofs.Common.{◌≡◌, ℕ, zero, suc, ◌+◌, ◌<◌, ◌≤◌, ◌⊎◌, inl, inr, ⊎_elim, min, List, [], ◌∷◌, length, drop, get_or, drop-cons, Bool, true, false, cond, not, ◌&&◌, ◌||◌, nat_eq, if◌then◌else◌, refl, sym, ap, ap₂, ◌∙◌, arith}
+use Rattle.std.proofs.Common.{◌≡◌, ℕ, zero, suc, ◌+◌, ◌<◌, ◌≤◌, ◌⊎◌, inl, inr, ⊎_elim, min, List, [], ◌∷◌, length, drop, get_or, drop-cons, Bool, true, false}
+use Rattle.std.proofs.Common.{cond, not, ◌&&◌, ◌||◌, nat_eq, if◌then◌else◌, refl, sym, ap, ap₂, ◌∙◌, arith}
 use Rattle.std.specs.List.{count_by}
 use Rattle.std.proofs.lemmas.List.Recursion.{is_count_by}
 use Rattle.std.proofs.lemmas.Bool.{cases_lt, ne_eqb}
@@ -59,7 +60,8 @@ waits-at s a d i x y l m =
     ∙ waits-cons s (get_or a i x) (get_or d i y) (drop (suc i) a) (drop (suc i) d)
     ∙ ap (λ (k : ℕ). (get_or a i x && wait_of s (get_or d i y) (count (drop k d))) || some_waits s (drop k a) (drop k d)) (more_one i)
 
-pub count-at : (d : List Bool) (i : ℕ) (y : Bool) → i < length d → count (drop i d) ≡ (if get_or d i y then count (drop (i + 1) d) + 1 else count (drop (i + 1) d))
+pub count-at : (d : List Bool) (i : ℕ) (y : Bool) → i < length d
+    → count (drop i d) ≡ (if get_or d i y then count (drop (i + 1) d) + 1 else count (drop (i + 1) d))
 count-at d i y m =
     ap count (drop-cons d i y m) ∙ count-cons (get_or d i y) (drop (suc i) d)
     ∙ ap (λ (k : ℕ). if get_or d i y then count (drop k d) + 1 else count (drop k d)) (more_one i)
@@ -86,9 +88,11 @@ module _ (s : Since) (a d : List Bool) (i : ℕ) (x y : Bool) (l : i < length a)
   found_here t w = waits-at s a d i x y l m ∙ ap₂ (λ t w. (t && w) || some_waits s (drop (i + 1) a) (drop (i + 1) d)) t w
 
   pub not_ticking : get_or a i x ≡ false → some_waits s (drop i a) (drop i d) ≡ some_waits s (drop (i + 1) a) (drop (i + 1) d)
-  not_ticking t = waits-at s a d i x y l m ∙ ap (λ t. (t && wait_of s (get_or d i y) (count (drop (i + 1) d))) || some_waits s (drop (i + 1) a) (drop (i + 1) d)) t
+  not_ticking t = waits-at s a d i x y l m
+      ∙ ap (λ t. (t && wait_of s (get_or d i y) (count (drop (i + 1) d))) || some_waits s (drop (i + 1) a) (drop (i + 1) d)) t
 
-  pub not_waiting : wait_of s (get_or d i y) (count (drop (i + 1) d)) ≡ false → some_waits s (drop i a) (drop i d) ≡ some_waits s (drop (i + 1) a) (drop (i + 1) d)
+  pub not_waiting : wait_of s (get_or d i y) (count (drop (i + 1) d)) ≡ false
+      → some_waits s (drop i a) (drop i d) ≡ some_waits s (drop (i + 1) a) (drop (i + 1) d)
   not_waiting w = waits-at s a d i x y l m ∙ on (get_or a i x) w
     where
       on : (t : Bool) {w : Bool} → w ≡ false → ((t && w) || some_waits s (drop (i + 1) a) (drop (i + 1) d)) ≡ some_waits s (drop (i + 1) a) (drop (i + 1) d)

@@ -7,7 +7,8 @@ use Rattle.ccsl_kernel.proofs.Steps.{map-steps-suc}
 use Rattle.ccsl_plain.proofs.Follows.{grown-suc}
 
 module _ (K : System) (T : List Step) (gone : ℕ → ℕ → Bool) (birth : Course) where
-  pub walk_course : (i : ℕ) (now later : Course) (s : Step) → now ≡ grown K T gone birth 0 i → s ≡ step_at T i → later ≡ next K s (gone i) (gone (i + 1)) now → later ≡ grown K T gone birth 0 (i + 1)
+  pub walk_course : (i : ℕ) (now later : Course) (s : Step) → now ≡ grown K T gone birth 0 i → s ≡ step_at T i → later ≡ next K s (gone i) (gone (i + 1)) now
+      → later ≡ grown K T gone birth 0 (i + 1)
   walk_course i now later s h e h' =
       let one : i + 1 ≡ suc i = omega arith in
       h' ∙ ap₂ (λ s c. next K s (gone i) (gone (i + 1)) c) e h
@@ -15,8 +16,9 @@ module _ (K : System) (T : List Step) (gone : ℕ → ℕ → Bool) (birth : Cou
       ∙ sym (grown-suc K T gone birth 0 i (omega arith))
       ∙ ap (grown K T gone birth 0) (sym one)
 
-  pub walk_deaths : (i : ℕ) (column longer : List Bool) (later : Course) (dead : Bool) → column ≡ map (λ n. (life_of K T gone birth 0 n).dead) (steps 0 (suc i)) →
-      later ≡ grown K T gone birth 0 (i + 1) → dead ≡ (now_of (gone (i + 1)) later).dead → longer ≡ column ++ dead ∷ [] → longer ≡ map (λ n. (life_of K T gone birth 0 n).dead) (steps 0 (suc (i + 1)))
+  pub walk_deaths : (i : ℕ) (column longer : List Bool) (later : Course) (dead : Bool) → column ≡ map (λ n. (life_of K T gone birth 0 n).dead) (steps 0 (suc i))
+      → later ≡ grown K T gone birth 0 (i + 1) → dead ≡ (now_of (gone (i + 1)) later).dead → longer ≡ column ++ dead ∷ []
+      → longer ≡ map (λ n. (life_of K T gone birth 0 n).dead) (steps 0 (suc (i + 1)))
   walk_deaths i column longer later dead h c d e =
       let one : suc i ≡ i + 1 = omega arith in
       e

@@ -9,7 +9,8 @@ use Rattle.ccsl_plain.specs.declared.operator.Binary.TheVariants as binary
 use Rattle.ccsl_plain.specs.declared.operator.Connective.{Connective}
 use Rattle.ccsl_plain.specs.declared.operator.Connective.TheVariants.{Left, Right, False, Or, And, RightAndLeft, AndNot}
 use Rattle.ccsl_kernel.specs.Actuals.{word_of}
-use Rattle.ccsl_kernel.specs.Table.{Now, Operand, union_row, inter_row, minus_row, inf_row, sup_row, upto_row, upto_weakly_row, sampled_row, sampled_weakly_row, delay_row, await_row, filter_row, delayed_row}
+use Rattle.ccsl_kernel.specs.Table.{Now, Operand, union_row, inter_row, minus_row, inf_row, sup_row, upto_row, upto_weakly_row, sampled_row, sampled_weakly_row}
+use Rattle.ccsl_kernel.specs.Table.{delay_row, await_row, filter_row, delayed_row}
 
 abbrev pub unary_row : List BinaryWord → Unary → Operand → Now
 unary_row words (unary.Delay m) = delay_row m

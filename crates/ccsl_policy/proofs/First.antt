@@ -24,7 +24,8 @@ pub record IsFirst (n : ℕ) (words : List ℕ) (s t : Assignment) : Type 0 wher
 last-or : (n d : ℕ) → d < suc n → (d < n) ⊎ (d ≡ n)
 last-or n d l = ⊎_elim inr (λ e. let m : d < n = omega arith in inl m) (cases_eq d n)
 
-more-first : (n : ℕ) (words : List ℕ) (s t : Assignment) (f : IsFirst n words s t) → (comes_before words n f.clock ≡ true → s n ≡ t n) → IsFirst (suc n) words s t
+more-first : (n : ℕ) (words : List ℕ) (s t : Assignment) (f : IsFirst n words s t) → (comes_before words n f.clock ≡ true → s n ≡ t n)
+    → IsFirst (suc n) words s t
 more-first n words s t f h = record {
   clock = f.clock;
   below = omega (arith, f.below);
@@ -72,8 +73,8 @@ first-or-same (suc n) words s t =
     (first-or-same n words s t)
 
 -- an admissible set that has the preferred value at the first clock at which it differs from the chosen one
-not-preferred : (scope : Scope) (fs : List Formula) (policy : Policy) (words s : List ℕ) (t : Assignment) → IsChosen scope fs policy words s → Solves scope fs t →
-    (f : IsFirst scope.declared words t (in_set s)) → t f.clock ≡ preferred policy (word_of words f.clock) → ⊥
+not-preferred : (scope : Scope) (fs : List Formula) (policy : Policy) (words s : List ℕ) (t : Assignment) → IsChosen scope fs policy words s → Solves scope fs t
+    → (f : IsFirst scope.declared words t (in_set s)) → t f.clock ≡ preferred policy (word_of words f.clock) → ⊥
 not-preferred scope fs policy words s t h g f p =
     h.best t g (record { clock = f.clock; declared = f.below; differ = f.differ; preferred = p; before = f.before })
 

@@ -39,7 +39,8 @@ before-trans words a b c h g =
     is-before words a c
     (⊎_elim
     (λ l. ⊎_elim (λ m. let r : u < w = omega (arith, l, m) in inl r) (λ p. let r : u < w = omega (arith, l, p.0) in inl r) (before-is words b c g))
-    (λ p. ⊎_elim (λ m. let r : u < w = omega (arith, p.0, m) in inl r) (λ q. let r : a < c = omega (arith, p.1, q.1) in inr (p.0 ∙ q.0, r)) (before-is words b c g))
+    (λ p. ⊎_elim (λ m. let r : u < w = omega (arith, p.0, m) in inl r) (λ q. let r : a < c =
+    omega (arith, p.1, q.1) in inr (p.0 ∙ q.0, r)) (before-is words b c g))
     (before-is words a b h))
 
 pub before-other : (words : List ℕ) (a : ℕ) → comes_before words a a ≡ false

@@ -1,5 +1,6 @@
 -- Wishes in the order of priority.
-use Rattle.std.proofs.Common.{◌≡◌, ◌⊎◌, ℕ, zero, suc, ◌<◌, ◌≤◌, List, [], ◌∷◌, ◌++◌, length, map, get_or, slice_get, Bool, true, false, not, cond, Some, nat_lt, nat_eq, refl, sym, ap, ◌∙◌, ⊎_elim, inl, inr, subst, arith}
+use Rattle.std.proofs.Common.{◌≡◌, ◌⊎◌, ℕ, zero, suc, ◌<◌, ◌≤◌, List, [], ◌∷◌, ◌++◌, length, map, get_or, slice_get, Bool, true, false, not, cond, Some, nat_lt}
+use Rattle.std.proofs.Common.{nat_eq, refl, sym, ap, ◌∙◌, ⊎_elim, inl, inr, subst, arith}
 use Rattle.std.specs.List.{All, Contains}
 use Rattle.std.specs.Ordering.{nat_cmp, ordering_then, is_lt}
 use Rattle.std.specs.Cmp.{IsStrictWeakOrder, nat_cmp_total, then_total, on_total}
@@ -132,7 +133,8 @@ better-wished policy words m ranks s t n r b =
     (not-less target e far))
 
 -- the wishes are for named clocks
-pub wishes-below : (n : ℕ) (policy : Policy) (words : List ℕ) (ranks : List (ℕ × ℕ)) → length words ≤ n → All (IsRank words) ranks → AreBelow n (map (wish policy) ranks)
+pub wishes-below : (n : ℕ) (policy : Policy) (words : List ℕ) (ranks : List (ℕ × ℕ)) → length words ≤ n → All (IsRank words) ranks
+    → AreBelow n (map (wish policy) ranks)
 wishes-below n policy words [] l a = tt
 wishes-below n policy words (r ∷ ranks) l a =
     (omega (arith, (All-head (IsRank words) r ranks a).1), wishes-below n policy words ranks l (All-tail (IsRank words) r ranks a))

@@ -1,5 +1,6 @@
 -- The allowed clocks: after a run they are the declared clocks that sets have which solve the items' formulas.
-use Rattle.std.proofs.Common.{⊎_elim, inl, inr, ◌≡◌, ℕ, zero, suc, ◌+◌, ◌<◌, List, [], ◌∷◌, ◌++◌, length, map, All, Bool, true, false, filter, if◌then◌else◌, refl, sym, ap, ◌∙◌, arith, append-nil}
+use Rattle.std.proofs.Common.{⊎_elim, inl, inr, ◌≡◌, ℕ, zero, suc, ◌+◌, ◌<◌, List, [], ◌∷◌, ◌++◌, length, map, All, Bool, true, false, filter, if◌then◌else◌}
+use Rattle.std.proofs.Common.{refl, sym, ap, ◌∙◌, arith, append-nil}
 use Rattle.std.specs.Cmp.{both_ways}
 use Rattle.std.specs.List.{list_any}
 use Rattle.std.proofs.lemmas.Bool.{and_parts, and_from, or_cases, or_left, or_right, le-ltb}
@@ -74,7 +75,8 @@ below-filter p (suc n) s a h =
     one false = sym (append-nil (below n s))
 
 -- the solver may be asked about the items' formulas
-pub asked : (K : System) → IsAccepted K → (formulas : List Boxed) → All (ReadsBelow (length K.names)) (map plain formulas) → length formulas ≡ item_count K → CanBeAsked (scope_of K) formulas
+pub asked : (K : System) → IsAccepted K → (formulas : List Boxed) → All (ReadsBelow (length K.names)) (map plain formulas) → length formulas ≡ item_count K
+    → CanBeAsked (scope_of K) formulas
 asked K ok formulas reads count = record {
   declared = omega (arith, ok.declared, ok.written);
   named = ok.few_clocks;
@@ -109,7 +111,8 @@ module _ (K : System) (ok : IsAccepted K) (T : List Step) (r : IsNamedRun K T) w
       ticks-allowed K T x (declared_part K m.0) (solution_admissible K ok T r m.0 u) (ticks_in-below K.declared x m.0 low ∙ m.1.member)
 
   -- THE DECLARED CLOCKS THAT MAY TICK by the items' formulas are the allowed ones
-  pub those-allowed : (clocks : Step) → is_ascending clocks ≡ true → AreThoseBelow (scope_of K) (item_formulas K T) K.declared clocks → clocks ≡ allowed_clocks K T
+  pub those-allowed : (clocks : Step) → is_ascending clocks ≡ true → AreThoseBelow (scope_of K) (item_formulas K T) K.declared clocks
+      → clocks ≡ allowed_clocks K T
   those-allowed clocks a h =
       sym (below-all K.declared clocks (below-members K.declared clocks h.below))
       ∙ below-filter (is_allowed K T) K.declared clocks a

@@ -1,5 +1,6 @@
 -- The canonical text is cut into the pieces of its tokens and the white space between them.
-use Rattle.std.proofs.Common.{◌≡◌, ℕ, ◌+◌, ◌<◌, Bool, true, false, ◌||◌, List, [], ◌∷◌, ◌++◌, length, map, Option, refl, sym, ap, subst, ◌∙◌, arith, append_assoc}
+use Rattle.std.proofs.Common.{◌≡◌, ℕ, ◌+◌, ◌<◌, Bool, true, false, ◌||◌, List, [], ◌∷◌, ◌++◌, length, map, Option, refl, sym, ap, subst, ◌∙◌, arith}
+use Rattle.std.proofs.Common.{append_assoc}
 use Rattle.std.specs.Prelude.{if◌then◌else◌}
 use Rattle.std.specs.List.{list_all, flat_map}
 use Rattle.std.proofs.lemmas.List.Folds.{list_all-append}
@@ -47,7 +48,8 @@ laid_bytes [] = refl
 laid_bytes (t ∷ []) = written_is t ∙ sym (append-nil (text_of (piece_of t)))
 laid_bytes (t ∷ u ∷ ts) = by_gap (touches t u) (laid_bytes (u ∷ ts))
   where
-    by_gap : (b : Bool) → laid (u ∷ ts) ≡ bytes_of (pieces_of (u ∷ ts)) → written t ++ ((if b then [] else (32 ∷ [])) ++ laid (u ∷ ts)) ≡ bytes_of (piece_of t ∷ (gap b ++ pieces_of (u ∷ ts)))
+    by_gap : (b : Bool) → laid (u ∷ ts) ≡ bytes_of (pieces_of (u ∷ ts))
+        → written t ++ ((if b then [] else (32 ∷ [])) ++ laid (u ∷ ts)) ≡ bytes_of (piece_of t ∷ (gap b ++ pieces_of (u ∷ ts)))
     by_gap true e = ap (λ z. z ++ laid (u ∷ ts)) (written_is t) ∙ ap (λ z. text_of (piece_of t) ++ z) e
     by_gap false e = ap (λ z. z ++ (32 ∷ laid (u ∷ ts))) (written_is t) ∙ ap (λ z. text_of (piece_of t) ++ 32 ∷ z) e
 
@@ -59,7 +61,8 @@ line_bytes ts ps bs e =
     ∙ ap (λ z. bytes_of (pieces_of ts) ++ 10 ∷ z) e
     ∙ sym (flat_map-append text_of (pieces_of ts) (blank 10 ∷ ps))
 
-indented_bytes : (b : Bool) (xs bs : List ℕ) (ps : List Piece) → xs ++ bs ≡ bytes_of ps → ((if b then (32 ∷ 32 ∷ []) else []) ++ xs) ++ bs ≡ bytes_of (indented b ps)
+indented_bytes : (b : Bool) (xs bs : List ℕ) (ps : List Piece) → xs ++ bs ≡ bytes_of ps
+    → ((if b then (32 ∷ 32 ∷ []) else []) ++ xs) ++ bs ≡ bytes_of (indented b ps)
 indented_bytes true xs bs ps e = ap (λ z. 32 ∷ 32 ∷ z) e
 indented_bytes false xs bs ps e = e
 
@@ -81,7 +84,8 @@ pub record Fine (ps : List Piece) (ts : List Terminal) : Type 0 where
   pub read : (at : ℕ) → reads at ps ≡ bares ts
 
 -- a piece behind which none of its bytes stands
-first_fine : (t : Terminal) (ps : List Piece) (ts : List Terminal) → ReadsAs t → starts (goes_on (piece_of t)) (bytes_of ps ++ []) ≡ false → Fine ps ts → Fine (piece_of t ∷ ps) (t ∷ ts)
+first_fine : (t : Terminal) (ps : List Piece) (ts : List Terminal) → ReadsAs t → starts (goes_on (piece_of t)) (bytes_of ps ++ []) ≡ false → Fine ps ts
+    → Fine (piece_of t ∷ ps) (t ∷ ts)
 first_fine t ps ts r h f = record {
   cut = (record { is = r.piece; longest = h }, f.cut);
   fit = and_from (fits (piece_of t)) (list_all fits ps) r.fit f.fit;
@@ -141,21 +145,24 @@ apart (number i m) (quoted at bytes) z h k = absurd cc
 -- the bytes of a line's tokens, and of more, begin with those of its first token
 begins : (u : Terminal) (ts : List Terminal) (more : List Piece) → (z : List ℕ) × (bytes_of (pieces_of (u ∷ ts) ++ more) ++ [] ≡ text_of (piece_of u) ++ z)
 begins u [] more = (bytes_of more ++ [], append_assoc (text_of (piece_of u)) (bytes_of more) [])
-begins u (v ∷ ts) more = let behind = bytes_of ((gap (touches u v) ++ pieces_of (v ∷ ts)) ++ more) in (behind ++ [], append_assoc (text_of (piece_of u)) behind [])
+begins u (v ∷ ts) more = let behind =
+    bytes_of ((gap (touches u v) ++ pieces_of (v ∷ ts)) ++ more) in (behind ++ [], append_assoc (text_of (piece_of u)) behind [])
 
 next_fine : (t u : Terminal) (ps : List Piece) (ts : List Terminal) (b : Bool) → touches t u ≡ b → ReadsAs t → is_kept u ≡ true
     → ((z : List ℕ) × (bytes_of ps ++ [] ≡ text_of (piece_of u) ++ z)) → Fine ps ts → Fine (piece_of t ∷ (gap b ++ ps)) (t ∷ ts)
 next_fine t u ps ts true e r k begin f = first_fine t ps ts r (ap (starts (goes_on (piece_of t))) begin.1 ∙ apart t u begin.0 e k) f
 next_fine t u ps ts false e r k begin f = first_fine t (blank 32 ∷ ps) ts r (ends t (32 ∷ (bytes_of ps ++ [])) refl) (blank_fine 32 ps ts refl (omega arith) f)
 
-laid_fine : (ts : List Terminal) (more : List Piece) (back : List Terminal) → list_all is_kept ts ≡ true → starts is_inner (bytes_of more ++ []) ≡ false → Fine more back → Fine (pieces_of ts ++ more) (ts ++ back)
+laid_fine : (ts : List Terminal) (more : List Piece) (back : List Terminal) → list_all is_kept ts ≡ true → starts is_inner (bytes_of more ++ []) ≡ false
+    → Fine more back → Fine (pieces_of ts ++ more) (ts ++ back)
 laid_fine [] more back k h f = f
 laid_fine (t ∷ []) more back k h f = first_fine t more back (reads_as t (and_parts (is_kept t) true k).0) (ends t (bytes_of more ++ []) h) f
 laid_fine (t ∷ u ∷ ts) more back k h f =
     let p = and_parts (is_kept t) (list_all is_kept (u ∷ ts)) k in
     let q = and_parts (is_kept u) (list_all is_kept ts) p.1 in
     let fine : Fine (piece_of t ∷ (gap (touches t u) ++ (pieces_of (u ∷ ts) ++ more))) (t ∷ ((u ∷ ts) ++ back)) =
-    next_fine t u (pieces_of (u ∷ ts) ++ more) ((u ∷ ts) ++ back) (touches t u) refl (reads_as t p.0) q.0 (begins u ts more) (laid_fine (u ∷ ts) more back p.1 h f) in
+    next_fine t u (pieces_of (u ∷ ts) ++ more) ((u ∷ ts) ++ back) (touches t u) refl (reads_as t p.0) q.0 (begins u ts more)
+    (laid_fine (u ∷ ts) more back p.1 h f) in
     subst (λ (z : List Piece). Fine (piece_of t ∷ z) (t ∷ ((u ∷ ts) ++ back))) (sym (append_assoc (gap (touches t u)) (pieces_of (u ∷ ts)) more)) fine
 
 abbrev pub tokens_in : List TextLine → List Terminal

@@ -20,7 +20,8 @@ laid_behind : (t : Terminal) (ts : List Terminal) → laid (t ∷ ts) ≡ writte
 laid_behind t [] = sym (append-nil (written t))
 laid_behind t (u ∷ ts) = by_gap (touches t u) (laid_behind u ts)
   where
-    by_gap : (b : Bool) → laid (u ∷ ts) ≡ written u ++ behind u ts → written t ++ ((if b then [] else (32 ∷ [])) ++ laid (u ∷ ts)) ≡ written t ++ (blank_if (not b) ++ (written u ++ behind u ts))
+    by_gap : (b : Bool) → laid (u ∷ ts) ≡ written u ++ behind u ts
+        → written t ++ ((if b then [] else (32 ∷ [])) ++ laid (u ∷ ts)) ≡ written t ++ (blank_if (not b) ++ (written u ++ behind u ts))
     by_gap true e = ap (λ z. written t ++ z) e
     by_gap false e = ap (λ z. written t ++ 32 ∷ z) e
 
@@ -32,7 +33,8 @@ or_all false = refl
 symbol_gap : (b : ℕ) (u : Terminal) → is_parted_from (edge_of (symbol b)) u ≡ not (touches (symbol b) u)
 symbol_gap b u = by_bracket (nat_eq b 40) u
   where
-    by_bracket : (t : Bool) (u : Terminal) → is_parted_from (if t then Opening else Other) u ≡ not ((is_symbol 44 u || is_symbol 59 u || is_symbol 41 u) || (t || (false && is_symbol 40 u)))
+    by_bracket : (t : Bool) (u : Terminal)
+        → is_parted_from (if t then Opening else Other) u ≡ not ((is_symbol 44 u || is_symbol 59 u || is_symbol 41 u) || (t || (false && is_symbol 40 u)))
     by_bracket true (symbol c) = sym (or_all (nat_eq c 44 || nat_eq c 59 || nat_eq c 41))
     by_bracket true (word w) = refl
     by_bracket true (name x) = refl

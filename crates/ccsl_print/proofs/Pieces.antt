@@ -1,5 +1,6 @@
 -- Each token that a kept file may have is written as one piece, within the limits, that is read as this token.
-use Rattle.std.proofs.Common.{◌≡◌, ℕ, ◌<◌, ◌^◌, Bool, true, false, ◌&&◌, ◌||◌, not, List, [], ◌∷◌, ◌++◌, length, Option, Some, None, refl, sym, ap, ◌∙◌, arith, leb, ◌≤◌}
+use Rattle.std.proofs.Common.{◌≡◌, ℕ, ◌<◌, ◌^◌, Bool, true, false, ◌&&◌, ◌||◌, not, List, [], ◌∷◌, ◌++◌, length, Option, Some, None, refl, sym, ap, ◌∙◌, arith}
+use Rattle.std.proofs.Common.{leb, ◌≤◌}
 use Rattle.std.specs.Prelude.{nat_eq, codes}
 use Rattle.std.specs.List.{list_all, list_any}
 use Rattle.std.specs.Str.{IsAscii}
@@ -76,20 +77,24 @@ digit_small b h = let q = leb-true b 57 (and_parts (leb 48 b) (leb b 57) h).1 in
 letter_small : (b : ℕ) → is_letter b ≡ true → b < 128
 letter_small b h =
     or_parts ((leb 65 b && leb b 90) || (leb 97 b && leb b 122)) (nat_eq b 95)
-    (or_parts (leb 65 b && leb b 90) (leb 97 b && leb b 122) (λ i. let q = leb-true b 90 (and_parts (leb 65 b) (leb b 90) i).1 in omega arith) (λ i. let q = leb-true b 122 (and_parts (leb 97 b) (leb b 122) i).1 in omega arith))
+    (or_parts (leb 65 b && leb b 90) (leb 97 b && leb b 122) (λ i. let q = leb-true b 90 (and_parts (leb 65 b) (leb b 90) i).1 in omega arith) (λ i. let q =
+    leb-true b 122 (and_parts (leb 97 b) (leb b 122) i).1 in omega arith))
     (λ i. let q = eqb-true b 95 i in omega arith) h
 
 inner_small : (b : ℕ) → is_inner b ≡ true → b < 128
 inner_small b h = or_parts (is_letter b) (is_digit b) (letter_small b) (digit_small b) h
 
 quotable_small : (b : ℕ) → is_quotable b ≡ true → b < 128
-quotable_small b h = let q = leb-true b 126 (and_parts (leb b 126) (not (nat_eq b 34)) (and_parts (leb 32 b) (leb b 126 && not (nat_eq b 34)) h).1).0 in omega arith
+quotable_small b h = let q =
+    leb-true b 126 (and_parts (leb b 126) (not (nat_eq b 34)) (and_parts (leb 32 b) (leb b 126 && not (nat_eq b 34)) h).1).0 in omega arith
 
 -- ---- words and names
 
 word_piece : (bytes : List ℕ) → spells_word bytes ≡ true → (starts is_letter bytes && list_all is_inner bytes) ≡ true
 word_piece [] h = absurd cc
-word_piece (b ∷ bs) h = let p = and_parts (is_letter b) (list_all is_inner bs) h in and_from (is_letter b) (is_inner b && list_all is_inner bs) p.0 (and_from (is_inner b) (list_all is_inner bs) (letter_inner b p.0) p.1)
+word_piece (b ∷ bs) h = let p =
+    and_parts (is_letter b) (list_all is_inner bs) h in
+    and_from (is_letter b) (is_inner b && list_all is_inner bs) p.0 (and_from (is_inner b) (list_all is_inner bs) (letter_inner b p.0) p.1)
 
 word_ascii : (bytes : List ℕ) → spells_word bytes ≡ true → IsAscii bytes
 word_ascii bytes h = ascii_from is_inner inner_small bytes (and_parts (starts is_letter bytes) (list_all is_inner bytes) (word_piece bytes h)).1
@@ -142,25 +147,44 @@ unreserved bytes h = by_read (reserved bytes) refl
     by_read : (o : Option Reserved) → reserved bytes ≡ o → reserved bytes ≡ None
     by_read None e = e
     by_read (Some v) e =
-        let p : is_reserved bytes ≡ true = ap is_reserved (reserved_spells bytes v e) ∙ (and_parts (spells_word (spelling v) && leb (length (spelling v)) MAX_NAME_BYTES) (is_reserved (spelling v)) (fine v)).1 in
+        let p : is_reserved bytes ≡ true =
+        ap is_reserved (reserved_spells bytes v e)
+        ∙ (and_parts (spells_word (spelling v) && leb (length (spelling v)) MAX_NAME_BYTES) (is_reserved (spelling v)) (fine v)).1 in
         absurd (let q : false ≡ true = sym (ap not p) ∙ h in cc)
 
 word_reads : (v : Reserved) → ReadsAs (word v)
 word_reads v =
     let p = and_parts (spells_word (spelling v) && leb (length (spelling v)) MAX_NAME_BYTES) (is_reserved (spelling v)) (fine v) in
     let q = and_parts (spells_word (spelling v)) (leb (length (spelling v)) MAX_NAME_BYTES) p.0 in
-    record { piece = word_piece (spelling v) q.0; fit = q.1; ascii = word_ascii (spelling v) q.0; kind = kind.Word v; kind_is = ap (λ o. Some (name_or_word (spelling v) o)) (words_read_back v); same = λ at. refl }
+    record {
+      piece = word_piece (spelling v) q.0;
+      fit = q.1;
+      ascii = word_ascii (spelling v) q.0;
+      kind = kind.Word v;
+      kind_is =
+          ap (λ o. Some (name_or_word (spelling v) o)) (words_read_back v);
+      same = λ at. refl;
+    }
 
 name_reads : (x : Spot) → spot_kept x ≡ true → ReadsAs (name x)
 name_reads x h =
     let p = and_parts (spells_word x.name && leb (length x.name) MAX_NAME_BYTES) (not (is_reserved x.name)) h in
     let q = and_parts (spells_word x.name) (leb (length x.name) MAX_NAME_BYTES) p.0 in
-    record { piece = word_piece x.name q.0; fit = q.1; ascii = word_ascii x.name q.0; kind = kind.Name x.name; kind_is = ap (λ o. Some (name_or_word x.name o)) (unreserved x.name p.1); same = λ at. refl }
+    record {
+      piece = word_piece x.name q.0;
+      fit = q.1;
+      ascii = word_ascii x.name q.0;
+      kind = kind.Name x.name;
+      kind_is =
+          ap (λ o. Some (name_or_word x.name o)) (unreserved x.name p.1);
+      same = λ at. refl;
+    }
 
 -- ---- numbers
 
 own : IsNumeralModel (λ ds. list_all is_digit ds ≡ true) (value_behind 0)
-own = numerals_by_fold (λ ds. list_all is_digit ds ≡ true) (record { empty = refl; parts = parts; more = more }) value_behind (record { empty = λ n. refl; more = λ n c cs h. refl })
+own = numerals_by_fold (λ ds. list_all is_digit ds ≡ true) (record { empty = refl; parts = parts; more = more }) value_behind
+    (record { empty = λ n. refl; more = λ n c cs h. refl })
   where
     parts : (c : ℕ) (cs : List ℕ) → list_all is_digit (c ∷ cs) ≡ true → IsInRange 48 57 c × (list_all is_digit cs ≡ true)
     parts c cs h =
@@ -214,13 +238,22 @@ pub mark_read : (b : ℕ) → is_grammar_mark b ≡ true → is_mark b ≡ true
 mark_read b h = each_passes is_mark (40 ∷ 41 ∷ 43 ∷ 44 ∷ 45 ∷ 59 ∷ 60 ∷ 61 ∷ 123 ∷ 125 ∷ []) b refl h
 
 symbol_reads : (b : ℕ) → is_mark b ≡ true → ReadsAs (symbol b)
-symbol_reads b h = record { piece = h; fit = refl; ascii = IsAscii-cons b [] (mark_small b h) IsAscii-nil; kind = kind.Symbol b; kind_is = refl; same = λ at. refl }
+symbol_reads b h = record {
+  piece = h;
+  fit = refl;
+  ascii = IsAscii-cons b [] (mark_small b h) IsAscii-nil;
+  kind = kind.Symbol b;
+  kind_is = refl;
+  same =
+      λ at. refl;
+}
 
 quoted_reads : (at : ℕ) (bytes : List ℕ) → text_kept bytes ≡ true → ReadsAs (quoted at bytes)
 quoted_reads at bytes h = record {
   piece = h;
   fit = refl;
-  ascii = IsAscii-cons 34 (bytes ++ 34 ∷ []) (omega arith) (IsAscii-append bytes (34 ∷ []) (ascii_from is_quotable quotable_small bytes h) (IsAscii-cons 34 [] (omega arith) IsAscii-nil));
+  ascii = IsAscii-cons 34 (bytes ++ 34 ∷ []) (omega arith)
+      (IsAscii-append bytes (34 ∷ []) (ascii_from is_quotable quotable_small bytes h) (IsAscii-cons 34 [] (omega arith) IsAscii-nil));
   kind = kind.Quoted bytes;
   kind_is = refl;
   same = λ at. refl;

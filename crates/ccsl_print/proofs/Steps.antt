@@ -38,14 +38,17 @@ pub without_parens : (e : Expression) (ts : List Terminal) → stands_in_parens 
 without_parens e ts h = rw h refl
 
 -- a line for each, and the closing brace
-lined : {A B : Type 0} (tokens : B → List Terminal) (plain : A → B) (xs : List A) → flat_map (λ x. inner (tokens (plain x)) ∷ []) xs ++ outer (right_brace ∷ []) ∷ [] ≡ body_lines tokens (map plain xs)
+lined : {A B : Type 0} (tokens : B → List Terminal) (plain : A → B) (xs : List A)
+    → flat_map (λ x. inner (tokens (plain x)) ∷ []) xs ++ outer (right_brace ∷ []) ∷ [] ≡ body_lines tokens (map plain xs)
 lined tokens plain [] = refl
 lined tokens plain (x ∷ xs) = ap (λ z. inner (tokens (plain x)) ∷ z) (lined tokens plain xs)
 
-pub rlines_lined : (ls : List RelationLine) → flat_map (λ l. inner (rline_tokens (plain_line l)) ∷ []) ls ++ outer (right_brace ∷ []) ∷ [] ≡ body_lines rline_tokens (map plain_line ls)
+pub rlines_lined : (ls : List RelationLine)
+    → flat_map (λ l. inner (rline_tokens (plain_line l)) ∷ []) ls ++ outer (right_brace ∷ []) ∷ [] ≡ body_lines rline_tokens (map plain_line ls)
 rlines_lined = lined rline_tokens plain_line
 
-pub slines_lined : (ls : List SystemLine) → flat_map (λ l. inner (sline_tokens (plain_sline l)) ∷ []) ls ++ outer (right_brace ∷ []) ∷ [] ≡ body_lines sline_tokens (map plain_sline ls)
+pub slines_lined : (ls : List SystemLine)
+    → flat_map (λ l. inner (sline_tokens (plain_sline l)) ∷ []) ls ++ outer (right_brace ∷ []) ∷ [] ≡ body_lines sline_tokens (map plain_sline ls)
 slines_lined = lined sline_tokens plain_sline
 
 pub defined : (ds : List Definition) → flat_map (λ d. definition_lines (plain_definition d)) ds ≡ flat_map definition_lines (map plain_definition ds)

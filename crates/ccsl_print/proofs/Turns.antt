@@ -14,7 +14,8 @@ use Rattle.ccsl_print.specs.Pages.{PlainPage, after, lines_after}
 use Rattle.ccsl_print.proofs.Steps.{after_append, lines_append}
 
 -- what one more has stands behind what those before it have
-more : {A B : Type 0} (f : A → List B) (xs : List A) (i : ℕ) (x : A) → i < length xs → x ≡ get_or xs i x → flat_map f (take (i + 1) xs) ≡ flat_map f (take i xs) ++ f x
+more : {A B : Type 0} (f : A → List B) (xs : List A) (i : ℕ) (x : A) → i < length xs → x ≡ get_or xs i x
+    → flat_map f (take (i + 1) xs) ≡ flat_map f (take i xs) ++ f x
 more f xs i x h e =
     ap (flat_map f) (take_more xs i x h)
     ∙ flat_map-append f (take i xs) (get_or xs i x ∷ [])
@@ -45,7 +46,8 @@ led f p q xs x h e first =
     ∙ ap (λ z. after z rest) (ap (λ y. after p (f y)) (sym e) ∙ sym first)
 
 pub led_members : (p q : PlainPage) (xs : List Member) (x : Member) → 0 < length xs → x ≡ get_or xs 0 x
-    → q ≡ after p (member_tokens (plain_member x)) → after p (members_tokens (map plain_member xs)) ≡ after q (flat_map further_tokens (map plain_member (between 1 (length xs) xs)))
+    → q ≡ after p (member_tokens (plain_member x))
+    → after p (members_tokens (map plain_member xs)) ≡ after q (flat_map further_tokens (map plain_member (between 1 (length xs) xs)))
 led_members p q xs x h e first =
     let rest = flat_map further_tokens (map plain_member (between 1 (length xs) xs)) in
     ap (λ z. after p (members_tokens (map plain_member z))) (first_rest xs x h)

@@ -40,12 +40,14 @@ below-snoc m d lines e b a = record {
   below = λ i x g. ⊎_elim (λ h. b.below i x h) (λ q. subst (λ (z : Line). AreBelow m (clause d z)) (sym q) a) (snoc-get lines e x i g);
 }
 
-line-below : (scope : Scope) (fs : List Formula) (earlier : List Line) (line : Line) → is_valid scope fs earlier line ≡ true → AreBelow scope.named (literals line)
+line-below : (scope : Scope) (fs : List Formula) (earlier : List Line) (line : Line) → is_valid scope fs earlier line ≡ true
+    → AreBelow scope.named (literals line)
 line-below scope fs earlier Nonempty h = tt
 line-below scope fs earlier (Item item lits) h = proper-below scope.named scope.named lits (omega arith) (and_parts (are_proper scope.named lits) _ h).0
 line-below scope fs earlier (Derived lits hints) h = proper-below scope.named scope.named lits (omega arith) (and_parts (are_proper scope.named lits) _ h).0
 
-pub lines-below : (scope : Scope) (fs : List Formula) (earlier lines : List Line) → valid_from scope fs earlier lines ≡ true → All (λ line. AreBelow scope.named (literals line)) lines
+pub lines-below : (scope : Scope) (fs : List Formula) (earlier lines : List Line) → valid_from scope fs earlier lines ≡ true
+    → All (λ line. AreBelow scope.named (literals line)) lines
 lines-below scope fs earlier [] v k d l = absurd (omega arith)
 lines-below scope fs earlier (line ∷ lines) v zero d l = line-below scope fs earlier line (and_parts (is_valid scope fs earlier line) _ v).0
 lines-below scope fs earlier (line ∷ lines) v (suc k) d l =

@@ -1,5 +1,6 @@
 -- Clauses that close, from the first hint on.
-use Rattle.std.proofs.Common.{◌≡◌, ℕ, zero, suc, ◌<◌, ◌≤◌, List, [], ◌∷◌, length, drop, get_or, true, false, cond, Some, None, refl, ap, ◌∙◌, subst, arith, slice_get, length-drop}
+use Rattle.std.proofs.Common.{◌≡◌, ℕ, zero, suc, ◌<◌, ◌≤◌, List, [], ◌∷◌, length, drop, get_or, true, false, cond, Some, None, refl, ap, ◌∙◌, subst, arith}
+use Rattle.std.proofs.Common.{slice_get, length-drop}
 use Rattle.ccsl_formula.specs.declared.truth3.Truth3.TheVariants.{Yes, No, Open}
 use Rattle.ccsl_formula.specs.Truth.{Part, with_value}
 use Rattle.ccsl_refute.specs.declared.line.Lit.{Lit}

@@ -1,6 +1,7 @@
 -- A certificate by splitting on one clock after the other: the line of a full assignment is that of a formula that is false under it,
 -- or of the clause that a declared clock ticks, and the line of a lesser one follows from those of the two that know one clock more.
-use Rattle.std.proofs.Common.{◌≡◌, ◌⊎◌, ℕ, zero, suc, ◌<◌, ◌≤◌, List, [], ◌∷◌, ◌++◌, length, Bool, true, false, not, ◌&&◌, ◌||◌, cond, Option, Some, None, refl, sym, ap, ap₂, ◌∙◌, ⊎_elim, inl, inr, subst, arith, slice_get, append_assoc, append-nil, nat_eq, nat_lt}
+use Rattle.std.proofs.Common.{◌≡◌, ◌⊎◌, ℕ, zero, suc, ◌<◌, ◌≤◌, List, [], ◌∷◌, ◌++◌, length, Bool, true, false, not, ◌&&◌, ◌||◌, cond, Option, Some, None, refl}
+use Rattle.std.proofs.Common.{sym, ap, ap₂, ◌∙◌, ⊎_elim, inl, inr, subst, arith, slice_get, append_assoc, append-nil, nat_eq, nat_lt}
 use Rattle.std.specs.List.{All}
 use Rattle.std.proofs.lemmas.Bool.{cases_eq, and_parts, and_from, eq-eqb, ne_eqb, lt-ltb, or_parts}
 use Rattle.std.proofs.lemmas.List.Elements.{All-head, All-tail}
@@ -115,9 +116,11 @@ covers-more : (n m : ℕ) (lits : List Lit) (b : Bool) → m < n → Covers n (s
 covers-more n m lits b l c =
     let alone = c.unnamed m (omega arith) in
     record {
-      proper = and_from (nat_lt m n) (not (names m lits) && are_proper n lits) (lt-ltb m n l) (and_from (not (names m lits)) (are_proper n lits) (ap not alone) c.proper);
+      proper = and_from (nat_lt m n) (not (names m lits) && are_proper n lits) (lt-ltb m n l)
+          (and_from (not (names m lits)) (are_proper n lits) (ap not alone) c.proper);
       unnamed = λ x k. ap₂ (λ s r. s || r) (ne_eqb x m (λ e. omega (arith, e, k))) (c.unnamed x (omega (arith, k)));
-      falsify = and_from (is_no (lit_value (with_value (falsified lits) m (not b)) (record { clock = m; positive = b }))) (all_false (with_value (falsified lits) m (not b)) lits)
+      falsify = and_from (is_no (lit_value (with_value (falsified lits) m (not b)) (record { clock = m; positive = b })))
+          (all_false (with_value (falsified lits) m (not b)) lits)
           (false-here (falsified lits) m b) (others-false (falsified lits) m (not b) lits alone ∙ c.falsify);
       known = λ x a k. ⊎_elim
           (λ e. ap (λ t. is_open (cond t (known_as (not b)) (falsified lits x))) (eq-eqb x m e) ∙ never-open (not b))
@@ -205,12 +208,14 @@ module _ (scope : Scope) (fs : List Formula) (low : scope.declared ≤ scope.nam
     by-formula x l t =
         let q = false-one fs (in_set set) (λ all. none set ascends is-below (record { member = (x, l, t); all = all })) in
         let no : kleene q.one (falsified lits) ≡ No =
-        kleene-known q.one (falsified lits) (in_set set) (λ y r. is-known y (reads-named scope.named fs q.place q.one below q.stands y r)) ∙ ap known_as q.fails in
+        kleene-known q.one (falsified lits) (in_set set) (λ y r. is-known y (reads-named scope.named fs q.place q.one below q.stands y r))
+        ∙ ap known_as q.fails in
         record {
           more = [];
           last = Item q.place lits;
           valid = one-valid scope fs (Nonempty ∷ rest) (Item q.place lits)
-              (and_from (are_proper scope.named lits) (is_refuted (falsified lits) (slice_get fs q.place)) c.proper (ap (is_refuted (falsified lits)) q.stands ∙ ap is_no no));
+              (and_from (are_proper scope.named lits) (is_refuted (falsified lits) (slice_get fs q.place)) c.proper
+              (ap (is_refuted (falsified lits)) q.stands ∙ ap is_no no));
           gives = refl;
         }
 
@@ -267,12 +272,16 @@ module _ (scope : Scope) (fs : List Formula) (low : scope.declared ≤ scope.nam
     fails-second =
         ap (fails_line scope.declared (with_value (falsified lits) m true)) at-second
         ∙ ap (all_false (with_value (falsified lits) m true)) b.gives
-        ∙ and_from (is_no (lit_value (with_value (falsified lits) m true) (record { clock = m; positive = false }))) (all_false (with_value (falsified lits) m true) lits)
+        ∙ and_from (is_no (lit_value (with_value (falsified lits) m true) (record { clock = m; positive = false })))
+        (all_false (with_value (falsified lits) m true) lits)
         (false-here (falsified lits) m false) (others-false (falsified lits) m true lits alone ∙ c.falsify)
 
     both-close : closes scope.declared lines (falsified lits) (suc first-at ∷ suc second-at ∷ []) ≡ true
     both-close =
-        ap (λ (o : Option Lit). elim o as (λ x. Bool) [ None ↦ false | Some k ↦ closes scope.declared lines (with_value (falsified lits) k.clock k.positive) (suc second-at ∷ []) ]) unit-first
+        ap (λ (o : Option Lit). elim o as (λ x. Bool) [
+          | None ↦ false
+          | Some k ↦ closes scope.declared lines (with_value (falsified lits) k.clock k.positive) (suc second-at ∷ [])
+        ]) unit-first
         ∙ fails-second
 
     split : Follow scope fs (Nonempty ∷ rest) lits
@@ -293,7 +302,8 @@ module _ (scope : Scope) (fs : List Formula) (low : scope.declared ≤ scope.nam
   derive (suc m) lits l c rest =
       let within : m < scope.named = omega (arith, l) in
       let a = derive m (record { clock = m; positive = true } ∷ lits) (omega (arith, l)) (covers-more scope.named m lits true within c) rest in
-      let b = derive m (record { clock = m; positive = false } ∷ lits) (omega (arith, l)) (covers-more scope.named m lits false within c) (rest ++ (a.more ++ a.last ∷ [])) in
+      let b = derive m (record { clock = m; positive = false } ∷ lits) (omega (arith, l)) (covers-more scope.named m lits false within c)
+      (rest ++ (a.more ++ a.last ∷ [])) in
       split m lits within c rest a b
 
   ends-empty : (xs : List Line) (e : Line) → clause scope.declared e ≡ [] → ends_empty scope.declared (xs ++ e ∷ []) ≡ true

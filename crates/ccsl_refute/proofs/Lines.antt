@@ -1,5 +1,6 @@
 -- The lines of a text, one after another.
-use Rattle.std.proofs.Common.{◌≡◌, ℕ, suc, ◌+◌, ◌<◌, ◌≤◌, List, [], ◌∷◌, ◌++◌, length, take, drop, cond, Ok, Err, refl, sym, ap, ap₂, ◌∙◌, ⊎_elim, arith, length-take}
+use Rattle.std.proofs.Common.{◌≡◌, ℕ, suc, ◌+◌, ◌<◌, ◌≤◌, List, [], ◌∷◌, ◌++◌, length, take, drop, cond, Ok, Err, refl, sym, ap, ap₂, ◌∙◌, ⊎_elim, arith}
+use Rattle.std.proofs.Common.{length-take}
 use Rattle.std.specs.declared.result.Result.{Result}
 use Rattle.std.specs.List.{slice_split, position_or_len}
 use Rattle.std.specs.Str.Lines.{strip_carriage_return}
@@ -26,7 +27,8 @@ lines-next at n xs e l =
     let first : position_or_len is_line_feed xs < length xs = omega (arith, e) in
     let rest = slice_split is_line_feed (drop (n + 1) xs) in
     let long : length (take n xs) ≡ n = omega (arith, length-take n xs) in
-    ap (λ parts. without_returns (placed at parts)) (slice_split_first is_line_feed xs 0 first ∙ ap (λ k. take k xs ∷ slice_split is_line_feed (drop (k + 1) xs)) (sym e))
+    ap (λ parts. without_returns (placed at parts)) (slice_split_first is_line_feed xs 0 first
+    ∙ ap (λ k. take k xs ∷ slice_split is_line_feed (drop (k + 1) xs)) (sym e))
     ∙ ap (λ k. without_returns ((at, take n xs) ∷ placed (suc (at + k)) rest)) long
     ∙ followed at (take n xs) (suc (at + n)) rest (omega (arith, length-slice_split is_line_feed (drop (n + 1) xs)))
 
@@ -51,7 +53,8 @@ lines-read names at n xs w e inside f =
     (cases_lt n (length xs))
 
 -- what a line alone reads as tells what it reads as before others
-line-none : (names : List (List ℕ)) (end : ℕ) (ts : List Piece) (rest : Result (List Line) CertFault) → read_line names end ts (Ok []) ≡ Ok [] → read_line names end ts rest ≡ rest
+line-none : (names : List (List ℕ)) (end : ℕ) (ts : List Piece) (rest : Result (List Line) CertFault) → read_line names end ts (Ok []) ≡ Ok []
+    → read_line names end ts rest ≡ rest
 line-none names end [] rest e = refl
 line-none names end (t ∷ ts) rest e =
     (elim (read_tokens names end t ts) as (λ r. read_more r (Ok []) ≡ Ok [] → read_more r rest ≡ rest)
@@ -96,7 +99,8 @@ module _ (names : List (List ℕ)) (text : List ℕ) (at n : ℕ) (rest w : List
   step-none e = sym (ap (put_before before) (line-none names (at + length w) (tokens at w) (later names text at n) e)) ∙ step
 
   -- and behind a line that was read
-  pub step-one : (l : Line) → read_line names (at + length w) (tokens at w) (Ok []) ≡ Ok (l ∷ []) → put_before (before ++ l ∷ []) (later names text at n) ≡ reading names text
+  pub step-one : (l : Line) → read_line names (at + length w) (tokens at w) (Ok []) ≡ Ok (l ∷ [])
+      → put_before (before ++ l ∷ []) (later names text at n) ≡ reading names text
   step-one l e = sym (line-one names (at + length w) (tokens at w) (later names text at n) before l e) ∙ step
 
   -- and a fault of the line is the first one of the text

@@ -1,5 +1,6 @@
 -- Literals of which no two name one clock, from the last one to the first.
-use Rattle.std.proofs.Common.{◌≡◌, ℕ, zero, suc, ◌<◌, ◌≤◌, List, [], ◌∷◌, length, drop, get_or, true, false, cond, not, ◌&&◌, ◌||◌, nat_eq, nat_lt, refl, sym, ap, ◌∙◌}
+use Rattle.std.proofs.Common.{◌≡◌, ℕ, zero, suc, ◌<◌, ◌≤◌, List, [], ◌∷◌, length, drop, get_or, true, false, cond, not, ◌&&◌, ◌||◌, nat_eq, nat_lt, refl, sym}
+use Rattle.std.proofs.Common.{ap, ◌∙◌}
 use Rattle.std.proofs.lemmas.Bool.{lt-ltb, le-ltb, and_right}
 use Rattle.ccsl_formula.specs.declared.truth3.Truth3.TheVariants.{Open}
 use Rattle.ccsl_formula.specs.Truth.{known_as, Part, with_value}

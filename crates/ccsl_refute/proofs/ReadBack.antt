@@ -1,5 +1,7 @@
 -- What is written reads back.
-use Rattle.std.proofs.Common.{◌≡◌, ℕ, zero, suc, ◌+◌, ◌*◌, ◌-◌, ◌<◌, ◌≤◌, ◌^◌, List, [], ◌∷◌, ◌++◌, length, map, get_or, cond, Bool, true, false, not, ◌&&◌, ◌||◌, Some, None, Ok, nat_eq, nat_lt, nat_le, codes, decimal, refl, sym, ap, ap₂, ◌∙◌, subst, slice_get, arith, append_assoc, append-nil}
+use Rattle.std.proofs.Common.{◌≡◌, ℕ, zero, suc, ◌+◌, ◌*◌, ◌-◌, ◌<◌, ◌≤◌, ◌^◌, List, [], ◌∷◌, ◌++◌, length, map, get_or, cond, Bool, true, false, not, ◌&&◌}
+use Rattle.std.proofs.Common.{◌||◌, Some, None, Ok, nat_eq, nat_lt, nat_le, codes, decimal, refl, sym, ap, ap₂, ◌∙◌, subst, slice_get, arith, append_assoc}
+use Rattle.std.proofs.Common.{append-nil}
 use Rattle.std.specs.List.{All, list_all, position_or_len, slice_split}
 use Rattle.std.specs.Str.{bytes_eq}
 use Rattle.std.specs.Char.{digit_value}
@@ -23,7 +25,8 @@ use Rattle.ccsl_refute.specs.Below.{AreBelow}
 use Rattle.ccsl_base.specs.Name.{is_visible, is_cert_name, are_cert_names}
 use Rattle.ccsl_refute.specs.NumbersFit.{AllBelow, NumbersFit}
 use Rattle.ccsl_refute.specs.Text.{placed, is_line_feed, without_returns, lines_from, tokens}
-use Rattle.ccsl_refute.specs.Reading.{literal_of, literal, read_first, read_literals, read_numbers, before_from, after_from, read_hints, item_line, derived_line, read_tokens, read_more, read_line, read_lines}
+use Rattle.ccsl_refute.specs.Reading.{literal_of, literal, read_first, read_literals, read_numbers, before_from, after_from, read_hints, item_line}
+use Rattle.ccsl_refute.specs.Reading.{derived_line, read_tokens, read_more, read_line, read_lines}
 use Rattle.ccsl_refute.specs.Writing.{spaced, name_of, literal_text, line_text, lines_text}
 use Rattle.ccsl_refute.specs.LineLiterals.{literals}
 use Rattle.ccsl_refute.proofs.Lines.{followed}
@@ -59,7 +62,8 @@ number-word n m = digits-word (decimal n) (decimal_is_IsNumeral n m).0
 
 numbers-back : (hints : List ℕ) (at : ℕ) → AllBelow (2 ^ 64) hints → read_numbers (placed at (map decimal hints)) ≡ Ok hints
 numbers-back [] at b = refl
-numbers-back (n ∷ ns) at b = ap₂ (λ o r. read_first (Syntax at) o r) (number-read (2 ^ 64 - 1) n (omega (arith, b.0)) b.0) (numbers-back ns (suc (at + length (decimal n))) b.1)
+numbers-back (n ∷ ns) at b =
+    ap₂ (λ o r. read_first (Syntax at) o r) (number-read (2 ^ 64 - 1) n (omega (arith, b.0)) b.0) (numbers-back ns (suc (at + length (decimal n))) b.1)
 
 numbers-words : (hints : List ℕ) → AllBelow (2 ^ 64) hints → are_words (map decimal hints) ≡ true
 numbers-words [] b = refl
@@ -67,7 +71,8 @@ numbers-words (n ∷ ns) b = ap₂ (λ s t. s && t) (number-word n b.0) (numbers
 
 -- a literal
 
-name-read : (names : List (List ℕ)) (x : ℕ) (name : List ℕ) → is_cert_name name ≡ true → find_name name names ≡ Some x → literal names name ≡ Some (record { clock = x; positive = true })
+name-read : (names : List (List ℕ)) (x : ℕ) (name : List ℕ) → is_cert_name name ≡ true → find_name name names ≡ Some x
+    → literal names name ≡ Some (record { clock = x; positive = true })
 name-read names x [] c e = absurd (cc)
 name-read names x (b ∷ bs) c e =
     let sign : nat_eq b 45 ≡ false =
@@ -82,7 +87,8 @@ name-word (b ∷ bs) c = (and_parts (list_all is_visible (b ∷ bs)) _ c).0
 name-other : (name : List ℕ) → is_cert_name name ≡ true → bytes_eq name (codes "from") ≡ false
 name-other [] c = refl
 name-other (b ∷ bs) c =
-    not-true (bytes_eq (b ∷ bs) (codes "from")) ((and_parts (not (nat_eq b 45)) (not (bytes_eq (b ∷ bs) (codes "from"))) ((and_parts (list_all is_visible (b ∷ bs)) _ c).1)).1)
+    not-true (bytes_eq (b ∷ bs) (codes "from"))
+    ((and_parts (not (nat_eq b 45)) (not (bytes_eq (b ∷ bs) (codes "from"))) ((and_parts (list_all is_visible (b ∷ bs)) _ c).1)).1)
 
 minus-word : (name : List ℕ) → is_word name ≡ true → is_word (45 ∷ name) ≡ true
 minus-word [] e = absurd (cc)
@@ -144,7 +150,8 @@ module _ (names : List (List ℕ)) (distinct : are_distinct names ≡ true) (pro
   literals-back (l ∷ ls) at b =
       ap₂ (λ o r. read_first (UnknownName at) o r) (literal-reads l b.0).back (literals-back ls (suc (at + length (literal_text names l))) b.1)
 
-  literals-words : (lits : List Lit) (ws : List (List ℕ)) → AreBelow (length names) lits → are_words ws ≡ true → are_words (map (literal_text names) lits ++ ws) ≡ true
+  literals-words : (lits : List Lit) (ws : List (List ℕ)) → AreBelow (length names) lits → are_words ws ≡ true
+      → are_words (map (literal_text names) lits ++ ws) ≡ true
   literals-words [] ws b e = e
   literals-words (l ∷ ls) ws b e = ap₂ (λ s t. s && t) (literal-reads l b.0).word (literals-words ls ws b.1 e)
 
@@ -179,7 +186,8 @@ module _ (names : List (List ℕ)) (distinct : are_distinct names ≡ true) (pro
       read_tokens names end (at, first_word line) (placed k (later_words names line)) ≡ Ok line
   words-back Nonempty end at k b f = refl
   words-back (Item item lits) end at k b f =
-      ap₂ (λ o r. item_line k o r) (number-read (2 ^ 32 - 1) item (omega (arith, f)) (omega (arith, f))) (literals-back lits (suc (k + length (decimal item))) b)
+      ap₂ (λ o r. item_line k o r) (number-read (2 ^ 32 - 1) item (omega (arith, f)) (omega (arith, f)))
+      (literals-back lits (suc (k + length (decimal item))) b)
   words-back (Derived lits hints) end at k b f =
       let after = after-back lits (map decimal hints) k b in
       ap₂ (λ r s. derived_line r s)
@@ -188,7 +196,8 @@ module _ (names : List (List ℕ)) (distinct : are_distinct names ≡ true) (pro
 
   -- one line, and what stands behind its line feed
   line-back : (line : Line) (at : ℕ) (rest : List ℕ) (lines : List Line) → AreBelow (length names) (literals line) → NumbersFit line →
-      ((k : ℕ) → read_lines names (lines_from k rest) ≡ Ok lines) → read_lines names (lines_from at ((line_text names line ++ 10 ∷ []) ++ rest)) ≡ Ok (line ∷ lines)
+      ((k : ℕ) → read_lines names (lines_from k rest) ≡ Ok lines)
+      → read_lines names (lines_from at ((line_text names line ++ 10 ∷ []) ++ rest)) ≡ Ok (line ∷ lines)
   line-back line at rest lines b f h =
       let w = first_word line in
       let ws = later_words names line in

@@ -1,5 +1,6 @@
 -- Valid lines hold of all values that satisfy the formulas.
-use Rattle.std.proofs.Common.{◌≡◌, ℕ, zero, suc, ◌<◌, List, [], ◌∷◌, ◌++◌, length, Bool, true, false, not, ◌&&◌, ◌||◌, cond, Some, None, refl, sym, ap, ◌∙◌, ⊎_elim, inl, inr, subst, arith, slice_get, append_assoc, append-nil}
+use Rattle.std.proofs.Common.{◌≡◌, ℕ, zero, suc, ◌<◌, List, [], ◌∷◌, ◌++◌, length, Bool, true, false, not, ◌&&◌, ◌||◌, cond, Some, None, refl, sym, ap, ◌∙◌}
+use Rattle.std.proofs.Common.{⊎_elim, inl, inr, subst, arith, slice_get, append_assoc, append-nil}
 use Rattle.std.proofs.lemmas.Bool.{cases_eq, and_parts, or_parts, cases_Bool, both_ways}
 use Rattle.std.proofs.lemmas.Bool.Decides.{eqb_tells}
 use Rattle.ccsl_formula.specs.declared.truth3.Truth3.{Truth3}
@@ -14,7 +15,8 @@ use Rattle.ccsl_refute.specs.declared.line.Lit.{Lit}
 use Rattle.ccsl_refute.specs.Literals.{falsified, is_no, lit_value, all_false, unit, are_proper, positives}
 use Rattle.ccsl_refute.specs.declared.line.Line.{Line}
 use Rattle.ccsl_refute.specs.declared.line.Line.TheVariants.{Nonempty, Item, Derived}
-use Rattle.ccsl_refute.specs.Validity.{clause, fails_at, unit_at, fails_line, unit_line, closes, is_refuted, is_valid, ends_empty, bad_from, first_bad_line, valid_from, are_valid}
+use Rattle.ccsl_refute.specs.Validity.{clause, fails_at, unit_at, fails_line, unit_line, closes, is_refuted, is_valid, ends_empty, bad_from, first_bad_line}
+use Rattle.ccsl_refute.specs.Validity.{valid_from, are_valid}
 use Rattle.ccsl_base.specs.Empty.{is_empty}
 use Rattle.ccsl_refute.specs.Meaning.{AllTrue, Solves}
 use Rattle.ccsl_refute.specs.Clauses.{holds, ClausesHold}
@@ -78,11 +80,13 @@ or-none false b e f = absurd (both_ways b f e)
 pub unit-true : (v : Assignment) (p : Part) (ls : List Lit) (l : Lit) → Agrees v p → holds v ls ≡ true → unit p ls ≡ Some l → same (v l.clock) l.positive ≡ true
 unit-true v p [] l a h u = absurd (cc)
 unit-true v p (m ∷ ls) l a h u =
-    (elim (lit_value p m) as (λ t. lit_value p m ≡ t → elim t [ Yes ↦ None | No ↦ unit p ls | Open ↦ cond (all_false p ls) (Some m) None ] ≡ Some l → same (v l.clock) l.positive ≡ true) [
+    (elim (lit_value p m) as (λ t. lit_value p m ≡ t → elim t [ Yes ↦ None | No ↦ unit p ls | Open ↦ cond (all_false p ls) (Some m) None ] ≡ Some l
+    → same (v l.clock) l.positive ≡ true) [
       | Yes ↦ λ q e. absurd (cc)
       | No ↦ λ q e. unit-true v p ls l a (sym (ap (λ b. b || holds v ls) (false-lit v p m a q)) ∙ h) e
       | Open ↦ λ q. (elim (all_false p ls) as (λ b. all_false p ls ≡ b → cond b (Some m) None ≡ Some l → same (v l.clock) l.positive ≡ true) [
-        | true ↦ λ f e. let is : m ≡ l = cc in subst (λ (k : Lit). same (v k.clock) k.positive ≡ true) is (or-none (same (v m.clock) m.positive) (holds v ls) h (all-false v p ls a f))
+        | true ↦ λ f e. let is : m ≡ l =
+            cc in subst (λ (k : Lit). same (v k.clock) k.positive ≡ true) is (or-none (same (v m.clock) m.positive) (holds v ls) h (all-false v p ls a f))
         | false ↦ λ f e. absurd (cc)
       ]) refl
     ]) refl u
@@ -114,11 +118,13 @@ unit_at-true v d lines p (suc i) l h a e =
     ]) refl e
 
 -- lines whose clauses hold do not close
-pub no-closing : (v : Assignment) (d : ℕ) (lines : List Line) (p : Part) (hints : List ℕ) → ClausesHold d lines v → Agrees v p → closes d lines p hints ≡ true → ⊥
+pub no-closing : (v : Assignment) (d : ℕ) (lines : List Line) (p : Part) (hints : List ℕ) → ClausesHold d lines v → Agrees v p → closes d lines p hints ≡ true
+    → ⊥
 no-closing v d lines p [] h a e = absurd (cc)
 no-closing v d lines p (j ∷ []) h a e = fails-false v d lines p j h a e
 no-closing v d lines p (j ∷ k ∷ js) h a e =
-    (elim (unit_at d lines p j) as (λ o. unit_at d lines p j ≡ o → elim o [ None ↦ false | Some l ↦ closes d lines (with_value p l.clock l.positive) (k ∷ js) ] ≡ true → ⊥) [
+    (elim (unit_at d lines p j) as (λ o. unit_at d lines p j ≡ o
+    → elim o [ None ↦ false | Some l ↦ closes d lines (with_value p l.clock l.positive) (k ∷ js) ] ≡ true → ⊥) [
       | None ↦ λ q f. absurd (cc)
       | Some l ↦ λ q f. no-closing v d lines (with_value p l.clock l.positive) (k ∷ js) h
           (agrees-with v p l.clock l.positive a (same-values (v l.clock) l.positive (unit_at-true v d lines p j l h a q))) f
@@ -182,7 +188,8 @@ valid-all scope fs earlier (x ∷ lines) v s h e =
     (holds-snoc scope.declared earlier x v h (valid-holds scope fs earlier x v s h ((and_parts _ _ e).0)))
     ((and_parts (is_valid scope fs earlier x) _ e).1))
 
-pub valid-clauses : (scope : Scope) (fs : List Formula) (lines : List Line) (v : Assignment) → Solves scope fs v → are_valid scope fs lines ≡ true → ClausesHold scope.declared lines v
+pub valid-clauses : (scope : Scope) (fs : List Formula) (lines : List Line) (v : Assignment) → Solves scope fs v → are_valid scope fs lines ≡ true
+    → ClausesHold scope.declared lines v
 valid-clauses scope fs lines v s e = valid-all scope fs [] lines v s (record { at = λ i x g. absurd (cc) }) e
 
 empty-false : (v : Assignment) (ls : List Lit) → holds v ls ≡ true → is_empty ls ≡ true → ⊥
@@ -200,7 +207,10 @@ pub good-lines : (scope : Scope) (fs : List Formula) (earlier lines : List Line)
 good-lines scope fs earlier [] e = (
   refl,
   rw (append-nil earlier)
-      ((elim (ends_empty scope.declared earlier) as (λ b. cond b None (Some (suc (length earlier))) ≡ None → b ≡ true) [ true ↦ λ q. refl | false ↦ λ q. absurd (cc) ]) e),
+      ((elim (ends_empty scope.declared earlier) as (λ b. cond b None (Some (suc (length earlier))) ≡ None → b ≡ true) [
+        | true ↦ λ q. refl
+        | false ↦ λ q. absurd (cc)
+      ]) e),
 )
 good-lines scope fs earlier (x ∷ lines) e =
     (elim (is_valid scope fs earlier x) as (λ b. elim b [ true ↦ bad_from scope fs (earlier ++ x ∷ []) lines | false ↦ Some (suc (length earlier)) ] ≡ None →

@@ -1,5 +1,6 @@
 -- The tokens of a line, one after another.
-use Rattle.std.proofs.Common.{◌≡◌, ℕ, suc, ◌+◌, ◌-◌, ◌<◌, ◌≤◌, List, [], ◌∷◌, length, take, drop, filter, get_or, Bool, true, false, not, cond, refl, sym, ap, ap₂, ◌∙◌, ⊎_elim, arith, add-zero, length-take, length-drop}
+use Rattle.std.proofs.Common.{◌≡◌, ℕ, suc, ◌+◌, ◌-◌, ◌<◌, ◌≤◌, List, [], ◌∷◌, length, take, drop, filter, get_or, Bool, true, false, not, cond, refl, sym, ap}
+use Rattle.std.proofs.Common.{ap₂, ◌∙◌, ⊎_elim, arith, add-zero, length-take, length-drop}
 use Rattle.std.specs.List.{slice_split, onto_first, prefix_len, position_or_len}
 use Rattle.std.proofs.Math.Seq.{drop-cons}
 use Rattle.std.proofs.lemmas.Bool.{cases_lt}
@@ -106,7 +107,8 @@ tokens-word at m xs e l =
     (cases_lt m (length xs))
 
 -- the next token of a line, after the blanks before it
-pub tokens-next : (at n m : ℕ) (xs w rest : List ℕ) → n ≡ prefix_len is_blank xs → w ≡ drop n xs → m ≡ prefix_len (λ b. not (is_blank b)) w → (m ≡ 0 → ⊥) → rest ≡ drop m w →
+pub tokens-next : (at n m : ℕ) (xs w rest : List ℕ) → n ≡ prefix_len is_blank xs → w ≡ drop n xs → m ≡ prefix_len (λ b. not (is_blank b)) w → (m ≡ 0 → ⊥)
+    → rest ≡ drop m w →
     tokens at xs ≡ (at + n, take m w) ∷ tokens (at + (n + m)) rest
 tokens-next at n m xs w rest e f g some r =
     let there : at + n + m ≡ at + (n + m) = omega arith in
@@ -115,7 +117,8 @@ tokens-next at n m xs w rest e f g some r =
     ∙ tokens-word (at + n) m w g (omega arith)
     ∙ ap₂ (λ k ys. (at + n, take m w) ∷ tokens k ys) there (sym r)
 
-pub tokens-end : (at n m : ℕ) (xs w : List ℕ) → n ≡ prefix_len is_blank xs → w ≡ drop n xs → m ≡ prefix_len (λ b. not (is_blank b)) w → m ≡ 0 → tokens at xs ≡ []
+pub tokens-end : (at n m : ℕ) (xs w : List ℕ) → n ≡ prefix_len is_blank xs → w ≡ drop n xs → m ≡ prefix_len (λ b. not (is_blank b)) w → m ≡ 0
+    → tokens at xs ≡ []
 tokens-end at n m xs w e f g none = tokens-none at n xs e (ap (prefix_len (λ b. not (is_blank b))) (sym f) ∙ sym g ∙ none)
 
 pub length-rest : (n : ℕ) (xs : List ℕ) → length (take (length xs - n) (drop n xs)) ≡ length xs - n

@@ -1,5 +1,6 @@
 -- Words of visible bytes with blanks between them are the tokens of their line.
-use Rattle.std.proofs.Common.{◌≡◌, ℕ, zero, suc, ◌+◌, ◌-◌, ◌<◌, ◌≤◌, List, [], ◌∷◌, ◌++◌, length, take, filter, cond, Bool, true, false, not, ◌&&◌, ◌||◌, nat_eq, nat_le, refl, ap, ap₂, ◌∙◌, arith, append-nil, get_or}
+use Rattle.std.proofs.Common.{◌≡◌, ℕ, zero, suc, ◌+◌, ◌-◌, ◌<◌, ◌≤◌, List, [], ◌∷◌, ◌++◌, length, take, filter, cond, Bool, true, false, not, ◌&&◌, ◌||◌}
+use Rattle.std.proofs.Common.{nat_eq, nat_le, refl, ap, ap₂, ◌∙◌, arith, append-nil, get_or}
 use Rattle.std.specs.List.{All, list_all, slice_split}
 use Rattle.std.specs.Str.Lines.{strip_carriage_return}
 use Rattle.std.proofs.lemmas.Bool.{ne_eqb, leb-true, and_parts, not-true}
@@ -57,7 +58,8 @@ tokens-spaced at w ws e f =
     ap (λ parts. filter has_bytes (placed at parts)) (split-spaced w ws e f)
     ∙ placed-kept at (w ∷ ws) (ap₂ (λ s t. s && t) e f)
 
-inside-line : (p : ℕ → Bool) (w : List ℕ) (ws : List (List ℕ)) → ((b : ℕ) → is_visible b ≡ true → p b ≡ false) → p 32 ≡ false → list_all is_visible w ≡ true → are_words ws ≡ true →
+inside-line : (p : ℕ → Bool) (w : List ℕ) (ws : List (List ℕ)) → ((b : ℕ) → is_visible b ≡ true → p b ≡ false) → p 32 ≡ false → list_all is_visible w ≡ true
+    → are_words ws ≡ true →
     list_all (λ b. not (p b)) (w ++ spaced ws) ≡ true
 inside-line p [] [] h s e f = refl
 inside-line p [] (v ∷ vs) h s e f =

@@ -12,7 +12,8 @@ pub all-below : (limit : ℕ) (xs : List ℕ) → ((i : ℕ) → get_or xs i 0 <
 all-below limit [] h = tt
 all-below limit (x ∷ xs) h = (h 0, all-below limit xs (λ i. h (suc i)))
 
-pub All-more : {X : Type 0} (P : X → Type 0) (xs : List X) (i : ℕ) (x : X) → All P (take i xs) → i < length xs → x ≡ get_or xs i x → P x → All P (take (i + 1) xs)
+pub All-more : {X : Type 0} (P : X → Type 0) (xs : List X) (i : ℕ) (x : X) → All P (take i xs) → i < length xs → x ≡ get_or xs i x → P x
+    → All P (take (i + 1) xs)
 All-more {X} P xs i x before l e p =
     subst (λ (ys : List X). All P ys) (sym (take-at xs i (i + 1) x l (omega arith) e))
     (All-append P (take i xs) (x ∷ []) before (single x p))

@@ -1,5 +1,6 @@
 -- The rows of a block, taken one by one.
-use Rattle.std.proofs.Common.{◌≡◌, ℕ, ◌+◌, ◌<◌, ◌≤◌, ◌^◌, List, [], ◌∷◌, ◌++◌, length, take, slice_get, Some, refl, sym, ap, ◌∙◌, subst, arith, append_assoc, length-append, length-take-le}
+use Rattle.std.proofs.Common.{◌≡◌, ℕ, ◌+◌, ◌<◌, ◌≤◌, ◌^◌, List, [], ◌∷◌, ◌++◌, length, take, slice_get, Some, refl, sym, ap, ◌∙◌, subst, arith, append_assoc}
+use Rattle.std.proofs.Common.{length-append, length-take-le}
 use Rattle.std.proofs.lemmas.List.{append-nil, take_all}
 use Rattle.ccsl_base.specs.declared.rows.Row.{Row}
 use Rattle.ccsl_relate.specs.Watching.{Watching, StandsFor}
@@ -10,10 +11,18 @@ pub record Taken (start now : Watching) (block : List Row) (i : ℕ) : Type 0 wh
   pub system : now.system ≡ start.system
   pub start_is : now.start ≡ start.start
   pub count : length now.kept ≡ length start.kept
-  pub stands : (recorded : List ℕ) (rows : List Row) → StandsFor recorded start rows → length rows + length block < 2 ^ 64 → StandsFor recorded now (rows ++ take i block)
+  pub stands : (recorded : List ℕ) (rows : List Row) → StandsFor recorded start rows → length rows + length block < 2 ^ 64
+      → StandsFor recorded now (rows ++ take i block)
 
 pub taken-none : (v : Watching) (block : List Row) → Taken v v block 0
-taken-none v block = record { within = omega arith; system = refl; start_is = refl; count = refl; stands = λ recorded rows s l. subst (λ rs. StandsFor recorded v rs) (sym (append-nil rows)) s }
+taken-none v block = record {
+  within = omega arith;
+  system = refl;
+  start_is = refl;
+  count = refl;
+  stands =
+      λ recorded rows s l. subst (λ rs. StandsFor recorded v rs) (sym (append-nil rows)) s;
+}
 
 pub take-more : (block : List Row) (i : ℕ) (row : Row) → slice_get block i ≡ Some row → take (i + 1) block ≡ take i block ++ row ∷ []
 take-more [] i row e = absurd (cc)
@@ -22,11 +31,14 @@ take-more (x ∷ block) (Rattle.std.proofs.Common.suc i) row e =
     let k : Rattle.std.proofs.Common.suc i + 1 ≡ Rattle.std.proofs.Common.suc (i + 1) = omega arith in
     ap (λ j. take j (x ∷ block)) k ∙ ap (λ ys. x ∷ ys) (take-more block i row e)
 
-pub few-rows : (block : List Row) (i : ℕ) (rows : List Row) → i < length block → length rows + length block < 2 ^ 64 → length (rows ++ take i block) + 1 < 2 ^ 64
+pub few-rows : (block : List Row) (i : ℕ) (rows : List Row) → i < length block → length rows + length block < 2 ^ 64
+    → length (rows ++ take i block) + 1 < 2 ^ 64
 few-rows block i rows l h = omega (arith, length-append rows (take i block), length-take-le i block (omega (arith, l)), l, h)
 
-pub taken-more : (start now next : Watching) (block : List Row) (i : ℕ) (row : Row) → Taken start now block i → slice_get block i ≡ Some row → i < length block → next.system ≡ now.system → next.start ≡ now.start → length next.kept ≡ length now.kept
-    → ((recorded : List ℕ) (rows : List Row) → StandsFor recorded now rows → length rows + 1 < 2 ^ 64 → StandsFor recorded next (rows ++ row ∷ [])) → Taken start next block (i + 1)
+pub taken-more : (start now next : Watching) (block : List Row) (i : ℕ) (row : Row) → Taken start now block i → slice_get block i ≡ Some row → i < length block
+    → next.system ≡ now.system → next.start ≡ now.start → length next.kept ≡ length now.kept
+    → ((recorded : List ℕ) (rows : List Row) → StandsFor recorded now rows → length rows + 1 < 2 ^ 64 → StandsFor recorded next (rows ++ row ∷ []))
+    → Taken start next block (i + 1)
 taken-more start now next block i row t e l a b c f = record {
   within = omega (arith, l);
   system = a ∙ t.system;
@@ -37,5 +49,6 @@ taken-more start now next block i row t e l a b c f = record {
       (f recorded (rows ++ take i block) (t.stands recorded rows s h) (few-rows block i rows l h));
 }
 
-pub taken-all : (start now : Watching) (block : List Row) (i : ℕ) → Taken start now block i → length block ≤ i → (recorded : List ℕ) (rows : List Row) → StandsFor recorded start rows → length rows + length block < 2 ^ 64 → StandsFor recorded now (rows ++ block)
+pub taken-all : (start now : Watching) (block : List Row) (i : ℕ) → Taken start now block i → length block ≤ i → (recorded : List ℕ) (rows : List Row)
+    → StandsFor recorded start rows → length rows + length block < 2 ^ 64 → StandsFor recorded now (rows ++ block)
 taken-all start now block i t l recorded rows s h = subst (λ rs. StandsFor recorded now (rows ++ rs)) (take_all i block l) (t.stands recorded rows s h)

@@ -13,7 +13,8 @@ use Rattle.ccsl_relate.specs.Alone.{after_rows, fails_at}
 use Rattle.ccsl_relate.proofs.Ranges.{clocks_of-next}
 
 -- one row more
-pub after-more : (rows : List Row) (w : Watched) (n : ℕ) (row : Row) → slice_get rows n ≡ Some row → after_rows (take (n + 1) rows) w ≡ next_in row.ticks (after_rows (take n rows) w)
+pub after-more : (rows : List Row) (w : Watched) (n : ℕ) (row : Row) → slice_get rows n ≡ Some row
+    → after_rows (take (n + 1) rows) w ≡ next_in row.ticks (after_rows (take n rows) w)
 after-more [] w n row e = absurd (cc)
 after-more (x ∷ rows) w zero row e = ap (λ (y : Row). next_in y.ticks w) (let q : x ≡ row = cc in q)
 after-more (x ∷ rows) w (suc n) row e =
@@ -21,7 +22,8 @@ after-more (x ∷ rows) w (suc n) row e =
     ap (λ j. after_rows (take j (x ∷ rows)) w) k ∙ after-more rows (next_in x.ticks w) n row e
 
 -- what fails at a row is what is kept up to it
-pub fails-here : (rows : List Row) (w : Watched) (n : ℕ) (row : Row) → slice_get rows n ≡ Some row → fails_at rows w n ≡ fails_in row.ticks row.ticks (after_rows (take n rows) w)
+pub fails-here : (rows : List Row) (w : Watched) (n : ℕ) (row : Row) → slice_get rows n ≡ Some row
+    → fails_at rows w n ≡ fails_in row.ticks row.ticks (after_rows (take n rows) w)
 fails-here [] w n row e = absurd (cc)
 fails-here (x ∷ rows) w zero row e = ap (λ (y : Row). fails_in y.ticks y.ticks w) (let q : x ≡ row = cc in q)
 fails-here (x ∷ rows) w (suc n) row e = fails-here rows (next_in x.ticks w) n row e

@@ -10,7 +10,8 @@ use Rattle.ccsl_kernel.specs.Runs.{declared_part}
 use Rattle.ccsl_kernel.proofs.Sets.{below-ascending, NoneFrom-are_below}
 use Rattle.ccsl_relate.specs.Watching.{IsUndeclared}
 
-pub declared-are : (K : System) (undeclared ticks declared : List ℕ) → IsUndeclared K undeclared → is_ascending ticks ≡ true → are_below MAX_CLOCKS ticks ≡ true → is_ascending declared ≡ true
+pub declared-are : (K : System) (undeclared ticks declared : List ℕ) → IsUndeclared K undeclared → is_ascending ticks ≡ true → are_below MAX_CLOCKS ticks ≡ true
+    → is_ascending declared ≡ true
     → ((x : ℕ) → ticks_in x declared ≡ (ticks_in x ticks && not (ticks_in x undeclared))) → declared ≡ declared_part K ticks
 declared-are K undeclared ticks declared u a b d h =
     same-members declared (declared_part K ticks) d (below-ascending K.declared ticks a)

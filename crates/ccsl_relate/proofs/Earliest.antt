@@ -1,5 +1,6 @@
 -- Items that are taken over rows, one after the other: the first row at which one of them fails.
-use Rattle.std.proofs.Common.{◌≡◌, ℕ, suc, ◌+◌, ◌<◌, ◌≤◌, List, Option, Some, None, true, false, map, length, take, get_or, slice_set, refl, ap, ap₂, ◌∙◌, subst, arith, below_more}
+use Rattle.std.proofs.Common.{◌≡◌, ℕ, suc, ◌+◌, ◌<◌, ◌≤◌, List, Option, Some, None, true, false, map, length, take, get_or, slice_set, refl, ap, ap₂, ◌∙◌}
+use Rattle.std.proofs.Common.{subst, arith, below_more}
 use Rattle.std.specs.Prelude.{All, IfSome, IfNone}
 use Rattle.std.proofs.Math.Seq.{map-set_same}
 use Rattle.std.proofs.lemmas.List.{get_or_default, get_or-set_other, length-set, take_all}
@@ -46,7 +47,8 @@ module _ (rows : List Row) (old : List Watched) where
     none = record { whole = refl; gone = refl };
   }
 
-  module _ (now : List Watched) (i end : ℕ) (first : Option Failure) (f : IsSoFar now i end first) (l : i < length old) (x : Watched) (clocks : clocks_of x ≡ clocks_of (get_or now i Nothing)) where
+  module _ (now : List Watched) (i end : ℕ) (first : Option Failure) (f : IsSoFar now i end first) (l : i < length old) (x : Watched)
+      (clocks : clocks_of x ≡ clocks_of (get_or now i Nothing)) where
     abbrev next : List Watched
     next = slice_set now i x
 

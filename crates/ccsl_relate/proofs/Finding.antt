@@ -1,5 +1,6 @@
 -- The first violation of some items, one row more.
-use Rattle.std.proofs.Common.{◌≡◌, ℕ, suc, ◌+◌, ◌-◌, ◌<◌, ◌≤◌, List, [], ◌∷◌, ◌++◌, length, map, slice_index, true, false, sym, ap, ap₂, ◌∙◌, arith, length-append, ⊎_elim}
+use Rattle.std.proofs.Common.{◌≡◌, ℕ, suc, ◌+◌, ◌-◌, ◌<◌, ◌≤◌, List, [], ◌∷◌, ◌++◌, length, map, slice_index, true, false, sym, ap, ap₂, ◌∙◌, arith}
+use Rattle.std.proofs.Common.{length-append, ⊎_elim}
 use Rattle.std.proofs.Math.ListN.{get_or-append}
 use Rattle.std.proofs.Math.Seq.{get_or-append_seam}
 use Rattle.std.proofs.lemmas.Bool.{cases_lt}
@@ -14,7 +15,8 @@ use Rattle.ccsl_relate.specs.Violations.{AreObeyed, IsFirst}
 use Rattle.ccsl_relate.specs.Watching.{are_sets}
 use Rattle.ccsl_relate.proofs.History.{sets-snoc, violated-front}
 
-module _ (K : System) (ok : IsAccepted K) (recorded : List ℕ) (rows : List Row) (row : Row) (sets : are_sets rows ≡ true) (sorted : is_ascending row.ticks ≡ true) (start count : ℕ) where
+module _ (K : System) (ok : IsAccepted K) (recorded : List ℕ) (rows : List Row) (row : Row) (sets : are_sets rows ≡ true)
+    (sorted : is_ascending row.ticks ≡ true) (start count : ℕ) where
   abbrev more : List Row
   more = rows ++ row ∷ []
 
@@ -66,7 +68,8 @@ module _ (K : System) (ok : IsAccepted K) (recorded : List ℕ) (rows : List Row
   }
 
   -- or none is violated
-  pub obeyed-on : AreObeyed K recorded rows start count → ((k : ℕ) → k < count → is_violated K recorded more (length rows) (start + k) ≡ false) → AreObeyed K recorded more start count
+  pub obeyed-on : AreObeyed K recorded rows start count → ((k : ℕ) → k < count → is_violated K recorded more (length rows) (start + k) ≡ false)
+      → AreObeyed K recorded more start count
   obeyed-on obeyed here n j l a b =
       ⊎_elim
       (λ (m : n < length rows). before n j m ∙ obeyed n j m a b)

@@ -1,5 +1,6 @@
 -- What is followed for some items: the clocks that they read, and all that these lead to.
-use Rattle.std.proofs.Common.{◌≡◌, ℕ, ◌+◌, ◌-◌, ◌<◌, List, [], ◌∷◌, Bool, true, false, ◌||◌, ◌&&◌, All, Some, nat_eq, nat_lt, length, slice_get, get_or, refl, sym, ap, ◌∙◌, subst, arith, eq-eqb, lt-ltb, le-ltb}
+use Rattle.std.proofs.Common.{◌≡◌, ℕ, ◌+◌, ◌-◌, ◌<◌, List, [], ◌∷◌, Bool, true, false, ◌||◌, ◌&&◌, All, Some, nat_eq, nat_lt, length, slice_get, get_or, refl}
+use Rattle.std.proofs.Common.{sym, ap, ◌∙◌, subst, arith, eq-eqb, lt-ltb, le-ltb}
 use Rattle.std.specs.List.{list_all, list_any}
 use Rattle.std.proofs.lemmas.Bool.{and_parts, and_from, eqb-true, or_left, or_right}
 use Rattle.std.proofs.lemmas.Option.{slice_get_within, get_or_from_slice_get}
@@ -70,12 +71,15 @@ module _ (q : ℕ → Bool) where
       (read-from kept (λ x t. h x (or_right (ticks_in x (clocks_of w)) (is_read x kept) t)))
 
 -- what is followed has the clocks that the items read
-pub read-within : (K : System) (clocks followed : List ℕ) (kept : List Watched) → ((x : ℕ) → ticks_in x clocks ≡ is_read x kept) → ((x : ℕ) → ticks_in x clocks ≡ true → ticks_in x followed ≡ true)
+pub read-within : (K : System) (clocks followed : List ℕ) (kept : List Watched) → ((x : ℕ) → ticks_in x clocks ≡ is_read x kept)
+    → ((x : ℕ) → ticks_in x clocks ≡ true → ticks_in x followed ≡ true)
     → list_all (reads_only (is_within K followed)) kept ≡ true
-read-within K clocks followed kept are has = read-from (is_within K followed) kept (λ x t. or_right (nat_lt x K.declared) (ticks_in x followed) (has x (are x ∙ t)))
+read-within K clocks followed kept are has =
+    read-from (is_within K followed) kept (λ x t. or_right (nat_lt x K.declared) (ticks_in x followed) (has x (are x ∙ t)))
 
 -- a set that has the clocks that the items read
-pub read-includes : (K : System) (clocks set : List ℕ) (kept : List Watched) → ((x : ℕ) → ticks_in x clocks ≡ is_read x kept) → list_all (reads_only (is_within K set)) kept ≡ true → Includes K set clocks
+pub read-includes : (K : System) (clocks set : List ℕ) (kept : List Watched) → ((x : ℕ) → ticks_in x clocks ≡ is_read x kept)
+    → list_all (reads_only (is_within K set)) kept ≡ true → Includes K set clocks
 read-includes K clocks set kept are h x low t =
     sym (ap (λ b. b || ticks_in x set) (le-ltb x K.declared low)) ∙ read-each (is_within K set) kept x h (sym (are x) ∙ t)
 
@@ -85,7 +89,8 @@ module _ (K : System) (ok : IsAccepted K) where
   below-limit x l = let few = ok.few_clocks in lt-ltb x MAX_CLOCKS (omega (arith, l, few))
 
   constraint-clocks : (j : ℕ) (c : Constraint) → slice_get K.constraints j ≡ Some c → IsConstraint (length K.names) c
-  constraint-clocks j c e = subst (IsConstraint (length K.names)) (get_or_from_slice_get K.constraints j c c e) (ok.constraints j c (slice_get_within K.constraints j c e))
+  constraint-clocks j c e =
+      subst (IsConstraint (length K.names)) (get_or_from_slice_get K.constraints j c c e) (ok.constraints j c (slice_get_within K.constraints j c e))
 
   relation-clocks : (T : List Step) (i : ℕ) (r : Related) → IsRelation K T i r → ReadsClocks (Relation r)
   relation-clocks T i r f =
@@ -106,7 +111,8 @@ module _ (K : System) (ok : IsAccepted K) where
   items-clocks recorded T start kept each k d l = item-clocks recorded T (start + k) (get_or kept k d) (each_at (Keeps K recorded T) start kept k d l each)
 
 -- THE CLOCKS OF AN ITEM MORE in a set
-pub with-one : (x clock : ℕ) (old new : List ℕ) (w : Watched) → new ≡ with_clock clock old → w ≡ Definition clock → ticks_in x new ≡ (ticks_in x old || ticks_in x (clocks_of w))
+pub with-one : (x clock : ℕ) (old new : List ℕ) (w : Watched) → new ≡ with_clock clock old → w ≡ Definition clock
+    → ticks_in x new ≡ (ticks_in x old || ticks_in x (clocks_of w))
 with-one x clock old new w is at =
     ap (ticks_in x) is ∙ ticks_in-with_clock x clock old ∙ one-more (nat_eq x clock) (ticks_in x old)
     ∙ sym (ap (λ (v : Watched). ticks_in x old || ticks_in x (clocks_of v)) at)
@@ -117,7 +123,8 @@ with-one x clock old new w is at =
     one-more false true = refl
     one-more false false = refl
 
-pub with-two : (x : ℕ) (r : Related) (old mid new : List ℕ) (w : Watched) → mid ≡ with_clock r.left old → new ≡ with_clock r.right mid → w ≡ Relation r → ticks_in x new ≡ (ticks_in x old || ticks_in x (clocks_of w))
+pub with-two : (x : ℕ) (r : Related) (old mid new : List ℕ) (w : Watched) → mid ≡ with_clock r.left old → new ≡ with_clock r.right mid → w ≡ Relation r
+    → ticks_in x new ≡ (ticks_in x old || ticks_in x (clocks_of w))
 with-two x r old mid new w first second at =
     ap (ticks_in x) second ∙ ticks_in-with_clock x r.right mid
     ∙ ap (λ b. nat_eq x r.right || b) (ap (ticks_in x) first ∙ ticks_in-with_clock x r.left old)

@@ -1,5 +1,6 @@
 -- The completion of the rows of a trace, one row more.
-use Rattle.std.proofs.Common.{◌≡◌, ℕ, suc, ◌+◌, ◌-◌, ◌<◌, ◌≤◌, List, [], ◌∷◌, ◌++◌, length, map, slice_get, Bool, true, false, not, ◌&&◌, ◌||◌, cond, nat_lt, if◌then◌else◌, Option, Some, None, refl, sym, ap, ap₂, ◌∙◌, arith, length-append}
+use Rattle.std.proofs.Common.{◌≡◌, ℕ, suc, ◌+◌, ◌-◌, ◌<◌, ◌≤◌, List, [], ◌∷◌, ◌++◌, length, map, slice_get, Bool, true, false, not, ◌&&◌, ◌||◌, cond, nat_lt}
+use Rattle.std.proofs.Common.{if◌then◌else◌, Option, Some, None, refl, sym, ap, ap₂, ◌∙◌, arith, length-append}
 use Rattle.std.specs.List.{list_all}
 use Rattle.std.proofs.Math.Seq.{take-length}
 use Rattle.std.proofs.lemmas.List.{map-append, length-map, take-append-le}
@@ -27,7 +28,9 @@ use Rattle.ccsl_kernel.proofs.Quiet.{count-snoc}
 use Rattle.ccsl_kernel.proofs.Sets.{below-ascending, below-below, ticks_in-below}
 
 pub sets-snoc : (rows : List Row) (row : Row) → are_sets rows ≡ true → is_ascending row.ticks ≡ true → are_sets (rows ++ row ∷ []) ≡ true
-sets-snoc rows row h r = list_all-append (λ (x : Row). is_ascending x.ticks) rows (row ∷ []) ∙ and_from (are_sets rows) (is_ascending row.ticks && true) h (and_from (is_ascending row.ticks) true r refl)
+sets-snoc rows row h r =
+    list_all-append (λ (x : Row). is_ascending x.ticks) rows (row ∷ [])
+    ∙ and_from (are_sets rows) (is_ascending row.ticks && true) h (and_from (is_ascending row.ticks) true r refl)
 
 module _ (K : System) where
   abbrev X : List Row → List Step
@@ -61,7 +64,8 @@ module _ (K : System) where
   last-row rows row = ap₂ step_at (ticks-more rows row) (sym (length-map rows (λ r. r.ticks))) ∙ step_at-last (ticks_of rows) row.ticks
 
   front-row : (rows : List Row) (row : Row) (n : ℕ) → n < length rows → step_at (ticks_of (rows ++ row ∷ [])) n ≡ step_at (ticks_of rows) n
-  front-row rows row n l = ap (λ T. step_at T n) (ticks-more rows row) ∙ step_at-front (ticks_of rows) row.ticks n (omega (arith, length-map rows (λ r. r.ticks)))
+  front-row rows row n l =
+      ap (λ T. step_at T n) (ticks-more rows row) ∙ step_at-front (ticks_of rows) row.ticks n (omega (arith, length-map rows (λ r. r.ticks)))
 
   -- counts, one step more
   pub count-before : (T : List Step) (s : Step) (x n : ℕ) → n ≤ length T → clock_count (T ++ s ∷ []) x n ≡ clock_count T x n
@@ -70,7 +74,8 @@ module _ (K : System) where
   whole-count : (T : List Step) (x : ℕ) → clock_count T x (length T) ≡ count (map (ticks_in x) T)
   whole-count T x = ap (λ U. count (map (ticks_in x) U)) (take-length T)
 
-  pub count-more : (T : List Step) (s : Step) (x : ℕ) → clock_count (T ++ s ∷ []) x (length (T ++ s ∷ [])) ≡ (if ticks_in x s then suc (clock_count T x (length T)) else clock_count T x (length T))
+  pub count-more : (T : List Step) (s : Step) (x : ℕ)
+      → clock_count (T ++ s ∷ []) x (length (T ++ s ∷ [])) ≡ (if ticks_in x s then suc (clock_count T x (length T)) else clock_count T x (length T))
   count-more T s x =
       whole-count (T ++ s ∷ []) x
       ∙ ap count (map-append (ticks_in x) T (s ∷ []))
@@ -90,11 +95,13 @@ module _ (K : System) where
   declared-sets (row ∷ rows) h =
       let w = and_parts (is_ascending row.ticks) (are_sets rows) h in
       and_from (is_declared K (declared_part K row.ticks)) (list_all (is_declared K) (map (λ r. declared_part K r.ticks) rows))
-      (and_from (is_ascending (declared_part K row.ticks)) (are_below K.declared (declared_part K row.ticks)) (below-ascending K.declared row.ticks w.0) (below-below K.declared row.ticks)) (declared-sets rows w.1)
+      (and_from (is_ascending (declared_part K row.ticks)) (are_below K.declared (declared_part K row.ticks)) (below-ascending K.declared row.ticks w.0)
+      (below-below K.declared row.ticks)) (declared-sets rows w.1)
 
   module _ (ok : IsAccepted K) where
     -- A DEFINITION HOLDS at every step of the completion
-    pub definition-holds : (rows : List Row) (n i : ℕ) → are_sets rows ≡ true → n < length rows → i < length K.definitions → holds_at K (completed_rows K rows) n i ≡ true
+    pub definition-holds : (rows : List Row) (n i : ℕ) → are_sets rows ≡ true → n < length rows → i < length K.definitions
+        → holds_at K (completed_rows K rows) n i ≡ true
     definition-holds rows n i h l d = by-definition (slice_get K.definitions i) refl
       where
         obeys : ObeysDefinitions K (X rows)
@@ -114,18 +121,22 @@ module _ (K : System) where
             ∙ self-same (eval (formula_at K (X rows) (K.declared + i) e [] 0 n) (step_at (X rows) n))
 
     -- A CONSTRAINT at a step, by its counts before
-    pub constraint-holds : (rows : List Row) (row : Row) (i : ℕ) (c : Constraint) → length K.definitions ≤ i → slice_get K.constraints (i - length K.definitions) ≡ Some c
+    pub constraint-holds : (rows : List Row) (row : Row) (i : ℕ) (c : Constraint) → length K.definitions ≤ i
+        → slice_get K.constraints (i - length K.definitions) ≡ Some c
         → holds_at K (completed_rows K (rows ++ row ∷ [])) (length rows) i
-        ≡ eval (relation_formula c.kind c.left c.right (clock_count (completed_rows K rows) c.left (length (completed_rows K rows))) (clock_count (completed_rows K rows) c.right (length (completed_rows K rows)))) (next_step rows row)
+        ≡ eval (relation_formula c.kind c.left c.right (clock_count (completed_rows K rows) c.left (length (completed_rows K rows)))
+        (clock_count (completed_rows K rows) c.right (length (completed_rows K rows)))) (next_step rows row)
     constraint-holds rows row i c l is =
         let n : length (X rows) ≡ length rows = X-length rows in
         let counted : (x : ℕ) → clock_count (X (rows ++ row ∷ [])) x (length rows) ≡ clock_count (X rows) x (length (X rows)) = λ x.
         ap₂ (λ T k. clock_count T x k) (X-more rows row) (sym n) ∙ count-before (X rows) (next_step rows row) x (length (X rows)) (omega arith) in
         ap (λ f. eval f (step_at (X (rows ++ row ∷ [])) (length rows))) (item-constraint K (X (rows ++ row ∷ [])) (length rows) i c l is)
         ∙ ap₂ (λ a b. eval (relation_formula c.kind c.left c.right a b) (step_at (X (rows ++ row ∷ [])) (length rows))) (counted c.left) (counted c.right)
-        ∙ ap (eval (relation_formula c.kind c.left c.right (clock_count (X rows) c.left (length (X rows))) (clock_count (X rows) c.right (length (X rows))))) (last-step rows row)
+        ∙ ap (eval (relation_formula c.kind c.left c.right (clock_count (X rows) c.left (length (X rows))) (clock_count (X rows) c.right (length (X rows)))))
+        (last-step rows row)
 
-    constraint-front : (rows : List Row) (row : Row) (n i : ℕ) → n < length rows → length K.definitions ≤ i → holds_at K (X (rows ++ row ∷ [])) n i ≡ holds_at K (X rows) n i
+    constraint-front : (rows : List Row) (row : Row) (n i : ℕ) → n < length rows → length K.definitions ≤ i
+        → holds_at K (X (rows ++ row ∷ [])) n i ≡ holds_at K (X rows) n i
     constraint-front rows row n i l d = by-constraint (slice_get K.constraints (i - length K.definitions)) refl
       where
         le : n ≤ length (X rows)
@@ -134,7 +145,8 @@ module _ (K : System) where
         counted : (x : ℕ) → clock_count (X (rows ++ row ∷ [])) x n ≡ clock_count (X rows) x n
         counted x = ap (λ T. clock_count T x n) (X-more rows row) ∙ count-before (X rows) (next_step rows row) x n le
 
-        by-constraint : (o : Option Constraint) → slice_get K.constraints (i - length K.definitions) ≡ o → holds_at K (X (rows ++ row ∷ [])) n i ≡ holds_at K (X rows) n i
+        by-constraint : (o : Option Constraint) → slice_get K.constraints (i - length K.definitions) ≡ o
+            → holds_at K (X (rows ++ row ∷ [])) n i ≡ holds_at K (X rows) n i
         by-constraint (Some c) is =
             ap (λ f. eval f (step_at (X (rows ++ row ∷ [])) n)) (item-constraint K (X (rows ++ row ∷ [])) n i c d is)
             ∙ ap₂ (λ a b. eval (relation_formula c.kind c.left c.right a b) (step_at (X (rows ++ row ∷ [])) n)) (counted c.left) (counted c.right)
@@ -143,10 +155,12 @@ module _ (K : System) where
         by-constraint None is = none (X (rows ++ row ∷ [])) ∙ sym (none (X rows))
           where
             none : (T : List Step) → holds_at K T n i ≡ true
-            none T = ap (λ f. eval f (step_at T n)) (ap (Rattle.ccsl_kernel.specs.Items.item_or_constraint K T n i) (slice_get_past K.definitions i d) ∙ ap (Rattle.ccsl_kernel.specs.Items.constraint_or_true T n) is)
+            none T = ap (λ f. eval f (step_at T n)) (ap (Rattle.ccsl_kernel.specs.Items.item_or_constraint K T n i) (slice_get_past K.definitions i d)
+                ∙ ap (Rattle.ccsl_kernel.specs.Items.constraint_or_true T n) is)
 
     -- WHAT WAS VIOLATED STAYS SO, and what was not
-    pub violated-front : (recorded : List ℕ) (rows : List Row) (row : Row) (n i : ℕ) → are_sets (rows ++ row ∷ []) ≡ true → are_sets rows ≡ true → n < length rows → is_violated K recorded (rows ++ row ∷ []) n i ≡ is_violated K recorded rows n i
+    pub violated-front : (recorded : List ℕ) (rows : List Row) (row : Row) (n i : ℕ) → are_sets (rows ++ row ∷ []) ≡ true → are_sets rows ≡ true
+        → n < length rows → is_violated K recorded (rows ++ row ∷ []) n i ≡ is_violated K recorded rows n i
     violated-front recorded rows row n i h' h l =
         ap₂ (λ a b. not a || (is_recorded K recorded i && not b)) holds
         (ap₂ same (ap (ticks_in (K.declared + i)) (front-row rows row n l)) (ap (ticks_in (K.declared + i)) (front-step rows row n l)))

@@ -1,5 +1,6 @@
 -- What items read of a step is known where they read clocks alone that are declared or followed.
-use Rattle.std.proofs.Common.{◌≡◌, ℕ, ◌+◌, ◌<◌, List, [], ◌∷◌, Bool, true, false, not, ◌&&◌, ◌||◌, cond, nat_eq, nat_le, map, length, get_or, subst, Option, Some, None, refl, sym, ap, ap₂, ◌∙◌}
+use Rattle.std.proofs.Common.{◌≡◌, ℕ, ◌+◌, ◌<◌, List, [], ◌∷◌, Bool, true, false, not, ◌&&◌, ◌||◌, cond, nat_eq, nat_le, map, length, get_or, subst, Option}
+use Rattle.std.proofs.Common.{Some, None, refl, sym, ap, ap₂, ◌∙◌}
 use Rattle.std.specs.List.{list_all}
 use Rattle.std.specs.Option.{ForSome}
 use Rattle.std.proofs.lemmas.Bool.{and_parts, ltb-true}
@@ -17,7 +18,8 @@ use Rattle.ccsl_state.proofs.PartMeans.{part_keeps}
 use Rattle.ccsl_relate.specs.declared.watched.Related.{Related}
 use Rattle.ccsl_relate.specs.declared.watched.Watched.{Watched}
 use Rattle.ccsl_relate.specs.declared.watched.Watched.TheVariants.{Nothing, Definition, Relation}
-use Rattle.ccsl_relate.specs.Watching.{counted, counted_on, related_formula, fails_in, next_in, reads_only, is_known, Suffice, AreAfter, IsUndeclared, step_known}
+use Rattle.ccsl_relate.specs.Watching.{counted, counted_on, related_formula, fails_in, next_in, reads_only, is_known, Suffice, AreAfter, IsUndeclared}
+use Rattle.ccsl_relate.specs.Watching.{step_known}
 use Rattle.ccsl_relate.proofs.History.{declared-ticks}
 use Rattle.ccsl_relate.proofs.Within.{list_all_at}
 
@@ -31,7 +33,8 @@ module _ (s t : Step) where
   not-ticking true b e = ap not e
   not-ticking false b e = refl
 
-  ticking-with : (v : Bool) (a b : ℕ) → IsSame a → IsSame b → eval (cond v (FOr (FNot (FVar a)) (FVar b)) FTrue) s ≡ eval (cond v (FOr (FNot (FVar a)) (FVar b)) FTrue) t
+  ticking-with : (v : Bool) (a b : ℕ) → IsSame a → IsSame b
+      → eval (cond v (FOr (FNot (FVar a)) (FVar b)) FTrue) s ≡ eval (cond v (FOr (FNot (FVar a)) (FVar b)) FTrue) t
   ticking-with true a b e d = ap₂ (λ x y. not x || y) e d
   ticking-with false a b e d = refl
 
@@ -44,7 +47,8 @@ module _ (s t : Step) where
   same-truth (PrecedesWithin k) a b m n e d = ap₂ (λ x y. x && y) (not-ticking (nat_eq m n) b d) (ticking-with (nat_le (n + k) m) a b e d)
 
 -- what is known of a step tells the same of the clocks whose ticks are known
-same-known : (K : System) (T : List Step) (ticks : Step) (held : Option HeldPart) (x : ℕ) → is_known K held x ≡ true → ticks_in x (step_known K held T ticks) ≡ ticks_in x (full_step K T (declared_part K ticks))
+same-known : (K : System) (T : List Step) (ticks : Step) (held : Option HeldPart) (x : ℕ) → is_known K held x ≡ true
+    → ticks_in x (step_known K held T ticks) ≡ ticks_in x (full_step K T (declared_part K ticks))
 same-known K T ticks None x l = sym (declared-ticks K T ticks x (ltb-true x K.declared l))
 same-known K T ticks (Some p) x l = part_keeps (is_within p.system p.followed) (full_step K T (declared_part K ticks)) x l
 
@@ -86,7 +90,8 @@ module _ (K : System) (T : List Step) (ticks : Step) (held : Option HeldPart) wh
   next-one (Relation r) h = ap Relation (counts-known r h)
 
   -- a list of items
-  pub fails-known : (given : List ℕ) (kept : List Watched) (k : ℕ) (d : Watched) → Suffice K held kept → k < length kept → fails_in given known (get_or kept k d) ≡ fails_in given whole (get_or kept k d)
+  pub fails-known : (given : List ℕ) (kept : List Watched) (k : ℕ) (d : Watched) → Suffice K held kept → k < length kept
+      → fails_in given known (get_or kept k d) ≡ fails_in given whole (get_or kept k d)
   fails-known given kept k d e l = fails-one given (get_or kept k d) (list_all_at reads kept k d e l)
 
   pub next-known : (kept : List Watched) → Suffice K held kept → map (next_in known) kept ≡ map (next_in whole) kept
@@ -104,11 +109,13 @@ module _ (p q : ℕ → Bool) (e : (x : ℕ) → p x ≡ q x) (s : Step) where
   reads-on [] = refl
   reads-on (w ∷ kept) = ap₂ (λ x y. x && y) (reads-same w) (reads-on kept)
 
-pub suffice-on : (K : System) (held held' : Option HeldPart) (s : Step) (kept : List Watched) → ((x : ℕ) → is_known K held' x ≡ is_known K held x) → Suffice K held kept → Suffice K held' (map (next_in s) kept)
+pub suffice-on : (K : System) (held held' : Option HeldPart) (s : Step) (kept : List Watched) → ((x : ℕ) → is_known K held' x ≡ is_known K held x)
+    → Suffice K held kept → Suffice K held' (map (next_in s) kept)
 suffice-on K held held' s kept same e = reads-on (is_known K held') (is_known K held) same s kept ∙ e
 
 -- the clocks that are not declared, as the states have it
-pub undeclared-for : (K : System) (held : Option HeldPart) (T : List Step) (set : List ℕ) → AreAfter K held T → IsUndeclared K set → ForSome held (λ p. IsUndeclared p.system set)
+pub undeclared-for : (K : System) (held : Option HeldPart) (T : List Step) (set : List ℕ) → AreAfter K held T → IsUndeclared K set
+    → ForSome held (λ p. IsUndeclared p.system set)
 undeclared-for K held T set after u p e =
     let own : AreAfter K (Some p) T = subst (λ o. AreAfter K o T) e after in
     subst (λ X. IsUndeclared X set) (sym own.0) u

@@ -34,4 +34,5 @@ module _ {A : Type 0} (f : A → A) where
 -- what holds of each item, one item more
 pub each-more : {A : Type 0} (P : ℕ → A → Type 0) (i n : ℕ) (xs : List A) (x : A) → Each P i xs → length xs ≡ n → P (i + n) x → Each P i (xs ++ x ∷ [])
 each-more P i n [] x e l p = (subst (λ (k : ℕ). P k x) (let s : i + n ≡ i = omega (arith, l) in s) p, tt)
-each-more P i n (y ∷ xs) x e l p = (e.0, each-more P (suc i) (length xs) xs x e.1 refl (subst (λ (k : ℕ). P k x) (let s : i + n ≡ suc i + length xs = omega (arith, l) in s) p))
+each-more P i n (y ∷ xs) x e l p =
+    (e.0, each-more P (suc i) (length xs) xs x e.1 refl (subst (λ (k : ℕ). P k x) (let s : i + n ≡ suc i + length xs = omega (arith, l) in s) p))

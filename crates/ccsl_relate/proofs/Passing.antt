@@ -1,5 +1,6 @@
 -- A monitor that takes a row more.
-use Rattle.std.proofs.Common.{◌≡◌, ℕ, ◌+◌, ◌<◌, ◌^◌, List, [], ◌∷◌, ◌++◌, length, map, get_or, Option, Some, None, true, false, refl, sym, ap, ◌∙◌, subst, arith, length-append}
+use Rattle.std.proofs.Common.{◌≡◌, ℕ, ◌+◌, ◌<◌, ◌^◌, List, [], ◌∷◌, ◌++◌, length, map, get_or, Option, Some, None, true, false, refl, sym, ap, ◌∙◌, subst}
+use Rattle.std.proofs.Common.{arith, length-append}
 use Rattle.std.specs.Prelude.{All}
 use Rattle.ccsl_base.specs.Clocks.{is_ascending}
 use Rattle.ccsl_base.specs.declared.rows.Row.{Row}
@@ -39,7 +40,8 @@ module _ (recorded : List ℕ) (v : Watching) (rows : List Row) (row : Row) (s :
     same = refl;
     count = refl;
     sets = sets-snoc rows row s.sets sorted;
-    first_is = subst (Finds K recorded more v.start (length v.kept)) (sym e) (first-stays K s.accepted recorded rows row s.sets sorted v.start (length v.kept) x (subst (Finds K recorded rows v.start (length v.kept)) e s.first));
+    first_is = subst (Finds K recorded more v.start (length v.kept)) (sym e)
+        (first-stays K s.accepted recorded rows row s.sets sorted v.start (length v.kept) x (subst (Finds K recorded rows v.start (length v.kept)) e s.first));
     follows = λ n. absurd (let z : None ≡ Some x = sym n ∙ e in cc);
   }
 
@@ -74,19 +76,23 @@ module _ (recorded : List ℕ) (v : Watching) (rows : List Row) (row : Row) (s :
 
     module _ (w : Watching) (same : w ≡ record v { kept = w.kept; states = w.states }) (count : length w.kept ≡ length v.kept) where
       -- AN ITEM FAILS at the row
-      pub next-violated : (place : ℕ) → FailsFirst row.ticks step v.kept place → IsNext recorded v w rows row (Some (record { step = v.steps; time = row.time; item = v.start + place }))
+      pub next-violated : (place : ℕ) → FailsFirst row.ticks step v.kept place
+          → IsNext recorded v w rows row (Some (record { step = v.steps; time = row.time; item = v.start + place }))
       next-violated place f = record {
         same = same;
         count = count;
         sets = sets-snoc rows row s.sets sorted;
-        first_is = subst (λ n. Finds K recorded more v.start (length v.kept) (Some (record { step = n; time = row.time; item = v.start + place }))) (sym s.steps)
-            (first-here K s.accepted recorded rows row s.sets sorted v.start (length v.kept) place obeyed f.inside (sym (asked place Nothing f.inside) ∙ f.fails Nothing)
+        first_is = subst (λ n. Finds K recorded more v.start (length v.kept) (Some (record { step = n; time = row.time; item = v.start + place })))
+            (sym s.steps)
+            (first-here K s.accepted recorded rows row s.sets sorted v.start (length v.kept) place obeyed f.inside
+            (sym (asked place Nothing f.inside) ∙ f.fails Nothing)
             (λ k l. sym (asked k Nothing (omega (arith, l, f.inside))) ∙ f.before k Nothing l));
         follows = λ n. absurd (cc n);
       }
 
       -- NO ITEM FAILS at the row, and all go on
-      pub next-obeyed : All (λ x. fails_in row.ticks step x ≡ false) v.kept → w.kept ≡ map (next_in step) v.kept → ((x : ℕ) → is_known K w.states x ≡ is_known K v.states x) → AreAfter K w.states (T ++ whole ∷ []) → IsNext recorded v w rows row None
+      pub next-obeyed : All (λ x. fails_in row.ticks step x ≡ false) v.kept → w.kept ≡ map (next_in step) v.kept
+          → ((x : ℕ) → is_known K w.states x ≡ is_known K v.states x) → AreAfter K w.states (T ++ whole ∷ []) → IsNext recorded v w rows row None
       next-obeyed obeys next known after = record {
         same = same;
         count = count;
@@ -95,7 +101,8 @@ module _ (recorded : List ℕ) (v : Watching) (rows : List Row) (row : Row) (s :
             (λ k l. sym (asked k Nothing l) ∙ obeys k Nothing l);
         follows = λ _. record {
           keeps = subst (Each (Keeps K recorded (completed_rows K more)) v.start) (sym kept-is)
-              (each_made_from (Keeps K recorded (completed_rows K more)) (next_in whole) v.start v.kept (λ k d l. keeps-on K s.accepted recorded (v.start + k) rows row s.sets sorted (get_or v.kept k d) (keeps-at k d l)));
+              (each_made_from (Keeps K recorded (completed_rows K more)) (next_in whole) v.start v.kept
+              (λ k d l. keeps-on K s.accepted recorded (v.start + k) rows row s.sets sorted (get_or v.kept k d) (keeps-at k d l)));
           suffice = subst (Suffice K w.states) (sym kept-is) (suffice-on K v.states w.states whole v.kept known follows.suffice);
           states = subst (AreAfter K w.states) (sym (X-more K rows row)) after;
         };
@@ -105,7 +112,8 @@ module _ (recorded : List ℕ) (v : Watching) (rows : List Row) (row : Row) (s :
           kept-is = next ∙ next-known K T row.ticks v.states v.kept follows.suffice
 
 -- the next row was taken
-pub row-taken : (recorded : List ℕ) (v w : Watching) (rows : List Row) (row : Row) (first : Option Violation) (w' : Watching) → StandsFor recorded v rows → IsNext recorded v w rows row first
+pub row-taken : (recorded : List ℕ) (v w : Watching) (rows : List Row) (row : Row) (first : Option Violation) (w' : Watching) → StandsFor recorded v rows
+    → IsNext recorded v w rows row first
     → w' ≡ record v { kept = w.kept; states = w.states; first = first; steps = v.steps + 1 } → StandsFor recorded w' (rows ++ row ∷ [])
 row-taken recorded v w rows row first w' s n e = subst (λ (x : Watching). StandsFor recorded x (rows ++ row ∷ [])) (sym e) (record {
   accepted = s.accepted;

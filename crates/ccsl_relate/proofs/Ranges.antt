@@ -1,5 +1,6 @@
 -- Items that go on by a step, from one place to another.
-use Rattle.std.proofs.Common.{◌≡◌, ◌≢◌, ℕ, ◌+◌, ◌<◌, ◌≤◌, List, Option, Some, None, Bool, true, false, map, length, get_or, slice_set, nat_lt, nat_eq, refl, sym, ap, ◌∙◌, subst, arith, eq-eqb}
+use Rattle.std.proofs.Common.{◌≡◌, ◌≢◌, ℕ, ◌+◌, ◌<◌, ◌≤◌, List, Option, Some, None, Bool, true, false, map, length, get_or, slice_set, nat_lt, nat_eq, refl}
+use Rattle.std.proofs.Common.{sym, ap, ◌∙◌, subst, arith, eq-eqb}
 use Rattle.std.specs.Prelude.{All, IfSome}
 use Rattle.std.proofs.Math.Seq.{map-set_same}
 use Rattle.std.proofs.lemmas.Bool.{eqb-true, ltb-true, ltb-false}
@@ -16,7 +17,8 @@ clocks_of-next s Nothing = refl
 clocks_of-next s (Definition clock) = refl
 clocks_of-next s (Relation r) = refl
 
-pub clocks-set : (s : Step) (kept : List Watched) (i : ℕ) (d w : Watched) → w ≡ next_in s (get_or kept i d) → map clocks_of (slice_set kept i w) ≡ map clocks_of kept
+pub clocks-set : (s : Step) (kept : List Watched) (i : ℕ) (d w : Watched) → w ≡ next_in s (get_or kept i d)
+    → map clocks_of (slice_set kept i w) ≡ map clocks_of kept
 clocks-set s kept i d w e = map-set_same clocks_of kept i w d (ap clocks_of e ∙ clocks_of-next s (get_or kept i d))
 
 other : (k n : ℕ) → nat_eq k n ≡ false → k ≢ n
@@ -75,7 +77,8 @@ module _ (ticks : List ℕ) (s : Step) where
       obeys k d a b l true e = ap (λ i. fails (get_or old i d)) (eqb-true k end e) ∙ sym (ap fails (same d)) ∙ obeyed
       obeys k d a b l false e = let n : k ≢ end = other k end e in g.obeys k d a (omega (arith, b, n)) l
 
-      gone : (k : ℕ) (d : Watched) → start ≤ k → k < end + 1 → k < length old → (b : Bool) → nat_eq k end ≡ b → get_or (slice_set now end w) k d ≡ next_in s (get_or old k d)
+      gone : (k : ℕ) (d : Watched) → start ≤ k → k < end + 1 → k < length old → (b : Bool) → nat_eq k end ≡ b
+          → get_or (slice_set now end w) k d ≡ next_in s (get_or old k d)
       gone k d a b l true e =
           let q : k ≡ end = eqb-true k end e in
           ap (λ i. get_or (slice_set now end w) i d) q

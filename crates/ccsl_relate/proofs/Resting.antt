@@ -13,7 +13,8 @@ use Rattle.ccsl_relate.specs.Watching.{Watching, are_sets, StandsFor}
 use Rattle.ccsl_relate.proofs.Finding.{first-stays}
 use Rattle.ccsl_relate.proofs.History.{sets-snoc}
 
-stays-first : (K : System) → IsAccepted K → (recorded : List ℕ) (start count : ℕ) (x : Violation) (rows more : List Row) → are_sets rows ≡ true → are_sets more ≡ true
+stays-first : (K : System) → IsAccepted K → (recorded : List ℕ) (start count : ℕ) (x : Violation) (rows more : List Row) → are_sets rows ≡ true
+    → are_sets more ≡ true
     → IsFirst K recorded rows start count x → IsFirst K recorded (rows ++ more) start count x
 stays-first K ok recorded start count x rows [] s t f = subst (λ rs. IsFirst K recorded rs start count x) (sym (append-nil rows)) f
 stays-first K ok recorded start count x rows (row ∷ more) s t f =
@@ -29,6 +30,7 @@ rests recorded v w rows more x s sets e is = subst (λ (u : Watching). StandsFor
   sets = list_all-append (λ (row : Row). is_ascending row.ticks) rows more ∙ and_from (are_sets rows) (are_sets more) s.sets sets;
   steps = ap (λ n. n + length more) s.steps ∙ sym (length-append rows more);
   first = subst (Finds v.system recorded (rows ++ more) v.start (length v.kept)) (sym e)
-      (stays-first v.system s.accepted recorded v.start (length v.kept) x rows more s.sets sets (subst (Finds v.system recorded rows v.start (length v.kept)) e s.first));
+      (stays-first v.system s.accepted recorded v.start (length v.kept) x rows more s.sets sets
+      (subst (Finds v.system recorded rows v.start (length v.kept)) e s.first));
   follows = λ n. absurd (let z : None ≡ Some x = sym n ∙ e in cc);
 })

@@ -1,5 +1,6 @@
 -- A monitor without states that takes the rows of a block item by item.
-use Rattle.std.proofs.Common.{◌≡◌, ℕ, zero, suc, ◌+◌, ◌<◌, ◌^◌, List, [], ◌∷◌, ◌++◌, length, map, get_or, slice_get, Some, None, true, false, refl, sym, ap, ap₂, ◌∙◌, subst, arith, append_assoc}
+use Rattle.std.proofs.Common.{◌≡◌, ℕ, zero, suc, ◌+◌, ◌<◌, ◌^◌, List, [], ◌∷◌, ◌++◌, length, map, get_or, slice_get, Some, None, true, false, refl, sym, ap}
+use Rattle.std.proofs.Common.{ap₂, ◌∙◌, subst, arith, append_assoc}
 use Rattle.std.specs.Prelude.{All}
 use Rattle.std.proofs.lemmas.Bool.{and_parts}
 use Rattle.std.proofs.lemmas.List.{append-nil, get_or_default, length-map, map-id}
@@ -37,11 +38,14 @@ module _ (K : System) (recorded : List ℕ) (start : ℕ) where
   module _ (kept : List Watched) (steps : ℕ) (rows : List Row) (s : StandsFor recorded (going kept steps) rows) where
     -- each item has room for the ticks of a block
     pub all-have-room : (n : ℕ) → length rows + n < 2 ^ 64 → All (HasRoomFor n) kept
-    all-have-room n few k d l = keeps-room-for K s.accepted recorded (start + k) rows n few (get_or kept k d) (each_at (Keeps K recorded (completed_rows K rows)) start kept k d l (s.follows refl).keeps)
+    all-have-room n few k d l =
+        keeps-room-for K s.accepted recorded (start + k) rows n few (get_or kept k d)
+        (each_at (Keeps K recorded (completed_rows K rows)) start kept k d l (s.follows refl).keeps)
 
     module _ (row : Row) (sorted : is_ascending row.ticks ≡ true) where
       -- none fails at a row
-      one-on : ((k : ℕ) → k < length kept → fails_in row.ticks row.ticks (get_or kept k Nothing) ≡ false) → StandsFor recorded (going (map (next_in row.ticks) kept) (steps + 1)) (rows ++ row ∷ [])
+      one-on : ((k : ℕ) → k < length kept → fails_in row.ticks row.ticks (get_or kept k Nothing) ≡ false)
+          → StandsFor recorded (going (map (next_in row.ticks) kept) (steps + 1)) (rows ++ row ∷ [])
       one-on obeys =
           let w : Watching = going (map (next_in row.ticks) kept) steps in
           row-taken recorded (going kept steps) w rows row None _ s
@@ -50,9 +54,11 @@ module _ (K : System) (recorded : List ℕ) (start : ℕ) where
           refl
 
       -- one fails first at a row
-      one-fails : (place : ℕ) (after : List Watched) → length after ≡ length kept → place < length kept → fails_in row.ticks row.ticks (get_or kept place Nothing) ≡ true
+      one-fails : (place : ℕ) (after : List Watched) → length after ≡ length kept → place < length kept
+          → fails_in row.ticks row.ticks (get_or kept place Nothing) ≡ true
           → ((k : ℕ) → k < place → fails_in row.ticks row.ticks (get_or kept k Nothing) ≡ false)
-          → StandsFor recorded (record (going after (steps + 1)) { first = Some (record { step = steps; time = row.time; item = start + place }) }) (rows ++ row ∷ [])
+          → StandsFor recorded (record (going after (steps + 1)) { first = Some (record { step = steps; time = row.time; item = start + place }) })
+          (rows ++ row ∷ [])
       one-fails place after count inside fails before =
           let w : Watching = going after steps in
           row-taken recorded (going kept steps) w rows row _ _ s
@@ -65,7 +71,8 @@ module _ (K : System) (recorded : List ℕ) (start : ℕ) where
 
   -- NO ITEM FAILS in a block, and all go on
   pub goes-through : (kept : List Watched) (steps : ℕ) (rows block : List Row) → StandsFor recorded (going kept steps) rows → are_sets block ≡ true
-      → ((k : ℕ) → k < length kept → ObeysUpTo block (length block) (get_or kept k Nothing)) → StandsFor recorded (going (map (after_rows block) kept) (steps + length block)) (rows ++ block)
+      → ((k : ℕ) → k < length kept → ObeysUpTo block (length block) (get_or kept k Nothing))
+      → StandsFor recorded (going (map (after_rows block) kept) (steps + length block)) (rows ++ block)
   goes-through kept steps rows [] s sets obeys =
       subst (λ rs. StandsFor recorded (going (map (after_rows []) kept) (steps + 0)) rs) (sym (append-nil rows))
       (subst (λ n. StandsFor recorded (going (map (after_rows []) kept) n) rows) (let z : steps ≡ steps + 0 = omega arith in z)
@@ -74,15 +81,19 @@ module _ (K : System) (recorded : List ℕ) (start : ℕ) where
       let p = and_parts (is_ascending row.ticks) (are_sets block) sets in
       let next = map (next_in row.ticks) kept in
       subst (λ rs. StandsFor recorded (going (map (after_rows (row ∷ block)) kept) (steps + suc (length block))) rs) (append_assoc rows (row ∷ []) block)
-      (subst (λ n. StandsFor recorded (going (map (after_rows (row ∷ block)) kept) n) ((rows ++ row ∷ []) ++ block)) (let z : steps + 1 + length block ≡ steps + suc (length block) = omega arith in z)
+      (subst (λ n. StandsFor recorded (going (map (after_rows (row ∷ block)) kept) n) ((rows ++ row ∷ []) ++ block))
+      (let z : steps + 1 + length block ≡ steps + suc (length block) = omega arith in z)
       (subst (λ ws. StandsFor recorded (going ws (steps + 1 + length block)) ((rows ++ row ∷ []) ++ block)) (after-map row block kept)
       (goes-through next (steps + 1) (rows ++ row ∷ []) block (one-on kept steps rows s row p.0 (λ k l. obeys k l 0 (omega arith))) p.1
-      (λ k l n m. ap (λ w. fails_at block w n) (at-next row.ticks kept k) ∙ obeys k (omega (arith, l, length-map kept (next_in row.ticks))) (suc n) (omega (arith, m))))))
+      (λ k l n m. ap (λ w. fails_at block w n) (at-next row.ticks kept k)
+      ∙ obeys k (omega (arith, l, length-map kept (next_in row.ticks))) (suc n) (omega (arith, m))))))
 
   -- AN ITEM FAILS in a block: nothing is asked of what is kept then
-  pub stops-in : (kept after : List Watched) (steps : ℕ) (rows block : List Row) (row place : ℕ) (at : Row) → StandsFor recorded (going kept steps) rows → are_sets block ≡ true → length after ≡ length kept
+  pub stops-in : (kept after : List Watched) (steps : ℕ) (rows block : List Row) (row place : ℕ) (at : Row) → StandsFor recorded (going kept steps) rows
+      → are_sets block ≡ true → length after ≡ length kept
       → slice_get block row ≡ Some at → IsFirstIn block kept (record { row = row; place = place })
-      → StandsFor recorded (record (going after (steps + length block)) { first = Some (record { step = steps + row; time = at.time; item = start + place }) }) (rows ++ block)
+      → StandsFor recorded (record (going after (steps + length block)) { first = Some (record { step = steps + row; time = at.time; item = start + place }) })
+      (rows ++ block)
   stops-in kept after steps rows [] row place at s sets count e f = absurd (cc)
   stops-in kept after steps rows (x ∷ block) zero place at s sets count e f =
       let p = and_parts (is_ascending x.ticks) (are_sets block) sets in
@@ -93,7 +104,8 @@ module _ (K : System) (recorded : List ℕ) (start : ℕ) where
       ap₂ (λ n (y : Row). record { step = n; time = y.time; item = start + place }) (let z : steps ≡ steps + 0 = omega arith in z) q in
       let now : Watching = record (going after (steps + 1)) { first = Some v } in
       subst (λ rs. StandsFor recorded (record (going after (steps + suc (length block))) { first = Some v }) rs) (append_assoc rows (x ∷ []) block)
-      (rests recorded now _ (rows ++ x ∷ []) block v (subst (λ u. StandsFor recorded (record (going after (steps + 1)) { first = Some u }) (rows ++ x ∷ [])) v-is here) p.1 refl
+      (rests recorded now _ (rows ++ x ∷ []) block v
+      (subst (λ u. StandsFor recorded (record (going after (steps + 1)) { first = Some u }) (rows ++ x ∷ [])) v-is here) p.1 refl
       (ap (λ n. record (going after n) { first = Some v }) (let z : steps + suc (length block) ≡ steps + 1 + length block = omega arith in z)))
   stops-in kept after steps rows (x ∷ block) (suc row) place at s sets count e f =
       let p = and_parts (is_ascending x.ticks) (are_sets block) sets in
@@ -107,27 +119,48 @@ module _ (K : System) (recorded : List ℕ) (start : ℕ) where
         earlier = λ k l n m. ap (λ w. fails_at block w n) (at-next x.ticks kept k) ∙ f.earlier k (omega (arith, l, kept-count)) (suc n) (omega (arith, m));
         lower = λ k l. ap (λ w. fails_at block w row) (at-next x.ticks kept k) ∙ f.lower k l;
       }) in
-      subst (λ rs. StandsFor recorded (record (going after (steps + suc (length block))) { first = Some (record { step = steps + suc row; time = at.time; item = start + place }) }) rs) (append_assoc rows (x ∷ []) block)
-      (subst (λ n. StandsFor recorded (record (going after n) { first = Some (record { step = steps + suc row; time = at.time; item = start + place }) }) ((rows ++ x ∷ []) ++ block)) (let z : steps + 1 + length block ≡ steps + suc (length block) = omega arith in z)
-      (subst (λ n. StandsFor recorded (record (going after (steps + 1 + length block)) { first = Some (record { step = n; time = at.time; item = start + place }) }) ((rows ++ x ∷ []) ++ block)) (let z : steps + 1 + row ≡ steps + suc row = omega arith in z) on))
+      subst (λ rs. StandsFor recorded (record (going after (steps + suc (length block))) {
+        first =
+            Some (record { step = steps + suc row; time = at.time; item = start + place });
+      }) rs) (append_assoc rows (x ∷ []) block)
+      (subst (λ n. StandsFor recorded (record (going after n) { first = Some (record { step = steps + suc row; time = at.time; item = start + place }) })
+      ((rows ++ x ∷ []) ++ block)) (let z : steps + 1 + length block ≡ steps + suc (length block) = omega arith in z)
+      (subst (λ n. StandsFor recorded (record (going after (steps + 1 + length block)) {
+        first =
+            Some (record { step = n; time = at.time; item = start + place });
+      }) ((rows ++ x ∷ []) ++ block))
+      (let z : steps + 1 + row ≡ steps + suc row = omega arith in z) on))
 
 -- A MONITOR WITHOUT STATES before a violation, and with the rows of a block too
-module _ (recorded : List ℕ) (v w : Watching) (rows block : List Row) (none : v.first ≡ None) (alone : v.states ≡ None) (s : StandsFor recorded v rows) (sets : are_sets block ≡ true) where
+module _ (recorded : List ℕ) (v w : Watching) (rows block : List Row) (none : v.first ≡ None) (alone : v.states ≡ None) (s : StandsFor recorded v rows)
+    (sets : are_sets block ≡ true) where
   as-going : StandsFor recorded (going v.system recorded v.start v.kept v.steps) rows
   as-going = subst (λ u. StandsFor recorded u rows) (ap₂ (λ first states. record v { first = first; states = states }) none alone) s
 
   pub items-have-room : length rows + length block < 2 ^ 64 → All (HasRoomFor (length block)) v.kept
   items-have-room few = all-have-room v.system recorded v.start v.kept v.steps rows as-going (length block) few
 
-  pub items-pass : All (ObeysUpTo block (length block)) v.kept → w ≡ record v { kept = map (after_rows block) v.kept; steps = v.steps + length block; first = None } → StandsFor recorded w (rows ++ block)
+  pub items-pass : All (ObeysUpTo block (length block)) v.kept
+      → w ≡ record v { kept = map (after_rows block) v.kept; steps = v.steps + length block; first = None } → StandsFor recorded w (rows ++ block)
   items-pass obeys is =
       subst (λ u. StandsFor recorded u (rows ++ block))
       (sym (is ∙ ap (λ states. record v { kept = map (after_rows block) v.kept; steps = v.steps + length block; first = None; states = states }) alone))
       (goes-through v.system recorded v.start v.kept v.steps rows block as-going sets (λ k l. obeys k Nothing l))
 
   pub items-stop : (after : List Watched) (f : Failure) (at : Row) → length after ≡ length v.kept → slice_get block f.row ≡ Some at → IsFirstIn block v.kept f
-      → w ≡ record v { kept = after; steps = v.steps + length block; first = Some (record { step = v.steps + f.row; time = at.time; item = v.start + f.place }) } → StandsFor recorded w (rows ++ block)
+      → w ≡ record v {
+        kept = after;
+        steps = v.steps + length block;
+        first =
+            Some (record { step = v.steps + f.row; time = at.time; item = v.start + f.place });
+      } → StandsFor recorded w (rows ++ block)
   items-stop after f at count e fails is =
       subst (λ u. StandsFor recorded u (rows ++ block))
-      (sym (is ∙ ap (λ states. record v { kept = after; steps = v.steps + length block; states = states; first = Some (record { step = v.steps + f.row; time = at.time; item = v.start + f.place }) }) alone))
+      (sym (is ∙ ap (λ states. record v {
+        kept = after;
+        steps = v.steps + length block;
+        states = states;
+        first =
+            Some (record { step = v.steps + f.row; time = at.time; item = v.start + f.place });
+      }) alone))
       (stops-in v.system recorded v.start v.kept after v.steps rows block f.row f.place at as-going sets count e fails)

@@ -1,5 +1,6 @@
 -- What the sets of a group tell.
-use Rattle.std.proofs.Common.{◌≡◌, ◌≢◌, ℕ, ◌+◌, ◌*◌, ◌<◌, ◌≤◌, List, [], ◌∷◌, ◌++◌, Bool, true, false, ◌||◌, ◌&&◌, nat_eq, nat_lt, map, length, get_or, slice_set, refl, sym, ap, ap₂, ◌∙◌, subst, arith, eq-eqb, lt-ltb, le-ltb, length-append, ◌⊎◌, inl, inr, ⊎_elim}
+use Rattle.std.proofs.Common.{◌≡◌, ◌≢◌, ℕ, ◌+◌, ◌*◌, ◌<◌, ◌≤◌, List, [], ◌∷◌, ◌++◌, Bool, true, false, ◌||◌, ◌&&◌, nat_eq, nat_lt, map, length, get_or}
+use Rattle.std.proofs.Common.{slice_set, refl, sym, ap, ap₂, ◌∙◌, subst, arith, eq-eqb, lt-ltb, le-ltb, length-append, ◌⊎◌, inl, inr, ⊎_elim}
 use Rattle.std.specs.List.{list_any}
 use Rattle.std.proofs.Math.Seq.{get_or-append_seam}
 use Rattle.std.proofs.lemmas.Bool.{cases_eq, ne_eqb, ltb-true, ltb-false}
@@ -21,7 +22,8 @@ told group c p = ticks_in p (get_or group c [])
 told-with : (place p : ℕ) (s : List ℕ) → ticks_in p (with_clock place s) ≡ (ticks_in p s || nat_eq p place)
 told-with place p s =
     ⊎_elim
-    (λ (q : p ≡ place). ap (λ x. ticks_in x (with_clock place s)) q ∙ ticks_in-with_same place s ∙ sym (ap (λ b. ticks_in p s || b) (eq-eqb p place q) ∙ or-yes (ticks_in p s)))
+    (λ (q : p ≡ place). ap (λ x. ticks_in x (with_clock place s)) q ∙ ticks_in-with_same place s
+    ∙ sym (ap (λ b. ticks_in p s || b) (eq-eqb p place q) ∙ or-yes (ticks_in p s)))
     (λ (q : p ≢ place). ticks_in-with_other place p s q ∙ sym (ap (λ b. ticks_in p s || b) (ne_eqb p place q) ∙ or-no (ticks_in p s)))
     (cases_eq p place)
   where
@@ -39,7 +41,8 @@ without false true = refl
 without false false = refl
 
 -- with one place more at one clock
-pub told-more : (old mid : List (List ℕ)) (clock place : ℕ) (was now : List ℕ) → ((c : ℕ) → get_or mid c [] ≡ get_or old c []) → clock < length mid → was ≡ get_or mid clock was → now ≡ with_clock place was
+pub told-more : (old mid : List (List ℕ)) (clock place : ℕ) (was now : List ℕ) → ((c : ℕ) → get_or mid c [] ≡ get_or old c []) → clock < length mid
+    → was ≡ get_or mid clock was → now ≡ with_clock place was
     → (c p : ℕ) → told (slice_set mid clock now) c p ≡ (told old c p || (nat_eq p place && nat_eq c clock))
 told-more old mid clock place was now same l at is c p =
     ⊎_elim
@@ -76,9 +79,11 @@ pub record TellsBefore (start place : ℕ) (group read : List (List ℕ)) : Type
 pub before-none : (start : ℕ) (read : List (List ℕ)) → TellsBefore start 0 [] read
 before-none start read = record { tell = λ c p. sym (ap (λ v. v && ticks_in c (get_or read (start + p) [])) (le-ltb p 0 (omega arith))) }
 
-pub before-more : (start place : ℕ) (group next : List (List ℕ)) (kept : List Watched) (w : Watched) → TellsBefore start place group (map clocks_of kept) → w ≡ get_or kept (start + place) w → start + place < length kept
+pub before-more : (start place : ℕ) (group next : List (List ℕ)) (kept : List Watched) (w : Watched) → TellsBefore start place group (map clocks_of kept)
+    → w ≡ get_or kept (start + place) w → start + place < length kept
     → ((c p : ℕ) → told next c p ≡ (told group c p || (nat_eq p place && ticks_in c (clocks_of w)))) → TellsBefore start (place + 1) next (map clocks_of kept)
-before-more start place group next kept w b is l h = record { tell = λ c p. h c p ∙ ap (λ v. v || (nat_eq p place && ticks_in c (clocks_of w))) (b.tell c p) ∙ by-place c p (cases_eq p place) }
+before-more start place group next kept w b is l h =
+    record { tell = λ c p. h c p ∙ ap (λ v. v || (nat_eq p place && ticks_in c (clocks_of w))) (b.tell c p) ∙ by-place c p (cases_eq p place) }
   where
     read : List (List ℕ)
     read = map clocks_of kept
@@ -86,7 +91,9 @@ before-more start place group next kept w b is l h = record { tell = λ c p. h c
     here : get_or read (start + place) [] ≡ clocks_of w
     here = get_or-map clocks_of kept (start + place) w [] l ∙ ap clocks_of (sym is)
 
-    by-place : (c p : ℕ) → (p ≡ place) ⊎ (p ≢ place) → ((nat_lt p place && ticks_in c (get_or read (start + p) [])) || (nat_eq p place && ticks_in c (clocks_of w))) ≡ (nat_lt p (place + 1) && ticks_in c (get_or read (start + p) []))
+    by-place : (c p : ℕ) → (p ≡ place) ⊎ (p ≢ place)
+        → ((nat_lt p place && ticks_in c (get_or read (start + p) [])) || (nat_eq p place && ticks_in c (clocks_of w))) ≡ (nat_lt p (place + 1)
+        && ticks_in c (get_or read (start + p) []))
     by-place c p (inl q) =
         let same : nat_eq p place ≡ true = eq-eqb p place q in
         let low : nat_lt p place ≡ false = le-ltb p place (omega (arith, q)) in
@@ -110,14 +117,16 @@ before-more start place group next kept w b is l h = record { tell = λ c p. h c
         same-test false e = e ∙ sym (le-ltb p (place + 1) (let z : place ≤ p = ltb-false p place e in omega (arith, z, q)))
 
 -- all items of a group are told
-pub before-all : (start count : ℕ) (group read : List (List ℕ)) → TellsBefore start count group read → (count ≡ MAX_CLOCKS) ⊎ (length read ≤ start + count) → TellsFrom start group read
+pub before-all : (start count : ℕ) (group read : List (List ℕ)) → TellsBefore start count group read → (count ≡ MAX_CLOCKS) ⊎ (length read ≤ start + count)
+    → TellsFrom start group read
 before-all start count group read b whole = λ c p l. b.tell c p ∙ by-test c p l (nat_lt p count) refl
   where
     none : (v : Bool) → (v && false) ≡ false
     none true = refl
     none false = refl
 
-    by-test : (c p : ℕ) → p < MAX_CLOCKS → (v : Bool) → nat_lt p count ≡ v → (nat_lt p count && ticks_in c (get_or read (start + p) [])) ≡ ticks_in c (get_or read (start + p) [])
+    by-test : (c p : ℕ) → p < MAX_CLOCKS → (v : Bool) → nat_lt p count ≡ v
+        → (nat_lt p count && ticks_in c (get_or read (start + p) [])) ≡ ticks_in c (get_or read (start + p) [])
     by-test c p l true e = ap (λ v. v && ticks_in c (get_or read (start + p) [])) e
     by-test c p l false e =
         let high : count ≤ p = ltb-false p count e in
@@ -137,14 +146,16 @@ pub record AreSoFar (start : ℕ) (groups : List (List (List ℕ))) (read : List
 pub groups-none : (read : List (List ℕ)) → AreSoFar 0 [] read
 groups-none read = record { start_is = refl; few = omega arith; tell = λ i l. absurd (omega (arith, l)) }
 
-pub groups-more : (start : ℕ) (groups : List (List (List ℕ))) (group read : List (List ℕ)) → AreSoFar start groups read → TellsFrom start group read → start < length read → AreSoFar (start + MAX_CLOCKS) (groups ++ group ∷ []) read
+pub groups-more : (start : ℕ) (groups : List (List (List ℕ))) (group read : List (List ℕ)) → AreSoFar start groups read → TellsFrom start group read
+    → start < length read → AreSoFar (start + MAX_CLOCKS) (groups ++ group ∷ []) read
 groups-more start groups group read a t l = record {
   start_is = omega (arith, a.start_is, length-append groups (group ∷ []));
   few = omega (arith, l);
   tell = λ i u. by-place i u (nat_lt i (length groups)) refl;
 }
   where
-    by-place : (i : ℕ) → i < length (groups ++ group ∷ []) → (v : Bool) → nat_lt i (length groups) ≡ v → TellsFrom (i * MAX_CLOCKS) (get_or (groups ++ group ∷ []) i []) read
+    by-place : (i : ℕ) → i < length (groups ++ group ∷ []) → (v : Bool) → nat_lt i (length groups) ≡ v
+        → TellsFrom (i * MAX_CLOCKS) (get_or (groups ++ group ∷ []) i []) read
     by-place i u true e =
         let l' : i < length groups = ltb-true i (length groups) e in
         subst (λ (g : List (List ℕ)). TellsFrom (i * MAX_CLOCKS) g read) (sym (get_or_append_left groups (group ∷ []) [] i l')) (a.tell i l')
@@ -158,7 +169,8 @@ pub groups-all : (start : ℕ) (groups : List (List (List ℕ))) (read : List (L
 groups-all start groups read a l = record { whole = omega (arith, l, a.start_is); few = omega (arith, a.few, a.start_is); tell = a.tell }
 
 -- what a group of these tells
-pub tell-of : (groups : List (List (List ℕ))) (group read read' : List (List ℕ)) (i : ℕ) → AreReaders groups read → i < length groups → group ≡ get_or groups i group → read' ≡ read → TellsFrom (i * MAX_CLOCKS) group read'
+pub tell-of : (groups : List (List (List ℕ))) (group read read' : List (List ℕ)) (i : ℕ) → AreReaders groups read → i < length groups
+    → group ≡ get_or groups i group → read' ≡ read → TellsFrom (i * MAX_CLOCKS) group read'
 tell-of groups group read read' i a l is same =
     subst (TellsFrom (i * MAX_CLOCKS) group) (sym same)
     (subst (λ (g : List (List ℕ)). TellsFrom (i * MAX_CLOCKS) g read) (get_or_default groups i [] group l ∙ sym is) (a.tell i l))
@@ -174,18 +186,23 @@ pub record Gathers (group : List (List ℕ)) (clocks rest before touched : List 
 pub gathers-none : (group : List (List ℕ)) (clocks before : List ℕ) → Gathers group clocks clocks before before
 gathers-none group clocks before = record { both = λ p. refl }
 
-pub gathers-more : (group : List (List ℕ)) (clocks rest before touched next : List ℕ) (c : ℕ) → Gathers group clocks (c ∷ rest) before touched → ((p : ℕ) → ticks_in p next ≡ (ticks_in p touched || told group c p))
+pub gathers-more : (group : List (List ℕ)) (clocks rest before touched next : List ℕ) (c : ℕ) → Gathers group clocks (c ∷ rest) before touched
+    → ((p : ℕ) → ticks_in p next ≡ (ticks_in p touched || told group c p))
     → Gathers group clocks rest before next
-gathers-more group clocks rest before touched next c g h = record { both = λ p. ap (λ v. v || told_at group rest p) (h p) ∙ assoc (ticks_in p touched) (told group c p) (told_at group rest p) ∙ g.both p }
+gathers-more group clocks rest before touched next c g h =
+    record { both = λ p. ap (λ v. v || told_at group rest p) (h p) ∙ assoc (ticks_in p touched) (told group c p) (told_at group rest p) ∙ g.both p }
   where
     assoc : (x y z : Bool) → ((x || y) || z) ≡ (x || (y || z))
     assoc true y z = refl
     assoc false y z = refl
 
-pub gathers-past : (group : List (List ℕ)) (clocks rest before touched : List ℕ) (c : ℕ) → Gathers group clocks (c ∷ rest) before touched → length group ≤ c → Gathers group clocks rest before touched
-gathers-past group clocks rest before touched c g l = record { both = λ p. sym (ap (λ ys. ticks_in p touched || (ticks_in p ys || told_at group rest p)) (get_or_past group c [] l)) ∙ g.both p }
+pub gathers-past : (group : List (List ℕ)) (clocks rest before touched : List ℕ) (c : ℕ) → Gathers group clocks (c ∷ rest) before touched → length group ≤ c
+    → Gathers group clocks rest before touched
+gathers-past group clocks rest before touched c g l =
+    record { both = λ p. sym (ap (λ ys. ticks_in p touched || (ticks_in p ys || told_at group rest p)) (get_or_past group c [] l)) ∙ g.both p }
 
-pub gathers-all : (group : List (List ℕ)) (clocks before touched : List ℕ) → Gathers group clocks [] before touched → (p : ℕ) → ticks_in p touched ≡ (ticks_in p before || told_at group clocks p)
+pub gathers-all : (group : List (List ℕ)) (clocks before touched : List ℕ) → Gathers group clocks [] before touched → (p : ℕ)
+    → ticks_in p touched ≡ (ticks_in p before || told_at group clocks p)
 gathers-all group clocks before touched g p = sym (or-no (ticks_in p touched)) ∙ g.both p
   where
     or-no : (b : Bool) → (b || false) ≡ b
@@ -193,7 +210,8 @@ gathers-all group clocks before touched g p = sym (or-no (ticks_in p touched)) �
     or-no false = refl
 
 -- THE ITEMS OF A GROUP THAT ARE TOUCHED
-told-meet : (start : ℕ) (group read : List (List ℕ)) → TellsFrom start group read → (clocks : List ℕ) (p : ℕ) → p < MAX_CLOCKS → told_at group clocks p ≡ meet clocks (get_or read (start + p) [])
+told-meet : (start : ℕ) (group read : List (List ℕ)) → TellsFrom start group read → (clocks : List ℕ) (p : ℕ) → p < MAX_CLOCKS
+    → told_at group clocks p ≡ meet clocks (get_or read (start + p) [])
 told-meet start group read t [] p l = refl
 told-meet start group read t (c ∷ clocks) p l = ap₂ (λ x y. x || y) (t c p l) (told-meet start group read t clocks p l)
 
@@ -201,11 +219,13 @@ meet-none : (clocks : List ℕ) → meet clocks [] ≡ false
 meet-none [] = refl
 meet-none (c ∷ clocks) = meet-none clocks
 
-pub touches-told : (ticks : List ℕ) (s : Step) (clocks : List ℕ) (start : ℕ) (group : List (List ℕ)) (touched : List ℕ) (kept : List Watched) → ((x : ℕ) → ticks_in x clocks ≡ (ticks_in x ticks || ticks_in x s))
+pub touches-told : (ticks : List ℕ) (s : Step) (clocks : List ℕ) (start : ℕ) (group : List (List ℕ)) (touched : List ℕ) (kept : List Watched)
+    → ((x : ℕ) → ticks_in x clocks ≡ (ticks_in x ticks || ticks_in x s))
     → TellsFrom start group (map clocks_of kept) → ((p : ℕ) → ticks_in p touched ≡ told_at group clocks p) → Touches ticks s touched start kept
 touches-told ticks s clocks start group touched kept all t h = record {
   inside = λ p l e. inside p l e (nat_lt (start + p) (length kept)) refl;
-  quiet = λ p l e. quiet-unread s ticks clocks all (get_or kept (start + p) Nothing) (sym (met p l ∙ ap (meet clocks) (at p (nat_lt (start + p) (length kept)) refl)) ∙ e);
+  quiet = λ p l e. quiet-unread s ticks clocks all (get_or kept (start + p) Nothing)
+      (sym (met p l ∙ ap (meet clocks) (at p (nat_lt (start + p) (length kept)) refl)) ∙ e);
 }
   where
     read : List (List ℕ)

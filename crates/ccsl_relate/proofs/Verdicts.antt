@@ -24,7 +24,8 @@ module _ (K : System) (bound : List ℕ) (rows : List Row) where
       ∙ ap (λ t. Violated v.step t v.item) (sym f.time)
 
 -- what is found of some items is found of all, where they are all
-pub finds-all : (K K' : System) (bound : List ℕ) (rows : List Row) (start count : ℕ) (o : Option Violation) → K' ≡ K → start ≡ 0 → count ≡ item_count K → Finds K' bound rows start count o
+pub finds-all : (K K' : System) (bound : List ℕ) (rows : List Row) (start count : ℕ) (o : Option Violation) → K' ≡ K → start ≡ 0 → count ≡ item_count K
+    → Finds K' bound rows start count o
     → Finds K bound rows 0 (item_count K) o
 finds-all K K' bound rows start count o e s n h =
     subst (λ k. Finds K bound rows 0 k o) n (subst (λ i. Finds K bound rows i count o) s (subst (λ (X : System). Finds X bound rows start count o) e h))

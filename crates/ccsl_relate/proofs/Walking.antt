@@ -1,5 +1,6 @@
 -- A walk over the places of the items of a group that read a clock that ticks.
-use Rattle.std.proofs.Common.{◌≡◌, ℕ, ◌+◌, ◌-◌, ◌<◌, ◌≤◌, List, [], ◌∷◌, Bool, true, false, ◌||◌, nat_eq, nat_lt, length, get_or, slice_set, ◌⊎◌, inl, inr, ⊎_elim, refl, sym, ap, ◌∙◌, subst, arith, eq-eqb}
+use Rattle.std.proofs.Common.{◌≡◌, ℕ, ◌+◌, ◌-◌, ◌<◌, ◌≤◌, List, [], ◌∷◌, Bool, true, false, ◌||◌, nat_eq, nat_lt, length, get_or, slice_set, ◌⊎◌, inl, inr}
+use Rattle.std.proofs.Common.{⊎_elim, refl, sym, ap, ◌∙◌, subst, arith, eq-eqb}
 use Rattle.std.specs.List.{list_all}
 use Rattle.std.proofs.lemmas.Bool.{and_parts, or_right, eqb-true}
 use Rattle.ccsl_base.specs.declared.limits.TheConstants.{MAX_CLOCKS}
@@ -25,7 +26,8 @@ pub record Walks (ticks : List ℕ) (s : Step) (start : ℕ) (touched rest : Lis
   pub sorted : is_ascending rest ≡ true
   pub below : are_below MAX_CLOCKS touched ≡ true
 
-pub walk-none : (ticks : List ℕ) (s : Step) (start : ℕ) (touched : List ℕ) (kept : List Watched) → is_ascending touched ≡ true → are_below MAX_CLOCKS touched ≡ true → Walks ticks s start touched touched kept kept
+pub walk-none : (ticks : List ℕ) (s : Step) (start : ℕ) (touched : List ℕ) (kept : List Watched) → is_ascending touched ≡ true
+    → are_below MAX_CLOCKS touched ≡ true → Walks ticks s start touched touched kept kept
 walk-none ticks s start touched kept a b = record {
   next = start;
   low = omega arith;
@@ -40,7 +42,8 @@ walk-none ticks s start touched kept a b = record {
 
 module _ (ticks : List ℕ) (s : Step) (start : ℕ) (touched : List ℕ) (old now : List Watched) (t : Touches ticks s touched start old) where
   -- an item at which the walk does not stop is quiet
-  quiet-between : (next : ℕ) (stop : ℕ) → start ≤ next → stop ≤ start + MAX_CLOCKS → ((p : ℕ) → next ≤ start + p → start + p < stop → ticks_in p touched ≡ false)
+  quiet-between : (next : ℕ) (stop : ℕ) → start ≤ next → stop ≤ start + MAX_CLOCKS
+      → ((p : ℕ) → next ≤ start + p → start + p < stop → ticks_in p touched ≡ false)
       → (k : ℕ) → next ≤ k → k < stop → k < length old → IsQuiet ticks s (get_or old k Nothing)
   quiet-between next stop low high none k a b l =
       let p : ℕ = k - start in

@@ -16,7 +16,8 @@ clocks_of (Relation r) = r.left ∷ r.right ∷ []
 
 -- the sets of a group, one a clock, tell which of the items from a place on read the clock: `read` has the clocks of each item
 abbrev pub TellsFrom : ℕ → List (List ℕ) → List (List ℕ) → Type 0
-TellsFrom start group read = (clock place : ℕ) → place < MAX_CLOCKS → ticks_in place (slice_index_or group clock []) ≡ ticks_in clock (slice_index_or read (start + place) [])
+TellsFrom start group read =
+    (clock place : ℕ) → place < MAX_CLOCKS → ticks_in place (slice_index_or group clock []) ≡ ticks_in clock (slice_index_or read (start + place) [])
 
 -- groups of all items, one behind the other
 pub record AreReaders (groups : List (List (List ℕ))) (read : List (List ℕ)) : Type 0 where

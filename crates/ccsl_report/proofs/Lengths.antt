@@ -1,5 +1,6 @@
 -- How long lines are.
-use Rattle.std.proofs.Common.{◌≡◌, ℕ, zero, suc, ◌+◌, ◌-◌, ◌^◌, ◌<◌, ◌≤◌, List, [], ◌∷◌, Bool, true, false, length, max, map, nat_lt, if◌then◌else◌, slice_index_or, slice_get, Some, None, drop, min, add-one, length-append, ap, ◌∙◌, arith, refl}
+use Rattle.std.proofs.Common.{◌≡◌, ℕ, zero, suc, ◌+◌, ◌-◌, ◌^◌, ◌<◌, ◌≤◌, List, [], ◌∷◌, Bool, true, false, length, max, map, nat_lt, if◌then◌else◌}
+use Rattle.std.proofs.Common.{slice_index_or, slice_get, Some, None, drop, min, add-one, length-append, ap, ◌∙◌, arith, refl}
 use Rattle.std.specs.Prelude.{codes, decimal}
 use Rattle.std.proofs.lemmas.Fmt.{length-decimal-le}
 use Rattle.ccsl_kernel.specs.declared.constraint.Constraint.{Constraint}
@@ -7,7 +8,8 @@ use Rattle.ccsl_kernel.specs.Syntax.{System}
 use Rattle.ccsl_report.specs.Line.{line}
 use Rattle.std.specs.List.{concat}
 use Rattle.ccsl_report.specs.Room.{longest, full_room, room}
-use Rattle.ccsl_report.specs.Texts.{clock_name, label_of, of_label, constraint_pieces, item_pieces, broken_text, run_yes_text, fault_at, time_back_text, clock_fault}
+use Rattle.ccsl_report.specs.Texts.{clock_name, label_of, of_label, constraint_pieces, item_pieces, broken_text, run_yes_text, fault_at, time_back_text}
+use Rattle.ccsl_report.specs.Texts.{clock_fault}
 
 -- the lengths of pieces, added up
 abbrev pub total : List (List ℕ) → ℕ
@@ -42,7 +44,8 @@ of_label_short (b ∷ bs) = omega arith
 pub item_short : (K : System) (i : ℕ) → i < 2 ^ 32 → total (item_pieces K i) ≤ 40 + max (longest K.names) (longest (map (λ c. c.label) K.constraints))
 item_short K i h = by_kind (nat_lt i (length K.definitions))
   where
-    by_kind : (b : Bool) → total (if b then codes "definition " ∷ clock_name K (K.declared + i) ∷ [] else constraint_pieces K (i - length K.definitions)) ≤ 40 + max (longest K.names) (longest (map (λ c. c.label) K.constraints))
+    by_kind : (b : Bool) → total (if b then codes "definition " ∷ clock_name K (K.declared + i) ∷ [] else constraint_pieces K (i - length K.definitions)) ≤ 40
+        + max (longest K.names) (longest (map (λ c. c.label) K.constraints))
     by_kind true = omega (arith, name_short K.names (K.declared + i))
     by_kind false =
         omega (
@@ -52,7 +55,8 @@ item_short K i h = by_kind (nat_lt i (length K.definitions))
           number_short (i - length K.definitions) (omega (arith, h)),
         )
 
-pub broken_short : (what : List ℕ) (step time item : ℕ) (K : System) → length what ≤ 16 → step < 2 ^ 64 → time < 2 ^ 64 → item < 2 ^ 32 → length (broken_text what step time item K) ≤ full_room K
+pub broken_short : (what : List ℕ) (step time item : ℕ) (K : System) → length what ≤ 16 → step < 2 ^ 64 → time < 2 ^ 64 → item < 2 ^ 32
+    → length (broken_text what step time item K) ≤ full_room K
 broken_short what step time item K w s t i =
     let whole = line_len (what ∷ codes "no, step " ∷ decimal step ∷ codes ", time " ∷ decimal time ∷ codes ", " ∷ item_pieces K item) in
     omega (arith, whole, w, number_short step s, number_short time t, item_short K item i)
@@ -80,7 +84,8 @@ within_room K len cap text there small short = within len cap text (full_room K)
     within : (len cap text full : ℕ) → len + min full 18446744073709551615 ≤ cap → cap < 2 ^ 63 → text ≤ full → len + text ≤ cap
     within len cap text full there small short = omega (arith, there, small, short)
 
-longest_from : (names : List (List ℕ)) (i : ℕ) (name : List ℕ) → slice_get names i ≡ Some name → longest (drop i names) ≡ max (length name) (longest (drop (suc i) names))
+longest_from : (names : List (List ℕ)) (i : ℕ) (name : List ℕ) → slice_get names i ≡ Some name
+    → longest (drop i names) ≡ max (length name) (longest (drop (suc i) names))
 longest_from [] i name e = absurd (cc e)
 longest_from (n ∷ ns) zero name e = ap (λ m. max (length m) (longest ns)) (some_is n name e)
   where

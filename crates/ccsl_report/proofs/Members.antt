@@ -1,5 +1,6 @@
 -- The names of clocks, appended one by one to the pieces of a line.
-use Rattle.std.proofs.Common.{◌≡◌, ℕ, ◌<◌, List, [], ◌∷◌, ◌++◌, Bool, true, false, ◌||◌, length, nat_eq, slice_get, Some, refl, sym, ap, ◌∙◌, append_assoc, append-nil}
+use Rattle.std.proofs.Common.{◌≡◌, ℕ, ◌<◌, List, [], ◌∷◌, ◌++◌, Bool, true, false, ◌||◌, length, nat_eq, slice_get, Some, refl, sym, ap, ◌∙◌, append_assoc}
+use Rattle.std.proofs.Common.{append-nil}
 use Rattle.std.specs.Prelude.{codes}
 use Rattle.std.proofs.lemmas.Bool.{eq-eqb}
 use Rattle.std.proofs.lemmas.Option.{get_or_from_slice_get}
@@ -72,7 +73,8 @@ naming_more K whole done mid new blank name left rest x e parted_by is_blank app
     }
 
 -- the item, a colon and the names are the line
-pub member_line : (K : System) (item : ℕ) (set : List ℕ) (item_parts mid whole : List Part) (colon : Part) → concat (part_texts item_parts) ≡ concat (item_pieces K item)
+pub member_line : (K : System) (item : ℕ) (set : List ℕ) (item_parts mid whole : List Part) (colon : Part)
+    → concat (part_texts item_parts) ≡ concat (item_pieces K item)
     → mid ≡ item_parts ++ colon ∷ [] → part_text colon ≡ codes ": " → concat (part_texts whole) ≡ concat (part_texts mid) ++ concat (parted K set)
     → line (part_texts whole) ≡ explain_member_text item set K
 member_line K item set item_parts mid whole colon is_item appended is_colon named =

@@ -1,5 +1,6 @@
 -- The lines of a written trace.
-use Rattle.std.proofs.Common.{◌≡◌, ◌≢◌, ℕ, zero, suc, ◌+◌, ◌-◌, ◌/◌, ◌%◌, List, [], ◌∷◌, ◌++◌, Bool, true, false, cond, ◌==◌, length, map, nat_lt, decimal, refl, ap, ◌∙◌, arith, ne_eqb}
+use Rattle.std.proofs.Common.{◌≡◌, ◌≢◌, ℕ, zero, suc, ◌+◌, ◌-◌, ◌/◌, ◌%◌, List, [], ◌∷◌, ◌++◌, Bool, true, false, cond, ◌==◌, length, map, nat_lt, decimal}
+use Rattle.std.proofs.Common.{refl, ap, ◌∙◌, arith, ne_eqb}
 use Rattle.std.specs.List.{count_by}
 use Rattle.std.specs.Fmt.{digit_glyph, digits_onto, digits}
 use Rattle.std.proofs.lemmas.List.Sums.{sum_by-cons, sum_by-append}
@@ -58,7 +59,8 @@ code-feeds x = by-test (nat_lt x CODE_BYTES)
   where
     by-test : (t : Bool) → feeds (cond t (code_byte x ∷ []) (code_byte ((x - CODE_BYTES) / CODE_BYTES) ∷ code_byte ((x - CODE_BYTES) % CODE_BYTES) ∷ [])) ≡ 0
     by-test true = feeds-other (code_byte x) [] (code-other x)
-    by-test false = feeds-other (code_byte ((x - CODE_BYTES) / CODE_BYTES)) (code_byte ((x - CODE_BYTES) % CODE_BYTES) ∷ []) (code-other ((x - CODE_BYTES) / CODE_BYTES))
+    by-test false = feeds-other (code_byte ((x - CODE_BYTES) / CODE_BYTES)) (code_byte ((x - CODE_BYTES) % CODE_BYTES) ∷ [])
+        (code-other ((x - CODE_BYTES) / CODE_BYTES))
         ∙ feeds-other (code_byte ((x - CODE_BYTES) % CODE_BYTES)) [] (code-other ((x - CODE_BYTES) % CODE_BYTES))
 
 tick-feeds : (x : ℕ) → feeds (tick_line x) ≡ 0
@@ -91,8 +93,8 @@ pub text-feeds : (K : System) (T : List Step) → feeds (vcd_text K T) ≡ feeds
 text-feeds K T = feeds-append (header_text K) (steps_text 0 K T) ∙ ap (λ n. feeds (header_text K) + n) (steps-feeds 0 K T)
 
 -- so that the lines of the text are those of the header, one for each step and one for each tick
-pub lines-counted : (K : System) (T : List Step) (text header : List ℕ) (all first steps : ℕ) → all ≡ feeds text → first ≡ feeds header → header ≡ header_text K →
-    text ≡ vcd_text K T → length T ≡ steps → all ≡ first + (steps + ticks_written K T)
+pub lines-counted : (K : System) (T : List Step) (text header : List ℕ) (all first steps : ℕ) → all ≡ feeds text → first ≡ feeds header → header ≡ header_text K
+    → text ≡ vcd_text K T → length T ≡ steps → all ≡ first + (steps + ticks_written K T)
 lines-counted K T text header all first steps a f h t n =
     let whole = text-feeds K T in
     let x : all ≡ feeds (vcd_text K T) = a ∙ ap feeds t in

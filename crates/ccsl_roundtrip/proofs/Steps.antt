@@ -1,5 +1,6 @@
 -- Each step of a simulation shows a clock.
-use Rattle.std.proofs.Common.{◌≡◌, ◌≢◌, ℕ, zero, suc, ◌+◌, ◌<◌, ◌≤◌, List, [], ◌∷◌, All, Bool, true, false, cond, ◌&&◌, length, filter, take, nat_lt, IsTrue, refl, sym, ap, ◌∙◌, subst, arith, lt-ltb, le-ltb, ⊎_elim}
+use Rattle.std.proofs.Common.{◌≡◌, ◌≢◌, ℕ, zero, suc, ◌+◌, ◌<◌, ◌≤◌, List, [], ◌∷◌, All, Bool, true, false, cond, ◌&&◌, length, filter, take, nat_lt, IsTrue}
+use Rattle.std.proofs.Common.{refl, sym, ap, ◌∙◌, subst, arith, lt-ltb, le-ltb, ⊎_elim}
 use Rattle.std.specs.List.{list_all}
 use Rattle.std.proofs.lemmas.List.Elements.{All-from_get_or}
 use Rattle.std.proofs.lemmas.Bool.{cases_lt, and_parts}
@@ -70,4 +71,5 @@ module _ (K : System) (low : K.declared ≤ K.written) (p : Policy) (solve : Adm
   pub ascends : All (λ (step : Step). IsTrue (is_ascending step)) (simulation K p seed steps)
   unfolding T
   ascends = all-steps (λ step. IsTrue (is_ascending step)) (simulation K p seed steps)
-      (λ n l. (and_parts (is_ascending (step_at T n)) (are_below (K.declared + length K.definitions) (step_at T n)) (named-step K T n l (runs seed steps).named)).0)
+      (λ n l. (and_parts (is_ascending (step_at T n)) (are_below (K.declared + length K.definitions) (step_at T n))
+      (named-step K T n l (runs seed steps).named)).0)

@@ -1,5 +1,6 @@
 -- Where there is no fault, calls go to earlier groups, or to the own one in guarded tail positions.
-use Rattle.std.proofs.Common.{◌≡◌, ℕ, ◌+◌, ◌<◌, ◌≤◌, List, [], ◌∷◌, ◌++◌, Bool, true, false, not, ◌&&◌, ◌||◌, Option, Some, None, nat_lt, nat_eq, length, flat_map, ◌⊎◌, inl, inr, refl, sym, ap, ◌∙◌, subst, arith}
+use Rattle.std.proofs.Common.{◌≡◌, ℕ, ◌+◌, ◌<◌, ◌≤◌, List, [], ◌∷◌, ◌++◌, Bool, true, false, not, ◌&&◌, ◌||◌, Option, Some, None, nat_lt, nat_eq, length}
+use Rattle.std.proofs.Common.{flat_map, ◌⊎◌, inl, inr, refl, sym, ap, ◌∙◌, subst, arith}
 use Rattle.std.proofs.lemmas.Bool.Decides.{nat_tests}
 use Rattle.ccsl_ast.specs.declared.spot.Spot.{Spot}
 use Rattle.ccsl_ast.specs.declared.term.Argument.{Argument}
@@ -12,7 +13,8 @@ use Rattle.ccsl_kernel.specs.declared.position.Position.TheVariants.{Inner, Tail
 use Rattle.ccsl_kernel.specs.Guarded.{Allowed, right_of as kernel_right_of}
 use Rattle.ccsl_rules.specs.Faults.{Fault, Cause, where_so, Unknown, Arguments}
 use Rattle.ccsl_rules.specs.Spaces.{Known, Callee, Role, relation, member, look}
-use Rattle.ccsl_rules.specs.Uses.{Scene, has_role, is_own, is_guarded, callee_faults, expr_faults, argument_faults, right_of, term_faults, word_faults, test_faults}
+use Rattle.ccsl_rules.specs.Uses.{Scene, has_role, is_own, is_guarded, callee_faults, expr_faults, argument_faults, right_of, term_faults, word_faults}
+use Rattle.ccsl_rules.specs.Uses.{test_faults}
 use Rattle.ccsl_rules.specs.Settings.{Setting}
 use Rattle.ccsl_rules.specs.Texts.{texts}
 use Rattle.ccsl_rules.specs.Resolved.{Tables, resolve, resolve_op, resolve_call, resolve_arguments, role_call}
@@ -44,24 +46,30 @@ member-call : (S : Scene) (g : ℕ) (p : Position) (s : Spot) (args : List Argum
     (k.since ≤ S.home → group < g) × (k.what.block ≡ S.home → group ≡ g) → k.what.role ≡ member group number → callee_faults S false p s args k ≡ [] →
     (group < g) ⊎ ((group ≡ g) × (p ≡ Guarded))
 member-call S g p s args k group number values o r e =
-    let later : (not (is_own S k.what) && nat_lt S.home k.since) ≡ false = no-fault _ _ _ (left-empty _ _ (left-empty _ _ (left-empty _ _ (left-empty _ _ (left-empty _ _ e))))) in
+    let later : (not (is_own S k.what) && nat_lt S.home k.since) ≡ false =
+    no-fault _ _ _ (left-empty _ _ (left-empty _ _ (left-empty _ _ (left-empty _ _ (left-empty _ _ e))))) in
     let unguarded : (is_own S k.what && not (is_guarded p)) ≡ false = no-fault _ _ _ (right-empty _ _ (left-empty _ _ (left-empty _ _ (left-empty _ _ e)))) in
     let own : is_own S k.what ≡ nat_eq k.what.block S.home = ap (λ x. has_role x false && nat_eq k.what.block S.home) r in
-    by_own (nat_eq k.what.block S.home) refl (sym (ap (λ x. not x && nat_lt S.home k.since) own) ∙ later) (sym (ap (λ x. x && not (is_guarded p)) own) ∙ unguarded)
+    by_own (nat_eq k.what.block S.home) refl (sym (ap (λ x. not x && nat_lt S.home k.since) own) ∙ later)
+    (sym (ap (λ x. x && not (is_guarded p)) own) ∙ unguarded)
   where
-    by_own : (b : Bool) → nat_eq k.what.block S.home ≡ b → (not b && nat_lt S.home k.since) ≡ false → (b && not (is_guarded p)) ≡ false → (group < g) ⊎ ((group ≡ g) × (p ≡ Guarded))
+    by_own : (b : Bool) → nat_eq k.what.block S.home ≡ b → (not b && nat_lt S.home k.since) ≡ false → (b && not (is_guarded p)) ≡ false
+        → (group < g) ⊎ ((group ≡ g) × (p ≡ Guarded))
     by_own true h l u = inr (o.1 (grind (arith, nat_tests)), guarded-is p u)
     by_own false h l u = inl (o.0 (grind (arith, nat_tests)))
 
 -- a call of any name
 role-call : (S : Scene) (g : ℕ) (p : Position) (s : Spot) (args : List Argument) (k : Known Callee) (values : List Value) (role : Role) →
-    ((group number : ℕ) → role ≡ member group number → (k.since ≤ S.home → group < g) × (k.what.block ≡ S.home → group ≡ g)) → k.what.role ≡ role → callee_faults S false p s args k ≡ [] →
+    ((group number : ℕ) → role ≡ member group number → (k.since ≤ S.home → group < g) × (k.what.block ≡ S.home → group ≡ g)) → k.what.role ≡ role
+    → callee_faults S false p s args k ≡ [] →
     Allowed g p (role_call role values)
 role-call S g p s args k values relation o r e = tt
 role-call S g p s args k values (member group number) o r e = member-call S g p s args k group number values (o group number refl) r e
 
-found-call : (S : Scene) (g : ℕ) → Ordered S g → (p : Position) (s : Spot) (args : List Argument) (values : List Value) (found : Option (Known Callee)) → look s.name S.calls ≡ found →
-    elim found as (λ _. List Fault) [ None ↦ where_so true Unknown s.at | Some k ↦ callee_faults S false p s args k ] ≡ [] → Allowed g p (resolve_call found values)
+found-call : (S : Scene) (g : ℕ) → Ordered S g → (p : Position) (s : Spot) (args : List Argument) (values : List Value) (found : Option (Known Callee))
+    → look s.name S.calls ≡ found →
+    elim found as (λ _. List Fault) [ None ↦ where_so true Unknown s.at | Some k ↦ callee_faults S false p s args k ] ≡ []
+    → Allowed g p (resolve_call found values)
 found-call S g o p s args values None l e = tt
 found-call S g o p s args values (Some k) l e =
     role-call S g p s args k values k.what.role (λ group number r. o s.name k group number l r) refl e
@@ -82,11 +90,15 @@ in-range : (m : ℕ) → (nat_lt m 1 || nat_lt 4096 m) ≡ false → (1 ≤ m) �
 in-range m e = (grind (arith, nat_tests), grind (arith, nat_tests))
 
 -- AN EXPRESSION WITHOUT A FAULT resolves to one that is allowed at its place
-pub allowed : (K : Tables) (S : Scene) (g : ℕ) → K.calls ≡ S.calls → Ordered S g → (σ : Setting) (k : ℕ) (p : Position) (e : Expression) → expr_faults S p e ≡ [] → Allowed g p (resolve K σ k e)
+pub allowed : (K : Tables) (S : Scene) (g : ℕ) → K.calls ≡ S.calls → Ordered S g → (σ : Setting) (k : ℕ) (p : Position) (e : Expression)
+    → expr_faults S p e ≡ [] → Allowed g p (resolve K σ k e)
 allowed K S g same o σ k p (EName s) e = tt
 allowed K S g same o σ k p (ECall s args) e =
     found-call S g o p s args (resolve_arguments K σ k args) (look s.name K.calls) (ap (look s.name) (sym same))
-    (ap (λ (calls : List (Known Callee)). elim (look s.name calls) as (λ _. List Fault) [ None ↦ where_so true Unknown s.at | Some x ↦ callee_faults S false p s args x ]) same
+    (ap (λ (calls : List (Known Callee)). elim (look s.name calls) as (λ _. List Fault) [
+      | None ↦ where_so true Unknown s.at
+      | Some x ↦ callee_faults S false p s args x
+    ]) same
     ∙ left-empty _ (flat_map (argument_faults S) args) e)
 allowed K S g same o σ k p ENever e = tt
 allowed K S g same o σ k p (EBinary b x d) e = (

@@ -1,5 +1,6 @@
 -- Where there is no fault, an expression names lower clocks, parameters of the right kinds, and words of the table.
-use Rattle.std.proofs.Common.{◌≡◌, ℕ, suc, ◌+◌, ◌<◌, ◌≤◌, List, [], ◌∷◌, ◌++◌, Bool, true, false, not, ◌||◌, Option, Some, None, is_none, nat_lt, nat_le, nat_eq, length, map, flat_map, zip, slice_get, refl, sym, ap, subst, arith, if◌then◌else◌}
+use Rattle.std.proofs.Common.{◌≡◌, ℕ, suc, ◌+◌, ◌<◌, ◌≤◌, List, [], ◌∷◌, ◌++◌, Bool, true, false, not, ◌||◌, Option, Some, None, is_none, nat_lt, nat_le}
+use Rattle.std.proofs.Common.{nat_eq, length, map, flat_map, zip, slice_get, refl, sym, ap, subst, arith, if◌then◌else◌}
 use Rattle.std.specs.List.{AllByRecursion}
 use Rattle.std.proofs.lemmas.Bool.Decides.{nat_tests}
 use Rattle.ccsl_ast.specs.declared.spot.Spot.{Spot}
@@ -31,10 +32,13 @@ use Rattle.ccsl_kernel.specs.declared.position.Position.TheVariants.{Inner}
 use Rattle.ccsl_kernel.specs.Accepted.{HasKind, IsClock, IsNumber, AreNumbers, IsOffset, IsWord, IsTest, IsArgument, AreArguments, IsKnown}
 use Rattle.ccsl_rules.specs.Faults.{Fault, where_so, Unknown, Later, WrongKind, BadWord, Arguments}
 use Rattle.ccsl_rules.specs.Spaces.{Known, Callee, Role, relation, member, look}
-use Rattle.ccsl_rules.specs.Uses.{Scene, same_kind, has_role, used, kind_of, has_other_kind, used_as, prim_faults, term_faults, text_faults, word_faults, test_faults, single, argument_faults, argument_kind, argument_at, mismatch, callee_faults, call_faults, expr_faults, right_of}
-use Rattle.ccsl_rules.specs.Settings.{Atom, AClock, ANumber, AWord, AParam, Setting, atom_of, tail_of, prim_number, sum_from, argument_atom, argument_atoms, resolve_sign}
+use Rattle.ccsl_rules.specs.Uses.{Scene, same_kind, has_role, used, kind_of, has_other_kind, used_as, prim_faults, term_faults, text_faults, word_faults}
+use Rattle.ccsl_rules.specs.Uses.{test_faults, single, argument_faults, argument_kind, argument_at, mismatch, callee_faults, call_faults, expr_faults, right_of}
+use Rattle.ccsl_rules.specs.Settings.{Atom, AClock, ANumber, AWord, AParam, Setting, atom_of, tail_of, prim_number, sum_from, argument_atom, argument_atoms}
+use Rattle.ccsl_rules.specs.Settings.{resolve_sign}
 use Rattle.ccsl_rules.specs.Texts.{texts, argument_texts, word_texts}
-use Rattle.ccsl_rules.specs.Resolved.{Tables, clock_number, atom_place, atom_prim, atom_word, atom_tail, atom_value, param_value, resolve_prim, resolve_term, resolve_word, resolve_test, resolve_argument, resolve_arguments, resolve, resolve_call, role_call}
+use Rattle.ccsl_rules.specs.Resolved.{Tables, clock_number, atom_place, atom_prim, atom_word, atom_tail, atom_value, param_value, resolve_prim, resolve_term}
+use Rattle.ccsl_rules.specs.Resolved.{resolve_word, resolve_test, resolve_argument, resolve_arguments, resolve, resolve_call, role_call}
 use Rattle.ccsl_rules.specs.Expansion.{kind_in}
 use Rattle.ccsl_rules.proofs.Guarded.{left-empty, right-empty, no-fault}
 
@@ -140,7 +144,8 @@ module _ (groups : List (List Body)) (X : ℕ) (params : List ParamKind) (K : Ta
   tail-known (AClock n) f = absurd f
   tail-known (ANumber n) f = absurd f
 
-  param-known : (k own : Kind) (i : ℕ) → own ≡ k → HasKind groups K.words X params i (kind_in k) → IsArgument groups K.words X params (kind_in k) (param_value i own)
+  param-known : (k own : Kind) (i : ℕ) → own ≡ k → HasKind groups K.words X params i (kind_in k)
+      → IsArgument groups K.words X params (kind_in k) (param_value i own)
   param-known k own i e h = subst (λ x. IsArgument groups K.words X params (kind_in k) (param_value i x)) (sym e) (own-known k i h) where
     own-known : (k : Kind) (i : ℕ) → HasKind groups K.words X params i (kind_in k) → IsArgument groups K.words X params (kind_in k) (param_value i k)
     own-known kind.Clock i h = h
@@ -168,10 +173,16 @@ module _ (groups : List (List Body)) (X : ℕ) (params : List ParamKind) (K : Ta
   prims-ok : Standing → (ps : List (Sign × Primary)) → flat_map (λ p. prim_faults S p.1) ps ≡ [] →
       AllByRecursion (λ (p : NumSign × NumPrim). IsNumber groups K.words X params p.1) (map (λ p. (resolve_sign p.0, resolve_prim σ p.1)) ps)
   prims-ok st [] e = tt
-  prims-ok st (p ∷ ps) e = (prim-ok st p.1 (left-empty (prim_faults S p.1) (flat_map (λ p. prim_faults S p.1) ps) e), prims-ok st ps (right-empty (prim_faults S p.1) (flat_map (λ p. prim_faults S p.1) ps) e))
+  prims-ok st (p ∷ ps) e = (
+    prim-ok st p.1 (left-empty (prim_faults S p.1) (flat_map (λ p. prim_faults S p.1) ps) e),
+    prims-ok st ps (right-empty (prim_faults S p.1) (flat_map (λ p. prim_faults S p.1) ps) e),
+  )
 
   term-ok : Standing → (t : Term) → term_faults S t ≡ [] → AreNumbers groups K.words X params (resolve_term σ t)
-  term-ok st t e = (prim-ok st t.first (left-empty (prim_faults S t.first) (flat_map (λ p. prim_faults S p.1) t.rest) e), prims-ok st t.rest (right-empty (prim_faults S t.first) (flat_map (λ p. prim_faults S p.1) t.rest) e))
+  term-ok st t e = (
+    prim-ok st t.first (left-empty (prim_faults S t.first) (flat_map (λ p. prim_faults S p.1) t.rest) e),
+    prims-ok st t.rest (right-empty (prim_faults S t.first) (flat_map (λ p. prim_faults S p.1) t.rest) e),
+  )
 
   -- the texts from number k on stand in the table, as far as they read
   abbrev pub AreAt : ℕ → List (List ℕ) → Type 0
@@ -187,11 +198,13 @@ module _ (groups : List (List Body)) (X : ℕ) (params : List ParamKind) (K : Ta
   at-right k (x ∷ xs) ys h = let e : suc k + length xs ≡ k + suc (length xs) = omega arith in subst (λ n. AreAt n ys) e (at-right (suc k) xs ys h.1)
 
   -- a text that reads
-  text-word : (text : List ℕ) (found : Option BinaryWord) → read_word text ≡ found → where_so (is_none found) BadWord 0 ≡ [] → (v : BinaryWord) × (read_word text ≡ Some v)
+  text-word : (text : List ℕ) (found : Option BinaryWord) → read_word text ≡ found → where_so (is_none found) BadWord 0 ≡ []
+      → (v : BinaryWord) × (read_word text ≡ Some v)
   text-word text None e h = absurd (cc)
   text-word text (Some v) e h = (v, e)
 
-  pub text-ok : (k at : ℕ) (text : List ℕ) → AreAt k (text ∷ []) → text_faults at text ≡ [] → IsWord groups K.words X params (resolve_word K σ k (word.Text at text))
+  pub text-ok : (k at : ℕ) (text : List ℕ) → AreAt k (text ∷ []) → text_faults at text ≡ []
+      → IsWord groups K.words X params (resolve_word K σ k (word.Text at text))
   text-ok k at text h e =
       let none : is_none (read_word text) ≡ false = no-fault (is_none (read_word text)) BadWord at e in
       let found = text-word text (read_word text) refl (ap (λ b. where_so b BadWord 0) none) in
@@ -203,8 +216,10 @@ module _ (groups : List (List Body)) (X : ℕ) (params : List ParamKind) (K : Ta
   word-ok st k (word.Tail s) h e = tail-known (atom_of σ s.name) (used_as-fits st s kind.Word e)
 
   test-ok : Standing → (q : Test) → test_faults S q ≡ [] → IsTest groups K.words X params (resolve_test σ q)
-  test-ok st (test.Equal t u) e = (term-ok st t (left-empty (term_faults S t) (term_faults S u) e), term-ok st u (right-empty (term_faults S t) (term_faults S u) e))
-  test-ok st (test.Less t u) e = (term-ok st t (left-empty (term_faults S t) (term_faults S u) e), term-ok st u (right-empty (term_faults S t) (term_faults S u) e))
+  test-ok st (test.Equal t u) e =
+      (term-ok st t (left-empty (term_faults S t) (term_faults S u) e), term-ok st u (right-empty (term_faults S t) (term_faults S u) e))
+  test-ok st (test.Less t u) e =
+      (term-ok st t (left-empty (term_faults S t) (term_faults S u) e), term-ok st u (right-empty (term_faults S t) (term_faults S u) e))
   test-ok st (test.Head s) e = word-known (atom_of σ s.name) (used_as-fits st s kind.Word e)
   test-ok st (test.Ended s) e = word-known (atom_of σ s.name) (used_as-fits st s kind.Word e)
 
@@ -212,34 +227,42 @@ module _ (groups : List (List Body)) (X : ℕ) (params : List ParamKind) (K : Ta
   term-argument : Standing → (k : ℕ) (p : Param) (t : Term) (one : Option Spot) → single t ≡ one →
       elim one as (λ _. List Fault) [ None ↦ term_faults S t | Some s ↦ used S s ] ≡ [] →
       has_other_kind (elim one as (λ _. Option Kind) [ None ↦ Some kind.Number | Some s ↦ kind_of S s ]) p.kind ≡ false →
-      IsArgument groups K.words X params (kind_in p.kind) (elim one as (λ _. Value) [ None ↦ value.Number (resolve_term σ t) | Some s ↦ atom_value K (atom_of σ s.name) ])
+      IsArgument groups K.words X params (kind_in p.kind)
+      (elim one as (λ _. Value) [ None ↦ value.Number (resolve_term σ t) | Some s ↦ atom_value K (atom_of σ s.name) ])
   term-argument st k p t None l e o =
       subst (λ w. IsArgument groups K.words X params (kind_in w) (value.Number (resolve_term σ t))) (kinds-same kind.Number p.kind o) (term-ok st t e)
   term-argument st k p t (Some s) l e o = value-known p.kind (atom_of σ s.name) (used-fits st s p.kind e o)
 
-  argument-ok : Standing → (k : ℕ) (p : Param) (a : Argument) → AreAt k (argument_texts a) → argument_faults S a ≡ [] → has_other_kind (argument_kind S a) p.kind ≡ false →
+  argument-ok : Standing → (k : ℕ) (p : Param) (a : Argument) → AreAt k (argument_texts a) → argument_faults S a ≡ []
+      → has_other_kind (argument_kind S a) p.kind ≡ false →
       IsArgument groups K.words X params (kind_in p.kind) (resolve_argument K σ k a)
   argument-ok st k p (arg.Term t) h e o = term-argument st k p t (single t) refl e o
   argument-ok st k p (arg.Text at text) h e o =
-      subst (λ w. IsArgument groups K.words X params (kind_in w) (value.Word (resolve_word K σ k (word.Text at text)))) (kinds-same kind.Word p.kind o) (text-ok k at text h e)
+      subst (λ w. IsArgument groups K.words X params (kind_in w) (value.Word (resolve_word K σ k (word.Text at text)))) (kinds-same kind.Word p.kind o)
+      (text-ok k at text h e)
   argument-ok st k p (arg.Tail s) h e o =
       subst (λ w. IsArgument groups K.words X params (kind_in w) (value.Word (atom_tail K (atom_of σ s.name)))) (kinds-same kind.Word p.kind o)
       (tail-known (atom_of σ s.name) (used_as-fits st s kind.Word e))
 
-  arguments-ok : Standing → (k : ℕ) (ps : List Param) (args : List Argument) → length args ≡ length ps → AreAt k (flat_map argument_texts args) → flat_map (argument_faults S) args ≡ [] →
+  arguments-ok : Standing → (k : ℕ) (ps : List Param) (args : List Argument) → length args ≡ length ps → AreAt k (flat_map argument_texts args)
+      → flat_map (argument_faults S) args ≡ [] →
       flat_map (λ a. mismatch S a.0 a.1) (zip ps args) ≡ [] → AreArguments groups K.words X params (map (λ p. kind_in p.kind) ps) (resolve_arguments K σ k args)
   arguments-ok st k [] [] l h e o = tt
   arguments-ok st k (p ∷ ps) (a ∷ args) l h e o = (
-    argument-ok st k p a (at-left k (argument_texts a) (flat_map argument_texts args) h) (left-empty (argument_faults S a) (flat_map (argument_faults S) args) e)
-        (no-fault (has_other_kind (argument_kind S a) p.kind) WrongKind (argument_at a) (left-empty (mismatch S p a) (flat_map (λ a. mismatch S a.0 a.1) (zip ps args)) o)),
+    argument-ok st k p a (at-left k (argument_texts a) (flat_map argument_texts args) h)
+        (left-empty (argument_faults S a) (flat_map (argument_faults S) args) e)
+        (no-fault (has_other_kind (argument_kind S a) p.kind) WrongKind (argument_at a)
+        (left-empty (mismatch S p a) (flat_map (λ a. mismatch S a.0 a.1) (zip ps args)) o)),
     arguments-ok st (k + length (argument_texts a)) ps args (omega arith) (at-right k (argument_texts a) (flat_map argument_texts args) h)
-        (right-empty (argument_faults S a) (flat_map (argument_faults S) args) e) (right-empty (mismatch S p a) (flat_map (λ a. mismatch S a.0 a.1) (zip ps args)) o),
+        (right-empty (argument_faults S a) (flat_map (argument_faults S) args) e)
+        (right-empty (mismatch S p a) (flat_map (λ a. mismatch S a.0 a.1) (zip ps args)) o),
   )
   arguments-ok st k [] (a ∷ args) l h e o = absurd (omega arith)
   arguments-ok st k (p ∷ ps) [] l h e o = absurd (omega arith)
 
   -- a call
-  known-call : Standing → (k : ℕ) (p : Position) (s : Spot) (args : List Argument) (c : Known Callee) (role : Role) → look s.name S.calls ≡ Some c → c.what.role ≡ role →
+  known-call : Standing → (k : ℕ) (p : Position) (s : Spot) (args : List Argument) (c : Known Callee) (role : Role) → look s.name S.calls ≡ Some c
+      → c.what.role ≡ role →
       AreAt k (flat_map argument_texts args) → callee_faults S false p s args c ≡ [] → flat_map (argument_faults S) args ≡ [] →
       IsKnown groups K.words X params (role_call role (resolve_arguments K σ k args))
   known-call st k p s args c relation l r h e o = tt
@@ -253,25 +276,32 @@ module _ (groups : List (List Body)) (X : ℕ) (params : List ParamKind) (K : Ta
             (arguments-ok st k c.what.params args same h o (right-empty _ (flat_map (λ a. mismatch S a.0 a.1) (zip c.what.params args)) e)),
       )
 
-  found-call : Standing → (k : ℕ) (p : Position) (s : Spot) (args : List Argument) (found : Option (Known Callee)) → look s.name S.calls ≡ found → AreAt k (flat_map argument_texts args) →
-      elim found as (λ _. List Fault) [ None ↦ where_so true Unknown s.at | Some c ↦ callee_faults S false p s args c ] ≡ [] → flat_map (argument_faults S) args ≡ [] →
+  found-call : Standing → (k : ℕ) (p : Position) (s : Spot) (args : List Argument) (found : Option (Known Callee)) → look s.name S.calls ≡ found
+      → AreAt k (flat_map argument_texts args) →
+      elim found as (λ _. List Fault) [ None ↦ where_so true Unknown s.at | Some c ↦ callee_faults S false p s args c ] ≡ []
+      → flat_map (argument_faults S) args ≡ [] →
       IsKnown groups K.words X params (resolve_call found (resolve_arguments K σ k args))
   found-call st k p s args None l h e o = tt
   found-call st k p s args (Some c) l h e o = known-call st k p s args c c.what.role l refl h e o
 
   -- AN EXPRESSION WITHOUT A FAULT names lower clocks, parameters of their kinds, words of the table, and bodies that are there
-  pub known : Standing → (k : ℕ) (p : Position) (e : Expression) → AreAt k (texts e) → expr_faults S p e ≡ [] → IsKnown groups K.words X params (resolve K σ k e)
+  pub known : Standing → (k : ℕ) (p : Position) (e : Expression) → AreAt k (texts e) → expr_faults S p e ≡ []
+      → IsKnown groups K.words X params (resolve K σ k e)
   known st k p (EName s) h e = place-known (atom_of σ s.name) (used_as-fits st s kind.Clock e)
   known st k p (ECall s args) h e =
       subst (λ calls. IsKnown groups K.words X params (resolve_call (look s.name calls) (resolve_arguments K σ k args))) (sym st.same)
-      (found-call st k p s args (look s.name S.calls) refl h (left-empty _ (flat_map (argument_faults S) args) e) (right-empty _ (flat_map (argument_faults S) args) e))
+      (found-call st k p s args (look s.name S.calls) refl h (left-empty _ (flat_map (argument_faults S) args) e)
+      (right-empty _ (flat_map (argument_faults S) args) e))
   known st k p ENever h e = tt
   known st k p (EBinary b a d) h e = (
     known st k Inner a (at-left k (texts a) (texts d) h) (left-empty (expr_faults S Inner a) (expr_faults S (right_of b p) d) e),
-    known st (k + length (texts a)) (right_of b p) d (at-right k (texts a) (texts d) h) (right-empty (expr_faults S Inner a) (expr_faults S (right_of b p) d) e),
+    known st (k + length (texts a)) (right_of b p) d (at-right k (texts a) (texts d) h)
+        (right-empty (expr_faults S Inner a) (expr_faults S (right_of b p) d) e),
   )
-  known st k p (EDelay a m) h e = (known st k Inner a h (left-empty (expr_faults S Inner a) (term_faults S m) e), term-ok st m (right-empty (expr_faults S Inner a) (term_faults S m) e))
-  known st k p (EAwait a m) h e = (known st k Inner a h (left-empty (expr_faults S Inner a) (term_faults S m) e), term-ok st m (right-empty (expr_faults S Inner a) (term_faults S m) e))
+  known st k p (EDelay a m) h e =
+      (known st k Inner a h (left-empty (expr_faults S Inner a) (term_faults S m) e), term-ok st m (right-empty (expr_faults S Inner a) (term_faults S m) e))
+  known st k p (EAwait a m) h e =
+      (known st k Inner a h (left-empty (expr_faults S Inner a) (term_faults S m) e), term-ok st m (right-empty (expr_faults S Inner a) (term_faults S m) e))
   known st k p (EFilter a w) h e = (
     known st k Inner a (at-left k (texts a) (word_texts w) h) (left-empty (expr_faults S Inner a) (word_faults S w) e),
     word-ok st (k + length (texts a)) w (at-right k (texts a) (word_texts w) h) (right-empty (expr_faults S Inner a) (word_faults S w) e),
@@ -304,10 +334,12 @@ module _ (groups : List (List Body)) (X : ℕ) (params : List ParamKind) (K : Ta
   term-atom st p t None e o = subst (λ w. Fits w (ANumber (sum_from σ (prim_number σ t.first) t.rest))) (kinds-same kind.Number p.kind o) tt
   term-atom st p t (Some s) e o = used-fits st s p.kind e o
 
-  atom-ok : Standing → (k : ℕ) (p : Param) (a : Argument) → AreAt k (argument_texts a) → argument_faults S a ≡ [] → has_other_kind (argument_kind S a) p.kind ≡ false → Fits p.kind (argument_atom K.words σ k a)
+  atom-ok : Standing → (k : ℕ) (p : Param) (a : Argument) → AreAt k (argument_texts a) → argument_faults S a ≡ []
+      → has_other_kind (argument_kind S a) p.kind ≡ false → Fits p.kind (argument_atom K.words σ k a)
   atom-ok st k p (arg.Term t) h e o = term-atom st p t (single t) e o
   atom-ok st k p (arg.Text at text) h e o = subst (λ w. Fits w (AWord k 0)) (kinds-same kind.Word p.kind o) (text-ok k at text h e)
-  atom-ok st k p (arg.Tail s) h e o = subst (λ w. Fits w (tail_of K.words (atom_of σ s.name))) (kinds-same kind.Word p.kind o) (tail-fits (atom_of σ s.name) (used_as-fits st s kind.Word e))
+  atom-ok st k p (arg.Tail s) h e o =
+      subst (λ w. Fits w (tail_of K.words (atom_of σ s.name))) (kinds-same kind.Word p.kind o) (tail-fits (atom_of σ s.name) (used_as-fits st s kind.Word e))
 
   -- as many as the parameters, each of its parameter's kind
   abbrev pub AtomsFit : List Param → List Atom → Type 0
@@ -315,14 +347,17 @@ module _ (groups : List (List Body)) (X : ℕ) (params : List ParamKind) (K : Ta
   AtomsFit (p ∷ ps) (a ∷ as') = Fits p.kind a × AtomsFit ps as'
   AtomsFit _ _ = ⊥
 
-  pub atoms-ok : Standing → (k : ℕ) (ps : List Param) (args : List Argument) → length args ≡ length ps → AreAt k (flat_map argument_texts args) → flat_map (argument_faults S) args ≡ [] →
+  pub atoms-ok : Standing → (k : ℕ) (ps : List Param) (args : List Argument) → length args ≡ length ps → AreAt k (flat_map argument_texts args)
+      → flat_map (argument_faults S) args ≡ [] →
       flat_map (λ a. mismatch S a.0 a.1) (zip ps args) ≡ [] → AtomsFit ps (argument_atoms K.words σ k args)
   atoms-ok st k [] [] l h e o = tt
   atoms-ok st k (p ∷ ps) (a ∷ args) l h e o = (
     atom-ok st k p a (at-left k (argument_texts a) (flat_map argument_texts args) h) (left-empty (argument_faults S a) (flat_map (argument_faults S) args) e)
-        (no-fault (has_other_kind (argument_kind S a) p.kind) WrongKind (argument_at a) (left-empty (mismatch S p a) (flat_map (λ a. mismatch S a.0 a.1) (zip ps args)) o)),
+        (no-fault (has_other_kind (argument_kind S a) p.kind) WrongKind (argument_at a)
+        (left-empty (mismatch S p a) (flat_map (λ a. mismatch S a.0 a.1) (zip ps args)) o)),
     atoms-ok st (k + length (argument_texts a)) ps args (omega arith) (at-right k (argument_texts a) (flat_map argument_texts args) h)
-        (right-empty (argument_faults S a) (flat_map (argument_faults S) args) e) (right-empty (mismatch S p a) (flat_map (λ a. mismatch S a.0 a.1) (zip ps args)) o),
+        (right-empty (argument_faults S a) (flat_map (argument_faults S) args) e)
+        (right-empty (mismatch S p a) (flat_map (λ a. mismatch S a.0 a.1) (zip ps args)) o),
   )
   atoms-ok st k [] (a ∷ args) l h e o = absurd (omega arith)
   atoms-ok st k (p ∷ ps) [] l h e o = absurd (omega arith)
@@ -331,22 +366,31 @@ module _ (groups : List (List Body)) (X : ℕ) (params : List ParamKind) (K : Ta
   not-member g m e = cc
 
   -- a relation's call without a fault: the relation, and arguments that fit
-  call-of : Standing → (k : ℕ) (s : Spot) (args : List Argument) (c : Known Callee) (role : Role) → c.what.role ≡ role → AreAt k (flat_map argument_texts args) → callee_faults S true Inner s args c ≡ [] →
+  call-of : Standing → (k : ℕ) (s : Spot) (args : List Argument) (c : Known Callee) (role : Role) → c.what.role ≡ role → AreAt k (flat_map argument_texts args)
+      → callee_faults S true Inner s args c ≡ [] →
       flat_map (argument_faults S) args ≡ [] → (c.what.role ≡ relation) × AtomsFit c.what.params (argument_atoms K.words σ k args)
   call-of st k s args c relation r h e o =
-      let many : not (nat_eq (length args) (length c.what.params)) ≡ false = no-fault _ Arguments s.at (right-empty _ _ (left-empty _ _ e)) in
-      (r, atoms-ok st k c.what.params args (equal-lengths (length args) (length c.what.params) many) h o (right-empty _ (flat_map (λ a. mismatch S a.0 a.1) (zip c.what.params args)) e))
+      let many : not (nat_eq (length args) (length c.what.params)) ≡ false = no-fault _ Arguments s.at (right-empty _ _ (left-empty _ _ e)) in (
+        r,
+        atoms-ok st k c.what.params args (equal-lengths (length args) (length c.what.params) many) h o
+            (right-empty _ (flat_map (λ a. mismatch S a.0 a.1) (zip c.what.params args)) e),
+      )
   call-of st k s args c (member g m) r h e o =
-      let wrong : not (has_role c.what.role true) ≡ false = no-fault _ WrongKind s.at (right-empty _ _ (left-empty _ _ (left-empty _ _ (left-empty _ _ (left-empty _ _ e))))) in
+      let wrong : not (has_role c.what.role true) ≡ false =
+      no-fault _ WrongKind s.at (right-empty _ _ (left-empty _ _ (left-empty _ _ (left-empty _ _ (left-empty _ _ e))))) in
       let is : not (has_role (member g m) true) ≡ false = subst (λ x. not (has_role x true) ≡ false) r wrong in
       absurd (not-member g m is)
 
-  found-use : Standing → (k : ℕ) (s : Spot) (args : List Argument) (found : Option (Known Callee)) → look s.name S.calls ≡ found → AreAt k (flat_map argument_texts args) →
-      elim found as (λ _. List Fault) [ None ↦ where_so true Unknown s.at | Some c ↦ callee_faults S true Inner s args c ] ≡ [] → flat_map (argument_faults S) args ≡ [] →
+  found-use : Standing → (k : ℕ) (s : Spot) (args : List Argument) (found : Option (Known Callee)) → look s.name S.calls ≡ found
+      → AreAt k (flat_map argument_texts args) →
+      elim found as (λ _. List Fault) [ None ↦ where_so true Unknown s.at | Some c ↦ callee_faults S true Inner s args c ] ≡ []
+      → flat_map (argument_faults S) args ≡ [] →
       (c : Known Callee) × (look s.name S.calls ≡ Some c) × (c.what.role ≡ relation) × AtomsFit c.what.params (argument_atoms K.words σ k args)
   found-use st k s args None l h e o = absurd (cc)
   found-use st k s args (Some c) l h e o = let r = call-of st k s args c c.what.role refl h e o in (c, l, r.0, r.1)
 
   pub use-ok : Standing → (k : ℕ) (s : Spot) (args : List Argument) → AreAt k (flat_map argument_texts args) → call_faults S true Inner s args ≡ [] →
       (c : Known Callee) × (look s.name S.calls ≡ Some c) × (c.what.role ≡ relation) × AtomsFit c.what.params (argument_atoms K.words σ k args)
-  use-ok st k s args h e = found-use st k s args (look s.name S.calls) refl h (left-empty _ (flat_map (argument_faults S) args) e) (right-empty _ (flat_map (argument_faults S) args) e)
+  use-ok st k s args h e =
+      found-use st k s args (look s.name S.calls) refl h (left-empty _ (flat_map (argument_faults S) args) e)
+      (right-empty _ (flat_map (argument_faults S) args) e)

@@ -1,13 +1,16 @@
 -- The least fault is the least fault.
-use Rattle.std.proofs.Common.{◌≡◌, ℕ, List, [], ◌∷◌, Bool, true, false, subst, Option, Some, None, nat_lt, nat_eq, ◌&&◌, ◌||◌, inl, inr, refl, sym, arith, if◌then◌else◌}
+use Rattle.std.proofs.Common.{◌≡◌, ℕ, List, [], ◌∷◌, Bool, true, false, subst, Option, Some, None, nat_lt, nat_eq, ◌&&◌, ◌||◌, inl, inr, refl, sym, arith}
+use Rattle.std.proofs.Common.{if◌then◌else◌}
 use Rattle.std.proofs.lemmas.Bool.Decides.{nat_tests}
 use Rattle.ccsl_rules.specs.Faults.{Fault, rank, comes_before, earlier, least}
 use Rattle.ccsl_rules.specs.Laws.{NoneBefore, IsLeast}
 
-pub lex-trans : (a b c r s t : ℕ) → (nat_lt a b || (nat_eq a b && nat_lt r s)) ≡ true → (nat_lt b c || (nat_eq b c && nat_lt s t)) ≡ true → (nat_lt a c || (nat_eq a c && nat_lt r t)) ≡ true
+pub lex-trans : (a b c r s t : ℕ) → (nat_lt a b || (nat_eq a b && nat_lt r s)) ≡ true → (nat_lt b c || (nat_eq b c && nat_lt s t)) ≡ true
+    → (nat_lt a c || (nat_eq a c && nat_lt r t)) ≡ true
 lex-trans a b c r s t p q = grind (arith, nat_tests)
 
-pub lex-not : (a b c r s t : ℕ) → (nat_lt a b || (nat_eq a b && nat_lt r s)) ≡ false → (nat_lt b c || (nat_eq b c && nat_lt s t)) ≡ false → (nat_lt a c || (nat_eq a c && nat_lt r t)) ≡ false
+pub lex-not : (a b c r s t : ℕ) → (nat_lt a b || (nat_eq a b && nat_lt r s)) ≡ false → (nat_lt b c || (nat_eq b c && nat_lt s t)) ≡ false
+    → (nat_lt a c || (nat_eq a c && nat_lt r t)) ≡ false
 lex-not a b c r s t p q = grind (arith, nat_tests)
 
 -- some fault stands in every nonempty list

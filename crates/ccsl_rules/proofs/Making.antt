@@ -6,7 +6,8 @@ use Rattle.ccsl_ast.specs.declared.term.Test.TheVariants as test
 use Rattle.ccsl_ast.specs.declared.term.Argument.TheVariants as arg
 use Rattle.ccsl_ast.specs.declared.tree.BinaryOp.TheVariants as op
 use Rattle.ccsl_ast.specs.declared.line.Relation.TheVariants as rel
-use Rattle.ccsl_ast.specs.Trees.{Expression, EName, ECall, ENever, EBinary, EDelay, EAwait, EIf, LDefine, LConstraint, SLine, PlainMember, PlainDefinition, DRelation, DGroup, PlainFile}
+use Rattle.ccsl_ast.specs.Trees.{Expression, EName, ECall, ENever, EBinary, EDelay, EAwait, EIf, LDefine, LConstraint, SLine, PlainMember, PlainDefinition}
+use Rattle.ccsl_ast.specs.Trees.{DRelation, DGroup, PlainFile}
 use Rattle.ccsl_kernel.specs.Syntax as kernel
 use Rattle.ccsl_kernel.specs.Syntax.{System}
 use Rattle.ccsl_rules.specs.Faults.{Fault}
@@ -62,4 +63,27 @@ fault_ cause at = record { cause = cause; at = at }
 
 -- the library's tree
 abbrev pub the_library : PlainFile
-the_library = (sheet_ ((DRelation (at_ 17 (97 ∷ 108 ∷ 116 ∷ 101 ∷ 114 ∷ 110 ∷ 97 ∷ 116 ∷ 101 ∷ 115 ∷ [])) ((param_ kind.Clock (at_ 34 (97 ∷ []))) ∷ (param_ kind.Clock (at_ 43 (98 ∷ []))) ∷ []) ((LDefine (at_ 57 (110 ∷ 101 ∷ 120 ∷ 116 ∷ [])) (EDelay (EName (at_ 64 (97 ∷ []))) (term_ (prim.Num 72 1) []))) ∷ (LConstraint (at_ 77 (97 ∷ [])) rel.Precedes (at_ 88 (98 ∷ []))) ∷ (LConstraint (at_ 93 (98 ∷ [])) rel.Precedes (at_ 104 (110 ∷ 101 ∷ 120 ∷ 116 ∷ []))) ∷ [])) ∷ (DGroup ((part_ (at_ 123 (112 ∷ 101 ∷ 114 ∷ 105 ∷ 111 ∷ 100 ∷ 105 ∷ 99 ∷ [])) ((param_ kind.Clock (at_ 138 (99 ∷ []))) ∷ (param_ kind.Number (at_ 148 (110 ∷ []))) ∷ []) (EBinary op.Then (EAwait (EName (at_ 154 (99 ∷ []))) (term_ (prim.Name (at_ 162 (110 ∷ []))) [])) (ECall (at_ 170 (112 ∷ 101 ∷ 114 ∷ 105 ∷ 111 ∷ 100 ∷ 105 ∷ 99 ∷ [])) ((arg.Term (term_ (prim.Name (at_ 179 (99 ∷ []))) [])) ∷ (arg.Term (term_ (prim.Name (at_ 182 (110 ∷ []))) [])) ∷ [])))) ∷ [])) ∷ (DGroup ((part_ (at_ 197 (115 ∷ 107 ∷ 105 ∷ 112 ∷ [])) ((param_ kind.Clock (at_ 208 (99 ∷ []))) ∷ (param_ kind.Number (at_ 218 (110 ∷ []))) ∷ []) (EIf (test.Equal (term_ (prim.Name (at_ 228 (110 ∷ []))) []) (term_ (prim.Num 232 0) [])) (EName (at_ 238 (99 ∷ []))) (EBinary op.Then (EBinary op.Upto ENever (EAwait (EName (at_ 258 (99 ∷ []))) (term_ (prim.Name (at_ 266 (110 ∷ []))) []))) (EName (at_ 275 (99 ∷ [])))))) ∷ [])) ∷ (DGroup ((part_ (at_ 289 (102 ∷ 105 ∷ 108 ∷ 116 ∷ 101 ∷ 114 ∷ 95 ∷ 98 ∷ 121 ∷ [])) ((param_ kind.Clock (at_ 305 (99 ∷ []))) ∷ (param_ kind.Word (at_ 313 (119 ∷ []))) ∷ []) (EIf (test.Ended (at_ 329 (119 ∷ []))) ENever (EIf (test.Head (at_ 356 (119 ∷ []))) (EBinary op.Then (EAwait (EName (at_ 363 (99 ∷ []))) (term_ (prim.Num 371 1) [])) (ECall (at_ 379 (102 ∷ 105 ∷ 108 ∷ 116 ∷ 101 ∷ 114 ∷ 95 ∷ 98 ∷ 121 ∷ [])) ((arg.Term (term_ (prim.Name (at_ 389 (99 ∷ []))) [])) ∷ (arg.Tail (at_ 397 (119 ∷ []))) ∷ []))) (EBinary op.Then (EBinary op.Upto ENever (EName (at_ 419 (99 ∷ [])))) (ECall (at_ 427 (102 ∷ 105 ∷ 108 ∷ 116 ∷ 101 ∷ 114 ∷ 95 ∷ 98 ∷ 121 ∷ [])) ((arg.Term (term_ (prim.Name (at_ 437 (99 ∷ []))) [])) ∷ (arg.Tail (at_ 445 (119 ∷ []))) ∷ [])))))) ∷ [])) ∷ []) [])
+the_library = (sheet_ ((DRelation (at_ 17 (97 ∷ 108 ∷ 116 ∷ 101 ∷ 114 ∷ 110 ∷ 97 ∷ 116 ∷ 101 ∷ 115 ∷ []))
+    ((param_ kind.Clock (at_ 34 (97 ∷ []))) ∷ (param_ kind.Clock (at_ 43 (98 ∷ []))) ∷ [])
+    ((LDefine (at_ 57 (110 ∷ 101 ∷ 120 ∷ 116 ∷ [])) (EDelay (EName (at_ 64 (97 ∷ []))) (term_ (prim.Num 72 1) []))) ∷ (LConstraint (at_ 77 (97 ∷ []))
+    rel.Precedes (at_ 88 (98 ∷ []))) ∷ (LConstraint (at_ 93 (98 ∷ [])) rel.Precedes (at_ 104 (110 ∷ 101 ∷ 120 ∷ 116 ∷ []))) ∷ [])) ∷ (DGroup
+    ((part_ (at_ 123 (112 ∷ 101 ∷ 114 ∷ 105 ∷ 111 ∷ 100 ∷ 105 ∷ 99 ∷ []))
+    ((param_ kind.Clock (at_ 138 (99 ∷ []))) ∷ (param_ kind.Number (at_ 148 (110 ∷ []))) ∷ [])
+    (EBinary op.Then (EAwait (EName (at_ 154 (99 ∷ []))) (term_ (prim.Name (at_ 162 (110 ∷ []))) []))
+    (ECall (at_ 170 (112 ∷ 101 ∷ 114 ∷ 105 ∷ 111 ∷ 100 ∷ 105 ∷ 99 ∷ []))
+    ((arg.Term (term_ (prim.Name (at_ 179 (99 ∷ []))) [])) ∷ (arg.Term
+    (term_ (prim.Name (at_ 182 (110 ∷ []))) [])) ∷ [])))) ∷ [])) ∷ (DGroup
+    ((part_ (at_ 197 (115 ∷ 107 ∷ 105 ∷ 112 ∷ []))
+    ((param_ kind.Clock (at_ 208 (99 ∷ []))) ∷ (param_ kind.Number (at_ 218 (110 ∷ []))) ∷ [])
+    (EIf (test.Equal (term_ (prim.Name (at_ 228 (110 ∷ []))) []) (term_ (prim.Num 232 0) []))
+    (EName (at_ 238 (99 ∷ [])))
+    (EBinary op.Then (EBinary op.Upto ENever
+    (EAwait (EName (at_ 258 (99 ∷ []))) (term_ (prim.Name (at_ 266 (110 ∷ []))) [])))
+    (EName (at_ 275 (99 ∷ [])))))) ∷ [])) ∷ (DGroup
+    ((part_ (at_ 289 (102 ∷ 105 ∷ 108 ∷ 116 ∷ 101 ∷ 114 ∷ 95 ∷ 98 ∷ 121 ∷ []))
+    ((param_ kind.Clock (at_ 305 (99 ∷ []))) ∷ (param_ kind.Word (at_ 313 (119 ∷ []))) ∷ [])
+    (EIf (test.Ended (at_ 329 (119 ∷ []))) ENever
+    (EIf (test.Head (at_ 356 (119 ∷ [])))
+    (EBinary op.Then (EAwait (EName (at_ 363 (99 ∷ [])))
+    (term_ (prim.Num 371 1) []))
+    (ECall (at_ 379 (102 ∷ 105 ∷ 108 ∷ 116 ∷ 101 ∷ 114 ∷ 95 ∷ 98 ∷ 121 ∷ [])) ((arg.Term (term_ (prim.Name (at_ 389 (99 ∷ []))) [])) ∷ (arg.Tail (at_ 397 (119 ∷ []))) ∷ []))) (EBinary op.Then (EBinary op.Upto ENever (EName (at_ 419 (99 ∷ [])))) (ECall (at_ 427 (102 ∷ 105 ∷ 108 ∷ 116 ∷ 101 ∷ 114 ∷ 95 ∷ 98 ∷ 121 ∷ [])) ((arg.Term (term_ (prim.Name (at_ 437 (99 ∷ []))) [])) ∷ (arg.Tail (at_ 445 (119 ∷ []))) ∷ [])))))) ∷ [])) ∷ []) [])

@@ -1,5 +1,6 @@
 -- Hidden clocks name lower clocks: the items of a relation's expansion, in a list of names in which their own names stand in order.
-use Rattle.std.proofs.Common.{◌≡◌, ℕ, zero, suc, ◌+◌, ◌<◌, ◌≤◌, List, [], ◌∷◌, ◌++◌, append_assoc, Bool, true, false, not, cond, Option, Some, None, length, length-append, map, flat_map, take, slice_get, find, bytes_eq, refl, sym, ap, ◌∙◌, subst, arith}
+use Rattle.std.proofs.Common.{◌≡◌, ℕ, zero, suc, ◌+◌, ◌<◌, ◌≤◌, List, [], ◌∷◌, ◌++◌, append_assoc, Bool, true, false, not, cond, Option, Some, None, length}
+use Rattle.std.proofs.Common.{length-append, map, flat_map, take, slice_get, find, bytes_eq, refl, sym, ap, ◌∙◌, subst, arith}
 use Rattle.std.specs.List.{position_or_len}
 use Rattle.ccsl_ast.specs.declared.definition.Kind.{Kind}
 use Rattle.ccsl_ast.specs.declared.definition.Kind.TheVariants as kind
@@ -15,7 +16,8 @@ use Rattle.ccsl_rules.specs.Texts.{entry_texts}
 use Rattle.ccsl_rules.specs.Expansion.{kind_in}
 use Rattle.ccsl_rules.specs.Settings.{Atom, AClock, ANumber, AWord, AParam, Setting, atom_of, snd_of, argument_atoms}
 use Rattle.ccsl_rules.specs.Resolved.{Tables, clock_number, resolve}
-use Rattle.ccsl_rules.specs.Unfolded.{Item, Defines, Binds, Unfolding, Unfoldings, unfolding_at, unfold_line, unfold_entry, unfold_body, unfold_relation, call_path, inside, arguments, own_clocks}
+use Rattle.ccsl_rules.specs.Unfolded.{Item, Defines, Binds, Unfolding, Unfoldings, unfolding_at, unfold_line, unfold_entry, unfold_body, unfold_relation}
+use Rattle.ccsl_rules.specs.Unfolded.{call_path, inside, arguments, own_clocks}
 use Rattle.ccsl_rules.specs.Counts.{weight, clock_weights}
 use Rattle.ccsl_rules.proofs.Counting.{weight-append}
 use Rattle.ccsl_rules.proofs.Guarded.{left-empty, right-empty}
@@ -35,15 +37,18 @@ aligned-step P x k p true ks σ h f e = let same : x ≡ k = cc in subst (λ y. 
 aligned-step P x k p false ks σ h f e = f e
 
 -- what a name stands for is what stands beside its declaration
-pub aligned-look : (P : Known Kind → Atom → Type 0) (ks : List (Known Kind)) (σ : Setting) (name : List ℕ) (k : Known Kind) → Aligned P ks σ → look name ks ≡ Some k → P k (atom_of σ name)
+pub aligned-look : (P : Known Kind → Atom → Type 0) (ks : List (Known Kind)) (σ : Setting) (name : List ℕ) (k : Known Kind) → Aligned P ks σ
+    → look name ks ≡ Some k → P k (atom_of σ name)
 aligned-look P [] [] name k a e = absurd (cc)
 aligned-look P (x ∷ ks) (p ∷ σ) name k a e =
     subst (λ n. P k (snd_of (cond (bytes_eq n name) (Some p) (find (λ q. bytes_eq q.0 name) σ)))) a.0
-    (aligned-step P x k p (bytes_eq x.name.name name) (find (λ y. bytes_eq y.name.name name) ks) (find (λ q. bytes_eq q.0 name) σ) a.1 (aligned-look P ks σ name k a.2) e)
+    (aligned-step P x k p (bytes_eq x.name.name name) (find (λ y. bytes_eq y.name.name name) ks) (find (λ q. bytes_eq q.0 name) σ) a.1
+    (aligned-look P ks σ name k a.2) e)
 aligned-look P [] (p ∷ σ) name k a e = absurd a
 aligned-look P (x ∷ ks) [] name k a e = absurd a
 
-pub aligned-append : (P : Known Kind → Atom → Type 0) (ks ls : List (Known Kind)) (σ τ : Setting) → Aligned P ks σ → Aligned P ls τ → Aligned P (ks ++ ls) (σ ++ τ)
+pub aligned-append : (P : Known Kind → Atom → Type 0) (ks ls : List (Known Kind)) (σ τ : Setting) → Aligned P ks σ → Aligned P ls τ
+    → Aligned P (ks ++ ls) (σ ++ τ)
 aligned-append P [] ls [] τ a b = b
 aligned-append P (k ∷ ks) ls (p ∷ σ) τ a b = (a.0, a.1, aligned-append P ks ls σ τ a.2 b)
 aligned-append P [] ls (p ∷ σ) τ a b = absurd a
@@ -103,7 +108,8 @@ module _ (groups : List (List Body)) (K : Tables) where
   }
 
   -- the first one stands at X or before
-  pub placed-first : (X : ℕ) (path name : List ℕ) (σ : Setting) (k : ℕ) (e : Expression) (xs : List Item) → Placed X (Defines path name σ k e ∷ xs) → clock_number K.names name < suc X
+  pub placed-first : (X : ℕ) (path name : List ℕ) (σ : Setting) (k : ℕ) (e : Expression) (xs : List Item) → Placed X (Defines path name σ k e ∷ xs)
+      → clock_number K.names name < suc X
   placed-first X path name σ k e xs p =
       let at : clock_number (p.front ++ name ∷ (names_in xs ++ p.back)) name ≤ length p.front = place-front p.front (names_in xs ++ p.back) name in
       let l = p.long in
@@ -117,7 +123,8 @@ module _ (groups : List (List Body)) (K : Tables) where
   abbrev pub Orderly : ℕ → List Item → Type 0
   Orderly X [] = Unit {0}
   Orderly X (Defines path name σ k e ∷ xs) = IsKnown groups K.words X [] (resolve K σ k e) × Orderly (suc X) xs
-  Orderly X (Binds path σ a r b ∷ xs) = Fits groups X [] K nowhere [] kind.Clock (atom_of σ a) × Fits groups X [] K nowhere [] kind.Clock (atom_of σ b) × Orderly X xs
+  Orderly X (Binds path σ a r b ∷ xs) =
+      Fits groups X [] K nowhere [] kind.Clock (atom_of σ a) × Fits groups X [] K nowhere [] kind.Clock (atom_of σ b) × Orderly X xs
 
   pub orderly-append : (X : ℕ) (xs ys : List Item) → Orderly X xs → Orderly (X + weight clock_weights xs) ys → Orderly X (xs ++ ys)
   orderly-append X [] ys a b = let e : X + 0 ≡ X = omega arith in subst (λ n. Orderly n ys) e b
@@ -151,13 +158,15 @@ module _ (groups : List (List Body)) (K : Tables) where
   pub record Ready (R : Unfoldings) : Type 0 where
     pub bodies : (name : List ℕ) (c : Known Callee) (g m : ℕ) → look name K.calls ≡ Some c → c.what.role ≡ member g m →
         (b : Body) × (body_of groups g m ≡ Some b) × (b.params ≡ map (λ p. kind_in p.kind) c.what.params)
-    pub keeps : (name : List ℕ) (c : Known Callee) → look name K.calls ≡ Some c → c.what.role ≡ relation → Keeps c.what.params (unfolding_at (slice_get R c.what.block))
+    pub keeps : (name : List ℕ) (c : Known Callee) → look name K.calls ≡ Some c → c.what.role ≡ relation
+        → Keeps c.what.params (unfolding_at (slice_get R c.what.block))
 
   -- Xat i is the number of the next clock before line i
   module _ (R : Unfoldings) (path : List ℕ) (σ : Setting) (Xat : ℕ → ℕ) where
     abbrev pub Rises : ℕ → ℕ → List SLine → Type 0
     Rises k i [] = Unit {0}
-    Rises k i (e ∷ es) = (Xat (i + 1) ≡ Xat i + weight clock_weights (unfold_entry K.words K.calls R path σ k i e)) × Rises (k + length (entry_texts e)) (i + 1) es
+    Rises k i (e ∷ es) = (Xat (i + 1) ≡ Xat i + weight clock_weights (unfold_entry K.words K.calls R path σ k i e))
+        × Rises (k + length (entry_texts e)) (i + 1) es
 
     -- the clocks of the first n lines
     abbrev pub upto : ℕ → ℕ → List SLine → ℕ → ℕ
@@ -165,7 +174,8 @@ module _ (groups : List (List Body)) (K : Tables) where
 
     upto-suc : (k i : ℕ) (e : SLine) (es : List SLine) (n : ℕ) →
         upto k i (e ∷ es) (suc n) ≡ weight clock_weights (unfold_entry K.words K.calls R path σ k i e) + upto (k + length (entry_texts e)) (i + 1) es n
-    upto-suc k i e es n = weight-append clock_weights (unfold_entry K.words K.calls R path σ k i e) (unfold_body K.words K.calls R path σ (k + length (entry_texts e)) (i + 1) (take n es))
+    upto-suc k i e es n = weight-append clock_weights (unfold_entry K.words K.calls R path σ k i e)
+        (unfold_body K.words K.calls R path σ (k + length (entry_texts e)) (i + 1) (take n es))
 
     pub upto-zero : (k i : ℕ) (es : List SLine) → upto k i es 0 ≡ 0
     upto-zero k i [] = refl
@@ -256,19 +266,24 @@ module _ (groups : List (List Body)) (K : Tables) where
         )
     entry-orderly k i (SLineOf (LCall s args)) h f p =
         let call = use-ok groups (Xat i) [] K (scene i) σ (standing i) k s args h f in
-        let same : unfold_line K.words K.calls R path σ k i (LCall s args) ≡ unfolding_at (slice_get R call.0.what.block) (call_path path s.name i) (argument_atoms K.words σ k args) =
-        ap (λ (found : Option (Known Callee)). elim found as (λ _. Unfolding) [ None ↦ λ path args. [] | Some c ↦ unfolding_at (slice_get R c.what.block) ] (call_path path s.name i) (argument_atoms K.words σ k args)) call.1 in
+        let same : unfold_line K.words K.calls R path σ k i (LCall s args) ≡ unfolding_at (slice_get R call.0.what.block) (call_path path s.name i)
+        (argument_atoms K.words σ k args) =
+        ap (λ (found : Option (Known Callee)). elim found as (λ _. Unfolding) [ None ↦ λ path args. [] | Some c ↦ unfolding_at (slice_get R c.what.block) ]
+        (call_path path s.name i) (argument_atoms K.words σ k args)) call.1 in
         subst (λ xs. Orderly (Xat i) xs) (sym same)
-        (ready.keeps s.name call.0 call.1 call.2 (Xat i) (call_path path s.name i) (argument_atoms K.words σ k args) call.3 (subst (λ xs. Placed (Xat i) xs) same p))
+        (ready.keeps s.name call.0 call.1 call.2 (Xat i) (call_path path s.name i) (argument_atoms K.words σ k args) call.3
+        (subst (λ xs. Placed (Xat i) xs) same p))
 
-    pub body-orderly : (k i : ℕ) (es : List SLine) → AreAt groups 0 [] K nowhere [] k (flat_map entry_texts es) → entries_faults (scene 0) i es ≡ [] → Rises R path σ Xat k i es →
+    pub body-orderly : (k i : ℕ) (es : List SLine) → AreAt groups 0 [] K nowhere [] k (flat_map entry_texts es) → entries_faults (scene 0) i es ≡ []
+        → Rises R path σ Xat k i es →
         Placed (Xat i) (unfold_body K.words K.calls R path σ k i es) → Orderly (Xat i) (unfold_body K.words K.calls R path σ k i es)
     body-orderly k i [] h f r p = tt
     body-orderly k i (e ∷ es) h f r p =
         let here = unfold_entry K.words K.calls R path σ k i e in
         let rest = unfold_body K.words K.calls R path σ (k + length (entry_texts e)) (i + 1) es in
         orderly-append (Xat i) here rest
-        (entry-orderly k i e (at-left groups 0 [] K nowhere [] k (entry_texts e) (flat_map entry_texts es) h) (left-empty (entry_faults (scene i) e) (entries_faults (scene 0) (i + 1) es) f) (placed-left (Xat i) here rest p))
+        (entry-orderly k i e (at-left groups 0 [] K nowhere [] k (entry_texts e) (flat_map entry_texts es) h)
+        (left-empty (entry_faults (scene i) e) (entries_faults (scene 0) (i + 1) es) f) (placed-left (Xat i) here rest p))
         (subst (λ n. Orderly n rest) r.0
         (body-orderly (k + length (entry_texts e)) (i + 1) es (at-right groups 0 [] K nowhere [] k (entry_texts e) (flat_map entry_texts es) h)
         (right-empty (entry_faults (scene i) e) (entries_faults (scene 0) (i + 1) es) f) r.1
@@ -277,15 +292,20 @@ module _ (groups : List (List Body)) (K : Tables) where
   -- A RELATION WITHOUT A FAULT keeps the order
   pub relation-keeps : (R : Unfoldings) → Ready R → (home : ℕ) (levels : List ℕ) (k : ℕ) (params : List Param) (lines : List Line) →
       AreAt groups 0 [] K nowhere [] k (flat_map entry_texts (map SLineOf lines)) →
-      entries_faults (record { locals = params_space params ++ lines_space 0 (map SLineOf lines); line = 0; calls = K.calls; home = home; levels = levels }) 0 (map SLineOf lines) ≡ [] →
+      entries_faults (record { locals = params_space params ++ lines_space 0 (map SLineOf lines); line = 0; calls = K.calls; home = home; levels = levels }) 0
+      (map SLineOf lines) ≡ [] →
       Keeps params (unfold_relation K.words K.calls R k params (map SLineOf lines))
   relation-keeps R ready home levels k params lines h f X path args fit placed =
       let σ : Setting = arguments params args ++ own_clocks path (map SLineOf lines) in
       let Xat : ℕ → ℕ = λ n. X + upto R path σ (λ m. m) k 0 (map SLineOf lines) n in
       let first : Xat 0 ≡ X = sum-zero X _ (upto-zero R path σ (λ m. m) k 0 (map SLineOf lines)) in
-      let up : Rises R path σ Xat k 0 (map SLineOf lines) = rises R path σ Xat k 0 (map SLineOf lines) (λ n. shift n X (upto R path σ (λ m. m) k 0 (map SLineOf lines)) (upto-zero R path σ (λ m. m) k 0 (map SLineOf lines))) in
-      let start : Placed (Xat 0) (unfold_body K.words K.calls R path σ k 0 (map SLineOf lines)) = subst (λ n. Placed n (unfold_body K.words K.calls R path σ k 0 (map SLineOf lines))) (sym first) placed in
-      let steps = aligned-append (λ c a. Fits groups (Xat c.since) [] K nowhere [] c.what a) (params_space params) (lines_space 0 (map SLineOf lines)) (arguments params args) (own_clocks path (map SLineOf lines))
+      let up : Rises R path σ Xat k 0 (map SLineOf lines) =
+      rises R path σ Xat k 0 (map SLineOf lines)
+      (λ n. shift n X (upto R path σ (λ m. m) k 0 (map SLineOf lines)) (upto-zero R path σ (λ m. m) k 0 (map SLineOf lines))) in
+      let start : Placed (Xat 0) (unfold_body K.words K.calls R path σ k 0 (map SLineOf lines)) =
+      subst (λ n. Placed n (unfold_body K.words K.calls R path σ k 0 (map SLineOf lines))) (sym first) placed in
+      let steps = aligned-append (λ c a. Fits groups (Xat c.since) [] K nowhere [] c.what a) (params_space params) (lines_space 0 (map SLineOf lines))
+      (arguments params args) (own_clocks path (map SLineOf lines))
       (params-aligned X Xat params args (same-le X (Xat 0) (sym first)) fit) (own-aligned R path σ Xat k 0 lines up start) in
       subst (λ n. Orderly n (unfold_body K.words K.calls R path σ k 0 (map SLineOf lines))) first
       (body-orderly R ready home levels (params_space params ++ lines_space 0 (map SLineOf lines)) path σ Xat

@@ -18,5 +18,20 @@ pub library_accepted : refusal (sheet_ [] []) the_library ≡ None
 unfolding digits
 library_accepted = refl
 
-pub library_groups : (file : PlainFile) → take 3 (expand the_library file).groups ≡ (((body_ (takes.Clock ∷ takes.Number ∷ []) (kernel.EBinary does.Then (kernel.EAwait (kernel.EName (place.Param 0)) (number_ (num.Param 1) [])) (kernel.ECall 0 0 ((value.Clock (place.Param 0)) ∷ (value.Number (number_ (num.Param 1) [])) ∷ [])))) ∷ []) ∷ ((body_ (takes.Clock ∷ takes.Number ∷ []) (kernel.EIf (asks.Equal (number_ (num.Param 1) []) (number_ (num.Num 0) [])) (kernel.EName (place.Param 0)) (kernel.EBinary does.Then (kernel.EBinary does.Upto kernel.ENever (kernel.EAwait (kernel.EName (place.Param 0)) (number_ (num.Param 1) []))) (kernel.EName (place.Param 0))))) ∷ []) ∷ ((body_ (takes.Clock ∷ takes.Word ∷ []) (kernel.EIf (asks.Ended (spot.Param 1)) kernel.ENever (kernel.EIf (asks.Head (spot.Param 1)) (kernel.EBinary does.Then (kernel.EAwait (kernel.EName (place.Param 0)) (number_ (num.Num 1) [])) (kernel.ECall 2 0 ((value.Clock (place.Param 0)) ∷ (value.Word (spot.Tail 1)) ∷ []))) (kernel.EBinary does.Then (kernel.EBinary does.Upto kernel.ENever (kernel.EName (place.Param 0))) (kernel.ECall 2 0 ((value.Clock (place.Param 0)) ∷ (value.Word (spot.Tail 1)) ∷ [])))))) ∷ []) ∷ [])
+pub library_groups : (file : PlainFile)
+    → take 3 (expand the_library
+    file).groups ≡ (((body_ (takes.Clock ∷ takes.Number ∷ [])
+    (kernel.EBinary does.Then (kernel.EAwait (kernel.EName (place.Param 0)) (number_ (num.Param 1) []))
+    (kernel.ECall 0 0 ((value.Clock (place.Param 0)) ∷ (value.Number (number_ (num.Param 1) [])) ∷ [])))) ∷ []) ∷ ((body_
+    (takes.Clock ∷ takes.Number ∷ [])
+    (kernel.EIf (asks.Equal (number_ (num.Param 1) []) (number_ (num.Num 0) [])) (kernel.EName (place.Param 0))
+    (kernel.EBinary does.Then
+    (kernel.EBinary does.Upto kernel.ENever (kernel.EAwait (kernel.EName (place.Param 0)) (number_ (num.Param 1) [])))
+    (kernel.EName (place.Param 0))))) ∷ []) ∷ ((body_ (takes.Clock ∷ takes.Word ∷ [])
+    (kernel.EIf (asks.Ended (spot.Param 1)) kernel.ENever
+    (kernel.EIf (asks.Head (spot.Param 1))
+    (kernel.EBinary does.Then (kernel.EAwait (kernel.EName (place.Param 0)) (number_ (num.Num 1) []))
+    (kernel.ECall 2 0 ((value.Clock (place.Param 0)) ∷ (value.Word (spot.Tail 1)) ∷ [])))
+    (kernel.EBinary does.Then (kernel.EBinary does.Upto kernel.ENever (kernel.EName (place.Param 0)))
+    (kernel.ECall 2 0 ((value.Clock (place.Param 0)) ∷ (value.Word (spot.Tail 1)) ∷ [])))))) ∷ []) ∷ [])
 library_groups file = refl

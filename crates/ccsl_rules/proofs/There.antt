@@ -19,7 +19,8 @@ past : (home : ℕ) (bs : List PlainDefinition) (c : Known Callee) → c.what.bl
 past home [] c h = tt
 past home (b ∷ bs) c h = ((λ e. absurd (omega arith)), past (home + 1) bs c (omega arith))
 
-behind : (home : ℕ) (b : PlainDefinition) (bs : List PlainDefinition) (cs : List (Known Callee)) → AllByRecursion (Stands (home + 1) bs) cs → AllByRecursion (Stands home (b ∷ bs)) cs
+behind : (home : ℕ) (b : PlainDefinition) (bs : List PlainDefinition) (cs : List (Known Callee)) → AllByRecursion (Stands (home + 1) bs) cs
+    → AllByRecursion (Stands home (b ∷ bs)) cs
 behind home b bs [] a = tt
 behind home b bs (c ∷ cs) a =
     let above : home + 1 ≤ c.what.block = a.0.0 in
@@ -31,14 +32,19 @@ parts-stand home group number bs (p ∷ ps) = ((omega arith, λ r. absurd (cc)),
 
 space-stands : (home group : ℕ) (bs : List PlainDefinition) → AllByRecursion (Stands home bs) (calls_space home group bs)
 space-stands home group [] = tt
-space-stands home group (DRelation name params lines ∷ bs) =
-    ((omega arith, λ r. ((λ e. refl), past-here home bs)), behind home (DRelation name params lines) bs (calls_space (home + 1) group bs) (space-stands (home + 1) group bs))
+space-stands home group (DRelation name params lines ∷ bs) = (
+  (omega arith, λ r. ((λ e. refl), past-here home bs)),
+  behind home (DRelation name params lines) bs (calls_space (home + 1) group bs) (space-stands (home + 1) group bs),
+)
   where
-    past-here : (home : ℕ) (bs : List PlainDefinition) → AtPlace (home + 1) bs (record { name = name; since = home + 1; what = record { role = relation; block = home; params = params } })
-    past-here home bs = past (home + 1) bs (record { name = name; since = home + 1; what = record { role = relation; block = home; params = params } }) (omega arith)
+    past-here : (home : ℕ) (bs : List PlainDefinition)
+        → AtPlace (home + 1) bs (record { name = name; since = home + 1; what = record { role = relation; block = home; params = params } })
+    past-here home bs = past (home + 1) bs (record { name = name; since = home + 1; what = record { role = relation; block = home; params = params } })
+        (omega arith)
 space-stands home group (DGroup members ∷ bs) =
     all-append (Stands home (DGroup members ∷ bs)) (parts_space home group 0 members) (calls_space (home + 1) (group + 1) bs)
-    (parts-stand home group 0 (DGroup members ∷ bs) members) (behind home (DGroup members) bs (calls_space (home + 1) (group + 1) bs) (space-stands (home + 1) (group + 1) bs))
+    (parts-stand home group 0 (DGroup members ∷ bs) members)
+    (behind home (DGroup members) bs (calls_space (home + 1) (group + 1) bs) (space-stands (home + 1) (group + 1) bs))
 
 there : (groups : List (List Body)) (K : Tables) (home : ℕ) (bs : List PlainDefinition) →
     ((name : List ℕ) (c : Known Callee) → look name K.calls ≡ Some c → c.what.role ≡ relation → AtPlace home bs c) → AreThere groups K home bs
@@ -50,5 +56,7 @@ there groups K home (b ∷ bs) f =
 pub space-there : (groups : List (List Body)) (K : Tables) (bs : List PlainDefinition) → K.calls ≡ calls_space 0 0 bs → AreThere groups K 0 bs
 space-there groups K bs same =
     there groups K 0 bs (λ name c l r.
-    let at : Stands 0 bs c = found-all (Stands 0 bs) (λ x. bytes_eq x.name.name name) (calls_space 0 0 bs) c (space-stands 0 0 bs) (ap (λ (cs : List (Known Callee)). look name cs) (sym same) ∙ l) in
+    let at : Stands 0 bs c =
+    found-all (Stands 0 bs) (λ x. bytes_eq x.name.name name) (calls_space 0 0 bs) c (space-stands 0 0 bs)
+    (ap (λ (cs : List (Known Callee)). look name cs) (sym same) ∙ l) in
     at.1 r)

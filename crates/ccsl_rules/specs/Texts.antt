@@ -4,7 +4,8 @@ use Rattle.ccsl_ast.specs.declared.term.WordTerm.{WordTerm}
 use Rattle.ccsl_ast.specs.declared.term.WordTerm.TheVariants as word
 use Rattle.ccsl_ast.specs.declared.term.Argument.{Argument}
 use Rattle.ccsl_ast.specs.declared.term.Argument.TheVariants as arg
-use Rattle.ccsl_ast.specs.Trees.{Expression, ECall, EBinary, EDelay, EAwait, EFilter, EDelayed, EIf, Line, LDefine, LConstraint, LCall, SLine, SClocks, SLineOf, PlainDefinition, DRelation, DGroup, PlainFile}
+use Rattle.ccsl_ast.specs.Trees.{Expression, ECall, EBinary, EDelay, EAwait, EFilter, EDelayed, EIf, Line, LDefine, LConstraint, LCall, SLine, SClocks, SLineOf}
+use Rattle.ccsl_ast.specs.Trees.{PlainDefinition, DRelation, DGroup, PlainFile}
 
 abbrev pub word_texts : WordTerm → List (List ℕ)
 word_texts (word.Text at text) = text ∷ []

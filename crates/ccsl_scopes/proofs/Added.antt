@@ -20,6 +20,7 @@ pub added-length : (old new : List (List ℕ)) (name : List ℕ) (o : Option ℕ
 added-length old new name None a = let same = ap length a.1 in omega (arith, same)
 added-length old new name (Some number) a = let more = ap length a.2 ∙ length-append old (name ∷ []) in omega (arith, more)
 
-pub result-length : (old new : List (List ℕ)) (name : List ℕ) (r : Result (Option ℕ) Memory) → IfOk r (λ o. IsAdded old new name o) → OnErr r (new ≡ old) → length old ≤ length new
+pub result-length : (old new : List (List ℕ)) (name : List ℕ) (r : Result (Option ℕ) Memory) → IfOk r (λ o. IsAdded old new name o) → OnErr r (new ≡ old)
+    → length old ≤ length new
 result-length old new name (Ok o) added memory = added-length old new name o added
 result-length old new name (Err e) added memory = let same = ap length memory in omega (arith, same)

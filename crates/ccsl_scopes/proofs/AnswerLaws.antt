@@ -1,5 +1,6 @@
 -- What a token of a header says, and what a reader answers.
-use Rattle.std.proofs.Common.{◌≡◌, ◌⊎◌, inl, inr, ℕ, ◌+◌, ◌<◌, ◌≤◌, List, [], ◌∷◌, ◌++◌, length, Bool, true, false, nat_le, if◌then◌else◌, Option, Some, None, Result, Ok, Err, refl, sym, ap, ap₂, subst, ◌∙◌, arith, length-append, append_assoc}
+use Rattle.std.proofs.Common.{◌≡◌, ◌⊎◌, inl, inr, ℕ, ◌+◌, ◌<◌, ◌≤◌, List, [], ◌∷◌, ◌++◌, length, Bool, true, false, nat_le, if◌then◌else◌, Option, Some, None}
+use Rattle.std.proofs.Common.{Result, Ok, Err, refl, sym, ap, ap₂, subst, ◌∙◌, arith, length-append, append_assoc}
 use Rattle.std.proofs.lemmas.List.{append-nil}
 use Rattle.std.proofs.lemmas.Grind.{common_steps}
 use Rattle.ccsl_vcd_lex.specs.Tokens.{Token}
@@ -10,7 +11,8 @@ use Rattle.ccsl_vcd.specs.Places.{Among, commands, inside}
 use Rattle.ccsl_scopes.specs.declared.command.HeaderWord.{HeaderWord}
 use Rattle.ccsl_scopes.specs.declared.command.HeaderWord.TheVariants.{Var, Scope}
 use Rattle.ccsl_scopes.specs.declared.reader.HeaderReader.{HeaderReader}
-use Rattle.ccsl_scopes.specs.Headings.{Declared, Heading, Said, goes, over, refused, header_word, scope_name, codes_of, declares, word_fits, put_declared, starts, ends, inside_says, is_end, heading_says}
+use Rattle.ccsl_scopes.specs.Headings.{Declared, Heading, Said, goes, over, refused, header_word, scope_name, codes_of, declares, word_fits, put_declared}
+use Rattle.ccsl_scopes.specs.Headings.{starts, ends, inside_says, is_end, heading_says}
 use Rattle.ccsl_scopes.specs.Standing.{scope_text, scope_begins, Holds, StandsIn, StandsBetween, Counts, Stands, Answers, Opens, Fits, Declares}
 use Rattle.ccsl_scopes.proofs.VariableLaws.{same-length}
 use Rattle.ccsl_base.proofs.Cases.{not-within}

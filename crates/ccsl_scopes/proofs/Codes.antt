@@ -26,7 +26,8 @@ unfolding CodedOne
 coded-bits count v None e = tt
 coded-bits count v (Some bits) e = e
 
-coded-target : (count : ℕ) (exact : Bool) (parts : List ℕ) (select : Select) (v : Variable) → nat_lt v.code count ≡ true → CodedOne count (target_of exact parts select v)
+coded-target : (count : ℕ) (exact : Bool) (parts : List ℕ) (select : Select) (v : Variable) → nat_lt v.code count ≡ true
+    → CodedOne count (target_of exact parts select v)
 unfolding CodedOne
 coded-target count exact parts select v e =
     letters (has_letters v.kind) (is_or_ends_in exact (take v.bare v.path.items) parts) (is_or_ends_in exact v.path.items parts)
@@ -65,7 +66,9 @@ coded-chosen count Several Nothing ca cx = tt
 coded-chosen count Several (One u) ca cx = cx
 coded-chosen count Several Several ca cx = tt
 
-pub resolved-declared : (count : ℕ) (parts : List ℕ) (select : Select) (vs : List Variable) → are_declared count vs ≡ true → IsDeclared count (resolved parts select vs)
+pub resolved-declared : (count : ℕ) (parts : List ℕ) (select : Select) (vs : List Variable) → are_declared count vs ≡ true
+    → IsDeclared count (resolved parts select vs)
 unfolding CodedAll resolved
 resolved-declared count parts select vs e =
-    coded-chosen count (only false parts select vs) (only true parts select vs) (coded-only count Nothing false parts select vs tt e) (coded-only count Nothing true parts select vs tt e)
+    coded-chosen count (only false parts select vs) (only true parts select vs) (coded-only count Nothing false parts select vs tt e)
+    (coded-only count Nothing true parts select vs tt e)

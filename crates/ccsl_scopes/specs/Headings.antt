@@ -1,6 +1,7 @@
 -- A header with the names of its scopes: what its tokens declare one after another. IEEE 1364-2005, clause 18.2.3. Every
 -- command that is not named here is passed over. Where a fault stands, and the limits, are this project's profile.
-use Rattle.std.specs.Prelude.{ℕ, List, [], ◌∷◌, ◌++◌, length, Bool, true, false, Option, Some, None, is_some, unwrap_or, nat_le, ◌==◌, ◌||◌, if◌then◌else◌, codes, bytes_eq, flat_map, fold}
+use Rattle.std.specs.Prelude.{ℕ, List, [], ◌∷◌, ◌++◌, length, Bool, true, false, Option, Some, None, is_some, unwrap_or, nat_le, ◌==◌, ◌||◌, if◌then◌else◌}
+use Rattle.std.specs.Prelude.{codes, bytes_eq, flat_map, fold}
 use Rattle.ccsl_base.specs.Empty.{is_empty}
 use Rattle.ccsl_base.specs.Decimal.{number_up_to}
 use Rattle.ccsl_base.specs.Names.{is_among}

@@ -1,5 +1,6 @@
 -- What a path means in a header. Its parts, and a variable's scopes and name, stand with a blank between two: no name has one.
-use Rattle.std.specs.Prelude.{ℕ, ◌-◌, List, [], ◌∷◌, length, take, drop, Bool, true, false, Option, Some, None, nat_lt, bytes_eq, get_or, ◌==◌, ◌&&◌, ◌||◌, if◌then◌else◌}
+use Rattle.std.specs.Prelude.{ℕ, ◌-◌, List, [], ◌∷◌, length, take, drop, Bool, true, false, Option, Some, None, nat_lt, bytes_eq, get_or, ◌==◌, ◌&&◌, ◌||◌}
+use Rattle.std.specs.Prelude.{if◌then◌else◌}
 use Rattle.ccsl_scopes.specs.declared.select.Select.{Select}
 use Rattle.ccsl_scopes.specs.declared.select.Select.TheVariants.{Whole}
 use Rattle.ccsl_scopes.specs.declared.select.Bits.{Bits}

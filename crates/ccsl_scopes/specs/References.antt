@@ -1,7 +1,8 @@
 -- A reference of a declared variable: its name, and what stands in brackets behind it. IEEE 1364-2005, clause 18.2.3.
 -- Brackets at the end of the one token of a name, as simulators write them, are read as those in tokens of their own. An
 -- escaped name, which begins with a backslash, has its brackets in its name. These two are this project's profile.
-use Rattle.std.specs.Prelude.{ℕ, ◌+◌, ◌-◌, List, [], ◌∷◌, ◌++◌, length, take, drop, Bool, true, false, Option, Some, None, position, nat_lt, ◌==◌, ◌&&◌, if◌then◌else◌, get_or, slice_range}
+use Rattle.std.specs.Prelude.{ℕ, ◌+◌, ◌-◌, List, [], ◌∷◌, ◌++◌, length, take, drop, Bool, true, false, Option, Some, None, position, nat_lt, ◌==◌, ◌&&◌}
+use Rattle.std.specs.Prelude.{if◌then◌else◌, get_or, slice_range}
 use Rattle.ccsl_base.specs.Decimal.{number_up_to}
 use Rattle.ccsl_scopes.specs.declared.reference.Reference.{Reference}
 use Rattle.ccsl_scopes.specs.declared.select.Select.{Select}

@@ -14,7 +14,8 @@ use Rattle.ccsl_scopes.specs.declared.variable.Variable.{Variable}
 use Rattle.ccsl_scopes.specs.declared.header.Header.{Header}
 use Rattle.ccsl_scopes.specs.declared.reader.HeaderReader.{HeaderReader}
 use Rattle.ccsl_scopes.specs.References.{reference_of}
-use Rattle.ccsl_scopes.specs.Headings.{Declared, Heading, Said, goes, over, refused, header_word, kind_named, size_of, joined, spaced, scope_name, with_code, codes_of}
+use Rattle.ccsl_scopes.specs.Headings.{Declared, Heading, Said, goes, over, refused, header_word, kind_named, size_of, joined, spaced, scope_name, with_code}
+use Rattle.ccsl_scopes.specs.Headings.{codes_of}
 
 -- the names of scopes, the outermost first, with a blank behind each
 abbrev pub scope_text : List (List ℕ) → List ℕ

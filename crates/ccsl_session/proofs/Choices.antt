@@ -1,5 +1,6 @@
 -- What the choice by the items' formulas answers is the set that is chosen for the next step.
-use Rattle.std.proofs.Common.{◌≡◌, ℕ, ◌+◌, ◌*◌, List, [], ◌∷◌, length, filter, Bool, true, false, cond, nat_lt, Some, None, refl, sym, ap, ◌∙◌, subst, arith, lt-ltb}
+use Rattle.std.proofs.Common.{◌≡◌, ℕ, ◌+◌, ◌*◌, List, [], ◌∷◌, length, filter, Bool, true, false, cond, nat_lt, Some, None, refl, sym, ap, ◌∙◌, subst, arith}
+use Rattle.std.proofs.Common.{lt-ltb}
 use Rattle.std.specs.declared.result.Result.{Result}
 use Rattle.std.specs.Result.{IfOk}
 use Rattle.std.specs.List.{list_all}
@@ -60,7 +61,8 @@ module _ (K : System) (ok : IsAccepted K) (policy : Policy) (seed : ℕ) (R : Li
     solves = c.solves;
   }
 
-  pub step-next : (u s : Step) → is_ascending u ≡ true → IsChosen (scope_of K) (item_formulas K T) policy words u → s ≡ declared_part K u → Some s ≡ next_set K policy seed R
+  pub step-next : (u s : Step) → is_ascending u ≡ true → IsChosen (scope_of K) (item_formulas K T) policy words u → s ≡ declared_part K u
+      → Some s ≡ next_set K policy seed R
   step-next u s a c e =
       ap (λ x. Some x) e ∙ sym (choice-chosen K T policy words ok (stack-runs K ok R stack) u (solution u a c) c)
 

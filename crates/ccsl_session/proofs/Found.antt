@@ -1,5 +1,6 @@
 -- Which declared clock a name names.
-use Rattle.std.proofs.Common.{◌≡◌, ℕ, zero, suc, ◌+◌, ◌<◌, ◌≤◌, List, [], ◌∷◌, length, take, Bool, true, false, not, ◌||◌, cond, Option, Some, None, nat_lt, if◌then◌else◌, refl, sym, ap, ◌∙◌, ⊎_elim, arith, lt-ltb, le-ltb}
+use Rattle.std.proofs.Common.{◌≡◌, ℕ, zero, suc, ◌+◌, ◌<◌, ◌≤◌, List, [], ◌∷◌, length, take, Bool, true, false, not, ◌||◌, cond, Option, Some, None, nat_lt}
+use Rattle.std.proofs.Common.{if◌then◌else◌, refl, sym, ap, ◌∙◌, ⊎_elim, arith, lt-ltb, le-ltb}
 use Rattle.std.specs.List.{position, position_or_len, list_any}
 use Rattle.std.specs.Option.{option_map, is_some}
 use Rattle.std.specs.Str.{bytes_eq}
@@ -55,8 +56,10 @@ if_below-suc : (n : ℕ) (o : Option ℕ) → option_map suc (if_below n o) ≡ 
 if_below-suc n None = refl
 if_below-suc n (Some i) =
     ⊎_elim
-    (λ (l : i < n). ap (λ b. option_map suc (cond b (Some i) None)) (lt-ltb i n l) ∙ sym (ap (λ b. cond b (Some (suc i)) None) (lt-ltb (suc i) (suc n) (omega arith))))
-    (λ (l : n ≤ i). ap (λ b. option_map suc (cond b (Some i) None)) (le-ltb i n l) ∙ sym (ap (λ b. cond b (Some (suc i)) None) (le-ltb (suc i) (suc n) (omega arith))))
+    (λ (l : i < n). ap (λ b. option_map suc (cond b (Some i) None)) (lt-ltb i n l)
+    ∙ sym (ap (λ b. cond b (Some (suc i)) None) (lt-ltb (suc i) (suc n) (omega arith))))
+    (λ (l : n ≤ i). ap (λ b. option_map suc (cond b (Some i) None)) (le-ltb i n l)
+    ∙ sym (ap (λ b. cond b (Some (suc i)) None) (le-ltb (suc i) (suc n) (omega arith))))
     (cases_lt i n)
 
 -- the place among the first n
@@ -65,7 +68,8 @@ position-take p zero xs = if_below-none (position p xs)
 position-take p (suc n) [] = refl
 position-take p (suc n) (x ∷ xs) =
     by_case (p x) _
-    (λ e. position-yes p x (take n xs) e ∙ sym (ap (if_below (suc n)) (position-yes p x xs e) ∙ ap (λ b. cond b (Some 0) None) (lt-ltb 0 (suc n) (omega arith))))
+    (λ e. position-yes p x (take n xs) e
+    ∙ sym (ap (if_below (suc n)) (position-yes p x xs e) ∙ ap (λ b. cond b (Some 0) None) (lt-ltb 0 (suc n) (omega arith))))
     (λ e.
     position-no p x (take n xs) e
     ∙ ap (option_map suc) (position-take p n xs)

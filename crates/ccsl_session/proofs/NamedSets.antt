@@ -1,5 +1,6 @@
 -- The set of the clocks of some names: read one by one it is what the names give together.
-use Rattle.std.proofs.Common.{◌≡◌, ◌≢◌, ℕ, ◌<◌, List, [], ◌∷◌, codes, Bool, true, false, not, ◌&&◌, ◌||◌, Option, Some, None, nat_lt, nat_eq, if◌then◌else◌, refl, sym, ap, ap₂, ◌∙◌, arith, lt-ltb, eq-eqb, length-take}
+use Rattle.std.proofs.Common.{◌≡◌, ◌≢◌, ℕ, ◌<◌, List, [], ◌∷◌, codes, Bool, true, false, not, ◌&&◌, ◌||◌, Option, Some, None, nat_lt, nat_eq, if◌then◌else◌}
+use Rattle.std.proofs.Common.{refl, sym, ap, ap₂, ◌∙◌, arith, lt-ltb, eq-eqb, length-take}
 use Rattle.std.specs.List.{list_all}
 use Rattle.std.specs.Option.{is_some}
 use Rattle.std.specs.Str.{bytes_eq}
@@ -52,7 +53,8 @@ module _ (K : System) where
   no-clock name e = sym (found-among name (declared_names K)) ∙ ap is_some e
 
   -- a name is that of a member of the set with the clock of another one, where it is the other one or that of a member
-  new-with : (name : List ℕ) (x : ℕ) (s : Step) (other : List ℕ) → clock_of name ≡ Some x → not (is_in (clock_of other) (with_clock x s)) ≡ (not (bytes_eq name other) && not (is_in (clock_of other) s))
+  new-with : (name : List ℕ) (x : ℕ) (s : Step) (other : List ℕ) → clock_of name ≡ Some x
+      → not (is_in (clock_of other) (with_clock x s)) ≡ (not (bytes_eq name other) && not (is_in (clock_of other) s))
   new-with name x s other e = on (clock_of other) refl
     where
       neither : (a b : Bool) → not (a || b) ≡ (not a && not b)
@@ -68,13 +70,15 @@ module _ (K : System) where
       same_number y f =
           by_case (bytes_eq name other) _
           (λ t. let one : Some y ≡ Some x = sym f ∙ sym (ap clock_of (bytes_eq-true name other t)) ∙ e in let at : y ≡ x = cc in eq-eqb y x at ∙ sym t)
-          (λ t. ne_eqb y x (λ at. true≢false (sym (bytes_eq-refl name other (found-one name other (declared_names K) x e (f ∙ ap (λ k. Some k) at))) ∙ t)) ∙ sym t)
+          (λ t. ne_eqb y x (λ at. true≢false (sym (bytes_eq-refl name other (found-one name other (declared_names K) x e (f ∙ ap (λ k. Some k) at))) ∙ t))
+          ∙ sym t)
 
       on : (o : Option ℕ) → clock_of other ≡ o → not (is_in o (with_clock x s)) ≡ (not (bytes_eq name other) && not (is_in o s))
       on None f = sym (ap (λ b. not b && true) (differs f))
       on (Some y) f = ap not (ticks_in-with_clock y x s) ∙ neither (nat_eq y x) (ticks_in y s) ∙ ap (λ b. not b && not (ticks_in y s)) (same_number y f)
 
-  new-more : (name : List ℕ) (x : ℕ) (s : Step) (names : List (List ℕ)) → clock_of name ≡ Some x → are_new (with_clock x s) names ≡ (not (is_among name names) && are_new s names)
+  new-more : (name : List ℕ) (x : ℕ) (s : Step) (names : List (List ℕ)) → clock_of name ≡ Some x
+      → are_new (with_clock x s) names ≡ (not (is_among name names) && are_new s names)
   new-more name x s [] e = refl
   new-more name x s (other ∷ names) e =
       ap₂ (λ a b. a && b) (new-with name x s other e) (new-more name x s names e)
@@ -110,25 +114,33 @@ module _ (K : System) where
 
       on : ((t : Step) → read_clocks K t names ≡ (if are_good t names then Some (onto t names) else None)) → (o : Option ℕ) → clock_of name ≡ o →
           (elim o [ None ↦ None | Some x ↦ if ticks_in x s then None else read_clocks K (with_clock x s) names ])
-          ≡ (if (are_distinct (name ∷ names) && (is_clock name && list_all is_clock names)) && (not (is_in o s) && are_new s names) then Some (onto (with_found o s) names) else None)
+          ≡ (if (are_distinct (name ∷ names) && (is_clock name && list_all is_clock names))
+          && (not (is_in o s) && are_new s names) then Some (onto (with_found o s) names) else None)
       on rest None e =
           sym
-          (ap (λ (b : Bool). if (are_distinct (name ∷ names) && (b && list_all is_clock names)) && (true && are_new s names) then Some (onto s names) else None) (no-clock name e)
-          ∙ ap (λ (b : Bool). if b then Some (onto s names) else None) (shut (is_among name names) (are_distinct names) (list_all is_clock names) (true && are_new s names)))
+          (ap (λ (b : Bool). if (are_distinct (name ∷ names) && (b && list_all is_clock names)) && (true && are_new s names) then Some (onto s names) else None)
+          (no-clock name e)
+          ∙ ap (λ (b : Bool). if b then Some (onto s names) else None)
+          (shut (is_among name names) (are_distinct names) (list_all is_clock names) (true && are_new s names)))
       on rest (Some x) e =
           by_case (ticks_in x s) _
           (λ t.
           ap (λ (b : Bool). if b then None else read_clocks K (with_clock x s) names) t
           ∙ sym
-          (ap (λ (b : Bool). if (are_distinct (name ∷ names) && (is_clock name && list_all is_clock names)) && (not b && are_new s names) then Some (onto (with_clock x s) names) else None) t
-          ∙ ap (λ (b : Bool). if b then Some (onto (with_clock x s) names) else None) (member (is_among name names) (are_distinct names) (is_clock name && list_all is_clock names) (are_new s names))))
+          (ap (λ (b : Bool). if (are_distinct (name ∷ names) && (is_clock name && list_all is_clock names))
+          && (not b && are_new s names) then Some (onto (with_clock x s) names) else None) t
+          ∙ ap (λ (b : Bool). if b then Some (onto (with_clock x s) names) else None)
+          (member (is_among name names) (are_distinct names) (is_clock name && list_all is_clock names) (are_new s names))))
           (λ t.
           ap (λ (b : Bool). if b then None else read_clocks K (with_clock x s) names) t
           ∙ rest (with_clock x s)
-          ∙ ap (λ (b : Bool). if (are_distinct names && list_all is_clock names) && b then Some (onto (with_clock x s) names) else None) (new-more name x s names e)
-          ∙ ap (λ (b : Bool). if b then Some (onto (with_clock x s) names) else None) (moved (is_among name names) (are_distinct names) (list_all is_clock names) (are_new s names))
+          ∙ ap (λ (b : Bool). if (are_distinct names && list_all is_clock names) && b then Some (onto (with_clock x s) names) else None)
+          (new-more name x s names e)
+          ∙ ap (λ (b : Bool). if b then Some (onto (with_clock x s) names) else None)
+          (moved (is_among name names) (are_distinct names) (list_all is_clock names) (are_new s names))
           ∙ sym
-          (ap₂ (λ (a b : Bool). if (are_distinct (name ∷ names) && (a && list_all is_clock names)) && (not b && are_new s names) then Some (onto (with_clock x s) names) else None) (clock-is name x e) t))
+          (ap₂ (λ (a b : Bool). if (are_distinct (name ∷ names) && (a && list_all is_clock names))
+          && (not b && are_new s names) then Some (onto (with_clock x s) names) else None) (clock-is name x e) t))
 
   found-swap : (o : Option ℕ) (p : Option ℕ) (s : Step) → with_found o (with_found p s) ≡ with_found p (with_found o s)
   found-swap None p s = refl
@@ -153,11 +165,13 @@ module _ (K : System) where
       free (Some x) = refl
 
   -- at least one name
-  pub read-clocks : (name : List ℕ) (names : List (List ℕ)) → read_clocks K [] (name ∷ names) ≡ (if are_clocks K (name ∷ names) then Some (set_of K (name ∷ names)) else None)
+  pub read-clocks : (name : List ℕ) (names : List (List ℕ))
+      → read_clocks K [] (name ∷ names) ≡ (if are_clocks K (name ∷ names) then Some (set_of K (name ∷ names)) else None)
   read-clocks name names =
       reads (name ∷ names) []
       ∙ ap₂ (λ (b : Bool) s. if b then Some s else None)
-      (ap (λ b. (are_distinct (name ∷ names) && list_all is_clock (name ∷ names)) && b) (all-new (name ∷ names)) ∙ and-true (are_distinct (name ∷ names) && list_all is_clock (name ∷ names)))
+      (ap (λ b. (are_distinct (name ∷ names) && list_all is_clock (name ∷ names)) && b) (all-new (name ∷ names))
+      ∙ and-true (are_distinct (name ∷ names) && list_all is_clock (name ∷ names)))
       (onto-all (name ∷ names))
     where
       and-true : (b : Bool) → (b && true) ≡ b

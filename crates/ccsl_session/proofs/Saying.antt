@@ -90,13 +90,15 @@ module _ (told : Told) (K : System) (policy : Policy) (seed limit : ℕ) (old : 
     pub read-fails : (bytes : List ℕ) → ReadsThenFails told Input bytes now later → Fails told K policy seed limit old later
     read-fails bytes r =
         let rose = subst (λ n. Rose n (later.slot_of Input).faults) counts.input r.rose in
-        let same : (later.slot_of Report).faults ≡ (old.slot_of Report).faults = ap (λ (s : SlotState). s.faults) (r.only.others Report (λ e. cc)) ∙ counts.report in
+        let same : (later.slot_of Report).faults ≡ (old.slot_of Report).faults =
+        ap (λ (s : SlotState). s.faults) (r.only.others Report (λ e. cc)) ∙ counts.report in
         record { one = inl rose; input = rose.0; report = omega (arith, same) }
 
     pub write-fails : (bytes : List ℕ) → AddsFront told Report bytes now later → Fails told K policy seed limit old later
     write-fails bytes w =
         let rose = subst (λ n. Rose n (later.slot_of Report).faults) counts.report w.rose in
-        let same : (later.slot_of Input).faults ≡ (old.slot_of Input).faults = ap (λ (s : SlotState). s.faults) (w.only.others Input (λ e. cc)) ∙ counts.input in
+        let same : (later.slot_of Input).faults ≡ (old.slot_of Input).faults =
+        ap (λ (s : SlotState). s.faults) (w.only.others Input (λ e. cc)) ∙ counts.input in
         record { one = inr rose; input = omega (arith, same); report = rose.0 }
 
 pub reads-only : (told : Told) (bytes : List ℕ) (now later : State) → Reads told Input bytes now later → IsRead (now.slot_of Input) (later.slot_of Input)

@@ -1,5 +1,6 @@
 -- Sets with one more clock: the order of insertion does not matter, and they stay sets.
-use Rattle.std.proofs.Common.{◌≡◌, ◌≢◌, ◌⊎◌, inl, inr, ℕ, ◌<◌, List, [], ◌∷◌, Bool, true, nat_lt, nat_eq, if◌then◌else◌, refl, sym, ap, ◌∙◌, ⊎_elim, arith, lt-ltb, le-ltb, eq-eqb}
+use Rattle.std.proofs.Common.{◌≡◌, ◌≢◌, ◌⊎◌, inl, inr, ℕ, ◌<◌, List, [], ◌∷◌, Bool, true, nat_lt, nat_eq, if◌then◌else◌, refl, sym, ap, ◌∙◌, ⊎_elim, arith}
+use Rattle.std.proofs.Common.{lt-ltb, le-ltb, eq-eqb}
 use Rattle.std.specs.List.{list_all}
 use Rattle.std.proofs.lemmas.Bool.{cases_order, ne_eqb, and_parts, and_from, ltb-true}
 use Rattle.ccsl_base.specs.Clocks.{with_clock, is_ascending}

@@ -1,5 +1,6 @@
 -- The states behind the sets of a stack, and their copies, behind one set more and behind one set less.
-use Rattle.std.proofs.Common.{◌≡◌, ℕ, ◌+◌, ◌-◌, ◌*◌, ◌/◌, ◌%◌, ◌^◌, ◌<◌, ◌≤◌, List, [], ◌∷◌, ◌++◌, length, take, drop, get_or, slice_get, Some, sym, ap, ◌∙◌, subst, ⊎_elim, arith, length-append, length-take}
+use Rattle.std.proofs.Common.{◌≡◌, ℕ, ◌+◌, ◌-◌, ◌*◌, ◌/◌, ◌%◌, ◌^◌, ◌<◌, ◌≤◌, List, [], ◌∷◌, ◌++◌, length, take, drop, get_or, slice_get, Some, sym, ap, ◌∙◌}
+use Rattle.std.proofs.Common.{subst, ⊎_elim, arith, length-append, length-take}
 use Rattle.std.proofs.lemmas.Bool.{cases_lt}
 use Rattle.std.proofs.lemmas.List.{take_all, take-append-le, take-append-drop, take-take, take_more, get_or-take, get_or_append_left, get_or_push}
 use Rattle.std.proofs.lemmas.Option.{slice_get_within, slice_get-get_or, get_or_from_slice_get}
@@ -16,11 +17,13 @@ abbrev pub Advances : Held → Step → Held → Type 0
 Advances h s h' = (U : List Step) → StandsFor h U → length U + 1 < 2 ^ 64 → StandsFor h' (U ++ full_step h.system U s ∷ [])
 
 -- states that go on by a set, where K is their system
-one-more : (K : System) (T : List Step) (s : Step) (h h' : Held) → h.system ≡ K → StandsFor h T → Advances h s h' → length T + 1 < 2 ^ 64 → StandsFor h' (T ++ full_step K T s ∷ [])
+one-more : (K : System) (T : List Step) (s : Step) (h h' : Held) → h.system ≡ K → StandsFor h T → Advances h s h' → length T + 1 < 2 ^ 64
+    → StandsFor h' (T ++ full_step K T s ∷ [])
 one-more K T s h h' same stands advances few = subst (λ (X : System). StandsFor h' (T ++ full_step X T s ∷ [])) same (advances T stands few)
 
 -- SETS ONE AFTER ANOTHER
-pub goes-on : (K : System) (T R : List Step) (i : ℕ) (s : Step) (h h' : Held) → i < length R → s ≡ get_or R i s → h.system ≡ K → StandsFor h (completed_after K T (take i R)) → Advances h s h' →
+pub goes-on : (K : System) (T R : List Step) (i : ℕ) (s : Step) (h h' : Held) → i < length R → s ≡ get_or R i s → h.system ≡ K
+    → StandsFor h (completed_after K T (take i R)) → Advances h s h' →
     length T + length R < 2 ^ 64 → StandsFor h' (completed_after K T (take (i + 1) R))
 goes-on K T R i s h h' l at same stands advances few =
     let U = completed_after K T (take i R) in
@@ -46,7 +49,8 @@ replayed K R rest n h h' b is same goes few =
     record { system = same ∙ b.system; stands = subst (StandsFor h') whole (goes T b.stands long) }
 
 -- ONE SET MORE
-pub behind-more : (K : System) (R : List Step) (s : Step) (h h' : Held) → AreBehind K R h → h'.system ≡ h.system → Advances h s h' → length R + 1 < 2 ^ 64 → AreBehind K (R ++ s ∷ []) h'
+pub behind-more : (K : System) (R : List Step) (s : Step) (h h' : Held) → AreBehind K R h → h'.system ≡ h.system → Advances h s h' → length R + 1 < 2 ^ 64
+    → AreBehind K (R ++ s ∷ []) h'
 behind-more K R s h h' b same advances few = record {
   system = same ∙ b.system;
   stands =
@@ -55,7 +59,8 @@ behind-more K R s h h' b same advances few = record {
 }
 
 -- a copy that stands in a list stands there with one more behind it, or is that one
-at_end : {X : Type 0} (xs : List X) (y : X) (k : ℕ) (x : X) (P : Type 0) → slice_get (xs ++ y ∷ []) k ≡ Some x → (k < length xs → slice_get xs k ≡ Some x → P) → (k ≡ length xs → y ≡ x → P) → P
+at_end : {X : Type 0} (xs : List X) (y : X) (k : ℕ) (x : X) (P : Type 0) → slice_get (xs ++ y ∷ []) k ≡ Some x → (k < length xs → slice_get xs k ≡ Some x → P)
+    → (k ≡ length xs → y ≡ x → P) → P
 at_end xs y k x P e before here =
     let within = slice_get_within (xs ++ y ∷ []) k x e in
     let there = get_or_from_slice_get (xs ++ y ∷ []) k x x e in
@@ -67,22 +72,26 @@ at_end xs y k x P e before here =
     (cases_lt k (length xs))
 
 -- behind a further stride of sets there is a copy more
-pub copies-more : (K : System) (R : List Step) (s : Step) (copies : List Held) (h : Held) → AreCopies K R copies → AreBehind K (R ++ s ∷ []) h → (length R + 1) % 256 ≡ 0 →
+pub copies-more : (K : System) (R : List Step) (s : Step) (copies : List Held) (h : Held) → AreCopies K R copies → AreBehind K (R ++ s ∷ []) h
+    → (length R + 1) % 256 ≡ 0 →
     AreCopies K (R ++ s ∷ []) (copies ++ h ∷ [])
 copies-more K R s copies h c b full =
     let n = length R in
     let longer : length (R ++ s ∷ []) ≡ n + 1 = length-append R (s ∷ []) in
     let places : (n + 1) / 256 ≡ n / 256 + 1 = omega arith in
     record {
-      count = length-append copies (h ∷ []) ∙ (let e : length copies + 1 ≡ (n + 1) / 256 + 1 = omega (arith, c.count) in e) ∙ ap (λ m. m / 256 + 1) (sym longer);
+      count = length-append copies (h ∷ []) ∙ (let e : length copies + 1 ≡ (n + 1) / 256 + 1 = omega (arith, c.count) in e)
+          ∙ ap (λ m. m / 256 + 1) (sym longer);
       each = λ k g at. at_end copies h k g (AreBehind K (take (k * 256) (R ++ s ∷ [])) g) at
-          (λ l there. let low : k * 256 ≤ n = omega (arith, c.count) in subst (λ S. AreBehind K S g) (sym (take-append-le (k * 256) R (s ∷ []) low)) (c.each k g there))
+          (λ l there. let low : k * 256 ≤ n =
+          omega (arith, c.count) in subst (λ S. AreBehind K S g) (sym (take-append-le (k * 256) R (s ∷ []) low)) (c.each k g there))
           (λ last one.
           let all : length (R ++ s ∷ []) ≤ k * 256 = omega (arith, c.count, longer) in
           subst (λ S. AreBehind K S g) (sym (take_all (k * 256) (R ++ s ∷ []) all)) (subst (AreBehind K (R ++ s ∷ [])) one b));
     }
 
-pub copies-same : (K : System) (R : List Step) (s : Step) (copies : List Held) → AreCopies K R copies → ((length R + 1) % 256 ≡ 0 → ⊥) → AreCopies K (R ++ s ∷ []) copies
+pub copies-same : (K : System) (R : List Step) (s : Step) (copies : List Held) → AreCopies K R copies → ((length R + 1) % 256 ≡ 0 → ⊥)
+    → AreCopies K (R ++ s ∷ []) copies
 copies-same K R s copies c not_full =
     let n = length R in
     let longer : length (R ++ s ∷ []) ≡ n + 1 = length-append R (s ∷ []) in
@@ -102,13 +111,15 @@ in_front xs m k x e =
     let inside : k < length xs = omega (arith, within, length-take m xs) in
     (low, slice_get-get_or xs k x inside ∙ ap (λ z. Some z) (sym (get_or-take m xs k x low) ∙ get_or_from_slice_get (take m xs) k x x e))
 
-pub copies-less : (K : System) (R S : List Step) (copies copies' : List Held) (m : ℕ) → AreCopies K R copies → S ≡ take (length R - 1) R → 0 < length R → copies' ≡ take m copies →
+pub copies-less : (K : System) (R S : List Step) (copies copies' : List Held) (m : ℕ) → AreCopies K R copies → S ≡ take (length R - 1) R → 0 < length R
+    → copies' ≡ take m copies →
     m ≡ (length R - 1) / 256 + 1 → m ≤ length copies → AreCopies K S copies'
 copies-less K R S copies copies' m c less some front is fits =
     let n = length R in
     let shorter : length S ≡ n - 1 = omega (arith, ap length less, length-take (n - 1) R) in
     record {
-      count = ap length front ∙ (let e : length (take m copies) ≡ (n - 1) / 256 + 1 = omega (arith, length-take m copies) in e) ∙ ap (λ k. k / 256 + 1) (sym shorter);
+      count = ap length front ∙ (let e : length (take m copies) ≡ (n - 1) / 256 + 1 = omega (arith, length-take m copies) in e)
+          ∙ ap (λ k. k / 256 + 1) (sym shorter);
       each = λ k g at.
           let q = in_front copies m k g (ap (λ cs. slice_get cs k) (sym front) ∙ at) in
           let low : k * 256 ≤ n - 1 = omega (arith, q.0) in

@@ -1,5 +1,6 @@
 -- What the stack of a session is: a run, from which every line goes on to a stack.
-use Rattle.std.proofs.Common.{◌≡◌, ◌≢◌, ℕ, ◌-◌, List, [], ◌∷◌, ◌++◌, length, take, codes, Bool, true, false, ◌&&◌, Option, Some, None, if◌then◌else◌, refl, sym, ap, ◌∙◌, subst, arith, length-append}
+use Rattle.std.proofs.Common.{◌≡◌, ◌≢◌, ℕ, ◌-◌, List, [], ◌∷◌, ◌++◌, length, take, codes, Bool, true, false, ◌&&◌, Option, Some, None, if◌then◌else◌, refl, sym}
+use Rattle.std.proofs.Common.{ap, ◌∙◌, subst, arith, length-append}
 use Rattle.std.specs.Str.{bytes_eq}
 use Rattle.std.proofs.lemmas.Bool.{and_parts}
 use Rattle.std.proofs.lemmas.List.{take_all, take-append-le}
@@ -16,7 +17,8 @@ use Rattle.ccsl_simulate.specs.Simulation.{words_of_step}
 use Rattle.ccsl_simulate.proofs.Choosing.{chosen-best}
 use Rattle.ccsl_possible.specs.Possible.{first_failing}
 use Rattle.ccsl_possible.specs.Laws.{UnforbiddenSetsAreAdmissible}
-use Rattle.ccsl_session.specs.Asked.{Asked, Nothing, Fire, Next, Back, Allowed, Trace, Quit, Long, Unknown, tokens, are_clocks, set_of, asked_alone, asked_with, asked_words, asked}
+use Rattle.ccsl_session.specs.Asked.{Asked, Nothing, Fire, Next, Back, Allowed, Trace, Quit, Long, Unknown, tokens, are_clocks, set_of, asked_alone, asked_with}
+use Rattle.ccsl_session.specs.Asked.{asked_words, asked}
 use Rattle.ccsl_session.specs.Answers.{is_full, fired, next_set, stepped, after}
 use Rattle.ccsl_session.specs.Laws.{IsStack, empty, pushed}
 use Rattle.ccsl_session.proofs.NamedSets.{set_of-declared, set_of-some}

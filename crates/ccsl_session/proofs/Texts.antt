@@ -1,5 +1,6 @@
 -- The texts of answers, one part after another.
-use Rattle.std.proofs.Common.{◌≡◌, ℕ, ◌+◌, ◌<◌, List, [], ◌∷◌, ◌++◌, length, take, codes, slice_get, get_or, Some, sym, ap, ◌∙◌, arith, append_assoc, length-take}
+use Rattle.std.proofs.Common.{◌≡◌, ℕ, ◌+◌, ◌<◌, List, [], ◌∷◌, ◌++◌, length, take, codes, slice_get, get_or, Some, sym, ap, ◌∙◌, arith, append_assoc}
+use Rattle.std.proofs.Common.{length-take}
 use Rattle.std.proofs.lemmas.List.{take_more}
 use Rattle.std.proofs.lemmas.Option.{get_or_from_slice_get}
 use Rattle.ccsl_kernel.specs.Syntax.{System}
@@ -12,7 +13,8 @@ use Rattle.ccsl_session.specs.Answers.{blank_names}
 use Rattle.ccsl_session.proofs.Stacks.{completed-snoc}
 
 -- the name of one clock more
-pub names-more : (K : System) (x : ℕ) (rest out name : List ℕ) → slice_get K.names x ≡ Some name → (out ++ codes " " ++ name) ++ blank_names K rest ≡ out ++ blank_names K (x ∷ rest)
+pub names-more : (K : System) (x : ℕ) (rest out name : List ℕ) → slice_get K.names x ≡ Some name
+    → (out ++ codes " " ++ name) ++ blank_names K rest ≡ out ++ blank_names K (x ∷ rest)
 names-more K x rest out name e =
     ap (λ bs. bs ++ blank_names K rest) (append_assoc out (codes " ") name)
     ∙ append_assoc out (codes " " ++ name) (blank_names K rest)

@@ -1,5 +1,6 @@
 -- One turn of a session: a line is heard, and answered, or the session ends.
-use Rattle.std.proofs.Common.{◌≡◌, ℕ, List, [], ◌∷◌, ◌++◌, length, take, drop, Bool, true, false, ◌||◌, Option, Some, None, nat_lt, if◌then◌else◌, IsTrue, refl, sym, ap, ◌∙◌, subst, arith, append-nil, append_assoc, lt-ltb, le-ltb, length-append}
+use Rattle.std.proofs.Common.{◌≡◌, ℕ, List, [], ◌∷◌, ◌++◌, length, take, drop, Bool, true, false, ◌||◌, Option, Some, None, nat_lt, if◌then◌else◌, IsTrue, refl}
+use Rattle.std.proofs.Common.{sym, ap, ◌∙◌, subst, arith, append-nil, append_assoc, lt-ltb, le-ltb, length-append}
 use Rattle.std.specs.List.{list_any}
 use Rattle.std.proofs.lemmas.List.{take_at, take-append-drop}
 use Rattle.std.proofs.lemmas.List.Folds.{list_any-append}
@@ -31,7 +32,8 @@ use Rattle.ccsl_session.specs.Rest.{IsAskedFor}
 use Rattle.ccsl_session.specs.Leaving.{HasEnded, IsCut}
 use Rattle.ccsl_session.specs.Going.{quits_at, Goes, Turns, IsHeard, Hears, NotWritten}
 use Rattle.ccsl_session.proofs.Resting.{asked-none, asked-more, rest-none}
-use Rattle.ccsl_session.proofs.Saying.{says-nothing, counts-same, says-read, says-write, counts-read, counts-write, read-fails, write-fails, reads-only, adds-only}
+use Rattle.ccsl_session.proofs.Saying.{says-nothing, counts-same, says-read, says-write, counts-read, counts-write, read-fails, write-fails, reads-only}
+use Rattle.ccsl_session.proofs.Saying.{adds-only}
 use Rattle.ccsl_base.proofs.Sets.{by_case}
 
 nothing-left : (bs rest : List ℕ) → [] ≡ bs ++ rest → rest ≡ []
@@ -213,7 +215,8 @@ module _ (told : Told) (K : System) (policy : Policy) (seed limit : ℕ) (old : 
             sym (ap (answers K policy seed) ((all t).0 ∙ sym (append-nil g.given)) ∙ g.answered [] ∙ append-nil g.text);
         by = λ t.
             (all t).1
-            ∙ sym (ap (λ (b : Bool). if b then Quit else if nat_lt limit (length (old.slot_of Input).left) then TooLong else EndOfInput) (ap (list_any (quits_at told K policy seed limit old)) (all t).0 ∙ g.unended));
+            ∙ sym (ap (λ (b : Bool). if b then Quit else if nat_lt limit (length (old.slot_of Input).left) then TooLong else EndOfInput)
+            (ap (list_any (quits_at told K policy seed limit old)) (all t).0 ∙ g.unended));
         rest = λ t. record { bytes = g.bytes ++ gives.bytes; taken = left-behind t; asked_for = asked-on t g.given s };
       }
 
@@ -227,7 +230,8 @@ module _ (told : Told) (K : System) (policy : Policy) (seed limit : ℕ) (old : 
         whole t (going runs goes) e = absurd (cc)
         whole t (ended end all) e =
             let input : (old.slot_of Input).left ≡ g.bytes ++ gives.bytes =
-            left-behind later h' next.Ended gives t ∙ ap (λ bs. (g.bytes ++ gives.bytes) ++ bs) (no-more later h' next.Ended gives e t) ∙ append-nil (g.bytes ++ gives.bytes) in
+            left-behind later h' next.Ended gives t ∙ ap (λ bs. (g.bytes ++ gives.bytes) ++ bs) (no-more later h' next.Ended gives e t)
+            ∙ append-nil (g.bytes ++ gives.bytes) in
             let most : h'.limit ≡ limit = gives.limit ∙ g.limit_is in (
               ap (lines_taken limit) input ∙ ap (λ n. lines_taken n (g.bytes ++ gives.bytes)) (sym most) ∙ all.lines_are,
               sym
@@ -337,10 +341,12 @@ module _ (told : Told) (K : System) (policy : Policy) (seed limit : ℕ) (old : 
 
   module _ (now later : State) (h h' : Held) (R : List Step) where
     -- WHAT IS HEARD is a line that waits, or the end
-    pub heard-line : (found : Found) → Hears told K now later h h' (Asks found) → GoesTo now h R [] → (line : Line) × (plain found ≡ asked K line) × GoesTo later h' R (line ∷ [])
+    pub heard-line : (found : Found) → Hears told K now later h h' (Asks found) → GoesTo now h R []
+        → (line : Line) × (plain found ≡ asked K line) × GoesTo later h' R (line ∷ [])
     heard-line found q g = on q.found q.gives q.is
       where
-        on : (n : Next) → Gives told now later h h' n → IsHeard K h' n (Asks found) → (line : Line) × (plain found ≡ asked K line) × GoesTo later h' R (line ∷ [])
+        on : (n : Next) → Gives told now later h h' n → IsHeard K h' n (Asks found)
+            → (line : Line) × (plain found ≡ asked K line) × GoesTo later h' R (line ∷ [])
         on next.Line gives is = (Whole h'.line, is, hears now h R g later h' next.Line gives (Whole h'.line) (follows now h R g later h' next.Line gives))
         on next.Long gives is = (lines.Long, is, hears now h R g later h' next.Long gives lines.Long (follows now h R g later h' next.Long gives))
         on next.Ended gives is = absurd is
@@ -356,8 +362,10 @@ module _ (told : Told) (K : System) (policy : Policy) (seed limit : ℕ) (old : 
         on next.TooLong gives is = subst (λ (x : Ended). Ends later x) (sym is) (input-too-long now h R g later h' gives)
 
     -- A LINE THAT WAITS IS ANSWERED
-    pub answered : (line : Line) (S : List Step) (end : Option Ended) → GoesTo now h' R (line ∷ []) → Adds told Report (answer K policy seed R (asked K line)) now later →
-        S ≡ after K policy seed R (asked K line) → end ≡ (if is_quit (asked K line) then Some Quit else None) → Turns told K policy seed limit old later h' S end
+    pub answered : (line : Line) (S : List Step) (end : Option Ended) → GoesTo now h' R (line ∷ [])
+        → Adds told Report (answer K policy seed R (asked K line)) now later →
+        S ≡ after K policy seed R (asked K line) → end ≡ (if is_quit (asked K line) then Some Quit else None)
+        → Turns told K policy seed limit old later h' S end
     answered line S end g w sets ends =
         by_case (is_quit (asked K line)) _
         (λ quit.
@@ -367,12 +375,14 @@ module _ (told : Told) (K : System) (policy : Policy) (seed limit : ℕ) (old : 
         subst (λ (x : Option Ended). Turns told K policy seed limit old later h' S x) (sym (ends ∙ ap (λ (b : Bool). if b then Some Quit else None) not_quit))
         (subst (λ T. GoesTo later h' T []) (sym sets) (replies now h' R line g later w not_quit)))
 
-    pub unanswered : (line : Line) (fault : Stop) → GoesTo now h' R (line ∷ []) → NotWritten told (answer K policy seed R (asked K line)) now later fault → Cut later fault
+    pub unanswered : (line : Line) (fault : Stop) → GoesTo now h' R (line ∷ []) → NotWritten told (answer K policy seed R (asked K line)) now later fault
+        → Cut later fault
     unanswered line Fault g w = write-cut now h' R line g later w
     unanswered line Memory g e = subst (λ s. Cut s Memory) (sym e) (memory-cut now h' R (line ∷ []) g)
 
 -- what is asked is what some line asks
-pub heard-asked : (told : Told) (K : System) (now later : State) (h h' : Held) (found : Found) → Hears told K now later h h' (Asks found) → (line : Line) × (plain found ≡ asked K line)
+pub heard-asked : (told : Told) (K : System) (now later : State) (h h' : Held) (found : Found) → Hears told K now later h h' (Asks found)
+    → (line : Line) × (plain found ≡ asked K line)
 heard-asked told K now later h h' found q = on q.found q.is
   where
     on : (n : Next) → IsHeard K h' n (Asks found) → (line : Line) × (plain found ≡ asked K line)

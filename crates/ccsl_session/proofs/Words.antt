@@ -20,7 +20,8 @@ tokens-places : (at : ℕ) (line : List ℕ) → tokens line ≡ texts (placed.t
 tokens-places at line = without_places (slice_split is_blank line) at
 
 -- the next token of a line, after the blanks before it
-pub tokens-next : (n m : ℕ) (xs w rest : List ℕ) → n ≡ prefix_len is_blank xs → w ≡ drop n xs → m ≡ prefix_len (λ b. not (is_blank b)) w → (m ≡ 0 → ⊥) → rest ≡ drop m w →
+pub tokens-next : (n m : ℕ) (xs w rest : List ℕ) → n ≡ prefix_len is_blank xs → w ≡ drop n xs → m ≡ prefix_len (λ b. not (is_blank b)) w → (m ≡ 0 → ⊥)
+    → rest ≡ drop m w →
     tokens xs ≡ take m w ∷ tokens rest
 tokens-next n m xs w rest e f g some r =
     tokens-places 0 xs

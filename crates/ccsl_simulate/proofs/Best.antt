@@ -99,7 +99,8 @@ module _ (m : ℕ) (policy : Policy) (words : List ℕ) where
           among = inr q.among;
           best = λ t a h.
               ⊎_elim
-              (λ s. let bad : true ≡ false = sym (is-better m policy words x q.set (subst (λ r. IsBetter m policy words (in_set r) (in_set q.set)) (sym s) h)) ∙ e in absurd (cc))
+              (λ s. let bad : true ≡ false =
+              sym (is-better m policy words x q.set (subst (λ r. IsBetter m policy words (in_set r) (in_set q.set)) (sym s) h)) ∙ e in absurd (cc))
               (λ r. q.best t r h)
               a;
         }

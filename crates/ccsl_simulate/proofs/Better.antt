@@ -42,14 +42,16 @@ module _ (m : ℕ) (policy : Policy) (words : List ℕ) (s t : Step) where
   better-is h =
       let q = any_below (decides m policy words s t) m h in
       let c = q.0 in
-      let first = and_parts (not (same (ticks_in c s) (ticks_in c t))) (same (ticks_in c s) (preferred policy (word_of words c)) && list_all (agree c) (steps 0 m)) q.2 in
+      let first = and_parts (not (same (ticks_in c s) (ticks_in c t)))
+      (same (ticks_in c s) (preferred policy (word_of words c)) && list_all (agree c) (steps 0 m)) q.2 in
       let second = and_parts (same (ticks_in c s) (preferred policy (word_of words c))) (list_all (agree c) (steps 0 m)) first.1 in
       record {
         clock = c;
         declared = q.1;
         differ = differ-is (ticks_in c s) (ticks_in c t) first.0;
         preferred = same-values (ticks_in c s) (preferred policy (word_of words c)) second.0;
-        before = λ d l b. same-values (ticks_in d s) (ticks_in d t) (implied (comes_before words d c) (same (ticks_in d s) (ticks_in d t)) (each_below (agree c) m second.1 d l) b);
+        before = λ d l b. same-values (ticks_in d s) (ticks_in d t)
+            (implied (comes_before words d c) (same (ticks_in d s) (ticks_in d t)) (each_below (agree c) m second.1 d l) b);
       }
 
   pub is-better : IsBetter m policy words (in_set s) (in_set t) → is_better m policy words s t ≡ true
@@ -60,7 +62,8 @@ module _ (m : ℕ) (policy : Policy) (words : List ℕ) (s t : Step) where
       (is-differ (ticks_in c s) (ticks_in c t) h.differ)
       (and_from (same (ticks_in c s) (preferred policy (word_of words c))) (list_all (agree c) (steps 0 m))
       (same-if (ticks_in c s) (preferred policy (word_of words c)) h.preferred)
-      (all_below (agree c) m (λ d l. implies (comes_before words d c) (same (ticks_in d s) (ticks_in d t)) (λ b. same-if (ticks_in d s) (ticks_in d t) (h.before d l b))))))
+      (all_below (agree c) m (λ d l. implies (comes_before words d c) (same (ticks_in d s) (ticks_in d t))
+      (λ b. same-if (ticks_in d s) (ticks_in d t) (h.before d l b))))))
 
 -- sets that have the same declared members are better than the same sets
 pub better-same : (m : ℕ) (policy : Policy) (words : List ℕ) (s t s' t' : Assignment) → ((c : ℕ) → c < m → s c ≡ s' c) → ((c : ℕ) → c < m → t c ≡ t' c)

@@ -19,7 +19,11 @@ module _ (certify : UnsolvedHaveCertificates) (K : System) (ok : IsAccepted K) (
   unsolved set ascends below solves =
       let is-below : are_below (K.declared + length K.definitions) set ≡ true = ap (λ n. are_below n set) ok.defined ∙ below in
       ends (declared_part K set)
-      (solution_admissible K ok T run set (record { named = and_from (is_ascending set) (are_below (K.declared + length K.definitions) set) ascends is-below; solves = solves }))
+      (solution_admissible K ok T run set (record {
+        named =
+            and_from (is_ascending set) (are_below (K.declared + length K.definitions) set) ascends is-below;
+        solves = solves;
+      }))
 
   pub end-certified : HasCertificate (scope_of K) (item_formulas K T)
   end-certified = certify (scope_of K) (item_formulas K T) (let l : K.declared ≤ length K.names = omega (arith, ok.defined) in l) (named T) unsolved

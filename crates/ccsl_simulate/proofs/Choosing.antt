@@ -123,7 +123,8 @@ module _ (K : System) (T : List Step) (policy : Policy) (words : List ℕ) where
 
   module _ (ok : IsAccepted K) (run : IsNamedRun K T) where
     -- the declared members of what the choice by the items' formulas answers are the chosen set
-    pub choice-chosen : (u : Step) → IsSolution K T u → IsChosen (scope_of K) (item_formulas K T) policy words u → chosen K T policy words ≡ Some (declared_part K u)
+    pub choice-chosen : (u : Step) → IsSolution K T u → IsChosen (scope_of K) (item_formulas K T) policy words u
+        → chosen K T policy words ≡ Some (declared_part K u)
     choice-chosen u h c =
         best-chosen (declared_part K u)
         (record {

@@ -28,7 +28,14 @@ module _ (K : System) (words : List ℕ) (T : List Step) (r s : Step) (a : IsAdm
   least-is b h = one_set K.declared r s (set-below K T r a) (set-below K T s b.admissible)
       (⊎_elim
       (λ (f : IsFirst K.declared words (in_set r) (in_set s)).
-      absurd (b.best r a (record { clock = f.clock; declared = f.below; differ = f.differ; preferred = both-ways (ticks_in f.clock r) (ticks_in f.clock s) (h f.clock) f.differ; before = f.before })))
+      absurd (b.best r a (record {
+        clock = f.clock;
+        declared = f.below;
+        differ = f.differ;
+        preferred =
+            both-ways (ticks_in f.clock r) (ticks_in f.clock s) (h f.clock) f.differ;
+        before = f.before;
+      })))
       (λ same. same)
       (first-or-same K.declared words (in_set r) (in_set s)))
 
@@ -36,7 +43,14 @@ module _ (K : System) (words : List ℕ) (T : List Step) (r s : Step) (a : IsAdm
   most-is b h = one_set K.declared r s (set-below K T r a) (set-below K T s b.admissible)
       (⊎_elim
       (λ (f : IsFirst K.declared words (in_set r) (in_set s)).
-      absurd (b.best r a (record { clock = f.clock; declared = f.below; differ = f.differ; preferred = from-not (ticks_in f.clock r) (ticks_in f.clock s) (h f.clock) f.differ; before = f.before })))
+      absurd (b.best r a (record {
+        clock = f.clock;
+        declared = f.below;
+        differ = f.differ;
+        preferred =
+            from-not (ticks_in f.clock r) (ticks_in f.clock s) (h f.clock) f.differ;
+        before = f.before;
+      })))
       (λ same. same)
       (first-or-same K.declared words (in_set r) (in_set s)))
 
@@ -55,7 +69,8 @@ module _ (K : System) (ok : IsAccepted K) (policy : Policy) (seed steps n : ℕ)
       let q = it.each n l in
       let before = take n (simulation K policy seed steps) in
       let u = admissible_solution K ok before run-before q.0 q.1.admissible in
-      let step-is : step_at (simulation K policy seed steps) n ≡ u.0 = q.2 ∙ ap (full_step K before) (sym u.2) ∙ (solution_full K ok before run-before u.0 u.1).declared in
+      let step-is : step_at (simulation K policy seed steps) n ≡ u.0 =
+      q.2 ∙ ap (full_step K before) (sym u.2) ∙ (solution_full K ok before run-before u.0 u.1).declared in
       let part : q.0 ≡ declared_part K (step_at (simulation K policy seed steps) n) = sym (ap (declared_part K) step-is ∙ u.2) in
       subst (IsBest K policy (words_of_step K seed n) before) part q.1
 

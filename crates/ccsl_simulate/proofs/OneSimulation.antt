@@ -1,5 +1,6 @@
 -- There is one list of steps that is the simulation.
-use Rattle.std.proofs.Common.{◌≡◌, ℕ, zero, suc, ◌+◌, ◌-◌, ◌<◌, ◌≤◌, List, [], ◌∷◌, ◌++◌, length, take, Option, Some, None, ⊎_elim, refl, sym, ap, ◌∙◌, subst, arith, append_assoc, length-take-le}
+use Rattle.std.proofs.Common.{◌≡◌, ℕ, zero, suc, ◌+◌, ◌-◌, ◌<◌, ◌≤◌, List, [], ◌∷◌, ◌++◌, length, take, Option, Some, None, ⊎_elim, refl, sym, ap, ◌∙◌, subst}
+use Rattle.std.proofs.Common.{arith, append_assoc, length-take-le}
 use Rattle.std.proofs.lemmas.Bool.{cases_lt}
 use Rattle.std.proofs.lemmas.List.{take_all}
 use Rattle.std.proofs.Math.Seq.{take-suc, get_or-append_seam}
@@ -37,7 +38,8 @@ module _ (K : System) (policy : Policy) (seed : ℕ) where
       let all : run (length T) ≡ T = same-front steps T h (length T) (omega arith) ∙ take_all (length T) T (omega arith) in
       ⊎_elim
       (λ (l : length T < steps).
-      let none = none-chosen K (run (length T)) policy (words_of_step K seed (length (run (length T)))) (λ s a. h.ends l s (subst (λ U. IsAdmissible K U s) all a)) in
+      let none = none-chosen K (run (length T)) policy (words_of_step K seed (length (run (length T))))
+      (λ s a. h.ends l s (subst (λ U. IsAdmissible K U s) all a)) in
       let e : length T + (steps - length T) ≡ steps = omega arith in
       sym all ∙ sym (stopped K policy seed (length T) (steps - length T) none) ∙ ap run e)
       (λ (l : steps ≤ length T). let e : length T ≡ steps = omega arith in sym all ∙ ap run e)

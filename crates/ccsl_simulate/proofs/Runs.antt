@@ -1,5 +1,6 @@
 -- The simulated run, step by step: it goes on by the chosen set or stops for good, and is a run.
-use Rattle.std.proofs.Common.{◌≡◌, ℕ, zero, suc, ◌+◌, ◌-◌, ◌<◌, ◌≤◌, List, [], ◌∷◌, ◌++◌, length, take, Option, Some, None, ⊎_elim, refl, sym, ap, ◌∙◌, subst, arith, append-nil, append_assoc, length-append}
+use Rattle.std.proofs.Common.{◌≡◌, ℕ, zero, suc, ◌+◌, ◌-◌, ◌<◌, ◌≤◌, List, [], ◌∷◌, ◌++◌, length, take, Option, Some, None, ⊎_elim, refl, sym, ap, ◌∙◌, subst}
+use Rattle.std.proofs.Common.{arith, append-nil, append_assoc, length-append}
 use Rattle.std.proofs.lemmas.Bool.{cases_lt}
 use Rattle.std.proofs.lemmas.List.{take_all, take-append-le}
 use Rattle.ccsl_kernel.specs.Syntax.{System}
@@ -58,7 +59,8 @@ module _ (K : System) (policy : Policy) (seed : ℕ) where
       at : run (n + suc k) ≡ run (suc (n + k))
       at = let e : n + suc k ≡ suc (n + k) = omega arith in ap run e
 
-      on : (o : Option Step) → chosen_after (n + k) ≡ o → (more : List Step) × (run (n + k) ≡ run n ++ more) → (more : List Step) × (run (n + suc k) ≡ run n ++ more)
+      on : (o : Option Step) → chosen_after (n + k) ≡ o → (more : List Step) × (run (n + k) ≡ run n ++ more)
+          → (more : List Step) × (run (n + suc k) ≡ run n ++ more)
       on None h q = (q.0, at ∙ stops (n + k) h ∙ q.1)
       on (Some s) h q =
           let f = full_step K (run (n + k)) s in

@@ -1,5 +1,6 @@
 -- What a simulator stands for after a turn, and what the turn has written.
-use Rattle.std.proofs.Common.{◌≡◌, inl, inr, ℕ, suc, ◌+◌, ◌*◌, ◌<◌, ◌^◌, List, [], ◌∷◌, ◌++◌, length, true, All, Ok, Err, refl, sym, ap, ap₂, ◌∙◌, subst, arith, length-append, suc-mul}
+use Rattle.std.proofs.Common.{◌≡◌, inl, inr, ℕ, suc, ◌+◌, ◌*◌, ◌<◌, ◌^◌, List, [], ◌∷◌, ◌++◌, length, true, All, Ok, Err, refl, sym, ap, ap₂, ◌∙◌, subst, arith}
+use Rattle.std.proofs.Common.{length-append, suc-mul}
 use Rattle.std.specs.declared.result.Result.{Result}
 use Rattle.std.specs.Result.{IfOk, IfErr}
 use Rattle.std.proofs.lemmas.Bool.{and_parts}
@@ -67,8 +68,10 @@ module _ (seed n : ℕ) (old mid : Simulator) (task : SameTask old mid) (kept : 
     full = (next-step K s.accepted old.policy seed n s.steps set a c).1
 
     -- the simulator that goes on by it stands for one step more
-    pub stands-next : (new : Simulator) → SameTask mid new → generator.StandsFor mid.draw seed (n * K.declared + K.declared) → new.draw ≡ mid.draw → new.states.system ≡ mid.states.system
-        → ((U : List Step) → states.StandsFor mid.states U → length U + 1 < 2 ^ 64 → states.StandsFor new.states (U ++ full_step mid.states.system U set ∷ [])) → n + 1 < 2 ^ 64 → Stands seed (suc n) new
+    pub stands-next : (new : Simulator) → SameTask mid new → generator.StandsFor mid.draw seed (n * K.declared + K.declared) → new.draw ≡ mid.draw
+        → new.states.system ≡ mid.states.system
+        → ((U : List Step) → states.StandsFor mid.states U → length U + 1 < 2 ^ 64 → states.StandsFor new.states (U ++ full_step mid.states.system U set ∷ []))
+        → n + 1 < 2 ^ 64 → Stands seed (suc n) new
     stands-next new task' drawn draw system goes few =
         let both : SameTask old new = same-task old mid new task task' in
         let at : new.system.now ≡ K = ap (λ s. s.now) both.system in
@@ -79,7 +82,8 @@ module _ (seed n : ℕ) (old mid : Simulator) (task : SameTask old mid) (kept : 
         record {
           system = system ∙ there ∙ sym at;
           accepted = subst IsAccepted (sym at) s.accepted;
-          steps = ap length (same-run old new seed (suc n) both ∙ next) ∙ length-append T (set ∷ []) ∙ (let e : length T + 1 ≡ suc n = omega (arith, s.steps) in e);
+          steps = ap length (same-run old new seed (suc n) both ∙ next) ∙ length-append T (set ∷ [])
+              ∙ (let e : length T + 1 ≡ suc n = omega (arith, s.steps) in e);
           states =
               subst (states.StandsFor new.states) (step ∙ sym (same-run old new seed (suc n) both))
               (goes T (subst (λ (h : states.Held). states.StandsFor h T) (sym kept) s.states) (omega (arith, s.steps, few)));
@@ -108,7 +112,8 @@ module _ (seed n : ℕ) (old mid : Simulator) (task : SameTask old mid) (kept : 
     pub lines-named : All (λ line. AreBelow (length mid.system.now.names) (literals line)) lines
     lines-named =
         subst (λ (X : System). All (λ line. AreBelow (length X.names) (literals line)) lines) (sym names-mid)
-        (lines-below (scope_of K) (item_formulas K T) [] lines (and_parts (are_valid (scope_of K) (item_formulas K T) lines) (ends_empty K.declared lines) d.certificate).0)
+        (lines-below (scope_of K) (item_formulas K T) [] lines
+        (and_parts (are_valid (scope_of K) (item_formulas K T) lines) (ends_empty K.declared lines) d.certificate).0)
 
     module _ (told : Told) (t u : State) where
       at-lines : lines_text mid.system.now.names lines ≡ lines_text K.names lines

@@ -10,7 +10,16 @@ use Rattle.ccsl_simulate.specs.Simulation.{simulation}
 
 -- two declared clocks under some constraints
 abbrev pair : List Constraint → System
-pair constraints = record { names = codes "a" ∷ codes "b" ∷ []; declared = 2; written = 2; groups = []; words = []; definitions = []; constraints = constraints }
+pair constraints = record {
+  names = codes "a" ∷ codes "b" ∷ [];
+  declared = 2;
+  written = 2;
+  groups = [];
+  words = [];
+  definitions = [];
+  constraints =
+      constraints;
+}
 
 -- the second clock has the smaller word and comes first: it does not tick, or it does, or its odd word says that it does
 pub worked_min : chosen (pair []) [] Min (5 ∷ 3 ∷ []) ≡ Some (0 ∷ [])
@@ -26,12 +35,14 @@ unfolding chosen
 worked_seeded = refl
 
 -- where a precedes b, only a can tick first, whatever the words are
-pub worked_first : (policy : Policy) (seed : ℕ) → simulation (pair (record { kind = Precedes; left = 0; right = 1; label = [] } ∷ [])) policy seed 1 ≡ (0 ∷ []) ∷ []
+pub worked_first : (policy : Policy) (seed : ℕ)
+    → simulation (pair (record { kind = Precedes; left = 0; right = 1; label = [] } ∷ [])) policy seed 1 ≡ (0 ∷ []) ∷ []
 unfolding chosen simulation
 worked_first policy seed = refl
 
 -- where each precedes the other, none can
 pub worked_blocked : (policy : Policy) (seed : ℕ)
-    → simulation (pair (record { kind = Precedes; left = 0; right = 1; label = [] } ∷ record { kind = Precedes; left = 1; right = 0; label = [] } ∷ [])) policy seed 2 ≡ []
+    → simulation (pair (record { kind = Precedes; left = 0; right = 1; label = [] } ∷ record { kind = Precedes; left = 1; right = 0; label = [] } ∷ [])) policy
+    seed 2 ≡ []
 unfolding chosen simulation
 worked_blocked policy seed = refl

@@ -1,5 +1,6 @@
 -- What a simulation writes: the text of the first steps is a front of the whole, and so is what a failed write leaves.
-use Rattle.std.proofs.Common.{◌≡◌, ◌⊎◌, inl, inr, ℕ, suc, ◌+◌, ◌-◌, ◌<◌, ◌≤◌, min, List, [], ◌∷◌, ◌++◌, length, take, true, IsTrue, ⊎_elim, sym, ap, ◌∙◌, subst, arith, append-nil, append_assoc}
+use Rattle.std.proofs.Common.{◌≡◌, ◌⊎◌, inl, inr, ℕ, suc, ◌+◌, ◌-◌, ◌<◌, ◌≤◌, min, List, [], ◌∷◌, ◌++◌, length, take, true, IsTrue, ⊎_elim, sym, ap, ◌∙◌, subst}
+use Rattle.std.proofs.Common.{arith, append-nil, append_assoc}
 use Rattle.std.proofs.lemmas.Bool.{cases_lt}
 use Rattle.std.proofs.lemmas.List.{take_all, take-append-le}
 use Rattle.ccsl_edge.specs.declared.slot.Slot.{Slot}
@@ -30,7 +31,8 @@ steps-append k K (s ∷ S) more =
     ∙ sym (append_assoc (step_text k K s) (steps_text (k + 1) K S) (steps_text (k + length (s ∷ S)) K more))
 
 trace-append : (K : System) (S more : List Step) → vcd_text K (S ++ more) ≡ vcd_text K S ++ steps_text (0 + length S) K more
-trace-append K S more = ap (λ bs. header_text K ++ bs) (steps-append 0 K S more) ∙ sym (append_assoc (header_text K) (steps_text 0 K S) (steps_text (0 + length S) K more))
+trace-append K S more = ap (λ bs. header_text K ++ bs) (steps-append 0 K S more)
+    ∙ sym (append_assoc (header_text K) (steps_text 0 K S) (steps_text (0 + length S) K more))
 
 -- a front of some bytes is a front of more
 front-more : (told : Told) (slot : Slot) (a rest : List ℕ) (s u : State) → AddsFront told slot a s u → AddsFront told slot (a ++ rest) s u
@@ -52,10 +54,12 @@ front-more told slot a rest s u q = record {
         (cases_lt n (length a))
 
 -- an output slot stays open while bytes are added to the trace
-pub trace-open : (told : Told) (bytes : List ℕ) (s t : State) → Adds told TraceOut bytes s t → IsTrue (s.slot_of TraceOut).is_open → IsTrue (t.slot_of TraceOut).is_open
+pub trace-open : (told : Told) (bytes : List ℕ) (s t : State) → Adds told TraceOut bytes s t → IsTrue (s.slot_of TraceOut).is_open
+    → IsTrue (t.slot_of TraceOut).is_open
 trace-open told bytes s t p o = subst (λ (x : SlotState). IsTrue x.is_open) (sym p.here) o
 
-pub cert-open : (told : Told) (bytes : List ℕ) (s t : State) → Adds told TraceOut bytes s t → IsTrue (s.slot_of CertOut).is_open → IsTrue (t.slot_of CertOut).is_open
+pub cert-open : (told : Told) (bytes : List ℕ) (s t : State) → Adds told TraceOut bytes s t → IsTrue (s.slot_of CertOut).is_open
+    → IsTrue (t.slot_of CertOut).is_open
 cert-open told bytes s t p o = subst (λ (x : SlotState). IsTrue x.is_open) (sym (p.only.others CertOut (λ e. cc))) o
 
 module _ (told : Told) (K : System) (policy : Policy) (seed steps : ℕ) (s : State) where
@@ -118,7 +122,8 @@ module _ (told : Told) (K : System) (policy : Policy) (seed steps : ℕ) (s : St
 
     fails-there : FailsAtStep told K policy seed n t u ⊎ FailsAtLines told K policy seed n t u
         → AddsFront told TraceOut (vcd_text K (run steps)) s u ⊎ FailsAtCertificate told K policy seed steps s u
-    fails-there q = ⊎_elim (λ a. inl (step-fails a)) (λ b. inr (record { at = n; lines = b.lines; written = t; blocked = blocked b.lines b.stopped; text = b.adds })) q
+    fails-there q = ⊎_elim (λ a. inl (step-fails a))
+        (λ b. inr (record { at = n; lines = b.lines; written = t; blocked = blocked b.lines b.stopped; text = b.adds })) q
 
     cut-there : u ≡ t → IsCutShort told K policy seed steps s u
     cut-there e =

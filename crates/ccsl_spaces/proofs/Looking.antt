@@ -1,5 +1,6 @@
 -- The first declaration of a name stands at the first place of its name.
-use Rattle.std.proofs.Common.{◌≡◌, ℕ, suc, zero, arith, List, [], ◌∷◌, map, bytes_eq, Bool, true, false, cond, Option, Some, None, is_none, Bor, slice_get, get_or, length, take, nat_lt, ◌||◌, ◌<◌, ◌++◌, if◌then◌else◌, refl, sym, ap, ◌∙◌}
+use Rattle.std.proofs.Common.{◌≡◌, ℕ, suc, zero, arith, List, [], ◌∷◌, map, bytes_eq, Bool, true, false, cond, Option, Some, None, is_none, Bor, slice_get}
+use Rattle.std.proofs.Common.{get_or, length, take, nat_lt, ◌||◌, ◌<◌, ◌++◌, if◌then◌else◌, refl, sym, ap, ◌∙◌}
 use Rattle.std.specs.Option.{option_map}
 use Rattle.std.proofs.lemmas.Bool.Decides.{nat_tests}
 use Rattle.std.proofs.lemmas.Slice.Eq.{bytes_eq-Decides}
@@ -50,8 +51,8 @@ pub look-none : {T : Type 0} (ds : List (Declaration T)) (name : List ℕ) → f
 look-none ds name e = look-place ds name ∙ ap (at (map known ds)) e
 
 -- a name with a place is what is declared there
-pub look-some : {T : Type 0} (ds : List (Declaration T)) (name : List ℕ) (i : ℕ) (d : Declaration T) → find_name name (map text ds) ≡ Some i → d ≡ get_or ds i d →
-    look name (map known ds) ≡ Some (known d)
+pub look-some : {T : Type 0} (ds : List (Declaration T)) (name : List ℕ) (i : ℕ) (d : Declaration T) → find_name name (map text ds) ≡ Some i → d ≡ get_or ds i d
+    → look name (map known ds) ≡ Some (known d)
 look-some ds name i d e is =
     let within : i < length ds = rw (← length-map ds text) (position-Some (bytes_eq name) (map text ds) i [] e).0 in
     look-place ds name ∙ ap (at (map known ds)) e ∙ slice_get-get_or (map known ds) i (known d) (rw (length-map ds known) within)
@@ -89,8 +90,8 @@ has-added ds es d first new fresh name place n p f e is has =
     by false None p f e = absurd (cc)
 
 -- what a list is after a push that had room
-pub pushed : {A : Type 0} (old before : List A) {new : List A} (x : A) {ok : Bool} → new ≡ (if ok then before ++ x ∷ [] else before) → ok ≡ true → before ≡ old →
-    new ≡ old ++ x ∷ []
+pub pushed : {A : Type 0} (old before : List A) {new : List A} (x : A) {ok : Bool} → new ≡ (if ok then before ++ x ∷ [] else before) → ok ≡ true → before ≡ old
+    → new ≡ old ++ x ∷ []
 pushed old before x e o is = e ∙ ap (λ b. if b then before ++ x ∷ [] else before) o ∙ ap (λ l. l ++ x ∷ []) is
 
 -- what a name stands for, where what declarations stand for is seen otherwise
@@ -137,7 +138,8 @@ names-known [] = refl
 names-known (d ∷ ds) = ap (λ l. text d ∷ l) (names-known ds)
 
 -- so for the declaration at a place
-pub repeated-at : {T : Type 0} (ds : List (Declaration T)) (space : List (Known T)) (d : Declaration T) (place : ℕ) (first : List (List ℕ × ℕ)) {name : List ℕ} {found : Option ℕ} →
+pub repeated-at : {T : Type 0} (ds : List (Declaration T)) (space : List (Known T)) (d : Declaration T) (place : ℕ)
+    (first : List (List ℕ × ℕ)) {name : List ℕ} {found : Option ℕ} →
     map known ds ≡ space → place < length space → d ≡ get_or ds place d → name ≡ text d → found ≡ place_of name first → HasFirsts first (map text ds) →
     is_below place found ≡ is_among (name_at space place) (take place (names space))
 repeated-at ds space d place first {name} view within is n f has =

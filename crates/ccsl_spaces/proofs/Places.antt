@@ -1,5 +1,6 @@
 -- An index has the first places, and keeps them as names are added.
-use Rattle.std.proofs.Common.{◌≡◌, ℕ, ◌+◌, List, [], ◌∷◌, ◌++◌, map, length, position, bytes_eq, Bool, true, false, cond, Option, Some, None, is_some, not, suc, refl, sym, ap, ◌∙◌, arith, nat_lt}
+use Rattle.std.proofs.Common.{◌≡◌, ℕ, ◌+◌, List, [], ◌∷◌, ◌++◌, map, length, position, bytes_eq, Bool, true, false, cond, Option, Some, None, is_some, not, suc}
+use Rattle.std.proofs.Common.{refl, sym, ap, ◌∙◌, arith, nat_lt}
 use Rattle.std.specs.Option.{option_or, option_map}
 use Rattle.std.specs.Map.{lookup}
 use Rattle.std.specs.List.{position_or_len}
@@ -38,7 +39,8 @@ position-cons p x xs = by (p x) (nat_lt (position_or_len p xs) (length xs)) refl
   by false true e = grind (arith, nat_tests)
   by false false e = grind (arith, nat_tests)
 
-pub position-push : {X : Type 0} (p : X → Bool) (xs : List X) (y : X) → position p (xs ++ y ∷ []) ≡ option_or (position p xs) (cond (p y) (Some (length xs)) None)
+pub position-push : {X : Type 0} (p : X → Bool) (xs : List X) (y : X)
+    → position p (xs ++ y ∷ []) ≡ option_or (position p xs) (cond (p y) (Some (length xs)) None)
 position-push p [] y = by (p y) where
   by : (b : Bool) → cond (nat_lt (cond (not b) (1 + 0) 0) 1) (Some (cond (not b) (1 + 0) 0)) None ≡ cond b (Some 0) None
   by true = refl
@@ -47,7 +49,8 @@ position-push p (x ∷ xs) y =
     position-cons p x (xs ++ y ∷ []) ∙ by (p x) (position-push p xs y)
     ∙ ap (λ o. option_or o (cond (p y) (Some (suc (length xs))) None)) (sym (position-cons p x xs))
   where
-    later : (o : Option ℕ) (b : Bool) → option_map suc (option_or o (cond b (Some (length xs)) None)) ≡ option_or (option_map suc o) (cond b (Some (suc (length xs))) None)
+    later : (o : Option ℕ) (b : Bool)
+        → option_map suc (option_or o (cond b (Some (length xs)) None)) ≡ option_or (option_map suc o) (cond b (Some (suc (length xs))) None)
     later None true = refl
     later None false = refl
     later (Some i) b = refl

@@ -1,5 +1,6 @@
 -- Each text is a system or is refused.
-use Rattle.std.proofs.Common.{◌≡◌, ◌⊎◌, ℕ, zero, suc, ◌+◌, ◌-◌, ◌<◌, ◌≤◌, List, [], ◌∷◌, ◌++◌, length, map, take, drop, Bool, true, false, ◌&&◌, not, Option, Some, None, IsTrue, nat_le, refl, sym, ap, ◌∙◌, subst, inl, inr, ⊎_elim, arith, le-leb}
+use Rattle.std.proofs.Common.{◌≡◌, ◌⊎◌, ℕ, zero, suc, ◌+◌, ◌-◌, ◌<◌, ◌≤◌, List, [], ◌∷◌, ◌++◌, length, map, take, drop, Bool, true, false, ◌&&◌, not, Option}
+use Rattle.std.proofs.Common.{Some, None, IsTrue, nat_le, refl, sym, ap, ◌∙◌, subst, inl, inr, ⊎_elim, arith, le-leb}
 use Rattle.std.specs.List.{list_all}
 use Rattle.std.proofs.lemmas.Bool.{and_parts, and_from, cases_lt}
 use Rattle.std.proofs.lemmas.List.{take-map, drop-map, take_at, drop_at, take-append-drop}
@@ -14,7 +15,8 @@ use Rattle.ccsl_lex.specs.declared.token.Token.{Token}
 use Rattle.ccsl_lex.specs.declared.token.TokenKind.{TokenKind}
 use Rattle.ccsl_lex.specs.Kept.{kind_kept}
 use Rattle.ccsl_lex.specs.Laws.{TokensOrFault}
-use Rattle.ccsl_lex.specs.Tokens.{Piece, blank, comment, letters, digits, quoted, mark, text_of, is_piece, fits, AreCut, PlainToken, plain_token, name_or_word, kind_of, token_at, tokens_of, AreTokens, IsFirstFault}
+use Rattle.ccsl_lex.specs.Tokens.{Piece, blank, comment, letters, digits, quoted, mark, text_of, is_piece, fits, AreCut, PlainToken, plain_token, name_or_word}
+use Rattle.ccsl_lex.specs.Tokens.{kind_of, token_at, tokens_of, AreTokens, IsFirstFault}
 use Rattle.ccsl_ast.specs.Trees.{PlainFile}
 use Rattle.ccsl_grammar.specs.Terminals.{Terminal, terminal, terminals}
 use Rattle.ccsl_grammar.specs.Reader.{Reply, took, stopped, no_syntax, too_deep}
@@ -45,7 +47,8 @@ name-kept (b ∷ bytes) h f r =
     (and_from (is_word (b ∷ bytes)) (nat_le (length (b ∷ bytes)) MAX_NAME_BYTES) (and_from (is_letter b) (list_all is_inner bytes) first.0 rest.1) f)
     (ap not (not_reserved (b ∷ bytes) r))
 
-letters-kept : (bytes : List ℕ) → is_piece (letters bytes) ≡ true → fits (letters bytes) ≡ true → (o : Option Reserved) → reserved bytes ≡ o → kind_kept (name_or_word bytes o) ≡ true
+letters-kept : (bytes : List ℕ) → is_piece (letters bytes) ≡ true → fits (letters bytes) ≡ true → (o : Option Reserved) → reserved bytes ≡ o
+    → kind_kept (name_or_word bytes o) ≡ true
 letters-kept bytes h f (Some w) r = refl
 letters-kept bytes h f None r = name-kept bytes h f r
 
@@ -57,13 +60,15 @@ record AreKept (ps : List PlainToken) : Type 0 where
 kept-none : AreKept []
 kept-none = record { tokens = []; plain = refl }
 
-kept-more : (at end : ℕ) (kind : TokenKind) (ps : List PlainToken) → kind_kept kind ≡ true → AreKept ps → AreKept (record { at = at; end = end; kind = kind } ∷ ps)
+kept-more : (at end : ℕ) (kind : TokenKind) (ps : List PlainToken) → kind_kept kind ≡ true → AreKept ps
+    → AreKept (record { at = at; end = end; kind = kind } ∷ ps)
 kept-more at end kind ps k a = record {
   tokens = record { at = at; end = end; kind = kind; kept = k } ∷ a.tokens;
   plain = ap (λ qs. record { at = at; end = end; kind = kind } ∷ qs) a.plain;
 }
 
-kept-piece : (at : ℕ) (p : Piece) (ps : List PlainToken) → is_piece p ≡ true → fits p ≡ true → AreKept ps → AreKept (token_at at (at + length (text_of p)) (kind_of p) ++ ps)
+kept-piece : (at : ℕ) (p : Piece) (ps : List PlainToken) → is_piece p ≡ true → fits p ≡ true → AreKept ps
+    → AreKept (token_at at (at + length (text_of p)) (kind_of p) ++ ps)
 kept-piece at (blank b) ps h f a = a
 kept-piece at (comment bytes) ps h f a = a
 kept-piece at (letters bytes) ps h f a =

@@ -55,7 +55,8 @@ place-plain front (t ∷ ts) = refl
 same_place : (ts x y p q : List PlainToken) → ts ≡ x ++ y → ts ≡ p ++ q → seen y ≡ seen q → plain_place x y ≡ plain_place p q
 same_place ts x y p q e h i =
     let look = λ (p : PlainToken). seen_as p.at p.kind in
-    let n : length x ≡ length p = omega (arith, ap length e, ap length h, length-append x y, length-append p q, ap length i, length-map y look, length-map q look) in
+    let n : length x ≡ length p =
+    omega (arith, ap length e, ap length h, length-append x y, length-append p q, ap length i, length-map y look, length-map q look) in
     let a : x ≡ p = sym (take_at x y (length p) n) ∙ ap (take (length p)) (sym e ∙ h) ∙ take_at p q (length p) refl in
     let b : y ≡ q = sym (drop_at x y (length p) n) ∙ ap (drop (length p)) (sym e ∙ h) ∙ drop_at p q (length p) refl in
     rw (a, b) refl
@@ -112,7 +113,8 @@ module _ (one_verdict : OneVerdict) where
     back = map plain_token s.back;
     whole = ap (map plain_token) s.whole ∙ map-append plain_token s.front s.back;
     reply = stops-at no_syntax ts s.front s.back s.whole
-        (one_verdict MAX_LEVELS (terminals ts) (stopped no_syntax (terminals s.back)) (terminals s.front, ap terminals s.whole ∙ map-append terminal s.front s.back, s.fails));
+        (one_verdict MAX_LEVELS (terminals ts) (stopped no_syntax (terminals s.back))
+        (terminals s.front, ap terminals s.whole ∙ map-append terminal s.front s.back, s.fails));
     is = s.is ∙ place-plain s.front s.back;
   }
   stops (TooDeep at) ts s = record {
@@ -120,7 +122,8 @@ module _ (one_verdict : OneVerdict) where
     back = map plain_token s.back;
     whole = ap (map plain_token) s.whole ∙ map-append plain_token s.front s.back;
     reply = stops-at too_deep ts s.front s.back s.whole
-        (one_verdict MAX_LEVELS (terminals ts) (stopped too_deep (terminals s.back)) (terminals s.front, ap terminals s.whole ∙ map-append terminal s.front s.back, s.deep));
+        (one_verdict MAX_LEVELS (terminals ts) (stopped too_deep (terminals s.back))
+        (terminals s.front, ap terminals s.whole ∙ map-append terminal s.front s.back, s.deep));
     is = s.is ∙ place-plain s.front s.back;
   }
   stops Memory ts s = absurd s
@@ -176,7 +179,8 @@ module _ (one_verdict : OneVerdict) where
     refused_or_accepted : (f g : PlainFile) (r : Refusal) → HasTree text f → HasTree text g → refusal the_library f ≡ None → refusal the_library g ≡ Some r → ⊥
     refused_or_accepted f g r a b x y = let e : refusal the_library f ≡ refusal the_library g = ap (refusal the_library) (trees_are_one f g a b) in cc
 
-    refusals_are_one : (f g : PlainFile) (r s : Refusal) → HasTree text f → HasTree text g → refusal the_library f ≡ Some r → refusal the_library g ≡ Some s → r ≡ s
+    refusals_are_one : (f g : PlainFile) (r s : Refusal) → HasTree text f → HasTree text g → refusal the_library f ≡ Some r → refusal the_library g ≡ Some s
+        → r ≡ s
     refusals_are_one f g r s a b x y = let e : refusal the_library f ≡ refusal the_library g = ap (refusal the_library) (trees_are_one f g a b) in cc
 
     pub one_system : (K L : System) → IsSystemOf text K → IsSystemOf text L → K ≡ L

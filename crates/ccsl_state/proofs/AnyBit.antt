@@ -1,5 +1,6 @@
 -- Whether a bit is set, by whole cells.
-use Rattle.std.proofs.Common.{◌≡◌, ◌≢◌, ℕ, zero, suc, ◌+◌, ◌*◌, ◌/◌, ◌%◌, ◌^◌, ◌<◌, ◌≤◌, List, [], ◌∷◌, ◌++◌, length, get_or, take, drop, Bool, true, false, not, ◌||◌, refl, sym, ap, ap₂, ◌∙◌, arith, ⊎_elim, pow-suc, append_assoc}
+use Rattle.std.proofs.Common.{◌≡◌, ◌≢◌, ℕ, zero, suc, ◌+◌, ◌*◌, ◌/◌, ◌%◌, ◌^◌, ◌<◌, ◌≤◌, List, [], ◌∷◌, ◌++◌, length, get_or, take, drop, Bool, true, false}
+use Rattle.std.proofs.Common.{not, ◌||◌, refl, sym, ap, ap₂, ◌∙◌, arith, ⊎_elim, pow-suc, append_assoc}
 use Rattle.std.proofs.lemmas.Bool.{cases_eq, ne_eqb}
 use Rattle.std.proofs.lemmas.List.{take_more, take-take, take-append-drop, append-nil}
 use Rattle.std.proofs.Math.Seq.{take-append_seam}
@@ -45,7 +46,8 @@ pub none_more : (cells : List ℕ) (i : ℕ) → i < length cells → get_or cel
     any_set (bits_of (take (i + 1) cells)) ≡ false
 none_more cells i l fits none zero_cell = any_cells cells i l fits ∙ ap₂ (λ a n. a || flag_of n) none zero_cell
 
-pub one_is : (cells : List ℕ) (i : ℕ) → i < length cells → get_or cells i 0 < 2 ^ 64 → any_set (bits_of (take i cells)) ≡ false → get_or cells i 0 ≢ 0 → true ≡ any_set (bits_of cells)
+pub one_is : (cells : List ℕ) (i : ℕ) → i < length cells → get_or cells i 0 < 2 ^ 64 → any_set (bits_of (take i cells)) ≡ false → get_or cells i 0 ≢ 0
+    → true ≡ any_set (bits_of cells)
 one_is cells i l fits none ne =
     sym
     (ap (λ xs. any_set (bits_of xs)) (sym (take-append-drop (i + 1) cells))

@@ -3,7 +3,8 @@ use Rattle.std.proofs.Common.{ℕ, ◌+◌, ◌-◌, Bool, true, false, nat_le, 
 use Rattle.ccsl_formula.specs.Formula.{Formula, FFalse, FNot, FAnd, FOr}
 use Rattle.ccsl_words.specs.Word.{letter}
 use Rattle.ccsl_kernel.proofs.Scope.{ReadsOnly}
-use Rattle.ccsl_state.specs.Tree.{Tree, TName, TNever, TOne, TTwo, TThen, One, Delaying, Awaiting, Filtering, Two, Uniting, Meeting, Lessening, Leading, Trailing, Ending, EndingWeakly, Sampling, SamplingWeakly, Lagging, one_formula, two_formula, formula_of}
+use Rattle.ccsl_state.specs.Tree.{Tree, TName, TNever, TOne, TTwo, TThen, One, Delaying, Awaiting, Filtering, Two, Uniting, Meeting, Lessening, Leading}
+use Rattle.ccsl_state.specs.Tree.{Trailing, Ending, EndingWeakly, Sampling, SamplingWeakly, Lagging, one_formula, two_formula, formula_of}
 use Rattle.ccsl_state.specs.Below.{TreeBelow}
 
 module _ (X : ℕ) where

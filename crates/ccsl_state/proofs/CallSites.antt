@@ -20,7 +20,8 @@ CallOwes K earlier group member args ρ n =
     × ((b : Body) → body_of K.groups group member ≡ Some b → 1 + length b.params + cells_in earlier b.root ≤ n) × (n ≤ 32768)
 
 module _ (K : System) (earlier : List ℕ) (group : ℕ) where
-  pub call_owes : (member : ℕ) (args : List Value) (ρ : List Actual) (n : ℕ) → IsEnough K earlier → length earlier ≤ length K.groups → group < length earlier → IsCall K group member args →
+  pub call_owes : (member : ℕ) (args : List Value) (ρ : List Actual) (n : ℕ) → IsEnough K earlier → length earlier ≤ length K.groups → group < length earlier
+      → IsCall K group member args →
       ValuesFit K.words args → ActualsFit K.words ρ → slice_index earlier group ≤ n → n ≤ 32768 → CallOwes K (take group earlier) group member args ρ n
   call_owes member args ρ n enough groups below is fits actuals room few =
       let len : length (take group earlier) ≡ group = length-take-le group earlier (omega (arith, below)) in (
@@ -30,17 +31,20 @@ module _ (K : System) (earlier : List ℕ) (group : ℕ) where
         is,
         fits,
         actuals,
-        (λ b at. let r = call_room K earlier group member b enough below (omega (arith, room, few)) (subst (λ k. body_of K.groups k member ≡ Some b) (sym len) at) in omega (arith, r, room)),
+        (λ b at. let r = call_room K earlier group member b enough below (omega (arith, room, few))
+            (subst (λ k. body_of K.groups k member ≡ Some b) (sym len) at) in omega (arith, r, room)),
         few,
       )
 
-  pub call_read : (member : ℕ) (args : List Value) (ρ : List Actual) (row : List ℕ) → group < length earlier → read K earlier (ECall group member args) ρ row ≡ region_of K (take group earlier) row
+  pub call_read : (member : ℕ) (args : List Value) (ρ : List Actual) (row : List ℕ) → group < length earlier
+      → read K earlier (ECall group member args) ρ row ≡ region_of K (take group earlier) row
   call_read member args ρ row below =
       ap (λ t. if t then read_call K earlier (length earlier) group row else TNever) (lt-ltb group (length earlier) below)
       ∙ read_call_is K earlier (length earlier) group row below (omega arith)
 
   -- seen from its region
-  pub region_read : (K' : System) (earlier' : List ℕ) (member : ℕ) (args : List Value) (ρ : List Actual) (row : List ℕ) → K' ≡ K → earlier' ≡ take group earlier → group < length earlier →
+  pub region_read : (K' : System) (earlier' : List ℕ) (member : ℕ) (args : List Value) (ρ : List Actual) (row : List ℕ) → K' ≡ K → earlier' ≡ take group earlier
+      → group < length earlier →
       region_of K' earlier' row ≡ read K earlier (ECall group member args) ρ row
   region_read K' earlier' member args ρ row k ns below = ap₂ (λ K ns. region_of K ns row) k ns ∙ sym (call_read member args ρ row below)
 
@@ -53,14 +57,18 @@ SiteOwes K earlier group n =
 module _ (K : System) (earlier : List ℕ) (group : ℕ) where
   -- its cells are enough
   pub site_room : IsEnough K earlier → group < length earlier → slice_index earlier group ≤ 32768 →
-      (1 ≤ slice_index earlier group) × ((m : ℕ) (b : Body) → body_of K.groups group m ≡ Some b → 1 + length b.params + cells_in (take group earlier) b.root ≤ slice_index earlier group)
+      (1 ≤ slice_index earlier group) × ((m : ℕ) (b : Body) → body_of K.groups group m ≡ Some b
+      → 1 + length b.params + cells_in (take group earlier) b.root ≤ slice_index earlier group)
   site_room enough below few = (
     (enough group below).0,
     λ m b is.
-        call_room K earlier group m b enough below few (let len : length (take group earlier) ≡ group = length-take-le group earlier (omega (arith, below)) in subst (λ k. body_of K.groups k m ≡ Some b) (sym len) is),
+        call_room K earlier group m b enough below few
+        (let len : length (take group earlier) ≡ group = length-take-le group earlier (omega (arith, below)) in subst (λ k. body_of K.groups k m ≡ Some
+        b) (sym len) is),
   )
 
-  pub site_owes : (n : ℕ) → IsEnough K earlier → length earlier ≤ length K.groups → group < length earlier → slice_index earlier group ≤ n → n ≤ 32768 → SiteOwes K (take group earlier) group n
+  pub site_owes : (n : ℕ) → IsEnough K earlier → length earlier ≤ length K.groups → group < length earlier → slice_index earlier group ≤ n → n ≤ 32768
+      → SiteOwes K (take group earlier) group n
   site_owes n enough groups below room few =
       let r = site_room enough below (omega (arith, room, few)) in (
         enough_before K earlier group (omega (arith, below)) enough,
@@ -71,7 +79,8 @@ module _ (K : System) (earlier : List ℕ) (group : ℕ) where
         few,
       )
 
-  pub site_owes_inside : (K' : System) (earlier' : List ℕ) (n : ℕ) → K' ≡ K → earlier' ≡ take group earlier → IsEnough K earlier → length earlier ≤ length K.groups → group < length earlier → slice_index earlier group ≤ n → n ≤ 32768 →
+  pub site_owes_inside : (K' : System) (earlier' : List ℕ) (n : ℕ) → K' ≡ K → earlier' ≡ take group earlier → IsEnough K earlier
+      → length earlier ≤ length K.groups → group < length earlier → slice_index earlier group ≤ n → n ≤ 32768 →
       SiteOwes K' earlier' group n
   site_owes_inside K' earlier' n k ns enough groups below room few =
       subst (λ K. SiteOwes K earlier' group n) (sym k) (subst (λ ns. SiteOwes K ns group n) (sym ns) (site_owes n enough groups below room few))

@@ -18,25 +18,31 @@ small_mod : (n : ℕ) → n < 2 ^ 32 → n % 2 ^ 32 ≡ n
 small_mod n l = omega (arith, l)
 
 -- a call opens its member's body
-pub call_opens : (K : System) → AreGuarded K → (b : Body) (member g : ℕ) (args : List Value) (ρ vals : List Actual) → g < length K.groups → body_of K.groups g member ≡ Some b → vals ≡ map (value_of K.words ρ) args →
+pub call_opens : (K : System) → AreGuarded K → (b : Body) (member g : ℕ) (args : List Value) (ρ vals : List Actual) → g < length K.groups
+    → body_of K.groups g member ≡ Some b → vals ≡ map (value_of K.words ρ) args →
     opening K b.root vals ≡ opening K (ECall g member args) ρ
 call_opens K guarded b member g args ρ vals below is values =
     ap₂ (λ o vs. opening K (root_or_never o) vs) (sym is) values ∙ sym (opening_call K guarded g member args ρ below)
 
 module _ (K : System) (earlier : List ℕ) where
   -- the tree of a call, where its member is there
-  pub call_at : (head cells region row : List ℕ) (member g : ℕ) (b : Body) → row ≡ head ++ (cells ++ region) → length head ≡ 1 → slice_index head 0 % 2 ^ 32 ≡ member → length earlier ≡ g →
-      body_of K.groups g member ≡ Some b → length cells ≡ length b.params → region_of K earlier row ≡ read K earlier b.root (map (actual_of K.words) cells) region
+  pub call_at : (head cells region row : List ℕ) (member g : ℕ) (b : Body) → row ≡ head ++ (cells ++ region) → length head ≡ 1
+      → slice_index head 0 % 2 ^ 32 ≡ member → length earlier ≡ g →
+      body_of K.groups g member ≡ Some b → length cells ≡ length b.params
+      → region_of K earlier row ≡ read K earlier b.root (map (actual_of K.words) cells) region
   call_at head cells region row member g b row_is l at is_g is few =
       ap (region_of K earlier) row_is
       ∙ ap₂ (λ o rest. read_body K earlier (read_call K earlier (length earlier)) o rest)
       (ap₂ (body_of K.groups) is_g (ap (λ n. n % 2 ^ 32) (first_cell head (cells ++ region) l) ∙ at) ∙ is)
       (behind_head 1 head (cells ++ region) l)
-      ∙ ap₂ (λ params rest. read K earlier b.root (map (actual_of K.words) params) rest) (front_head (length b.params) cells region few) (behind_head (length b.params) cells region few)
+      ∙ ap₂ (λ params rest. read K earlier b.root (map (actual_of K.words) params) rest) (front_head (length b.params) cells region few)
+      (behind_head (length b.params) cells region few)
 
   -- A CALL AT ITS BIRTH
-  pub call_born : AreGuarded K → (head cells region : List ℕ) (member g : ℕ) (b : Body) (args : List Value) (ρ vals : List Actual) → length head ≡ 1 → slice_index head 0 ≡ member → member < 2 ^ 32 →
-      length earlier ≡ g → g < length K.groups → body_of K.groups g member ≡ Some b → length cells ≡ length b.params → map (actual_of K.words) cells ≡ vals → vals ≡ map (value_of K.words ρ) args →
+  pub call_born : AreGuarded K → (head cells region : List ℕ) (member g : ℕ) (b : Body) (args : List Value) (ρ vals : List Actual) → length head ≡ 1
+      → slice_index head 0 ≡ member → member < 2 ^ 32 →
+      length earlier ≡ g → g < length K.groups → body_of K.groups g member ≡ Some b → length cells ≡ length b.params → map (actual_of K.words) cells ≡ vals
+      → vals ≡ map (value_of K.words ρ) args →
       read K earlier b.root vals region ≡ opening K b.root vals → region_of K earlier (head ++ (cells ++ region)) ≡ opening K (ECall g member args) ρ
   call_born guarded head cells region member g b args ρ vals l at small is_g below is few params values opens =
       call_at head cells region (head ++ (cells ++ region)) member g b refl l (ap (λ n. n % 2 ^ 32) at ∙ small_mod member small) is_g is few

@@ -28,17 +28,21 @@ module _ (K : System) (earlier : List ℕ) (e : Expression) (es : List Expressio
       trees_in K earlier (e ∷ es) (left ++ rest') ≡ read K earlier e [] row1 ∷ trees_in K earlier es rest'
   trees_new row1 left rest rest' enough few is len =
       ap₂ (λ t row. t ∷ trees_in K earlier es row)
-      (read_same K earlier e [] (left ++ rest') (left ++ rest) enough few (front_kept (cells_in earlier e) left rest' rest len) ∙ ap (read K earlier e []) (sym is))
+      (read_same K earlier e [] (left ++ rest') (left ++ rest) enough few (front_kept (cells_in earlier e) left rest' rest len)
+      ∙ ap (read K earlier e []) (sym is))
       (behind_head (cells_in earlier e) left rest' len)
 
-  pub trees_old : (row row1 left rest : List ℕ) → row1 ≡ left ++ rest → length left ≡ cells_in earlier e → drop (cells_in earlier e) row1 ≡ drop (cells_in earlier e) row →
+  pub trees_old : (row row1 left rest : List ℕ) → row1 ≡ left ++ rest → length left ≡ cells_in earlier e
+      → drop (cells_in earlier e) row1 ≡ drop (cells_in earlier e) row →
       trees_in K earlier (e ∷ es) row ≡ read K earlier e [] row ∷ trees_in K earlier es rest
   trees_old row row1 left rest is len kept =
-      ap (λ r. read K earlier e [] row ∷ trees_in K earlier es r) (sym kept ∙ ap (drop (cells_in earlier e)) is ∙ behind_head (cells_in earlier e) left rest len)
+      ap (λ r. read K earlier e [] row ∷ trees_in K earlier es r)
+      (sym kept ∙ ap (drop (cells_in earlier e)) is ∙ behind_head (cells_in earlier e) left rest len)
 
 -- a definition's tree is passed, and then those behind it
 pub passes : (K : System) (s : Step) (known : List ℕ) (x : ℕ) (t t' : Tree) (ts ts' : List Tree) (s' known' : List ℕ) → t' ≡ next K s (gone_in known) t →
-    s' ≡ put (eval (formula_of t) s) x s → known' ≡ put (dead_of (gone_in known) t') x known → ts' ≡ passed_all K s' known' (suc x) ts → t' ∷ ts' ≡ passed_all K s known x (t ∷ ts)
+    s' ≡ put (eval (formula_of t) s) x s → known' ≡ put (dead_of (gone_in known) t') x known → ts' ≡ passed_all K s' known' (suc x) ts
+    → t' ∷ ts' ≡ passed_all K s known x (t ∷ ts)
 passes K s known x t t' ts ts' s' known' here ticks dies there =
     ap₂ (λ t ts. t ∷ ts) here (there ∙ ap₂ (λ s known. passed_all K s known (suc x) ts) ticks (dies ∙ ap (λ t. put (dead_of (gone_in known) t) x known) here))
 
@@ -68,7 +72,8 @@ ready_definition K i e ok is =
     each_at x (e' ∷ es) zero h is = let s : e' ≡ e = cc in let n : x ≡ x + 0 = omega arith in subst (λ k. IsDefinition K k e) n (subst (IsDefinition K x) s h.0)
     each_at x (e' ∷ es) (suc i) h is = let n : suc x + i ≡ x + suc i = omega arith in subst (λ k. IsDefinition K k e) n (each_at (suc x) es i h.1 is)
 
-pub part_at : (K : System) (earlier : List ℕ) (i : ℕ) (e : Expression) (size : ℕ) → IsAccepted K → slice_get K.definitions i ≡ Some e → length earlier ≡ length K.groups →
+pub part_at : (K : System) (earlier : List ℕ) (i : ℕ) (e : Expression) (size : ℕ) → IsAccepted K → slice_get K.definitions i ≡ Some e
+    → length earlier ≡ length K.groups →
     cells_from earlier (drop i K.definitions) ≤ size → IsPart K earlier i e size
 part_at K earlier i e size ok is groups room =
     let ready = ready_definition K i e ok is in

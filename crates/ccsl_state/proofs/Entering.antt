@@ -1,5 +1,6 @@
 -- Which definitions wait and which read a clock, as the program finds it.
-use Rattle.std.proofs.Common.{◌≡◌, ℕ, zero, suc, ◌+◌, ◌<◌, ◌≤◌, ⊎_elim, List, [], ◌∷◌, ◌++◌, length, Bool, true, false, not, ◌&&◌, ◌||◌, Option, Some, None, min, slice_get, slice_set, slice_index_or, nat_eq, nat_lt, refl, sym, ap, ap₂, ◌∙◌, arith, lt-ltb, le-ltb, eq-eqb, eqb-true}
+use Rattle.std.proofs.Common.{◌≡◌, ℕ, zero, suc, ◌+◌, ◌<◌, ◌≤◌, ⊎_elim, List, [], ◌∷◌, ◌++◌, length, Bool, true, false, not, ◌&&◌, ◌||◌, Option, Some, None}
+use Rattle.std.proofs.Common.{min, slice_get, slice_set, slice_index_or, nat_eq, nat_lt, refl, sym, ap, ap₂, ◌∙◌, arith, lt-ltb, le-ltb, eq-eqb, eqb-true}
 use Rattle.std.specs.Prelude.{MatchOption, IfSome}
 use Rattle.std.specs.List.{list_any, list_all}
 use Rattle.std.proofs.lemmas.List.{length-set, get_or_default, get_or-set_same, get_or-set_other}
@@ -30,7 +31,8 @@ first_least x xs h m is = ⊎_elim
     (λ (r : ticks_in m xs ≡ true). let l = above x xs m (and_parts (list_all (nat_lt x) xs) (is_ascending xs) h).0 r in omega (arith, l))
     (or_cases (nat_eq m x) (ticks_in m xs) is)
 
-pub first_is : (set left left' : List ℕ) (r : Option ℕ) → left ≡ set → is_ascending set ≡ true → MatchOption r ((left ≡ []) × (left' ≡ [])) (λ x. left ≡ x ∷ left') →
+pub first_is : (set left left' : List ℕ) (r : Option ℕ) → left ≡ set → is_ascending set ≡ true
+    → MatchOption r ((left ≡ []) × (left' ≡ [])) (λ x. left ≡ x ∷ left') →
     IfSome r (λ i. (m : ℕ) → ticks_in m set ≡ true → i ≤ m)
 first_is set left left' None is asc h = tt
 first_is set left left' (Some x) is asc h = λ m t. first_least x left' (ap is_ascending (sym h ∙ is) ∙ asc) m (ap (ticks_in m) (sym h ∙ is) ∙ t)
@@ -42,10 +44,12 @@ placed_more old i clock was now l at is y p = ⊎_elim
     (λ (e : y ≡ clock).
     ap (λ k. ticks_in p (slice_index_or (slice_set old clock now) k [])) e
     ∙ ap (ticks_in p) (get_or-set_same old clock now [] l ∙ is) ∙ ticks_in-with_clock p i was
-    ∙ ap₂ (λ a b. a || b) (and_yes (nat_eq p i) ∙ sym (ap (λ b. nat_eq p i && b) (eq-eqb y clock e))) (ap (ticks_in p) (at ∙ get_or_default old clock was [] l ∙ ap (λ k. slice_index_or old k []) (sym e))))
+    ∙ ap₂ (λ a b. a || b) (and_yes (nat_eq p i) ∙ sym (ap (λ b. nat_eq p i && b) (eq-eqb y clock e)))
+    (ap (ticks_in p) (at ∙ get_or_default old clock was [] l ∙ ap (λ k. slice_index_or old k []) (sym e))))
     (λ (ne : y ≡ clock → ⊥).
     ap (ticks_in p) (get_or-set_other old clock y now [] ne)
-    ∙ sym (ap (λ b. (nat_eq p i && b) || ticks_in p (slice_index_or old y [])) (ne_eqb y clock ne) ∙ ap (λ b. b || ticks_in p (slice_index_or old y [])) (and_no (nat_eq p i))))
+    ∙ sym (ap (λ b. (nat_eq p i && b) || ticks_in p (slice_index_or old y [])) (ne_eqb y clock ne)
+    ∙ ap (λ b. b || ticks_in p (slice_index_or old y [])) (and_no (nat_eq p i))))
     (cases_eq y clock)
   where
     and_yes : (b : Bool) → b ≡ (b && true)
@@ -96,26 +100,31 @@ module _ (sets : List (List ℕ)) (unsettled : List ℕ) (s : Step) (waiting : L
   unsettled_wait p h = are p ∙ or_left (ticks_in p unsettled) (list_any (λ y. ticks_in p (slice_index_or sets y [])) s) h
 
   pub readers_wait : (p y : ℕ) → ticks_in y s ≡ true → ticks_in p (slice_index_or sets y []) ≡ true → ticks_in p waiting ≡ true
-  readers_wait p y is h = are p ∙ or_right (ticks_in p unsettled) (list_any (λ y. ticks_in p (slice_index_or sets y [])) s) (any_member (λ y. ticks_in p (slice_index_or sets y [])) s y is h)
+  readers_wait p y is h = are p ∙ or_right (ticks_in p unsettled) (list_any (λ y. ticks_in p (slice_index_or sets y [])) s)
+      (any_member (λ y. ticks_in p (slice_index_or sets y [])) s y is h)
 
-  pub followed_wait : (P : ℕ → Type 0) → ((p : ℕ) → ticks_in p unsettled ≡ true → P p) → ((p y : ℕ) → ticks_in p (slice_index_or sets y []) ≡ true → P p) → (p : ℕ) → ticks_in p waiting ≡ true → P p
+  pub followed_wait : (P : ℕ → Type 0) → ((p : ℕ) → ticks_in p unsettled ≡ true → P p) → ((p y : ℕ) → ticks_in p (slice_index_or sets y []) ≡ true → P p)
+      → (p : ℕ) → ticks_in p waiting ≡ true → P p
   followed_wait P early reader p h = ⊎_elim
       (λ (u : ticks_in p unsettled ≡ true). early p u)
-      (λ (a : list_any (λ y. ticks_in p (slice_index_or sets y [])) s ≡ true). let m = member_any (λ y. ticks_in p (slice_index_or sets y [])) s a in reader p m.0 m.1)
+      (λ (a : list_any (λ y. ticks_in p (slice_index_or sets y [])) s ≡ true). let m =
+      member_any (λ y. ticks_in p (slice_index_or sets y [])) s a in reader p m.0 m.1)
       (or_cases (ticks_in p unsettled) (list_any (λ y. ticks_in p (slice_index_or sets y [])) s) (sym (are p) ∙ h))
 
 -- while the clocks that tick are gone through: some are left
 abbrev pub IsHearing : List (List ℕ) → List ℕ → Step → List ℕ → List ℕ → Type 0
-IsHearing sets unsettled s left waiting = (p : ℕ) → (ticks_in p waiting || list_any (λ y. ticks_in p (slice_index_or sets y [])) left) ≡ is_waiting sets unsettled s p
+IsHearing sets unsettled s left waiting =
+    (p : ℕ) → (ticks_in p waiting || list_any (λ y. ticks_in p (slice_index_or sets y [])) left) ≡ is_waiting sets unsettled s p
 
-pub hear_more : (sets : List (List ℕ)) (unsettled : List ℕ) (s : Step) (y : ℕ) (left waiting waiting' : List ℕ) → IsHearing sets unsettled s (y ∷ left) waiting →
-    ((p : ℕ) → ticks_in p waiting' ≡ (ticks_in p waiting || ticks_in p (slice_index_or sets y []))) → IsHearing sets unsettled s left waiting'
+pub hear_more : (sets : List (List ℕ)) (unsettled : List ℕ) (s : Step) (y : ℕ) (left waiting waiting' : List ℕ) → IsHearing sets unsettled s (y ∷ left) waiting
+    → ((p : ℕ) → ticks_in p waiting' ≡ (ticks_in p waiting || ticks_in p (slice_index_or sets y []))) → IsHearing sets unsettled s left waiting'
 hear_more sets unsettled s y left waiting waiting' h more p =
     ap (λ t. t || list_any (λ y. ticks_in p (slice_index_or sets y [])) left) (more p)
     ∙ or_assoc (ticks_in p waiting) (ticks_in p (slice_index_or sets y [])) (list_any (λ y. ticks_in p (slice_index_or sets y [])) left)
     ∙ h p
 
-pub hear_all : (sets : List (List ℕ)) (unsettled : List ℕ) (s : Step) (waiting : List ℕ) → IsHearing sets unsettled s [] waiting → (p : ℕ) → ticks_in p waiting ≡ is_waiting sets unsettled s p
+pub hear_all : (sets : List (List ℕ)) (unsettled : List ℕ) (s : Step) (waiting : List ℕ) → IsHearing sets unsettled s [] waiting → (p : ℕ)
+    → ticks_in p waiting ≡ is_waiting sets unsettled s p
 hear_all sets unsettled s waiting h p = none (ticks_in p waiting) ∙ h p
   where
     none : (a : Bool) → a ≡ (a || false)
@@ -123,7 +132,8 @@ hear_all sets unsettled s waiting h p = none (ticks_in p waiting) ∙ h p
     none false = refl
 
 -- ONE EMPTY SET more
-pub empty_more : (sets : List (List ℕ)) (one : List ℕ) → one ≡ [] → ((y : ℕ) → slice_index_or sets y [] ≡ []) → (y : ℕ) → slice_index_or (sets ++ one ∷ []) y [] ≡ []
+pub empty_more : (sets : List (List ℕ)) (one : List ℕ) → one ≡ [] → ((y : ℕ) → slice_index_or sets y [] ≡ []) → (y : ℕ)
+    → slice_index_or (sets ++ one ∷ []) y [] ≡ []
 empty_more [] one is h zero = is
 empty_more [] one is h (suc y) = refl
 empty_more (set ∷ sets) one is h zero = h zero
@@ -132,9 +142,11 @@ empty_more (set ∷ sets) one is h (suc y) = empty_more sets one is (λ k. h (su
 -- ONE READER of some clocks, while they are gone through: some are left
 pub record IsAdding (i : ℕ) (clocks : List ℕ) (old : List (List ℕ)) (left : List ℕ) (sets : List (List ℕ)) : Type 0 where
   pub within : (y : ℕ) → ticks_in y left ≡ true → y < length sets
-  pub added : (y p : ℕ) → ((nat_eq p i && ticks_in y left) || ticks_in p (slice_index_or sets y [])) ≡ ((nat_eq p i && ticks_in y clocks) || ticks_in p (slice_index_or old y []))
+  pub added : (y p : ℕ) → ((nat_eq p i && ticks_in y left) || ticks_in p (slice_index_or sets y [])) ≡ ((nat_eq p i && ticks_in y clocks)
+      || ticks_in p (slice_index_or old y []))
 
-pub adding_none : (i : ℕ) (clocks left : List ℕ) (old : List (List ℕ)) → left ≡ clocks → ((y : ℕ) → ticks_in y clocks ≡ true → y < length old) → IsAdding i clocks old left old
+pub adding_none : (i : ℕ) (clocks left : List ℕ) (old : List (List ℕ)) → left ≡ clocks → ((y : ℕ) → ticks_in y clocks ≡ true → y < length old)
+    → IsAdding i clocks old left old
 adding_none i clocks left old is below = record {
   within = λ y h. below y (ap (ticks_in y) (sym is) ∙ h);
   added = λ y p. ap (λ clocks. (nat_eq p i && ticks_in y clocks) || ticks_in p (slice_index_or old y [])) is;
@@ -147,10 +159,13 @@ regroup true false true w = refl
 regroup true false false w = refl
 regroup false e u w = refl
 
-pub adding_within : (i clock : ℕ) (clocks left left' : List ℕ) (old sets : List (List ℕ)) → left ≡ clock ∷ left' → IsAdding i clocks old left sets → clock < length sets
-adding_within i clock clocks left left' old sets is so = so.within clock (ap (ticks_in clock) is ∙ ap (λ t. t || ticks_in clock left') (eq-eqb clock clock refl))
+pub adding_within : (i clock : ℕ) (clocks left left' : List ℕ) (old sets : List (List ℕ)) → left ≡ clock ∷ left' → IsAdding i clocks old left sets
+    → clock < length sets
+adding_within i clock clocks left left' old sets is so =
+    so.within clock (ap (ticks_in clock) is ∙ ap (λ t. t || ticks_in clock left') (eq-eqb clock clock refl))
 
-pub adding_more : (i clock : ℕ) (clocks left left' : List ℕ) (old sets : List (List ℕ)) (was now : List ℕ) → left ≡ clock ∷ left' → IsAdding i clocks old left sets →
+pub adding_more : (i clock : ℕ) (clocks left left' : List ℕ) (old sets : List (List ℕ)) (was now : List ℕ) → left ≡ clock ∷ left'
+    → IsAdding i clocks old left sets →
     was ≡ slice_index_or sets clock was → now ≡ with_clock i was → IsAdding i clocks old left' (slice_set sets clock now)
 adding_more i clock clocks left left' old sets was now is so at new = record {
   within = λ y h.
@@ -173,7 +188,8 @@ adding_all i clocks old sets so y p = none (nat_eq p i) (ticks_in p (slice_index
     none false t = refl
 
 -- the clocks that an expression names, as a set that had none
-pub named_alone : (e : Expression) (empty named : List ℕ) → empty ≡ [] → ((y : ℕ) → ticks_in y named ≡ (names_clock e y || ticks_in y empty)) → (y : ℕ) → ticks_in y named ≡ names_clock e y
+pub named_alone : (e : Expression) (empty named : List ℕ) → empty ≡ [] → ((y : ℕ) → ticks_in y named ≡ (names_clock e y || ticks_in y empty)) → (y : ℕ)
+    → ticks_in y named ≡ names_clock e y
 named_alone e empty named is added y = added y ∙ ap (λ s. names_clock e y || ticks_in y s) is ∙ none (names_clock e y)
   where
     none : (a : Bool) → (a || false) ≡ a
@@ -197,7 +213,8 @@ module _ (K : System) (F : List ℕ) (i : ℕ) (sets : List (List ℕ)) (before 
   -- one that is not followed
   pub read_past : ticks_in (K.declared + i) F ≡ false → ReadBefore K F (i + 1) sets
   read_past out y p = before y p ∙ ⊎_elim
-      (λ (e : p ≡ i). both (nat_lt p i) (nat_lt p (i + 1)) (ticks_in (K.declared + p) F && reads K p y) (ap (λ k. ticks_in (K.declared + k) F && reads K p y) e ∙ ap (λ t. t && reads K p y) out))
+      (λ (e : p ≡ i). both (nat_lt p i) (nat_lt p (i + 1)) (ticks_in (K.declared + p) F && reads K p y)
+      (ap (λ k. ticks_in (K.declared + k) F && reads K p y) e ∙ ap (λ t. t && reads K p y) out))
       (λ (ne : p ≡ i → ⊥). sym (ap (λ t. t && (ticks_in (K.declared + p) F && reads K p y)) (lt_more p i ∙ ap (λ t. t || nat_lt p i) (ne_eqb p i ne))))
       (cases_eq p i)
     where
@@ -209,13 +226,15 @@ module _ (K : System) (F : List ℕ) (i : ℕ) (sets : List (List ℕ)) (before 
 
   -- or is, and then its number stands with the clocks that it names
   pub read_more : (e : Expression) (sets' : List (List ℕ)) → slice_get K.definitions i ≡ Some e → ticks_in (K.declared + i) F ≡ true →
-      ((y p : ℕ) → ticks_in p (slice_index_or sets' y []) ≡ ((nat_eq p i && names_clock e y) || ticks_in p (slice_index_or sets y []))) → ReadBefore K F (i + 1) sets'
+      ((y p : ℕ) → ticks_in p (slice_index_or sets' y []) ≡ ((nat_eq p i && names_clock e y) || ticks_in p (slice_index_or sets y [])))
+      → ReadBefore K F (i + 1) sets'
   read_more e sets' is followed added y p =
       added y p ∙ ap (λ t. (nat_eq p i && names_clock e y) || t) (before y p) ∙ ⊎_elim
       (λ (same : p ≡ i).
       ap₂ (λ a b. (a && names_clock e y) || (b && (ticks_in (K.declared + p) F && reads K p y))) (eq-eqb p i same) (le-ltb p i (omega (arith, same)))
       ∙ or_none (names_clock e y)
-      ∙ sym (ap₂ (λ a b. a && b) (lt-ltb p (i + 1) (omega (arith, same))) (ap₂ (λ a b. a && b) (ap (λ k. ticks_in (K.declared + k) F) same ∙ followed) (ap (λ k. reads K k y) same ∙ ap (λ o. named_by o y) is))))
+      ∙ sym (ap₂ (λ a b. a && b) (lt-ltb p (i + 1) (omega (arith, same)))
+      (ap₂ (λ a b. a && b) (ap (λ k. ticks_in (K.declared + k) F) same ∙ followed) (ap (λ k. reads K k y) same ∙ ap (λ o. named_by o y) is))))
       (λ (ne : p ≡ i → ⊥).
       ap (λ a. (a && names_clock e y) || (nat_lt p i && (ticks_in (K.declared + p) F && reads K p y))) (ne_eqb p i ne)
       ∙ sym (ap (λ t. t && (ticks_in (K.declared + p) F && reads K p y)) (lt_more p i ∙ ap (λ t. t || nat_lt p i) (ne_eqb p i ne))))
@@ -236,7 +255,8 @@ no_number K p y l = ap (λ o. named_by o y) (past K.definitions p l)
     past (e ∷ es) zero l = absurd (omega (arith, l))
     past (e ∷ es) (suc i) l = past es i (omega (arith, l))
 
-pub read_all : (K : System) (F : List ℕ) (sets : List (List ℕ)) (n : ℕ) → n ≡ length K.definitions → length sets ≡ K.declared + length K.definitions → ReadBefore K F n sets → AreReaders K F sets
+pub read_all : (K : System) (F : List ℕ) (sets : List (List ℕ)) (n : ℕ) → n ≡ length K.definitions → length sets ≡ K.declared + length K.definitions
+    → ReadBefore K F n sets → AreReaders K F sets
 read_all K F sets n all count before = record {
   count = count;
   tell = λ y p. before y p ∙ ⊎_elim
@@ -251,8 +271,11 @@ read_all K F sets n all count before = record {
     neither false = refl
 
 -- A VISIT, as the program makes it and enters it
-pub visit_is : (lay : Lay) (i clock : ℕ) (sets : List (List ℕ)) (row row' : List ℕ) (v : Visited) (old new : Passage) → clock ≡ lay.system.now.declared + i → IsVisited lay i row row' old.step old.gone v →
-    (e : IsEntered sets i clock v old new) → IsVisit lay.system.now sets (trees_from lay 0 row) (trees_from lay 0 row') old.step new.step old.gone new.gone old.waiting new.waiting old.unsettled new.unsettled i v.tick v.dead v.settled e.news
+pub visit_is : (lay : Lay) (i clock : ℕ) (sets : List (List ℕ)) (row row' : List ℕ) (v : Visited) (old new : Passage) → clock ≡ lay.system.now.declared + i
+    → IsVisited lay i row row' old.step old.gone v →
+    (e : IsEntered sets i clock v old new)
+    → IsVisit lay.system.now sets (trees_from lay 0 row) (trees_from lay 0 row') old.step new.step old.gone new.gone old.waiting new.waiting old.unsettled
+    new.unsettled i v.tick v.dead v.settled e.news
 visit_is lay i clock sets row row' v old new at is e = record {
   trees_are = is.trees;
   tick_is = is.tick;
@@ -266,11 +289,13 @@ visit_is lay i clock sets row row' v old new at is e = record {
 }
 
 -- THE NUMBERS of the followed definitions, one more
-pub numbers_more : (D i : ℕ) (F set set' : List ℕ) (one : Bool) → ((p : ℕ) → ticks_in p set ≡ (nat_lt p i && ticks_in (D + p) F)) → set' ≡ put_clock i one set → one ≡ ticks_in (D + i) F →
+pub numbers_more : (D i : ℕ) (F set set' : List ℕ) (one : Bool) → ((p : ℕ) → ticks_in p set ≡ (nat_lt p i && ticks_in (D + p) F)) → set' ≡ put_clock i one set
+    → one ≡ ticks_in (D + i) F →
     (p : ℕ) → ticks_in p set' ≡ (nat_lt p (i + 1) && ticks_in (D + p) F)
 numbers_more D i F set set' one before is one_is p = ap (ticks_in p) is ∙ ⊎_elim
     (λ (e : p ≡ i).
     ap (λ k. ticks_in k (put_clock i one set)) e ∙ ticks_in-put_same i one set ∙ one_is
     ∙ sym (ap₂ (λ t k. t && ticks_in (D + k) F) (lt-ltb p (i + 1) (omega (arith, e))) e))
-    (λ (ne : p ≡ i → ⊥). ticks_in-put_other i one p set ne ∙ before p ∙ sym (ap (λ t. t && ticks_in (D + p) F) (lt_more p i ∙ ap (λ t. t || nat_lt p i) (ne_eqb p i ne))))
+    (λ (ne : p ≡ i → ⊥). ticks_in-put_other i one p set ne ∙ before p
+    ∙ sym (ap (λ t. t && ticks_in (D + p) F) (lt_more p i ∙ ap (λ t. t || nat_lt p i) (ne_eqb p i ne))))
     (cases_eq p i)

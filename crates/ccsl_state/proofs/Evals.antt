@@ -2,7 +2,8 @@
 use Rattle.std.proofs.Common.{◌≡◌, ℕ, ◌-◌, ◌+◌, List, Bool, true, false, Option, Some, None, nat_eq, nat_lt, nat_le, slice_index_or, refl, if◌then◌else◌, ◌&&◌}
 use Rattle.ccsl_formula.specs.Formula.{Formula, FFalse, FNot, FAnd, FOr, eval}
 use Rattle.ccsl_words.specs.Word.{letter}
-use Rattle.ccsl_state.specs.Tree.{One, Delaying, Awaiting, Filtering, Two, Uniting, Meeting, Lessening, Leading, Trailing, Ending, EndingWeakly, Sampling, SamplingWeakly, Lagging, Tree, one_formula, one_ticks, two_formula, two_ticks, formula_of, dead_of}
+use Rattle.ccsl_state.specs.Tree.{One, Delaying, Awaiting, Filtering, Two, Uniting, Meeting, Lessening, Leading, Trailing, Ending, EndingWeakly, Sampling}
+use Rattle.ccsl_state.specs.Tree.{SamplingWeakly, Lagging, Tree, one_formula, one_ticks, two_formula, two_ticks, formula_of, dead_of}
 use Rattle.ccsl_state.specs.Nodes.{pair_at, node_ticks, node_formula, node_dead}
 
 module _ (s : List ℕ) where

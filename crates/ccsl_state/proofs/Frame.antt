@@ -1,5 +1,6 @@
 -- The tree that a region holds depends on its own cells alone.
-use Rattle.std.proofs.Common.{◌≡◌, ℕ, zero, suc, ◌+◌, ◌<◌, ◌≤◌, List, [], ◌∷◌, ◌++◌, length, map, take, drop, slice_index, max, Bool, true, false, Option, Some, None, nat_lt, nat_eq, if◌then◌else◌, refl, sym, ap, ap₂, subst, ◌∙◌, arith, ltb-true, ◌%◌, ◌^◌, ⊎_elim}
+use Rattle.std.proofs.Common.{◌≡◌, ℕ, zero, suc, ◌+◌, ◌<◌, ◌≤◌, List, [], ◌∷◌, ◌++◌, length, map, take, drop, slice_index, max, Bool, true, false, Option, Some}
+use Rattle.std.proofs.Common.{None, nat_lt, nat_eq, if◌then◌else◌, refl, sym, ap, ap₂, subst, ◌∙◌, arith, ltb-true, ◌%◌, ◌^◌, ⊎_elim}
 use Rattle.std.proofs.lemmas.Bool.{eqb-true, eqb-false, cases_lt}
 use Rattle.std.proofs.lemmas.List.{length-take-le, take-take}
 use Rattle.ccsl_kernel.specs.declared.expr.ExprOp.{ExprOp}
@@ -8,8 +9,10 @@ use Rattle.ccsl_kernel.specs.declared.actual.Actual.{Actual}
 use Rattle.ccsl_kernel.specs.Syntax.{Expression, EName, ECall, ENever, EBinary, EDelay, EAwait, EFilter, EDelayed, EIf, Body, System, body_of}
 use Rattle.ccsl_kernel.specs.Actuals.{number_of, suffix_of, test_of, word_of}
 use Rattle.ccsl_kernel.specs.Cells.{saturated, cells_in, cells_of_two}
-use Rattle.ccsl_state.specs.Tree.{Tree, TNever, TOne, TTwo, Delaying, Awaiting, Filtering, Leading, Trailing, Ending, EndingWeakly, Sampling, SamplingWeakly, Lagging}
-use Rattle.ccsl_state.specs.Layout.{count_of, offset_of, flag_of, flag_at, bits_of, rotated, own_cells, two_at, then_at, words_of, lag_at, actual_of, read_in, read_body, read_call, read, region_of}
+use Rattle.ccsl_state.specs.Tree.{Tree, TNever, TOne, TTwo, Delaying, Awaiting, Filtering, Leading, Trailing, Ending, EndingWeakly, Sampling, SamplingWeakly}
+use Rattle.ccsl_state.specs.Tree.{Lagging}
+use Rattle.ccsl_state.specs.Layout.{count_of, offset_of, flag_of, flag_at, bits_of, rotated, own_cells, two_at, then_at, words_of, lag_at, actual_of, read_in}
+use Rattle.ccsl_state.specs.Layout.{read_body, read_call, read, region_of}
 use Rattle.ccsl_state.specs.Standing.{is_then, IsEnough}
 use Rattle.ccsl_state.specs.Nodes.{pair_at}
 use Rattle.ccsl_state.proofs.Pairs.{binary_pair}
@@ -45,19 +48,23 @@ pub lag_front : (m : ℕ) (head rest : List ℕ) → length head ≡ 2 + words_o
 lag_front m head rest l =
     let own = 2 + words_of m in
     let e : take own (head ++ rest) ≡ take own head = sym (take_own own head rest l) in
-    ap₂ (λ k bits. Lagging m (rotated k (take m (bits_of bits)))) (first_same own (head ++ rest) head e (omega arith)) (within own 2 (words_of m) (head ++ rest) head e (omega arith))
+    ap₂ (λ k bits. Lagging m (rotated k (take m (bits_of bits)))) (first_same own (head ++ rest) head e (omega arith))
+    (within own 2 (words_of m) (head ++ rest) head e (omega arith))
 
 module _ (K : System) (earlier : List ℕ) (calls : ℕ → List ℕ → Tree)
-    (calls_same : (group : ℕ) (xs ys : List ℕ) → group < length earlier → slice_index earlier group ≤ 32768 → take (slice_index earlier group) xs ≡ take (slice_index earlier group) ys → calls group xs ≡ calls group ys)
+    (calls_same : (group : ℕ) (xs ys : List ℕ) → group < length earlier → slice_index earlier group ≤ 32768
+    → take (slice_index earlier group) xs ≡ take (slice_index earlier group) ys → calls group xs ≡ calls group ys)
   where
     -- the region of an expression under some actual parameters
     abbrev Same : Expression → List Actual → Type 0
-    Same e ρ = (xs ys : List ℕ) → cells_in earlier e ≤ 32768 → take (cells_in earlier e) xs ≡ take (cells_in earlier e) ys → read_in K earlier calls e ρ xs ≡ read_in K earlier calls e ρ ys
+    Same e ρ = (xs ys : List ℕ) → cells_in earlier e ≤ 32768 → take (cells_in earlier e) xs ≡ take (cells_in earlier e) ys
+        → read_in K earlier calls e ρ xs ≡ read_in K earlier calls e ρ ys
 
     binary_same : (o : ExprOp) (a d : Expression) (ρ : List Actual) → Same a ρ → Same d ρ → Same (EBinary o a d) ρ
     binary_same o a d ρ same_a same_d xs ys l e = on (is_then o) refl
       where
-        then_same : (o : ExprOp) → is_then o ≡ true → cells_in earlier (EBinary o a d) ≤ 32768 → take (cells_in earlier (EBinary o a d)) xs ≡ take (cells_in earlier (EBinary o a d)) ys →
+        then_same : (o : ExprOp) → is_then o ≡ true → cells_in earlier (EBinary o a d) ≤ 32768
+            → take (cells_in earlier (EBinary o a d)) xs ≡ take (cells_in earlier (EBinary o a d)) ys →
             read_in K earlier calls (EBinary o a d) ρ xs ≡ read_in K earlier calls (EBinary o a d) ρ ys
         then_same op.Then is l e =
             let m = cells_in earlier a in
@@ -102,13 +109,15 @@ module _ (K : System) (earlier : List ℕ) (calls : ℕ → List ℕ → Tree)
         let w = words_of m in
         let p = cells_in earlier a in
         let q = cells_in earlier d in
-        ap₂ (λ k bits. TTwo (Lagging m (rotated k (take m (bits_of bits)))) (read_in K earlier calls a ρ (drop (2 + w) xs)) (read_in K earlier calls d ρ (drop (2 + w + p) xs)))
+        ap₂ (λ k bits. TTwo (Lagging m (rotated k (take m (bits_of bits)))) (read_in K earlier calls a ρ (drop (2 + w) xs))
+        (read_in K earlier calls d ρ (drop (2 + w + p) xs)))
         (first_same total xs ys e (omega arith)) (within total 2 w xs ys e (omega arith))
         ∙ ap₂ (TTwo (lag_at m ys))
         (same_a (drop (2 + w) xs) (drop (2 + w) ys) (omega arith) (within total (2 + w) p xs ys e (omega arith)))
         (same_d (drop (2 + w + p) xs) (drop (2 + w + p) ys) (omega arith) (within total (2 + w + p) q xs ys e (omega arith)))
 
-    pub read_in_same : (e : Expression) (ρ : List Actual) (xs ys : List ℕ) → cells_in earlier e ≤ 32768 → take (cells_in earlier e) xs ≡ take (cells_in earlier e) ys →
+    pub read_in_same : (e : Expression) (ρ : List Actual) (xs ys : List ℕ) → cells_in earlier e ≤ 32768
+        → take (cells_in earlier e) xs ≡ take (cells_in earlier e) ys →
         read_in K earlier calls e ρ xs ≡ read_in K earlier calls e ρ ys
     read_in_same (EName x) ρ xs ys l e = refl
     read_in_same (ECall group member args) ρ xs ys l e = on (nat_lt group (length earlier)) refl
@@ -155,36 +164,46 @@ module _ (K : System) where
       let at = taken_at earlier g g' below in (
         subst (λ n. 1 ≤ n) (sym at) h.0,
         λ m b is.
-            subst (λ ns. saturated (1 + length b.params + cells_in ns b.root) ≤ slice_index (take g earlier) g') (sym (taken earlier g g' (omega (arith, below))))
+            subst (λ ns. saturated (1 + length b.params + cells_in ns b.root) ≤ slice_index (take g earlier) g')
+            (sym (taken earlier g g' (omega (arith, below))))
             (subst (λ n. saturated (1 + length b.params + cells_in (take g' earlier) b.root) ≤ n) (sym at) (h.1 m b is)),
       )
 
   -- the region of a call is that of its group behind the earlier ones
   call_step : (earlier : List ℕ) (n group : ℕ) (row : List ℕ) → group < suc n → n ≤ length earlier →
-      (group < n → read_call K earlier n group row ≡ region_of K (take group earlier) row) → read_call K earlier (suc n) group row ≡ region_of K (take group earlier) row
+      (group < n → read_call K earlier n group row ≡ region_of K (take group earlier) row)
+      → read_call K earlier (suc n) group row ≡ region_of K (take group earlier) row
   call_step earlier n group row l u below = on (nat_eq group n) refl
     where
       on : (t : Bool) → nat_eq group n ≡ t →
-          elim t [ true ↦ read_body K (take n earlier) (read_call K (take n earlier) n) (body_of K.groups n (slice_index row 0 % 2 ^ 32)) (drop 1 row) | false ↦ read_call K earlier n group row ]
+          elim t [
+            | true ↦ read_body K (take n earlier) (read_call K (take n earlier) n) (body_of K.groups n (slice_index row 0 % 2 ^ 32)) (drop 1 row)
+            | false ↦ read_call K earlier n group row
+          ]
           ≡ region_of K (take group earlier) row
       on true e =
           let len : length (take n earlier) ≡ n = length-take-le n earlier u in
           let same : group ≡ n = eqb-true group n e in
-          ap₂ (λ k j. read_body K (take n earlier) (read_call K (take n earlier) k) (body_of K.groups j (slice_index row 0 % 2 ^ 32)) (drop 1 row)) (sym len) (sym len)
+          ap₂ (λ k j. read_body K (take n earlier) (read_call K (take n earlier) k) (body_of K.groups j (slice_index row 0 % 2 ^ 32)) (drop 1 row)) (sym len)
+          (sym len)
           ∙ ap (λ k. region_of K (take k earlier) row) (sym same)
       on false e = below (let other = eqb-false group n e in ⊎_elim (λ (k : group < n). k) (λ k. absurd (other (omega (arith, k, l)))) (cases_lt group n))
 
-  pub read_call_is : (earlier : List ℕ) (n group : ℕ) (row : List ℕ) → group < n → n ≤ length earlier → read_call K earlier n group row ≡ region_of K (take group earlier) row
+  pub read_call_is : (earlier : List ℕ) (n group : ℕ) (row : List ℕ) → group < n → n ≤ length earlier
+      → read_call K earlier n group row ≡ region_of K (take group earlier) row
   read_call_is earlier zero group row l u = absurd (omega (arith, l))
   read_call_is earlier (suc n) group row l u = call_step earlier n group row l (omega (arith, u)) (λ k. read_call_is earlier n group row k (omega (arith, u)))
 
   -- the region of a call depends on its own cells alone
   region_step : (earlier : List ℕ) (n : ℕ) (xs ys : List ℕ) → IsEnough K earlier → 1 ≤ n →
-      ((m : ℕ) (b : Body) → body_of K.groups (length earlier) m ≡ Some b → 1 + length b.params + cells_in earlier b.root ≤ n) → n ≤ 32768 → take n xs ≡ take n ys →
-      ((b : Body) (ρ : List Actual) (xs ys : List ℕ) → cells_in earlier b.root ≤ 32768 → take (cells_in earlier b.root) xs ≡ take (cells_in earlier b.root) ys → read K earlier b.root ρ xs ≡ read K earlier b.root ρ ys) →
+      ((m : ℕ) (b : Body) → body_of K.groups (length earlier) m ≡ Some b → 1 + length b.params + cells_in earlier b.root ≤ n) → n ≤ 32768
+      → take n xs ≡ take n ys →
+      ((b : Body) (ρ : List Actual) (xs ys : List ℕ) → cells_in earlier b.root ≤ 32768 → take (cells_in earlier b.root) xs ≡ take (cells_in earlier b.root) ys
+      → read K earlier b.root ρ xs ≡ read K earlier b.root ρ ys) →
       region_of K earlier xs ≡ region_of K earlier ys
   region_step earlier n xs ys enough pos room few e same =
-      ap (λ k. read_body K earlier (read_call K earlier (length earlier)) (body_of K.groups (length earlier) (k % 2 ^ 32)) (drop 1 xs)) (first_same n xs ys e pos)
+      ap (λ k. read_body K earlier (read_call K earlier (length earlier)) (body_of K.groups (length earlier) (k % 2 ^ 32)) (drop 1 xs))
+      (first_same n xs ys e pos)
       ∙ on (body_of K.groups (length earlier) (slice_index ys 0 % 2 ^ 32)) refl
     where
       on : (o : Option Body) → body_of K.groups (length earlier) (slice_index ys 0 % 2 ^ 32) ≡ o →
@@ -195,11 +214,13 @@ module _ (K : System) where
           let p = length b.params in
           ap (λ cells. read K earlier b.root (map (actual_of K.words) cells) (drop p (drop 1 xs))) (within n 1 p xs ys e (omega (arith, r)))
           ∙ same b (map (actual_of K.words) (take p (drop 1 ys))) (drop p (drop 1 xs)) (drop p (drop 1 ys)) (omega (arith, r, few))
-          (within (p + cells_in earlier b.root) p (cells_in earlier b.root) (drop 1 xs) (drop 1 ys) (within n 1 (p + cells_in earlier b.root) xs ys e (omega (arith, r))) (omega arith))
+          (within (p + cells_in earlier b.root) p (cells_in earlier b.root) (drop 1 xs) (drop 1 ys)
+          (within n 1 (p + cells_in earlier b.root) xs ys e (omega (arith, r))) (omega arith))
 
   -- the tree in the region of a body, for all bodies of a group
   abbrev SameBodies : List ℕ → Type 0
-  SameBodies earlier = (b : Body) (ρ : List Actual) (xs ys : List ℕ) → cells_in earlier b.root ≤ 32768 → take (cells_in earlier b.root) xs ≡ take (cells_in earlier b.root) ys →
+  SameBodies earlier = (b : Body) (ρ : List Actual) (xs ys : List ℕ) → cells_in earlier b.root ≤ 32768
+      → take (cells_in earlier b.root) xs ≡ take (cells_in earlier b.root) ys →
       read K earlier b.root ρ xs ≡ read K earlier b.root ρ ys
 
   -- the cells of a call before a body, where they are no more than there are
@@ -220,13 +241,15 @@ module _ (K : System) where
       ∙ sym (read_call_is earlier (length earlier) group ys below (omega arith))
 
   -- for each group in turn
-  pub read_same_to : (bound : ℕ) (earlier : List ℕ) (e : Expression) (ρ : List Actual) (xs ys : List ℕ) → length earlier < bound → IsEnough K earlier → cells_in earlier e ≤ 32768 →
+  pub read_same_to : (bound : ℕ) (earlier : List ℕ) (e : Expression) (ρ : List Actual) (xs ys : List ℕ) → length earlier < bound → IsEnough K earlier
+      → cells_in earlier e ≤ 32768 →
       take (cells_in earlier e) xs ≡ take (cells_in earlier e) ys → read K earlier e ρ xs ≡ read K earlier e ρ ys
   read_same_to zero earlier e ρ xs ys l enough few same = absurd (omega (arith, l))
   read_same_to (suc bound) earlier e ρ xs ys l enough few same =
       read_in_same K earlier (read_call K earlier (length earlier))
       (λ group xs ys below few' e'. call_same earlier group xs ys enough below few' e'
-      (λ b ρ xs ys l' e''. read_same_to bound (take group earlier) b.root ρ xs ys (let len : length (take group earlier) ≡ group = length-take-le group earlier (omega (arith, below)) in omega (arith, len, below, l))
+      (λ b ρ xs ys l' e''. read_same_to bound (take group earlier) b.root ρ xs ys
+      (let len : length (take group earlier) ≡ group = length-take-le group earlier (omega (arith, below)) in omega (arith, len, below, l))
       (enough_before earlier group (omega (arith, below)) enough) l' e''))
       e ρ xs ys few same
 

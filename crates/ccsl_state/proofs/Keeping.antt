@@ -1,13 +1,17 @@
 -- What a node keeps is what its row counts over all ticks, in fewer steps than a count can hold.
-use Rattle.std.proofs.Common.{◌≡◌, ℕ, zero, suc, ◌+◌, ◌-◌, ◌<◌, ◌≤◌, List, [], ◌∷◌, ◌++◌, map, length, get_or, le-ltb, lt-ltb, eq-eqb, ⊎_elim, Bool, true, false, not, ◌&&◌, ◌||◌, refl, sym, ap, ap₂, ◌∙◌, arith, nat_lt, nat_eq, nat_le, le-leb, zero-add, replicate, if◌then◌else◌}
+use Rattle.std.proofs.Common.{◌≡◌, ℕ, zero, suc, ◌+◌, ◌-◌, ◌<◌, ◌≤◌, List, [], ◌∷◌, ◌++◌, map, length, get_or, le-ltb, lt-ltb, eq-eqb, ⊎_elim, Bool, true}
+use Rattle.std.proofs.Common.{false, not, ◌&&◌, ◌||◌, refl, sym, ap, ap₂, ◌∙◌, arith, nat_lt, nat_eq, nat_le, le-leb, zero-add, replicate, if◌then◌else◌}
 use Rattle.std.proofs.lemmas.Bool.{cases_lt, cases_eq, ne_eqb}
 use Rattle.std.proofs.Math.Bool.{or_assoc, or-false}
 use Rattle.ccsl_formula.specs.Formula.{Formula, FFalse}
 use Rattle.ccsl_words.specs.Word.{BinaryWord, letter, rest, is_finite}
 use Rattle.ccsl_words.proofs.Letters.{letter-rest, rest_at_end, rest_before_end}
 use Rattle.ccsl_kernel.specs.Ticks.{count, ever, waits, waits_weakly, waits_since, waits_below}
-use Rattle.ccsl_kernel.specs.Table.{Now, Operand, union_row, inter_row, minus_row, inf_row, sup_row, upto_row, upto_weakly_row, sampled_row, sampled_weakly_row, delay_row, await_row, filter_row, delayed_row}
-use Rattle.ccsl_state.specs.Tree.{most, bumped, One, Delaying, Awaiting, Filtering, Two, Uniting, Meeting, Lessening, Leading, Trailing, Ending, EndingWeakly, Sampling, SamplingWeakly, Lagging, one_formula, one_dead, one_next, two_formula, two_dead, two_next, shifted, set_first, any_set}
+use Rattle.ccsl_kernel.specs.Table.{Now, Operand, union_row, inter_row, minus_row, inf_row, sup_row, upto_row, upto_weakly_row, sampled_row, sampled_weakly_row}
+use Rattle.ccsl_kernel.specs.Table.{delay_row, await_row, filter_row, delayed_row}
+use Rattle.ccsl_state.specs.Tree.{most, bumped, One, Delaying, Awaiting, Filtering, Two, Uniting, Meeting, Lessening, Leading, Trailing, Ending, EndingWeakly}
+use Rattle.ccsl_state.specs.Tree.{Sampling, SamplingWeakly, Lagging, one_formula, one_dead, one_next, two_formula, two_dead, two_next, shifted, set_first}
+use Rattle.ccsl_state.specs.Tree.{any_set}
 use Rattle.ccsl_base.proofs.Cases.{more_one}
 
 -- a node after steps in which its operands ticked or did not
@@ -30,11 +34,13 @@ two_after-snoc o t u (i ∷ is) n = two_after-snoc (two_next o (t i) (u i)) t u 
 -- a node's formula and death are its row, from the birth on
 pub record IsOne (o : One) (row : Operand → Now) : Type 0 where
   pub at : (t : ℕ → Bool) (is : List ℕ) (f : Formula) (x : Bool) → length is ≤ most →
-      (let N : Now = record { formula = one_formula (one_after o t is) f; dead = one_dead (one_after o t is) x } in N) ≡ row (record { formula = f; dead = x; ticks = map t is })
+      (let N : Now = record { formula = one_formula (one_after o t is) f; dead = one_dead (one_after o t is) x } in N) ≡ row
+      (record { formula = f; dead = x; ticks = map t is })
 
 pub record IsTwo (o : Two) (row : Operand → Operand → Now) : Type 0 where
   pub at : (t u : ℕ → Bool) (is : List ℕ) (f g : Formula) (x y : Bool) → length is ≤ most →
-      (let N : Now = record { formula = two_formula (two_after o t u is) f g; dead = two_dead (two_after o t u is) x y } in N) ≡ row (record { formula = f; dead = x; ticks = map t is }) (record { formula = g; dead = y; ticks = map u is })
+      (let N : Now = record { formula = two_formula (two_after o t u is) f g; dead = two_dead (two_after o t u is) x y } in N) ≡ row
+      (record { formula = f; dead = x; ticks = map t is }) (record { formula = g; dead = y; ticks = map u is })
 
 -- the offset after so many letters
 abbrev offset_after : BinaryWord → ℕ → List Bool → ℕ
@@ -64,7 +70,8 @@ filtered w o k t [] = ap (letter w) (omega arith)
 filtered w o k t (i ∷ is) = on (t i) (filtered w (rest w o) k t is) (filtered w o k t is)
   where
     on : (x : Bool) → letter w (offset_after w (rest w o) (map t is) + k) ≡ letter w (rest w o + count (map t is) + k) →
-        letter w (offset_after w o (map t is) + k) ≡ letter w (o + count (map t is) + k) → letter w (offset_after w (if x then rest w o else o) (map t is) + k) ≡ letter w (o + (if x then suc (count (map t is)) else count (map t is)) + k)
+        letter w (offset_after w o (map t is) + k) ≡ letter w (o + count (map t is) + k)
+        → letter w (offset_after w (if x then rest w o else o) (map t is) + k) ≡ letter w (o + (if x then suc (count (map t is)) else count (map t is)) + k)
     on true ticked still =
         ticked
         ∙ ap (letter w) (let e : rest w o + count (map t is) + k ≡ rest w o + (count (map t is) + k) = omega arith in e)
@@ -77,7 +84,8 @@ ended_rest : (w : BinaryWord) (o c : ℕ) → is_finite w ≡ true → nat_le (l
 ended_rest w o c fin =
     ⊎_elim
     (λ (l : o < length w.prefix). ap (nat_le (length w.prefix)) (let r = rest_before_end w o fin l in omega (arith, r)))
-    (λ (l : length w.prefix ≤ o). le-leb (length w.prefix) (rest w o + c) (let r = rest_at_end w o fin l in omega (arith, r)) ∙ sym (le-leb (length w.prefix) (o + suc c) (omega (arith, l))))
+    (λ (l : length w.prefix ≤ o). le-leb (length w.prefix) (rest w o + c) (let r = rest_at_end w o fin l in omega (arith, r))
+    ∙ sym (le-leb (length w.prefix) (o + suc c) (omega (arith, l))))
     (cases_lt o (length w.prefix))
 
 ended : (w : BinaryWord) (o : ℕ) (t : ℕ → Bool) (is : List ℕ) → is_finite w ≡ true →
@@ -86,7 +94,9 @@ ended w o t [] fin = ap (nat_le (length w.prefix)) (omega arith)
 ended w o t (i ∷ is) fin = on (t i) (ended w (rest w o) t is fin) (ended w o t is fin)
   where
     on : (x : Bool) → nat_le (length w.prefix) (offset_after w (rest w o) (map t is)) ≡ nat_le (length w.prefix) (rest w o + count (map t is)) →
-        nat_le (length w.prefix) (offset_after w o (map t is)) ≡ nat_le (length w.prefix) (o + count (map t is)) → nat_le (length w.prefix) (offset_after w (if x then rest w o else o) (map t is)) ≡ nat_le (length w.prefix) (o + (if x then suc (count (map t is)) else count (map t is)))
+        nat_le (length w.prefix) (offset_after w o (map t is)) ≡ nat_le (length w.prefix) (o + count (map t is))
+        → nat_le (length w.prefix) (offset_after w (if x then rest w o else o) (map t is)) ≡ nat_le (length w.prefix)
+        (o + (if x then suc (count (map t is)) else count (map t is)))
     on true ticked still = ticked ∙ ended_rest w o (count (map t is)) fin
     on false ticked still = still
 
@@ -106,7 +116,11 @@ await_is m = record {
 }
 
 pub delay_is : (m : ℕ) → IsOne (Delaying m 0) (delay_row m)
-delay_is m = record { at = λ t is f x h. ap (λ o. record { formula = one_formula o f; dead = one_dead o x }) (delaying m 0 t is (omega (arith, h)) ∙ ap (Delaying m) (zero-add (count (map t is)))) }
+delay_is m = record {
+  at =
+      λ t is f x h. ap (λ o. record { formula = one_formula o f; dead = one_dead o x })
+      (delaying m 0 t is (omega (arith, h)) ∙ ap (Delaying m) (zero-add (count (map t is))));
+}
 
 pub filter_is : (w : BinaryWord) (o : ℕ) → IsOne (Filtering w o) (filter_row w o)
 filter_is w o = record {
@@ -138,23 +152,31 @@ lessening t u (i ∷ is) = lessening t u is
 pub minus_is : IsTwo Lessening minus_row
 minus_is = record { at = λ t u is f g x y h. ap (λ o. record { formula = two_formula o f g; dead = two_dead o x y }) (lessening t u is) }
 
-pub leading : (a d : ℕ) (t u : ℕ → Bool) (is : List ℕ) → a + length is ≤ most → d + length is ≤ most → two_after (Leading a d) t u is ≡ Leading (a + count (map t is)) (d + count (map u is))
+pub leading : (a d : ℕ) (t u : ℕ → Bool) (is : List ℕ) → a + length is ≤ most → d + length is ≤ most
+    → two_after (Leading a d) t u is ≡ Leading (a + count (map t is)) (d + count (map u is))
 leading a d t u [] h k = ap₂ Leading (omega arith) (omega arith)
 leading a d t u (i ∷ is) h k =
     leading (bumped (t i) a) (bumped (u i) d) t u is (less a (t i) (length is) h) (less d (u i) (length is) k)
     ∙ ap₂ Leading (counted a (t i) (count (map t is)) (length is) h) (counted d (u i) (count (map u is)) (length is) k)
 
 pub inf_is : IsTwo (Leading 0 0) inf_row
-inf_is = record { at = λ t u is f g x y h. ap (λ o. record { formula = two_formula o f g; dead = two_dead o x y }) (leading 0 0 t u is (omega (arith, h)) (omega (arith, h)) ∙ ap₂ Leading (zero-add (count (map t is))) (zero-add (count (map u is)))) }
+inf_is = record {
+  at = λ t u is f g x y h. ap (λ o. record { formula = two_formula o f g; dead = two_dead o x y })
+      (leading 0 0 t u is (omega (arith, h)) (omega (arith, h)) ∙ ap₂ Leading (zero-add (count (map t is))) (zero-add (count (map u is))));
+}
 
-pub trailing : (a d : ℕ) (t u : ℕ → Bool) (is : List ℕ) → a + length is ≤ most → d + length is ≤ most → two_after (Trailing a d) t u is ≡ Trailing (a + count (map t is)) (d + count (map u is))
+pub trailing : (a d : ℕ) (t u : ℕ → Bool) (is : List ℕ) → a + length is ≤ most → d + length is ≤ most
+    → two_after (Trailing a d) t u is ≡ Trailing (a + count (map t is)) (d + count (map u is))
 trailing a d t u [] h k = ap₂ Trailing (omega arith) (omega arith)
 trailing a d t u (i ∷ is) h k =
     trailing (bumped (t i) a) (bumped (u i) d) t u is (less a (t i) (length is) h) (less d (u i) (length is) k)
     ∙ ap₂ Trailing (counted a (t i) (count (map t is)) (length is) h) (counted d (u i) (count (map u is)) (length is) k)
 
 pub sup_is : IsTwo (Trailing 0 0) sup_row
-sup_is = record { at = λ t u is f g x y h. ap (λ o. record { formula = two_formula o f g; dead = two_dead o x y }) (trailing 0 0 t u is (omega (arith, h)) (omega (arith, h)) ∙ ap₂ Trailing (zero-add (count (map t is))) (zero-add (count (map u is)))) }
+sup_is = record {
+  at = λ t u is f g x y h. ap (λ o. record { formula = two_formula o f g; dead = two_dead o x y })
+      (trailing 0 0 t u is (omega (arith, h)) (omega (arith, h)) ∙ ap₂ Trailing (zero-add (count (map t is))) (zero-add (count (map u is))));
+}
 
 pub ending : (s : Bool) (t u : ℕ → Bool) (is : List ℕ) → two_after (Ending s) t u is ≡ Ending (s || ever (map u is))
 ending s t u [] = ap Ending (elim s as (λ s. s ≡ (s || false)) [ true ↦ refl | false ↦ refl ])
@@ -174,7 +196,8 @@ upto_weakly_is = record { at = λ t u is f g x y h. ap (λ o. record { formula =
 sampled_flag : (w t u e v : Bool) → (v || ((t || (w && not u)) && not e)) ≡ (((t && not e) || v) || (w && not (u || e)))
 sampled_flag w t u e v = grind arith
 
-pub sampling : (w : Bool) (t u : ℕ → Bool) (is : List ℕ) → two_after (Sampling w) t u is ≡ Sampling (waits (map t is) (map u is) || (w && not (ever (map u is))))
+pub sampling : (w : Bool) (t u : ℕ → Bool) (is : List ℕ)
+    → two_after (Sampling w) t u is ≡ Sampling (waits (map t is) (map u is) || (w && not (ever (map u is))))
 sampling w t u [] = ap Sampling (elim w as (λ w. w ≡ (false || (w && true))) [ true ↦ refl | false ↦ refl ])
 sampling w t u (i ∷ is) = sampling (t i || (w && not (u i))) t u is ∙ ap Sampling (sampled_flag w (t i) (u i) (ever (map u is)) (waits (map t is) (map u is)))
 
@@ -183,17 +206,27 @@ no_flag true e = refl
 no_flag false e = refl
 
 pub sampled_is : IsTwo (Sampling false) sampled_row
-sampled_is = record { at = λ t u is f g x y h. ap (λ o. record { formula = two_formula o f g; dead = two_dead o x y }) (sampling false t u is ∙ ap Sampling (no_flag (waits (map t is) (map u is)) (not (ever (map u is))))) }
+sampled_is = record {
+  at =
+      λ t u is f g x y h. ap (λ o. record { formula = two_formula o f g; dead = two_dead o x y })
+      (sampling false t u is ∙ ap Sampling (no_flag (waits (map t is) (map u is)) (not (ever (map u is)))));
+}
 
 weak_flag : (w t u e v : Bool) → (v || (((t || w) && not u) && not e)) ≡ (((t && not (u || e)) || v) || (w && not (u || e)))
 weak_flag w t u e v = grind arith
 
-pub sampling_weakly : (w : Bool) (t u : ℕ → Bool) (is : List ℕ) → two_after (SamplingWeakly w) t u is ≡ SamplingWeakly (waits_weakly (map t is) (map u is) || (w && not (ever (map u is))))
+pub sampling_weakly : (w : Bool) (t u : ℕ → Bool) (is : List ℕ)
+    → two_after (SamplingWeakly w) t u is ≡ SamplingWeakly (waits_weakly (map t is) (map u is) || (w && not (ever (map u is))))
 sampling_weakly w t u [] = ap SamplingWeakly (elim w as (λ w. w ≡ (false || (w && true))) [ true ↦ refl | false ↦ refl ])
-sampling_weakly w t u (i ∷ is) = sampling_weakly ((t i || w) && not (u i)) t u is ∙ ap SamplingWeakly (weak_flag w (t i) (u i) (ever (map u is)) (waits_weakly (map t is) (map u is)))
+sampling_weakly w t u (i ∷ is) =
+    sampling_weakly ((t i || w) && not (u i)) t u is ∙ ap SamplingWeakly (weak_flag w (t i) (u i) (ever (map u is)) (waits_weakly (map t is) (map u is)))
 
 pub sampled_weakly_is : IsTwo (SamplingWeakly false) sampled_weakly_row
-sampled_weakly_is = record { at = λ t u is f g x y h. ap (λ o. record { formula = two_formula o f g; dead = two_dead o x y }) (sampling_weakly false t u is ∙ ap SamplingWeakly (no_flag (waits_weakly (map t is) (map u is)) (not (ever (map u is))))) }
+sampled_weakly_is = record {
+  at =
+      λ t u is f g x y h. ap (λ o. record { formula = two_formula o f g; dead = two_dead o x y })
+      (sampling_weakly false t u is ∙ ap SamplingWeakly (no_flag (waits_weakly (map t is) (map u is)) (not (ever (map u is)))));
+}
 
 -- the places of a row of marks after steps
 abbrev pub marks_after : List Bool → (ℕ → Bool) → (ℕ → Bool) → List ℕ → List Bool
@@ -251,8 +284,10 @@ get_set_first true (x ∷ q) (suc j) l = ap (λ e. e || get_or q j false) (sym (
 get_set_first false (x ∷ q) zero l = refl
 get_set_first false (x ∷ q) (suc j) l = refl
 
-get_marked : (t u : Bool) (q : List Bool) (c j : ℕ) → j < length q → get_or (falses c (set_first t (if u then shifted false q else q))) j false ≡ ((t && nat_eq c j) || get_or (falses (if u then suc c else c) q) j false)
-get_marked t true q zero j l = get_set_first t (shifted false q) j (omega (arith, length-shifted false q)) ∙ ap (λ x. (t && nat_eq 0 j) || x) (get_shifted false q j l)
+get_marked : (t u : Bool) (q : List Bool) (c j : ℕ) → j < length q
+    → get_or (falses c (set_first t (if u then shifted false q else q))) j false ≡ ((t && nat_eq c j) || get_or (falses (if u then suc c else c) q) j false)
+get_marked t true q zero j l =
+    get_set_first t (shifted false q) j (omega (arith, length-shifted false q)) ∙ ap (λ x. (t && nat_eq 0 j) || x) (get_shifted false q j l)
 get_marked t false q zero j l = get_set_first t q j l
 get_marked true u q (suc c) zero l =
     elim u as (λ u. false ≡ get_or (falses (if u then suc (suc c) else suc c) q) 0 false) [ true ↦ refl | false ↦ refl ]
@@ -264,12 +299,14 @@ get_marked t false q (suc c) (suc j) l = get_marked t false q c j (omega arith) 
 or_swap : (w a f : Bool) → (w || (a || f)) ≡ ((a || w) || f)
 or_swap w a f = grind arith
 
-get_marks : (q : List Bool) (t u : ℕ → Bool) (is : List ℕ) (j : ℕ) → j < length q → get_or (marks_after q t u is) j false ≡ (waits_since j (map t is) (map u is) || get_or (falses (count (map u is)) q) j false)
+get_marks : (q : List Bool) (t u : ℕ → Bool) (is : List ℕ) (j : ℕ) → j < length q
+    → get_or (marks_after q t u is) j false ≡ (waits_since j (map t is) (map u is) || get_or (falses (count (map u is)) q) j false)
 get_marks q t u [] j l = refl
 get_marks q t u (i ∷ is) j l =
     get_marks (set_first (t i) (if u i then shifted false q else q)) t u is j (omega (arith, length-marked (t i) (u i) q))
     ∙ ap (λ x. waits_since j (map t is) (map u is) || x) (get_marked (t i) (u i) q (count (map u is)) j l)
-    ∙ or_swap (waits_since j (map t is) (map u is)) (t i && nat_eq (count (map u is)) j) (get_or (falses (if u i then suc (count (map u is)) else count (map u is)) q) j false)
+    ∙ or_swap (waits_since j (map t is) (map u is)) (t i && nat_eq (count (map u is)) j)
+    (get_or (falses (if u i then suc (count (map u is)) else count (map u is)) q) j false)
 
 length-marks : (q : List Bool) (t u : ℕ → Bool) (is : List ℕ) → length (marks_after q t u is) ≡ length q
 length-marks q t u [] = refl
@@ -308,14 +345,18 @@ or_both a b c d = grind arith
 
 any_below-or : (m : ℕ) (g h : ℕ → Bool) → any_below m (λ j. g j || h j) ≡ (any_below m g || any_below m h)
 any_below-or zero g h = refl
-any_below-or (suc m) g h = ap (λ x. (g 0 || h 0) || x) (any_below-or m (λ j. g (suc j)) (λ j. h (suc j))) ∙ or_both (g 0) (h 0) (any_below m (λ j. g (suc j))) (any_below m (λ j. h (suc j)))
+any_below-or (suc m) g h =
+    ap (λ x. (g 0 || h 0) || x) (any_below-or m (λ j. g (suc j)) (λ j. h (suc j)))
+    ∙ or_both (g 0) (h 0) (any_below m (λ j. g (suc j))) (any_below m (λ j. h (suc j)))
 
 any_below-one : (m c : ℕ) (t : Bool) → any_below m (λ j. t && nat_eq c j) ≡ (t && nat_lt c m)
 any_below-one zero c true = sym (le-ltb c 0 (omega arith))
 any_below-one zero c false = refl
 any_below-one (suc m) c false = any_below-none m
 any_below-one (suc m) zero true = sym (lt-ltb 0 (suc m) (omega arith))
-any_below-one (suc m) (suc c) true = ap (λ e. e || any_below m (λ j. nat_eq (suc c) (suc j))) (eqb_suc_zero c) ∙ any_below-same m (λ j. nat_eq (suc c) (suc j)) (λ j. nat_eq c j) (λ j. eqb-suc c j) ∙ any_below-one m c true ∙ sym (ltb-suc c m)
+any_below-one (suc m) (suc c) true =
+    ap (λ e. e || any_below m (λ j. nat_eq (suc c) (suc j))) (eqb_suc_zero c)
+    ∙ any_below-same m (λ j. nat_eq (suc c) (suc j)) (λ j. nat_eq c j) (λ j. eqb-suc c j) ∙ any_below-one m c true ∙ sym (ltb-suc c m)
 
 any_below-waits : (m : ℕ) (t u : ℕ → Bool) (is : List ℕ) → any_below m (λ j. waits_since j (map t is) (map u is)) ≡ waits_below m (map t is) (map u is)
 any_below-waits m t u [] = any_below-none m
@@ -334,5 +375,6 @@ delayed_is m pos = record {
       ∙ or-false (waits_since j (map t is) (map u is)) in
       ap (λ o. record { formula = two_formula o f g; dead = two_dead o x y }) (lagging m (replicate m false) t u is)
       ∙ ap₂ (λ (l e : Bool). record { formula = if l then g else FFalse; dead = y || (x && not e) }) (mark (m - 1) (omega (arith, pos)))
-      (any_below-set q (λ j. waits_since j (map t is) (map u is)) (λ j l. mark j (omega (arith, len))) ∙ ap (λ k. any_below k (λ j. waits_since j (map t is) (map u is))) len ∙ any_below-waits m t u is);
+      (any_below-set q (λ j. waits_since j (map t is) (map u is)) (λ j l. mark j (omega (arith, len)))
+      ∙ ap (λ k. any_below k (λ j. waits_since j (map t is) (map u is))) len ∙ any_below-waits m t u is);
 }

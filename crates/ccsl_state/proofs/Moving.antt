@@ -19,8 +19,9 @@ module _ (K : System) (earlier : List ℕ) (ρ : List Actual) (s : Step) (gone :
     pub rest : drop (cells_in earlier e) row' ≡ drop (cells_in earlier e) row
 
   -- where it came to no call of the own group
-  pub moved_inside : (e : Expression) (row row' : List ℕ) (t x : Bool) (tail : Option TailCall) → tail ≡ None → t ≡ eval (formula_of (read K earlier e ρ row)) s →
-      Outcome K s gone (length earlier) ρ (read K earlier e ρ row) (read K earlier e ρ row') x tail → drop (cells_in earlier e) row' ≡ drop (cells_in earlier e) row → IsMoved e row row' t x
+  pub moved_inside : (e : Expression) (row row' : List ℕ) (t x : Bool) (tail : Option TailCall) → tail ≡ None → t ≡ eval (formula_of (read K earlier e ρ row)) s
+      → Outcome K s gone (length earlier) ρ (read K earlier e ρ row) (read K earlier e ρ row') x tail
+      → drop (cells_in earlier e) row' ≡ drop (cells_in earlier e) row → IsMoved e row row' t x
   moved_inside e row row' t x tail none ticks out rest =
       let o = subst (Outcome K s gone (length earlier) ρ (read K earlier e ρ row) (read K earlier e ρ row') x) none out in
       record { tick = ticks; tree = o.0; dead = o.1; rest = rest }

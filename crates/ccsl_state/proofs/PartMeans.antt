@@ -1,5 +1,6 @@
 -- What has gone on by its own ticks has gone on by the full step: by induction over the clocks, since a definition reads lower ones.
-use Rattle.std.proofs.Common.{◌≡◌, ℕ, zero, suc, ◌+◌, ◌-◌, ◌<◌, ◌≤◌, ◌^◌, ⊎_elim, List, [], ◌∷◌, ◌++◌, length, filter, Bool, true, false, ◌&&◌, ◌||◌, Option, Some, None, slice_get, nat_eq, nat_lt, if◌then◌else◌, refl, sym, ap, ap₂, subst, ◌∙◌, arith, length-append, lt-ltb, eq-eqb}
+use Rattle.std.proofs.Common.{◌≡◌, ℕ, zero, suc, ◌+◌, ◌-◌, ◌<◌, ◌≤◌, ◌^◌, ⊎_elim, List, [], ◌∷◌, ◌++◌, length, filter, Bool, true, false, ◌&&◌, ◌||◌, Option}
+use Rattle.std.proofs.Common.{Some, None, slice_get, nat_eq, nat_lt, if◌then◌else◌, refl, sym, ap, ap₂, subst, ◌∙◌, arith, length-append, lt-ltb, eq-eqb}
 use Rattle.std.proofs.lemmas.Bool.{cases_lt, cases_eq, ne_eqb, and_parts, and_from, or_cases, ltb-true, or_left, or_right}
 use Rattle.std.proofs.lemmas.Option.{get_or_from_slice_get}
 use Rattle.ccsl_base.specs.Clocks.{ticks_in, is_ascending, are_below}
@@ -41,7 +42,8 @@ module _ (p : ℕ → Bool) where
       on false = refl
   part_ticks (z ∷ s) y = on (p z) refl (part_ticks s y)
     where
-      on : (t : Bool) → p z ≡ t → ticks_in y (filter p s) ≡ (p y && ticks_in y s) → ticks_in y (if t then z ∷ filter p s else filter p s) ≡ (p y && (nat_eq y z || ticks_in y s))
+      on : (t : Bool) → p z ≡ t → ticks_in y (filter p s) ≡ (p y && ticks_in y s)
+          → ticks_in y (if t then z ∷ filter p s else filter p s) ≡ (p y && (nat_eq y z || ticks_in y s))
       on true h rest = ⊎_elim
           (λ (e : y ≡ z). ap (λ b. b || ticks_in y (filter p s)) (eq-eqb y z e) ∙ sym (ap₂ (λ b c. b && (c || ticks_in y s)) (ap p e ∙ h) (eq-eqb y z e)))
           (λ (ne : y ≡ z → ⊥). ap₂ (λ b r. b || r) (ne_eqb y z ne) rest ∙ sym (ap (λ c. p y && (c || ticks_in y s)) (ne_eqb y z ne)))
@@ -57,7 +59,8 @@ module _ (p : ℕ → Bool) where
 
 module _ (K : System) where
   -- the trees of the definitions, by number
-  pub tree_get : (T : List Step) (x : ℕ) (es : List Expression) (i : ℕ) (e : Expression) → slice_get es i ≡ Some e → slice_get (trees_from K T x es) i ≡ Some (tree_after K T (x + i) e)
+  pub tree_get : (T : List Step) (x : ℕ) (es : List Expression) (i : ℕ) (e : Expression) → slice_get es i ≡ Some e
+      → slice_get (trees_from K T x es) i ≡ Some (tree_after K T (x + i) e)
   tree_get T x [] i e is = let z : ⊥ = cc in absurd z
   tree_get T x (d ∷ es) zero e is = let same : d ≡ e = cc in ap₂ (λ k d'. Some (tree_after K T k d')) (let z : x ≡ x + 0 = omega arith in z) same
   tree_get T x (d ∷ es) (suc i) e is = tree_get T (suc x) es i e is ∙ ap (λ k. Some (tree_after K T k e)) (let z : suc x + i ≡ x + suc i = omega arith in z)
@@ -77,10 +80,13 @@ get_some [] i l = absurd (omega (arith, l))
 get_some (x ∷ xs) zero l = (x, refl)
 get_some (x ∷ xs) (suc i) l = get_some xs i (omega (arith, l))
 
-module _ (K : System) (ok : IsAccepted K) (F : List ℕ) (closed : IsClosed K F) (T : List Step) (s : Step) (low : are_below K.declared s ≡ true) (ascends : is_ascending s ≡ true)
-    (old trees : List Tree) (step : Step) (gone : List ℕ) (few : length T ≤ most) (are : (i : ℕ) → ticks_in (K.declared + i) F ≡ true → slice_get old i ≡ slice_get (trees_after K T) i)
+module _ (K : System) (ok : IsAccepted K) (F : List ℕ) (closed : IsClosed K F) (T : List Step) (s : Step) (low : are_below K.declared s ≡ true)
+    (ascends : is_ascending s ≡ true)
+    (old trees : List Tree) (step : Step) (gone : List ℕ) (few : length T ≤ most)
+    (are : (i : ℕ) → ticks_in (K.declared + i) F ≡ true → slice_get old i ≡ slice_get (trees_after K T) i)
     (within : (i : ℕ) → IsFollowed K F i → TreeWithin (λ y. reads K i y ≡ true) (tree_number old i)) (passed : IsPassed K F old s trees step gone)
-    (dead : (i : ℕ) → IsFollowed K F i → ticks_in (K.declared + i) gone ≡ dead_of (gone_in gone) (tree_number trees i)) (alive : (y : ℕ) → y < K.declared → ticks_in y gone ≡ false)
+    (dead : (i : ℕ) → IsFollowed K F i → ticks_in (K.declared + i) gone ≡ dead_of (gone_in gone) (tree_number trees i))
+    (alive : (y : ℕ) → y < K.declared → ticks_in y gone ≡ false)
   where
     abbrev full : Step
     full = full_step K T s
@@ -114,11 +120,13 @@ module _ (K : System) (ok : IsAccepted K) (F : List ℕ) (closed : IsClosed K F)
 
     past : (i : ℕ) → length K.definitions ≤ i → ticks_in (K.declared + i) full ≡ false
     past i l =
-        let w = and_parts (is_ascending full) (are_below (K.declared + length K.definitions) full) (full_named K T s (and_from (is_ascending s) (are_below K.declared s) ascends low)) in
+        let w = and_parts (is_ascending full) (are_below (K.declared + length K.definitions) full)
+        (full_named K T s (and_from (is_ascending s) (are_below K.declared s) ascends low)) in
         NoneFrom-are_below (K.declared + length K.definitions) full w.1 (K.declared + i) (omega (arith, l))
 
     -- A DEFINED CLOCK, where all lower ones are known to tick alike
-    defined_tick : (i : ℕ) → ticks_in (K.declared + i) F ≡ true → ((y : ℕ) → y < K.declared + i → is_within K F y ≡ true → ticks_in y step ≡ ticks_in y full) → ticks_in (K.declared + i) step ≡ ticks_in (K.declared + i) full
+    defined_tick : (i : ℕ) → ticks_in (K.declared + i) F ≡ true → ((y : ℕ) → y < K.declared + i → is_within K F y ≡ true → ticks_in y step ≡ ticks_in y full)
+        → ticks_in (K.declared + i) step ≡ ticks_in (K.declared + i) full
     defined_tick i followed lower = ⊎_elim
         (λ (l : i < length K.definitions).
         let at = get_some K.definitions i l in
@@ -140,7 +148,8 @@ module _ (K : System) (ok : IsAccepted K) (F : List ℕ) (closed : IsClosed K F)
       where
         at : ((z : ℕ) → z < y → is_within K F z ≡ true → ticks_in z step ≡ ticks_in z full) → ticks_in y step ≡ ticks_in y full
         at lower = ⊎_elim
-            (λ (m : y < K.declared). passed.declared y m ∙ sym (ap (ticks_in y) (sym (states_derive K (accepted_guarded K ok) T s few)) ∙ derived-keeps (trees_after K T) K.declared s y m))
+            (λ (m : y < K.declared). passed.declared y m ∙ sym
+            (ap (ticks_in y) (sym (states_derive K (accepted_guarded K ok) T s few)) ∙ derived-keeps (trees_after K T) K.declared s y m))
             (λ (m : K.declared ≤ y).
             let n = numbered y m in
             ap (λ k. ticks_in k step) n.1
@@ -151,13 +160,16 @@ module _ (K : System) (ok : IsAccepted K) (F : List ℕ) (closed : IsClosed K F)
     -- THE STEP is that part of the full one
     pub step_is : is_ascending step ≡ true → step ≡ filter (is_within K F) full
     step_is step_ascends = same-members step (filter (is_within K F) full) step_ascends
-        (part-ascends (is_within K F) full (and_parts (is_ascending full) (are_below (K.declared + length K.definitions) full) (full_named K T s (and_from (is_ascending s) (are_below K.declared s) ascends low))).0)
+        (part-ascends (is_within K F) full
+        (and_parts (is_ascending full) (are_below (K.declared + length K.definitions) full)
+        (full_named K T s (and_from (is_ascending s) (are_below K.declared s) ascends low))).0)
         (λ y. at y (is_within K F y) refl ∙ sym (part_ticks (is_within K F) full y))
       where
         at : (y : ℕ) (t : Bool) → is_within K F y ≡ t → ticks_in y step ≡ (is_within K F y && ticks_in y full)
         at y true w = tick_below (suc y) y (omega arith) w ∙ ap (λ t. t && ticks_in y full) (sym w)
         at y false w = ⊎_elim
-            (λ (m : y < K.declared). let z : ⊥ = (let e : true ≡ false = sym (or_left (nat_lt y K.declared) (ticks_in y F) (lt-ltb y K.declared m)) ∙ w in cc) in absurd z)
+            (λ (m : y < K.declared). let z : ⊥ =
+            (let e : true ≡ false = sym (or_left (nat_lt y K.declared) (ticks_in y F) (lt-ltb y K.declared m)) ∙ w in cc) in absurd z)
             (λ (m : K.declared ≤ y).
             let n = numbered y m in
             ap (λ k. ticks_in k step) n.1
@@ -170,28 +182,35 @@ module _ (K : System) (ok : IsAccepted K) (F : List ℕ) (closed : IsClosed K F)
     len = length (T ++ full_step K T s ∷ [])
 
     abbrev death : ℕ → Bool
-    death y = definition_dead K (T ++ full_step K T s ∷ []) (dead_below K (T ++ full_step K T s ∷ []) y) (length (T ++ full_step K T s ∷ [])) (definition_of K y)
+    death y = definition_dead K (T ++ full_step K T s ∷ []) (dead_below K (T ++ full_step K T s ∷ []) y) (length (T ++ full_step K T s ∷ []))
+        (definition_of K y)
 
     -- A TREE, where the deaths of the lower clocks are known
-    tree_is : (i : ℕ) (e : Expression) → IsFollowed K F i → slice_get K.definitions i ≡ Some e → ((y : ℕ) → y < K.declared + i → is_within K F y ≡ true → ticks_in y gone ≡ death y) →
+    tree_is : (i : ℕ) (e : Expression) → IsFollowed K F i → slice_get K.definitions i ≡ Some e
+        → ((y : ℕ) → y < K.declared + i → is_within K F y ≡ true → ticks_in y gone ≡ death y) →
         tree_number trees i ≡ tree_after K more (K.declared + i) e
     tree_is i e f is lower =
         let x = K.declared + i in
         passed.tree i f
-        ∙ next_same (λ y. reads K i y ≡ true) K (bodies_closed K ok) step full (λ y r. tick_below (suc y) y (omega arith) (known i y f.1 r)) (gone_in gone) (dead_below K more x len)
-        (λ y r. lower y (reads_below K ok F i y r) (known i y f.1 r) ∙ sym (dead_below-at K more x len y (reads_below K ok F i y r))) (tree_number old i) (within i f)
+        ∙ next_same (λ y. reads K i y ≡ true) K (bodies_closed K ok) step full (λ y r. tick_below (suc y) y (omega arith) (known i y f.1 r)) (gone_in gone)
+        (dead_below K more x len)
+        (λ y r. lower y (reads_below K ok F i y r) (known i y f.1 r) ∙ sym (dead_below-at K more x len y (reads_below K ok F i y r))) (tree_number old i)
+        (within i f)
         ∙ ap₂ (λ n t. next K full (dead_below K more x n) t) (length-step K (accepted_guarded K ok) T full) (before i e f is)
         ∙ sym (tree_step K (accepted_guarded K ok) T full x e)
 
-    module _ (small : length (T ++ full_step K T s ∷ []) ≤ most) (here : (i : ℕ) → IsFollowed K F i → TreeWithin (λ y. reads K i y ≡ true) (tree_number trees i)) where
-      defined_death : (i : ℕ) → IsFollowed K F i → ((y : ℕ) → y < K.declared + i → is_within K F y ≡ true → ticks_in y gone ≡ death y) → ticks_in (K.declared + i) gone ≡ death (K.declared + i)
+    module _ (small : length (T ++ full_step K T s ∷ []) ≤ most)
+        (here : (i : ℕ) → IsFollowed K F i → TreeWithin (λ y. reads K i y ≡ true) (tree_number trees i)) where
+      defined_death : (i : ℕ) → IsFollowed K F i → ((y : ℕ) → y < K.declared + i → is_within K F y ≡ true → ticks_in y gone ≡ death y)
+          → ticks_in (K.declared + i) gone ≡ death (K.declared + i)
       defined_death i f lower =
           let at = get_some K.definitions i f.0 in
           let e = at.0 in
           let x = K.declared + i in
           dead i f
           ∙ dead_same (λ y. reads K i y ≡ true) (gone_in gone) (dead_below K more x len)
-          (λ y r. lower y (reads_below K ok F i y r) (known i y f.1 r) ∙ sym (dead_below-at K more x len y (reads_below K ok F i y r))) (tree_number trees i) (here i f)
+          (λ y r. lower y (reads_below K ok F i y r) (known i y f.1 r) ∙ sym (dead_below-at K more x len y (reads_below K ok F i y r))) (tree_number trees i)
+          (here i f)
           ∙ ap (dead_of (dead_below K more x len)) (tree_is i e f at.1 lower)
           ∙ tree_dead K (accepted_guarded K ok) more x e small (definition_at K ok i e at.1)
 
@@ -201,7 +220,9 @@ module _ (K : System) (ok : IsAccepted K) (F : List ℕ) (closed : IsClosed K F)
         where
           at : ((z : ℕ) → z < y → is_within K F z ≡ true → ticks_in z gone ≡ death z) → ticks_in y gone ≡ death y
           at lower = ⊎_elim
-              (λ (m : y < K.declared). alive y m ∙ sym (ap (definition_dead K more (dead_below K more y) len) (ap (λ t. if t then None else slice_get K.definitions (y - K.declared)) (lt-ltb y K.declared m))))
+              (λ (m : y < K.declared). alive y m
+              ∙ sym (ap (definition_dead K more (dead_below K more y) len)
+              (ap (λ t. if t then None else slice_get K.definitions (y - K.declared)) (lt-ltb y K.declared m))))
               (λ (m : K.declared ≤ y).
               let n = numbered y m in
               let e = n.1 in
@@ -218,9 +239,11 @@ module _ (K : System) (ok : IsAccepted K) (F : List ℕ) (closed : IsClosed K F)
           let got = get_some trees i (let c = passed.count in omega (arith, l, c)) in
           let f : IsFollowed K F i = (l, followed) in
           got.1
-          ∙ ap Some (sym (get_or_from_slice_get trees i got.0 TNever got.1) ∙ tree_is i at.0 f at.1 (λ y m w. death_below (suc y) y (omega arith) (omega (arith, m, l)) w))
+          ∙ ap Some (sym (get_or_from_slice_get trees i got.0 TNever got.1)
+          ∙ tree_is i at.0 f at.1 (λ y m w. death_below (suc y) y (omega arith) (omega (arith, m, l)) w))
           ∙ sym (tree_get K more K.declared K.definitions i at.0 at.1))
-          (λ (l : length K.definitions ≤ i). get_none trees i (let c = passed.count in omega (arith, l, c)) ∙ sym (tree_none K more K.declared K.definitions i l))
+          (λ (l : length K.definitions ≤ i). get_none trees i (let c = passed.count in omega (arith, l, c))
+          ∙ sym (tree_none K more K.declared K.definitions i l))
           (cases_lt i (length K.definitions))
 
 -- THE OPENING: each followed definition is to be visited at the first step
@@ -234,34 +257,42 @@ pub kept_opened : (K : System) → IsAccepted K → (F : List ℕ) (trees : List
 kept_opened K ok F trees unsettled opened all = record {
   within = λ i f.
       let at = get_some K.definitions i f.0 in
-      let is : tree_number trees i ≡ opening K at.0 [] = get_or_from_slice_get trees i (opening K at.0 []) TNever (ap (λ ts. slice_get ts i) opened ∙ opened_get K K.definitions i at.0 at.1) in
+      let is : tree_number trees i ≡ opening K at.0 [] =
+      get_or_from_slice_get trees i (opening K at.0 []) TNever (ap (λ ts. slice_get ts i) opened ∙ opened_get K K.definitions i at.0 at.1) in
       subst (TreeWithin (λ y. reads K i y ≡ true)) (sym is) (opening_reads K ok i at.0 at.1);
   dead = λ i f h. absurd (waits i f h);
   alive = λ y l. refl;
   settled = λ i f h. absurd (waits i f h);
-  few = λ i h. let w = and_parts (nat_lt i (length K.definitions)) (ticks_in (K.declared + i) F) (sym (all i) ∙ h) in (ltb-true i (length K.definitions) w.0, w.1);
+  few = λ i h. let w = and_parts (nat_lt i (length K.definitions)) (ticks_in (K.declared + i) F) (sym (all i) ∙ h) in
+      (ltb-true i (length K.definitions) w.0, w.1);
 }
   where
     waits : (i : ℕ) → IsFollowed K F i → ticks_in i unsettled ≡ false → ⊥
-    waits i f h = let e : true ≡ false = sym (and_from (nat_lt i (length K.definitions)) (ticks_in (K.declared + i) F) (lt-ltb i (length K.definitions) f.0) f.1) ∙ sym (all i) ∙ h in cc
+    waits i f h = let e : true ≡ false =
+        sym (and_from (nat_lt i (length K.definitions)) (ticks_in (K.declared + i) F) (lt-ltb i (length K.definitions) f.0) f.1) ∙ sym (all i) ∙ h in cc
 
-pub part_opened : (p : HeldPart) → IsAccepted p.system → trees_in p.system (calls_of p.system) p.system.definitions p.row ≡ opened_all p.system p.system.definitions → PartStandsFor p []
+pub part_opened : (p : HeldPart) → IsAccepted p.system
+    → trees_in p.system (calls_of p.system) p.system.definitions p.row ≡ opened_all p.system p.system.definitions → PartStandsFor p []
 part_opened p ok opened = record {
   trees = λ i followed. ap (λ ts. slice_get ts i) (opened ∙ states_opened p.system (accepted_guarded p.system ok));
   few = omega arith;
 }
 
 -- what a step has found, in terms of the states before it
-pub passed_by : (p : HeldPart) (s declared : Step) (calls row : List ℕ) (trees : List Tree) (step gone : List ℕ) → calls ≡ calls_of p.system → row ≡ p.row → declared ≡ s →
-    IsPassed p.system p.followed (trees_in p.system calls p.system.definitions row) declared trees step gone → IsPassed p.system p.followed (trees_in p.system (calls_of p.system) p.system.definitions p.row) s trees step gone
+pub passed_by : (p : HeldPart) (s declared : Step) (calls row : List ℕ) (trees : List Tree) (step gone : List ℕ) → calls ≡ calls_of p.system → row ≡ p.row
+    → declared ≡ s →
+    IsPassed p.system p.followed (trees_in p.system calls p.system.definitions row) declared trees step gone
+    → IsPassed p.system p.followed (trees_in p.system (calls_of p.system) p.system.definitions p.row) s trees step gone
 passed_by p s declared calls row trees step gone calls_are row_is step_is given =
     subst (λ ts. IsPassed p.system p.followed ts s trees step gone) (ap₂ (λ C r. trees_in p.system C p.system.definitions r) calls_are row_is)
     (subst (λ d. IsPassed p.system p.followed (trees_in p.system calls p.system.definitions row) d trees step gone) step_is given)
 
 -- ONE STEP MORE, as the program makes it
-module _ (p : HeldPart) (T : List Step) (s : Step) (ok : IsAccepted p.system) (closed : IsClosed p.system p.followed) (low : are_below p.system.declared s ≡ true) (ascends : is_ascending s ≡ true)
+module _ (p : HeldPart) (T : List Step) (s : Step) (ok : IsAccepted p.system) (closed : IsClosed p.system p.followed)
+    (low : are_below p.system.declared s ≡ true) (ascends : is_ascending s ≡ true)
     (gone unsettled : List ℕ) (kept : AreKept p.system p.followed (trees_in p.system (calls_of p.system) p.system.definitions p.row) gone unsettled)
-    (trees : List Tree) (step gone' unsettled' : List ℕ) (passed : IsPassed p.system p.followed (trees_in p.system (calls_of p.system) p.system.definitions p.row) s trees step gone')
+    (trees : List Tree) (step gone' unsettled' : List ℕ)
+    (passed : IsPassed p.system p.followed (trees_in p.system (calls_of p.system) p.system.definitions p.row) s trees step gone')
     (kept' : AreKept p.system p.followed trees gone' unsettled') (stands : PartStandsFor p T)
   where
     few_steps : length T ≤ most
@@ -269,15 +300,19 @@ module _ (p : HeldPart) (T : List Step) (s : Step) (ok : IsAccepted p.system) (c
 
     pub part_step : is_ascending step ≡ true → step ≡ part_of p (full_step p.system T s)
     part_step step_ascends =
-        step_is p.system ok p.followed closed T s low ascends (trees_in p.system (calls_of p.system) p.system.definitions p.row) trees step gone' few_steps stands.trees kept.within passed passed.dead kept'.alive step_ascends
+        step_is p.system ok p.followed closed T s low ascends (trees_in p.system (calls_of p.system) p.system.definitions p.row) trees step gone' few_steps
+        stands.trees kept.within passed passed.dead kept'.alive step_ascends
 
-    pub part_stands : (p' : HeldPart) → length T + 1 < 2 ^ 64 → p'.system ≡ p.system → p'.followed ≡ p.followed → ((i : ℕ) → followed_tree p' i ≡ slice_get trees i) →
+    pub part_stands : (p' : HeldPart) → length T + 1 < 2 ^ 64 → p'.system ≡ p.system → p'.followed ≡ p.followed
+        → ((i : ℕ) → followed_tree p' i ≡ slice_get trees i) →
         PartStandsFor p' (T ++ full_step p.system T s ∷ [])
     part_stands p' short system followed same = record {
       trees = λ i is.
           same i
-          ∙ trees_are p.system ok p.followed closed T s low ascends (trees_in p.system (calls_of p.system) p.system.definitions p.row) trees step gone' few_steps stands.trees kept.within passed passed.dead kept'.alive
-          (omega (arith, short, length-append T (full_step p.system T s ∷ []))) kept'.within i (ap₂ (λ (K : System) F. ticks_in (K.declared + i) F) (sym system) (sym followed) ∙ is)
+          ∙ trees_are p.system ok p.followed closed T s low ascends (trees_in p.system (calls_of p.system) p.system.definitions p.row) trees step gone'
+          few_steps stands.trees kept.within passed passed.dead kept'.alive
+          (omega (arith, short, length-append T (full_step p.system T s ∷ []))) kept'.within i
+          (ap₂ (λ (K : System) F. ticks_in (K.declared + i) F) (sym system) (sym followed) ∙ is)
           ∙ ap (λ K. slice_get (trees_after K (T ++ full_step p.system T s ∷ [])) i) (sym system);
       few = omega (arith, short, length-append T (full_step p.system T s ∷ []));
     }

@@ -17,8 +17,9 @@ use Rattle.ccsl_state.proofs.PlaceLaws.{placed}
 
 module _ (K : System) (earlier : List ℕ) (enough : IsEnough K earlier) where
   -- where a row changes in the region of one definition only, only its tree does
-  pub trees_set : (es : List Expression) (i k d : ℕ) (e : Expression) (place : ℕ) (row row' : List ℕ) → cells_from earlier es ≤ 32768 → slice_get es i ≡ Some e →
-      slice_get (places_from earlier k es) i ≡ Some place → place ≡ k + d → take d row' ≡ take d row → drop (d + cells_in earlier e) row' ≡ drop (d + cells_in earlier e) row →
+  pub trees_set : (es : List Expression) (i k d : ℕ) (e : Expression) (place : ℕ) (row row' : List ℕ) → cells_from earlier es ≤ 32768 → slice_get es i ≡ Some e
+      → slice_get (places_from earlier k es) i ≡ Some place → place ≡ k + d → take d row' ≡ take d row
+      → drop (d + cells_in earlier e) row' ≡ drop (d + cells_in earlier e) row →
       trees_in K earlier es row' ≡ slice_set (trees_in K earlier es row) i (read K earlier e [] (drop d row'))
   trees_set [] i k d e place row row' few is at far before after = let z : ⊥ = cc in absurd z
   trees_set (e' ∷ es) zero k d e place row row' few is at far before after =
@@ -37,12 +38,14 @@ module _ (K : System) (earlier : List ℕ) (enough : IsEnough K earlier) where
       let past : n + (d - n + m) ≡ d + m = omega (arith, more) in
       ap₂ (λ t ts. t ∷ ts)
       (read_same K earlier e' [] row' row enough (omega (arith, few)) (fewer d n row' row before (omega (arith, more))))
-      (trees_set es i (k + n) (d - n) e place (drop n row) (drop n row') (omega (arith, few)) is at (omega (arith, far, more)) (within d n (d - n) row' row before (omega (arith, more)))
+      (trees_set es i (k + n) (d - n) e place (drop n row) (drop n row') (omega (arith, few)) is at (omega (arith, far, more))
+      (within d n (d - n) row' row before (omega (arith, more)))
       (drop-drop (d - n + m) n row' ∙ ap (λ j. drop j row') past ∙ after ∙ sym (drop-drop (d - n + m) n row ∙ ap (λ j. drop j row) past))
       ∙ ap (λ r. slice_set (trees_in K earlier es (drop n row)) i (read K earlier e [] r)) (drop-drop (d - n) n row' ∙ ap (λ j. drop j row') more))
 
   -- A DEFINITION IS VISITED where its region is rewritten by the step
-  module _ (i : ℕ) (e : Expression) (place : ℕ) (row left region region' : List ℕ) (s : Step) (known : List ℕ) (few : cells_from earlier K.definitions ≤ 32768) (is : slice_get K.definitions i ≡ Some e)
+  module _ (i : ℕ) (e : Expression) (place : ℕ) (row left region region' : List ℕ) (s : Step) (known : List ℕ) (few : cells_from earlier K.definitions ≤ 32768)
+      (is : slice_get K.definitions i ≡ Some e)
       (at : slice_get (places_from earlier 0 K.definitions) i ≡ Some place) (split : row ≡ left ++ region) (len : length left ≡ place)
     where
       behind_left : drop place row ≡ region
@@ -50,13 +53,18 @@ module _ (K : System) (earlier : List ℕ) (enough : IsEnough K earlier) where
 
       pub visited_tree : tree_number (trees_in K earlier K.definitions row) i ≡ read K earlier e [] region
       visited_tree =
-          get_or_from_slice_get (trees_in K earlier K.definitions row) i (read K earlier e [] (drop place row)) TNever ((placed K earlier K.definitions i 0 e place row is at).1 place (omega arith))
+          get_or_from_slice_get (trees_in K earlier K.definitions row) i (read K earlier e [] (drop place row)) TNever
+          ((placed K earlier K.definitions i 0 e place row is at).1 place (omega arith))
           ∙ ap (read K earlier e []) behind_left
 
-      pub visited_trees : drop (cells_in earlier e) region' ≡ drop (cells_in earlier e) region → read K earlier e [] region' ≡ next K s (gone_in known) (read K earlier e [] region) →
-          trees_in K earlier K.definitions (left ++ region') ≡ slice_set (trees_in K earlier K.definitions row) i (next K s (gone_in known) (tree_number (trees_in K earlier K.definitions row) i))
+      pub visited_trees : drop (cells_in earlier e) region' ≡ drop (cells_in earlier e) region
+          → read K earlier e [] region' ≡ next K s (gone_in known) (read K earlier e [] region) →
+          trees_in K earlier K.definitions (left ++ region') ≡ slice_set (trees_in K earlier K.definitions row) i
+          (next K s (gone_in known) (tree_number (trees_in K earlier K.definitions row) i))
       visited_trees rest goes =
           trees_set K.definitions i 0 place e place row (left ++ region') few is at (omega arith)
           (front_kept place left region' region len ∙ ap (take place) (sym split))
-          (behind place (cells_in earlier e) left region' len ∙ rest ∙ sym (behind place (cells_in earlier e) left region len) ∙ ap (drop (place + cells_in earlier e)) (sym split))
-          ∙ ap (slice_set (trees_in K earlier K.definitions row) i) (ap (read K earlier e []) (behind_head place left region' len) ∙ goes ∙ ap (next K s (gone_in known)) (sym visited_tree))
+          (behind place (cells_in earlier e) left region' len ∙ rest ∙ sym (behind place (cells_in earlier e) left region len)
+          ∙ ap (drop (place + cells_in earlier e)) (sym split))
+          ∙ ap (slice_set (trees_in K earlier K.definitions row) i)
+          (ap (read K earlier e []) (behind_head place left region' len) ∙ goes ∙ ap (next K s (gone_in known)) (sym visited_tree))

@@ -47,9 +47,11 @@ module _ (K : System) (g : ℕ) where
   inner_not_own words (EAwait a m) ρ h = refl
   inner_not_own words (EFilter a w) ρ h = refl
   inner_not_own words (EDelayed a m d) ρ h = refl
-  inner_not_own words (EIf q a d) ρ h = not_own_if words (test_of words q ρ) (is_own words g a ρ) (is_own words g d ρ) (inner_not_own words a ρ h.0) (inner_not_own words d ρ h.1)
+  inner_not_own words (EIf q a d) ρ h =
+      not_own_if words (test_of words q ρ) (is_own words g a ρ) (is_own words g d ρ) (inner_not_own words a ρ h.0) (inner_not_own words d ρ h.1)
 
-  pub allowed_not_own : (words : List BinaryWord) (p : Position) (e : Expression) (ρ : List Actual) → Allowed g p e → (p ≡ Guarded → ⊥) → is_own words g e ρ ≡ false
+  pub allowed_not_own : (words : List BinaryWord) (p : Position) (e : Expression) (ρ : List Actual) → Allowed g p e → (p ≡ Guarded → ⊥)
+      → is_own words g e ρ ≡ false
   allowed_not_own words p (EName x) ρ h nog = refl
   allowed_not_own words p (ECall group member args) ρ (inl l) nog = lt-leb g group l
   allowed_not_own words p (ECall group member args) ρ (inr h) nog = absurd (nog h.1)
@@ -101,8 +103,10 @@ pub definition_stands : (K : System) (x : ℕ) (e : Expression) → IsAccepted K
 definition_stands K x e ok h = stands K ok (length K.groups) x [] Inner e h.calls h.known
 
 -- a call's member has as many parameters as the call has arguments
-pub call_params : (K : System) (g m : ℕ) (args : List Value) (b : Body) → IsCall K g m args → body_of K.groups g m ≡ Some b → (length args ≡ length b.params) × (length b.params ≤ 8)
-call_params K g m args b h is = let same : h.0 ≡ b = let e = h.1 in cc in (h.2 ∙ ap (λ (b : Body). length b.params) same, subst (λ (b : Body). length b.params ≤ 8) same h.3)
+pub call_params : (K : System) (g m : ℕ) (args : List Value) (b : Body) → IsCall K g m args → body_of K.groups g m ≡ Some b
+    → (length args ≡ length b.params) × (length b.params ≤ 8)
+call_params K g m args b h is = let same : h.0 ≡ b = let e =
+    h.1 in cc in (h.2 ∙ ap (λ (b : Body). length b.params) same, subst (λ (b : Body). length b.params ≤ 8) same h.3)
 
 -- what a body that is called owes, in an accepted system
 pub record IsBodyReady (K : System) (g : ℕ) (b : Body) : Type 0 where

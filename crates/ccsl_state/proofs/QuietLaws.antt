@@ -1,5 +1,6 @@
 -- A tree that hears nothing tells nothing and stays, for each operator.
-use Rattle.std.proofs.Common.{◌≡◌, ℕ, ◌+◌, ◌-◌, List, [], ◌∷◌, length, Bool, true, false, not, ◌&&◌, ◌||◌, Some, slice_get, slice_index_or, nat_eq, nat_le, nat_lt, if◌then◌else◌, refl, sym, ap, ap₂, ◌∙◌}
+use Rattle.std.proofs.Common.{◌≡◌, ℕ, ◌+◌, ◌-◌, List, [], ◌∷◌, length, Bool, true, false, not, ◌&&◌, ◌||◌, Some, slice_get, slice_index_or, nat_eq, nat_le}
+use Rattle.std.proofs.Common.{nat_lt, if◌then◌else◌, refl, sym, ap, ap₂, ◌∙◌}
 use Rattle.std.proofs.lemmas.Bool.{and_parts, and_from, not-true}
 use Rattle.std.proofs.Math.Bool.{and-false, or-false, and-true}
 use Rattle.ccsl_formula.specs.Formula.{eval}
@@ -16,7 +17,9 @@ use Rattle.ccsl_kernel.specs.Meaning.{dead_below}
 use Rattle.ccsl_kernel.specs.Accepted.{IsAccepted}
 use Rattle.ccsl_kernel.proofs.Scoped.{NamesBelow}
 use Rattle.ccsl_kernel.proofs.AcceptedParts.{accepted_scoped}
-use Rattle.ccsl_state.specs.Tree.{One, Delaying, Awaiting, Filtering, Two, Uniting, Meeting, Lessening, Leading, Trailing, Ending, EndingWeakly, Sampling, SamplingWeakly, Lagging, Tree, TName, TNever, TOne, TTwo, TThen, one_ticks, one_next, two_ticks, two_next, set_first, opening, then_or_right, next, formula_of, dead_of}
+use Rattle.ccsl_state.specs.Tree.{One, Delaying, Awaiting, Filtering, Two, Uniting, Meeting, Lessening, Leading, Trailing, Ending, EndingWeakly, Sampling}
+use Rattle.ccsl_state.specs.Tree.{SamplingWeakly, Lagging, Tree, TName, TNever, TOne, TTwo, TThen, one_ticks, one_next, two_ticks, two_next, set_first, opening}
+use Rattle.ccsl_state.specs.Tree.{then_or_right, next, formula_of, dead_of}
 use Rattle.ccsl_state.specs.Within.{PlaceWithin, ArgsWithin, NamesWithin, ActualsWithin, TreeWithin}
 use Rattle.ccsl_state.specs.Reach.{names_clock}
 use Rattle.ccsl_state.specs.Quiet.{named_by, reads, ReadsNoMore, IsUnheard, is_settled, IsQuiet, StaysAsItIs, BearsSettled}
@@ -99,7 +102,8 @@ module _ (K : System) (s : Step) (gone : ℕ → Bool) where
   settles (TTwo o a d) h = and_from (is_settled gone (next K s gone a)) (is_settled gone (next K s gone d)) (settles a h.0) (settles d h.1)
   settles (TThen a d ρ) h = on (dead_of gone (next K s gone a)) refl (settles a h.0)
     where
-      on : (c : Bool) → dead_of gone (next K s gone a) ≡ c → is_settled gone (next K s gone a) ≡ true → is_settled gone (then_or_right K c (next K s gone a) d ρ) ≡ true
+      on : (c : Bool) → dead_of gone (next K s gone a) ≡ c → is_settled gone (next K s gone a) ≡ true
+          → is_settled gone (then_or_right K c (next K s gone a) d ρ) ≡ true
       on true is left = h.1
       on false is left = and_from (not (dead_of gone (next K s gone a))) (is_settled gone (next K s gone a)) (ap not is) left
 

@@ -1,5 +1,6 @@
 -- What a pass over the definitions, from the last one down, has reached.
-use Rattle.std.proofs.Common.{◌≡◌, ℕ, ◌+◌, ◌-◌, ◌<◌, ◌≤◌, List, Bool, true, false, ◌||◌, Some, None, slice_get, nat_lt, if◌then◌else◌, refl, sym, ap, ◌∙◌, arith, ⊎_elim, ltb-false}
+use Rattle.std.proofs.Common.{◌≡◌, ℕ, ◌+◌, ◌-◌, ◌<◌, ◌≤◌, List, Bool, true, false, ◌||◌, Some, None, slice_get, nat_lt, if◌then◌else◌, refl, sym, ap, ◌∙◌}
+use Rattle.std.proofs.Common.{arith, ⊎_elim, ltb-false}
 use Rattle.std.proofs.lemmas.Bool.{or_cases, cases_eq, or_left, or_right}
 use Rattle.std.proofs.lemmas.Option.{slice_get_within}
 use Rattle.ccsl_base.specs.Clocks.{ticks_in}
@@ -31,7 +32,8 @@ module _ (K : System) (ok : IsAccepted K) where
 -- the definitions from number i on have been passed
 pub record ReachedSo (K : System) (clocks set : List ℕ) (i : ℕ) : Type 0 where
   pub has : (x : ℕ) → ticks_in x clocks ≡ true → ticks_in x set ≡ true
-  pub closed : (x y : ℕ) (e : Expression) → K.declared + i ≤ x → definition_of K x ≡ Some e → ticks_in x set ≡ true → names_clock e y ≡ true → K.declared ≤ y → ticks_in y set ≡ true
+  pub closed : (x y : ℕ) (e : Expression) → K.declared + i ≤ x → definition_of K x ≡ Some e → ticks_in x set ≡ true → names_clock e y ≡ true → K.declared ≤ y
+      → ticks_in y set ≡ true
   pub least : (other : List ℕ) → IsClosed K other → Includes K other clocks → Includes K other set
 
 module _ (K : System) (ok : IsAccepted K) (clocks set : List ℕ) where
@@ -48,20 +50,23 @@ module _ (K : System) (ok : IsAccepted K) (clocks set : List ℕ) where
   }
 
   -- or is, and then so are those that it names
-  pub reached_more : (i : ℕ) (e : Expression) (set' : List ℕ) → slice_get K.definitions i ≡ Some e → ReachedSo K clocks set (i + 1) → ticks_in (K.declared + i) set ≡ true →
+  pub reached_more : (i : ℕ) (e : Expression) (set' : List ℕ) → slice_get K.definitions i ≡ Some e → ReachedSo K clocks set (i + 1)
+      → ticks_in (K.declared + i) set ≡ true →
       ((y : ℕ) → ticks_in y set' ≡ (names_clock e y || ticks_in y set)) → ReachedSo K clocks set' i
   reached_more i e set' at so is_in added = record {
     has = λ x h. kept x (so.has x h);
     closed = λ x y d past is h named low.
         ⊎_elim
         (λ (same : x ≡ K.declared + i).
-        let one : e ≡ d = (let p = definition_at K ok i e at in let q : definition_of K (K.declared + i) ≡ Some d = ap (definition_of K) (sym same) ∙ is in cc) in
+        let one : e ≡ d = (let p = definition_at K ok i e at in let q : definition_of K (K.declared + i) ≡ Some d =
+        ap (definition_of K) (sym same) ∙ is in cc) in
         added y ∙ or_left (names_clock e y) (ticks_in y set) (ap (λ d. names_clock d y) one ∙ named))
         (λ (ne : x ≡ K.declared + i → ⊥). kept y (so.closed x y d (omega (arith, past, ne)) is (before x (omega (arith, past, ne)) h) named low))
         (cases_eq x (K.declared + i));
     least = λ other closed has y low h.
         ⊎_elim
-        (λ (named : names_clock e y ≡ true). closed (K.declared + i) y e (definition_at K ok i e at) (so.least other closed has (K.declared + i) (omega arith) is_in) named low)
+        (λ (named : names_clock e y ≡ true). closed (K.declared + i) y e (definition_at K ok i e at)
+        (so.least other closed has (K.declared + i) (omega arith) is_in) named low)
         (λ (was : ticks_in y set ≡ true). so.least other closed has y low was)
         (or_cases (names_clock e y) (ticks_in y set) (sym (added y) ∙ h));
   }
@@ -73,6 +78,7 @@ module _ (K : System) (ok : IsAccepted K) (clocks set : List ℕ) where
       before : (x : ℕ) → K.declared + i < x → ticks_in x set' ≡ true → ticks_in x set ≡ true
       before x past h =
           ⊎_elim
-          (λ (named : names_clock e x ≡ true). let low = definition_names K ok (K.declared + i) x e (definition_at K ok i e at) named in let z : ⊥ = omega arith in absurd z)
+          (λ (named : names_clock e x ≡ true). let low = definition_names K ok (K.declared + i) x e (definition_at K ok i e at) named in let z : ⊥ =
+          omega arith in absurd z)
           (λ (was : ticks_in x set ≡ true). was)
           (or_cases (names_clock e x) (ticks_in x set) (sym (added x) ∙ h))

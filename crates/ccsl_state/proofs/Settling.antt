@@ -19,8 +19,10 @@ module _ (K : System) (earlier : List ℕ) (ρ : List Actual) (s : Step) (gone :
 
   -- two operands behind an operator's own cells
   pub both_settled : (a d : Expression) (own : ℕ) (row left right : List ℕ) (c e : Bool) → drop own row ≡ left → drop (own + cells_in earlier a) row ≡ right →
-      (c ≡ true → is_settled gone (next K s gone (read K earlier a ρ left)) ≡ true) → (e ≡ true → is_settled gone (next K s gone (read K earlier d ρ right)) ≡ true) → (c && e) ≡ true →
-      (is_settled gone (next K s gone (read K earlier a ρ (drop own row))) ≡ true) × (is_settled gone (next K s gone (read K earlier d ρ (drop (own + cells_in earlier a) row))) ≡ true)
+      (c ≡ true → is_settled gone (next K s gone (read K earlier a ρ left)) ≡ true)
+      → (e ≡ true → is_settled gone (next K s gone (read K earlier d ρ right)) ≡ true) → (c && e) ≡ true →
+      (is_settled gone (next K s gone (read K earlier a ρ (drop own row))) ≡ true)
+      × (is_settled gone (next K s gone (read K earlier d ρ (drop (own + cells_in earlier a) row))) ≡ true)
   both_settled a d own row left right c e left_is right_is first second h =
       let w = and_parts c e h in (
         subst (λ r. is_settled gone (next K s gone (read K earlier a ρ r)) ≡ true) (sym left_is) (first w.0),

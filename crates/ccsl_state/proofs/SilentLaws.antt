@@ -1,5 +1,6 @@
 -- A definition that is dead neither ticks in the next full step nor comes back.
-use Rattle.std.proofs.Common.{◌≡◌, ℕ, zero, suc, ◌+◌, ◌<◌, ◌≤◌, ◌^◌, List, [], ◌∷◌, ◌++◌, length, true, false, Some, slice_get, refl, sym, ap, ap₂, subst, ◌∙◌, arith, ⊎_elim, length-append}
+use Rattle.std.proofs.Common.{◌≡◌, ℕ, zero, suc, ◌+◌, ◌<◌, ◌≤◌, ◌^◌, List, [], ◌∷◌, ◌++◌, length, true, false, Some, slice_get, refl, sym, ap, ap₂, subst, ◌∙◌}
+use Rattle.std.proofs.Common.{arith, ⊎_elim, length-append}
 use Rattle.std.proofs.lemmas.Bool.{cases_lt}
 use Rattle.ccsl_base.specs.Clocks.{ticks_in, are_below}
 use Rattle.ccsl_formula.specs.Formula.{eval}
@@ -40,7 +41,8 @@ module _ (K : System) (ok : IsAccepted K) (T : List Step) (s : Step) (obeys : Ob
       let at : n ≡ length T = omega (arith, longer) in
       let last : step_at (T ++ f ∷ []) n ≡ f = ap (step_at (T ++ f ∷ [])) at ∙ step_at-last T f in
       ap (ticks_in x) last ∙ full_obeys K (accepted_guarded K ok) (accepted_scoped K ok) T s low x e is
-      ∙ sym (ap₂ eval (ap (formula_at K (T ++ f ∷ []) x e [] 0) at ∙ asked_before K (accepted_guarded K ok) (accepted_scoped K ok) T f x e (length T) is (omega arith)) last))
+      ∙ sym (ap₂ eval (ap (formula_at K (T ++ f ∷ []) x e [] 0) at
+      ∙ asked_before K (accepted_guarded K ok) (accepted_scoped K ok) T f x e (length T) is (omega arith)) last))
       (cases_lt n (length T))
 
   -- a definition that was dead there does not tick in that step, and is dead after it
@@ -76,7 +78,8 @@ stay_silent h ok T stands s h' obeys low short next i l dead =
     let was : dead_at K T x e [] 0 (length T) ≡ true = sym (stands_dead h ok T stands i e is) ∙ dead in
     let silent = next_silent K ok T s obeys low x e is was in
     let T' = T ++ full_step K T s ∷ [] in
-    let there = stands_dead h' (subst IsAccepted (sym next.system) ok) T' (stands_next h ok T stands s h' next short) i e (ap (λ (K' : System). definition_of K' (K'.declared + i)) next.system ∙ is) in (
+    let there = stands_dead h' (subst IsAccepted (sym next.system) ok) T' (stands_next h ok T stands s h' next short) i e
+    (ap (λ (K' : System). definition_of K' (K'.declared + i)) next.system ∙ is) in (
       ap (ticks_in x) (stands_derived h ok T stands s) ∙ silent.0,
       there ∙ ap (λ (K' : System). dead_at K' T' (K'.declared + i) e [] 0 (length T')) next.system ∙ silent.1,
     )

@@ -1,5 +1,7 @@
 -- What states that stand for a list of steps tell, and for which list they stand after one step more.
-use Rattle.std.proofs.Common.{◌≡◌, ℕ, zero, suc, ◌+◌, ◌-◌, ◌*◌, ◌<◌, ◌≤◌, ◌^◌, List, [], ◌∷◌, ◌++◌, length, drop, replicate, map, Bool, true, false, Option, Some, None, option_map, slice_get, slice_index, nat_eq, nat_le, if◌then◌else◌, refl, sym, ap, ap₂, subst, ◌∙◌, arith, ⊎_elim, eqb-true, length-append}
+use Rattle.std.proofs.Common.{◌≡◌, ℕ, zero, suc, ◌+◌, ◌-◌, ◌*◌, ◌<◌, ◌≤◌, ◌^◌, List, [], ◌∷◌, ◌++◌, length, drop, replicate, map, Bool, true, false, Option}
+use Rattle.std.proofs.Common.{Some, None, option_map, slice_get, slice_index, nat_eq, nat_le, if◌then◌else◌, refl, sym, ap, ap₂, subst, ◌∙◌, arith, ⊎_elim}
+use Rattle.std.proofs.Common.{eqb-true, length-append}
 use Rattle.std.proofs.Math.Seq.{take-length}
 use Rattle.std.proofs.lemmas.Bool.{or_cases}
 use Rattle.std.proofs.lemmas.List.{map_push}
@@ -27,19 +29,22 @@ use Rattle.ccsl_state.specs.Tree.{bumped, Tree, formula_of}
 use Rattle.ccsl_state.specs.Layout.{count_of}
 use Rattle.ccsl_state.specs.States.{trees_in, next_all, deaths_from, derived_in, tree_after, trees_from, trees_after, opened_all}
 use Rattle.ccsl_state.specs.Below.{TreeBelow, TreesBelow}
-use Rattle.ccsl_state.specs.Held.{Held, trees_of, is_dead, derived_by, counts_of, left_count, right_count, counted_formula, tree_or_constraint, formula_in, Advances, StandsFor}
+use Rattle.ccsl_state.specs.Held.{Held, trees_of, is_dead, derived_by, counts_of, left_count, right_count, counted_formula, tree_or_constraint, formula_in}
+use Rattle.ccsl_state.specs.Held.{Advances, StandsFor}
 use Rattle.ccsl_state.proofs.BelowLaws.{tree_reads}
 use Rattle.ccsl_state.proofs.StateLaws.{states_opened, states_step, states_dead, states_mean, states_derive}
 use Rattle.ccsl_kernel.specs.Table.{Now}
 
 -- the tree of a definition after a list of steps
-get_tree : (K : System) (T : List Step) (x : ℕ) (es : List Expression) (i : ℕ) → slice_get (trees_from K T x es) i ≡ option_map (tree_after K T (x + i)) (slice_get es i)
+get_tree : (K : System) (T : List Step) (x : ℕ) (es : List Expression) (i : ℕ)
+    → slice_get (trees_from K T x es) i ≡ option_map (tree_after K T (x + i)) (slice_get es i)
 get_tree K T x [] i = refl
 get_tree K T x (e ∷ es) zero = ap (λ k. Some (tree_after K T k e)) (omega arith)
 get_tree K T x (e ∷ es) (suc i) = get_tree K T (suc x) es i ∙ ap (λ k. option_map (tree_after K T k) (slice_get es i)) (omega arith)
 
 -- a clock's count in one step more
-count_more : (T : List Step) (s : Step) (x : ℕ) → length T < 2 ^ 64 - 1 → clock_count (T ++ s ∷ []) x (length (T ++ s ∷ [])) ≡ bumped (ticks_in x s) (clock_count T x (length T))
+count_more : (T : List Step) (s : Step) (x : ℕ) → length T < 2 ^ 64 - 1
+    → clock_count (T ++ s ∷ []) x (length (T ++ s ∷ [])) ≡ bumped (ticks_in x s) (clock_count T x (length T))
 count_more T s x few =
     ap (λ U. count (map (ticks_in x) U)) (take-length (T ++ s ∷ []))
     ∙ ap count (map_push (ticks_in x) T s)
@@ -85,7 +90,8 @@ module _ (h : Held) (ok : IsAccepted h.system) where
         ∙ ap (tree_or_constraint h i) (get_tree h.system T h.system.declared h.system.definitions i)
         ∙ on (slice_get h.system.definitions i) refl
       where
-        counted : (j : ℕ) (o : Option Constraint) → slice_get h.system.constraints j ≡ o → counted_formula (left_count h j) (right_count h j) o ≡ constraint_or_true T (length T) o
+        counted : (j : ℕ) (o : Option Constraint) → slice_get h.system.constraints j ≡ o
+            → counted_formula (left_count h j) (right_count h j) o ≡ constraint_or_true T (length T) o
         counted j None at = refl
         counted j (Some c) at = let r = stands.counts j c at in ap₂ (relation_formula c.kind c.left c.right) r.0 r.1
 
@@ -101,7 +107,8 @@ module _ (h : Held) (ok : IsAccepted h.system) where
     stands_derived s = ap (λ ts. derived_in ts h.system.declared s) stands.trees ∙ states_derive h.system (accepted_guarded h.system ok) T s few
 
     -- THE DEATHS
-    pub stands_dead : (i : ℕ) (e : Expression) → definition_of h.system (h.system.declared + i) ≡ Some e → is_dead h i ≡ dead_at h.system T (h.system.declared + i) e [] 0 (length T)
+    pub stands_dead : (i : ℕ) (e : Expression) → definition_of h.system (h.system.declared + i) ≡ Some e
+        → is_dead h i ≡ dead_at h.system T (h.system.declared + i) e [] 0 (length T)
     stands_dead i e is =
         ap (λ ts. ticks_in (h.system.declared + i) (deaths_from [] h.system.declared ts)) stands.trees
         ∙ states_dead h.system (accepted_guarded h.system ok) T i e few is (slice_get_within h.system.definitions i e (definitions-are h.system i ∙ is))
@@ -149,22 +156,27 @@ module _ (h : Held) (ok : IsAccepted h.system) where
   relation_reads X Excludes a b m n p q = (p, q)
   relation_reads X Precedes a b m n p q = if_reads X (nat_eq m n) (FNot (FVar b)) q
   relation_reads X PrecedesWeakly a b m n p q = if_reads X (nat_eq m n) (FOr (FNot (FVar b)) (FVar a)) (q, p)
-  relation_reads X (PrecedesWithin k) a b m n p q = (if_reads X (nat_eq m n) (FNot (FVar b)) q, if_reads X (nat_le (n + k) m) (FOr (FNot (FVar a)) (FVar b)) (p, q))
+  relation_reads X (PrecedesWithin k) a b m n p q =
+      (if_reads X (nat_eq m n) (FNot (FVar b)) q, if_reads X (nat_le (n + k) m) (FOr (FNot (FVar a)) (FVar b)) (p, q))
 
   tree_at : (x : ℕ) (ts : List Tree) (i : ℕ) (t : Tree) → TreesBelow x ts → slice_get ts i ≡ Some t → TreeBelow (x + i) t
   tree_at x [] i t b at = let z : ⊥ = cc in absurd z
   tree_at x (t' ∷ ts) zero t b at = let same : t' ≡ t = cc in subst (λ k. TreeBelow k t) (omega arith) (subst (TreeBelow x) same b.0)
   tree_at x (t' ∷ ts) (suc i) t b at = subst (λ k. TreeBelow k t) (omega arith) (tree_at (suc x) ts i t b.1 at)
 
-  pub formula_below : TreesBelow h.system.declared (trees_of h) → length (trees_of h) ≡ length h.system.definitions → (i : ℕ) → ReadsBelow (length h.system.names) (formula_in h i)
+  pub formula_below : TreesBelow h.system.declared (trees_of h) → length (trees_of h) ≡ length h.system.definitions → (i : ℕ)
+      → ReadsBelow (length h.system.names) (formula_in h i)
   formula_below below same i = on (slice_get (trees_of h) i) refl
     where
-      constraint : (j : ℕ) (o : Option Constraint) → slice_get h.system.constraints j ≡ o → ReadsBelow (length h.system.names) (counted_formula (left_count h j) (right_count h j) o)
+      constraint : (j : ℕ) (o : Option Constraint) → slice_get h.system.constraints j ≡ o
+          → ReadsBelow (length h.system.names) (counted_formula (left_count h j) (right_count h j) o)
       constraint j None at = reads_only (length h.system.names) FTrue tt
       constraint j (Some c) at =
           let is = ok.constraints j c (slice_get_within h.system.constraints j c at) in
-          let known : IsConstraint (length h.system.names) c = subst (IsConstraint (length h.system.names)) (get_or_from_slice_get h.system.constraints j c c at) is in
-          reads_only (length h.system.names) (relation_formula c.kind c.left c.right (left_count h j) (right_count h j)) (relation_reads (length h.system.names) c.kind c.left c.right (left_count h j) (right_count h j) known.0 known.1)
+          let known : IsConstraint (length h.system.names) c =
+          subst (IsConstraint (length h.system.names)) (get_or_from_slice_get h.system.constraints j c c at) is in
+          reads_only (length h.system.names) (relation_formula c.kind c.left c.right (left_count h j) (right_count h j))
+          (relation_reads (length h.system.names) c.kind c.left c.right (left_count h j) (right_count h j) known.0 known.1)
 
       on : (o : Option Tree) → slice_get (trees_of h) i ≡ o → ReadsBelow (length h.system.names) (tree_or_constraint h i o)
       on None at = constraint (i - length h.system.definitions) (slice_get h.system.constraints (i - length h.system.definitions)) refl
@@ -172,6 +184,9 @@ module _ (h : Held) (ok : IsAccepted h.system) where
           let within = slice_get_within (trees_of h) i t at in
           let all = ok.defined in
           ⊎_elim
-          (λ (e : nat_eq v (h.system.declared + i) ≡ true). let same_clock = eqb-true v (h.system.declared + i) e in omega (arith, within, all, same, same_clock))
-          (λ (e : reads (formula_of t) v ≡ true). let low = reads_only (h.system.declared + i) (formula_of t) (tree_reads (h.system.declared + i) t (tree_at h.system.declared (trees_of h) i t below at)) v e in omega (arith, within, all, same, low))
+          (λ (e : nat_eq v (h.system.declared + i) ≡ true). let same_clock =
+          eqb-true v (h.system.declared + i) e in omega (arith, within, all, same, same_clock))
+          (λ (e : reads (formula_of t) v ≡ true). let low =
+          reads_only (h.system.declared + i) (formula_of t) (tree_reads (h.system.declared + i) t (tree_at h.system.declared (trees_of h) i t below at)) v
+          e in omega (arith, within, all, same, low))
           (or_cases (nat_eq v (h.system.declared + i)) (reads (formula_of t) v) r)

@@ -1,5 +1,6 @@
 -- The trees of a system after one more step, and that they give the meaning.
-use Rattle.std.proofs.Common.{◌≡◌, ℕ, zero, suc, ◌+◌, ◌-◌, ◌<◌, ◌≤◌, ⊎_elim, List, [], ◌∷◌, ◌++◌, length, Bool, true, false, Some, None, slice_get, nat_eq, ◌&&◌, ◌||◌, if◌then◌else◌, refl, sym, ap, ap₂, ◌∙◌, arith, length-append, eq-eqb, lt-ltb}
+use Rattle.std.proofs.Common.{◌≡◌, ℕ, zero, suc, ◌+◌, ◌-◌, ◌<◌, ◌≤◌, ⊎_elim, List, [], ◌∷◌, ◌++◌, length, Bool, true, false, Some, None, slice_get, nat_eq}
+use Rattle.std.proofs.Common.{◌&&◌, ◌||◌, if◌then◌else◌, refl, sym, ap, ap₂, ◌∙◌, arith, length-append, eq-eqb, lt-ltb}
 use Rattle.std.proofs.lemmas.Bool.{cases_eq, ne_eqb}
 use mathlib.Core.Path.{fun_ext}
 use Rattle.ccsl_base.specs.Clocks.{ticks_in, with_clock}
@@ -54,15 +55,18 @@ module _ (K : System) (ok : IsGuarded K) where
   table-past T n zero y l = refl
   table-past T n (suc x) y l =
       put_ticks (definition_dead K T (dead_below K T x) n (definition_of K x)) x y (table T n x)
-      ∙ ap₂ (λ e b. (e && definition_dead K T (dead_below K T x) n (definition_of K x)) || b) (ne_eqb y x (λ e. let z : ⊥ = omega (arith, e, l) in z)) (table-past T n x y (omega (arith, l)))
+      ∙ ap₂ (λ e b. (e && definition_dead K T (dead_below K T x) n (definition_of K x)) || b) (ne_eqb y x (λ e. let z : ⊥ = omega (arith, e, l) in z))
+      (table-past T n x y (omega (arith, l)))
 
   pub table-reads : (T : List Step) (n x y : ℕ) → gone_in (table T n x) y ≡ dead_below K T x n y
   table-reads T n zero y = refl
   table-reads T n (suc x) y =
       put_ticks here x y (table T n x)
       ∙ ⊎_elim
-      (λ (e : y ≡ x). ap₂ (λ t b. (t && here) || b) (eq-eqb y x e) (table-past T n x y (omega (arith, e))) ∙ or_false here ∙ sym (ap (λ t. choice t here (dead_below K T x n y)) (eq-eqb y x e)))
-      (λ (ne : y ≡ x → ⊥). ap₂ (λ t b. (t && here) || b) (ne_eqb y x ne) (table-reads T n x y) ∙ sym (ap (λ t. choice t here (dead_below K T x n y)) (ne_eqb y x ne)))
+      (λ (e : y ≡ x). ap₂ (λ t b. (t && here) || b) (eq-eqb y x e) (table-past T n x y (omega (arith, e))) ∙ or_false here
+      ∙ sym (ap (λ t. choice t here (dead_below K T x n y)) (eq-eqb y x e)))
+      (λ (ne : y ≡ x → ⊥). ap₂ (λ t b. (t && here) || b) (ne_eqb y x ne) (table-reads T n x y)
+      ∙ sym (ap (λ t. choice t here (dead_below K T x n y)) (ne_eqb y x ne)))
       (cases_eq y x)
     where
       here : Bool
@@ -81,7 +85,8 @@ module _ (K : System) (ok : IsGuarded K) where
       ∙ grown-suc K T' (dead_below K T' x) (opening K e []) 0 (length T) (omega arith)
       ∙ ap₂ (λ s t. next K s (dead_below K T' x (suc (length T))) t) (step_at-last T s)
       (grown_same K T' T (dead_below K T' x) (dead_below K T x) (opening K e []) 0 (length T) (omega arith) (λ i l. step_at-front T s i l)
-      (λ i l. fun_ext (λ y. dead_below-same K ok T' T (length T) (omega (arith, length-append T (s ∷ []))) (omega arith) (λ i l. step_at-front T s i l) x i y l)))
+      (λ i l. fun_ext (λ y. dead_below-same K ok T' T (length T) (omega (arith, length-append T (s ∷ []))) (omega arith) (λ i l. step_at-front T s i l) x i y
+      l)))
 
   pub length-step : (T : List Step) (s : Step) → length (T ++ s ∷ []) ≡ suc (length T)
   length-step T s = omega (arith, length-append T (s ∷ []))
@@ -90,7 +95,8 @@ module _ (K : System) (ok : IsGuarded K) where
   pub tree_dead : (T : List Step) (x : ℕ) (e : Expression) → length T ≤ most → definition_of K x ≡ Some e →
       dead_of (dead_below K T x (length T)) (tree_after K T x e) ≡ definition_dead K T (dead_below K T x) (length T) (definition_of K x)
   tree_dead T x e few is =
-      ap (λ (now : Now). now.dead) (tree_theorem K ok.bodies T (dead_below K T x) e [] 0 (length T) few (definition_allowed K ok x e is) (omega arith) (omega arith))
+      ap (λ (now : Now). now.dead)
+      (tree_theorem K ok.bodies T (dead_below K T x) e [] 0 (length T) few (definition_allowed K ok x e is) (omega arith) (omega arith))
       ∙ ap (definition_dead K T (dead_below K T x) (length T)) (sym is)
 
   -- the trees of the definitions from clock x on
@@ -115,7 +121,9 @@ module _ (K : System) (ok : IsGuarded K) where
       is : definition_of K x ≡ Some e
       is = sym (h 0 ∙ ap (definition_of K) (omega arith))
 
-      dies : put (dead_of (gone_in (table (T ++ s ∷ []) (length (T ++ s ∷ [])) x)) (next K s (gone_in (table (T ++ s ∷ []) (length (T ++ s ∷ [])) x)) (tree_after K T x e))) x (table (T ++ s ∷ []) (length (T ++ s ∷ [])) x) ≡ table (T ++ s ∷ []) (length (T ++ s ∷ [])) (suc x)
+      dies : put (dead_of (gone_in (table (T ++ s ∷ []) (length (T ++ s ∷ [])) x))
+          (next K s (gone_in (table (T ++ s ∷ []) (length (T ++ s ∷ [])) x)) (tree_after K T x e))) x (table (T ++ s ∷ []) (length (T ++ s ∷ [])) x) ≡ table
+          (T ++ s ∷ []) (length (T ++ s ∷ [])) (suc x)
       dies =
           ap (λ v. put v x (table (T ++ s ∷ []) (length (T ++ s ∷ [])) x))
           (ap₂ (λ g t. dead_of g t) reads here ∙ tree_dead (T ++ s ∷ []) x e few is)
@@ -126,7 +134,8 @@ module _ (K : System) (ok : IsGuarded K) where
   deaths-from T x [] few h = ap (table T (length T)) (let e : x ≡ x + 0 = omega arith in e)
   deaths-from T x (e ∷ es) few h =
       ap (λ known. deaths_from known (suc x) (trees_from K T (suc x) es))
-      (ap (λ v. put v x (table T (length T) x)) (ap (λ g. dead_of g (tree_after K T x e)) (fun_ext (table-reads T (length T) x)) ∙ tree_dead T x e few (sym (h 0 ∙ ap (definition_of K) (let z : x + 0 ≡ x = omega arith in z)))))
+      (ap (λ v. put v x (table T (length T) x)) (ap (λ g. dead_of g (tree_after K T x e)) (fun_ext (table-reads T (length T) x))
+      ∙ tree_dead T x e few (sym (h 0 ∙ ap (definition_of K) (let z : x + 0 ≡ x = omega arith in z)))))
       ∙ deaths-from T (suc x) es few (λ j. h (suc j) ∙ ap (definition_of K) (let z : x + suc j ≡ suc x + j = omega arith in z))
       ∙ ap (table T (length T)) (let z : suc x + length es ≡ x + suc (length es) = omega arith in z)
 
@@ -134,7 +143,8 @@ module _ (K : System) (ok : IsGuarded K) where
   pub table-declared : (T : List Step) (n x : ℕ) → x ≤ K.declared → table T n x ≡ []
   table-declared T n zero l = refl
   table-declared T n (suc x) l =
-      ap₂ (λ v s. put v x s) (ap (definition_dead K T (dead_below K T x) n) (ap (λ t. if t then None else slice_get K.definitions (x - K.declared)) (lt-ltb x K.declared l))) (table-declared T n x (omega arith))
+      ap₂ (λ v s. put v x s) (ap (definition_dead K T (dead_below K T x) n)
+      (ap (λ t. if t then None else slice_get K.definitions (x - K.declared)) (lt-ltb x K.declared l))) (table-declared T n x (omega arith))
 
   -- THE STEP OF THE STATES: the trees after one more step are the next trees
   pub states_step : (T : List Step) (s : Step) → length (T ++ s ∷ []) ≤ most → next_all K s [] K.declared (trees_after K T) ≡ trees_after K (T ++ s ∷ [])
@@ -163,7 +173,8 @@ module _ (K : System) (ok : IsGuarded K) where
 
   -- THE STATES GIVE THE MEANING of each definition
   pub states_mean : (T : List Step) (x : ℕ) (e : Expression) → length T ≤ most → definition_of K x ≡ Some e →
-      (let N : Now = record { formula = formula_of (tree_after K T x e); dead = dead_of (dead_below K T x (length T)) (tree_after K T x e) } in N) ≡ meaning K T x e [] 0 (length T)
+      (let N : Now = record { formula = formula_of (tree_after K T x e); dead = dead_of (dead_below K T x (length T)) (tree_after K T x e) } in N) ≡ meaning K T
+      x e [] 0 (length T)
   states_mean T x e few is = tree_theorem K ok.bodies T (dead_below K T x) e [] 0 (length T) few (definition_allowed K ok x e is) (omega arith) (omega arith)
 
   -- THE DERIVED STEP is the full step
@@ -174,7 +185,8 @@ module _ (K : System) (ok : IsGuarded K) where
       let is : definition_of K x ≡ Some e = sym (h 0 ∙ ap (definition_of K) (let z : x + 0 ≡ x = omega arith in z)) in
       ap (λ f. derived_in (trees_from K T (suc x) es) (suc x) (put (eval f s) x s)) (ap (λ (now : Now). now.formula) (states_mean T x e few is))
       ∙ ap (derived_in (trees_from K T (suc x) es) (suc x)) (put_if (eval (formula_at K T x e [] 0 (length T)) s) x s)
-      ∙ derived-from T (suc x) (if eval (formula_at K T x e [] 0 (length T)) s then with_clock x s else s) es few (λ j. h (suc j) ∙ ap (definition_of K) (let z : x + suc j ≡ suc x + j = omega arith in z))
+      ∙ derived-from T (suc x) (if eval (formula_at K T x e [] 0 (length T)) s then with_clock x s else s) es few
+      (λ j. h (suc j) ∙ ap (definition_of K) (let z : x + suc j ≡ suc x + j = omega arith in z))
     where
       put_if : (t : Bool) (x : ℕ) (s : Step) → put t x s ≡ (if t then with_clock x s else s)
       put_if true x s = refl

@@ -1,5 +1,6 @@
 -- The table of the cells of calls is enough.
-use Rattle.std.proofs.Common.{◌≡◌, ℕ, zero, suc, ◌+◌, ◌*◌, ◌<◌, ◌≤◌, List, [], ◌∷◌, ◌++◌, length, take, map, max, sum, slice_get, slice_index, Some, None, refl, sym, ap, ap₂, subst, ◌∙◌, arith, length-append, append_assoc}
+use Rattle.std.proofs.Common.{◌≡◌, ℕ, zero, suc, ◌+◌, ◌*◌, ◌<◌, ◌≤◌, List, [], ◌∷◌, ◌++◌, length, take, map, max, sum, slice_get, slice_index, Some, None, refl}
+use Rattle.std.proofs.Common.{sym, ap, ap₂, subst, ◌∙◌, arith, length-append, append_assoc}
 use Rattle.std.proofs.lemmas.List.{append-nil}
 use Rattle.std.proofs.Math.Seq.{take-append_seam}
 use Rattle.std.proofs.lemmas.List.Sums.{sum_by-cons}
@@ -81,14 +82,16 @@ table_enough K g l =
           let member : slice_get has.0 m ≡ Some b = sym (ap (λ o. elim o [ None ↦ None | Some members ↦ slice_get members m ]) has.1) ∙ is in
           let p = greatest_at (λ (b : Body). length b.params) has.0 m b member in
           let q = greatest_at (λ (b : Body). cells_in (take g full) b.root) has.0 m b member in
-          let c : saturated (cells_in (take g (map saturated full)) b.root) ≡ saturated (cells_in (take g full) b.root) = ap (λ ns. saturated (cells_in ns b.root)) (map_take g full) ∙ capped_cells_in (take g full) b.root in
+          let c : saturated (cells_in (take g (map saturated full)) b.root) ≡ saturated (cells_in (take g full) b.root) =
+          ap (λ ns. saturated (cells_in ns b.root)) (map_take g full) ∙ capped_cells_in (take g full) b.root in
           omega (arith, entry, at, p, q, c),
     )
 
 -- and the cells of all definitions by it are no more than the system's
 sum_is : (earlier : List ℕ) (es : List Expression) → cells_from earlier es ≡ sum (map (cells_in earlier) es)
 sum_is earlier [] = refl
-sum_is earlier (e ∷ es) = ap (λ n. cells_in earlier e + n) (sum_is earlier es) ∙ sym (sum_by-cons (λ (x : ℕ). x) (cells_in earlier e) (map (cells_in earlier) es))
+sum_is earlier (e ∷ es) =
+    ap (λ n. cells_in earlier e + n) (sum_is earlier es) ∙ sym (sum_by-cons (λ (x : ℕ). x) (cells_in earlier e) (map (cells_in earlier) es))
 
 pub table_room : (K : System) → IsAccepted K → cells_from (map saturated (groups_cells [] K.groups)) K.definitions + 2 * length K.constraints ≤ cells K
 table_room K ok =

@@ -1,5 +1,6 @@
 -- The state tree follows the meaning: its life obeys each row of the table, and so is the meaning.
-use Rattle.std.proofs.Common.{◌≡◌, ℕ, zero, suc, ◌≤◌, List, [], ◌∷◌, ◌++◌, find, length, replicate, Bool, true, false, Option, Some, None, refl, sym, ap, ap₂, ◌∙◌, arith, nat_le, le-leb, if◌then◌else◌, length-append}
+use Rattle.std.proofs.Common.{◌≡◌, ℕ, zero, suc, ◌≤◌, List, [], ◌∷◌, ◌++◌, find, length, replicate, Bool, true, false, Option, Some, None, refl, sym, ap, ap₂}
+use Rattle.std.proofs.Common.{◌∙◌, arith, nat_le, le-leb, if◌then◌else◌, length-append}
 use Rattle.std.proofs.lemmas.Bool.{lt-leb}
 use Rattle.ccsl_kernel.specs.declared.expr.ExprOp.{ExprOp}
 use Rattle.ccsl_kernel.specs.declared.actual.Actual.{Actual}
@@ -7,7 +8,8 @@ use Rattle.ccsl_kernel.specs.declared.expr.ExprOp.TheVariants as op
 use Rattle.ccsl_kernel.specs.declared.actual.Actual.TheVariants as actual
 use Rattle.ccsl_kernel.specs.Syntax.{Expression, EBinary, System}
 use Rattle.ccsl_kernel.specs.Actuals.{place_of, number_of, suffix_of, test_of, word_of}
-use Rattle.ccsl_kernel.specs.Table.{Now, Operand, union_row, inter_row, minus_row, inf_row, sup_row, upto_row, upto_weakly_row, sampled_row, sampled_weakly_row, delay_row, await_row, filter_row, delayed_row}
+use Rattle.ccsl_kernel.specs.Table.{Now, Operand, union_row, inter_row, minus_row, inf_row, sup_row, upto_row, upto_weakly_row, sampled_row, sampled_weakly_row}
+use Rattle.ccsl_kernel.specs.Table.{delay_row, await_row, filter_row, delayed_row}
 use Rattle.ccsl_kernel.specs.Lives.{Step, steps, step_at, ticks_at, over_one, over_two, end_of, at_end, followed_by, joined}
 use Rattle.ccsl_kernel.specs.Meaning.{named, life_given}
 use Rattle.ccsl_kernel.specs.Guarded.{IsAllowed}
@@ -16,10 +18,12 @@ use Rattle.ccsl_kernel.specs.Rows.{IsTable, CallsAreBodies}
 use Rattle.ccsl_kernel.proofs.Steps.{steps-suc, steps-empty, find-steps-suc, find-within, from_birth, or_else, if_at}
 use Rattle.ccsl_kernel.proofs.Agree.{unique}
 use Rattle.ccsl_kernel.proofs.TableHolds.{meaning_rows, meaning_calls}
-use Rattle.ccsl_state.specs.Tree.{most, leaf, Tree, TName, TNever, TOne, TTwo, TThen, One, Two, Delaying, Awaiting, Filtering, Uniting, Meeting, Lessening, Leading, Trailing, Ending, EndingWeakly, Sampling, SamplingWeakly, Lagging, opening, then_or_right, next, formula_of, dead_of}
+use Rattle.ccsl_state.specs.Tree.{most, leaf, Tree, TName, TNever, TOne, TTwo, TThen, One, Two, Delaying, Awaiting, Filtering, Uniting, Meeting, Lessening}
+use Rattle.ccsl_state.specs.Tree.{Leading, Trailing, Ending, EndingWeakly, Sampling, SamplingWeakly, Lagging, opening, then_or_right, next, formula_of, dead_of}
 use Rattle.ccsl_state.specs.Grown.{grown, life_of, grown_meaning}
 use Rattle.ccsl_state.proofs.Opening.{opening_call}
-use Rattle.ccsl_state.proofs.Keeping.{one_after, two_after, one_after-snoc, two_after-snoc, IsOne, IsTwo, await_is, delay_is, filter_is, union_is, inter_is, minus_is, inf_is, sup_is, upto_is, upto_weakly_is, sampled_is, sampled_weakly_is, delayed_is}
+use Rattle.ccsl_state.proofs.Keeping.{one_after, two_after, one_after-snoc, two_after-snoc, IsOne, IsTwo, await_is, delay_is, filter_is, union_is, inter_is}
+use Rattle.ccsl_state.proofs.Keeping.{minus_is, inf_is, sup_is, upto_is, upto_weakly_is, sampled_is, sampled_weakly_is, delayed_is}
 
 -- so many steps at most
 steps_len : (b n : ℕ) → length (steps b n) ≤ n
@@ -45,47 +49,59 @@ module _ (K : System) (T : List Step) (gone : ℕ → ℕ → Bool) where
   pub grown-one : (o : One) (a : Tree) (b n : ℕ) → b ≤ n → grown K T gone (TOne o a) b n ≡ TOne (one_after o (tick a b) (steps b n)) (grown K T gone a b n)
   grown-one o a b n l =
       from_birth (λ n. grown K T gone (TOne o a) b n ≡ TOne (one_after o (tick a b) (steps b n)) (grown K T gone a b n)) b
-      (grown-first (TOne o a) b b (omega arith) ∙ ap₂ TOne (ap (one_after o (tick a b)) (sym (steps-empty b b (omega arith)))) (sym (grown-first a b b (omega arith))))
+      (grown-first (TOne o a) b b (omega arith) ∙ ap₂ TOne (ap (one_after o (tick a b)) (sym (steps-empty b b (omega arith))))
+      (sym (grown-first a b b (omega arith))))
       (λ n l ih.
       grown-suc (TOne o a) b n l
       ∙ ap (next K (step_at T n) (gone (suc n))) ih
       ∙ ap₂ TOne (sym (ap (one_after o (tick a b)) (steps-suc b n l) ∙ one_after-snoc o (tick a b) (steps b n) n)) (sym (grown-suc a b n l)))
       n l
 
-  pub grown-two : (o : Two) (a d : Tree) (b n : ℕ) → b ≤ n → grown K T gone (TTwo o a d) b n ≡ TTwo (two_after o (tick a b) (tick d b) (steps b n)) (grown K T gone a b n) (grown K T gone d b n)
+  pub grown-two : (o : Two) (a d : Tree) (b n : ℕ) → b ≤ n
+      → grown K T gone (TTwo o a d) b n ≡ TTwo (two_after o (tick a b) (tick d b) (steps b n)) (grown K T gone a b n) (grown K T gone d b n)
   grown-two o a d b n l =
       from_birth (λ n. grown K T gone (TTwo o a d) b n ≡ TTwo (two_after o (tick a b) (tick d b) (steps b n)) (grown K T gone a b n) (grown K T gone d b n)) b
       (grown-first (TTwo o a d) b b (omega arith)
       ∙ ap (λ is. TTwo (two_after o (tick a b) (tick d b) is) a d) (sym (steps-empty b b (omega arith)))
-      ∙ ap₂ (λ a' d'. TTwo (two_after o (tick a b) (tick d b) (steps b b)) a' d') (sym (grown-first a b b (omega arith))) (sym (grown-first d b b (omega arith))))
+      ∙ ap₂ (λ a' d'. TTwo (two_after o (tick a b) (tick d b) (steps b b)) a' d') (sym (grown-first a b b (omega arith)))
+      (sym (grown-first d b b (omega arith))))
       (λ n l ih.
       grown-suc (TTwo o a d) b n l
       ∙ ap (next K (step_at T n) (gone (suc n))) ih
-      ∙ ap (λ o'. TTwo o' (next K (step_at T n) (gone (suc n)) (grown K T gone a b n)) (next K (step_at T n) (gone (suc n)) (grown K T gone d b n))) (sym (ap (two_after o (tick a b) (tick d b)) (steps-suc b n l) ∙ two_after-snoc o (tick a b) (tick d b) (steps b n) n))
+      ∙ ap (λ o'. TTwo o' (next K (step_at T n) (gone (suc n)) (grown K T gone a b n)) (next K (step_at T n) (gone (suc n)) (grown K T gone d b n)))
+      (sym (ap (two_after o (tick a b) (tick d b)) (steps-suc b n l) ∙ two_after-snoc o (tick a b) (tick d b) (steps b n) n))
       ∙ ap₂ (λ a' d'. TTwo (two_after o (tick a b) (tick d b) (steps b (suc n))) a' d') (sym (grown-suc a b n l)) (sym (grown-suc d b n l)))
       n l
 
   abbrev now_of : ℕ → Tree → Now
   now_of n t = record { formula = formula_of t; dead = dead_of (gone n) t }
 
-  one_life : (o : One) (row : Operand → Now) → IsOne o row → (a : Tree) (b n : ℕ) → b ≤ n → n ≤ most → life_of K T gone (TOne o a) b n ≡ over_one T row (life_of K T gone a) b n
-  one_life o row h a b n l u = ap (now_of n) (grown-one o a b n l) ∙ h.at (tick a b) (steps b n) (formula_of (grown K T gone a b n)) (dead_of (gone n) (grown K T gone a b n)) (let s = steps_len b n in omega arith)
+  one_life : (o : One) (row : Operand → Now) → IsOne o row → (a : Tree) (b n : ℕ) → b ≤ n → n ≤ most
+      → life_of K T gone (TOne o a) b n ≡ over_one T row (life_of K T gone a) b n
+  one_life o row h a b n l u =
+      ap (now_of n) (grown-one o a b n l) ∙ h.at (tick a b) (steps b n) (formula_of (grown K T gone a b n)) (dead_of (gone n) (grown K T gone a b n)) (let s =
+      steps_len b n in omega arith)
 
-  two_life : (o : Two) (row : Operand → Operand → Now) → IsTwo o row → (a d : Tree) (b n : ℕ) → b ≤ n → n ≤ most → life_of K T gone (TTwo o a d) b n ≡ over_two T row (life_of K T gone a) (life_of K T gone d) b n
-  two_life o row h a d b n l u = ap (now_of n) (grown-two o a d b n l) ∙ h.at (tick a b) (tick d b) (steps b n) (formula_of (grown K T gone a b n)) (formula_of (grown K T gone d b n)) (dead_of (gone n) (grown K T gone a b n)) (dead_of (gone n) (grown K T gone d b n)) (let s = steps_len b n in omega arith)
+  two_life : (o : Two) (row : Operand → Operand → Now) → IsTwo o row → (a d : Tree) (b n : ℕ) → b ≤ n → n ≤ most
+      → life_of K T gone (TTwo o a d) b n ≡ over_two T row (life_of K T gone a) (life_of K T gone d) b n
+  two_life o row h a d b n l u =
+      ap (now_of n) (grown-two o a d b n l) ∙ h.at (tick a b) (tick d b) (steps b n) (formula_of (grown K T gone a b n)) (formula_of (grown K T gone d b n))
+      (dead_of (gone n) (grown K T gone a b n)) (dead_of (gone n) (grown K T gone d b n)) (let s = steps_len b n in omega arith)
 
   -- the step at which a state dies, seen at one more step
   end-first : (a : Tree) (b : ℕ) → end_of (life_of K T gone a) b b ≡ None
   end-first a b = ap (find _) (steps-empty (suc b) (suc b) (omega arith))
 
-  end-suc : (a : Tree) (b n : ℕ) → b ≤ n → end_of (life_of K T gone a) b (suc n) ≡ or_else (end_of (life_of K T gone a) b n) (if_at (dead_of (gone (suc n)) (grown K T gone a b (suc n))) (suc n))
+  end-suc : (a : Tree) (b n : ℕ) → b ≤ n
+      → end_of (life_of K T gone a) b (suc n) ≡ or_else (end_of (life_of K T gone a) b n) (if_at (dead_of (gone (suc n)) (grown K T gone a b (suc n))) (suc n))
   end-suc a b n l = find-steps-suc _ (suc b) (suc n) (omega arith)
 
   -- a then is its left operand until that dies, and its right operand from then on
   pub grown-then : (a : Tree) (d : Expression) (ρ : List Actual) (b n : ℕ) → b ≤ n →
       grown K T gone (TThen a d ρ) b n ≡ at_end (end_of (life_of K T gone a) b n) (TThen (grown K T gone a b n) d ρ) (λ k. grown K T gone (opening K d ρ) k n)
   grown-then a d ρ b n l =
-      from_birth (λ n. grown K T gone (TThen a d ρ) b n ≡ at_end (end_of (life_of K T gone a) b n) (TThen (grown K T gone a b n) d ρ) (λ k. grown K T gone (opening K d ρ) k n)) b
+      from_birth (λ n. grown K T gone (TThen a d ρ) b n ≡ at_end (end_of (life_of K T gone a) b n) (TThen (grown K T gone a b n) d ρ)
+      (λ k. grown K T gone (opening K d ρ) k n)) b
       (grown-first (TThen a d ρ) b b (omega arith)
       ∙ ap (λ t. TThen t d ρ) (sym (grown-first a b b (omega arith)))
       ∙ ap (λ o. at_end o (TThen (grown K T gone a b b) d ρ) (λ k. grown K T gone (opening K d ρ) k b)) (sym (end-first a b)))
@@ -103,13 +119,15 @@ module _ (K : System) (T : List Step) (gone : ℕ → ℕ → Bool) where
 
       on : (n : ℕ) → b ≤ n → (o : Option ℕ) → end_of (life_of K T gone a) b n ≡ o →
           next K (step_at T n) (gone (suc n)) (at_end o (TThen (grown K T gone a b n) d ρ) (λ k. grown K T gone (opening K d ρ) k n))
-          ≡ at_end (or_else o (if_at (dead_of (gone (suc n)) (grown K T gone a b (suc n))) (suc n))) (TThen (grown K T gone a b (suc n)) d ρ) (λ k. grown K T gone (opening K d ρ) k (suc n))
+          ≡ at_end (or_else o (if_at (dead_of (gone (suc n)) (grown K T gone a b (suc n))) (suc n))) (TThen (grown K T gone a b (suc n)) d ρ)
+          (λ k. grown K T gone (opening K d ρ) k (suc n))
       on n l (Some k) e = let w = find-within _ (suc b) (suc n) k e in sym (grown-suc (opening K d ρ) k n (omega (arith, w.1)))
       on n l None e =
           ap (λ t. then_or_right K (dead_of (gone (suc n)) t) t d ρ) (sym (grown-suc a b n l))
           ∙ dies n (grown K T gone a b (suc n)) (dead_of (gone (suc n)) (grown K T gone a b (suc n)))
 
-  then_life : (a : Tree) (d : Expression) (ρ : List Actual) (b n : ℕ) → b ≤ n → life_of K T gone (TThen a d ρ) b n ≡ followed_by (life_of K T gone a) (life_of K T gone (opening K d ρ)) b n
+  then_life : (a : Tree) (d : Expression) (ρ : List Actual) (b n : ℕ) → b ≤ n
+      → life_of K T gone (TThen a d ρ) b n ≡ followed_by (life_of K T gone a) (life_of K T gone (opening K d ρ)) b n
   then_life a d ρ b n l = ap (now_of n) (grown-then a d ρ b n l) ∙ at (end_of (life_of K T gone a) b n)
     where
       at : (o : Option ℕ) →
@@ -119,10 +137,12 @@ module _ (K : System) (T : List Step) (gone : ℕ → ℕ → Bool) where
       at (Some k) = refl
 
   pub grown-name : (x : ℕ) (b n : ℕ) → b ≤ n → grown K T gone (TName x) b n ≡ TName x
-  grown-name x b n l = from_birth (λ n. grown K T gone (TName x) b n ≡ TName x) b (grown-first (TName x) b b (omega arith)) (λ n l ih. grown-suc (TName x) b n l ∙ ap (next K (step_at T n) (gone (suc n))) ih) n l
+  grown-name x b n l = from_birth (λ n. grown K T gone (TName x) b n ≡ TName x) b (grown-first (TName x) b b (omega arith))
+      (λ n l ih. grown-suc (TName x) b n l ∙ ap (next K (step_at T n) (gone (suc n))) ih) n l
 
   pub grown-never : (b n : ℕ) → b ≤ n → grown K T gone TNever b n ≡ TNever
-  grown-never b n l = from_birth (λ n. grown K T gone TNever b n ≡ TNever) b (grown-first TNever b b (omega arith)) (λ n l ih. grown-suc TNever b n l ∙ ap (next K (step_at T n) (gone (suc n))) ih) n l
+  grown-never b n l = from_birth (λ n. grown K T gone TNever b n ≡ TNever) b (grown-first TNever b b (omega arith))
+      (λ n l ih. grown-suc TNever b n l ∙ ap (next K (step_at T n) (gone (suc n))) ih) n l
 
   leaf_life : (v : Actual) (b n : ℕ) → b ≤ n → life_of K T gone (leaf v) b n ≡ named K T gone v b n
   leaf_life (actual.Clock x) b n l = ap (now_of n) (grown-name x b n l)
@@ -148,10 +168,16 @@ module _ (K : System) (T : List Step) (gone : ℕ → ℕ → Bool) where
     name = λ x ρ b n l u. leaf_life (place_of x ρ) b n l;
     never = λ ρ b n l u. ap (now_of n) (grown-never b n l);
     binary = λ o a d ρ b n l u. binary_life o a d ρ b n l (omega (arith, u, few));
-    delay = λ a m ρ b n l u. one_life (Delaying (number_of m ρ) 0) (delay_row (number_of m ρ)) (delay_is (number_of m ρ)) (opening K a ρ) b n l (omega (arith, u, few));
-    await = λ a m ρ b n l u. one_life (Awaiting (number_of m ρ) 0) (await_row (number_of m ρ)) (await_is (number_of m ρ)) (opening K a ρ) b n l (omega (arith, u, few));
-    filter = λ a w ρ b n l u. let s = suffix_of K.words w ρ in one_life (Filtering (word_of K.words s.word) s.offset) (filter_row (word_of K.words s.word) s.offset) (filter_is (word_of K.words s.word) s.offset) (opening K a ρ) b n l (omega (arith, u, few));
-    delayed = λ a m d ρ pos b n l u. two_life (Lagging m (replicate m false)) (delayed_row m) (delayed_is m pos) (opening K a ρ) (opening K d ρ) b n l (omega (arith, u, few));
+    delay = λ a m ρ b n l u. one_life (Delaying (number_of m ρ) 0) (delay_row (number_of m ρ)) (delay_is (number_of m ρ)) (opening K a ρ) b n l
+        (omega (arith, u, few));
+    await = λ a m ρ b n l u. one_life (Awaiting (number_of m ρ) 0) (await_row (number_of m ρ)) (await_is (number_of m ρ)) (opening K a ρ) b n l
+        (omega (arith, u, few));
+    filter = λ a w ρ b n l u. let s =
+        suffix_of K.words w ρ in
+        one_life (Filtering (word_of K.words s.word) s.offset) (filter_row (word_of K.words s.word) s.offset) (filter_is (word_of K.words s.word) s.offset)
+        (opening K a ρ) b n l (omega (arith, u, few));
+    delayed = λ a m d ρ pos b n l u. two_life (Lagging m (replicate m false)) (delayed_row m) (delayed_is m pos) (opening K a ρ) (opening K d ρ) b n l
+        (omega (arith, u, few));
     choice = λ q a d ρ b n l u. choose (test_of K.words q ρ) (opening K a ρ) (opening K d ρ) b n;
   }
     where
@@ -165,7 +191,9 @@ module _ (K : System) (guarded_bodies : AreGuarded K) where
   grown_calls T gone group member args ρ g b n l u = ap (λ t. life_of K T gone t b n) (opening_call K guarded_bodies group member args ρ g)
 
   -- THE STATE TREE GIVES THE MEANING: its formula and its death, at every step of every list that counts can hold
-  pub tree_theorem : (T : List Step) (gone : ℕ → ℕ → Bool) (e : Expression) (ρ : List Actual) (b n : ℕ) → length T ≤ most → IsAllowed K e → b ≤ n → n ≤ length T →
-      grown_meaning K T gone e ρ b n ≡ life_given K T gone e ρ b n
+  pub tree_theorem : (T : List Step) (gone : ℕ → ℕ → Bool) (e : Expression) (ρ : List Actual) (b n : ℕ) → length T ≤ most → IsAllowed K e → b ≤ n → n ≤ length T
+      → grown_meaning K T gone e ρ b n ≡ life_given K T gone e ρ b n
   tree_theorem T gone e ρ b n few ok_e l u =
-      (unique K T T (length T) (omega arith) (omega arith) (λ i h. refl) gone gone (λ n x h. refl) (grown_meaning K T gone) (life_given K T gone) (grown_rows K T gone few) (meaning_rows K T gone) guarded_bodies (grown_calls T gone) (meaning_calls K T gone guarded_bodies) e ρ b ok_e (omega (arith, l, u))).at n l u
+      (unique K T T (length T) (omega arith) (omega arith) (λ i h. refl) gone gone (λ n x h. refl) (grown_meaning K T gone) (life_given K T gone)
+      (grown_rows K T gone few) (meaning_rows K T gone) guarded_bodies (grown_calls T gone) (meaning_calls K T gone guarded_bodies) e ρ b ok_e
+      (omega (arith, l, u))).at n l u

@@ -1,5 +1,7 @@
 -- A STEP THAT VISITS ONLY WHAT HEARS SOMETHING: a definition that waits for its visit is untouched, and one that does not is done.
-use Rattle.std.proofs.Common.{◌≡◌, ℕ, zero, suc, ◌+◌, ◌<◌, ◌≤◌, ◌⊎◌, inl, inr, ⊎_elim, List, [], ◌∷◌, length, Bool, true, false, not, ◌&&◌, ◌||◌, Option, Some, None, slice_get, slice_set, slice_index_or, nat_eq, nat_lt, if◌then◌else◌, eq-eqb, lt-ltb, ltb-false, refl, sym, ap, ap₂, subst, ◌∙◌, arith}
+use Rattle.std.proofs.Common.{◌≡◌, ℕ, zero, suc, ◌+◌, ◌<◌, ◌≤◌, ◌⊎◌, inl, inr, ⊎_elim, List, [], ◌∷◌, length, Bool, true, false, not, ◌&&◌, ◌||◌, Option, Some}
+use Rattle.std.proofs.Common.{None, slice_get, slice_set, slice_index_or, nat_eq, nat_lt, if◌then◌else◌, eq-eqb, lt-ltb, ltb-false, refl, sym, ap, ap₂, subst}
+use Rattle.std.proofs.Common.{◌∙◌, arith}
 use Rattle.std.specs.List.{list_all}
 use Rattle.std.proofs.lemmas.Bool.{cases_eq, ne_eqb, and_parts, and_from, or_cases, ltb-true, cases_Bool, or_parts, not-false, both_ways}
 use Rattle.std.proofs.lemmas.Option.{slice_get_within}
@@ -81,7 +83,8 @@ pub record IsGoing (K : System) (F s gone₀ : List ℕ) (old : List Tree) (tree
   pub ascends : is_ascending step ≡ true
 
 -- A VISIT: told is whether something came of it that others may hear
-pub record IsVisit (K : System) (readers : List (List ℕ)) (trees trees' : List Tree) (step step' gone gone' waiting waiting' unsettled unsettled' : List ℕ) (j : ℕ) (tick dead settled told : Bool) : Type 0 where
+pub record IsVisit (K : System) (readers : List (List ℕ)) (trees trees' : List Tree) (step step' gone gone' waiting waiting' unsettled unsettled' : List ℕ)
+    (j : ℕ) (tick dead settled told : Bool) : Type 0 where
   pub trees_are : trees' ≡ slice_set trees j (next K step (gone_in gone) (tree_number trees j))
   pub tick_is : tick ≡ eval (formula_of (tree_number trees j)) step
   pub dead_is : dead ≡ dead_of (gone_in gone) (next K step (gone_in gone) (tree_number trees j))
@@ -90,7 +93,8 @@ pub record IsVisit (K : System) (readers : List (List ℕ)) (trees trees' : List
   pub step_is : step' ≡ put tick (K.declared + j) step
   pub gone_is : gone' ≡ put_clock (K.declared + j) dead gone
   pub unsettled_is : unsettled' ≡ put_clock j (not settled) unsettled
-  pub waiting_is : (p : ℕ) → ticks_in p waiting' ≡ ((ticks_in p waiting && not (nat_eq j p)) || (told && ticks_in p (slice_index_or readers (K.declared + j) [])))
+  pub waiting_is : (p : ℕ)
+      → ticks_in p waiting' ≡ ((ticks_in p waiting && not (nat_eq j p)) || (told && ticks_in p (slice_index_or readers (K.declared + j) [])))
 
 module _ (K : System) (ok : IsAccepted K) (F : List ℕ) where
   pub reads_below : (i y : ℕ) → reads K i y ≡ true → y < K.declared + i
@@ -116,8 +120,10 @@ module _ (K : System) (ok : IsAccepted K) (F : List ℕ) where
     no_reader i y followed h = are.tell y i ∙ ap₂ (λ b c. b && c) followed.1 h
 
     module _ (s gone₀ : List ℕ) (old : List Tree) (within : (i : ℕ) → IsFollowed K F i → TreeWithin (λ y. reads K i y ≡ true) (tree_number old i)) where
-      module _ (trees trees' : List Tree) (step step' gone gone' waiting waiting' unsettled unsettled' : List ℕ) (j : ℕ) (tick dead settled told : Bool) (g : IsGoing K F s gone₀ old trees step gone waiting unsettled)
-          (v : IsVisit K readers trees trees' step step' gone gone' waiting waiting' unsettled unsettled' j tick dead settled told) (is : ticks_in j waiting ≡ true) (first : (m : ℕ) → ticks_in m waiting ≡ true → j ≤ m)
+      module _ (trees trees' : List Tree) (step step' gone gone' waiting waiting' unsettled unsettled' : List ℕ) (j : ℕ) (tick dead settled told : Bool)
+          (g : IsGoing K F s gone₀ old trees step gone waiting unsettled)
+          (v : IsVisit K readers trees trees' step step' gone gone' waiting waiting' unsettled unsettled' j tick dead settled told)
+          (is : ticks_in j waiting ≡ true) (first : (m : ℕ) → ticks_in m waiting ≡ true → j ≤ m)
         where
           here : IsUntouched K gone₀ old trees step gone j
           here = g.untouched j j is (omega arith)
@@ -138,12 +144,15 @@ module _ (K : System) (ok : IsAccepted K) (F : List ℕ) where
           gone_here = ap (ticks_in (K.declared + j)) v.gone_is ∙ ticks_in-put_same (K.declared + j) dead gone
 
           -- what does not wait hears nothing of it
-          unheard : (i : ℕ) → IsFollowed K F i → ticks_in i waiting' ≡ false → (y : ℕ) → reads K i y ≡ true → (ticks_in y step ≡ ticks_in y step') × (ticks_in y gone ≡ ticks_in y gone')
+          unheard : (i : ℕ) → IsFollowed K F i → ticks_in i waiting' ≡ false → (y : ℕ) → reads K i y ≡ true
+              → (ticks_in y step ≡ ticks_in y step') × (ticks_in y gone ≡ ticks_in y gone')
           unheard i followed quiet y read = ⊎_elim
               (λ (e : y ≡ K.declared + j).
               let read' : reads K i (K.declared + j) ≡ true = ap (reads K i) (sym e) ∙ read in
-              let w = or_parts (ticks_in i waiting && not (nat_eq j i)) (told && ticks_in i (slice_index_or readers (K.declared + j) [])) (sym (v.waiting_is i) ∙ quiet) in
-              let n = v.told_is (and_false told (ticks_in i (slice_index_or readers (K.declared + j) [])) w.1 (no_reader i (K.declared + j) followed read')) in (
+              let w = or_parts (ticks_in i waiting && not (nat_eq j i)) (told && ticks_in i (slice_index_or readers (K.declared + j) []))
+              (sym (v.waiting_is i) ∙ quiet) in
+              let n = v.told_is
+              (and_false told (ticks_in i (slice_index_or readers (K.declared + j) [])) w.1 (no_reader i (K.declared + j) followed read')) in (
                 ap (λ k. ticks_in k step) e ∙ here.tick ∙ sym n.0 ∙ sym step_here ∙ ap (λ k. ticks_in k step') (sym e),
                 ap (λ k. ticks_in k gone) e ∙ sym n.1 ∙ sym gone_here ∙ ap (λ k. ticks_in k gone') (sym e),
               ))
@@ -154,8 +163,10 @@ module _ (K : System) (ok : IsAccepted K) (F : List ℕ) where
           old_next i followed = next_within (λ y. reads K i y ≡ true) K (bodies_closed K ok) step (gone_in gone) (tree_number old i) (within i followed)
 
           -- a definition that is done with the old ticks is done with the new ones
-          still : (i : ℕ) (t' : Tree) (b d : Bool) → IsFollowed K F i → ticks_in i waiting' ≡ false → b ≡ eval (formula_of (tree_number old i)) step → t' ≡ next K step (gone_in gone) (tree_number old i) → d ≡ dead_of (gone_in gone) t' →
-              (b ≡ eval (formula_of (tree_number old i)) step') × (t' ≡ next K step' (gone_in gone') (tree_number old i)) × (d ≡ dead_of (gone_in gone') t') × (is_settled (gone_in gone) t' ≡ is_settled (gone_in gone') t')
+          still : (i : ℕ) (t' : Tree) (b d : Bool) → IsFollowed K F i → ticks_in i waiting' ≡ false → b ≡ eval (formula_of (tree_number old i)) step
+              → t' ≡ next K step (gone_in gone) (tree_number old i) → d ≡ dead_of (gone_in gone) t' →
+              (b ≡ eval (formula_of (tree_number old i)) step') × (t' ≡ next K step' (gone_in gone') (tree_number old i)) × (d ≡ dead_of (gone_in gone') t')
+              × (is_settled (gone_in gone) t' ≡ is_settled (gone_in gone') t')
           still i t' b d followed quiet ticks tree dies =
               let P = λ (y : ℕ). reads K i y ≡ true in
               let at : TreeWithin P t' = subst (TreeWithin P) (sym tree) (old_next i followed) in
@@ -176,28 +187,35 @@ module _ (K : System) (ok : IsAccepted K) (F : List ℕ) where
           visited : ticks_in j waiting' ≡ false → IsDone K old trees' step' gone' unsettled' j
           visited quiet =
               let n = next K step (gone_in gone) (tree_number old j) in
-              let same = still j n tick dead mine quiet (v.tick_is ∙ ap (λ t. eval (formula_of t) step) here.tree) refl (v.dead_is ∙ ap (λ t. dead_of (gone_in gone) (next K step (gone_in gone) t)) here.tree) in
+              let same = still j n tick dead mine quiet (v.tick_is ∙ ap (λ t. eval (formula_of t) step) here.tree) refl
+              (v.dead_is ∙ ap (λ t. dead_of (gone_in gone) (next K step (gone_in gone) t)) here.tree) in
               record {
                 tick = step_here ∙ same.0;
                 tree = the_tree ∙ same.1;
                 dead = gone_here ∙ same.2 ∙ ap (dead_of (gone_in gone')) (sym the_tree);
                 settled = λ h.
-                    let so : settled ≡ true = not-false settled (sym (ticks_in-put_same j (not settled) unsettled) ∙ ap (ticks_in j) (sym v.unsettled_is) ∙ h) in
-                    ap (is_settled (gone_in gone')) the_tree ∙ sym same.3 ∙ ap (λ t. is_settled (gone_in gone) (next K step (gone_in gone) t)) (sym here.tree) ∙ v.settled_is so;
+                    let so : settled ≡ true =
+                    not-false settled (sym (ticks_in-put_same j (not settled) unsettled) ∙ ap (ticks_in j) (sym v.unsettled_is) ∙ h) in
+                    ap (is_settled (gone_in gone')) the_tree ∙ sym same.3 ∙ ap (λ t. is_settled (gone_in gone) (next K step (gone_in gone) t)) (sym here.tree)
+                    ∙ v.settled_is so;
               }
 
-          other : (i : ℕ) → (i ≡ j → ⊥) → IsFollowed K F i → ticks_in i waiting ≡ false → ticks_in i waiting' ≡ false → IsDone K old trees' step' gone' unsettled' i
+          other : (i : ℕ) → (i ≡ j → ⊥) → IsFollowed K F i → ticks_in i waiting ≡ false → ticks_in i waiting' ≡ false
+              → IsDone K old trees' step' gone' unsettled' i
           other i ne followed before quiet =
               let was = g.done i followed before in
-              let same = still i (tree_number trees i) (ticks_in (K.declared + i) step) (ticks_in (K.declared + i) gone) followed quiet was.tick was.tree was.dead in
+              let same = still i (tree_number trees i) (ticks_in (K.declared + i) step) (ticks_in (K.declared + i) gone) followed quiet was.tick was.tree
+              was.dead in
               let apart : K.declared + i ≡ K.declared + j → ⊥ = λ e. ne (omega (arith, e)) in
-              let kept : tree_number trees' i ≡ tree_number trees i = ap (λ ts. tree_number ts i) v.trees_are ∙ tree_set_other trees j i (next K step (gone_in gone) (tree_number trees j)) ne in
+              let kept : tree_number trees' i ≡ tree_number trees i =
+              ap (λ ts. tree_number ts i) v.trees_are ∙ tree_set_other trees j i (next K step (gone_in gone) (tree_number trees j)) ne in
               record {
                 tick = step_other (K.declared + i) apart ∙ same.0;
                 tree = kept ∙ same.1;
                 dead = gone_other (K.declared + i) apart ∙ same.2 ∙ ap (dead_of (gone_in gone')) (sym kept);
                 settled = λ h.
-                    ap (is_settled (gone_in gone')) kept ∙ sym same.3 ∙ was.settled (sym (ticks_in-put_other j (not settled) i unsettled ne) ∙ ap (ticks_in i) (sym v.unsettled_is) ∙ h);
+                    ap (is_settled (gone_in gone')) kept ∙ sym same.3 ∙ was.settled
+                    (sym (ticks_in-put_other j (not settled) i unsettled ne) ∙ ap (ticks_in i) (sym v.unsettled_is) ∙ h);
               }
 
           -- what waits now has waited, or reads the clock
@@ -227,7 +245,8 @@ module _ (K : System) (ok : IsAccepted K) (F : List ℕ) where
 
           waited : (i : ℕ) → (i ≡ j → ⊥) → ticks_in i waiting' ≡ false → ticks_in i waiting ≡ false
           waited i ne quiet =
-              let w = or_parts (ticks_in i waiting && not (nat_eq j i)) (told && ticks_in i (slice_index_or readers (K.declared + j) [])) (sym (v.waiting_is i) ∙ quiet) in
+              let w = or_parts (ticks_in i waiting && not (nat_eq j i)) (told && ticks_in i (slice_index_or readers (K.declared + j) []))
+              (sym (v.waiting_is i) ∙ quiet) in
               and_false (ticks_in i waiting) (not (nat_eq j i)) w.0 (ap not (ne_eqb j i (λ e. ne (sym e))))
 
           -- A VISIT MORE
@@ -255,14 +274,17 @@ module _ (K : System) (ok : IsAccepted K) (F : List ℕ) where
                 (λ (ne : m ≡ j → ⊥). g.few m (sym (ticks_in-put_other j (not settled) m unsettled ne) ∙ ap (ticks_in m) (sym v.unsettled_is) ∙ h))
                 (cases_eq m j);
             declared = λ y l. step_other y (λ e. omega (arith, e, l)) ∙ g.declared y l;
-            outside = λ i none. step_other (K.declared + i) (λ e. none (subst (IsFollowed K F) (let z : j ≡ i = omega (arith, e) in z) mine)) ∙ g.outside i none;
+            outside = λ i none. step_other (K.declared + i) (λ e. none (subst (IsFollowed K F) (let z : j ≡ i = omega (arith, e) in z) mine))
+                ∙ g.outside i none;
             alive = λ y l. gone_other y (λ e. omega (arith, e, l)) ∙ g.alive y l;
             ascends = ap is_ascending v.step_is ∙ put_ascends tick (K.declared + j) step g.ascends;
           }
 
       -- THE BEGINNING: what hears nothing does not wait, and is done
-      pub begins : (unsettled waiting : List ℕ) → length old ≡ length K.definitions → are_below K.declared s ≡ true → is_ascending s ≡ true → AreKept K F old gone₀ unsettled →
-          ((p : ℕ) → ticks_in p unsettled ≡ true → ticks_in p waiting ≡ true) → ((p y : ℕ) → ticks_in y s ≡ true → ticks_in p (slice_index_or readers y []) ≡ true → ticks_in p waiting ≡ true) →
+      pub begins : (unsettled waiting : List ℕ) → length old ≡ length K.definitions → are_below K.declared s ≡ true → is_ascending s ≡ true
+          → AreKept K F old gone₀ unsettled →
+          ((p : ℕ) → ticks_in p unsettled ≡ true → ticks_in p waiting ≡ true)
+          → ((p y : ℕ) → ticks_in y s ≡ true → ticks_in p (slice_index_or readers y []) ≡ true → ticks_in p waiting ≡ true) →
           ((p : ℕ) → ticks_in p waiting ≡ true → IsFollowed K F p) → IsGoing K F s gone₀ old old s gone₀ waiting unsettled
       begins unsettled waiting count low ascends kept unsettled_wait heard followed =
           record {
@@ -305,16 +327,19 @@ module _ (K : System) (ok : IsAccepted K) (F : List ℕ) where
           unheard i f quiet = tree_more (λ y. reads K i y ≡ true) (λ y. ticks_in y s ≡ false) (silent_clock i f quiet) (tree_number old i) (within i f)
 
       -- THE END, where nothing waits
-      pub ends : (trees : List Tree) (step gone waiting unsettled : List ℕ) → IsGoing K F s gone₀ old trees step gone waiting unsettled → ((m : ℕ) → ticks_in m waiting ≡ false) → AreKept K F trees gone unsettled
+      pub ends : (trees : List Tree) (step gone waiting unsettled : List ℕ) → IsGoing K F s gone₀ old trees step gone waiting unsettled
+          → ((m : ℕ) → ticks_in m waiting ≡ false) → AreKept K F trees gone unsettled
       ends trees step gone waiting unsettled g none = record {
-        within = λ i f. subst (TreeWithin (λ y. reads K i y ≡ true)) (sym (g.done i f (none i)).tree) (next_within (λ y. reads K i y ≡ true) K (bodies_closed K ok) step (gone_in gone) (tree_number old i) (within i f));
+        within = λ i f. subst (TreeWithin (λ y. reads K i y ≡ true)) (sym (g.done i f (none i)).tree)
+            (next_within (λ y. reads K i y ≡ true) K (bodies_closed K ok) step (gone_in gone) (tree_number old i) (within i f));
         dead = λ i f h. (g.done i f (none i)).dead;
         alive = g.alive;
         settled = λ i f h. (g.done i f (none i)).settled h;
         few = g.few;
       }
 
-      pub passes : (trees : List Tree) (step gone waiting unsettled : List ℕ) → IsGoing K F s gone₀ old trees step gone waiting unsettled → ((m : ℕ) → ticks_in m waiting ≡ false) → IsPassed K F old s trees step gone
+      pub passes : (trees : List Tree) (step gone waiting unsettled : List ℕ) → IsGoing K F s gone₀ old trees step gone waiting unsettled
+          → ((m : ℕ) → ticks_in m waiting ≡ false) → IsPassed K F old s trees step gone
       passes trees step gone waiting unsettled g none = record {
         count = g.count;
         tick = λ i f. (g.done i f (none i)).tick;

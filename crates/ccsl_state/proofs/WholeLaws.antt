@@ -1,5 +1,6 @@
 -- The whole row of an accepted system: there is room for its regions, and what the trees and the counts become in a step.
-use Rattle.std.proofs.Common.{◌≡◌, ℕ, suc, ◌+◌, ◌-◌, ◌*◌, ◌<◌, ◌≤◌, List, [], ◌∷◌, ◌++◌, length, take, drop, Bool, true, false, ◌||◌, slice_get, refl, sym, ap, ap₂, subst, ◌∙◌, arith, length-append}
+use Rattle.std.proofs.Common.{◌≡◌, ℕ, suc, ◌+◌, ◌-◌, ◌*◌, ◌<◌, ◌≤◌, List, [], ◌∷◌, ◌++◌, length, take, drop, Bool, true, false, ◌||◌, slice_get, refl, sym, ap}
+use Rattle.std.proofs.Common.{ap₂, subst, ◌∙◌, arith, length-append}
 use Rattle.std.proofs.lemmas.Bool.{ne_eqb}
 use Rattle.std.proofs.Math.Seq.{take-length}
 use Rattle.ccsl_base.specs.Clocks.{ticks_in}
@@ -23,7 +24,8 @@ use Rattle.ccsl_state.proofs.Frame.{read_same}
 use Rattle.ccsl_state.proofs.Regions.{behind_head, front_head, within, fewer}
 
 -- the trees don't depend on what lies behind their regions
-pub trees_same : (K : System) (earlier : List ℕ) (es : List Expression) (n : ℕ) (xs ys : List ℕ) → IsEnough K earlier → cells_from earlier es ≤ n → n ≤ 32768 → take n xs ≡ take n ys →
+pub trees_same : (K : System) (earlier : List ℕ) (es : List Expression) (n : ℕ) (xs ys : List ℕ) → IsEnough K earlier → cells_from earlier es ≤ n → n ≤ 32768
+    → take n xs ≡ take n ys →
     trees_in K earlier es xs ≡ trees_in K earlier es ys
 trees_same K earlier [] n xs ys enough room few same = refl
 trees_same K earlier (e ∷ es) n xs ys enough room few same =
@@ -38,7 +40,8 @@ module _ (K : System) (ok : IsAccepted K) where
   opened-from x [] h = tt
   opened-from x (e ∷ es) h = (
     opening_within (λ y. y < x) K (accepted_scoped K ok).bodies e []
-        (below_within (λ y. y < x) x e ((accepted_scoped K ok).definitions x e (sym (h 0 ∙ ap (definition_of K) (let z : x + 0 ≡ x = omega arith in z)))) (λ y l. l)) tt,
+        (below_within (λ y. y < x) x e ((accepted_scoped K ok).definitions x e (sym (h 0 ∙ ap (definition_of K) (let z : x + 0 ≡ x = omega arith in z))))
+        (λ y l. l)) tt,
     opened-from (suc x) es (λ j. h (suc j) ∙ ap (definition_of K) (let z : x + suc j ≡ suc x + j = omega arith in z)),
   )
 
@@ -61,11 +64,14 @@ derived-keeps (t ∷ ts) x s y l = derived-keeps ts (suc x) (put (eval (formula_
     kept true = ticks_in-with_clock y x s ∙ ap (λ b. b || ticks_in y s) (ne_eqb y x (λ e. let z : ⊥ = omega (arith, e, l) in z))
     kept false = refl
 
-pub passed_is : (K : System) → IsAccepted K → (s : Step) (known : List ℕ) (x : ℕ) (ts : List Tree) → TreesBelow x ts → passed_all K s known x ts ≡ next_all K (derived_in ts x s) known x ts
+pub passed_is : (K : System) → IsAccepted K → (s : Step) (known : List ℕ) (x : ℕ) (ts : List Tree) → TreesBelow x ts
+    → passed_all K s known x ts ≡ next_all K (derived_in ts x s) known x ts
 passed_is K ok s known x [] h = refl
 passed_is K ok s known x (t ∷ ts) h =
     let s' = derived_in (t ∷ ts) x s in
-    let here : next K s (gone_in known) t ≡ next K s' (gone_in known) t = next_same (λ y. y < x) K (accepted_scoped K ok).bodies s s' (λ y l. sym (derived-keeps (t ∷ ts) x s y l)) (gone_in known) (gone_in known) (λ y l. refl) t h.0 in
+    let here : next K s (gone_in known) t ≡ next K s' (gone_in known) t =
+    next_same (λ y. y < x) K (accepted_scoped K ok).bodies s s' (λ y l. sym (derived-keeps (t ∷ ts) x s y l)) (gone_in known) (gone_in known) (λ y l. refl)
+    t h.0 in
     ap₂ (λ t' ts'. t' ∷ ts') here
     (passed_is K ok (put (eval (formula_of t) s) x s) (put (dead_of (gone_in known) (next K s (gone_in known) t)) x known) (suc x) ts h.1
     ∙ ap (λ t'. next_all K s' (put (dead_of (gone_in known) t') x known) (suc x) ts) here)
@@ -87,10 +93,12 @@ module _ (K : System) (ok : IsAccepted K) where
   trees_front front counts l whole =
       let room = table_room K ok in
       let few = ok.few_cells in
-      trees_same K (calls_of K) K.definitions (length front) (front ++ counts) front (table_enough K) (omega (arith, room, whole, l, length-append front counts)) (omega (arith, few, whole, length-append front counts))
+      trees_same K (calls_of K) K.definitions (length front) (front ++ counts) front (table_enough K)
+      (omega (arith, room, whole, l, length-append front counts)) (omega (arith, few, whole, length-append front counts))
       (front_head (length front) front counts refl ∙ sym (take-length front))
 
-  pub row_advances : (declared step gone front counts front' counts' : List ℕ) → length front' ≡ length front → length counts ≡ 2 * length K.constraints → length counts' ≡ length counts →
+  pub row_advances : (declared step gone front counts front' counts' : List ℕ) → length front' ≡ length front → length counts ≡ 2 * length K.constraints
+      → length counts' ≡ length counts →
       length (front ++ counts) ≡ cells K → TreesBelow K.declared (trees_in K (calls_of K) K.definitions (front ++ counts)) →
       trees_in K (calls_of K) K.definitions front' ≡ passed_all K declared [] K.declared (trees_in K (calls_of K) K.definitions front) →
       step ≡ derived_in (trees_in K (calls_of K) K.definitions front) K.declared declared →
@@ -102,7 +110,8 @@ module _ (K : System) (ok : IsAccepted K) where
       let whole' : length (front' ++ counts') ≡ cells K = omega (arith, same, same', whole, length-append front counts, length-append front' counts') in
       let old = trees_front front counts few whole in
       let new = trees_front front' counts' (same' ∙ few) whole' in
-      let derived : step ≡ derived_in (trees_in K C D (front ++ counts)) K.declared declared = step_is ∙ ap (λ ts. derived_in ts K.declared declared) (sym old) in
+      let derived : step ≡ derived_in (trees_in K C D (front ++ counts)) K.declared declared =
+      step_is ∙ ap (λ ts. derived_in ts K.declared declared) (sym old) in
       let nexts : trees_in K C D (front' ++ counts') ≡ next_all K step [] K.declared (trees_in K C D (front ++ counts)) =
       new ∙ trees ∙ ap (passed_all K declared [] K.declared) (sym old) ∙ passed_is K ok declared [] K.declared (trees_in K C D (front ++ counts)) below
       ∙ ap (λ s. next_all K s [] K.declared (trees_in K C D (front ++ counts))) (sym derived) in
@@ -111,7 +120,8 @@ module _ (K : System) (ok : IsAccepted K) where
         next = record {
           system = refl;
           trees = nexts;
-          counts = subst (λ xs. CellsCount K.constraints step xs (counts_of (record { system = K; row = front' ++ counts' }))) (sym (counts_behind front counts (2 * length K.constraints) few))
+          counts = subst (λ xs. CellsCount K.constraints step xs (counts_of (record { system = K; row = front' ++ counts' })))
+              (sym (counts_behind front counts (2 * length K.constraints) few))
               (subst (CellsCount K.constraints step counts) (sym (counts_behind front' counts' (2 * length K.constraints) (same' ∙ few))) counted);
         };
         deaths = gone_is ∙ ap (deaths_from [] K.declared) (sym new);
@@ -138,11 +148,13 @@ module _ (K : System) (ok : IsAccepted K) (C : List ℕ) (is : C ≡ calls_of K)
       CellsCount K.constraints step counts counts' → RowAdvanced K row declared step gone row'
   row_goes_on declared step gone front counts front' counts' row row' row_is row_is' same few same' whole below trees step_is gone_is counted =
       let D = K.definitions in
-      let here = λ (C : List ℕ) (x : ℕ). (trees_in K C D front' ≡ passed_all K declared [] x (trees_in K C D front)) × ((step ≡ derived_in (trees_in K C D front) x declared) × (gone ≡ deaths_from [] x (trees_in K C D front'))) in
+      let here = λ (C : List ℕ) (x : ℕ). (trees_in K C D front' ≡ passed_all K declared [] x (trees_in K C D front))
+      × ((step ≡ derived_in (trees_in K C D front) x declared) × (gone ≡ deaths_from [] x (trees_in K C D front'))) in
       let all : here (calls_of K) K.declared = subst (λ x. here (calls_of K) x) at (subst (λ C. here C x) is (trees, (step_is, gone_is))) in
       subst (λ r. RowAdvanced K row declared step gone r) (sym row_is')
       (subst (λ r. RowAdvanced K r declared step gone (front' ++ counts')) (sym row_is)
-      (row_advances K ok declared step gone front counts front' counts' same few same' (ap length (sym row_is) ∙ whole) (subst (λ r. TreesBelow K.declared (trees_in K (calls_of K) D r)) row_is below) all.0 all.1.0 all.1.1 counted))
+      (row_advances K ok declared step gone front counts front' counts' same few same' (ap length (sym row_is) ∙ whole)
+      (subst (λ r. TreesBelow K.declared (trees_in K (calls_of K) D r)) row_is below) all.0 all.1.0 all.1.1 counted))
 
 -- A ROW AT THE OPENING
 pub record RowOpened (K : System) (row gone row' : List ℕ) : Type 0 where
@@ -152,15 +164,20 @@ pub record RowOpened (K : System) (row gone row' : List ℕ) : Type 0 where
   pub below : TreesBelow K.declared (trees_of (record { system = K; row = row' }))
 
 module _ (K : System) (ok : IsAccepted K) (C : List ℕ) (is : C ≡ calls_of K) (x : ℕ) (at : x ≡ K.declared) where
-  pub row_opens : (gone front counts front' row : List ℕ) → row ≡ front ++ counts → length front' ≡ length front → length counts ≡ 2 * length K.constraints → length row ≡ cells K →
-      trees_in K C K.definitions front' ≡ opened_all K K.definitions → gone ≡ deaths_from [] x (opened_all K K.definitions) → RowOpened K row gone (front' ++ counts)
+  pub row_opens : (gone front counts front' row : List ℕ) → row ≡ front ++ counts → length front' ≡ length front → length counts ≡ 2 * length K.constraints
+      → length row ≡ cells K →
+      trees_in K C K.definitions front' ≡ opened_all K K.definitions → gone ≡ deaths_from [] x (opened_all K K.definitions)
+      → RowOpened K row gone (front' ++ counts)
   row_opens gone front counts front' row row_is same few whole trees gone_is =
       let D = K.definitions in
-      let whole' : length (front' ++ counts) ≡ cells K = (let e = ap length row_is in omega (arith, e, same, whole, length-append front counts, length-append front' counts)) in
-      let new : trees_in K (calls_of K) D (front' ++ counts) ≡ opened_all K D = trees_front K ok front' counts few whole' ∙ subst (λ C. trees_in K C D front' ≡ opened_all K D) is trees in
+      let whole' : length (front' ++ counts) ≡ cells K =
+      (let e = ap length row_is in omega (arith, e, same, whole, length-append front counts, length-append front' counts)) in
+      let new : trees_in K (calls_of K) D (front' ++ counts) ≡ opened_all K D =
+      trees_front K ok front' counts few whole' ∙ subst (λ C. trees_in K C D front' ≡ opened_all K D) is trees in
       record {
         trees = new;
-        counts = counts_behind front' counts (2 * length K.constraints) few ∙ sym (ap (λ r. drop (length r - 2 * length K.constraints) r) row_is ∙ counts_behind front counts (2 * length K.constraints) few);
+        counts = counts_behind front' counts (2 * length K.constraints) few
+            ∙ sym (ap (λ r. drop (length r - 2 * length K.constraints) r) row_is ∙ counts_behind front counts (2 * length K.constraints) few);
         deaths = gone_is ∙ ap₂ (λ x ts. deaths_from [] x ts) at (sym new);
         below = subst (TreesBelow K.declared) (sym new) (opened_below K ok);
       }

@@ -1,6 +1,7 @@
 -- An expression and a tree that name clocks with P only. What is born of them and what a step makes of them names no others, and
 -- steps and deaths that are the same for these clocks are all one to them.
-use Rattle.std.proofs.Common.{◌≡◌, ℕ, zero, suc, ◌<◌, List, [], ◌∷◌, map, length, get_or, Bool, true, false, ◌||◌, Option, Some, None, nat_le, refl, sym, ap, ap₂, ◌∙◌, arith, if◌then◌else◌, ⊎_elim, eqb-true, eq-eqb}
+use Rattle.std.proofs.Common.{◌≡◌, ℕ, zero, suc, ◌<◌, List, [], ◌∷◌, map, length, get_or, Bool, true, false, ◌||◌, Option, Some, None, nat_le, refl, sym, ap}
+use Rattle.std.proofs.Common.{ap₂, ◌∙◌, arith, if◌then◌else◌, ⊎_elim, eqb-true, eq-eqb}
 use Rattle.std.proofs.lemmas.Bool.{or_cases, or_left, or_right}
 use Rattle.ccsl_base.specs.Clocks.{ticks_in}
 use Rattle.ccsl_formula.specs.Formula.{eval}
@@ -15,7 +16,8 @@ use Rattle.ccsl_kernel.specs.declared.actual.Actual.{Actual}
 use Rattle.ccsl_kernel.specs.Actuals.{place_of, value_of, test_of}
 use Rattle.ccsl_kernel.specs.Lives.{Step, step_at}
 use Rattle.ccsl_kernel.proofs.Scoped.{PlaceBelow, ArgsBelow, NamesBelow}
-use Rattle.ccsl_state.specs.Tree.{Tree, TName, TNever, TOne, TTwo, TThen, Two, one_next, one_ticks, one_dead, two_next, two_ticks, two_dead, leaf, over, two_opened, open_with, open_bodies, opening, then_or_right, next, formula_of, dead_of}
+use Rattle.ccsl_state.specs.Tree.{Tree, TName, TNever, TOne, TTwo, TThen, Two, one_next, one_ticks, one_dead, two_next, two_ticks, two_dead, leaf, over}
+use Rattle.ccsl_state.specs.Tree.{two_opened, open_with, open_bodies, opening, then_or_right, next, formula_of, dead_of}
 use Rattle.ccsl_state.specs.Grown.{grown}
 use Rattle.ccsl_state.specs.Within.{PlaceWithin, ArgsWithin, NamesWithin, ActualsWithin, TreeWithin}
 use Rattle.ccsl_state.specs.Reach.{place_names, arguments_name, names_clock}
@@ -59,8 +61,8 @@ module _ (P : ℕ → Type 0) where
   arguments_within (value.Number t ∷ args) h = arguments_within args h
   arguments_within (value.Word w ∷ args) h = arguments_within args h
 
-  both_within : (a d : Expression) → (((y : ℕ) → names_clock a y ≡ true → P y) → NamesWithin P a) → (((y : ℕ) → names_clock d y ≡ true → P y) → NamesWithin P d) →
-      ((y : ℕ) → (names_clock a y || names_clock d y) ≡ true → P y) → NamesWithin P a × NamesWithin P d
+  both_within : (a d : Expression) → (((y : ℕ) → names_clock a y ≡ true → P y) → NamesWithin P a) → (((y : ℕ) → names_clock d y ≡ true → P y) → NamesWithin P d)
+      → ((y : ℕ) → (names_clock a y || names_clock d y) ≡ true → P y) → NamesWithin P a × NamesWithin P d
   both_within a d left right h = (
     left (λ y e. h y (or_left (names_clock a y) (names_clock d y) e)),
     right (λ y e. h y (or_right (names_clock a y) (names_clock d y) e)),
@@ -101,7 +103,8 @@ module _ (P : ℕ → Type 0) where
   actual_cons (actual.Number n) ρ h r = r
   actual_cons (actual.Word w o) ρ h r = r
 
-  args_within : (words : List BinaryWord) (args : List Value) (ρ : List Actual) → ArgsWithin P args → ActualsWithin P ρ → ActualsWithin P (map (value_of words ρ) args)
+  args_within : (words : List BinaryWord) (args : List Value) (ρ : List Actual) → ArgsWithin P args → ActualsWithin P ρ
+      → ActualsWithin P (map (value_of words ρ) args)
   args_within words [] ρ h v = tt
   args_within words (value.Clock x ∷ args) ρ h v = actual_cons (place_of x ρ) _ (stands_within x ρ h.0 v) (args_within words args ρ h.1 v)
   args_within words (value.Number t ∷ args) ρ h v = args_within words args ρ h v
@@ -112,7 +115,8 @@ module _ (P : ℕ → Type 0) where
   leaf_within (actual.Number n) h = tt
   leaf_within (actual.Word w o) h = tt
 
-  over_within : (o : Option Two) (a t : Tree) (d : Expression) (ρ : List Actual) → TreeWithin P a → TreeWithin P t → NamesWithin P d → ActualsWithin P ρ → TreeWithin P (over o a t d ρ)
+  over_within : (o : Option Two) (a t : Tree) (d : Expression) (ρ : List Actual) → TreeWithin P a → TreeWithin P t → NamesWithin P d → ActualsWithin P ρ
+      → TreeWithin P (over o a t d ρ)
   over_within None a t d ρ p q r s = (p, r, s)
   over_within (Some o) a t d ρ p q r s = (p, q)
 
@@ -136,13 +140,16 @@ module _ (P : ℕ → Type 0) where
 
     bodies_within : (level g m : ℕ) (ρ : List Actual) → ActualsWithin P ρ → TreeWithin P (open_bodies K level g m ρ)
     bodies_within zero g m ρ v = tt
-    bodies_within (suc level) g m ρ v = open_within (open_bodies K level) (bodies_within level) (root_of K g m) ρ (below_within 0 (root_of K g m) (closed g m) (λ y l. let z : ⊥ = omega arith in absurd z)) v
+    bodies_within (suc level) g m ρ v =
+        open_within (open_bodies K level) (bodies_within level) (root_of K g m) ρ
+        (below_within 0 (root_of K g m) (closed g m) (λ y l. let z : ⊥ = omega arith in absurd z)) v
 
     pub opening_within : (e : Expression) (ρ : List Actual) → NamesWithin P e → ActualsWithin P ρ → TreeWithin P (opening K e ρ)
     opening_within = open_within (open_bodies K (length K.groups)) (bodies_within (length K.groups))
 
     -- A STEP keeps it
-    right_within : (c : Bool) (a : Tree) (d : Expression) (ρ : List Actual) → TreeWithin P a → NamesWithin P d → ActualsWithin P ρ → TreeWithin P (then_or_right K c a d ρ)
+    right_within : (c : Bool) (a : Tree) (d : Expression) (ρ : List Actual) → TreeWithin P a → NamesWithin P d → ActualsWithin P ρ
+        → TreeWithin P (then_or_right K c a d ρ)
     right_within true a d ρ p q r = opening_within d ρ q r
     right_within false a d ρ p q r = (p, q, r)
 
@@ -155,7 +162,8 @@ module _ (P : ℕ → Type 0) where
 
     pub grown_within : (T : List Step) (gone : ℕ → ℕ → Bool) (t : Tree) (b n : ℕ) → TreeWithin P t → TreeWithin P (grown K T gone t b n)
     grown_within T gone t b zero h = h
-    grown_within T gone t b (suc n) h = chosen (nat_le b n) _ _ (next_within (step_at T n) (gone (suc n)) (grown K T gone t b n) (grown_within T gone t b n h)) h
+    grown_within T gone t b (suc n) h =
+        chosen (nat_le b n) _ _ (next_within (step_at T n) (gone (suc n)) (grown K T gone t b n) (grown_within T gone t b n h)) h
 
   -- TWO STEPS that are the same for these clocks
   module _ (s s' : Step) (same : (x : ℕ) → P x → ticks_in x s ≡ ticks_in x s') where
@@ -163,7 +171,8 @@ module _ (P : ℕ → Type 0) where
     tick_same (TName x) h = same x h
     tick_same TNever h = refl
     tick_same (TOne o a) h = one_eval s o (formula_of a) ∙ ap (one_ticks o) (tick_same a h) ∙ sym (one_eval s' o (formula_of a))
-    tick_same (TTwo o a d) h = two_eval s o (formula_of a) (formula_of d) ∙ ap₂ (two_ticks o) (tick_same a h.0) (tick_same d h.1) ∙ sym (two_eval s' o (formula_of a) (formula_of d))
+    tick_same (TTwo o a d) h =
+        two_eval s o (formula_of a) (formula_of d) ∙ ap₂ (two_ticks o) (tick_same a h.0) (tick_same d h.1) ∙ sym (two_eval s' o (formula_of a) (formula_of d))
     tick_same (TThen a d ρ) h = tick_same a h.0
 
   -- two sets of dead clocks
@@ -176,7 +185,8 @@ module _ (P : ℕ → Type 0) where
     dead_same (TThen a d ρ) h = refl
 
   -- and both
-  module _ (K : System) (closed : (g m : ℕ) → NamesBelow 0 (root_of K g m)) (s s' : Step) (same : (x : ℕ) → P x → ticks_in x s ≡ ticks_in x s') (gone gone' : ℕ → Bool) (same_gone : (x : ℕ) → P x → gone x ≡ gone' x) where
+  module _ (K : System) (closed : (g m : ℕ) → NamesBelow 0 (root_of K g m)) (s s' : Step) (same : (x : ℕ) → P x → ticks_in x s ≡ ticks_in x s')
+      (gone gone' : ℕ → Bool) (same_gone : (x : ℕ) → P x → gone x ≡ gone' x) where
     pub next_same : (t : Tree) → TreeWithin P t → next K s gone t ≡ next K s' gone' t
     next_same (TName x) h = refl
     next_same TNever h = refl

@@ -2,7 +2,8 @@
 --     earlier      the cells of a call to each group before that of the body; a call to a later group is one of the own group
 --     read_in K earlier calls e ρ row      the tree in the region of e, where `calls group row` is that in the region of a call
 --     read_call, read      the tree in the region of a call to a group; in that of an expression
-use Rattle.std.specs.Prelude.{ℕ, zero, suc, ◌+◌, ◌/◌, ◌%◌, ◌^◌, List, [], ◌∷◌, ◌++◌, Bool, true, false, not, Option, Some, None, length, map, min, take, drop, slice_index, nat_eq, nat_lt, if◌then◌else◌}
+use Rattle.std.specs.Prelude.{ℕ, zero, suc, ◌+◌, ◌/◌, ◌%◌, ◌^◌, List, [], ◌∷◌, ◌++◌, Bool, true, false, not, Option, Some, None, length, map, min, take, drop}
+use Rattle.std.specs.Prelude.{slice_index, nat_eq, nat_lt, if◌then◌else◌}
 use Rattle.ccsl_words.specs.Word.{BinaryWord, is_finite, word_len}
 use Rattle.ccsl_kernel.specs.declared.expr.ExprOp.{ExprOp}
 use Rattle.ccsl_kernel.specs.declared.expr.ExprOp.TheVariants as op
@@ -11,7 +12,8 @@ use Rattle.ccsl_kernel.specs.declared.actual.Actual.TheVariants as actual
 use Rattle.ccsl_kernel.specs.Syntax.{Expression, EName, ECall, ENever, EBinary, EDelay, EAwait, EFilter, EDelayed, EIf, Body, System, body_of}
 use Rattle.ccsl_kernel.specs.Actuals.{place_of, number_of, suffix_of, test_of, word_of}
 use Rattle.ccsl_kernel.specs.Cells.{cells_in}
-use Rattle.ccsl_state.specs.Tree.{most, Delaying, Awaiting, Filtering, Two, Uniting, Meeting, Lessening, Leading, Trailing, Ending, EndingWeakly, Sampling, SamplingWeakly, Lagging, Tree, TNever, TOne, TTwo, TThen, leaf}
+use Rattle.ccsl_state.specs.Tree.{most, Delaying, Awaiting, Filtering, Two, Uniting, Meeting, Lessening, Leading, Trailing, Ending, EndingWeakly, Sampling}
+use Rattle.ccsl_state.specs.Tree.{SamplingWeakly, Lagging, Tree, TNever, TOne, TTwo, TThen, leaf}
 
 -- a count, and a flag
 abbrev pub count_of : ℕ → ℕ

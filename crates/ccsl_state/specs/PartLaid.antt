@@ -20,4 +20,5 @@ pub record IsPartLaid (p : Inside) : Type 0 where
   pub readers : AreReaders p.system.now p.readers.followed p.readers.sets.items
   pub row : length p.row.items ≡ cells p.system.now
   pub closed : IsClosed p.system.now p.readers.followed
-  pub kept : AreKept p.system.now p.readers.followed (trees_in p.system.now (calls_of p.system.now) p.system.now.definitions p.row.items) p.passage.gone p.passage.unsettled
+  pub kept : AreKept p.system.now p.readers.followed (trees_in p.system.now (calls_of p.system.now) p.system.now.definitions p.row.items) p.passage.gone
+      p.passage.unsettled

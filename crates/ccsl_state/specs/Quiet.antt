@@ -22,7 +22,8 @@ reads K i y = named_by (slice_get K.definitions i) y
 
 -- the tree of a definition reads what the definition does, after any steps
 abbrev pub ReadsNoMore : System → Type 0
-ReadsNoMore K = (i : ℕ) (e : Expression) (T : List Step) (x : ℕ) → slice_get K.definitions i ≡ Some e → TreeWithin (λ y. reads K i y ≡ true) (tree_after K T x e)
+ReadsNoMore K = (i : ℕ) (e : Expression) (T : List Step) (x : ℕ) → slice_get K.definitions i ≡ Some e
+    → TreeWithin (λ y. reads K i y ≡ true) (tree_after K T x e)
 
 abbrev pub IsUnheard : Step → Tree → Type 0
 IsUnheard s t = TreeWithin (λ x. ticks_in x s ≡ false) t

@@ -37,7 +37,8 @@ abbrev pub Includes : System → List ℕ → List ℕ → Type 0
 Includes K set part = (x : ℕ) → K.declared ≤ x → ticks_in x part ≡ true → ticks_in x set ≡ true
 
 abbrev pub IsClosed : System → List ℕ → Type 0
-IsClosed K set = (x y : ℕ) (e : Expression) → definition_of K x ≡ Some e → ticks_in x set ≡ true → names_clock e y ≡ true → K.declared ≤ y → ticks_in y set ≡ true
+IsClosed K set = (x y : ℕ) (e : Expression) → definition_of K x ≡ Some e → ticks_in x set ≡ true → names_clock e y ≡ true → K.declared ≤ y
+    → ticks_in y set ≡ true
 
 abbrev pub is_within : System → List ℕ → ℕ → Bool
 is_within K set y = nat_lt y K.declared || ticks_in y set

@@ -55,4 +55,5 @@ is_own words g (EIf q a d) ρ = if test_of words q ρ then is_own words g a ρ e
 -- the cells of the region of a call are enough for each member, or more than there are
 abbrev pub IsEnough : System → List ℕ → Type 0
 IsEnough K earlier = (g : ℕ) → g < length earlier →
-    (1 ≤ slice_index earlier g) × ((m : ℕ) (b : Body) → body_of K.groups g m ≡ Some b → saturated (1 + length b.params + cells_in (take g earlier) b.root) ≤ slice_index earlier g)
+    (1 ≤ slice_index earlier g) × ((m : ℕ) (b : Body) → body_of K.groups g m ≡ Some b
+    → saturated (1 + length b.params + cells_in (take g earlier) b.root) ≤ slice_index earlier g)

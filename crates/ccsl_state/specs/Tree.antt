@@ -4,7 +4,8 @@
 --     opening      the state of an expression at its birth
 --     formula_of t, dead_of gone t      its formula, and its death where gone x tells whether clock x is dead
 --     next s gone t      the state after the step s, where gone tells of the clocks after that step
-use Rattle.std.specs.Prelude.{ℕ, zero, suc, ◌+◌, ◌-◌, ◌^◌, List, [], ◌∷◌, Bool, false, not, ◌&&◌, ◌||◌, Option, Some, None, map, length, min, slice_index_or, replicate, nat_eq, nat_lt, nat_le, if◌then◌else◌}
+use Rattle.std.specs.Prelude.{ℕ, zero, suc, ◌+◌, ◌-◌, ◌^◌, List, [], ◌∷◌, Bool, false, not, ◌&&◌, ◌||◌, Option, Some, None, map, length, min, slice_index_or}
+use Rattle.std.specs.Prelude.{replicate, nat_eq, nat_lt, nat_le, if◌then◌else◌}
 use Rattle.ccsl_formula.specs.Formula.{Formula, FFalse, FVar, FNot, FAnd, FOr, eval}
 use Rattle.ccsl_words.specs.Word.{BinaryWord, letter, rest, is_finite}
 use Rattle.ccsl_kernel.specs.declared.expr.ExprOp.{ExprOp}

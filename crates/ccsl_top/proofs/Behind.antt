@@ -36,7 +36,8 @@ with_spec spec behind = record { slot = Spec; name = spec } ∷ behind
 module _ (told : Told) (words : List (List ℕ)) (c : Command) (means : meaning words ≡ Ok c)
     (spec : List ℕ) (behind : List Opened) (opens_files : files_of c ≡ with_spec spec behind)
     (IsAnswer : (List ℕ → List ℕ) → List ℕ → System → Outcome → Type 0)
-    (as_outcome : (content : List ℕ → List ℕ) (input : List ℕ) (o : Outcome) → IsSpecOutcome (content spec) (IsAnswer content input) o → IsOutcomeOf content input (Ok c) o) where
+    (as_outcome : (content : List ℕ → List ℕ) (input : List ℕ) (o : Outcome) → IsSpecOutcome (content spec) (IsAnswer content input) o
+    → IsOutcomeOf content input (Ok c) o) where
   opened-files : files_opened words ≡ with_spec spec behind
   opened-files = ap files_meant means ∙ opens_files
 
@@ -54,12 +55,14 @@ module _ (told : Told) (words : List (List ℕ)) (c : Command) (means : meaning 
   pub closed-none : ((slot : Slot) → is_output slot ≡ true → opens behind slot ≡ false) → (status : ℕ) (u : State) → AreClosed words status u
   closed-none none status u _ slot out opened =
       let unspec : is_slot Spec slot ≡ false = is_slot-other Spec slot (output-differs Spec slot refl out) in
-      absurd (both_ways (opens (files_opened words) slot) (ap (λ fs. opens fs slot) opened-files ∙ ap (λ b. b || opens behind slot) unspec ∙ none slot out) opened)
+      absurd (both_ways (opens (files_opened words) slot) (ap (λ fs. opens fs slot) opened-files ∙ ap (λ b. b || opens behind slot) unspec ∙ none slot out)
+      opened)
 
   pub among-answers : (status : ℕ) → Contains (answers_of (Ok c)) status → Contains (answers_of (meaning words)) status
   among-answers status known = subst (λ m. Contains (answers_of m) status) (sym means) known
 
-  pub is-outcome : (content : List ℕ → List ℕ) (input : List ℕ) (o : Outcome) → IsSpecOutcome (content spec) (IsAnswer content input) o → IsOutcome words content input o
+  pub is-outcome : (content : List ℕ → List ℕ) (input : List ℕ) (o : Outcome) → IsSpecOutcome (content spec) (IsAnswer content input) o
+      → IsOutcome words content input o
   is-outcome content input o is = subst (λ m. IsOutcomeOf content input m o) (sym means) (as_outcome content input o is)
 
   -- what reading some of these slots leaves
@@ -99,7 +102,8 @@ module _ (told : Told) (words : List (List ℕ)) (c : Command) (means : meaning 
     module _ (reads : Reads (only Spec) s t) where
       -- a reply that stands for what is answered on the specification alone
       spec-replied : (reply : Reply) → Contains (answers_of (Ok c)) (code_of reply.status) → AreClosed words (code_of reply.status) t →
-          (IsTrue told.files → IsTrue told.left → IsSpecOutcome (held s.files spec) (IsAnswer (held s.files) (input_of s)) (plain_reply reply)) → Answered told words reply s t
+          (IsTrue told.files → IsTrue told.left → IsSpecOutcome (held s.files spec) (IsAnswer (held s.files) (input_of s)) (plain_reply reply))
+          → Answered told words reply s t
       spec-replied reply known closed is = record {
         used = only Spec;
         leaves = leaves-reads (only Spec) spec-within s t reads.uses;
@@ -125,7 +129,8 @@ module _ (told : Told) (words : List (List ℕ)) (c : Command) (means : meaning 
 
       module _ (K : System) (system : IsTrue told.files → IsTrue told.left → IsSystemOf (held s.files spec) K) where
         -- where nothing is written
-        pub spec-answered : ((slot : Slot) → is_output slot ≡ true → opens behind slot ≡ false) → (reply : Reply) → Contains (answers_of (Ok c)) (code_of reply.status) →
+        pub spec-answered : ((slot : Slot) → is_output slot ≡ true → opens behind slot ≡ false) → (reply : Reply)
+            → Contains (answers_of (Ok c)) (code_of reply.status) →
             IsAnswer (held s.files) (input_of s) K (plain_reply reply) → Answered told words reply s t
         spec-answered none reply known is = spec-replied reply known (closed-none none (code_of reply.status) t) (λ f l. accepted K (system f l) is)
 
@@ -163,7 +168,8 @@ module _ (told : Told) (words : List (List ℕ)) (c : Command) (means : meaning 
             leaves = leaves-reads used both-within s u (uses-then (only Spec) more s t u reads.uses after.uses);
             counts = λ slot. after.counts slot ∙ reads.counts slot;
             known = among-answers (code_of reply.status) known;
-            within = λ slot e. reach-read words slot (code_of reply.status) accepted_is (used-input slot e) (opened-used words slot (opened-slot slot (both-within slot e)));
+            within = λ slot e. reach-read words slot (code_of reply.status) accepted_is (used-input slot e)
+                (opened-used words slot (opened-slot slot (both-within slot e)));
             closed = closed;
             stands = behind-told (λ f l. record {
               outcome = plain_reply reply;
@@ -198,7 +204,7 @@ module _ (told : Told) (words : List (List ℕ)) (c : Command) (means : meaning 
 -- a specification that was not read, whichever words mean the command
 pub reading-stops : (told : Told) (c : Command) (spec : List ℕ) (behind : List Opened) → files_of c ≡ with_spec spec behind →
     (IsAnswer : (List ℕ → List ℕ) → List ℕ → System → Outcome → Type 0) →
-    ((content : List ℕ → List ℕ) (input : List ℕ) (o : Outcome) → IsSpecOutcome (content spec) (IsAnswer content input) o → IsOutcomeOf content input (Ok c) o) →
-    (s t : State) (reason : Stop) → IsStop reason Spec s t → StopsAt told c reason s t
+    ((content : List ℕ → List ℕ) (input : List ℕ) (o : Outcome) → IsSpecOutcome (content spec) (IsAnswer content input) o → IsOutcomeOf content input (Ok c) o)
+    → (s t : State) (reason : Stop) → IsStop reason Spec s t → StopsAt told c reason s t
 reading-stops told c spec behind opens_files IsAnswer as_outcome s t reason stop =
     λ words means. spec-stopped told words c means spec behind opens_files IsAnswer as_outcome s t reason stop

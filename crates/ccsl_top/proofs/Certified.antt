@@ -1,5 +1,6 @@
 -- A certificate that explains is one that `certify` accepts.
-use Rattle.std.proofs.Common.{◌≡◌, ℕ, zero, suc, ◌+◌, ◌<◌, ◌≤◌, ◌^◌, List, [], ◌∷◌, ◌++◌, length, Bool, true, false, Option, Some, None, Ok, All, slice_get, cond, refl, sym, ap, ◌∙◌, subst, arith, length-append}
+use Rattle.std.proofs.Common.{◌≡◌, ℕ, zero, suc, ◌+◌, ◌<◌, ◌≤◌, ◌^◌, List, [], ◌∷◌, ◌++◌, length, Bool, true, false, Option, Some, None, Ok, All, slice_get}
+use Rattle.std.proofs.Common.{cond, refl, sym, ap, ◌∙◌, subst, arith, length-append}
 use Rattle.std.specs.List.{AllByRecursion}
 use Rattle.std.proofs.lemmas.Bool.{and_parts, le-leb, both_ways}
 use Rattle.std.proofs.lemmas.List.{length-map}
@@ -23,7 +24,8 @@ use Rattle.ccsl_refute.specs.declared.line.Line.TheVariants.{Nonempty, Item, Der
 use Rattle.ccsl_refute.specs.Literals.{falsified, are_proper}
 use Rattle.ccsl_refute.specs.Below.{AreBelow}
 use Rattle.ccsl_refute.specs.NumbersFit.{AllBelow, NumbersFit}
-use Rattle.ccsl_refute.specs.Validity.{line_at, fails_line, unit_line, fails_at, unit_at, closes, is_refuted, refutes_item, is_valid, valid_from, are_valid, ends_empty, is_certificate}
+use Rattle.ccsl_refute.specs.Validity.{line_at, fails_line, unit_line, fails_at, unit_at, closes, is_refuted, refutes_item, is_valid, valid_from, are_valid}
+use Rattle.ccsl_refute.specs.Validity.{ends_empty, is_certificate}
 use Rattle.ccsl_refute.specs.Writing.{line_text, lines_text}
 use Rattle.ccsl_refute.specs.LineLiterals.{literals}
 use Rattle.ccsl_refute.specs.Reading as certificates
@@ -94,7 +96,8 @@ module _ (scope : Scope) (formulas : List Formula) (few : length formulas < 2 ^ 
       hints-below scope.declared earlier (2 ^ 64) short (falsified lits) hints
       (and_parts (are_proper scope.named lits) (closes scope.declared earlier (falsified lits) hints) e).1
 
-  lines-fit : (earlier lines : List Line) → length earlier + length lines < 2 ^ 64 → valid_from scope formulas earlier lines ≡ true → AllByRecursion NumbersFit lines
+  lines-fit : (earlier lines : List Line) → length earlier + length lines < 2 ^ 64 → valid_from scope formulas earlier lines ≡ true
+      → AllByRecursion NumbersFit lines
   lines-fit earlier [] short e = tt
   lines-fit earlier (line ∷ lines) short e =
       let p = and_parts (is_valid scope formulas earlier line) (valid_from scope formulas (earlier ++ line ∷ []) lines) e in
@@ -122,7 +125,8 @@ formulas-count K T = length-map (steps 0 (item_count K)) (item_formula K T (leng
 
 -- WHAT IS WRITTEN IS VALID
 module _ (none-bad : NoBadLine)
-    (named : (scope : Scope) (formulas : List Formula) (lines : List Line) → are_valid scope formulas lines ≡ true → All (λ line. AreBelow scope.named (literals line)) lines)
+    (named : (scope : Scope) (formulas : List Formula) (lines : List Line) → are_valid scope formulas lines ≡ true
+    → All (λ line. AreBelow scope.named (literals line)) lines)
     (back : (names : List (List ℕ)) (lines : List Line) → are_distinct names ≡ true → are_cert_names names ≡ true →
     All (λ line. AreBelow (length names) (literals line)) lines → All NumbersFit lines → certificates.reading names (lines_text names lines) ≡ Ok lines)
     (K : System) (ok : IsAccepted K) (distinct : are_distinct K.names ≡ true) (spelled : are_cert_names K.names ≡ true) where

@@ -30,15 +30,18 @@ use Rattle.ccsl_top.proofs.Certified.{formulas-count, reads-back}
 use Rattle.ccsl_top.proofs.Certifying.{NoBadLine, verdict-outcome}
 
 module _ (none-bad : NoBadLine)
-    (named : (scope : Scope) (formulas : List Formula) (lines : List Line) → are_valid scope formulas lines ≡ true → All (λ line. AreBelow scope.named (literals line)) lines)
+    (named : (scope : Scope) (formulas : List Formula) (lines : List Line) → are_valid scope formulas lines ≡ true
+    → All (λ line. AreBelow scope.named (literals line)) lines)
     (back : (names : List (List ℕ)) (lines : List Line) → are_distinct names ≡ true → are_cert_names names ≡ true →
     All (λ line. AreBelow (length names) (literals line)) lines → All NumbersFit lines → certificates.reading names (lines_text names lines) ≡ Ok lines)
-    (K : System) (ok : IsAccepted K) (distinct : are_distinct K.names ≡ true) (spelled : are_cert_names K.names ≡ true) (judged : SimulatedTracesAreRuns K) where
+    (K : System) (ok : IsAccepted K) (distinct : are_distinct K.names ≡ true) (spelled : are_cert_names K.names ≡ true)
+    (judged : SimulatedTracesAreRuns K) where
   module _ (p : Policy) (seed steps : ℕ) (few : steps ≤ MAX_STEPS) where
     abbrev T : List Step
     T = run K p seed steps
 
-    lines-certify : (ls : List Line) → is_certificate (scope_of K) (item_formulas K (run K p seed steps)) ls ≡ true → length (lines_text K.names ls) ≤ MAX_FILE_BYTES →
+    lines-certify : (ls : List Line) → is_certificate (scope_of K) (item_formulas K (run K p seed steps)) ls ≡ true
+        → length (lines_text K.names ls) ≤ MAX_FILE_BYTES →
         certify_outcome K (vcd_text K (run K p seed steps)) (lines_text K.names ls) ≡ outcome 0 (cert_valid_text (length (run K p seed steps)))
     lines-certify ls valid short =
         let j = judged p seed steps few in

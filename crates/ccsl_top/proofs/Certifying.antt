@@ -1,5 +1,6 @@
 -- A trace and a certificate that were opened and checked.
-use Rattle.std.proofs.Common.{◌≡◌, ◌≢◌, ℕ, ◌<◌, ◌≤◌, List, [], ◌∷◌, length, Bool, true, false, ◌||◌, cond, Some, None, Result, Ok, Err, IfOk, IfErr, IsTrue, ⊎_elim, inl, inr, refl, sym, ap, ◌∙◌, subst, arith, lt-ltb, le-ltb}
+use Rattle.std.proofs.Common.{◌≡◌, ◌≢◌, ℕ, ◌<◌, ◌≤◌, List, [], ◌∷◌, length, Bool, true, false, ◌||◌, cond, Some, None, Result, Ok, Err, IfOk, IfErr, IsTrue}
+use Rattle.std.proofs.Common.{⊎_elim, inl, inr, refl, sym, ap, ◌∙◌, subst, arith, lt-ltb, le-ltb}
 use Rattle.ccsl_base.specs.declared.limits.TheConstants.{MAX_FILE_BYTES}
 use Rattle.ccsl_base.specs.declared.rows.Row.{Row}
 use Rattle.ccsl_edge.specs.declared.slot.Slot.{Slot}
@@ -55,7 +56,8 @@ use Rattle.std.proofs.lemmas.Bool.{both_ways}
 
 -- a certificate has no bad line
 abbrev pub NoBadLine : Type 0
-NoBadLine = (scope : Scope) (formulas : List Formula) (lines : List Line) → is_certificate scope formulas lines ≡ true → first_bad_line scope formulas lines ≡ None
+NoBadLine = (scope : Scope) (formulas : List Formula) (lines : List Line) → is_certificate scope formulas lines ≡ true
+    → first_bad_line scope formulas lines ≡ None
 
 -- WHICH OUTCOME an answer is
 module _ (none-bad : NoBadLine) (K : System) (trace cert : List ℕ) where
@@ -66,7 +68,8 @@ module _ (none-bad : NoBadLine) (K : System) (trace cert : List ℕ) where
   bound = clocks_of (wanted_of K) LIMITS trace
 
   -- a trace without a fault, and a certificate that is short enough
-  fine-outcome : (reading (wanted_of K) LIMITS trace).fault ≡ None → length cert ≤ MAX_FILE_BYTES → certify_outcome K trace cert ≡ text_outcome K trace (certificates.reading K.names cert)
+  fine-outcome : (reading (wanted_of K) LIMITS trace).fault ≡ None → length cert ≤ MAX_FILE_BYTES
+      → certify_outcome K trace cert ≡ text_outcome K trace (certificates.reading K.names cert)
   fine-outcome fine short = ap (λ fault. behind_fault K fault (cert_outcome K trace cert)) fine
       ∙ ap (λ t. cond t (outcome 4 cert_too_long_text) (text_outcome K trace (certificates.reading K.names cert))) (le-ltb MAX_FILE_BYTES (length cert) short)
 
@@ -247,7 +250,8 @@ module _ (none-bad : NoBadLine) (told : Told) (K : System) (trace cert : List �
             IfOk found (λ reply. CertifyAnswers told K trace cert reply s w) × IfErr found (λ reason. IsBothStop reason s w)
         on-fault fault.Fault is e = stops stop.Fault e (⊎_elim
             (λ f. both-breaks s u w opened-both (trace-breaks told u w (part-breaks told u w Trace f.bytes f.reads)))
-            (λ f. both-breaks s f.between w (trace-read f.between f.bound f.rows f.trace) (cert-breaks told f.between w (part-breaks told f.between w Cert f.reads.bytes f.reads.fails)))
+            (λ f. both-breaks s f.between w (trace-read f.between f.bound f.rows f.trace)
+            (cert-breaks told f.between w (part-breaks told f.between w Cert f.reads.bytes f.reads.fails)))
             is)
         on-fault (fault.Refused f) is g = gives (outcome 4 (trace_text f K)) four
             (both-then s u w opened-both (takes-both told u w Trace refl is.bytes is.reads))
@@ -265,7 +269,8 @@ module _ (none-bad : NoBadLine) (told : Told) (K : System) (trace cert : List �
             (λ n. both-then s n.between w (trace-read n.between n.bound n.rows n.trace) (takes-both told n.between w Cert refl n.reads.bytes n.reads.reads))
             is)
 
-        pub certify-replies : (r : Result CertVerdict CertifyFault) → IfOk r (λ v. IsCertified told K LIMITS u w v) → IfErr r (λ f. IsUncertified told K LIMITS u w f) →
+        pub certify-replies : (r : Result CertVerdict CertifyFault) → IfOk r (λ v. IsCertified told K LIMITS u w v)
+            → IfErr r (λ f. IsUncertified told K LIMITS u w f) →
             IsReplyOn K r found → IfOk found (λ reply. CertifyAnswers told K trace cert reply s w) × IfErr found (λ reason. IsBothStop reason s w)
         certify-replies (Ok v) is _ g = gives (verdict_outcome K v) (verdict-status v)
             (both-read is.read.between is.bound is.rows is.read.trace is.text is.read.certificate)
@@ -312,13 +317,15 @@ module _ (told : Told) (spec trace cert : List ℕ) (s t : State) (reads : Reads
   certify-answers (Ok reply) a = λ words means.
       read-answered told words c means spec behind refl IsAnswer (λ content input o x. x) s t reads K system both within inputs u reply a.reads a.status.1
       (read-known reply.status a.status)
-      (closed-none told words c means spec behind refl IsAnswer (λ content input o x. x) (λ slot out. on-output (λ x. opens behind x ≡ false) refl refl slot out) (code_of reply.status) u)
+      (closed-none told words c means spec behind refl IsAnswer (λ content input o x. x)
+      (λ slot out. on-output (λ x. opens behind x ≡ false) refl refl slot out) (code_of reply.status) u)
       (λ f l. a.is f l ∙ ap (λ fs. certify_outcome K (held fs trace) (held fs cert)) reads.uses.files)
   certify-answers (Err reason) a = a
 
   both-stopped : (reason : Stop) → IsBothStop reason t u → StopsAt told (command.Certify spec trace cert) reason s u
   both-stopped stop.Fault b = λ words means. ⊎_elim
-      (λ rose. read-faulted told words c means spec behind refl IsAnswer (λ content input o x. x) s t reads K system both within inputs u b.uses Trace refl rose)
+      (λ rose. read-faulted told words c means spec behind refl IsAnswer (λ content input o x. x) s t reads K system both within inputs u b.uses Trace refl
+      rose)
       (λ rose. read-faulted told words c means spec behind refl IsAnswer (λ content input o x. x) s t reads K system both within inputs u b.uses Cert refl rose)
       b.rose
   both-stopped stop.Memory b = λ words means.

@@ -26,4 +26,5 @@ module _ (told : Told) (spec : List ℕ) (s t : State) (reads : Reads (only Spec
   pub check-stops : (result : Result Reply Stop) → IfErr result (λ reason. reason ≡ Memory) →
       IfErr result (λ reason. StopsAt told (command.Check spec) reason s t)
   check-stops (Ok reply) is = is
-  check-stops (Err reason) is = rw is (reading-stops told (command.Check spec) spec [] refl (λ content input K o. o ≡ check_outcome K) (λ content input o is. is) s t Memory reads)
+  check-stops (Err reason) is =
+      rw is (reading-stops told (command.Check spec) spec [] refl (λ content input K o. o ≡ check_outcome K) (λ content input o is. is) s t Memory reads)

@@ -29,7 +29,8 @@ use Rattle.std.proofs.lemmas.Bool.{both_ways}
 
 -- a reply that stands for an outcome of a command that opens no file
 abbrev IsAnswer : Command → Reply → Type 0
-IsAnswer c reply = ((content : List ℕ → List ℕ) (input : List ℕ) → IsOutcomeOf content input (Ok c) (plain_reply reply)) × Contains (answers_of (Ok c)) (code_of reply.status)
+IsAnswer c reply = ((content : List ℕ → List ℕ) (input : List ℕ) → IsOutcomeOf content input (Ok c) (plain_reply reply))
+    × Contains (answers_of (Ok c)) (code_of reply.status)
 
 module _ (told : Told) (words : List (List ℕ)) (s : State) where
   leaves-none : Leaves told words (λ slot. false) s s
@@ -50,7 +51,13 @@ module _ (told : Told) (words : List (List ℕ)) (s : State) where
     known = known;
     within = λ slot e. absurd (both_ways false refl e);
     closed = λ _ slot _ e. absurd (both_ways (opens (files_opened words) slot) (none slot) e);
-    stands = λ _. record { outcome = plain_reply reply; status_is = refl; report_is = refl; defined = record { is = is (held s.files) (input_of s); files = λ _. record {} } };
+    stands = λ _. record {
+      outcome = plain_reply reply;
+      status_is = refl;
+      report_is = refl;
+      defined =
+          record { is = is (held s.files) (input_of s); files = λ _. record {} };
+    };
   }
 
   -- no memory was to be had before a file was opened
@@ -104,10 +111,12 @@ module _ (told : Told) (s : State) where
 pub trial-outcome : (c : Command) (clocks steps seed workers : ℕ) → c ≡ command.Trial clocks steps seed workers → (result : Result Reply Stop) →
     IfOk result (λ reply. plain_reply reply ≡ trial_outcome clocks steps seed) →
     IfOk result (λ reply. IsAnswer c reply)
-trial-outcome c clocks steps seed workers is (Ok reply) e = subst (λ x. IsAnswer x reply) (sym is) (λ content input. e, (0, omega arith, sym (ap (λ o. o.status) e)))
+trial-outcome c clocks steps seed workers is (Ok reply) e =
+    subst (λ x. IsAnswer x reply) (sym is) (λ content input. e, (0, omega arith, sym (ap (λ o. o.status) e)))
 trial-outcome c clocks steps seed workers is (Err stop) e = e
 
-related-status : (u v : BinaryWord) (relation : RelationName) (between : Between) (o : Outcome) → IsRelated u v relation between o → Contains (0 ∷ 1 ∷ []) o.status
+related-status : (u v : BinaryWord) (relation : RelationName) (between : Between) (o : Outcome) → IsRelated u v relation between o
+    → Contains (0 ∷ 1 ∷ []) o.status
 related-status u v relation between o (holds never left right left_is right_is is) = (0, omega arith, sym (ap (λ x. x.status) is))
 related-status u v relation between o (fails k first left right left_is right_is is) = (1, omega arith, sym (ap (λ x. x.status) is))
 
@@ -122,8 +131,10 @@ periodic-status u v name.Excludes o is = related-status u v name.Excludes Exclud
 periodic-status u v name.On o is = filtered-status u v o is
 
 -- words and a relation between their filters
-pub periodic-outcome : (c : Command) (left right : BinaryWord) (relation : RelationName) → c ≡ command.Periodic left right relation → (result : Result Reply Stop) →
+pub periodic-outcome : (c : Command) (left right : BinaryWord) (relation : RelationName) → c ≡ command.Periodic left right relation
+    → (result : Result Reply Stop) →
     IfOk result (λ reply. IsPeriodicOutcome left right relation (plain_reply reply)) →
     IfOk result (λ reply. IsAnswer c reply)
-periodic-outcome c left right relation is (Ok reply) e = subst (λ x. IsAnswer x reply) (sym is) (λ content input. e, periodic-status left right relation (plain_reply reply) e)
+periodic-outcome c left right relation is (Ok reply) e =
+    subst (λ x. IsAnswer x reply) (sym is) (λ content input. e, periodic-status left right relation (plain_reply reply) e)
 periodic-outcome c left right relation is (Err stop) e = e

@@ -1,5 +1,6 @@
 -- A session, as an answer to words that mean it.
-use Rattle.std.proofs.Common.{◌≡◌, ◌≢◌, ◌⊎◌, ℕ, ◌+◌, ◌<◌, ◌≤◌, List, [], ◌∷◌, ◌++◌, length, take, true, false, Contains, ◌||◌, ◌&&◌, Result, Ok, Err, IsTrue, ⊎_elim, inl, inr, refl, sym, ap, ◌∙◌, subst, arith, append_assoc, take_all, le_refl}
+use Rattle.std.proofs.Common.{◌≡◌, ◌≢◌, ◌⊎◌, ℕ, ◌+◌, ◌<◌, ◌≤◌, List, [], ◌∷◌, ◌++◌, length, take, true, false, Contains, ◌||◌, ◌&&◌, Result, Ok, Err, IsTrue}
+use Rattle.std.proofs.Common.{⊎_elim, inl, inr, refl, sym, ap, ◌∙◌, subst, arith, append_assoc, take_all, le_refl}
 use Rattle.std.proofs.lemmas.Bool.{cases_lt, or_parts, both_ways}
 use Rattle.std.proofs.lemmas.List.{take-append-le}
 use Rattle.std.proofs.Math.Seq.{take-append-add}
@@ -47,7 +48,11 @@ conversed-front Quit t n = (n, refl)
 conversed-front EndOfInput t n = (n, refl)
 conversed-front TooLong t n = ⊎_elim
     (λ (l : n < length t). (n, sym (take-append-le n t session_too_long_text (omega (arith, l)))))
-    (λ (m : length t ≤ n). (length t, take_all n t m ∙ sym (take-append-le (length t) t session_too_long_text (le_refl (length t)) ∙ take_all (length t) t (le_refl (length t)))))
+    (λ (m : length t ≤ n). (
+      length t,
+      take_all n t m ∙ sym
+          (take-append-le (length t) t session_too_long_text (le_refl (length t)) ∙ take_all (length t) t (le_refl (length t))),
+    ))
     (cases_lt n (length t))
 
 -- THE SLOTS that a session changes, beside the specification's
@@ -85,7 +90,8 @@ talk-more told start now new said more t alone here rise grows = record {
   rises = λ slot. by-test (is_slot Report slot)
       (λ yes. subst (λ x. (start.slot_of x).faults ≤ (new.slot_of x).faults) (is_slot-same Report slot yes) (let r = t.rises Report in omega (arith, r, rise)))
       (λ no. let e = ap (λ x. x.faults) (alone.others slot (is_slot-differs Report slot no)) in let r = t.rises slot in omega (arith, e, r));
-  report = here ∙ ap (λ (x : SlotState). let S : SlotState = record x { written = (new.slot_of Report).written; faults = (new.slot_of Report).faults } in S) t.report;
+  report = here ∙ ap (λ (x : SlotState). let S : SlotState =
+      record x { written = (new.slot_of Report).written; faults = (new.slot_of Report).faults } in S) t.report;
   grows = λ w. grows w ∙ ap (λ x. x ++ more) (t.grows w) ∙ append_assoc (start.slot_of Report).written said more;
   rest = λ l. subst (λ (x : SlotState). LeavesRest MAX_FILE_BYTES (input_of start) x.left) (sym (alone.others Input input-apart)) (t.rest l);
 }
@@ -93,7 +99,8 @@ talk-more told start now new said more t alone here rise grows = record {
 written-alone : (a b : SlotState) → b ≡ record a { written = b.written } → b ≡ record a { written = b.written; faults = b.faults }
 written-alone a b e = e ∙ sym (ap (λ n. let S : SlotState = record a { written = b.written; faults = n } in S) (ap (λ x. x.faults) e))
 
-module _ (told : Told) (words : List (List ℕ)) (K : System) (policy : Policy) (seed : ℕ) (start begun : State) (b : Begins told words K policy seed start begun) where
+module _ (told : Told) (words : List (List ℕ)) (K : System) (policy : Policy) (seed : ℕ) (start begun : State)
+    (b : Begins told words K policy seed start begun) where
   abbrev c : Command
   c = command.Session b.spec b.name seed
 
@@ -118,7 +125,8 @@ module _ (told : Told) (words : List (List ℕ)) (K : System) (policy : Policy) 
 
   outcome-is : IsTrue told.files → IsTrue told.left → IsOutcome words (held start.files) (input_of start) (conversed ended text)
   outcome-is f l = is-outcome told words c b.means b.spec [] refl IsAnswer (λ content input o x. x) (held start.files) (input_of start) (conversed ended text)
-      (accepted K (b.system f l) (ap (λ p. session_outcome K p seed input) b.policy_is ∙ ap (λ (x : SlotState). session_outcome K (named_policy b.name) seed x.left) input-same))
+      (accepted K (b.system f l) (ap (λ p. session_outcome K p seed input) b.policy_is
+      ∙ ap (λ (x : SlotState). session_outcome K (named_policy b.name) seed x.left) input-same))
 
   -- THE PROMISE, from what was said
   module _ (new : State) (said : List ℕ) (t : Talk told start new said) where
@@ -126,7 +134,8 @@ module _ (told : Told) (words : List (List ℕ)) (K : System) (policy : Policy) 
     closed-apart slot e =
         let opened : opens (files_opened words) slot ≡ (is_slot Spec slot || false) = ap (λ m. opens (files_meant m) slot) b.means in
         let asks : is_session (meaning words) ≡ true = ap is_session b.means in
-        let a : (is_slot Spec slot || false) ≡ false = sym opened ∙ (or_parts (opens (files_opened words) slot) (is_session (meaning words) && is_slot slot Input) e).0 in
+        let a : (is_slot Spec slot || false) ≡ false =
+        sym opened ∙ (or_parts (opens (files_opened words) slot) (is_session (meaning words) && is_slot slot Input) e).0 in
         let i : (true && is_slot slot Input) ≡ false =
         sym (ap (λ x. x && is_slot slot Input) asks) ∙ (or_parts (opens (files_opened words) slot) (is_session (meaning words) && is_slot slot Input) e).1 in
         (is_slot-differs Spec slot (or_parts (is_slot Spec slot) false a).0, λ same. is_slot-differs slot Input i (sym same))
@@ -141,7 +150,8 @@ module _ (told : Told) (words : List (List ℕ)) (K : System) (policy : Policy) 
     unreached : (status : ℕ) → status ≢ 3 → (slot : Slot) → may_change words status slot ≡ false → (slot ≢ Spec) × (slot ≢ Input)
     unreached status three slot e = by-test (is_output slot)
         (λ out. (output-differs Spec slot refl out, output-differs Input slot refl out))
-        (λ out. closed-apart slot (by-test (uses words slot) (λ yes. absurd (both_ways (may_change words status slot) e (reach-read words slot status three out yes))) (λ no. no)))
+        (λ out. closed-apart slot
+        (by-test (uses words slot) (λ yes. absurd (both_ways (may_change words status slot) e (reach-read words slot status three out yes))) (λ no. no)))
 
     -- no output slot is opened
     none-opened : (slot : Slot) → is_output slot ≡ true → opens (files_opened words) slot ≡ false
@@ -191,7 +201,8 @@ module _ (told : Told) (words : List (List ℕ)) (K : System) (policy : Policy) 
     }
 
     -- a front was said
-    fronted : (IsTrue told.left → (n : ℕ) × (said ≡ take n (conversed ended text).report)) → IsTold told words → (count : ℕ) × Reports told words start new (take count)
+    fronted : (IsTrue told.left → (n : ℕ) × (said ≡ take n (conversed ended text).report)) → IsTold told words
+        → (count : ℕ) × Reports told words start new (take count)
     fronted front = as-told (λ f l. (
       (front l).0,
       record {
@@ -213,7 +224,8 @@ module _ (told : Told) (words : List (List ℕ)) (K : System) (policy : Policy) 
         (λ _. cause) (λ tells _. fronted front tells)
 
     -- it has ended
-    closed : (status : ℕ) → Contains (5 ∷ 6 ∷ 0 ∷ 3 ∷ 4 ∷ []) status → status ≢ 3 → status ≤ 4 → ((slot : Slot) → (new.slot_of slot).faults ≡ (start.slot_of slot).faults) →
+    closed : (status : ℕ) → Contains (5 ∷ 6 ∷ 0 ∷ 3 ∷ 4 ∷ []) status → status ≢ 3 → status ≤ 4
+        → ((slot : Slot) → (new.slot_of slot).faults ≡ (start.slot_of slot).faults) →
         (IsTrue told.left → status ≡ (conversed ended text).status) → (IsTrue told.left → said ≡ (conversed ended text).report) →
         (IsTrue told.left → [] ≡ (conversed ended text).outputs) → Headline told words status start new
     closed status known three low counts status_is all none = promised status known three
@@ -230,12 +242,15 @@ module _ (told : Told) (words : List (List ℕ)) (K : System) (policy : Policy) 
       inputs = λ slot n. by-test (is_slot Input slot)
           (λ yes. subst (λ x. Changed (start.slot_of x) (now.slot_of x)) (is_slot-same Input slot yes)
           (subst (λ x. Changed x (now.slot_of Input)) input-same s.input))
-          (λ no. subst (Changed (start.slot_of slot)) (sym (s.others slot (is_slot-differs Input slot no) n)) (uses-changed (only Spec) start begun b.reads.uses slot));
+          (λ no. subst (Changed (start.slot_of slot)) (sym (s.others slot (is_slot-differs Input slot no) n))
+          (uses-changed (only Spec) start begun b.reads.uses slot));
       rises = by-slot (λ x. (start.slot_of x).faults ≤ (now.slot_of x).faults)
           (let e = ap (λ (x : SlotState). x.faults) input-same in omega (arith, e, input_rises))
           (let e = ap (λ (x : SlotState). x.faults) report-same in omega (arith, e, report_rises))
-          (λ slot i r. let e = ap (λ (x : SlotState). x.faults) (s.others slot i r) in let u = uses-rises (only Spec) start begun b.reads.uses slot in omega (arith, e, u));
-      report = s.report ∙ ap (λ (x : SlotState). let S : SlotState = record x { written = (now.slot_of Report).written; faults = (now.slot_of Report).faults } in S) report-same;
+          (λ slot i r. let e = ap (λ (x : SlotState). x.faults) (s.others slot i r) in let u =
+          uses-rises (only Spec) start begun b.reads.uses slot in omega (arith, e, u));
+      report = s.report ∙ ap (λ (x : SlotState). let S : SlotState =
+          record x { written = (now.slot_of Report).written; faults = (now.slot_of Report).faults } in S) report-same;
       grows = λ w. s.grows w ∙ ap (λ (x : SlotState). x.written ++ said) report-same;
       rest = λ l. subst (λ (x : SlotState). LeavesRest MAX_FILE_BYTES x.left (input_of now)) input-same (rest l);
     }
@@ -246,7 +261,8 @@ module _ (told : Told) (words : List (List ℕ)) (K : System) (policy : Policy) 
         (same.report ∙ ap (λ (x : SlotState). x.faults) report-same)
         (λ slot i r. ap (λ (x : SlotState). x.faults) (s.others slot i r) ∙ b.reads.counts slot)
 
-    calm : SameCounts told K policy seed MAX_FILE_BYTES begun now → (IsTrue told.left → LeavesRest MAX_FILE_BYTES input (input_of now)) → Talk told start now said
+    calm : SameCounts told K policy seed MAX_FILE_BYTES begun now → (IsTrue told.left → LeavesRest MAX_FILE_BYTES input (input_of now))
+        → Talk told start now said
     calm same rest = talk (let e = same.input in omega (arith, e)) (let e = same.report in omega (arith, e)) rest
 
   -- IT WAS CUT SHORT
@@ -256,7 +272,8 @@ module _ (told : Told) (words : List (List ℕ)) (K : System) (policy : Policy) 
 
     pub session-cut : (why : Stop) → IsCut told K policy seed MAX_FILE_BYTES begun now why → Headline told words (stop_code why) start now
     session-cut stop.Memory cut =
-        starved now cut.text (calm now cut.text cut.says cut.cause cut.rest) (same-counts now cut.text cut.says cut.cause) (λ l. cut-front cut.text (cut.front l))
+        starved now cut.text (calm now cut.text cut.says cut.cause cut.rest) (same-counts now cut.text cut.says cut.cause)
+        (λ l. cut-front cut.text (cut.front l))
     session-cut stop.Fault cut =
         faulted now cut.text (talk now cut.text cut.says cut.cause.input cut.cause.report cut.rest) (⊎_elim
         (λ r. by_input b.spec b.name seed b.means (λ f l. (K, b.system f l))
@@ -281,7 +298,8 @@ module _ (told : Told) (words : List (List ℕ)) (K : System) (policy : Policy) 
 
     pub session-done : HasEnded told K policy seed MAX_FILE_BYTES begun now EndOfInput → Headline told words 0 start now
     session-done h = closed now h.text (ended-talk EndOfInput h) 0 (2, omega arith, refl) (λ e. omega (arith, e)) (omega arith) (ended-counts EndOfInput h)
-        (λ l. ap (λ o. o.status) (as-defined EndOfInput h l)) (λ l. ap (λ o. o.report) (as-defined EndOfInput h l)) (λ l. ap (λ o. o.outputs) (as-defined EndOfInput h l))
+        (λ l. ap (λ o. o.status) (as-defined EndOfInput h l)) (λ l. ap (λ o. o.report) (as-defined EndOfInput h l))
+        (λ l. ap (λ o. o.outputs) (as-defined EndOfInput h l))
 
     -- THE INPUT IS TOO LONG, and a line more is to be said
     module _ (h : HasEnded told K policy seed MAX_FILE_BYTES begun now TooLong) where
@@ -289,7 +307,8 @@ module _ (told : Told) (words : List (List ℕ)) (K : System) (policy : Policy) 
       long-starved = starved now h.text (ended-talk TooLong h) (ended-counts TooLong h)
           (λ l. (
             length h.text,
-            sym (take-append-le (length h.text) h.text session_too_long_text (le_refl (length h.text)) ∙ take_all (length h.text) h.text (le_refl (length h.text)))
+            sym (take-append-le (length h.text) h.text session_too_long_text (le_refl (length h.text))
+                ∙ take_all (length h.text) h.text (le_refl (length h.text)))
                 ∙ ap (λ o. take (length h.text) o.report) (as-defined TooLong h l),
           ))
 
@@ -300,7 +319,8 @@ module _ (told : Told) (words : List (List ℕ)) (K : System) (policy : Policy) 
             (let e = ap (λ x. x.faults) adds.here in omega (arith, e)) adds.end)
             4 (4, omega arith, refl) (λ e. omega (arith, e)) (omega arith)
             (λ slot. by-test (is_slot Report slot)
-            (λ yes. subst (λ x. (new.slot_of x).faults ≡ (start.slot_of x).faults) (is_slot-same Report slot yes) (ap (λ x. x.faults) adds.here ∙ ended-counts TooLong h Report))
+            (λ yes. subst (λ x. (new.slot_of x).faults ≡ (start.slot_of x).faults) (is_slot-same Report slot yes)
+            (ap (λ x. x.faults) adds.here ∙ ended-counts TooLong h Report))
             (λ no. ap (λ x. x.faults) (adds.only.others slot (is_slot-differs Report slot no)) ∙ ended-counts TooLong h slot))
             (λ l. ap (λ o. o.status) (as-defined TooLong h l))
             (λ l. ap (λ x. h.text ++ x) line_is ∙ ap (λ o. o.report) (as-defined TooLong h l))
@@ -313,5 +333,6 @@ module _ (told : Told) (words : List (List ℕ)) (K : System) (policy : Policy) 
             (λ l. (
               length h.text + front.count,
               sym (take-append-add h.text line front.count)
-                  ∙ ap (λ x. take (length h.text + front.count) (h.text ++ x)) line_is ∙ ap (λ o. take (length h.text + front.count) o.report) (as-defined TooLong h l),
+                  ∙ ap (λ x. take (length h.text + front.count) (h.text ++ x)) line_is
+                  ∙ ap (λ o. take (length h.text + front.count) o.report) (as-defined TooLong h l),
             ))

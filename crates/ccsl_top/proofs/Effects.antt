@@ -34,12 +34,14 @@ module _ (used : Slot → Bool) (old new : State) (uses : Uses used old new) whe
 pub uses-then : (first second : Slot → Bool) (old mid new : State) → Uses first old mid → Uses second mid new → Uses (λ slot. first slot || second slot) old new
 uses-then first second old mid new p q = record {
   files = q.files ∙ p.files;
-  here = λ slot _. changed-then (old.slot_of slot) (mid.slot_of slot) (new.slot_of slot) (uses-changed first old mid p slot) (uses-changed second mid new q slot);
+  here = λ slot _. changed-then (old.slot_of slot) (mid.slot_of slot) (new.slot_of slot) (uses-changed first old mid p slot)
+      (uses-changed second mid new q slot);
   rises = λ slot _. let a = uses-rises first old mid p slot in let b = uses-rises second mid new q slot in omega (arith, a, b);
   others = λ slot no. q.others slot (or_parts (first slot) (second slot) no).1 ∙ p.others slot (or_parts (first slot) (second slot) no).0;
 }
 
-pub reads-then : (first second : Slot → Bool) (old mid new : State) → Reads first old mid → Reads second mid new → Reads (λ slot. first slot || second slot) old new
+pub reads-then : (first second : Slot → Bool) (old mid new : State) → Reads first old mid → Reads second mid new
+    → Reads (λ slot. first slot || second slot) old new
 reads-then first second old mid new p q = record {
   uses = uses-then first second old mid new p.uses q.uses;
   counts = λ slot. q.counts slot ∙ p.counts slot;
@@ -74,7 +76,8 @@ module _ (slot : Slot) (old new : State) (alone : ChangesOnly slot old new) wher
   }
     where
       left-changed : new.slot_of slot ≡ record (old.slot_of slot) { left = (new.slot_of slot).left } → Changed (old.slot_of slot) (new.slot_of slot)
-      left-changed e = e ∙ sym (ap (λ n. let S : SlotState = record (old.slot_of slot) { left = (new.slot_of slot).left; faults = n } in S) (ap (λ s. s.faults) e))
+      left-changed e = e ∙ sym (ap (λ n. let S : SlotState =
+          record (old.slot_of slot) { left = (new.slot_of slot).left; faults = n } in S) (ap (λ s. s.faults) e))
 
   -- and a call on it failed
   pub breaks-only : new.slot_of slot ≡ record (old.slot_of slot) { left = (new.slot_of slot).left; faults = (new.slot_of slot).faults } →

@@ -23,7 +23,8 @@ use Rattle.ccsl_top.specs.Judge.{LIMITS, clocks_in, judged, behind_fault}
 use Rattle.ccsl_top.specs.Certify.{bad_line, lines_outcome, rows_outcome, text_outcome, cert_outcome, certify_outcome}
 use Rattle.ccsl_top.specs.Laws.{IsCertifiedEnd, CertifiedRunsEnd}
 
-module _ (certificate : (scope : Scope) (formulas : List Formula) (lines : List Line) → first_bad_line scope formulas lines ≡ None → is_certificate scope formulas lines ≡ true)
+module _ (certificate : (scope : Scope) (formulas : List Formula) (lines : List Line) → first_bad_line scope formulas lines ≡ None
+    → is_certificate scope formulas lines ≡ true)
     (K : System) (deadlock : AnsweredYesIsDeadlock K) where
   module _ (trace cert : List ℕ) where
     abbrev rows : List Row
@@ -33,7 +34,8 @@ module _ (certificate : (scope : Scope) (formulas : List Formula) (lines : List 
     IsEnd o = certify_outcome K trace cert ≡ o → o.status ≡ 0 → (steps : ℕ) × IsCertifiedEnd K trace cert steps
 
     -- each case in which the status is 0, as the outcome is
-    of-line : (lines : List Line) (steps : ℕ) → judged K trace ≡ Run steps → (bad : Option ℕ) → bad_line K (recorded (wanted_of K) LIMITS trace) lines ≡ bad → IsEnd (lines_outcome steps bad)
+    of-line : (lines : List Line) (steps : ℕ) → judged K trace ≡ Run steps → (bad : Option ℕ) → bad_line K (recorded (wanted_of K) LIMITS trace) lines ≡ bad
+        → IsEnd (lines_outcome steps bad)
     of-line lines steps v (Some j) b is done = absurd (cc)
     of-line lines steps v None b is done = (
       steps,

@@ -1,5 +1,6 @@
 -- Words, files and standard input have an outcome.
-use Rattle.std.proofs.Common.{◌≡◌, ◌↔◌, ◌⊎◌, ℕ, ◌+◌, ◌<◌, ◌≤◌, List, [], ◌∷◌, All, length, false, Option, Some, None, Result, Ok, Err, refl, sym, ap, ◌∙◌, ⊎_elim, arith}
+use Rattle.std.proofs.Common.{◌≡◌, ◌↔◌, ◌⊎◌, ℕ, ◌+◌, ◌<◌, ◌≤◌, List, [], ◌∷◌, All, length, false, Option, Some, None, Result, Ok, Err, refl, sym, ap, ◌∙◌}
+use Rattle.std.proofs.Common.{⊎_elim, arith}
 use Rattle.std.proofs.lemmas.Bool.{cases_lt}
 use Rattle.ccsl_base.specs.declared.limits.TheConstants.{MAX_LETTERS}
 use Rattle.ccsl_base.specs.declared.rows.Row.{Row}
@@ -89,7 +90,8 @@ module _ (K : System) (ok : IsAccepted K) (named : FormulasReadNamed K) (exist :
   verdict-outcome rows (Violated step time item) = (outcome 1 (broken_text (codes "explain: ") step time item K), refl)
   verdict-outcome rows (Run steps) =
       run-outcome steps (item_formulas K (completed_rows K rows))
-      (exist (scope_of K) (item_formulas K (completed_rows K rows)) (let l : K.declared ≤ length K.names = omega (arith, ok.defined) in l) (named (completed_rows K rows)))
+      (exist (scope_of K) (item_formulas K (completed_rows K rows)) (let l : K.declared ≤ length K.names = omega (arith, ok.defined) in l)
+      (named (completed_rows K rows)))
 
   read-outcome : (fault : Option VcdFault) → (o : Outcome) × IsReadExplained K cert trace fault o
   read-outcome (Some fault) = (outcome 4 (trace_text fault K), refl)
@@ -133,7 +135,8 @@ module _ (read : SystemOrRefusal) (systems : SystemsAreAccepted) (canonical : Ca
     (computed : (text : List ℕ) (w : BinaryWord) → (read_word text ≡ Some w) ↔ Reads text w)
     (one : (K : System) (p : Policy) → SimulationIsOne K p) (deadlocks : (K : System) → IsAccepted K → DeadlocksHaveCertificates K)
     (named : (K : System) → IsAccepted K → FormulasReadNamed K) (exist : (scope : Scope) (formulas : List Formula) → ExplanationsExist scope formulas) where
-  command-outcome : (content : List ℕ → List ℕ) (input : List ℕ) (command : Command) → HasFineWords command → (o : Outcome) × IsCommandOutcome content input command o
+  command-outcome : (content : List ℕ → List ℕ) (input : List ℕ) (command : Command) → HasFineWords command
+      → (o : Outcome) × IsCommandOutcome content input command o
   command-outcome content input (Check spec) f = spec-outcome read systems (content spec) (λ K o. o ≡ check_outcome K) (λ K ok. (check_outcome K, refl))
   command-outcome content input (Simulate spec policy seed steps trace cert) f =
       spec-outcome read systems (content spec) (λ K o. IsSimulated K (named_policy policy) seed steps trace cert o)
@@ -141,7 +144,8 @@ module _ (read : SystemOrRefusal) (systems : SystemsAreAccepted) (canonical : Ca
   command-outcome content input (Judge spec trace workers) f =
       spec-outcome read systems (content spec) (λ K o. o ≡ judge_outcome K (content trace)) (λ K ok. (judge_outcome K (content trace), refl))
   command-outcome content input (Certify spec trace cert) f =
-      spec-outcome read systems (content spec) (λ K o. o ≡ certify_outcome K (content trace) (content cert)) (λ K ok. (certify_outcome K (content trace) (content cert), refl))
+      spec-outcome read systems (content spec) (λ K o. o ≡ certify_outcome K (content trace) (content cert))
+      (λ K ok. (certify_outcome K (content trace) (content cert), refl))
   command-outcome content input (Trial clocks steps seed workers) f = (trial_outcome clocks steps seed, refl)
   command-outcome content input (Periodic left right relation) f = periodic-outcome canonical decided filters left right f.0 f.1 relation
   command-outcome content input (Explain spec trace cert) f =
@@ -151,7 +155,8 @@ module _ (read : SystemOrRefusal) (systems : SystemsAreAccepted) (canonical : Ca
       spec-outcome read systems (content spec) (λ K o. o ≡ session_outcome K (named_policy policy) seed input)
       (λ K ok. (session_outcome K (named_policy policy) seed input, refl))
 
-  meant-outcome : (content : List ℕ → List ℕ) (input : List ℕ) (meant : Result Command Usage) → MeansFine meant → (o : Outcome) × IsOutcomeOf content input meant o
+  meant-outcome : (content : List ℕ → List ℕ) (input : List ℕ) (meant : Result Command Usage) → MeansFine meant
+      → (o : Outcome) × IsOutcomeOf content input meant o
   meant-outcome content input (Err fault) f = (usage_outcome fault, refl)
   meant-outcome content input (Ok command) f = command-outcome content input command f
 

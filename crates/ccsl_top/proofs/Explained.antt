@@ -1,5 +1,6 @@
 -- The command `explain`, as an answer to words that mean it.
-use Rattle.std.proofs.Common.{◌≡◌, ◌≢◌, ℕ, ◌≤◌, List, [], ◌∷◌, Bool, true, false, ◌||◌, Result, Ok, Err, IfOk, IfErr, IsTrue, ⊎_elim, inr, refl, sym, ap, ◌∙◌, subst, arith, bytes_eq}
+use Rattle.std.proofs.Common.{◌≡◌, ◌≢◌, ℕ, ◌≤◌, List, [], ◌∷◌, Bool, true, false, ◌||◌, Result, Ok, Err, IfOk, IfErr, IsTrue, ⊎_elim, inr, refl, sym, ap, ◌∙◌}
+use Rattle.std.proofs.Common.{subst, arith, bytes_eq}
 use Rattle.ccsl_edge.specs.declared.slot.Slot.{Slot}
 use Rattle.ccsl_edge.specs.declared.slot.Slot.TheVariants.{Spec, Trace, TraceOut, CertOut}
 use Rattle.ccsl_edge.specs.World.{State, Told, Rose, held, file_at}
@@ -141,8 +142,8 @@ module _ (told : Told) (words : List (List ℕ)) (spec trace cert : List ℕ) (m
           (λ no. ap (λ x. x.faults) (some.others slot (is_slot-differs CertOut slot no)))
           ∙ both.counts slot
 
-  certificate-closed : (all : IsBlocked told K cert trace t u (WritesWhole told)) (slot : Slot) → is_output slot ≡ true → opens (files_opened words) slot ≡ true →
-      (u.slot_of slot).is_open ≡ false
+  certificate-closed : (all : IsBlocked told K cert trace t u (WritesWhole told)) (slot : Slot) → is_output slot ≡ true → opens (files_opened words) slot ≡ true
+      → (u.slot_of slot).is_open ≡ false
   certificate-closed all slot out = on-output (λ x. opens (files_opened words) x ≡ true → (u.slot_of x).is_open ≡ false)
       (λ e. absurd (both_ways (opens opened TraceOut) refl (sym (ap (λ fs. opens fs TraceOut) words-open) ∙ e)))
       (λ _. all.writes.closed) slot out
@@ -156,7 +157,8 @@ module _ (told : Told) (words : List (List ℕ)) (spec trace cert : List ℕ) (m
         leaves = leaves W all all.writes.some;
         counts = some-counts W all all.writes.some all.writes.counts;
         known = among-answers told words c means spec behind refl IsAnswer (λ content input p x. x) (code_of reply.status) (0, omega arith, sym status);
-        within = λ slot e. reach-all words slot (code_of reply.status) (λ n. omega (arith, n, status)) (λ n. omega (arith, n, status)) (λ n. omega (arith, n, status))
+        within = λ slot e. reach-all words slot (code_of reply.status) (λ n. omega (arith, n, status)) (λ n. omega (arith, n, status))
+            (λ n. omega (arith, n, status))
             (opened-used words slot (used-opened W all slot e));
         closed = λ _ slot out opens_it. certificate-closed all slot out opens_it;
         stands = as-told (λ f l. record {
@@ -183,22 +185,27 @@ module _ (told : Told) (words : List (List ℕ)) (spec trace cert : List ℕ) (m
 
   pub explain-answered : (reply : Reply) → TraceAnswers told K cert trace t u reply → Answered told words reply s u
   explain-answered reply (unwritten after status is) =
-      read-answered told words c means spec behind refl IsAnswer (λ content input p x. x) s t reads K system (only Trace) trace-within (same-input Trace refl) u reply after
+      read-answered told words c means spec behind refl IsAnswer (λ content input p x. x) s t reads K system (only Trace) trace-within (same-input Trace refl) u
+      reply after
       (⊎_elim (λ (n : code_of reply.status ≡ 1). λ e. omega (arith, n, e)) (λ (n : code_of reply.status ≡ 4). λ e. omega (arith, n, e)) status)
       (⊎_elim (λ (n : code_of reply.status ≡ 1). (1, omega arith, sym n)) (λ (n : code_of reply.status ≡ 4). (3, omega arith, sym n)) status)
       (λ done slot out opens_it. absurd (⊎_elim
-      (λ (n : code_of reply.status ≡ 1). ⊎_elim (λ (e : code_of reply.status ≡ 0). omega (arith, n, e)) (λ (e : code_of reply.status ≡ 8). omega (arith, n, e)) done)
-      (λ (n : code_of reply.status ≡ 4). ⊎_elim (λ (e : code_of reply.status ≡ 0). omega (arith, n, e)) (λ (e : code_of reply.status ≡ 8). omega (arith, n, e)) done)
+      (λ (n : code_of reply.status ≡ 1). ⊎_elim (λ (e : code_of reply.status ≡ 0). omega (arith, n, e)) (λ (e : code_of reply.status ≡ 8). omega (arith, n, e))
+      done)
+      (λ (n : code_of reply.status ≡ 4). ⊎_elim (λ (e : code_of reply.status ≡ 0). omega (arith, n, e)) (λ (e : code_of reply.status ≡ 8). omega (arith, n, e))
+      done)
       status))
       (at-start (plain_reply reply) is)
   explain-answered reply (written all status line) = written-answered reply all status line
 
   pub explain-stopped : (reason : Stop) → IsTraceStop told K cert trace t u reason → IsUnanswered reason told words s u
   explain-stopped stop.Fault b = ⊎_elim
-      (λ f. read-faulted told words c means spec behind refl IsAnswer (λ content input p x. x) s t reads K system (only Trace) trace-within (same-input Trace refl) u f.uses Trace (is_slot-self Trace) f.rose)
+      (λ f. read-faulted told words c means spec behind refl IsAnswer (λ content input p x. x) s t reads K system (only Trace) trace-within
+      (same-input Trace refl) u f.uses Trace (is_slot-self Trace) f.rose)
       written-faulted b
   explain-stopped stop.Memory b =
-      read-starved told words c means spec behind refl IsAnswer (λ content input p x. x) s t reads K system (only Trace) trace-within (same-input Trace refl) u b
+      read-starved told words c means spec behind refl IsAnswer (λ content input p x. x) s t reads K system (only Trace) trace-within (same-input Trace refl) u
+      b
       (λ f l name file n e. absurd (no-trial name file n e))
 
 -- whichever words mean the command

@@ -40,7 +40,8 @@ pub opens-report : (words : List (List ℕ)) → opens (files_opened words) Repo
 opens-report words = (meant-neither (meaning words)).1
 
 -- what is not opened is not used
-pub unused-of : (words : List (List ℕ)) (used : Slot → Bool) → AreOpened words used → (slot : Slot) → opens (files_opened words) slot ≡ false → used slot ≡ false
+pub unused-of : (words : List (List ℕ)) (used : Slot → Bool) → AreOpened words used → (slot : Slot) → opens (files_opened words) slot ≡ false
+    → used slot ≡ false
 unused-of words used opened slot closed =
     by-test (used slot) (λ yes. absurd (both_ways (opens (files_opened words) slot) closed (opened slot yes))) (λ no. no)
 
@@ -99,9 +100,11 @@ module _ (told : Told) (words : List (List ℕ)) (used : Slot → Bool) (old mid
           (λ no. let e = ap (λ s. s.faults) (elsewhere slot (is_slot-differs Report slot no)) in
           let r = leaves.stays.rises slot in omega (arith, e, r));
       input = elsewhere Input (is_slot-differs Report Input refl) ∙ input-same;
-      report = here ∙ ap (λ (x : SlotState). let S : SlotState = record x { written = (new.slot_of Report).written; faults = (new.slot_of Report).faults } in S) report-same;
+      report = here ∙ ap (λ (x : SlotState). let S : SlotState =
+          record x { written = (new.slot_of Report).written; faults = (new.slot_of Report).faults } in S) report-same;
       whole = λ t w name. let P : Output → Type 0 = IsDefinedOutput words old.files in
           whole-moves P P (λ o p. p) old old mid new name refl (same-file name) (leaves.whole t w name);
       fronts = λ t w slot out. let P : Output → Type 0 = IsDefinedOutput words old.files in
-          front-moves P P (λ o p. p) old old mid new slot refl (ap (λ s. s.written) (elsewhere slot (output-differs Report slot refl out))) (leaves.fronts t w slot out);
+          front-moves P P (λ o p. p) old old mid new slot refl (ap (λ s. s.written) (elsewhere slot (output-differs Report slot refl out)))
+          (leaves.fronts t w slot out);
     }

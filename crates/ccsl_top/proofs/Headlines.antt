@@ -62,15 +62,22 @@ module _ (told : Told) (words : List (List ℕ)) (old : State) where
     -- the answer was reported
     module _ (adds : Adds told Report reply.line.items mid new) where
       frame : Frame told words a.used old new
-      frame = frame-reported told words a.used old mid a.leaves new adds.only (adds.here ∙ written-alone adds.here) (let e = ap (λ s. s.faults) adds.here in omega (arith, e))
+      frame = frame-reported told words a.used old mid a.leaves new adds.only (adds.here ∙ written-alone adds.here) (let e =
+          ap (λ s. s.faults) adds.here in omega (arith, e))
         where
           written-alone : new.slot_of Report ≡ record (mid.slot_of Report) { written = (new.slot_of Report).written } →
-              record (mid.slot_of Report) { written = (new.slot_of Report).written } ≡ record (mid.slot_of Report) { written = (new.slot_of Report).written; faults = (new.slot_of Report).faults }
-          written-alone e = sym (ap (λ n. let S : SlotState = record (mid.slot_of Report) { written = (new.slot_of Report).written; faults = n } in S) (ap (λ s. s.faults) e))
+              record (mid.slot_of Report) { written = (new.slot_of Report).written } ≡ record (mid.slot_of Report) {
+                written =
+                    (new.slot_of Report).written;
+                faults = (new.slot_of Report).faults;
+              }
+          written-alone e = sym (ap (λ n. let S : SlotState =
+              record (mid.slot_of Report) { written = (new.slot_of Report).written; faults = n } in S) (ap (λ s. s.faults) e))
 
       counts : (slot : Slot) → (new.slot_of slot).faults ≡ (old.slot_of slot).faults
       counts slot = by-test (is_slot Report slot)
-          (λ yes. subst (λ s. (new.slot_of s).faults ≡ (old.slot_of s).faults) (is_slot-same Report slot yes) (ap (λ s. s.faults) adds.here ∙ ap (λ s. s.faults) same))
+          (λ yes. subst (λ s. (new.slot_of s).faults ≡ (old.slot_of s).faults) (is_slot-same Report slot yes)
+          (ap (λ s. s.faults) adds.here ∙ ap (λ s. s.faults) same))
           (λ no. ap (λ s. s.faults) (adds.only.others slot (is_slot-differs Report slot no)) ∙ a.counts slot)
 
       grows : ReportGrows told old new reply.line.items
@@ -131,7 +138,8 @@ module _ (told : Told) (words : List (List ℕ)) (old : State) where
           record {
             outcome = s.outcome;
             is = s.defined.is;
-            grows = λ w. front.front w ∙ ap (λ x. x.written ++ take front.count reply.line.items) same ∙ ap (λ t. (old.slot_of Report).written ++ take front.count t) s.report_is;
+            grows = λ w. front.front w ∙ ap (λ x. x.written ++ take front.count reply.line.items) same
+                ∙ ap (λ t. (old.slot_of Report).written ++ take front.count t) s.report_is;
           },
         );
         early = λ _ e. absurd (omega (arith, e));

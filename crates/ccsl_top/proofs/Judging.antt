@@ -49,7 +49,8 @@ module _ (told : Told) (K : System) (trace : List ℕ) (s t u : State) (opens : 
 
     pub refused-outcome : (o : Outcome) → o ≡ outcome 4 (trace_text f K) → IsTrue told.files → IsTrue told.left → o ≡ judge_outcome K (held s.files trace)
     refused-outcome o e tells_files tells_left =
-        e ∙ sym (ap (λ f. behind_fault K f (verdict_outcome K (judged K (t.slot_of Trace).left))) (is.whole tells_left)) ∙ ap (judge_outcome K) (opens.bytes tells_files tells_left)
+        e ∙ sym (ap (λ f. behind_fault K f (verdict_outcome K (judged K (t.slot_of Trace).left))) (is.whole tells_left))
+        ∙ ap (judge_outcome K) (opens.bytes tells_files tells_left)
 
   pub failed-breaks : Fails told (wanted_of K) LIMITS t u → Breaks Trace s u
   failed-breaks is = opened-breaks told Trace trace s t u opens is.bytes is.reads
@@ -86,7 +87,8 @@ module _ (told : Told) (spec trace : List ℕ) (workers : ℕ) (s t : State) (re
       IfOk result (λ reply. AnswersTo told (command.Judge spec trace workers) reply s u)
   unfolding c behind IsAnswer
   judge-replies (Ok reply) after status is = λ words means.
-      read-answered told words c means spec behind refl IsAnswer (λ content input o x. x) s t reads K system (only Trace) within (same-input Trace refl) u reply after status.1
+      read-answered told words c means spec behind refl IsAnswer (λ content input o x. x) s t reads K system (only Trace) within (same-input Trace refl) u reply
+      after status.1
       (read-known reply.status status)
       (closed-none told words c means spec behind refl IsAnswer (λ content input o x. x) unwritten (code_of reply.status) u)
       (λ f l. is f l ∙ ap (λ fs. judge_outcome K (held fs trace)) reads.uses.files)
@@ -95,9 +97,11 @@ module _ (told : Told) (spec trace : List ℕ) (workers : ℕ) (s t : State) (re
   trace-stopped : (reason : Stop) → IsTraceStop reason told K trace t u → StopsAt told (command.Judge spec trace workers) reason s u
   unfolding c behind IsAnswer
   trace-stopped stop.Fault b = λ words means.
-      read-faulted told words c means spec behind refl IsAnswer (λ content input o x. x) s t reads K system (only Trace) within (same-input Trace refl) u b.uses Trace (is_slot-self Trace) b.rose
+      read-faulted told words c means spec behind refl IsAnswer (λ content input o x. x) s t reads K system (only Trace) within (same-input Trace refl) u b.uses
+      Trace (is_slot-self Trace) b.rose
   trace-stopped stop.Memory b = λ words means.
-      read-starved told words c means spec behind refl IsAnswer (λ content input o x. x) s t reads K system (only Trace) within (same-input Trace refl) u b.reads
+      read-starved told words c means spec behind refl IsAnswer (λ content input o x. x) s t reads K system (only Trace) within (same-input Trace refl) u
+      b.reads
       (λ f l name file n e.
       let spec-same : spec ≡ name = spec-of name file n e in
       let trace-same : trace ≡ file = trace-of name file n e in

@@ -15,7 +15,8 @@ use Rattle.ccsl_command.specs.declared.usage.Usage.TheVariants as usage
 use Rattle.ccsl_command.specs.declared.table.Key.TheVariants as key
 use Rattle.ccsl_command.specs.Pairs.{value_of}
 use Rattle.ccsl_command.specs.Values.{only_infinite}
-use Rattle.ccsl_command.specs.Meaning.{first_fault, first_missing, has_same_name, endless_zeros, word_in, command_of, pairs_meaning, named_meaning, command_named, meaning}
+use Rattle.ccsl_command.specs.Meaning.{first_fault, first_missing, has_same_name, endless_zeros, word_in, command_of, pairs_meaning, named_meaning}
+use Rattle.ccsl_command.specs.Meaning.{command_named, meaning}
 
 -- an infinite word that is not too long
 pub record IsFine (w : BinaryWord) : Type 0 where

@@ -1,5 +1,6 @@
 -- The members of a core: how many they are, and the lines on them.
-use Rattle.std.proofs.Common.{◌≡◌, ◌⊎◌, ℕ, suc, ◌+◌, ◌<◌, ◌≤◌, ◌^◌, List, [], ◌∷◌, ◌++◌, length, Bool, true, false, ◌&&◌, nat_lt, inl, inr, refl, sym, ◌∙◌, subst, arith, append-nil, ltb-true}
+use Rattle.std.proofs.Common.{◌≡◌, ◌⊎◌, ℕ, suc, ◌+◌, ◌<◌, ◌≤◌, ◌^◌, List, [], ◌∷◌, ◌++◌, length, Bool, true, false, ◌&&◌, nat_lt, inl, inr, refl, sym, ◌∙◌}
+use Rattle.std.proofs.Common.{subst, arith, append-nil, ltb-true}
 use Rattle.std.specs.List.{AllByRecursion, list_all}
 use Rattle.std.proofs.lemmas.List.Elements.{recursion_from_All}
 use Rattle.std.proofs.lemmas.Bool.{and_parts}
@@ -17,7 +18,8 @@ use Rattle.ccsl_top.specs.Explain.{member_lines}
 use Rattle.ccsl_top.specs.Explaining.{AreMembers}
 
 -- the lines of a certificate are valid
-pub valid-lines : (scope : Scope) (formulas : List Formula) (lines : List Line) → is_certificate scope formulas lines ≡ true → are_valid scope formulas lines ≡ true
+pub valid-lines : (scope : Scope) (formulas : List Formula) (lines : List Line) → is_certificate scope formulas lines ≡ true
+    → are_valid scope formulas lines ≡ true
 valid-lines scope formulas lines e = (and_parts (are_valid scope formulas lines) (ends_empty scope.declared lines) e).0
 
 -- every number is at least low and below n
@@ -63,7 +65,8 @@ module _ (K : System) (ok : IsAccepted K) where
     pub are-members : (without : List (List ℕ)) → scope ≡ scope_of K → AreLeast scope formulas core core without → AreMembers K core without
     are-members without scope_is least = of-each core without items least
       where
-        of-each : (is : List ℕ) (sets : List (List ℕ)) → AllByRecursion (λ i. i < length formulas) is → AreLeast scope formulas core is sets → AreMembers K is sets
+        of-each : (is : List ℕ) (sets : List (List ℕ)) → AllByRecursion (λ i. i < length formulas) is → AreLeast scope formulas core is sets
+            → AreMembers K is sets
         of-each [] [] h l = tt
         of-each [] (s ∷ sets) h l = l
         of-each (i ∷ is) [] h l = l

@@ -1,5 +1,6 @@
 -- The two files that `simulate` writes have different names.
-use Rattle.std.proofs.Common.{◌≡◌, ◌≢◌, ℕ, List, [], ◌∷◌, Bool, true, false, not, ◌&&◌, ◌||◌, Option, Some, None, Result, Ok, Err, find, cond, refl, sym, ◌∙◌, bytes_eq}
+use Rattle.std.proofs.Common.{◌≡◌, ◌≢◌, ℕ, List, [], ◌∷◌, Bool, true, false, not, ◌&&◌, ◌||◌, Option, Some, None, Result, Ok, Err, find, cond, refl, sym, ◌∙◌}
+use Rattle.std.proofs.Common.{bytes_eq}
 use Rattle.std.proofs.lemmas.Slice.Eq.{bytes_eq-Decides}
 use Rattle.std.proofs.lemmas.Bool.{not-false, both_ways}
 use Rattle.ccsl_command.specs.declared.table.CommandName.{CommandName}
@@ -12,7 +13,8 @@ use Rattle.ccsl_command.specs.declared.command.Command.TheVariants as command
 use Rattle.ccsl_command.specs.declared.usage.Usage.{Usage}
 use Rattle.ccsl_command.specs.declared.usage.Usage.TheVariants as usage
 use Rattle.ccsl_command.specs.Pairs.{is_given, value_of}
-use Rattle.ccsl_command.specs.Meaning.{meaning, named_meaning, pairs_meaning, first_fault, first_missing, have_same_value, has_same_name, command_of, command_named}
+use Rattle.ccsl_command.specs.Meaning.{meaning, named_meaning, pairs_meaning, first_fault, first_missing, have_same_value, has_same_name, command_of}
+use Rattle.ccsl_command.specs.Meaning.{command_named}
 
 -- a key of those that all stand there stands there
 pub none-first : (f : Key → Bool) (k : Key) (ks : List Key) → find f (k ∷ ks) ≡ None → (f k ≡ false) × (find f ks ≡ None)
@@ -48,7 +50,8 @@ module _ (spec : List ℕ) (policy : PolicyName) (seed steps : ℕ) (trace cert 
       let u = none-first f key.Cert [] t.1 in
       (not-false (is_given key.Trace pairs) t.0, not-false (is_given key.Cert pairs) u.0)
 
-  command-differs : (n : CommandName) (pairs : List (List ℕ)) → first_missing n pairs ≡ None → has_same_name pairs ≡ false → command_of n pairs ≡ wanted → trace ≢ cert
+  command-differs : (n : CommandName) (pairs : List (List ℕ)) → first_missing n pairs ≡ None → has_same_name pairs ≡ false → command_of n pairs ≡ wanted
+      → trace ≢ cert
   command-differs name.Check pairs missing differ e = let clash : command.Check (value_of key.Spec pairs) ≡ wanted = e in absurd (cc)
   command-differs name.Judge pairs missing differ e = absurd (cc)
   command-differs name.Certify pairs missing differ e = absurd (cc)

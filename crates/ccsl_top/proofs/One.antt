@@ -23,9 +23,11 @@ use Rattle.ccsl_top.specs.Program.{IsSpecOutcome, refused, accepted, IsCommandOu
 use Rattle.ccsl_top.specs.OneOutcome.{but_certificate, OutcomesAreOne}
 
 module _ (one_system : OneSystem) (one_refusal : OneRefusal) (not_both : NotBoth) (canonical : CanonicalWordsAreOne) (plain : PlainLengthsAreOne)
-    (cores : (scope : Scope) (formulas : List Formula) → CoresAreOne scope formulas) (least : (scope : Scope) (formulas : List Formula) → LeastSetsAreOne scope formulas) where
+    (cores : (scope : Scope) (formulas : List Formula) → CoresAreOne scope formulas)
+    (least : (scope : Scope) (formulas : List Formula) → LeastSetsAreOne scope formulas) where
   -- where the answers on one system are one but for a certificate
-  spec-outcome : (text : List ℕ) (IsAnswer : System → Outcome → Type 0) → ((K : System) (o p : Outcome) → IsAnswer K o → IsAnswer K p → but_certificate o ≡ but_certificate p) →
+  spec-outcome : (text : List ℕ) (IsAnswer : System → Outcome → Type 0)
+      → ((K : System) (o p : Outcome) → IsAnswer K o → IsAnswer K p → but_certificate o ≡ but_certificate p) →
       (o p : Outcome) → IsSpecOutcome text IsAnswer o → IsSpecOutcome text IsAnswer p → but_certificate o ≡ but_certificate p
   spec-outcome text IsAnswer one o p (refused line spec is) (refused line' spec' is') =
       ap but_certificate (is ∙ ap (outcome 3) (one_refusal text line line' spec spec') ∙ sym is')
@@ -37,7 +39,8 @@ module _ (one_system : OneSystem) (one_refusal : OneRefusal) (not_both : NotBoth
   answer-outcome : (answer : System → Outcome) (K : System) (o p : Outcome) → o ≡ answer K → p ≡ answer K → but_certificate o ≡ but_certificate p
   answer-outcome answer K o p a b = ap but_certificate (a ∙ sym b)
 
-  command-outcome : (content : List ℕ → List ℕ) (input : List ℕ) (command : Command) (o p : Outcome) → IsCommandOutcome content input command o → IsCommandOutcome content input command p →
+  command-outcome : (content : List ℕ → List ℕ) (input : List ℕ) (command : Command) (o p : Outcome) → IsCommandOutcome content input command o
+      → IsCommandOutcome content input command p →
       but_certificate o ≡ but_certificate p
   command-outcome content input (Check spec) o p a b = spec-outcome (content spec) (λ K o. o ≡ check_outcome K) (answer-outcome check_outcome) o p a b
   command-outcome content input (Judge spec trace workers) o p a b =
@@ -51,12 +54,14 @@ module _ (one_system : OneSystem) (one_refusal : OneRefusal) (not_both : NotBoth
   command-outcome content input (Trial clocks steps seed workers) o p a b = ap but_certificate (a ∙ sym b)
   command-outcome content input (Periodic left right relation) o p a b = ap but_certificate (periodic-one canonical plain left right relation o p a b)
   command-outcome content input (Explain spec trace cert) o p a b =
-      spec-outcome (content spec) (λ K o. IsExplainOutcome K cert (content trace) o) (λ K o p x y. explain-one cores least K cert (content trace) o p x y) o p a b
+      spec-outcome (content spec) (λ K o. IsExplainOutcome K cert (content trace) o) (λ K o p x y. explain-one cores least K cert (content trace) o p x y) o p a
+      b
   command-outcome content input (Session spec policy seed) o p a b =
       spec-outcome (content spec) (λ K o. o ≡ session_outcome K (named_policy policy) seed input)
       (answer-outcome (λ K. session_outcome K (named_policy policy) seed input)) o p a b
 
-  meant-outcome : (content : List ℕ → List ℕ) (input : List ℕ) (meant : Result Command Usage) (o p : Outcome) → IsOutcomeOf content input meant o → IsOutcomeOf content input meant p →
+  meant-outcome : (content : List ℕ → List ℕ) (input : List ℕ) (meant : Result Command Usage) (o p : Outcome) → IsOutcomeOf content input meant o
+      → IsOutcomeOf content input meant p →
       but_certificate o ≡ but_certificate p
   meant-outcome content input (Err fault) o p a b = ap but_certificate (a ∙ sym b)
   meant-outcome content input (Ok command) o p a b = command-outcome content input command o p a b

@@ -30,11 +30,13 @@ module _ (canonical : CanonicalWordsAreOne) (plain : PlainLengthsAreOne) where
   module _ (u v : BinaryWord) where
     related-one : (relation : RelationName) (between : Between) (o p : Outcome) → IsRelated u v relation between o → IsRelated u v relation between p → o ≡ p
     related-one relation between o p (holds never l r ls rs is) (holds never' l' r' ls' rs' is') =
-        is ∙ ap₂ (λ x y. outcome 0 (periodic_holds_text x y relation)) (written-one u u (λ k. refl) l l' ls ls') (written-one v v (λ k. refl) r r' rs rs') ∙ sym is'
+        is ∙ ap₂ (λ x y. outcome 0 (periodic_holds_text x y relation)) (written-one u u (λ k. refl) l l' ls ls') (written-one v v (λ k. refl) r r' rs rs')
+        ∙ sym is'
     related-one relation between o p (holds never l r ls rs is) (fails k first l' r' ls' rs' is') = absurd (false≢true (sym (never k) ∙ first.fails))
     related-one relation between o p (fails k first l r ls rs is) (holds never l' r' ls' rs' is') = absurd (false≢true (sym (never k) ∙ first.fails))
     related-one relation between o p (fails k first l r ls rs is) (fails j first' l' r' ls' rs' is') =
-        is ∙ ap₂ (λ x y. outcome 1 (periodic_fails_text x y relation (k + 1))) (written-one u u (λ k. refl) l l' ls ls') (written-one v v (λ k. refl) r r' rs rs')
+        is ∙ ap₂ (λ x y. outcome 1 (periodic_fails_text x y relation (k + 1))) (written-one u u (λ k. refl) l l' ls ls')
+        (written-one v v (λ k. refl) r r' rs rs')
         ∙ ap (λ n. outcome 1 (periodic_fails_text l' r' relation (n + 1))) (first-one between u v k j first first') ∙ sym is'
 
     filtered-one : (o p : Outcome) → IsFiltered u v o → IsFiltered u v p → o ≡ p

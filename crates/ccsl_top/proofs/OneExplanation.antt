@@ -57,5 +57,6 @@ module _ (cores : (scope : Scope) (formulas : List Formula) → CoresAreOne scop
     read-one trace (Some fault) o p a b = ap but_certificate (a ∙ sym b)
     read-one trace None o p a b = verdict-one (recorded (wanted_of K) LIMITS trace) (judged K trace) o p a b
 
-    pub explain-one : (trace : List ℕ) (o p : Outcome) → IsExplainOutcome K cert trace o → IsExplainOutcome K cert trace p → but_certificate o ≡ but_certificate p
+    pub explain-one : (trace : List ℕ) (o p : Outcome) → IsExplainOutcome K cert trace o → IsExplainOutcome K cert trace p
+        → but_certificate o ≡ but_certificate p
     explain-one trace o p a b = read-one trace (reading (wanted_of K) LIMITS trace).fault o p a b

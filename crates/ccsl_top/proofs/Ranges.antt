@@ -1,5 +1,6 @@
 -- The numbers of `trial` are within their ranges.
-use Rattle.std.proofs.Common.{◌≡◌, ℕ, ◌+◌, ◌≤◌, List, [], ◌∷◌, ◌++◌, Bool, true, false, not, ◌&&◌, ◌||◌, Option, Some, None, is_some, unwrap_or, Result, Ok, Err, find, cond, nat_le, refl, sym, ap, ◌∙◌, subst, bytes_eq}
+use Rattle.std.proofs.Common.{◌≡◌, ℕ, ◌+◌, ◌≤◌, List, [], ◌∷◌, ◌++◌, Bool, true, false, not, ◌&&◌, ◌||◌, Option, Some, None, is_some, unwrap_or, Result, Ok}
+use Rattle.std.proofs.Common.{Err, find, cond, nat_le, refl, sym, ap, ◌∙◌, subst, bytes_eq}
 use Rattle.std.proofs.lemmas.Bool.{leb-true, not-false, and_parts, both_ways}
 use Rattle.std.proofs.lemmas.Slice.Eq.{bytes_eq-Decides}
 use Rattle.ccsl_base.specs.Decimal.{decimal_value}
@@ -15,7 +16,8 @@ use Rattle.ccsl_command.specs.declared.usage.Usage.TheVariants as usage
 use Rattle.ccsl_command.specs.Table.{key_text, keys_of}
 use Rattle.ccsl_command.specs.Values.{Range, range_of, is_number, is_within, number_in, is_value}
 use Rattle.ccsl_command.specs.Pairs.{is_pair, key_part, value_part, key_of, has_key, is_given, value_of}
-use Rattle.ccsl_command.specs.Meaning.{meaning, named_meaning, pairs_meaning, key_fault, word_fault, first_fault, first_missing, has_same_name, command_of, command_named, number_of}
+use Rattle.ccsl_command.specs.Meaning.{meaning, named_meaning, pairs_meaning, key_fault, word_fault, first_fault, first_missing, has_same_name, command_of}
+use Rattle.ccsl_command.specs.Meaning.{command_named, number_of}
 use Rattle.std.specs.Option.{option_or}
 use Rattle.ccsl_top.proofs.Names.{none-first}
 
@@ -45,10 +47,12 @@ neither None b e = (refl, e)
 
 module _ (n : CommandName) (k : Key) (keyed : (word : List ℕ) → has_key k word ≡ true → key_of n word ≡ Some k) where
   -- a word with the key that is not at fault has a value of it
-  word-value : (earlier : List (List ℕ)) (i : ℕ) (word : List ℕ) → has_key k word ≡ true → word_fault n earlier i word ≡ None → is_value n k (value_part word) ≡ true
+  word-value : (earlier : List (List ℕ)) (i : ℕ) (word : List ℕ) → has_key k word ≡ true → word_fault n earlier i word ≡ None
+      → is_value n k (value_part word) ≡ true
   word-value earlier i word has e =
       let pair = (and_parts (is_pair word) (bytes_eq (key_text k) (key_part word)) has).0 in
-      let fine : key_fault n earlier i word (key_of n word) ≡ None = sym (ap (λ t. cond t (key_fault n earlier i word (key_of n word)) (Some (usage.NotPair i))) pair) ∙ e in
+      let fine : key_fault n earlier i word (key_of n word) ≡ None =
+      sym (ap (λ t. cond t (key_fault n earlier i word (key_of n word)) (Some (usage.NotPair i))) pair) ∙ e in
       of-key (is_given k earlier) (is_value n k (value_part word)) (sym (ap (key_fault n earlier i word) (keyed word has)) ∙ fine)
     where
       of-key : (given value : Bool) → cond given (Some (usage.Repeated i)) (cond (not value) (Some (usage.BadValue i)) None) ≡ None → value ≡ true
@@ -56,7 +60,8 @@ module _ (n : CommandName) (k : Key) (keyed : (word : List ℕ) → has_key k wo
       of-key false true e = refl
       of-key false false e = let clash : (let O : Option Usage = Some (usage.BadValue i) in O) ≡ None = e in absurd (cc)
 
-  given-value : (pairs earlier : List (List ℕ)) (i : ℕ) → first_fault n earlier i pairs ≡ None → is_given k pairs ≡ true → is_value n k (value_of k pairs) ≡ true
+  given-value : (pairs earlier : List (List ℕ)) (i : ℕ) → first_fault n earlier i pairs ≡ None → is_given k pairs ≡ true
+      → is_value n k (value_of k pairs) ≡ true
   given-value [] earlier i e given = absurd (both_ways false refl given)
   given-value (word ∷ words) earlier i e given =
       let fine = neither (word_fault n earlier i word) (first_fault n (earlier ++ word ∷ []) (i + 1) words) e in
@@ -88,7 +93,8 @@ module _ (clocks steps seed workers : ℕ) where
       let b = none-first f key.Steps (key.Seed ∷ key.Workers ∷ []) a.1 in
       (not-false (is_given key.Clocks pairs) a.0, not-false (is_given key.Steps pairs) b.0)
 
-  command-ranges : (n : CommandName) (pairs : List (List ℕ)) → first_fault n [] 1 pairs ≡ None → first_missing n pairs ≡ None → command_of n pairs ≡ wanted → IsTrial clocks steps
+  command-ranges : (n : CommandName) (pairs : List (List ℕ)) → first_fault n [] 1 pairs ≡ None → first_missing n pairs ≡ None → command_of n pairs ≡ wanted
+      → IsTrial clocks steps
   command-ranges name.Check pairs fine missing e = let clash : command.Check (value_of key.Spec pairs) ≡ wanted = e in absurd (cc)
   command-ranges name.Simulate pairs fine missing e = absurd (cc)
   command-ranges name.Judge pairs fine missing e = absurd (cc)
@@ -108,7 +114,8 @@ module _ (clocks steps seed workers : ℕ) where
         few = subst (λ n. n ≤ MAX_TRIAL_STEPS) steps-are s.1;
       }
 
-  pairs-ranges : (n : CommandName) (pairs : List (List ℕ)) (fault : Option Usage) (missing : Option Key) → first_fault n [] 1 pairs ≡ fault → first_missing n pairs ≡ missing →
+  pairs-ranges : (n : CommandName) (pairs : List (List ℕ)) (fault : Option Usage) (missing : Option Key) → first_fault n [] 1 pairs ≡ fault
+      → first_missing n pairs ≡ missing →
       pairs_meaning n pairs fault missing ≡ Ok wanted → IsTrial clocks steps
   pairs-ranges n pairs (Some fault) missing fine is e = let clash : (let R : Result Command Usage = Err fault in R) ≡ Ok wanted = e in absurd (cc)
   pairs-ranges n pairs None (Some k) fine is e = let clash : (let R : Result Command Usage = Err (usage.Missing k) in R) ≡ Ok wanted = e in absurd (cc)

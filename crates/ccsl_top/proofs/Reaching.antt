@@ -1,5 +1,6 @@
 -- How far a run with a status reaches, and which statuses come.
-use Rattle.std.proofs.Common.{◌≡◌, ◌≢◌, ℕ, suc, List, [], ◌∷◌, Bool, true, false, not, ◌||◌, ◌&&◌, nat_eq, cond, Contains, Result, Ok, Err, refl, sym, ap, ◌∙◌, subst, arith}
+use Rattle.std.proofs.Common.{◌≡◌, ◌≢◌, ℕ, suc, List, [], ◌∷◌, Bool, true, false, not, ◌||◌, ◌&&◌, nat_eq, cond, Contains, Result, Ok, Err, refl, sym, ap, ◌∙◌}
+use Rattle.std.proofs.Common.{subst, arith}
 use Rattle.std.proofs.lemmas.Bool.{ne_eqb, and_from, or_left, both_ways}
 use Rattle.ccsl_edge.specs.declared.slot.Slot.{Slot}
 use Rattle.ccsl_edge.specs.declared.slot.Slot.TheVariants.{Spec, Input}
@@ -48,7 +49,8 @@ module _ (words : List (List ℕ)) (slot : Slot) where
 pub reach-spec : (words : List (List ℕ)) (status : ℕ) → opens (files_opened words) Spec ≡ true → may_change words status Spec ≡ true
 reach-spec words status e = and_from (uses words Spec) (reaches status Spec) (opened-used words Spec e) (by-test (nat_eq status 3)
     (λ yes. ap (λ b. cond b (is_slot Spec Spec) (not ((nat_eq status 1 || nat_eq status 4) && is_output Spec))) yes ∙ is_slot-self Spec)
-    (λ no. ap (λ b. cond b (is_slot Spec Spec) (not ((nat_eq status 1 || nat_eq status 4) && is_output Spec))) no ∙ never-and (nat_eq status 1 || nat_eq status 4)))
+    (λ no. ap (λ b. cond b (is_slot Spec Spec) (not ((nat_eq status 1 || nat_eq status 4) && is_output Spec))) no
+    ∙ never-and (nat_eq status 1 || nat_eq status 4)))
 
 -- THE STATUSES
 

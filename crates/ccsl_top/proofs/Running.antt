@@ -33,7 +33,8 @@ use Rattle.ccsl_top.specs.Explain as explain
 use Rattle.ccsl_top.specs.Changes.{Reads}
 use Rattle.ccsl_top.specs.Reading.{only}
 use Rattle.ccsl_top.specs.Answered.{plain_reply}
-use Rattle.ccsl_top.specs.Explaining.{BlockedAnswers, WritesBreak, IsWriteStop, RunAnswers, possible, blocked, IsRunStop, TraceAnswers, unwritten, written, IsTraceStop}
+use Rattle.ccsl_top.specs.Explaining.{BlockedAnswers, WritesBreak, IsWriteStop, RunAnswers, possible, blocked, IsRunStop, TraceAnswers, unwritten, written}
+use Rattle.ccsl_top.specs.Explaining.{IsTraceStop}
 use Rattle.ccsl_top.proofs.Opened.{opened-reads, opened-breaks}
 
 -- BEHIND A RUN: what is answered on an explanation
@@ -114,7 +115,8 @@ module _ (told : Told) (K : System) (cert trace : List ℕ) (s t : State) (opens
           IsExplainOutcome K cert (held s.files trace) o
       run-explains o a = trace-explains o (subst (λ (x : Verdict). IsVerdictExplained K cert rows x o) (sym v) a)
 
-      run-answers : (reply : Reply) → RunAnswers told K cert steps (item_formulas K (completed_rows K rows)) u w reply → TraceAnswers told K cert trace s w reply
+      run-answers : (reply : Reply) → RunAnswers told K cert steps (item_formulas K (completed_rows K rows)) u w reply
+          → TraceAnswers told K cert trace s w reply
       run-answers reply (possible step one is same) =
           let status = ap (λ o. o.status) is in
           unwritten (subst (Reads (only Trace) s) (sym same) trace-reads) (inl status)

@@ -1,5 +1,6 @@
 -- The command `simulate`, as an answer to words that mean it.
-use Rattle.std.proofs.Common.{◌≡◌, ◌≢◌, ℕ, ◌<◌, List, [], ◌∷◌, length, Bool, true, false, ◌||◌, nat_lt, cond, Contains, Result, Ok, Err, IfOk, IfErr, IsTrue, ◌⊎◌, ⊎_elim, inl, inr, refl, sym, ap, ◌∙◌, subst, arith, lt-ltb, le-ltb, bytes_eq}
+use Rattle.std.proofs.Common.{◌≡◌, ◌≢◌, ℕ, ◌<◌, List, [], ◌∷◌, length, Bool, true, false, ◌||◌, nat_lt, cond, Contains, Result, Ok, Err, IfOk, IfErr, IsTrue}
+use Rattle.std.proofs.Common.{◌⊎◌, ⊎_elim, inl, inr, refl, sym, ap, ◌∙◌, subst, arith, lt-ltb, le-ltb, bytes_eq}
 use Rattle.std.proofs.lemmas.Slice.Eq.{bytes_eq-Decides}
 use Rattle.ccsl_edge.specs.declared.slot.Slot.{Slot}
 use Rattle.ccsl_edge.specs.declared.slot.Slot.TheVariants.{Spec, TraceOut, CertOut}
@@ -127,7 +128,8 @@ module _ (told : Told) (words : List (List ℕ)) (spec : List ℕ) (policy : Pol
           (name-apart trace name (apart-first (bytes_eq trace name) (bytes_eq cert name) n))
           (name-apart cert name (apart-second (bytes_eq trace name) (bytes_eq cert name) n))
           ∙ sym (file-same name);
-      inputs = λ slot out. subst (λ x. x ≡ record (s.slot_of slot) { left = x.left; faults = x.faults }) (sym (some.alone.others slot out)) (uses-changed (only Spec) s t reads.uses slot);
+      inputs = λ slot out. subst (λ x. x ≡ record (s.slot_of slot) { left = x.left; faults = x.faults }) (sym (some.alone.others slot out))
+          (uses-changed (only Spec) s t reads.uses slot);
       others = λ slot e.
           some.alone.others slot (or_parts (only Spec slot) (is_output slot) e).1 ∙ reads.uses.others slot (or_parts (only Spec slot) (is_output slot) e).0;
       rises = λ slot. let a = uses-rises (only Spec) s t reads.uses slot in let b = some.alone.rises slot in omega (arith, a, b);
@@ -144,7 +146,8 @@ module _ (told : Told) (words : List (List ℕ)) (spec : List ℕ) (policy : Pol
       fronts = λ tells w slot out. as-told (λ f l.
           let P : Output → Type 0 = IsOutput K p seed steps trace cert in
           let Q : Output → Type 0 = IsDefinedOutput words s.files in
-          front-moves P Q (defined-output f l) t s u u slot (ap (λ x. x.written) (sym (reads.uses.others slot (output-unread slot out)))) refl (some.fronts w slot out)) tells;
+          front-moves P Q (defined-output f l) t s u u slot (ap (λ x. x.written) (sym (reads.uses.others slot (output-unread slot out)))) refl
+          (some.fronts w slot out)) tells;
     }
 
   -- both files were written
@@ -153,13 +156,15 @@ module _ (told : Told) (words : List (List ℕ)) (spec : List ℕ) (policy : Pol
     count = length (run K p seed steps)
 
     stands-for : (reply : Reply) → code_of reply.status ≡ code (nat_lt count steps) →
-        reply.line.items ≡ cond (nat_lt count steps) (deadlocked_text count) (simulated_text count) → IsTrue told.files → IsTrue told.left → Stands told words reply s u
+        reply.line.items ≡ cond (nat_lt count steps) (deadlocked_text count) (simulated_text count) → IsTrue told.files → IsTrue told.left
+        → Stands told words reply s u
     stands-for reply status line f l = record {
       outcome = simulate_outcome K p seed steps trace cert both.text;
       status_is = status;
       report_is = line;
       defined = record {
-        is = is-outcome told words c means spec behind refl IsAnswer (λ content input o x. x) (held s.files) (input_of s) (simulate_outcome K p seed steps trace cert both.text)
+        is = is-outcome told words c means spec behind refl IsAnswer (λ content input o x. x) (held s.files) (input_of s)
+            (simulate_outcome K p seed steps trace cert both.text)
             (accepted K (system f l) (record { text = both.text; valid = both.valid; is = refl }));
         files = λ w. (both.trace_holds (names-differ spec policy seed steps trace cert words means) f w, (both.cert_holds f w, record {}));
       };
@@ -172,14 +177,16 @@ module _ (told : Told) (words : List (List ℕ)) (spec : List ℕ) (policy : Pol
       leaves = leaves both.some;
       counts = λ slot. both.counts slot ∙ reads.counts slot;
       known = among-answers told words c means spec behind refl IsAnswer (λ content input o x. x) (code_of reply.status) known;
-      within = λ slot e. reach-all words slot (code_of reply.status) (unlike 1 (omega arith) (omega arith)) (unlike 3 (omega arith) (omega arith)) (unlike 4 (omega arith) (omega arith))
+      within = λ slot e. reach-all words slot (code_of reply.status) (unlike 1 (omega arith) (omega arith)) (unlike 3 (omega arith) (omega arith))
+          (unlike 4 (omega arith) (omega arith))
           (opened-used words slot (used-opened slot e));
       closed = λ _ slot out _. both.closed slot out;
       stands = as-told is;
     }
       where
         unlike : (n : ℕ) → 0 < n → n < 8 → code_of reply.status ≢ n
-        unlike n some few e = ⊎_elim (λ (a : code_of reply.status ≡ 0). omega (arith, a, e, some)) (λ (a : code_of reply.status ≡ 8). omega (arith, a, e, few)) done
+        unlike n some few e = ⊎_elim (λ (a : code_of reply.status ≡ 0). omega (arith, a, e, some)) (λ (a : code_of reply.status ≡ 8). omega (arith, a, e, few))
+            done
 
   simulate-answered : (done : Done) (reply : Reply) → IsDoneReply done steps reply → WritesBoth told K (named_policy policy) seed steps trace cert t u done →
       Answered told words reply s u
@@ -207,7 +214,8 @@ module _ (told : Told) (words : List (List ℕ)) (spec : List ℕ) (policy : Pol
           by_file spec behind words-open (λ f l. (K, system f l)) slot one (subst (λ n. Rose n (u.slot_of slot).faults) (reads.counts slot) rose)
 
   no-trace-read : (name file : List ℕ) (workers : ℕ) → meaning words ≡ Ok (command.Judge name file workers) → ⊥
-  no-trace-read name file workers e = let clash : (let R : Result Command Usage = Ok c in R) ≡ Ok (command.Judge name file workers) = sym means ∙ e in absurd (cc)
+  no-trace-read name file workers e = let clash : (let R : Result Command Usage = Ok c in R) ≡ Ok (command.Judge name file workers) =
+      sym means ∙ e in absurd (cc)
 
   write-starved : WriteStarves told K (named_policy policy) seed steps trace cert t u → Starved told words s u
   write-starved b = record {

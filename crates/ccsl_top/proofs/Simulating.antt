@@ -1,5 +1,6 @@
 -- A simulation that is written between the opening of its files and their closing.
-use Rattle.std.proofs.Common.{◌≡◌, ◌≢◌, ℕ, ◌<◌, List, [], ◌++◌, length, take, true, false, IsTrue, ⊎_elim, inl, inr, refl, sym, ap, ◌∙◌, subst, take_all, le_refl}
+use Rattle.std.proofs.Common.{◌≡◌, ◌≢◌, ℕ, ◌<◌, List, [], ◌++◌, length, take, true, false, IsTrue, ⊎_elim, inl, inr, refl, sym, ap, ◌∙◌, subst, take_all}
+use Rattle.std.proofs.Common.{le_refl}
 use Rattle.ccsl_edge.specs.declared.slot.Slot.{Slot}
 use Rattle.ccsl_edge.specs.declared.slot.Slot.TheVariants.{TraceOut, CertOut}
 use Rattle.ccsl_edge.specs.World.{State, Told, Rose, file_at}
@@ -22,7 +23,8 @@ use Rattle.ccsl_top.specs.Headline.{IsKeptOrWhole, kept, whole, IsFrontOn, untou
 use Rattle.ccsl_top.specs.Simulating.{IsEnd, WritesSome, WritesBoth, WriteBreaks, WriteStarves, IsWriteStop}
 use Rattle.ccsl_top.proofs.Effects.{alone-none, alone-then}
 use Rattle.ccsl_top.proofs.Outputs.{whole-moves, front-moves}
-use Rattle.ccsl_top.proofs.Writing.{cert-apart, trace-apart, on-output, by-name, fails-alone, opens-alone, opens-counts, adds-alone, adds-counts, part-alone, closes-alone, closes-counts, closes-written}
+use Rattle.ccsl_top.proofs.Writing.{cert-apart, trace-apart, on-output, by-name, fails-alone, opens-alone, opens-counts, adds-alone, adds-counts, part-alone}
+use Rattle.ccsl_top.proofs.Writing.{closes-alone, closes-counts, closes-written}
 
 -- a simulation has a certificate, by which nothing written is a front
 module _ (told : Told) (K : System) (p : Policy) (seed steps : ℕ) (trace cert : List ℕ) (ending : (bytes : List ℕ) × IsCertificate K p seed steps bytes) where
@@ -39,7 +41,8 @@ module _ (told : Told) (K : System) (p : Policy) (seed steps : ℕ) (trace cert 
   trace-whole : (s t : State) → (t.slot_of TraceOut).written ≡ text → IsFrontOn P s t TraceOut
   trace-whole s t is = trace-part s t (length text) (is ∙ sym (take_all (length text) text (le_refl (length text))))
 
-  cert-part : (bytes : List ℕ) → IsCertificate K p seed steps bytes → (s t : State) (count : ℕ) → (t.slot_of CertOut).written ≡ take count bytes → IsFrontOn P s t CertOut
+  cert-part : (bytes : List ℕ) → IsCertificate K p seed steps bytes → (s t : State) (count : ℕ) → (t.slot_of CertOut).written ≡ take count bytes
+      → IsFrontOn P s t CertOut
   unfolding P
   cert-part bytes valid s t count is = part (cert_output K p seed steps trace cert bytes) (of_certificate bytes valid refl) refl count is
 
@@ -47,7 +50,8 @@ module _ (told : Told) (K : System) (p : Policy) (seed steps : ℕ) (trace cert 
   cert-whole bytes valid s t is = cert-part bytes valid s t (length bytes) (is ∙ sym (take_all (length bytes) bytes (le_refl (length bytes))))
 
   -- no file was closed yet
-  unclosed : (s t : State) → WritesAlone s t → t.files ≡ s.files → (IsTrue told.written → IsFrontOn P s t TraceOut) → (IsTrue told.written → IsFrontOn P s t CertOut) →
+  unclosed : (s t : State) → WritesAlone s t → t.files ≡ s.files → (IsTrue told.written → IsFrontOn P s t TraceOut)
+      → (IsTrue told.written → IsFrontOn P s t CertOut) →
       WritesSome told K p seed steps trace cert s t
   unfolding P
   unclosed s t alone files a b = record {
@@ -72,9 +76,10 @@ module _ (told : Told) (K : System) (p : Policy) (seed steps : ℕ) (trace cert 
   }
 
   module _ (s t u : State) (some : WritesSome told K p seed steps trace cert s t) where
-    some-fails : (slot : Slot) → is_output slot ≡ true → (Q : (other : Slot) → other ≢ slot → (u.slot_of other).written ≡ (t.slot_of other).written) → Fails slot t u →
-        ((u.slot_of slot).written ≡ (t.slot_of slot).written → (other : Slot) → is_output other ≡ true → (u.slot_of other).written ≡ (t.slot_of other).written) →
-        WritesSome told K p seed steps trace cert s u
+    some-fails : (slot : Slot) → is_output slot ≡ true → (Q : (other : Slot) → other ≢ slot → (u.slot_of other).written ≡ (t.slot_of other).written)
+        → Fails slot t u →
+        ((u.slot_of slot).written ≡ (t.slot_of slot).written → (other : Slot) → is_output other ≡ true → (u.slot_of other).written ≡ (t.slot_of other).written)
+        → WritesSome told K p seed steps trace cert s u
     some-fails slot is Q f spread = some-moves s t u some (fails-alone told slot is t u f) f.only.files (spread (ap (λ x. x.written) f.here))
 
     -- a call on the slot of the trace failed
@@ -127,7 +132,8 @@ module _ (told : Told) (K : System) (p : Policy) (seed steps : ℕ) (trace cert 
 
       -- a front of the trace was written, or nothing
       module _ (c : State) where
-        trace-only : (count : ℕ) → WritesAlone b c → c.files ≡ b.files → (IsTrue told.written → (c.slot_of TraceOut).written ≡ (b.slot_of TraceOut).written ++ take count text) →
+        trace-only : (count : ℕ) → WritesAlone b c → c.files ≡ b.files
+            → (IsTrue told.written → (c.slot_of TraceOut).written ≡ (b.slot_of TraceOut).written ++ take count text) →
             c.slot_of CertOut ≡ b.slot_of CertOut → WritesSome told K p seed steps trace cert s c
         trace-only count alone files written same = unclosed s c (alone-then s b c both-alone alone) (files ∙ both-files)
             (λ w. trace-part s c count (written w ∙ ap (λ bytes. bytes ++ take count text) (trace-empty w)))
@@ -167,7 +173,8 @@ module _ (told : Told) (K : System) (p : Policy) (seed steps : ℕ) (trace cert 
         pub undone-stops : (fault : Stop) → IsUndone told K p seed steps b c fault → IsWriteStop told K p seed steps trace cert s c fault
         unfolding text
         undone-stops stop.Fault u = ⊎_elim front-stops
-            (λ f. cert-stops (lines_text K.names f.lines) (lines f.lines (rw f.blocked.count f.blocked.short) f.blocked.certificate refl) f.written f.blocked.trace f.text) u
+            (λ f. cert-stops (lines_text K.names f.lines) (lines f.lines (rw f.blocked.count f.blocked.short) f.blocked.certificate refl) f.written
+            f.blocked.trace f.text) u
         undone-stops stop.Memory u = cut-starves u.count u.trace
 
         -- BOTH TEXTS were written
@@ -211,7 +218,8 @@ module _ (told : Told) (K : System) (p : Policy) (seed steps : ℕ) (trace cert 
           files = more.only.files ∙ adds.only.files ∙ both-files;
           counts = λ slot. adds-counts told CertOut refl w c bytes more slot ∙ adds-counts told TraceOut refl b w text adds slot ∙ both-counts slot;
           trace_is = λ t. ap (λ x. x.written) (more.only.others TraceOut trace-apart) ∙ adds.end t ∙ ap (λ front. front ++ text) (trace-empty t);
-          trace_name = λ t. ap (λ x. x.name) (more.only.others TraceOut trace-apart) ∙ ap (λ x. x.name) adds.here ∙ ap (λ x. x.name) trace-stays ∙ open_trace.named t;
+          trace_name = λ t. ap (λ x. x.name) (more.only.others TraceOut trace-apart) ∙ ap (λ x. x.name) adds.here ∙ ap (λ x. x.name) trace-stays
+              ∙ open_trace.named t;
           cert_is = λ t. more.end t ∙ ap (λ front. front ++ bytes) (ap (λ x. x.written) (adds.only.others CertOut cert-apart) ∙ open_cert.empty t);
           cert_name = λ t. ap (λ x. x.name) more.here ∙ ap (λ x. x.name) (adds.only.others CertOut cert-apart) ∙ open_cert.named t;
           trace_open = ap (λ x. x.is_open) (more.only.others TraceOut trace-apart) ∙ ap (λ x. x.is_open) adds.here ∙ trace-is-open;
@@ -222,7 +230,8 @@ module _ (told : Told) (K : System) (p : Policy) (seed steps : ℕ) (trace cert 
         unfolding text
         texts-written Full d = full-texts d.count d.trace
         texts-written (Deadlock at) d =
-            early-texts at (lines_text K.names d.lines) (lines d.lines (rw d.blocked.count d.blocked.short) d.blocked.certificate refl) d.blocked.count d.blocked.short
+            early-texts at (lines_text K.names d.lines) (lines d.lines (rw d.blocked.count d.blocked.short) d.blocked.certificate refl) d.blocked.count
+            d.blocked.short
             d.written d.blocked.trace d.text
 
         module _ (done : Done) (x : Texts done) where
@@ -247,7 +256,8 @@ module _ (told : Told) (K : System) (p : Policy) (seed steps : ℕ) (trace cert 
             pub half-counts : (slot : Slot) → (d.slot_of slot).faults ≡ (s.slot_of slot).faults
             half-counts slot = closes-counts told TraceOut refl c d close_trace slot ∙ x.counts slot
 
-            half-whole : (u : State) (name : List ℕ) → (file_at u.files name ≡ file_at d.files name) → IsTrue told.files → IsTrue told.written → IsKeptOrWhole P s u name
+            half-whole : (u : State) (name : List ℕ) → (file_at u.files name ≡ file_at d.files name) → IsTrue told.files → IsTrue told.written
+                → IsKeptOrWhole P s u name
             unfolding text P
             half-whole u name same f w = by-name (IsKeptOrWhole P s u name) name trace
                 (λ is. whole (trace_output K p seed steps trace cert) (of_trace refl) (sym is) (same ∙ ap (file_at d.files) is ∙ (stores-trace f w).file))
@@ -275,10 +285,12 @@ module _ (told : Told) (K : System) (p : Policy) (seed steps : ℕ) (trace cert 
                 alone = alone-then s d e half-alone (closes-alone told CertOut refl d e close_cert);
                 others = λ f w name a b. (stores-cert f w).others name b ∙ (stores-trace f w).others name a;
                 whole = λ f w name. by-name (IsKeptOrWhole P s e name) name cert
-                    (λ is. whole (cert_output K p seed steps trace cert x.bytes) (of_certificate x.bytes x.valid refl) (sym is) (ap (file_at e.files) is ∙ (stores-cert f w).file))
+                    (λ is. whole (cert_output K p seed steps trace cert x.bytes) (of_certificate x.bytes x.valid refl) (sym is)
+                    (ap (file_at e.files) is ∙ (stores-cert f w).file))
                     (λ n. half-whole e name ((stores-cert f w).others name n) f w);
                 fronts = λ w slot out. on-output (IsFrontOn P s e)
-                    (trace-whole s e (ap (λ y. y.written) (close_cert.others TraceOut trace-apart) ∙ closes-written told TraceOut refl c d close_trace ∙ x.trace_is w))
+                    (trace-whole s e (ap (λ y. y.written) (close_cert.others TraceOut trace-apart) ∙ closes-written told TraceOut refl c d close_trace
+                    ∙ x.trace_is w))
                     (cert-whole x.bytes x.valid s e (closes-written told CertOut refl d e close_cert ∙ ap (λ y. y.written) cert-kept ∙ x.cert_is w)) slot out;
               }
 

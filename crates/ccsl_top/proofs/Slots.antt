@@ -23,7 +23,8 @@ index-same a b e = sym (slot-again a) ∙ ap slot_at e ∙ slot-again b
 
 pub is_slot-same : (a b : Slot) → is_slot a b ≡ true → a ≡ b
 is_slot-same a b e =
-    ⊎_elim (λ same. index-same a b same) (λ other. absurd (both_ways (is_slot a b) (ne_eqb (index_of a) (index_of b) other) e)) (cases_eq (index_of a) (index_of b))
+    ⊎_elim (λ same. index-same a b same) (λ other. absurd (both_ways (is_slot a b) (ne_eqb (index_of a) (index_of b) other) e))
+    (cases_eq (index_of a) (index_of b))
 
 pub is_slot-self : (a : Slot) → is_slot a a ≡ true
 is_slot-self a = eq-eqb (index_of a) (index_of a) refl

@@ -35,7 +35,8 @@ holds-trace K seed steps before after now done both opens =
       left = opens.bytes refl refl ∙ ap (λ (f : Option (List ℕ)). unwrap_or f []) file;
     }
 
-module _ (K : System) (law : SimulatedTracesAreRuns K) (seed steps : ℕ) (few : steps ≤ MAX_STEPS) (before : MemoryState) (holds : HoldsTrace K seed steps before)
+module _ (K : System) (law : SimulatedTracesAreRuns K) (seed steps : ℕ) (few : steps ≤ MAX_STEPS) (before : MemoryState)
+    (holds : HoldsTrace K seed steps before)
     (now : State) where
   -- what it is judged to be
   judged : (v : Verdict) → IsJudged tells_all K LIMITS (shown before) now v → plain v ≡ kernel.Run (length (drawn_run K seed steps))

@@ -1,5 +1,6 @@
 -- The item of a violation is one of the system's.
-use Rattle.std.proofs.Common.{◌≡◌, ℕ, zero, suc, ◌<◌, ◌≤◌, List, [], ◌∷◌, ◌++◌, Bool, true, false, Option, Some, None, length, find, cond, is_some, refl, sym, ap, subst, arith}
+use Rattle.std.proofs.Common.{◌≡◌, ℕ, zero, suc, ◌<◌, ◌≤◌, List, [], ◌∷◌, ◌++◌, Bool, true, false, Option, Some, None, length, find, cond, is_some, refl, sym}
+use Rattle.std.proofs.Common.{ap, subst, arith}
 use Rattle.std.proofs.lemmas.Bool.{le-leb}
 use Rattle.ccsl_base.specs.declared.rows.Row.{Row}
 use Rattle.ccsl_kernel.specs.Syntax.{System, item_count}
@@ -48,7 +49,8 @@ module _ (K : System) (bound : List ℕ) (rows : List Row) (s t i : ℕ) where
       of-item None n time is some v = let clash : false ≡ true = some in absurd (cc)
       of-item (Some j) n time is some v =
           let same : j ≡ i = item-same n j is v in
-          subst (λ z. z < item_count K) same (found-below (is_violated K bound rows n) (item_count K) (steps 0 (item_count K)) j (below-steps (item_count K) (item_count K) (omega arith)) is)
+          subst (λ z. z < item_count K) same
+          (found-below (is_violated K bound rows n) (item_count K) (steps 0 (item_count K)) j (below-steps (item_count K) (item_count K) (omega arith)) is)
         where
           item-same : (n j : ℕ) → first_item K bound rows n ≡ Some j → verdict_at K bound rows (Some n) ≡ Violated s t i → j ≡ i
           item-same n j is v = cc

@@ -1,5 +1,6 @@
 -- The end of a trace: what was handed out and the last block are all its rows.
-use Rattle.std.proofs.Common.{◌≡◌, ℕ, ◌+◌, ◌≤◌, ◌<◌, ◌^◌, List, [], ◌++◌, length, true, false, Option, Some, None, refl, sym, ap, ◌∙◌, subst, append_assoc, arith, length-append}
+use Rattle.std.proofs.Common.{◌≡◌, ℕ, ◌+◌, ◌≤◌, ◌<◌, ◌^◌, List, [], ◌++◌, length, true, false, Option, Some, None, refl, sym, ap, ◌∙◌, subst, append_assoc}
+use Rattle.std.proofs.Common.{arith, length-append}
 use Rattle.std.specs.Prelude.{is_some}
 use Rattle.std.specs.Option.{option_map}
 use Rattle.std.proofs.lemmas.List.{append-nil}
@@ -29,8 +30,10 @@ pub record Finished (wanted : Wanted) (limits : Limits) (bytes : List ℕ) (befo
   pub shows_are : shows after.reading ≡ shown_at (reading wanted limits bytes).place
 
 -- the reader's word on the bytes that it took, where none are pending
-pub finished : (wanted : Wanted) (limits : Limits) (bytes : List ℕ) (feed feed' : Feeding) (rows : List Row) (n : Counts) (r : Runs wanted limits bytes feed rows) → feed.pending ≡ [] → (reading wanted feed.reading.limits r.taken).fault ≡ None
-    → Pushes (done wanted feed.reading.limits r.taken) (recorded wanted feed.reading.limits r.taken) feed.block.rows feed'.block.rows → AreCounts wanted feed.reading.limits r.taken n.rows n.bytes
+pub finished : (wanted : Wanted) (limits : Limits) (bytes : List ℕ) (feed feed' : Feeding) (rows : List Row) (n : Counts)
+    (r : Runs wanted limits bytes feed rows) → feed.pending ≡ [] → (reading wanted feed.reading.limits r.taken).fault ≡ None
+    → Pushes (done wanted feed.reading.limits r.taken) (recorded wanted feed.reading.limits r.taken) feed.block.rows feed'.block.rows
+    → AreCounts wanted feed.reading.limits r.taken n.rows n.bytes
     → shows feed'.reading ≡ shown_at (reading wanted feed.reading.limits r.taken).place → Finished wanted limits bytes feed feed' n
 finished wanted limits bytes feed feed' rows n r none fine pushes counts shown =
     subst (λ xs. Finished wanted limits xs feed feed' n) (sym (r.all ∙ ap (λ xs. r.taken ++ xs) none ∙ append-nil r.taken))
@@ -48,10 +51,12 @@ none-of (Some x) e = absurd (cc)
 pub unshown : {A : Type 0} (f : A → List ℕ) (o : Option A) (shown : Option (List ℕ)) → option_map f o ≡ shown → is_some o ≡ false → shown ≡ None
 unshown f o shown e h = none-of shown (sym (ap is_some e) ∙ is_some-map f o ∙ h)
 
-pub is-shown : {A : Type 0} (f : A → List ℕ) (o : Option A) (shown : Option (List ℕ)) → option_map f o ≡ shown → is_some o ≡ true → (bound : List ℕ) × (shown ≡ Some bound)
+pub is-shown : {A : Type 0} (f : A → List ℕ) (o : Option A) (shown : Option (List ℕ)) → option_map f o ≡ shown → is_some o ≡ true
+    → (bound : List ℕ) × (shown ≡ Some bound)
 is-shown f o shown e h = some-of shown (sym (ap is_some e) ∙ is_some-map f o ∙ h)
 
-module _ (wanted : Wanted) (limits : Limits) (bytes : List ℕ) (feed feed' : Feeding) (rows : List Row) (n : Counts) (small : n.rows < 2 ^ 64) (r : Runs wanted limits bytes feed rows) (fresh : feed.handed ≡ false) (none : feed.pending ≡ []) (q : Finished wanted limits bytes feed feed' n) where
+module _ (wanted : Wanted) (limits : Limits) (bytes : List ℕ) (feed feed' : Feeding) (rows : List Row) (n : Counts) (small : n.rows < 2 ^ 64)
+    (r : Runs wanted limits bytes feed rows) (fresh : feed.handed ≡ false) (none : feed.pending ≡ []) (q : Finished wanted limits bytes feed feed' n) where
   pub all-taken : bytes ≡ r.taken
   all-taken = r.all ∙ ap (λ xs. r.taken ++ xs) none ∙ append-nil r.taken
 
@@ -61,7 +66,8 @@ module _ (wanted : Wanted) (limits : Limits) (bytes : List ℕ) (feed feed' : Fe
   all-rows : rows ++ feed'.block.rows ≡ recorded wanted limits bytes
   all-rows =
       ap (λ rs. rows ++ rs) q.pushes.block ∙ sym (append_assoc rows feed.block.rows q.pushes.pushed)
-      ∙ ap (λ rs. rs ++ q.pushes.pushed) (ap (λ b. rows ++ waiting_in b feed.block.rows) (sym fresh) ∙ sym r.rows_are ∙ ap (done wanted limits) (sym all-taken)) ∙ sym q.pushes.rows
+      ∙ ap (λ rs. rs ++ q.pushes.pushed) (ap (λ b. rows ++ waiting_in b feed.block.rows) (sym fresh) ∙ sym r.rows_are ∙ ap (done wanted limits) (sym all-taken))
+      ∙ sym q.pushes.rows
 
   few : length rows + length feed'.block.rows < 2 ^ 64
   few = omega (arith, small, q.counts.rows_are, ap length all-rows, length-append rows feed'.block.rows)
@@ -85,7 +91,8 @@ module _ (wanted : Wanted) (limits : Limits) (bytes : List ℕ) (feed feed' : Fe
         waited = e;
         none = nil;
         near = subst (IsNear wanted limits) (sym r.all) (near-of wanted limits r.taken feed.pending (within wanted limits bytes feed rows r) r.few
-            (λ p. let c : false ≡ true = sym (past-taken wanted limits bytes feed rows r ∙ ap is_some e) ∙ p in absurd (cc)) (fine-taken wanted limits bytes feed rows r));
+            (λ p. let c : false ≡ true =
+            sym (past-taken wanted limits bytes feed rows r ∙ ap is_some e) ∙ p in absurd (cc)) (fine-taken wanted limits bytes feed rows r));
         bound = b.0;
         shows = q.shows_are ∙ b.1;
         counts = n;
@@ -95,7 +102,8 @@ module _ (wanted : Wanted) (limits : Limits) (bytes : List ℕ) (feed feed' : Fe
       }
 
 -- either end brings a feed nearer to its last call
-pub nears-finish : (wanted : Wanted) (limits : Limits) (bytes : List ℕ) (before : Option (List ℕ)) (feed feed' : Feeding) (rows : List Row) (next : Next) → feed.ended ≡ None → Finishes next wanted limits bytes before feed' rows → Nears next feed feed'
+pub nears-finish : (wanted : Wanted) (limits : Limits) (bytes : List ℕ) (before : Option (List ℕ)) (feed feed' : Feeding) (rows : List Row) (next : Next)
+    → feed.ended ≡ None → Finishes next wanted limits bytes before feed' rows → Nears next feed feed'
 nears-finish wanted limits bytes before feed feed' rows Bound e h = nearer-end feed feed' h.counts e h.ended
 nears-finish wanted limits bytes before feed feed' rows Rows e h = absurd h
 nears-finish wanted limits bytes before feed feed' rows (Ended n) e h = tt

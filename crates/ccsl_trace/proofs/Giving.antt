@@ -16,7 +16,8 @@ none-some e = let z : ⊥ = cc in absurd z
 
 module _ (told : Told) (wanted : Wanted) (limits : Limits) (start now : State) (before : Option (List ℕ)) where
   -- where no clocks were bound, they are handed out
-  pub first-given : before ≡ None → (next : Next) (feed : Feeding) (rows : List Row) → Gives told wanted limits start now next before feed rows → GivesBound told wanted limits start now before feed rows
+  pub first-given : before ≡ None → (next : Next) (feed : Feeding) (rows : List Row) → Gives told wanted limits start now next before feed rows
+      → GivesBound told wanted limits start now before feed rows
   first-given none Bound feed rows g = g
   first-given none Rows feed rows g = none-some (sym none ∙ g.known)
   first-given none (Ended n) feed rows g = none-some (sym none ∙ g.known)
@@ -33,8 +34,10 @@ module _ (told : Told) (wanted : Wanted) (limits : Limits) (start now : State) (
     given-few (Ended n) g = g.few
 
     -- at the end they are the clocks of the trace
-    pub read-by : (n : Counts) → GivesEnd told wanted limits start now before feed rows n → IsReadBy told wanted limits start now bound (rows ++ feed.block.rows) n.rows n.bytes
-    read-by n g = subst (λ b. IsReadBy told wanted limits start now b (rows ++ feed.block.rows) n.rows n.bytes) (some-same g.bound bound (sym g.known ∙ known)) g.is_read
+    pub read-by : (n : Counts) → GivesEnd told wanted limits start now before feed rows n
+        → IsReadBy told wanted limits start now bound (rows ++ feed.block.rows) n.rows n.bytes
+    read-by n g = subst (λ b. IsReadBy told wanted limits start now b (rows ++ feed.block.rows) n.rows n.bytes) (some-same g.bound bound (sym g.known ∙ known))
+        g.is_read
 
 -- where the trace has not ended, its end comes nearer
 pub nearer : (next : Next) (old new : Feeding) → Nears next old new → (next ≡ Bound) ⊎ (next ≡ Rows) → calls_left new < calls_left old

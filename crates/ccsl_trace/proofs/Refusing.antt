@@ -1,5 +1,6 @@
 -- How a fault of the reader is answered.
-use Rattle.std.proofs.Common.{◌≡◌, ℕ, ◌+◌, ◌≤◌, List, [], ◌++◌, length, take, drop, nat_le, Bool, true, false, ◌||◌, Option, Some, None, IsTrue, refl, sym, ap, ◌∙◌, subst, append_assoc, arith, length-append, length-take}
+use Rattle.std.proofs.Common.{◌≡◌, ℕ, ◌+◌, ◌≤◌, List, [], ◌++◌, length, take, drop, nat_le, Bool, true, false, ◌||◌, Option, Some, None, IsTrue, refl, sym, ap}
+use Rattle.std.proofs.Common.{◌∙◌, subst, append_assoc, arith, length-append, length-take}
 use Rattle.std.specs.Prelude.{IfSome, Result, Err, ◌≢◌}
 use Rattle.std.proofs.lemmas.Bool.{leb-true, leb-false}
 use Rattle.std.proofs.lemmas.List.{append-nil, take-append-le, take-append-drop}
@@ -22,7 +23,8 @@ use Rattle.ccsl_trace.specs.HeaderEnd.{is_body, binds_none, ends_header}
 use Rattle.ccsl_trace.proofs.Binding.{past-stays, body-past, none-before-none}
 
 -- a fault that is no want of memory is told, with its cause
-by-cause : (P : TraceFault → Type 0) (f : VcdFault) (cause : Type 0) → (f ≡ faults.Memory → P Memory) → (NotMemory f → cause → P (Refused f)) → Caused f cause → P (unread f)
+by-cause : (P : TraceFault → Type 0) (f : VcdFault) (cause : Type 0) → (f ≡ faults.Memory → P Memory) → (NotMemory f → cause → P (Refused f)) → Caused f cause
+    → P (unread f)
 by-cause P faults.Memory cause m r h = m refl
 by-cause P (faults.TokenTooLong x) cause m r h = r tt h
 by-cause P (faults.BadHeader x) cause m r h = r tt h
@@ -58,7 +60,8 @@ not-memory (faults.Unbound x) n e = absurd (cc)
 not-memory (faults.Ambiguous x) n e = absurd (cc)
 
 -- where the clocks are bound the answer is no want of memory
-pub never-memory : (A : Type 0) (o : Option (List ℕ)) (f : VcdFault) (t : TraceFault) → t ≡ unread f → ((bound : List ℕ) → o ≡ Some bound → NotMemory f) → IfSome o (λ _. ◌≢◌ {A = Result A TraceFault} (Err t) (Err Memory))
+pub never-memory : (A : Type 0) (o : Option (List ℕ)) (f : VcdFault) (t : TraceFault) → t ≡ unread f → ((bound : List ℕ) → o ≡ Some bound → NotMemory f)
+    → IfSome o (λ _. ◌≢◌ {A = Result A TraceFault} (Err t) (Err Memory))
 never-memory A None f t e h = tt
 never-memory A (Some b) f t e h = λ same. not-memory f (h b refl) (sym e ∙ (let k : t ≡ Memory = cc in k))
 
@@ -67,7 +70,8 @@ pub near-of : (wanted : Wanted) (limits : Limits) (a b : List ℕ) → length a 
     (so_far wanted limits a).fault ≡ None → IsNear wanted limits (a ++ b)
 near-of wanted limits a b within few early fine = λ n p. by-place n p (nat_le n (length a)) refl
   where
-    not-ended : (n : ℕ) → (v : Bool) → is_body (so_far wanted limits (take n a)).place ≡ v → (v || binds_none (so_far wanted limits (take n a)).fault) ≡ true → ⊥
+    not-ended : (n : ℕ) → (v : Bool) → is_body (so_far wanted limits (take n a)).place ≡ v → (v || binds_none (so_far wanted limits (take n a)).fault) ≡ true
+        → ⊥
     not-ended n true e q = early (ap (past_header wanted limits) (sym (take-append-drop n a))
         ∙ past-stays wanted limits (take n a) (drop n a) (omega (arith, within, length-take n a)) (rw (take-append-drop n a) within)
         (sym (body-past (so_far wanted limits (take n a)).place) ∙ e))
@@ -82,7 +86,8 @@ near-of wanted limits a b within few early fine = λ n p. by-place n p (nat_le n
         absurd (not-ended n (is_body (so_far wanted limits (take n a)).place) refl (ap (ends_header wanted limits) (sym (take-append-le n a b le)) ∙ p))
     by-place n p false e = let gt = leb-false _ _ e in omega (arith, length-append a b, few)
 
-module _ (f : VcdFault) (wanted : Wanted) (limits : Limits) (a b : List ℕ) (within : length a ≤ limits.bytes) (few : length b ≤ PIECE) (calm : IsCalm wanted limits a f)
+module _ (f : VcdFault) (wanted : Wanted) (limits : Limits) (a b : List ℕ) (within : length a ≤ limits.bytes) (few : length b ≤ PIECE)
+    (calm : IsCalm wanted limits a f)
     (fine : (so_far wanted limits a).fault ≡ None) where
   want : f ≡ faults.Memory → IsNear wanted limits (a ++ b)
   want e = near-of wanted limits a b within few (λ p. subst NotMemory e (calm p)) fine
@@ -116,7 +121,8 @@ module _ (told : Told) (wanted : Wanted) (limits : Limits) (start now : State) (
   pub whole-of : (IsTrue told.left → (now.slot_of Trace).left ≡ []) → IsTrue told.left → (start.slot_of Trace).left ≡ bytes
   whole-of none tells = reads.taken tells ∙ ap (λ xs. bytes ++ xs) (none tells) ∙ append-nil bytes
 
-  pub unread-it : (IsTrue told.left → (now.slot_of Trace).left ≡ []) → (t : TraceFault) → RefusesIt t wanted limits bytes → IsUnread told wanted limits start now t
+  pub unread-it : (IsTrue told.left → (now.slot_of Trace).left ≡ []) → (t : TraceFault) → RefusesIt t wanted limits bytes
+      → IsUnread told wanted limits start now t
   unread-it none Fault h = absurd h
   unread-it none (Refused f) h = record {
     bytes = bytes;

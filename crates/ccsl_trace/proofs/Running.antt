@@ -1,5 +1,6 @@
 -- A feed from one step to the next.
-use Rattle.std.proofs.Common.{◌≡◌, ℕ, ◌+◌, ◌*◌, min, ◌≤◌, ◌<◌, ◌^◌, List, [], ◌∷◌, ◌++◌, length, take, drop, Bool, true, false, Option, Some, None, refl, sym, ap, ◌∙◌, subst, append_assoc, arith, length-append, length-take, length-drop}
+use Rattle.std.proofs.Common.{◌≡◌, ℕ, ◌+◌, ◌*◌, min, ◌≤◌, ◌<◌, ◌^◌, List, [], ◌∷◌, ◌++◌, length, take, drop, Bool, true, false, Option, Some, None, refl, sym}
+use Rattle.std.proofs.Common.{ap, ◌∙◌, subst, append_assoc, arith, length-append, length-take, length-drop}
 use Rattle.std.specs.Prelude.{is_some, IfNone}
 use Rattle.std.proofs.lemmas.List.{append-nil, take-append-drop}
 use Rattle.ccsl_base.specs.declared.rows.Row.{Row}
@@ -25,7 +26,8 @@ abbrev Link : Bool → Bool → Bool → Type 0
 Link true before now = (before ≡ false) × (now ≡ true)
 Link false before now = now ≡ before
 
-turns-by : (ended : Bool) (before now : Option (List ℕ)) → Link ended (is_some before) (is_some now) → ((c : List ℕ) → before ≡ Some c → now ≡ Some c) → Turns ended before now
+turns-by : (ended : Bool) (before now : Option (List ℕ)) → Link ended (is_some before) (is_some now) → ((c : List ℕ) → before ≡ Some c → now ≡ Some c)
+    → Turns ended before now
 turns-by true None None l k = absurd (let e : false ≡ true = l.1 in cc)
 turns-by true None (Some c) l k = (refl, c, refl)
 turns-by true (Some b) now l k = absurd (let e : true ≡ false = l.0 in cc)
@@ -33,8 +35,10 @@ turns-by false None None l k = refl
 turns-by false None (Some c) l k = absurd (let e : true ≡ false = l in cc)
 turns-by false (Some b) now l k = k b refl
 
-link-of : (ended : Bool) (wanted : Wanted) (l : Limits) (bytes piece : List ℕ) (n : ℕ) → HeaderSo ended wanted l bytes piece n → Link ended (is_some (bound_by wanted l bytes)) (is_some (bound_by wanted l (bytes ++ take n piece)))
-link-of true wanted l bytes piece n h = (sym (past-shown (so_far wanted l bytes).place) ∙ h.first, sym (past-shown (so_far wanted l (bytes ++ take n piece)).place) ∙ h.now)
+link-of : (ended : Bool) (wanted : Wanted) (l : Limits) (bytes piece : List ℕ) (n : ℕ) → HeaderSo ended wanted l bytes piece n
+    → Link ended (is_some (bound_by wanted l bytes)) (is_some (bound_by wanted l (bytes ++ take n piece)))
+link-of true wanted l bytes piece n h =
+    (sym (past-shown (so_far wanted l bytes).place) ∙ h.first, sym (past-shown (so_far wanted l (bytes ++ take n piece)).place) ∙ h.now)
 link-of false wanted l bytes piece n h = sym (past-shown (so_far wanted l (bytes ++ take n piece)).place) ∙ h ∙ past-shown (so_far wanted l bytes).place
 
 -- past the header's end the clocks are bound
@@ -48,17 +52,20 @@ nil-of (x ∷ a) b e = absurd (cc)
 
 -- what comes nearer to the end of the bytes comes nearer to the end
 pub nearer-of : (old new : Feeding) → old.ended ≡ None → new.ended ≡ None → left_of new < left_of old → calls_left new < calls_left old
-nearer-of old new e e' h = subst (λ o. calls_left new < calls_left_from o old) (sym e) (subst (λ o. calls_left_from o new < calls_left_from None old) (sym e') (omega (arith, h)))
+nearer-of old new e e' h =
+    subst (λ o. calls_left new < calls_left_from o old) (sym e) (subst (λ o. calls_left_from o new < calls_left_from None old) (sym e') (omega (arith, h)))
 
 -- and so does what hands out rows that wait
-pub nearer-rows : (old new : Feeding) → old.ended ≡ None → old.handed ≡ false → 0 < length old.block.rows → new ≡ record old { handed = true } → calls_left new < calls_left old
+pub nearer-rows : (old new : Feeding) → old.ended ≡ None → old.handed ≡ false → 0 < length old.block.rows → new ≡ record old { handed = true }
+    → calls_left new < calls_left old
 nearer-rows old new e fresh some same =
     subst (λ x. calls_left x < calls_left old) (sym same) (subst (λ o. calls_left_from o (record old { handed = true }) < calls_left_from o old) (sym e)
     (subst (λ b. 1 + 2 * left_of old + 0 < 1 + 2 * left_of old + min 1 (length (waiting_in b old.block.rows))) (sym fresh) (omega (arith, some))))
 
 -- and what tells the end
 pub nearer-end : (old new : Feeding) (n : Counts) → old.ended ≡ None → new.ended ≡ Some n → calls_left new < calls_left old
-nearer-end old new n e e' = subst (λ o. calls_left new < calls_left_from o old) (sym e) (subst (λ o. calls_left_from o new < calls_left_from None old) (sym e') (omega arith))
+nearer-end old new n e e' =
+    subst (λ o. calls_left new < calls_left_from o old) (sym e) (subst (λ o. calls_left_from o new < calls_left_from None old) (sym e') (omega arith))
 
 module _ (wanted : Wanted) (limits : Limits) (bytes : List ℕ) (feed : Feeding) (rows : List Row) (r : Runs wanted limits bytes feed rows) where
   pub running : Running wanted feed.reading r.taken
@@ -71,7 +78,8 @@ module _ (wanted : Wanted) (limits : Limits) (bytes : List ℕ) (feed : Feeding)
   fine-taken =
       let n = running in
       let at : (so_far wanted feed.reading.limits r.taken).fault ≡ None =
-      ap (λ (s : Story). s.fault) (so_far-within wanted feed.reading.limits r.taken n.within) ∙ no-fault wanted feed.reading.limits feed.reading.stage _ n.pictures in
+      ap (λ (s : Story). s.fault) (so_far-within wanted feed.reading.limits r.taken n.within)
+      ∙ no-fault wanted feed.reading.limits feed.reading.stage _ n.pictures in
       subst (λ (x : Limits). (so_far wanted x r.taken).fault ≡ None) r.limits_are at
 
   pub bound-taken : bound_of feed ≡ bound_by wanted limits r.taken
@@ -90,7 +98,8 @@ module _ (wanted : Wanted) (limits : Limits) (bytes : List ℕ) (feed : Feeding)
   -- and there are at most as many as bytes
   pub few-rows : limits.bytes < 2 ^ 64 → length rows + length (waiting_in feed.handed feed.block.rows) < 2 ^ 64
   few-rows h =
-      let few : length (done wanted feed.reading.limits r.taken) < 2 ^ 64 = done-few wanted feed.reading r.taken running (subst (λ (x : Limits). x.bytes < 2 ^ 64) (sym r.limits_are) h) in
+      let few : length (done wanted feed.reading.limits r.taken) < 2 ^ 64 =
+      done-few wanted feed.reading r.taken running (subst (λ (x : Limits). x.bytes < 2 ^ 64) (sym r.limits_are) h) in
       let e : length (done wanted feed.reading.limits r.taken) ≡ length rows + length (waiting_in feed.handed feed.block.rows) =
       ap (λ (x : Limits). length (done wanted x r.taken)) r.limits_are ∙ ap length r.rows_are ∙ length-append rows (waiting_in feed.handed feed.block.rows) in
       omega (arith, few, e)
@@ -132,24 +141,28 @@ module _ (wanted : Wanted) (limits : Limits) (bytes : List ℕ) (feed : Feeding)
   }
 
   -- the reader takes a part of the piece
-  module _ (feed' : Feeding) (n : ℕ) (fresh : feed.handed ≡ false) (same : feed'.reading.limits ≡ feed.reading.limits) (fine : feed'.reading.fault ≡ None) (stands : StandsFor wanted feed'.reading (r.taken ++ take n feed.pending)) where
+  module _ (feed' : Feeding) (n : ℕ) (fresh : feed.handed ≡ false) (same : feed'.reading.limits ≡ feed.reading.limits) (fine : feed'.reading.fault ≡ None)
+      (stands : StandsFor wanted feed'.reading (r.taken ++ take n feed.pending)) where
     abbrev more : List ℕ
     more = r.taken ++ take n feed.pending
 
     running-more : Running wanted feed'.reading more
     running-more = running-of wanted feed'.reading more fine stands
 
-    pub passes : Pushes (done wanted feed.reading.limits r.taken) (done wanted feed.reading.limits more) feed.block.rows feed'.block.rows → feed'.pending ≡ drop n feed.pending → feed'.handed ≡ false → feed'.block.room ≡ feed.block.room → Runs wanted limits bytes feed' rows
+    pub passes : Pushes (done wanted feed.reading.limits r.taken) (done wanted feed.reading.limits more) feed.block.rows feed'.block.rows
+        → feed'.pending ≡ drop n feed.pending → feed'.handed ≡ false → feed'.block.room ≡ feed.block.room → Runs wanted limits bytes feed' rows
     passes q p h room = record {
       taken = more;
-      all = r.all ∙ ap (λ xs. r.taken ++ xs) (sym (take-append-drop n feed.pending)) ∙ sym (append_assoc r.taken (take n feed.pending) (drop n feed.pending)) ∙ ap (λ xs. more ++ xs) (sym p);
+      all = r.all ∙ ap (λ xs. r.taken ++ xs) (sym (take-append-drop n feed.pending)) ∙ sym (append_assoc r.taken (take n feed.pending) (drop n feed.pending))
+          ∙ ap (λ xs. more ++ xs) (sym p);
       few = omega (arith, r.few, length-drop n feed.pending, ap length p);
       stands = stands;
       runs = fine;
       limits_are = same ∙ r.limits_are;
       rows_are =
           ap (λ (x : Limits). done wanted x more) (sym r.limits_are) ∙ q.rows
-          ∙ ap (λ rs. rs ++ q.pushed) (ap (λ (x : Limits). done wanted x r.taken) r.limits_are ∙ r.rows_are ∙ ap (λ b. rows ++ waiting_in b feed.block.rows) fresh)
+          ∙ ap (λ rs. rs ++ q.pushed) (ap (λ (x : Limits). done wanted x r.taken) r.limits_are ∙ r.rows_are
+          ∙ ap (λ b. rows ++ waiting_in b feed.block.rows) fresh)
           ∙ append_assoc rows feed.block.rows q.pushed ∙ ap (λ rs. rows ++ rs) (sym q.block) ∙ ap (λ b. rows ++ waiting_in b feed'.block.rows) (sym h);
       room = room ∙ r.room;
     }
@@ -168,7 +181,8 @@ module _ (wanted : Wanted) (limits : Limits) (bytes : List ℕ) (feed : Feeding)
         let l = feed.reading.limits in
         let w : length more ≤ l.bytes = subst (λ (x : Limits). length more ≤ x.bytes) same b.within in
         let e : bound_of feed ≡ bound_by wanted l r.taken = running-shown wanted feed.reading r.taken running in
-        let e' : bound_of feed' ≡ bound_by wanted l more = running-shown wanted feed'.reading more running-more ∙ ap (λ (x : Limits). bound_by wanted x more) same in
+        let e' : bound_of feed' ≡ bound_by wanted l more =
+        running-shown wanted feed'.reading more running-more ∙ ap (λ (x : Limits). bound_by wanted x more) same in
         subst (λ o. Turns ended o (bound_of feed')) (sym e) (subst (λ o. Turns ended (bound_by wanted l r.taken) o) (sym e')
         (turns-by ended _ _ (link-of ended wanted l r.taken feed.pending n h) (λ c k. bound-stays wanted l r.taken (take n feed.pending) c a.within w k)))
 
@@ -177,19 +191,27 @@ module _ (wanted : Wanted) (limits : Limits) (bytes : List ℕ) (feed : Feeding)
   near n h = subst (IsNear wanted limits) (sym r.all) (near-of wanted limits r.taken feed.pending within r.few
       (λ p. let c : false ≡ true = sym h.first ∙ ap (λ (x : Limits). past_header wanted x r.taken) r.limits_are ∙ p in absurd (cc)) fine-taken)
 
-  module _ (f : VcdFault) (calm : IfNone feed.reading.fault ((wanted : Wanted) (bytes : List ℕ) → StandsFor wanted feed.reading bytes → IsCalm wanted feed.reading.limits bytes f)) where
+  module _ (f : VcdFault) (calm : IfNone feed.reading.fault ((wanted : Wanted) (bytes : List ℕ) → StandsFor wanted feed.reading bytes
+      → IsCalm wanted feed.reading.limits bytes f)) where
     calm-taken : IsCalm wanted limits r.taken f
     calm-taken = subst (λ (x : Limits). IsCalm wanted x r.taken f) r.limits_are
-        (subst (λ (o : Option VcdFault). IfNone o ((wanted : Wanted) (bytes : List ℕ) → StandsFor wanted feed.reading bytes → IsCalm wanted feed.reading.limits bytes f)) r.runs calm wanted r.taken r.stands)
+        (subst (λ (o : Option VcdFault). IfNone o ((wanted : Wanted) (bytes : List ℕ) → StandsFor wanted feed.reading bytes
+        → IsCalm wanted feed.reading.limits bytes f)) r.runs calm wanted r.taken r.stands)
 
     -- past the header's end it is no want of memory
     pub calm-bound : (bound : List ℕ) → bound_of feed ≡ Some bound → NotMemory f
     calm-bound bound e = calm-taken (past-taken ∙ ap is_some e)
 
-    pub refused-all : Caused f ((wanted : Wanted) (bytes more : List ℕ) → StandsFor wanted feed.reading bytes → (reading wanted feed.reading.limits (bytes ++ (feed.pending ++ more))).fault ≡ Some f) → RefusesAll (unread f) wanted limits bytes
+    pub refused-all : Caused f ((wanted : Wanted) (bytes more : List ℕ) → StandsFor wanted feed.reading bytes
+        → (reading wanted feed.reading.limits (bytes ++ (feed.pending ++ more))).fault ≡ Some f) → RefusesAll (unread f) wanted limits bytes
     refused-all c = subst (RefusesAll (unread f) wanted limits) (sym r.all) (refuses-all f wanted limits r.taken feed.pending within r.few calm-taken fine-taken
-        (caused-map f (λ h. λ more. ap (λ (x : Limits). (reading wanted x (r.taken ++ (feed.pending ++ more))).fault) (sym r.limits_are) ∙ h wanted r.taken more r.stands) c))
+        (caused-map f (λ h. λ more. ap (λ (x : Limits). (reading wanted x (r.taken ++ (feed.pending ++ more))).fault) (sym r.limits_are)
+        ∙ h wanted r.taken more r.stands) c))
 
-    pub refused-it : feed.pending ≡ [] → Caused f ((wanted : Wanted) (bytes : List ℕ) → StandsFor wanted feed.reading bytes → (reading wanted feed.reading.limits bytes).fault ≡ Some f) → RefusesIt (unread f) wanted limits bytes
-    refused-it none c = subst (RefusesIt (unread f) wanted limits) (sym r.all) (refuses-it f wanted limits r.taken feed.pending within r.few calm-taken fine-taken
-        (caused-map f (λ h. ap (λ xs. (reading wanted limits xs).fault) (ap (λ xs. r.taken ++ xs) none ∙ append-nil r.taken) ∙ ap (λ (x : Limits). (reading wanted x r.taken).fault) (sym r.limits_are) ∙ h wanted r.taken r.stands) c))
+    pub refused-it : feed.pending ≡ []
+        → Caused f ((wanted : Wanted) (bytes : List ℕ) → StandsFor wanted feed.reading bytes → (reading wanted feed.reading.limits bytes).fault ≡ Some f)
+        → RefusesIt (unread f) wanted limits bytes
+    refused-it none c = subst (RefusesIt (unread f) wanted limits) (sym r.all)
+        (refuses-it f wanted limits r.taken feed.pending within r.few calm-taken fine-taken
+        (caused-map f (λ h. ap (λ xs. (reading wanted limits xs).fault) (ap (λ xs. r.taken ++ xs) none ∙ append-nil r.taken)
+        ∙ ap (λ (x : Limits). (reading wanted x r.taken).fault) (sym r.limits_are) ∙ h wanted r.taken r.stands) c))

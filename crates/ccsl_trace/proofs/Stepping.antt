@@ -1,5 +1,6 @@
 -- A feed and the world from which it takes its trace.
-use Rattle.std.proofs.Common.{◌≡◌, ℕ, ◌+◌, ◌<◌, ◌≤◌, ◌-◌, ◌^◌, List, [], ◌++◌, length, Bool, true, false, Option, Some, None, IsTrue, refl, sym, ap, ◌∙◌, subst, arith}
+use Rattle.std.proofs.Common.{◌≡◌, ℕ, ◌+◌, ◌<◌, ◌≤◌, ◌-◌, ◌^◌, List, [], ◌++◌, length, Bool, true, false, Option, Some, None, IsTrue, refl, sym, ap, ◌∙◌, subst}
+use Rattle.std.proofs.Common.{arith}
 use Rattle.std.proofs.lemmas.List.{append-nil, take_all}
 use Rattle.ccsl_base.specs.declared.limits.TheConstants.{BLOCK_ROWS, PIECE}
 use Rattle.ccsl_base.specs.declared.rows.Row.{Row}
@@ -26,7 +27,8 @@ use Rattle.ccsl_trace.proofs.Refusing.{near-header, unread-all, unread-it, whole
 use Rattle.ccsl_trace.proofs.Running.{none-before, few-rows, bound-where-rows, gives}
 
 -- before the first byte
-pub opened : (told : Told) (wanted : Wanted) (limits : Limits) (now : State) (feed : Feeding) → limits.bytes < 2 ^ 64 → feed.pending ≡ [] → feed.block ≡ record { rows = []; room = BLOCK_ROWS } → feed.ended ≡ None
+pub opened : (told : Told) (wanted : Wanted) (limits : Limits) (now : State) (feed : Feeding) → limits.bytes < 2 ^ 64 → feed.pending ≡ []
+    → feed.block ≡ record { rows = []; room = BLOCK_ROWS } → feed.ended ≡ None
     → feed.reading.limits ≡ limits → feed.reading.fault ≡ None → StandsFor wanted feed.reading [] → Feeds told wanted limits now now feed []
 opened told wanted limits now feed small none block ended l runs stands = record {
   bytes = [];
@@ -39,7 +41,8 @@ opened told wanted limits now feed small none block ended l runs stands = record
     stands = stands;
     runs = runs;
     limits_are = l;
-    rows_are = done-none wanted limits [] (omega arith) (bound-none wanted limits) ∙ sym (none-waiting feed.handed feed.block.rows (ap (λ (x : RowList). x.rows) block));
+    rows_are = done-none wanted limits [] (omega arith) (bound-none wanted limits)
+        ∙ sym (none-waiting feed.handed feed.block.rows (ap (λ (x : RowList). x.rows) block));
     room = ap (λ (x : RowList). x.room) block;
   });
 }
@@ -66,14 +69,17 @@ none-left told count old new piece r none tells =
     let whole : piece ≡ r.bytes = r.piece_is ∙ take_all (2 ^ 64 - 1) r.bytes (omega (arith, r.count_is, r.few)) in
     r.ended tells (sym r.count_is ∙ ap length (sym whole) ∙ ap length none)
 
-module _ (told : Told) (wanted : Wanted) (limits : Limits) (start now : State) (feed : Feeding) (rows : List Row) (f : Feeds told wanted limits start now feed rows) where
+module _ (told : Told) (wanted : Wanted) (limits : Limits) (start now : State) (feed : Feeding) (rows : List Row)
+    (f : Feeds told wanted limits start now feed rows) where
   -- a trace that has not ended is still running
   pub runs-of : feed.ended ≡ None → Runs wanted limits f.bytes feed rows
   runs-of e = subst (λ o. Holds told wanted limits start now o f.bytes feed rows) e f.holds
 
   -- with no read between
-  pub feeds-on : (feed' : Feeding) (rows' : List Row) → feed'.ended ≡ None → Runs wanted limits f.bytes feed' rows' → Feeds told wanted limits start now feed' rows'
-  feeds-on feed' rows' e h = record { bytes = f.bytes; reads = f.reads; small = f.small; holds = subst (λ o. Holds told wanted limits start now o f.bytes feed' rows') (sym e) h }
+  pub feeds-on : (feed' : Feeding) (rows' : List Row) → feed'.ended ≡ None → Runs wanted limits f.bytes feed' rows'
+      → Feeds told wanted limits start now feed' rows'
+  feeds-on feed' rows' e h =
+      record { bytes = f.bytes; reads = f.reads; small = f.small; holds = subst (λ o. Holds told wanted limits start now o f.bytes feed' rows') (sym e) h }
 
   -- a read failed
   pub fails-at : (next : State) → calls.Fails Trace now next → Fails told wanted limits start next
@@ -104,7 +110,8 @@ module _ (told : Told) (wanted : Wanted) (limits : Limits) (start now : State) (
       }
 
   -- the block is full
-  pub gives-rows : (feed' : Feeding) → feed.ended ≡ None → feed.handed ≡ false → length feed.block.rows ≡ feed.block.room → feed' ≡ record feed { handed = true } → GivesRows told wanted limits start now (bound_of feed) feed' rows
+  pub gives-rows : (feed' : Feeding) → feed.ended ≡ None → feed.handed ≡ false → length feed.block.rows ≡ feed.block.room
+      → feed' ≡ record feed { handed = true } → GivesRows told wanted limits start now (bound_of feed) feed' rows
   gives-rows feed' e fresh full same =
       let r = runs-of e in
       let len : length feed.block.rows ≡ BLOCK_ROWS = full ∙ r.room in
@@ -116,13 +123,15 @@ module _ (told : Told) (wanted : Wanted) (limits : Limits) (start now : State) (
         known = b.1;
         shows = ap bound_of same ∙ b.1;
         full = ap (λ (x : RowList). length x.rows) blocks ∙ len;
-        few = subst (λ (x : RowList). length rows + length x.rows < 2 ^ 64) (sym blocks) (subst (λ v. length rows + length (waiting_in v feed.block.rows) < 2 ^ 64) fresh few);
+        few = subst (λ (x : RowList). length rows + length x.rows < 2 ^ 64) (sym blocks)
+            (subst (λ v. length rows + length (waiting_in v feed.block.rows) < 2 ^ 64) fresh few);
         feeds = subst (λ (x : RowList). Feeds told wanted limits start now feed' (rows ++ x.rows)) (sym blocks)
             (feeds-on feed' (rows ++ feed.block.rows) (ap (λ (x : Feeding). x.ended) same ∙ e) (gives wanted limits f.bytes feed rows r feed' fresh same));
       }
 
   -- the header has ended in the piece
-  pub gives-bound : (feed' : Feeding) (bound : List ℕ) → feed.ended ≡ None → feed'.ended ≡ None → bound_of feed ≡ None → bound_of feed' ≡ Some bound → IsNear wanted limits f.bytes → Runs wanted limits f.bytes feed' rows → GivesBound told wanted limits start now (bound_of feed) feed' rows
+  pub gives-bound : (feed' : Feeding) (bound : List ℕ) → feed.ended ≡ None → feed'.ended ≡ None → bound_of feed ≡ None → bound_of feed' ≡ Some bound
+      → IsNear wanted limits f.bytes → Runs wanted limits f.bytes feed' rows → GivesBound told wanted limits start now (bound_of feed) feed' rows
   gives-bound feed' bound e e' waited shows near r =
       let nil : rows ≡ [] = none-before wanted limits f.bytes feed rows (runs-of e) waited in
       record {
@@ -143,7 +152,13 @@ module _ (told : Told) (wanted : Wanted) (limits : Limits) (start now : State) (
         known = h.shows;
         shows = h.shows;
         few = omega (arith, h.few, ap length h.none);
-        is_read = record { bytes = f.bytes; reads = f.reads; whole = h.whole; ends = subst (λ rs. Ends wanted limits f.bytes h.bound (rs ++ feed.block.rows) n.rows n.bytes) (sym h.none) h.ends };
+        is_read = record {
+          bytes = f.bytes;
+          reads = f.reads;
+          whole = h.whole;
+          ends =
+              subst (λ rs. Ends wanted limits f.bytes h.bound (rs ++ feed.block.rows) n.rows n.bytes) (sym h.none) h.ends;
+        };
       }
 
   -- the bytes that are refused were all taken
@@ -158,7 +173,8 @@ module _ (told : Told) (wanted : Wanted) (limits : Limits) (start now : State) (
     whole = whole-of told wanted limits start now f.bytes f.reads none
 
     -- the trace has ended
-    pub gives-end : (before : Option (List ℕ)) (feed' : Feeding) (n : Counts) → EndsNow wanted limits f.bytes before feed' rows n → GivesEnd told wanted limits start now before feed' rows n
+    pub gives-end : (before : Option (List ℕ)) (feed' : Feeding) (n : Counts) → EndsNow wanted limits f.bytes before feed' rows n
+        → GivesEnd told wanted limits start now before feed' rows n
     gives-end before feed' n h = record {
       bound = h.bound;
       known = h.known;
@@ -167,7 +183,8 @@ module _ (told : Told) (wanted : Wanted) (limits : Limits) (start now : State) (
       is_read = record { bytes = f.bytes; reads = f.reads; whole = whole; ends = h.ends };
     }
 
-    pub gives-late : (before : Option (List ℕ)) (feed' : Feeding) → EndsLate wanted limits f.bytes before feed' rows → GivesBound told wanted limits start now before feed' rows
+    pub gives-late : (before : Option (List ℕ)) (feed' : Feeding) → EndsLate wanted limits f.bytes before feed' rows
+        → GivesBound told wanted limits start now before feed' rows
     gives-late before feed' h = record {
       waited = h.waited;
       none = h.none;
@@ -178,11 +195,13 @@ module _ (told : Told) (wanted : Wanted) (limits : Limits) (start now : State) (
         bytes = f.bytes;
         reads = f.reads;
         small = f.small;
-        holds = subst (λ o. Holds told wanted limits start now o f.bytes feed' []) (sym h.ended) (record { none = refl; bound = h.bound; shows = h.shows; whole = whole; ends = h.ends; few = h.few });
+        holds = subst (λ o. Holds told wanted limits start now o f.bytes feed' []) (sym h.ended)
+            (record { none = refl; bound = h.bound; shows = h.shows; whole = whole; ends = h.ends; few = h.few });
       };
     }
 
-    pub gives-finish : (next : Next) (before : Option (List ℕ)) (feed' : Feeding) → Finishes next wanted limits f.bytes before feed' rows → Gives told wanted limits start now next before feed' rows
+    pub gives-finish : (next : Next) (before : Option (List ℕ)) (feed' : Feeding) → Finishes next wanted limits f.bytes before feed' rows
+        → Gives told wanted limits start now next before feed' rows
     gives-finish Bound before feed' h = gives-late before feed' h
     gives-finish Rows before feed' h = absurd h
     gives-finish (Ended n) before feed' h = gives-end before feed' n h

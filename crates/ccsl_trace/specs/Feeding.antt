@@ -66,7 +66,8 @@ pub record Runs (wanted : Wanted) (limits : Limits) (bytes : List ℕ) (feed : F
   pub room : feed.block.room ≡ BLOCK_ROWS
 
 -- the bytes are the whole trace, whose bound clocks are known and whose rows all wait in the block
-pub record HasEnded (told : Told) (wanted : Wanted) (limits : Limits) (start : State) (bytes : List ℕ) (feed : Feeding) (rows : List Row) (n : Counts) : Type 0 where
+pub record HasEnded (told : Told) (wanted : Wanted) (limits : Limits) (start : State) (bytes : List ℕ) (feed : Feeding) (rows : List Row)
+    (n : Counts) : Type 0 where
   pub none : rows ≡ []
   pub bound : List ℕ
   pub shows : bound_of feed ≡ Some bound

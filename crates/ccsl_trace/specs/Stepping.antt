@@ -50,7 +50,8 @@ pub record EndsLate (wanted : Wanted) (limits : Limits) (bytes : List ℕ) (befo
   pub few : length feed.block.rows < 2 ^ 64
 
 -- the trace has ended in its body
-pub record EndsNow (wanted : Wanted) (limits : Limits) (bytes : List ℕ) (before : Option (List ℕ)) (feed : Feeding) (rows : List Row) (n : Counts) : Type 0 where
+pub record EndsNow (wanted : Wanted) (limits : Limits) (bytes : List ℕ) (before : Option (List ℕ)) (feed : Feeding) (rows : List Row)
+    (n : Counts) : Type 0 where
   pub bound : List ℕ
   pub known : before ≡ Some bound
   pub shows : bound_of feed ≡ Some bound
@@ -68,4 +69,5 @@ pub record GoesOn (told : Told) (old new : State) (before after : Feeding) : Typ
   pub handed : after.handed ≡ false
   pub ended : after.ended ≡ None
   pub closer : calls_left after < calls_left before
-  pub feeds : (wanted : Wanted) (limits : Limits) (start : State) (rows : List Row) → Feeds told wanted limits start old before rows → Feeds told wanted limits start new after rows
+  pub feeds : (wanted : Wanted) (limits : Limits) (start : State) (rows : List Row) → Feeds told wanted limits start old before rows
+      → Feeds told wanted limits start new after rows

@@ -1,5 +1,6 @@
 -- What some bytes of a file decide is the fault of every file that begins with them.
-use Rattle.std.proofs.Common.{◌≡◌, ℕ, ◌+◌, ◌-◌, ◌≤◌, ◌<◌, List, [], ◌∷◌, ◌++◌, length, take, Bool, true, false, Option, Some, cond, refl, sym, ap, ◌∙◌, arith, length-append}
+use Rattle.std.proofs.Common.{◌≡◌, ℕ, ◌+◌, ◌-◌, ◌≤◌, ◌<◌, List, [], ◌∷◌, ◌++◌, length, take, Bool, true, false, Option, Some, cond, refl, sym, ap, ◌∙◌, arith}
+use Rattle.std.proofs.Common.{length-append}
 use Rattle.std.specs.Prelude.{fold}
 use Rattle.std.proofs.lemmas.Bool.{lt-ltb, ltb-true, ltb-false, le-ltb}
 use Rattle.std.proofs.lemmas.List.{take-append-le}
@@ -49,19 +50,24 @@ over-still w l b c e =
 cut-same : (l : Limits) (b c : List ℕ) → is_over l b ≡ true → take l.bytes (b ++ c) ≡ take l.bytes b
 cut-same l b c e = let n : l.bytes < length b = ltb-true _ _ e in take-append-le l.bytes b c (omega arith)
 
-settled-sticks : (w : Wanted) (l : Limits) (b c : List ℕ) (f : VcdFault) → (story w l (settled b)).fault ≡ Some f → story w l (settled (b ++ c)) ≡ story w l (settled b)
+settled-sticks : (w : Wanted) (l : Limits) (b c : List ℕ) (f : VcdFault) → (story w l (settled b)).fault ≡ Some f
+    → story w l (settled (b ++ c)) ≡ story w l (settled b)
 settled-sticks w l b c f e = let r = settled-further b c in ap (story w l) r.1 ∙ story-sticks w l (settled b) r.0 f e
 
 -- Bytes that decide a fault decide it with any bytes behind them.
 pub so_far-further : (w : Wanted) (l : Limits) (b c : List ℕ) (f : VcdFault) → (so_far w l b).fault ≡ Some f → (so_far w l (b ++ c)).fault ≡ Some f
 unfolding so_far
 so_far-further w l b c f h =
-    (elim (is_over l b) as (λ o. is_over l b ≡ o → (cond o (decides (story w l (settled (take l.bytes b))) (Some (faults.TooLong l.bytes))) (story w l (settled b))).fault ≡ Some f → (so_far w l (b ++ c)).fault ≡ Some f) [
+    (elim (is_over l b) as (λ o. is_over l b ≡ o
+    → (cond o (decides (story w l (settled (take l.bytes b))) (Some (faults.TooLong l.bytes))) (story w l (settled b))).fault ≡ Some f
+    → (so_far w l (b ++ c)).fault ≡ Some f) [
       | true ↦ λ e g. rw (over-still w l b c e, cut-same l b c e) g
       | false ↦ λ e g. not_over e g (is_over l (b ++ c)) refl
     ]) refl h
   where
-    not_over : is_over l b ≡ false → (story w l (settled b)).fault ≡ Some f → (o : Bool) → is_over l (b ++ c) ≡ o → (cond (is_over l (b ++ c)) (decides (story w l (settled (take l.bytes (b ++ c)))) (Some (faults.TooLong l.bytes))) (story w l (settled (b ++ c)))).fault ≡ Some f
+    not_over : is_over l b ≡ false → (story w l (settled b)).fault ≡ Some f → (o : Bool) → is_over l (b ++ c) ≡ o
+        → (cond (is_over l (b ++ c)) (decides (story w l (settled (take l.bytes (b ++ c)))) (Some (faults.TooLong l.bytes)))
+        (story w l (settled (b ++ c)))).fault ≡ Some f
     not_over e g true o =
         let le : length b ≤ l.bytes = ltb-false _ _ e in
         rw (o, take-past l.bytes b c le) (or-kept _ _ f (ap (λ (s : Story). s.fault) (settled-sticks w l b (take (l.bytes - length b) c) f g) ∙ g))
@@ -72,7 +78,8 @@ under l b c o =
     let n : length (b ++ c) ≤ l.bytes = ltb-false _ _ o in
     le-ltb _ _ (omega (arith, length-append b c, n))
 
-inside : (w : Wanted) (l : Limits) (b c : List ℕ) (f : VcdFault) → is_over l b ≡ false → (so_far w l b).fault ≡ Some f → (story w l (heard (b ++ c))).fault ≡ Some f
+inside : (w : Wanted) (l : Limits) (b c : List ℕ) (f : VcdFault) → is_over l b ≡ false → (so_far w l b).fault ≡ Some f
+    → (story w l (heard (b ++ c))).fault ≡ Some f
 unfolding so_far
 inside w l b c f o h =
     let g : (story w l (settled b)).fault ≡ Some f = rw o at h in
@@ -98,16 +105,19 @@ decides-same s f g e =
 pub so_far-stays : (w : Wanted) (l : Limits) (b c : List ℕ) (f : VcdFault) → (so_far w l b).fault ≡ Some f → so_far w l (b ++ c) ≡ so_far w l b
 unfolding so_far
 so_far-stays w l b c f h =
-    (elim (is_over l b) as (λ o. is_over l b ≡ o → (cond o (decides (story w l (settled (take l.bytes b))) (Some (faults.TooLong l.bytes))) (story w l (settled b))).fault ≡ Some f
+    (elim (is_over l b) as (λ o. is_over l b ≡ o
+    → (cond o (decides (story w l (settled (take l.bytes b))) (Some (faults.TooLong l.bytes))) (story w l (settled b))).fault ≡ Some f
     → so_far w l (b ++ c) ≡ cond o (decides (story w l (settled (take l.bytes b))) (Some (faults.TooLong l.bytes))) (story w l (settled b))) [
       | true ↦ λ e g. rw (over-still w l b c e, cut-same l b c e) refl
       | false ↦ λ e g. not_over e g (is_over l (b ++ c)) refl
     ]) refl h
   where
     not_over : is_over l b ≡ false → (story w l (settled b)).fault ≡ Some f → (o : Bool) → is_over l (b ++ c) ≡ o
-        → cond (is_over l (b ++ c)) (decides (story w l (settled (take l.bytes (b ++ c)))) (Some (faults.TooLong l.bytes))) (story w l (settled (b ++ c))) ≡ story w l (settled b)
+        → cond (is_over l (b ++ c)) (decides (story w l (settled (take l.bytes (b ++ c)))) (Some (faults.TooLong l.bytes)))
+        (story w l (settled (b ++ c))) ≡ story w l (settled b)
     not_over e g true o =
         let le : length b ≤ l.bytes = ltb-false _ _ e in
         let same : story w l (settled (b ++ take (l.bytes - length b) c)) ≡ story w l (settled b) = settled-sticks w l b (take (l.bytes - length b) c) f g in
-        rw (o, take-past l.bytes b c le) (ap (λ (s : Story). decides s (Some (faults.TooLong l.bytes))) same ∙ decides-same (story w l (settled b)) f (faults.TooLong l.bytes) g)
+        rw (o, take-past l.bytes b c le) (ap (λ (s : Story). decides s (Some (faults.TooLong l.bytes))) same
+        ∙ decides-same (story w l (settled b)) f (faults.TooLong l.bytes) g)
     not_over e g false o = rw o (settled-sticks w l b c f g)

@@ -93,11 +93,13 @@ net_rows : recorded one limits (codes "$var wire 1 ! a $end $enddefinitions $end
 unfolding reading so_far says bind word_of number tokens_from run is_white rows recorded
 net_rows = refl
 
-nested : recorded clk limits (codes "$scope module t $end $var wire 1 ! clk $end $scope module u $end $var wire 1 ! clk $end $upscope $end $upscope $end $enddefinitions $end #0 0! #5 1! ") ≡ line 5 (0 ∷ []) ∷ []
+nested : recorded clk limits
+    (codes "$scope module t $end $var wire 1 ! clk $end $scope module u $end $var wire 1 ! clk $end $upscope $end $upscope $end $enddefinitions $end #0 0! #5 1! ") ≡ line 5 (0 ∷ []) ∷ []
 unfolding reading so_far says bind word_of number tokens_from run is_white rows recorded
 nested = refl
 
-outer_wins : recorded clk limits (codes "$scope module t $end $var wire 1 ! clk $end $scope module u $end $var wire 1 & clk $end $upscope $end $upscope $end $enddefinitions $end #0 0! #5 1! #7 1& ") ≡ line 5 (0 ∷ []) ∷ []
+outer_wins : recorded clk limits
+    (codes "$scope module t $end $var wire 1 ! clk $end $scope module u $end $var wire 1 & clk $end $upscope $end $upscope $end $enddefinitions $end #0 0! #5 1! #7 1& ") ≡ line 5 (0 ∷ []) ∷ []
 unfolding reading so_far says bind word_of number tokens_from run is_white rows recorded
 outer_wins = refl
 
@@ -108,7 +110,8 @@ ambiguous = refl
 abbrev req_ack : Wanted
 req_ack = record { names = (codes "req") ∷ (codes "ack") ∷ []; declared = 2 }
 
-simulator : recorded req_ack limits (codes "$date    Mon Jan  5 10:00:00 2026 $end $version    Example Simulator $end $timescale    1ns $end $scope module top $end $var wire 1 ! clk $end $var reg 1 & req $end $var reg 1 # ack $end $var wire 8 $ bus [7:0] $end $upscope $end $enddefinitions $end #0 $dumpvars x! x& x# bxxxxxxxx $ $end #5 0! 0& 0# b0 $ #10 1! 1& #15 0! #20 1! 1# #25 0! 0& #30 1! 0# #40 1& #50 1# ") ≡ line 10 (0 ∷ []) ∷ line 20 (1 ∷ []) ∷ line 40 (0 ∷ []) ∷ line 50 (1 ∷ []) ∷ []
+simulator : recorded req_ack limits
+    (codes "$date    Mon Jan  5 10:00:00 2026 $end $version    Example Simulator $end $timescale    1ns $end $scope module top $end $var wire 1 ! clk $end $var reg 1 & req $end $var reg 1 # ack $end $var wire 8 $ bus [7:0] $end $upscope $end $enddefinitions $end #0 $dumpvars x! x& x# bxxxxxxxx $ $end #5 0! 0& 0# b0 $ #10 1! 1& #15 0! #20 1! 1# #25 0! 0& #30 1! 0# #40 1& #50 1# ") ≡ line 10 (0 ∷ []) ∷ line 20 (1 ∷ []) ∷ line 40 (0 ∷ []) ∷ line 50 (1 ∷ []) ∷ []
 unfolding reading so_far says bind word_of number tokens_from run is_white rows recorded
 simulator = refl
 
@@ -219,7 +222,8 @@ both_at_once : recorded two limits (head ++ (codes "#3 1& 1! #3 0! ")) ≡ line 
 unfolding reading so_far says bind word_of number tokens_from run is_white rows recorded
 both_at_once = refl
 
-net_from_block : recorded one limits (codes "$var wire 1 ! a $end $enddefinitions $end $dumpvars 0! $end #2 $dumpall 1! $end #3 0! 1! #4 z! #5 b01 ! ") ≡ line 2 (0 ∷ []) ∷ line 5 (0 ∷ []) ∷ []
+net_from_block : recorded one limits (codes "$var wire 1 ! a $end $enddefinitions $end $dumpvars 0! $end #2 $dumpall 1! $end #3 0! 1! #4 z! #5 b01 ! ") ≡ line 2
+    (0 ∷ []) ∷ line 5 (0 ∷ []) ∷ []
 unfolding reading so_far says bind word_of number tokens_from run is_white rows recorded
 net_from_block = refl
 

@@ -1,5 +1,6 @@
 -- The clocks that faults name.
-use Rattle.std.proofs.Common.{◌≡◌, ℕ, ◌+◌, ◌≤◌, ◌<◌, List, [], ◌∷◌, length, Bool, true, false, Option, Some, None, Result, Ok, Err, nat_le, nat_lt, if◌then◌else◌, refl, subst, arith}
+use Rattle.std.proofs.Common.{◌≡◌, ℕ, ◌+◌, ◌≤◌, ◌<◌, List, [], ◌∷◌, length, Bool, true, false, Option, Some, None, Result, Ok, Err, nat_le, nat_lt}
+use Rattle.std.proofs.Common.{if◌then◌else◌, refl, subst, arith}
 use Rattle.std.specs.Prelude.{fold, bytes_eq, codes, take}
 use Rattle.std.specs.List.{list_all}
 use Rattle.std.proofs.lemmas.Bool.{ltb-true}
@@ -42,7 +43,8 @@ joined-names n m (Err f) s h k = h
 joined-names n m (Ok b) (Err f) h k = k
 joined-names n m (Ok b) (Ok bs) h k = tt
 
-from-names : (clock declared n : ℕ) (names : List (List ℕ)) (ds : List Declaration) → clock + length names ≤ n → OfResult n declared (bind_from clock declared names ds)
+from-names : (clock declared n : ℕ) (names : List (List ℕ)) (ds : List Declaration) → clock + length names ≤ n
+    → OfResult n declared (bind_from clock declared names ds)
 from-names clock declared n [] ds l = tt
 from-names clock declared n (name ∷ names) ds l =
     joined-names n declared (bind_one clock (nat_lt clock declared) (candidates name ds)) (bind_from (clock + 1) declared names ds)

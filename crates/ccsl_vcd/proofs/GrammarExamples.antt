@@ -74,7 +74,8 @@ trace = record {
   is_header = record { are_commands = are-commands; closed = record { inside = tt; close = refl }; ends = refl };
   binds = refl;
   is_body = ((refl, leb-true 0 5 refl), ((refl, refl), tt));
-  short = (refl, (refl, (refl, (refl, (refl, (refl, (refl, (refl, (refl, (refl, (refl, (refl, (refl, (refl, (refl, (refl, (refl, (refl, (refl, (refl, tt))))))))))))))))))));
+  short =
+      (refl, (refl, (refl, (refl, (refl, (refl, (refl, (refl, (refl, (refl, (refl, (refl, (refl, (refl, (refl, (refl, (refl, (refl, (refl, (refl, tt))))))))))))))))))));
   within = leb-true 106 68719476736 refl;
 }
 

@@ -1,5 +1,6 @@
 -- What is read past the end of the header begins with a header of the grammar.
-use Rattle.std.proofs.Common.{◌≡◌, ℕ, ◌+◌, ◌-◌, ◌<◌, List, [], ◌∷◌, ◌++◌, length, Bool, true, false, Some, None, Ok, Err, nat_le, if◌then◌else◌, refl, sym, ap, ◌∙◌, append_assoc, subst}
+use Rattle.std.proofs.Common.{◌≡◌, ℕ, ◌+◌, ◌-◌, ◌<◌, List, [], ◌∷◌, ◌++◌, length, Bool, true, false, Some, None, Ok, Err, nat_le, if◌then◌else◌, refl, sym, ap}
+use Rattle.std.proofs.Common.{◌∙◌, append_assoc, subst}
 use Rattle.std.specs.Prelude.{map}
 use Rattle.std.specs.List.{AllByRecursion}
 use Rattle.std.specs.Option.{option_to_list}
@@ -11,10 +12,12 @@ use Rattle.ccsl_vcd.specs.declared.fault.VcdFault.TheVariants as faults
 use Rattle.ccsl_vcd.specs.Binding.{Declaration, Wanted, Bound, bind}
 use Rattle.ccsl_vcd.specs.declared.limits.Limits.{Limits}
 use Rattle.ccsl_vcd.specs.Places as p
-use Rattle.ccsl_vcd.specs.Header.{HeaderWord, var, scope, upscope, end_definitions, other_command, end_command, plain, header_word, word_fits, declares, starts, inside_says, ends, put_declared, opens}
+use Rattle.ccsl_vcd.specs.Header.{HeaderWord, var, scope, upscope, end_definitions, other_command, end_command, plain, header_word, word_fits, declares, starts}
+use Rattle.ccsl_vcd.specs.Header.{inside_says, ends, put_declared, opens}
 use Rattle.ccsl_vcd.specs.Reading.{Story, says, told}
 use Rattle.ccsl_vcd.specs.Grammar.{is_end}
-use Rattle.ccsl_vcd.specs.Commands.{Command, command_tokens, commands_tokens, kind_of, IsClosed, IsVariable, MayStand, depth_behind, declared_by, AreCommands, declarations}
+use Rattle.ccsl_vcd.specs.Commands.{Command, command_tokens, commands_tokens, kind_of, IsClosed, IsVariable, MayStand, depth_behind, declared_by, AreCommands}
+use Rattle.ccsl_vcd.specs.Commands.{declarations}
 use Rattle.ccsl_vcd.proofs.Decided.{sticks}
 use Rattle.ccsl_vcd.proofs.Spelled.{tale}
 use Rattle.ccsl_vcd.proofs.HeaderRead.{is_end_word, end-seen, AllFit, at, goes}
@@ -69,14 +72,16 @@ module _ (w : Wanted) (l : Limits) where
   Rest ts = (among : p.Among) (depth : ℕ) (ds : List Declaration) → InBody (goes w l (tale [] (at among depth ds)) ts) → At among depth ds ts
 
   -- no body behind a fault of a header
-  refuses : {X : Type 0} (among : p.Among) (depth : ℕ) (ds : List Declaration) (f : VcdFault) (ts : List Token) → InBody (goes w l (told [] (at among depth ds) (p.refused f)) ts) → X
+  refuses : {X : Type 0} (among : p.Among) (depth : ℕ) (ds : List Declaration) (f : VcdFault) (ts : List Token)
+      → InBody (goes w l (told [] (at among depth ds) (p.refused f)) ts) → X
   refuses among depth ds f ts g =
       let s : Story = told [] (at among depth ds) (p.refused f) in
       let x : false ≡ true = ap (λ (t : Story). in_body t.place) (sym (sticks w l s f (map word ts) refl)) ∙ g in
       absurd (cc)
 
   -- A command, and those behind it.
-  module _ (depth : ℕ) (ds : List Declaration) (t : Token) (ts : List Token) (kind : HeaderWord) (e : header_word t.text ≡ kind) (q : Closing kind depth ds [] ts) where
+  module _ (depth : ℕ) (ds : List Declaration) (t : Token) (ts : List Token) (kind : HeaderWord) (e : header_word t.text ≡ kind)
+      (q : Closing kind depth ds [] ts) where
     abbrev command : Command
     command = record { keyword = t; text = q.text; close = q.close }
 
@@ -93,13 +98,15 @@ module _ (w : Wanted) (l : Limits) where
       last = r.last;
       rest = r.rest;
       bound = r.bound;
-      are = subst (λ (x : HeaderWord). IsClosed command × MayStand l depth ds q.text x × AreCommands l (depth_behind depth x) (ds ++ declared_by depth x q.text) r.cs) (sym e) (closed-so, m, r.are);
+      are = subst (λ (x : HeaderWord). IsClosed command × MayStand l depth ds q.text x
+          × AreCommands l (depth_behind depth x) (ds ++ declared_by depth x q.text) r.cs) (sym e) (closed-so, m, r.are);
       closed = r.closed;
       ends = r.ends;
       binds =
           subst (λ (x : HeaderWord). bind w (ds ++ (declared_by depth x q.text ++ declarations (depth_behind depth x) r.cs)) ≡ Ok r.bound) (sym e)
           (ap (bind w) (sym (append_assoc ds (declared_by depth kind q.text) (declarations (depth_behind depth kind) r.cs))) ∙ r.binds);
-      spelled = spelled-so (commands_tokens r.cs ++ (command_tokens r.last ++ r.rest)) r.spelled ∙ sym (append_assoc (command_tokens command) (commands_tokens r.cs) (command_tokens r.last ++ r.rest));
+      spelled = spelled-so (commands_tokens r.cs ++ (command_tokens r.last ++ r.rest)) r.spelled
+          ∙ sym (append_assoc (command_tokens command) (commands_tokens r.cs) (command_tokens r.last ++ r.rest));
     }
 
     last-so : kind ≡ end_definitions → (bound : List Bound) → bind w ds ≡ Ok bound → Parsed depth ds (t ∷ ts)
@@ -136,11 +143,13 @@ module _ (w : Wanted) (l : Limits) where
     within = p.goes (at (p.inside t []) depth ds) []
 
     -- a token in a command's place
-    on-start : Rest ts → (kind : HeaderWord) → header_word t.text ≡ kind → Begun (starts l (record { among = p.commands; depth = depth; declared = ds }) t kind) → Parsed depth ds (t ∷ ts)
+    on-start : Rest ts → (kind : HeaderWord) → header_word t.text ≡ kind → Begun (starts l (record { among = p.commands; depth = depth; declared = ds }) t kind)
+        → Parsed depth ds (t ∷ ts)
     on-start ih end_command e g = refuses p.commands depth ds (faults.BadHeader t.at) ts g
     on-start ih plain e g = refuses p.commands depth ds (faults.BadHeader t.at) ts g
     on-start ih var e g =
-        (elim (nat_le l.vars (length ds)) as (λ b. nat_le l.vars (length ds) ≡ b → Begun (if b then p.refused (faults.TooManyVars t.at) else within) → Parsed depth ds (t ∷ ts)) [
+        (elim (nat_le l.vars (length ds)) as (λ b. nat_le l.vars (length ds) ≡ b → Begun (if b then p.refused (faults.TooManyVars t.at) else within)
+        → Parsed depth ds (t ∷ ts)) [
           | true ↦ λ k h. refuses p.commands depth ds (faults.TooManyVars t.at) ts h
           | false ↦ λ k h.
               let q : Closing var depth ds [] ts = subst (λ x. Closing x depth ds [] ts) e (ih (p.inside t []) depth ds h) in
@@ -170,12 +179,14 @@ module _ (w : Wanted) (l : Limits) where
       -- the end of a command
       on-end : Rest ts → (kind : HeaderWord) → Ended kind → After kind depth ds words ts
       on-end ih var g =
-          (elim (declares depth words) as (λ o. declares depth words ≡ o → Inner (put_declared (record { among = p.inside head words; depth = depth; declared = ds }) t o) → After var depth ds words ts) [
+          (elim (declares depth words) as (λ o. declares depth words ≡ o
+          → Inner (put_declared (record { among = p.inside head words; depth = depth; declared = ds }) t o) → After var depth ds words ts) [
             | Some d ↦ λ k h. (d, k, ih p.commands depth (ds ++ d ∷ []) h)
             | None ↦ λ k h. refuses (p.inside head words) depth ds (faults.BadHeader t.at) ts h
           ]) refl g
       on-end ih scope g =
-          (elim (nat_le l.scopes depth) as (λ b. nat_le l.scopes depth ≡ b → Inner (if b then p.refused (faults.TooDeep head.at) else p.goes (at p.commands (depth + 1) ds) []) → After scope depth ds words ts) [
+          (elim (nat_le l.scopes depth) as (λ b. nat_le l.scopes depth ≡ b
+          → Inner (if b then p.refused (faults.TooDeep head.at) else p.goes (at p.commands (depth + 1) ds) []) → After scope depth ds words ts) [
             | true ↦ λ k h. refuses (p.inside head words) depth ds (faults.TooDeep head.at) ts h
             | false ↦ λ k h. (leb-false l.scopes depth k, ih p.commands (depth + 1) ds h)
           ]) refl g
@@ -190,10 +201,13 @@ module _ (w : Wanted) (l : Limits) where
       on-end ih plain g = ih p.commands depth ds g
 
       -- a word of its text
-      on-word : Rest ts → is_end t ≡ false → Inner (if word_fits (header_word head.text) words t then p.goes (at (p.inside head (words ++ t ∷ [])) depth ds) [] else p.refused (faults.BadHeader t.at))
+      on-word : Rest ts → is_end t ≡ false
+          → Inner (if word_fits (header_word head.text) words t then p.goes (at (p.inside head (words ++ t ∷ [])) depth ds) [] else p.refused
+          (faults.BadHeader t.at))
           → Closing (header_word head.text) depth ds words (t ∷ ts)
       on-word ih n g =
-          (elim (word_fits (header_word head.text) words t) as (λ b. word_fits (header_word head.text) words t ≡ b → Inner (if b then p.goes (at (p.inside head (words ++ t ∷ [])) depth ds) [] else p.refused (faults.BadHeader t.at))
+          (elim (word_fits (header_word head.text) words t) as (λ b. word_fits (header_word head.text) words t ≡ b
+          → Inner (if b then p.goes (at (p.inside head (words ++ t ∷ [])) depth ds) [] else p.refused (faults.BadHeader t.at))
           → Closing (header_word head.text) depth ds words (t ∷ ts)) [
             | true ↦ λ k h.
                 let q = ih (p.inside head (words ++ t ∷ [])) depth ds h in
@@ -210,7 +224,8 @@ module _ (w : Wanted) (l : Limits) where
             | false ↦ λ k h. refuses (p.inside head words) depth ds (faults.BadHeader t.at) ts h
           ]) refl g
 
-      on-inside : Rest ts → (kind : HeaderWord) → header_word t.text ≡ kind → Inner (inside_says w l (record { among = p.inside head words; depth = depth; declared = ds }) head words t kind)
+      on-inside : Rest ts → (kind : HeaderWord) → header_word t.text ≡ kind
+          → Inner (inside_says w l (record { among = p.inside head words; depth = depth; declared = ds }) head words t kind)
           → Closing (header_word head.text) depth ds words (t ∷ ts)
       on-inside ih end_command e g = record {
         text = [];

@@ -12,14 +12,17 @@ use Rattle.ccsl_vcd.specs.Places.{Among, commands, inside, Where, header}
 use Rattle.ccsl_vcd.specs.Header.{HeaderWord, var, scope, upscope, end_definitions, other_command, end_command, plain, header_word, word_fits, ends, opens}
 use Rattle.ccsl_vcd.specs.Reading.{Story, next, says, told}
 use Rattle.ccsl_vcd.specs.Grammar.{is_end}
-use Rattle.ccsl_vcd.specs.Commands.{Command, command_tokens, commands_tokens, kind_of, IsClosed, IsVariable, MayStand, depth_behind, declared_by, AreCommands, declarations, IsHeader, header_tokens}
+use Rattle.ccsl_vcd.specs.Commands.{Command, command_tokens, commands_tokens, kind_of, IsClosed, IsVariable, MayStand, depth_behind, declared_by, AreCommands}
+use Rattle.ccsl_vcd.specs.Commands.{declarations, IsHeader, header_tokens}
 use Rattle.ccsl_vcd.proofs.Spelled.{tale}
 
 abbrev pub is_end_word : HeaderWord → Bool
 is_end_word end_command = true
 is_end_word kind = false
 
-chain : (a b c d e f : Bool) → a ≡ is_end_word (if a then end_command else (if b then var else (if c then scope else (if d then upscope else (if e then end_definitions else (if f then other_command else plain))))))
+chain : (a b c d e f : Bool)
+    → a ≡ is_end_word (if a then end_command
+    else (if b then var else (if c then scope else (if d then upscope else (if e then end_definitions else (if f then other_command else plain))))))
 chain true b c d e f = refl
 chain false true c d e f = refl
 chain false false true d e f = refl
@@ -82,7 +85,8 @@ module _ (w : Wanted) (l : Limits) where
   abbrev Stays : Token → List Token → ℕ → List Declaration → Token → HeaderWord → Type 0
   Stays head words depth ds t kind =
       is_end_word kind ≡ false → word_fits (header_word head.text) words t ≡ true →
-      told [] (at (inside head words) depth ds) (Rattle.ccsl_vcd.specs.Header.inside_says w l (record { among = inside head words; depth = depth; declared = ds }) head words t kind)
+      told [] (at (inside head words) depth ds)
+      (Rattle.ccsl_vcd.specs.Header.inside_says w l (record { among = inside head words; depth = depth; declared = ds }) head words t kind)
       ≡ tale [] (at (inside head (words ++ t ∷ [])) depth ds)
 
   stays : (head : Token) (words : List Token) (depth : ℕ) (ds : List Declaration) (t : Token) (kind : HeaderWord) → Stays head words depth ds t kind
@@ -95,16 +99,21 @@ module _ (w : Wanted) (l : Limits) where
   stays head words depth ds t plain n f = rw f refl
 
   abbrev pub closed_by : Token → List Token → ℕ → List Declaration → Token → HeaderWord → Story
-  closed_by head words depth ds e kind = told [] (at (inside head words) depth ds) (ends w l (record { among = inside head words; depth = depth; declared = ds }) kind head words e)
+  closed_by head words depth ds e kind =
+      told [] (at (inside head words) depth ds) (ends w l (record { among = inside head words; depth = depth; declared = ds }) kind head words e)
 
   -- the text of a command, and its end
-  text-read : (head : Token) (words us : List Token) (depth : ℕ) (ds : List Declaration) (e : Token) → AllByRecursion (λ t. is_end t ≡ false) us → is_end e ≡ true → AllFit (header_word head.text) words us
+  text-read : (head : Token) (words us : List Token) (depth : ℕ) (ds : List Declaration) (e : Token) → AllByRecursion (λ t. is_end t ≡ false) us
+      → is_end e ≡ true → AllFit (header_word head.text) words us
       → goes (tale [] (at (inside head words) depth ds)) (us ++ e ∷ []) ≡ closed_by head (words ++ us) depth ds e (header_word head.text)
   unfolding says
   text-read head words [] depth ds e i c f =
       ends-here (header_word e.text) (sym (end-seen e) ∙ c) ∙ ap (λ xs. closed_by head xs depth ds e (header_word head.text)) (sym (append-nil words))
     where
-      ends-here : (kind : HeaderWord) → is_end_word kind ≡ true → told [] (at (inside head words) depth ds) (Rattle.ccsl_vcd.specs.Header.inside_says w l (record { among = inside head words; depth = depth; declared = ds }) head words e kind) ≡ closed_by head words depth ds e (header_word head.text)
+      ends-here : (kind : HeaderWord) → is_end_word kind ≡ true
+          → told [] (at (inside head words) depth ds)
+          (Rattle.ccsl_vcd.specs.Header.inside_says w l (record { among = inside head words; depth = depth; declared = ds }) head words e kind) ≡ closed_by
+          head words depth ds e (header_word head.text)
       ends-here end_command k = refl
       ends-here var k = absurd (cc)
       ends-here scope k = absurd (cc)
@@ -134,7 +143,8 @@ module _ (w : Wanted) (l : Limits) where
         ∙ text-read c.keyword [] c.text depth ds c.close k.inside k.close (subst (λ x. AllFit x [] c.text) (sym e) f)
         ∙ ap (closed_by c.keyword c.text depth ds c.close) e
 
-    variable-read : (c : Command) → IsVariable c.text → closed_by c.keyword c.text depth ds c.close var ≡ tale [] (at commands depth (ds ++ declared_by depth var c.text))
+    variable-read : (c : Command) → IsVariable c.text
+        → closed_by c.keyword c.text depth ds c.close var ≡ tale [] (at commands depth (ds ++ declared_by depth var c.text))
     variable-read c h = of c.text h
       where
         of : (ts : List Token) → IsVariable ts → closed_by c.keyword ts depth ds c.close var ≡ tale [] (at commands depth (ds ++ declared_by depth var ts))
@@ -168,7 +178,8 @@ module _ (w : Wanted) (l : Limits) where
       goes-both (tale [] (at commands depth ds)) (command_tokens c) (commands_tokens cs)
       ∙ ap (λ (s : Story). goes s (commands_tokens cs)) (command-read depth ds c (kind_of c) refl h.0 h.1)
       ∙ commands-read (depth_behind depth (kind_of c)) (ds ++ declared_by depth (kind_of c) c.text) cs h.2
-      ∙ ap (λ xs. tale [] (at commands (depth_after (depth_behind depth (kind_of c)) cs) xs)) (append_assoc ds (declared_by depth (kind_of c) c.text) (declarations (depth_behind depth (kind_of c)) cs))
+      ∙ ap (λ xs. tale [] (at commands (depth_after (depth_behind depth (kind_of c)) cs) xs))
+      (append_assoc ds (declared_by depth (kind_of c) c.text) (declarations (depth_behind depth (kind_of c)) cs))
 
   -- Whatever is spelled as a header binds the clocks by what its commands declare.
   pub header-read : (cs : List Command) (last : Command) → IsHeader l cs last

@@ -27,8 +27,11 @@ said-long b xs d n =
     heard-split head (b ∷ xs) head-fresh ∙ ap (λ (ts : List Token). map hear (tokens head) ++ map hear ts) (one-token 65 b xs d)
     ∙ ap (λ (h : Heard). map hear (tokens head) ++ h ∷ []) (long-word 65 (b ∷ xs) n)
 
-pub too-long-at-65 : (b : ℕ) (xs : List ℕ) → Dark (b ∷ xs) → length (b ∷ xs) ≡ 65537 → (reading two limits (head ++ (b ∷ xs))).fault ≡ Some (faults.TokenTooLong 65)
+pub too-long-at-65 : (b : ℕ) (xs : List ℕ) → Dark (b ∷ xs) → length (b ∷ xs) ≡ 65537
+    → (reading two limits (head ++ (b ∷ xs))).fault ≡ Some (faults.TokenTooLong 65)
 unfolding reading
 too-long-at-65 b xs d n =
-    let within : nat_lt 68719476736 (length (head ++ (b ∷ xs))) ≡ false = le-ltb 68719476736 (length (head ++ (b ∷ xs))) (omega (arith, length-append head (b ∷ xs), n)) in
-    rw within (ap (λ (hs : List Heard). (ends_at (length (head ++ (b ∷ xs))) (story two limits hs)).fault) (said-long b xs d (omega (arith, n))) ∙ rw head-then refl)
+    let within : nat_lt 68719476736 (length (head ++ (b ∷ xs))) ≡ false =
+    le-ltb 68719476736 (length (head ++ (b ∷ xs))) (omega (arith, length-append head (b ∷ xs), n)) in
+    rw within (ap (λ (hs : List Heard). (ends_at (length (head ++ (b ∷ xs))) (story two limits hs)).fault) (said-long b xs d (omega (arith, n)))
+    ∙ rw head-then refl)

@@ -17,17 +17,23 @@ later-later (Some v) p q = refl
 pub last-append : (code : List ℕ) (xs ys : List Change) → last_value code (xs ++ ys) ≡ option_or (last_value code ys) (last_value code xs)
 last-append code [] ys = sym (later-none (last_value code ys))
 last-append code (c ∷ xs) ys =
-    ap (λ (o : Option Bool). option_or o (cond (bytes_eq c.code code) (Some c.one) None)) (last-append code xs ys) ∙ later-later (last_value code ys) (last_value code xs) _
+    ap (λ (o : Option Bool). option_or o (cond (bytes_eq c.code code) (Some c.one) None)) (last-append code xs ys)
+    ∙ later-later (last_value code ys) (last_value code xs) _
 
 -- one more change at the present time
-pub last-more : (code : List ℕ) (cur : List Change) (c : Change) → last_value code (cur ++ c ∷ []) ≡ cond (bytes_eq c.code code) (Some c.one) (last_value code cur)
+pub last-more : (code : List ℕ) (cur : List Change) (c : Change)
+    → last_value code (cur ++ c ∷ []) ≡ cond (bytes_eq c.code code) (Some c.one) (last_value code cur)
 last-more code cur c =
-    last-append code cur (c ∷ []) ∙ elim (bytes_eq c.code code) as (λ w. option_or (option_or None (cond w (Some c.one) None)) (last_value code cur) ≡ cond w (Some c.one) (last_value code cur)) [ true ↦ refl | false ↦ refl ]
+    last-append code cur (c ∷ [])
+    ∙ elim (bytes_eq c.code code) as (λ w. option_or (option_or None (cond w (Some c.one) None)) (last_value code cur) ≡ cond w (Some c.one)
+    (last_value code cur)) [ true ↦ refl | false ↦ refl ]
 
-pub event-more : (code : List ℕ) (cur : List Change) (c : Change) → event_ticks code (cur ++ c ∷ []) ≡ (event_ticks code cur || (bytes_eq c.code code && not c.dumped))
+pub event-more : (code : List ℕ) (cur : List Change) (c : Change)
+    → event_ticks code (cur ++ c ∷ []) ≡ (event_ticks code cur || (bytes_eq c.code code && not c.dumped))
 event-more code [] c = elim (bytes_eq c.code code && not c.dumped) as (λ w. (w || false) ≡ (false || w)) [ true ↦ refl | false ↦ refl ]
 event-more code (d ∷ cur) c =
-    elim (bytes_eq d.code code && not d.dumped) as (λ w. (w || event_ticks code (cur ++ c ∷ [])) ≡ ((w || event_ticks code cur) || (bytes_eq c.code code && not c.dumped))) [
+    elim (bytes_eq d.code code && not d.dumped) as (λ w.
+    (w || event_ticks code (cur ++ c ∷ [])) ≡ ((w || event_ticks code cur) || (bytes_eq c.code code && not c.dumped))) [
       | true ↦ refl
       | false ↦ event-more code cur c
     ]

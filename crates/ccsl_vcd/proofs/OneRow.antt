@@ -1,5 +1,6 @@
 -- A byte completes at most one row, and so does the end of a file.
-use Rattle.std.proofs.Common.{◌≡◌, ℕ, ◌+◌, ◌≤◌, ◌<◌, List, [], ◌∷◌, ◌++◌, length, Bool, true, false, Option, Some, None, ◌⊎◌, inl, inr, nat_lt, if◌then◌else◌, refl, sym, ap, ◌∙◌, append_assoc, length-append, arith, subst, take, filter, map}
+use Rattle.std.proofs.Common.{◌≡◌, ℕ, ◌+◌, ◌≤◌, ◌<◌, List, [], ◌∷◌, ◌++◌, length, Bool, true, false, Option, Some, None, ◌⊎◌, inl, inr, nat_lt, if◌then◌else◌}
+use Rattle.std.proofs.Common.{refl, sym, ap, ◌∙◌, append_assoc, length-append, arith, subst, take, filter, map}
 use Rattle.std.specs.Prelude.{fold, bytes_eq, codes}
 use Rattle.std.proofs.lemmas.Bool.{lt-ltb, ltb-true, ltb-false}
 use Rattle.std.proofs.lemmas.List.{append-nil, map-append, take_all, take-append-le}
@@ -43,25 +44,30 @@ one-added front t = record {
 one-closed : (n : ℕ) (text : List ℕ) (front : List Token) → Adds (map hear (front ++ filter is_long (one n text))) (map hear (front ++ one n text))
 one-closed n [] front = none-added _
 one-closed n (b ∷ xs) front =
-    elim (is_long (token n (b ∷ xs))) as (λ x. Adds (map hear (front ++ (if x then token n (b ∷ xs) ∷ [] else []))) (map hear (front ++ token n (b ∷ xs) ∷ []))) [
+    elim (is_long (token n (b ∷ xs))) as (λ x. Adds (map hear (front ++ (if x then token n (b ∷ xs) ∷ [] else [])))
+    (map hear (front ++ token n (b ∷ xs) ∷ []))) [
       | true ↦ none-added _
       | false ↦ one-added front (token n (b ∷ xs))
     ]
 
-long-heard : (n : ℕ) (text : List ℕ) (front : List Token) → is_long (token n text) ≡ true → map hear (front ++ token n text ∷ []) ≡ map hear front ++ too_long n ∷ []
+long-heard : (n : ℕ) (text : List ℕ) (front : List Token) → is_long (token n text) ≡ true
+    → map hear (front ++ token n text ∷ []) ≡ map hear front ++ too_long n ∷ []
 long-heard n text front e = map-append hear front (token n text ∷ []) ∙ rw e refl
 
 -- it grows
-one-grows : (n b : ℕ) (text : List ℕ) (front : List Token) → Adds (map hear (front ++ filter is_long (one n text))) (map hear (front ++ filter is_long (one n (text ++ b ∷ []))))
+one-grows : (n b : ℕ) (text : List ℕ) (front : List Token)
+    → Adds (map hear (front ++ filter is_long (one n text))) (map hear (front ++ filter is_long (one n (text ++ b ∷ []))))
 one-grows n b [] front = none-added _
 one-grows n b (c ∷ xs) front =
     let old : Token = token n (c ∷ xs) in
     let new : Token = token n (c ∷ (xs ++ b ∷ [])) in
-    (elim (is_long old) as (λ x. is_long old ≡ x → Adds (map hear (front ++ (if x then old ∷ [] else []))) (map hear (front ++ (if is_long new then new ∷ [] else [])))) [
+    (elim (is_long old) as (λ x. is_long old ≡ x
+    → Adds (map hear (front ++ (if x then old ∷ [] else []))) (map hear (front ++ (if is_long new then new ∷ [] else [])))) [
       | true ↦ λ e.
           let l : 65536 < length (c ∷ xs) = ltb-true 65536 (length (c ∷ xs)) e in
           let more : is_long new ≡ true = lt-ltb 65536 (length (c ∷ (xs ++ b ∷ []))) (omega (arith, length-append xs (b ∷ []), l)) in
-          rw more (subst (λ hs. Adds (map hear (front ++ old ∷ [])) hs) (long-heard n (c ∷ xs) front e ∙ sym (long-heard n (c ∷ (xs ++ b ∷ [])) front more)) (none-added (map hear (front ++ old ∷ []))))
+          rw more (subst (λ hs. Adds (map hear (front ++ old ∷ [])) hs) (long-heard n (c ∷ xs) front e ∙ sym (long-heard n (c ∷ (xs ++ b ∷ [])) front more))
+          (none-added (map hear (front ++ old ∷ []))))
       | false ↦ λ e.
           elim (is_long new) as (λ x. Adds (map hear (front ++ [])) (map hear (front ++ (if x then new ∷ [] else [])))) [
             | true ↦ one-added front new
@@ -82,12 +88,14 @@ module _ (bytes : List ℕ) where
   pub heard-adds : Adds (settled bytes) (heard bytes)
   heard-adds =
       subst (λ hs. Adds hs (heard bytes)) (sym settled-now)
-      (subst (λ ts. Adds (map hear (tokens s.before ++ filter is_long (one (length s.before) s.text))) (map hear ts)) (sym all-now) (one-closed (length s.before) s.text (tokens s.before)))
+      (subst (λ ts. Adds (map hear (tokens s.before ++ filter is_long (one (length s.before) s.text))) (map hear ts)) (sym all-now)
+      (one-closed (length s.before) s.text (tokens s.before)))
 
   ended : (b : ℕ) → is_white b ≡ true → settled (bytes ++ b ∷ []) ≡ heard bytes
   ended b white =
       let fresh = fresh-behind true bytes (b ∷ []) (white, tt) (omega arith) in
-      ap settled (sym (append-nil (bytes ++ b ∷ []))) ∙ ap (map hear) (closed-parts (bytes ++ b ∷ []) [] [] fresh tt refl ∙ append-nil (tokens (bytes ++ b ∷ [])))
+      ap settled (sym (append-nil (bytes ++ b ∷ []))) ∙ ap (map hear)
+      (closed-parts (bytes ++ b ∷ []) [] [] fresh tt refl ∙ append-nil (tokens (bytes ++ b ∷ [])))
       ∙ ap (map hear) (from-behind true 0 bytes (b ∷ []) (white, tt))
 
   grown : (b : ℕ) → is_white b ≡ false → settled (bytes ++ b ∷ []) ≡ map hear (tokens s.before ++ filter is_long (one (length s.before) (s.text ++ b ∷ [])))
@@ -101,7 +109,8 @@ module _ (bytes : List ℕ) where
         | true ↦ λ e. subst (Adds (settled bytes)) (sym (ended b e)) heard-adds
         | false ↦ λ e.
             subst (Adds (settled bytes)) (sym (grown b e))
-            (subst (λ hs. Adds hs (map hear (tokens s.before ++ filter is_long (one (length s.before) (s.text ++ b ∷ []))))) (sym settled-now) (one-grows (length s.before) b s.text (tokens s.before)))
+            (subst (λ hs. Adds hs (map hear (tokens s.before ++ filter is_long (one (length s.before) (s.text ++ b ∷ []))))) (sym settled-now)
+            (one-grows (length s.before) b s.text (tokens s.before)))
       ]) refl
 
 -- WHAT A TOKEN COMPLETES
@@ -186,10 +195,12 @@ time-moves b n l =
     ]) refl
 
 change-moves : (b : p.Body) (t : Token) (x : w.Word) → Moves b (change_says b t x)
-change-moves b t (w.time n) = (elim (nat_lt n b.now) as (λ y. nat_lt n b.now ≡ y → Moves b (if y then p.refused (faults.TimeBack t.at b.now n) else p.goes (p.body (record b { now = n })) [])) [
-  | true ↦ λ e. tt
-  | false ↦ λ e. time-moves b n (ltb-false n b.now e)
-]) refl
+change-moves b t (w.time n) =
+    (elim (nat_lt n b.now) as (λ y. nat_lt n b.now ≡ y
+    → Moves b (if y then p.refused (faults.TimeBack t.at b.now n) else p.goes (p.body (record b { now = n })) [])) [
+      | true ↦ λ e. tt
+      | false ↦ λ e. time-moves b n (ltb-false n b.now e)
+    ]) refl
 change-moves b t (w.scalar one code) = changed-moves b t code one
 change-moves b t (w.vector one) = (refl, inl (refl, tt))
 change-moves b t w.skipped = (refl, inl (refl, tt))
@@ -237,7 +248,8 @@ told-body b cs f (p.refused g) q m = record { stands = q; few = few-more b.bound
 told-body b cs f (p.goes (p.header h) ds) q m = absurd m
 told-body b cs f (p.goes (p.body c) ds) q m = on m.1
   where
-    on : ((c.now ≡ b.now) × Now b.now ds) ⊎ ((b.now < c.now) × (ds ≡ [])) → Goes (record { changes = cs; place = p.body b; fault = f }) (told cs (p.body b) (p.goes (p.body c) ds))
+    on : ((c.now ≡ b.now) × Now b.now ds) ⊎ ((b.now < c.now) × (ds ≡ []))
+        → Goes (record { changes = cs; place = p.body b; fault = f }) (told cs (p.body b) (p.goes (p.body c) ds))
     on (inl k) = record {
       stands = subst (λ n. Parts n (cs ++ ds)) (sym k.0) (now-append b.bound b.now cs q ds k.1);
       few = subst (λ xs. length (rows xs (cs ++ ds)) ≤ length (filter (is_before b.now) (rows b.bound cs)) + 1) (sym m.0) (few-same b.bound b.now cs q ds k.1);
@@ -260,7 +272,8 @@ same-few s k = on s.place k
     on (p.body b) q = few-more b.bound b.now s.changes q
 
 module _ (wanted : Wanted) (l : Limits) where
-  place-told : (cs : List p.Change) (v : p.Where) (f : Option VcdFault) (h : Heard) → Stands v cs → Goes (record { changes = cs; place = v; fault = f }) (told cs v (says wanted l v h))
+  place-told : (cs : List p.Change) (v : p.Where) (f : Option VcdFault) (h : Heard) → Stands v cs
+      → Goes (record { changes = cs; place = v; fault = f }) (told cs v (says wanted l v h))
   unfolding says
   place-told cs (p.header h) f (too_long at) k = told-header h cs f (p.refused (faults.TokenTooLong at)) k tt
   place-told cs (p.body b) f (too_long at) k = told-body b cs f (p.refused (faults.TokenTooLong at)) k tt
@@ -270,7 +283,8 @@ module _ (wanted : Wanted) (l : Limits) where
   next-goes : (s : Story) (h : Heard) → Standing s → Goes s (next wanted l s h)
   next-goes s h k = on s.changes s.place s.fault k
     where
-      on : (cs : List p.Change) (v : p.Where) (o : Option VcdFault) → Stands v cs → Goes (record { changes = cs; place = v; fault = o }) (next_from wanted l cs v o h)
+      on : (cs : List p.Change) (v : p.Where) (o : Option VcdFault) → Stands v cs
+          → Goes (record { changes = cs; place = v; fault = o }) (next_from wanted l cs v o h)
       on cs v None q = place-told cs v None h q
       on cs v (Some f) q = record { stands = q; few = same-few (record { changes = cs; place = v; fault = Some f }) q }
 
@@ -290,7 +304,8 @@ module _ (wanted : Wanted) (l : Limits) where
   pub few-added : (old new : List Heard) → Adds old new → length (rows_of (story wanted l new)) ≤ length (complete (story wanted l old)) + 1
   few-added old new a =
       subst (λ hs. length (rows_of (story wanted l hs)) ≤ length (complete (story wanted l old)) + 1) (sym a.is)
-      (subst (λ (s : Story). length (rows_of s) ≤ length (complete (story wanted l old)) + 1) (sym (fold-append (next wanted l) begin old a.rest)) (few-behind (story wanted l old) a.rest (story-stands old) a.few))
+      (subst (λ (s : Story). length (rows_of s) ≤ length (complete (story wanted l old)) + 1) (sym (fold-append (next wanted l) begin old a.rest))
+      (few-behind (story wanted l old) a.rest (story-stands old) a.few))
 
 -- WHAT BYTES COMPLETE
 
@@ -311,7 +326,8 @@ module _ (w : Wanted) (l : Limits) where
   done-cut : (bytes : List ℕ) → done w l bytes ≡ complete (cut bytes)
   unfolding done so_far
   done-cut bytes =
-      (elim (is_over l bytes) as (λ o. is_over l bytes ≡ o → complete (if o then decides (cut bytes) (Some (faults.TooLong l.bytes)) else story w l (settled bytes)) ≡ complete (cut bytes)) [
+      (elim (is_over l bytes) as (λ o. is_over l bytes ≡ o
+      → complete (if o then decides (cut bytes) (Some (faults.TooLong l.bytes)) else story w l (settled bytes)) ≡ complete (cut bytes)) [
         | true ↦ λ e. refl
         | false ↦ λ e. ap (λ xs. complete (story w l (settled xs))) (sym (take_all l.bytes bytes (ltb-false l.bytes (length bytes) e)))
       ]) refl
@@ -319,7 +335,8 @@ module _ (w : Wanted) (l : Limits) where
   pub one-row-a-byte : (bytes : List ℕ) (b : ℕ) → length (done w l (bytes ++ b ∷ [])) ≤ length (done w l bytes) + 1
   one-row-a-byte bytes b =
       rw (done-cut bytes, done-cut (bytes ++ b ∷ []))
-      ((elim (nat_lt (length bytes) l.bytes) as (λ x. nat_lt (length bytes) l.bytes ≡ x → length (complete (cut (bytes ++ b ∷ []))) ≤ length (complete (cut bytes)) + 1) [
+      ((elim (nat_lt (length bytes) l.bytes) as (λ x. nat_lt (length bytes) l.bytes ≡ x
+      → length (complete (cut (bytes ++ b ∷ []))) ≤ length (complete (cut bytes)) + 1) [
         | true ↦ λ e.
             let k : length bytes < l.bytes = ltb-true (length bytes) l.bytes e in
             let more : take l.bytes (bytes ++ b ∷ []) ≡ bytes ++ b ∷ [] = take_all l.bytes (bytes ++ b ∷ []) (omega (arith, length-append bytes (b ∷ []), k)) in
@@ -335,7 +352,9 @@ module _ (w : Wanted) (l : Limits) where
   pub one-row-at-the-end : (file : List ℕ) → length (recorded w l file) ≤ length (done w l file) + 1
   unfolding recorded reading done so_far
   one-row-at-the-end file =
-      elim (is_over l file) as (λ o. length (rows_of (if o then (if o then decides (cut file) (Some (faults.TooLong l.bytes)) else story w l (settled file)) else ends_at (length file) (story w l (heard file))))
+      elim (is_over l file) as (λ o. length
+      (rows_of (if o then (if o then decides (cut file) (Some (faults.TooLong l.bytes)) else story w l (settled file)) else ends_at (length file)
+      (story w l (heard file))))
       ≤ length (complete (if o then decides (cut file) (Some (faults.TooLong l.bytes)) else story w l (settled file))) + 1) [
         | true ↦ same-few (cut file) (story-stands w l (settled (take l.bytes file)))
         | false ↦ few-added w l (settled file) (heard file) (heard-adds file)

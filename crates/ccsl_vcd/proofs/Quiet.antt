@@ -16,7 +16,9 @@ Quiet (p.refused f) = Unit {0}
 starts-quiet : (l : Limits) (h : p.Header) (t : Token) (x : d.HeaderWord) → Quiet (d.starts l h t x)
 starts-quiet l h t d.end_command = tt
 starts-quiet l h t d.plain = tt
-starts-quiet l h t d.var = elim (nat_le l.vars (length h.declared)) as (λ b. Quiet (cond b (p.refused (faults.TooManyVars t.at)) (p.goes (p.header (record h { among = p.inside t [] })) []))) [ true ↦ tt | false ↦ refl ]
+starts-quiet l h t d.var =
+    elim (nat_le l.vars (length h.declared)) as (λ b. Quiet
+    (cond b (p.refused (faults.TooManyVars t.at)) (p.goes (p.header (record h { among = p.inside t [] })) []))) [ true ↦ tt | false ↦ refl ]
 starts-quiet l h t d.scope = refl
 starts-quiet l h t d.upscope = refl
 starts-quiet l h t d.end_definitions = refl
@@ -30,9 +32,15 @@ opens-quiet : (ds : List Declaration) (r : Result (List Bound) VcdFault) → Qui
 opens-quiet ds (Ok bound) = refl
 opens-quiet ds (Err f) = tt
 
-ends-quiet : (wanted : Wanted) (l : Limits) (h : p.Header) (x : d.HeaderWord) (head : Token) (words : List Token) (t : Token) → Quiet (d.ends wanted l h x head words t)
+ends-quiet : (wanted : Wanted) (l : Limits) (h : p.Header) (x : d.HeaderWord) (head : Token) (words : List Token) (t : Token)
+    → Quiet (d.ends wanted l h x head words t)
 ends-quiet wanted l h d.var head words t = declared-quiet h t (d.declares h.depth words)
-ends-quiet wanted l h d.scope head words t = elim (nat_le l.scopes h.depth) as (λ b. Quiet (cond b (p.refused (faults.TooDeep head.at)) (p.goes (p.header (record h { among = p.commands; depth = h.depth + 1 })) []))) [ true ↦ tt | false ↦ refl ]
+ends-quiet wanted l h d.scope head words t =
+    elim (nat_le l.scopes h.depth) as (λ b. Quiet
+    (cond b (p.refused (faults.TooDeep head.at)) (p.goes (p.header (record h { among = p.commands; depth = h.depth + 1 })) []))) [
+      | true ↦ tt
+      | false ↦ refl
+    ]
 ends-quiet wanted l h d.upscope head words t = refl
 ends-quiet wanted l h d.end_definitions head words t = opens-quiet h.declared (bind wanted h.declared)
 ends-quiet wanted l h d.other_command head words t = refl
@@ -43,7 +51,8 @@ fits-quiet : (b : Bool) (v : p.Where) (f : VcdFault) → Quiet (cond b (p.goes v
 fits-quiet true v f = refl
 fits-quiet false v f = tt
 
-inside-quiet : (wanted : Wanted) (l : Limits) (h : p.Header) (head : Token) (words : List Token) (t : Token) (x : d.HeaderWord) → Quiet (d.inside_says wanted l h head words t x)
+inside-quiet : (wanted : Wanted) (l : Limits) (h : p.Header) (head : Token) (words : List Token) (t : Token) (x : d.HeaderWord)
+    → Quiet (d.inside_says wanted l h head words t x)
 inside-quiet wanted l h head words t d.end_command = ends-quiet wanted l h (d.header_word head.text) head words t
 inside-quiet wanted l h head words t d.var = fits-quiet _ _ _
 inside-quiet wanted l h head words t d.scope = fits-quiet _ _ _

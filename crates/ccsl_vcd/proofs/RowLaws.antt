@@ -39,7 +39,8 @@ put-before : (t now : ℕ) (us : List ℕ) (cs : List Change) → t < now → pu
 put-before t now [] [] h = refl
 put-before t now [] (c ∷ cs) h = rw (not-eq' t now h) refl
 put-before t now (u ∷ us) cs h =
-    elim (nat_eq u t) as (λ b. cond b (u ∷ (us ++ time_now now cs)) (t ∷ u ∷ (us ++ time_now now cs)) ≡ cond b (u ∷ us) (t ∷ u ∷ us) ++ time_now now cs) [ true ↦ refl | false ↦ refl ]
+    elim (nat_eq u t) as (λ b. cond b (u ∷ (us ++ time_now now cs)) (t ∷ u ∷ (us ++ time_now now cs)) ≡ cond b (u ∷ us) (t ∷ u ∷ us)
+    ++ time_now now cs) [ true ↦ refl | false ↦ refl ]
 
 pub times-parts : (now : ℕ) (old cur : List Change) → Earlier now old → Now now cur → times (old ++ cur) ≡ times old ++ time_now now cur
 times-parts now [] cur e n = times-now now cur n
@@ -68,11 +69,15 @@ before-earlier t now (c ∷ cur) h n = rw (n.0, le-ltb now t h) (before-earlier 
 
 row-earlier : (bound : List Bound) (t now : ℕ) (old cur : List Change) → t < now → Now now cur → row_at bound (old ++ cur) t ≡ row_at bound old t
 row-earlier bound t now old cur h n =
-    let a : at t (old ++ cur) ≡ at t old = filter-append (λ c. nat_eq c.time t) old cur ∙ ap (λ (xs : List Change). at t old ++ xs) (at-earlier t now cur h n) ∙ append-nil (at t old) in
-    let b : before t (old ++ cur) ≡ before t old = filter-append (λ c. nat_lt c.time t) old cur ∙ ap (λ (xs : List Change). before t old ++ xs) (before-earlier t now cur (omega arith) n) ∙ append-nil (before t old) in
+    let a : at t (old ++ cur) ≡ at t old =
+    filter-append (λ c. nat_eq c.time t) old cur ∙ ap (λ (xs : List Change). at t old ++ xs) (at-earlier t now cur h n) ∙ append-nil (at t old) in
+    let b : before t (old ++ cur) ≡ before t old =
+    filter-append (λ c. nat_lt c.time t) old cur ∙ ap (λ (xs : List Change). before t old ++ xs) (before-earlier t now cur (omega arith) n)
+    ∙ append-nil (before t old) in
     ap (λ (xs : List Change). row bound t xs (before t (old ++ cur))) a ∙ ap (λ (xs : List Change). row bound t (at t old) xs) b
 
-rows-earlier : (bound : List Bound) (now : ℕ) (old cur : List Change) (ts : List ℕ) → Below now ts → Now now cur → map (row_at bound (old ++ cur)) ts ≡ map (row_at bound old) ts
+rows-earlier : (bound : List Bound) (now : ℕ) (old cur : List Change) (ts : List ℕ) → Below now ts → Now now cur
+    → map (row_at bound (old ++ cur)) ts ≡ map (row_at bound old) ts
 rows-earlier bound now old cur [] b n = refl
 rows-earlier bound now old cur (t ∷ ts) b n = rw (row-earlier bound t now old cur b.0 n, rows-earlier bound now old cur ts b.1 n) refl
 
@@ -91,43 +96,55 @@ before-all now (c ∷ old) e = rw (lt-ltb c.time now e.0, before-all now old e.1
 
 row-now : (bound : List Bound) (now : ℕ) (old cur : List Change) → Earlier now old → Now now cur → row_at bound (old ++ cur) now ≡ row bound now cur old
 row-now bound now old cur e n =
-    let a : at now (old ++ cur) ≡ cur = filter-append (λ c. nat_eq c.time now) old cur ∙ ap (λ (xs : List Change). xs ++ at now cur) (at-none now old e) ∙ at-now now cur n in
-    let b : before now (old ++ cur) ≡ old = filter-append (λ c. nat_lt c.time now) old cur ∙ ap (λ (xs : List Change). before now old ++ xs) (before-earlier now now cur (omega arith) n) ∙ append-nil (before now old) ∙ before-all now old e in
+    let a : at now (old ++ cur) ≡ cur =
+    filter-append (λ c. nat_eq c.time now) old cur ∙ ap (λ (xs : List Change). xs ++ at now cur) (at-none now old e) ∙ at-now now cur n in
+    let b : before now (old ++ cur) ≡ old =
+    filter-append (λ c. nat_lt c.time now) old cur ∙ ap (λ (xs : List Change). before now old ++ xs) (before-earlier now now cur (omega arith) n)
+    ∙ append-nil (before now old) ∙ before-all now old e in
     ap (λ (xs : List Change). row bound now xs (before now (old ++ cur))) a ∙ ap (λ (xs : List Change). row bound now cur xs) b
 
 -- no clock ticks without a change
 none-ticks : (bound : List Bound) (old : List Change) → filter (ticks [] old) bound ≡ []
 none-ticks [] old = refl
 none-ticks (b ∷ bs) old =
-    elim b.event as (λ w. cond (cond w false false) (b ∷ filter (ticks [] old) bs) (filter (ticks [] old) bs) ≡ []) [ true ↦ none-ticks bs old | false ↦ none-ticks bs old ]
+    elim b.event as (λ w. cond (cond w false false) (b ∷ filter (ticks [] old) bs) (filter (ticks [] old) bs) ≡ []) [
+      | true ↦ none-ticks bs old
+      | false ↦ none-ticks bs old
+    ]
 
 -- the row of the present time, if a clock ticks
 abbrev pub row_now : List Bound → ℕ → List Change → List Change → List Row
 row_now bound now cur old = filter has_ticks (row bound now cur old ∷ [])
 
-last-row : (bound : List Bound) (now : ℕ) (old cur : List Change) → Earlier now old → Now now cur → filter has_ticks (map (row_at bound (old ++ cur)) (time_now now cur)) ≡ row_now bound now cur old
+last-row : (bound : List Bound) (now : ℕ) (old cur : List Change) → Earlier now old → Now now cur
+    → filter has_ticks (map (row_at bound (old ++ cur)) (time_now now cur)) ≡ row_now bound now cur old
 last-row bound now old [] e n = rw (none-ticks bound old) refl
 last-row bound now old (c ∷ cur) e n = ap (λ (r : Row). filter has_ticks (r ∷ [])) (row-now bound now old (c ∷ cur) e n)
 
 -- All rows are those of the earlier changes and that of the present time.
-pub rows-all : (bound : List Bound) (now : ℕ) (old cur : List Change) → Earlier now old → Now now cur → rows bound (old ++ cur) ≡ rows bound old ++ row_now bound now cur old
+pub rows-all : (bound : List Bound) (now : ℕ) (old cur : List Change) → Earlier now old → Now now cur
+    → rows bound (old ++ cur) ≡ rows bound old ++ row_now bound now cur old
 unfolding rows
 rows-all bound now old cur e n =
     let F : Row → Bool = has_ticks in
     ap (λ (ts : List ℕ). filter has_ticks (map (row_at bound (old ++ cur)) ts)) (times-parts now old cur e n)
     ∙ ap (filter has_ticks) (map-append (row_at bound (old ++ cur)) (times old) (time_now now cur))
     ∙ filter-append has_ticks (map (row_at bound (old ++ cur)) (times old)) (map (row_at bound (old ++ cur)) (time_now now cur))
-    ∙ ap (λ (rs : List Row). filter has_ticks rs ++ filter has_ticks (map (row_at bound (old ++ cur)) (time_now now cur))) (rows-earlier bound now old cur (times old) (times-below now old e) n)
+    ∙ ap (λ (rs : List Row). filter has_ticks rs ++ filter has_ticks (map (row_at bound (old ++ cur)) (time_now now cur)))
+    (rows-earlier bound now old cur (times old) (times-below now old e) n)
     ∙ ap (λ (rs : List Row). rows bound old ++ rs) (last-row bound now old cur e n)
 
 abbrev pub is_before : ℕ → Row → Bool
 is_before now r = nat_lt r.time now
 
 -- rows of earlier times are complete
-kept : (bound : List Bound) (now : ℕ) (cs : List Change) (ts : List ℕ) → Below now ts → filter (is_before now) (filter has_ticks (map (row_at bound cs) ts)) ≡ filter has_ticks (map (row_at bound cs) ts)
+kept : (bound : List Bound) (now : ℕ) (cs : List Change) (ts : List ℕ) → Below now ts
+    → filter (is_before now) (filter has_ticks (map (row_at bound cs) ts)) ≡ filter has_ticks (map (row_at bound cs) ts)
 kept bound now cs [] b = refl
 kept bound now cs (t ∷ ts) b =
-    (elim (has_ticks (row_at bound cs t)) as (λ w. filter (is_before now) (cond w (row_at bound cs t ∷ filter has_ticks (map (row_at bound cs) ts)) (filter has_ticks (map (row_at bound cs) ts))) ≡ cond w (row_at bound cs t ∷ filter has_ticks (map (row_at bound cs) ts)) (filter has_ticks (map (row_at bound cs) ts))) [
+    (elim (has_ticks (row_at bound cs t)) as (λ w. filter (is_before now)
+    (cond w (row_at bound cs t ∷ filter has_ticks (map (row_at bound cs) ts)) (filter has_ticks (map (row_at bound cs) ts))) ≡ cond w
+    (row_at bound cs t ∷ filter has_ticks (map (row_at bound cs) ts)) (filter has_ticks (map (row_at bound cs) ts))) [
       | true ↦ rw (lt-ltb t now b.0) (ap (λ (rs : List Row). row_at bound cs t ∷ rs) (kept bound now cs ts b.1))
       | false ↦ kept bound now cs ts b.1
     ])
@@ -144,7 +161,8 @@ now-dropped bound now cur old =
     ]
 
 -- The rows that are complete are those of the earlier changes.
-pub rows-done : (bound : List Bound) (now : ℕ) (old cur : List Change) → Earlier now old → Now now cur → filter (is_before now) (rows bound (old ++ cur)) ≡ rows bound old
+pub rows-done : (bound : List Bound) (now : ℕ) (old cur : List Change) → Earlier now old → Now now cur
+    → filter (is_before now) (rows bound (old ++ cur)) ≡ rows bound old
 rows-done bound now old cur e n =
     ap (filter (is_before now)) (rows-all bound now old cur e n) ∙ filter-append (is_before now) (rows bound old) (row_now bound now cur old)
     ∙ ap (λ (rs : List Row). rs ++ filter (is_before now) (row_now bound now cur old)) (rows-earlier-kept bound now old e)

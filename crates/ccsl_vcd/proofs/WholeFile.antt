@@ -1,5 +1,6 @@
 -- The grammar of a whole file, both ways.
-use Rattle.std.proofs.Common.{◌≡◌, ℕ, List, [], ◌∷◌, ◌++◌, length, Bool, true, false, Option, Some, None, Ok, Err, if◌then◌else◌, refl, sym, ap, ◌∙◌, append_assoc, subst, take}
+use Rattle.std.proofs.Common.{◌≡◌, ℕ, List, [], ◌∷◌, ◌++◌, length, Bool, true, false, Option, Some, None, Ok, Err, if◌then◌else◌, refl, sym, ap, ◌∙◌}
+use Rattle.std.proofs.Common.{append_assoc, subst, take}
 use Rattle.std.specs.Prelude.{fold, map}
 use Rattle.std.specs.List.{AllByRecursion}
 use Rattle.std.proofs.lemmas.Bool.{ltb-false, le-ltb}
@@ -37,7 +38,8 @@ module _ (w : Wanted) (l : Limits) where
   unfolding says
   short-story [] s e = tt
   short-story (t ∷ ts) s e =
-      (elim (is_long t) as (λ b. is_long t ≡ b → (fold (next w l) (next w l s (if b then too_long t.at else word t)) (map hear ts)).fault ≡ None → (is_long t ≡ false) × AllByRecursion (λ u. is_long u ≡ false) ts) [
+      (elim (is_long t) as (λ b. is_long t ≡ b → (fold (next w l) (next w l s (if b then too_long t.at else word t)) (map hear ts)).fault ≡ None
+      → (is_long t ≡ false) × AllByRecursion (λ u. is_long u ≡ false) ts) [
         | true ↦ λ k h. long s.fault refl h
         | false ↦ λ k h. (k, short-story ts (next w l s (word t)) h)
       ]) refl e
@@ -51,14 +53,17 @@ module _ (w : Wanted) (l : Limits) where
   -- HEADER
 
   module _ (cs : List Command) (last : Command) (h : IsHeader l cs last) where
-    pub header-binds : (bound : List Bound) → bind w (declarations 0 cs) ≡ Ok bound → story w l (map word (header_tokens cs last)) ≡ body_story [] 0 (declarations 0 cs) bound
+    pub header-binds : (bound : List Bound) → bind w (declarations 0 cs) ≡ Ok bound
+        → story w l (map word (header_tokens cs last)) ≡ body_story [] 0 (declarations 0 cs) bound
     header-binds bound b =
-        header-read w l cs last h ∙ ap (λ r. told [] (at (inside last.keyword last.text) (depth_after 0 cs) (declarations 0 cs)) (opens (declarations 0 cs) r)) b
+        header-read w l cs last h ∙ ap (λ r. told [] (at (inside last.keyword last.text) (depth_after 0 cs) (declarations 0 cs)) (opens (declarations 0 cs) r))
+        b
 
     pub header-refused : (f : VcdFault) → bind w (declarations 0 cs) ≡ Err f → (story w l (map word (header_tokens cs last))).fault ≡ Some f
     header-refused f b =
         ap (λ (s : Story). s.fault)
-        (header-read w l cs last h ∙ ap (λ r. told [] (at (inside last.keyword last.text) (depth_after 0 cs) (declarations 0 cs)) (opens (declarations 0 cs) r)) b)
+        (header-read w l cs last h ∙ ap (λ r. told [] (at (inside last.keyword last.text) (depth_after 0 cs) (declarations 0 cs)) (opens (declarations 0 cs) r))
+        b)
 
   abbrev header-of : (ts : List Token) (q : Parsed w l 0 [] ts) → IsHeader l q.cs q.last
   header-of ts q = record { are_commands = q.are; closed = q.closed; ends = q.ends }
@@ -106,7 +111,8 @@ module _ (w : Wanted) (l : Limits) where
         at-place o false k h = cut (first s.fault refl h)
           where
             cut : s.fault ≡ None → may_end s.place ≡ true
-            cut n = none-some (faults.Truncated (length file)) (sym (ap (λ f. option_or f (at_end (length file) s.place)) n ∙ ap (λ x. if x then None else Some (faults.Truncated (length file))) k) ∙ h)
+            cut n = none-some (faults.Truncated (length file))
+                (sym (ap (λ f. option_or f (at_end (length file) s.place)) n ∙ ap (λ x. if x then None else Some (faults.Truncated (length file))) k) ∙ h)
 
     in-body : (p : Where) → may_end p ≡ true → in_body p ≡ true
     in-body (header h) e = absurd (cc)
@@ -116,7 +122,8 @@ module _ (w : Wanted) (l : Limits) where
     unfolding reading so_far
     not-over e =
         (elim (is_over l file) as (λ o. is_over l file ≡ o
-        → (if o then (if o then decides (story w l (settled (take l.bytes file))) (Some (faults.TooLong l.bytes)) else story w l (settled file)) else ends_at (length file) (story w l (heard file))).fault ≡ None
+        → (if o then (if o then decides (story w l (settled (take l.bytes file))) (Some (faults.TooLong l.bytes)) else story w l (settled file)) else ends_at
+        (length file) (story w l (heard file))).fault ≡ None
         → (is_over l file ≡ false) × ((ends_at (length file) (story w l (heard file))).fault ≡ None)) [
           | true ↦ λ k h. over (story w l (settled (take l.bytes file))).fault h
           | false ↦ λ k h. (k, h)

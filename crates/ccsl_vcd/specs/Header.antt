@@ -1,6 +1,7 @@
 -- The header: a list of commands, each ended by $end. IEEE 1364-2005, clause 18.2.3: $var, $scope, $upscope and $enddefinitions;
 -- every other command is passed over. Where a fault stands, and the limits, are this project's profile.
-use Rattle.std.specs.Prelude.{ℕ, ◌+◌, ◌-◌, List, [], ◌∷◌, ◌++◌, length, Bool, true, false, Option, Some, None, is_some, unwrap_or, Result, Ok, Err, nat_le, ◌==◌, ◌&&◌, if◌then◌else◌, codes, bytes_eq, flat_map}
+use Rattle.std.specs.Prelude.{ℕ, ◌+◌, ◌-◌, List, [], ◌∷◌, ◌++◌, length, Bool, true, false, Option, Some, None, is_some, unwrap_or, Result, Ok, Err, nat_le}
+use Rattle.std.specs.Prelude.{◌==◌, ◌&&◌, if◌then◌else◌, codes, bytes_eq, flat_map}
 use Rattle.std.specs.List.{list_all}
 use Rattle.ccsl_vcd_lex.specs.Tokens.{Token}
 use Rattle.ccsl_vcd_lex.specs.ShortCodes.{is_visible}

@@ -1,5 +1,6 @@
 -- The rows of a recorded trace: the times at which a bound clock ticks. This project's profile.
-use Rattle.std.specs.Prelude.{◌≡◌, ℕ, List, [], ◌∷◌, length, Bool, true, false, not, Option, Some, None, nat_lt, ◌==◌, ◌&&◌, if◌then◌else◌, bytes_eq, filter, map}
+use Rattle.std.specs.Prelude.{◌≡◌, ℕ, List, [], ◌∷◌, length, Bool, true, false, not, Option, Some, None, nat_lt, ◌==◌, ◌&&◌, if◌then◌else◌, bytes_eq, filter}
+use Rattle.std.specs.Prelude.{map}
 use Rattle.std.specs.List.{list_any}
 use Rattle.std.specs.Option.{option_or}
 use Rattle.ccsl_base.specs.declared.rows.Row.{Row}

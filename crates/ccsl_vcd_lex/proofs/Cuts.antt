@@ -1,5 +1,6 @@
 -- How tokens go over a cut of the bytes.
-use Rattle.std.proofs.Common.{◌≡◌, ℕ, ◌+◌, ◌≤◌, ◌<◌, List, [], ◌∷◌, ◌++◌, length, Bool, true, false, Some, None, nat_lt, ◌||◌, cond, get_or, refl, ap, ◌∙◌, arith, length-append, filter, zero-add}
+use Rattle.std.proofs.Common.{◌≡◌, ℕ, ◌+◌, ◌≤◌, ◌<◌, List, [], ◌∷◌, ◌++◌, length, Bool, true, false, Some, None, nat_lt, ◌||◌, cond, get_or, refl, ap, ◌∙◌}
+use Rattle.std.proofs.Common.{arith, length-append, filter, zero-add}
 use Rattle.std.specs.List.{AllByRecursion, list_all, prefix_len}
 use Rattle.std.proofs.lemmas.Grind.{common_steps}
 use Rattle.std.proofs.lemmas.Bool.{lt-ltb, not-false}
@@ -48,15 +49,19 @@ pub tokens-cut : (f : Bool) (at : ℕ) (p c : List ℕ) → fresh_after f p ≡ 
 unfolding fresh_after tokens_from run
 tokens-cut f at [] c h = rw h (ap (λ (n : ℕ). tokens_from true n c) (omega arith))
 tokens-cut f at (b ∷ p) c h =
-    let ih : tokens_from (is_white b) (at + 1) (p ++ c) ≡ tokens_from (is_white b) (at + 1) p ++ tokens_from true (at + 1 + length p) c = tokens-cut (is_white b) (at + 1) p c h in
+    let ih : tokens_from (is_white b) (at + 1) (p ++ c) ≡ tokens_from (is_white b) (at + 1) p ++ tokens_from true (at + 1 + length p) c =
+    tokens-cut (is_white b) (at + 1) p c h in
     let n : at + 1 + length p ≡ at + length (b ∷ p) = omega arith in
     let r : begins f (is_white b) (token at (run (b ∷ (p ++ c)))) (tokens_from (is_white b) (at + 1) (p ++ c))
     ≡ begins f (is_white b) (token at (run (b ∷ p))) (tokens_from (is_white b) (at + 1) (p ++ c))
-    = (elim (is_white b) as (λ w. fresh_after w p ≡ true → begins f w (token at (cond w [] (b ∷ run (p ++ c)))) (tokens_from (is_white b) (at + 1) (p ++ c)) ≡ begins f w (token at (cond w [] (b ∷ run p))) (tokens_from (is_white b) (at + 1) (p ++ c))) [
+    = (elim (is_white b) as (λ w. fresh_after w p ≡ true
+    → begins f w (token at (cond w [] (b ∷ run (p ++ c)))) (tokens_from (is_white b) (at + 1) (p ++ c)) ≡ begins f w (token at (cond w [] (b ∷ run p)))
+    (tokens_from (is_white b) (at + 1) (p ++ c))) [
       | true ↦ λ _. refl
       | false ↦ λ g. rw (run-cut p c g) refl
     ]) h in
-    r ∙ ap (λ (ts : List Token). begins f (is_white b) (token at (run (b ∷ p))) ts) ih ∙ begins-append f (is_white b) (token at (run (b ∷ p))) (tokens_from (is_white b) (at + 1) p) (tokens_from true (at + 1 + length p) c)
+    r ∙ ap (λ (ts : List Token). begins f (is_white b) (token at (run (b ∷ p))) ts) ih
+    ∙ begins-append f (is_white b) (token at (run (b ∷ p))) (tokens_from (is_white b) (at + 1) p) (tokens_from true (at + 1 + length p) c)
     ∙ ap (λ (k : ℕ). begins f (is_white b) (token at (run (b ∷ p))) (tokens_from (is_white b) (at + 1) p) ++ tokens_from true k c) n
 
 pub run-dark : (xs c : List ℕ) → Dark xs → run (xs ++ c) ≡ xs ++ run c
@@ -83,7 +88,8 @@ one-token at b xs d =
     rw (d.0, r, inside (at + 1) xs d.1) refl
 
 -- a token whose run is followed by more
-pub one-token-more : (at b : ℕ) (xs more : List ℕ) → Dark (b ∷ xs) → (rest : List Token) × (tokens_from true at ((b ∷ xs) ++ more) ≡ token at ((b ∷ xs) ++ run more) ∷ rest)
+pub one-token-more : (at b : ℕ) (xs more : List ℕ) → Dark (b ∷ xs)
+    → (rest : List Token) × (tokens_from true at ((b ∷ xs) ++ more) ≡ token at ((b ∷ xs) ++ run more) ∷ rest)
 unfolding tokens_from
 one-token-more at b xs more d =
     let r : run ((b ∷ xs) ++ more) ≡ (b ∷ xs) ++ run more = run-dark (b ∷ xs) more d in
@@ -127,7 +133,8 @@ ends-before f at [] h = tt
 ends-before f at (b ∷ p) h =
     let n : at + 1 + length p ≡ at + length (b ∷ p) = omega arith in
     let ih : EndBefore (at + length (b ∷ p)) (tokens_from (is_white b) (at + 1) p) = rw n at (ends-before (is_white b) (at + 1) p h) in
-    (elim (is_white b) as (λ w. fresh_after w p ≡ true → EndBefore (at + length (b ∷ p)) (tokens_from w (at + 1) p) → EndBefore (at + length (b ∷ p)) (begins f w (token at (cond w [] (b ∷ run p))) (tokens_from w (at + 1) p))) [
+    (elim (is_white b) as (λ w. fresh_after w p ≡ true → EndBefore (at + length (b ∷ p)) (tokens_from w (at + 1) p)
+    → EndBefore (at + length (b ∷ p)) (begins f w (token at (cond w [] (b ∷ run p))) (tokens_from w (at + 1) p))) [
       | true ↦ λ _ k. skip f _ _ _ k
       | false ↦ λ g k. add f at b p g _ k
     ]) h ih
@@ -136,7 +143,8 @@ ends-before f at (b ∷ p) h =
     skip true t ts n k = k
     skip false t ts n k = k
 
-    add : (f : Bool) (at b : ℕ) (p : List ℕ) → fresh_after false p ≡ true → (ts : List Token) → EndBefore (at + length (b ∷ p)) ts → EndBefore (at + length (b ∷ p)) (begins f false (token at (b ∷ run p)) ts)
+    add : (f : Bool) (at b : ℕ) (p : List ℕ) → fresh_after false p ≡ true → (ts : List Token) → EndBefore (at + length (b ∷ p)) ts
+        → EndBefore (at + length (b ∷ p)) (begins f false (token at (b ∷ run p)) ts)
     add true at b p g ts k = (let s : length (run p) < length p = run-shorter p g in omega arith, k)
     add false at b p g ts k = k
 
@@ -158,7 +166,8 @@ pub tokens-parts : (p text : List ℕ) → fresh_after true p ≡ true → Dark 
 tokens-parts p text h d = tokens-cut true 0 p text h ∙ ap (λ (ts : List Token). tokens p ++ ts) (rw zero-add (at-end (length p) text d))
 
 -- the tokens before a place where one may begin are closed
-pub closed-before : (p x : List ℕ) → fresh_after true p ≡ true → closed (p ++ x) ≡ tokens p ++ filter (λ t. nat_lt (end_of t) (length (p ++ x)) || is_long t) (tokens_from true (length p) x)
+pub closed-before : (p x : List ℕ) → fresh_after true p ≡ true
+    → closed (p ++ x) ≡ tokens p ++ filter (λ t. nat_lt (end_of t) (length (p ++ x)) || is_long t) (tokens_from true (length p) x)
 closed-before p x h =
     let n : ℕ = length (p ++ x) in
     let Q : Token → Bool = λ t. nat_lt (end_of t) n || is_long t in
@@ -169,13 +178,15 @@ closed-before p x h =
     ∙ ap (λ (ts : List Token). ts ++ filter Q (tokens_from true (length p) x)) kept
 
 -- the tokens before an open one are closed, and it is closed where it is too long
-pub closed-parts : (p text : List ℕ) (rest : List Token) → fresh_after true p ≡ true → Dark text → filter is_long (one (length p) text) ≡ rest → closed (p ++ text) ≡ tokens p ++ rest
+pub closed-parts : (p text : List ℕ) (rest : List Token) → fresh_after true p ≡ true → Dark text → filter is_long (one (length p) text) ≡ rest
+    → closed (p ++ text) ≡ tokens p ++ rest
 closed-parts p text rest h d k =
     let n : ℕ = length (p ++ text) in
     let Q : Token → Bool = λ t. nat_lt (end_of t) n || is_long t in
     let e : EndBefore (length p) (tokens p) = rw zero-add at (ends-before true 0 p h) in
     let kept : filter Q (tokens p) ≡ tokens p = all-kept n (tokens p) (more-kept (length p) n (tokens p) (omega (arith, length-append p text)) e) in
-    ap (filter Q) (tokens-parts p text h d) ∙ filter-append Q (tokens p) (one (length p) text) ∙ ap (λ (ts : List Token). ts ++ filter Q (one (length p) text)) kept
+    ap (filter Q) (tokens-parts p text h d) ∙ filter-append Q (tokens p) (one (length p) text)
+    ∙ ap (λ (ts : List Token). ts ++ filter Q (one (length p) text)) kept
     ∙ ap (λ (ts : List Token). tokens p ++ ts) (long p text ∙ k)
   where
     long : (p text : List ℕ) → filter (λ t. nat_lt (end_of t) (length (p ++ text)) || is_long t) (one (length p) text) ≡ filter is_long (one (length p) text)

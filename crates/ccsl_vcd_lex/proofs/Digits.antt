@@ -1,5 +1,6 @@
 -- Digits at the front, whoever reads them.
-use Rattle.std.proofs.Common.{◌≡◌, ℕ, zero, suc, ◌+◌, ◌-◌, ◌*◌, ◌%◌, ◌^◌, ◌<◌, ◌≤◌, List, [], ◌∷◌, length, take, drop, true, false, ◌&&◌, nat_le, cond, zero-mul, refl, ap, ◌∙◌, subst, arith}
+use Rattle.std.proofs.Common.{◌≡◌, ℕ, zero, suc, ◌+◌, ◌-◌, ◌*◌, ◌%◌, ◌^◌, ◌<◌, ◌≤◌, List, [], ◌∷◌, length, take, drop, true, false, ◌&&◌, nat_le, cond}
+use Rattle.std.proofs.Common.{zero-mul, refl, ap, ◌∙◌, subst, arith}
 use Rattle.std.specs.List.{list_all, prefix_len}
 use Rattle.std.specs.Char.{digit_value}
 use Rattle.std.specs.Str.Parse.{digits_value_after}
@@ -66,7 +67,8 @@ front-digits bytes n value run few read =
     let len : length ds ≤ 19 = omega (arith, length-take n bytes, few) in
     let small : value_behind 0 ds < 10 ^ 19 = few-digits (0 + length ds) 19 (value_behind 0 ds) (digits-small 0 0 ds (omega arith) all) (omega (arith, len)) in
     let none : 0 * 10 ^ (n - 0) ≡ 0 = zero-mul (10 ^ (n - 0)) in
-    let same : digits_value_after 10 0 (take (n - 0) bytes) ≡ value_behind 0 ds = ap (λ (k : ℕ). digits_value_after 10 0 (take k bytes)) back ∙ digits-same 0 ds all in
+    let same : digits_value_after 10 0 (take (n - 0) bytes) ≡ value_behind 0 ds =
+    ap (λ (k : ℕ). digits_value_after 10 0 (take k bytes)) back ∙ digits-same 0 ds all in
     let amount : value ≡ value_behind 0 ds = omega (arith, read, none, same, small) in
     record { all = all; amount = amount; fits = omega (arith, amount, small) }
 

@@ -1,5 +1,6 @@
 -- What bytes settle stays settled, whatever follows.
-use Rattle.std.proofs.Common.{◌≡◌, ℕ, ◌<◌, List, [], ◌∷◌, ◌++◌, length, Bool, true, false, nat_lt, ◌||◌, cond, refl, sym, ap, ◌∙◌, append_assoc, arith, length-append, filter, map, zero-add, ◌⊎◌, inl, inr}
+use Rattle.std.proofs.Common.{◌≡◌, ℕ, ◌<◌, List, [], ◌∷◌, ◌++◌, length, Bool, true, false, nat_lt, ◌||◌, cond, refl, sym, ap, ◌∙◌, append_assoc, arith}
+use Rattle.std.proofs.Common.{length-append, filter, map, zero-add, ◌⊎◌, inl, inr}
 use Rattle.std.proofs.lemmas.List.{map-append}
 use Rattle.std.proofs.lemmas.Bool.{lt-ltb, ltb-true}
 use Rattle.std.proofs.Math.Bool.{or-true}
@@ -36,21 +37,25 @@ split p = pick (split-from true p)
     pick (inr d) = absurd (let e : true ≡ false = d.0 in cc)
 
 -- what is said of the tokens before a place where one may begin, and then of the others
-pub heard-split : (before x : List ℕ) → fresh_after true before ≡ true → heard (before ++ x) ≡ map hear (tokens before) ++ map hear (tokens_from true (length before) x)
+pub heard-split : (before x : List ℕ) → fresh_after true before ≡ true
+    → heard (before ++ x) ≡ map hear (tokens before) ++ map hear (tokens_from true (length before) x)
 heard-split before x h =
     ap (map hear) (tokens-cut true 0 before x h ∙ ap (λ (k : ℕ). tokens before ++ tokens_from true k x) (zero-add (length before)))
     ∙ map-append hear (tokens before) (tokens_from true (length before) x)
 
 settled-split : (before x : List ℕ) → fresh_after true before ≡ true
-    → settled (before ++ x) ≡ map hear (tokens before) ++ map hear (filter (λ t. nat_lt (end_of t) (length (before ++ x)) || is_long t) (tokens_from true (length before) x))
+    → settled (before ++ x) ≡ map hear (tokens before)
+    ++ map hear (filter (λ t. nat_lt (end_of t) (length (before ++ x)) || is_long t) (tokens_from true (length before) x))
 settled-split before x h = ap (map hear) (closed-before before x h) ∙ map-append hear (tokens before) _
 
 -- a run that goes on
-run-heard : (at : ℕ) (text c : List ℕ) → Dark text → (rest : List Heard) × (map hear (tokens_from true at (text ++ c)) ≡ map hear (filter is_long (one at text)) ++ rest)
+run-heard : (at : ℕ) (text c : List ℕ) → Dark text
+    → (rest : List Heard) × (map hear (tokens_from true at (text ++ c)) ≡ map hear (filter is_long (one at text)) ++ rest)
 run-heard at [] c d = (map hear (tokens_from true at c), refl)
 run-heard at (b ∷ xs) c d =
     let t = one-token-more at b xs c d in
-    (elim (nat_lt 65536 (length (b ∷ xs))) as (λ w. nat_lt 65536 (length (b ∷ xs)) ≡ w → (rest : List Heard) × (map hear (tokens_from true at ((b ∷ xs) ++ c)) ≡ map hear (cond w (token at (b ∷ xs) ∷ []) []) ++ rest)) [
+    (elim (nat_lt 65536 (length (b ∷ xs))) as (λ w. nat_lt 65536 (length (b ∷ xs)) ≡ w
+    → (rest : List Heard) × (map hear (tokens_from true at ((b ∷ xs) ++ c)) ≡ map hear (cond w (token at (b ∷ xs) ∷ []) []) ++ rest)) [
       | true ↦ λ e. (map hear t.0, ap (map hear) t.1 ∙ rw (long-more at (b ∷ xs) (run c) e, long-is at (b ∷ xs) e) refl)
       | false ↦ λ e. (map hear (tokens_from true at ((b ∷ xs) ++ c)), refl)
     ]) refl
@@ -72,20 +77,24 @@ heard-further p c =
       ap (λ (xs : List ℕ). heard (xs ++ c)) s.whole ∙ ap heard (append_assoc s.before s.text c) ∙ heard-split s.before (s.text ++ c) s.fresh
           ∙ ap (λ (hs : List Heard). map hear (tokens s.before) ++ hs) r.1
           ∙ sym (append_assoc (map hear (tokens s.before)) (map hear (filter is_long (one (length s.before) s.text))) r.0)
-          ∙ ap (λ (hs : List Heard). hs ++ r.0) (sym (ap settled s.whole ∙ ap (map hear) (closed-parts s.before s.text _ s.fresh s.dark refl) ∙ map-append hear (tokens s.before) _)),
+          ∙ ap (λ (hs : List Heard). hs ++ r.0)
+          (sym (ap settled s.whole ∙ ap (map hear) (closed-parts s.before s.text _ s.fresh s.dark refl) ∙ map-append hear (tokens s.before) _)),
     )
 
 -- a token that is too long passes the test
-kept-long : (n : ℕ) (t : Token) (ts : List Token) → is_long t ≡ true → filter (λ u. nat_lt (end_of u) n || is_long u) (t ∷ ts) ≡ t ∷ filter (λ u. nat_lt (end_of u) n || is_long u) ts
+kept-long : (n : ℕ) (t : Token) (ts : List Token) → is_long t ≡ true
+    → filter (λ u. nat_lt (end_of u) n || is_long u) (t ∷ ts) ≡ t ∷ filter (λ u. nat_lt (end_of u) n || is_long u) ts
 kept-long n t ts e = rw (e, or-true (nat_lt (end_of t) n)) refl
 
 run-settled : (n at : ℕ) (text c : List ℕ) → Dark text
-    → (rest : List Heard) × (map hear (filter (λ t. nat_lt (end_of t) n || is_long t) (tokens_from true at (text ++ c))) ≡ map hear (filter is_long (one at text)) ++ rest)
+    → (rest : List Heard) × (map hear (filter (λ t. nat_lt (end_of t) n || is_long t) (tokens_from true at (text ++ c))) ≡ map hear
+    (filter is_long (one at text)) ++ rest)
 run-settled n at [] c d = (map hear (filter (λ t. nat_lt (end_of t) n || is_long t) (tokens_from true at c)), refl)
 run-settled n at (b ∷ xs) c d =
     let t = one-token-more at b xs c d in
     let Q : Token → Bool = λ t. nat_lt (end_of t) n || is_long t in
-    (elim (nat_lt 65536 (length (b ∷ xs))) as (λ w. nat_lt 65536 (length (b ∷ xs)) ≡ w → (rest : List Heard) × (map hear (filter Q (tokens_from true at ((b ∷ xs) ++ c))) ≡ map hear (cond w (token at (b ∷ xs) ∷ []) []) ++ rest)) [
+    (elim (nat_lt 65536 (length (b ∷ xs))) as (λ w. nat_lt 65536 (length (b ∷ xs)) ≡ w
+    → (rest : List Heard) × (map hear (filter Q (tokens_from true at ((b ∷ xs) ++ c))) ≡ map hear (cond w (token at (b ∷ xs) ∷ []) []) ++ rest)) [
       | true ↦ λ e.
           let l : 65536 < length (b ∷ xs) = ltb-true 65536 (length (b ∷ xs)) e in
           let m : 65536 < length ((b ∷ xs) ++ run c) = omega (arith, length-append (b ∷ xs) (run c), l) in (
@@ -106,5 +115,6 @@ settled-further p c =
       ap (λ (xs : List ℕ). settled (xs ++ c)) s.whole ∙ ap settled (append_assoc s.before s.text c) ∙ settled-split s.before (s.text ++ c) s.fresh
           ∙ ap (λ (hs : List Heard). map hear (tokens s.before) ++ hs) r.1
           ∙ sym (append_assoc (map hear (tokens s.before)) (map hear (filter is_long (one (length s.before) s.text))) r.0)
-          ∙ ap (λ (hs : List Heard). hs ++ r.0) (sym (ap settled s.whole ∙ ap (map hear) (closed-parts s.before s.text _ s.fresh s.dark refl) ∙ map-append hear (tokens s.before) _)),
+          ∙ ap (λ (hs : List Heard). hs ++ r.0)
+          (sym (ap settled s.whole ∙ ap (map hear) (closed-parts s.before s.text _ s.fresh s.dark refl) ∙ map-append hear (tokens s.before) _)),
     )

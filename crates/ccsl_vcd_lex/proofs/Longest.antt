@@ -1,5 +1,6 @@
 -- The tokens are the longest runs, in ascending order of their places.
-use Rattle.std.proofs.Common.{◌≡◌, ℕ, zero, suc, ◌+◌, ◌<◌, List, [], ◌∷◌, length, take, drop, Bool, true, false, cond, refl, sym, ap, ◌∙◌, arith, subst, inl, inr, ◌⊎◌, ◌≤◌, map, get_or, zero-add, add-zero, add-one}
+use Rattle.std.proofs.Common.{◌≡◌, ℕ, zero, suc, ◌+◌, ◌<◌, List, [], ◌∷◌, length, take, drop, Bool, true, false, cond, refl, sym, ap, ◌∙◌, arith, subst, inl}
+use Rattle.std.proofs.Common.{inr, ◌⊎◌, ◌≤◌, map, get_or, zero-add, add-zero, add-one}
 use Rattle.std.specs.List.{Contains}
 use Rattle.std.specs.List.Sorted.{IsStrictlyIncreasing}
 use Rattle.std.proofs.lemmas.List.{drop_all}
@@ -49,7 +50,8 @@ unfolding fresh_after
 further f at b bs t r = record { k = suc r.k; place = r.place ∙ omega arith; fresh = r.fresh; longest = r.longest; some = r.some }
 
 -- a token is in the bytes
-pick : (f : Bool) (at b : ℕ) (bs : List ℕ) (t : Token) → (IsIn t (tokens_from (is_white b) (at + 1) bs) → RunAt (is_white b) (at + 1) bs t) → (w : Bool) → is_white b ≡ w
+pick : (f : Bool) (at b : ℕ) (bs : List ℕ) (t : Token) → (IsIn t (tokens_from (is_white b) (at + 1) bs) → RunAt (is_white b) (at + 1) bs t) → (w : Bool)
+    → is_white b ≡ w
     → IsIn t (begins f w (token at (run (b ∷ bs))) (tokens_from (is_white b) (at + 1) bs)) → RunAt f at (b ∷ bs) t
 pick true at b bs t ih true e i = further true at b bs t (ih i)
 pick true at b bs t ih false e (inl i) = here at b bs t e i
@@ -86,7 +88,8 @@ unfolding run
 run-white b bs h =
     (elim (is_white b) as (λ w. 0 < length (cond w [] (b ∷ run bs)) → w ≡ false) [ true ↦ λ g. absurd (omega arith) | false ↦ λ _. refl ]) h
 
-all : (f : Bool) (at k : ℕ) (bs text : List ℕ) → fresh_after f (take k bs) ≡ true → text ≡ run (drop k bs) → 0 < length text → IsIn (token (at + k) text) (tokens_from f at bs)
+all : (f : Bool) (at k : ℕ) (bs text : List ℕ) → fresh_after f (take k bs) ≡ true → text ≡ run (drop k bs) → 0 < length text
+    → IsIn (token (at + k) text) (tokens_from f at bs)
 unfolding tokens_from run fresh_after
 all f at k [] text h e n = absurd (omega (arith, ap length (e ∙ ap run (drop_all k [] (omega arith))), n))
 all f at zero (b ∷ bs) text h e n =
@@ -128,7 +131,8 @@ rises : (n : ℕ) (ks : List ℕ) → From n ks → IsStrictlyIncreasing ks
 rises n [] f k l = absurd (omega arith)
 rises n (a ∷ []) f k l = absurd (omega arith)
 rises n (a ∷ b ∷ ks) f zero l = omega (arith, f.1.0)
-rises n (a ∷ b ∷ ks) f (suc k) l = subst (λ (n : ℕ). get_or (b ∷ ks) k 0 < get_or (a ∷ b ∷ ks) n 0) (ap suc (add-one k) ∙ sym (add-one (suc k))) (rises (a + 1) (b ∷ ks) f.1 k (omega arith))
+rises n (a ∷ b ∷ ks) f (suc k) l =
+    subst (λ (n : ℕ). get_or (b ∷ ks) k 0 < get_or (a ∷ b ∷ ks) n 0) (ap suc (add-one k) ∙ sym (add-one (suc k))) (rises (a + 1) (b ∷ ks) f.1 k (omega arith))
 
 -- the places ascend
 pub ascends : (bytes : List ℕ) → IsStrictlyIncreasing (map (λ t. t.at) (tokens bytes))

@@ -1,5 +1,6 @@
 -- Parts of a piece: white space at its front, and a run behind it.
-use Rattle.std.proofs.Common.{◌≡◌, ℕ, ◌+◌, ◌-◌, ◌<◌, ◌≤◌, Bool, true, false, cond, List, [], ◌∷◌, ◌++◌, length, take, drop, get_or, refl, sym, ap, ◌∙◌, arith, subst, inl, inr, one-add}
+use Rattle.std.proofs.Common.{◌≡◌, ℕ, ◌+◌, ◌-◌, ◌<◌, ◌≤◌, Bool, true, false, cond, List, [], ◌∷◌, ◌++◌, length, take, drop, get_or, refl, sym, ap, ◌∙◌, arith}
+use Rattle.std.proofs.Common.{subst, inl, inr, one-add}
 use Rattle.std.specs.List.{AllByRecursion, prefix_len, slice_range}
 use Rattle.std.proofs.Math.Seq.{take-add}
 use Rattle.std.proofs.lemmas.Bool.{not-true, not-false, cases_eq}
@@ -43,7 +44,8 @@ pub record Cut (open_text piece : List ℕ) (start end : ℕ) : Type 0 where
   pub stops : end < length piece → is_white (get_or piece end 0) ≡ true
   pub some : end < length piece → 0 < length open_text + (end - start)
 
-front-white : (open_text piece : List ℕ) (start : ℕ) → (0 < length open_text → start ≡ 0) → (open_text ≡ [] → start ≡ prefix_len is_white piece) → White (take start piece)
+front-white : (open_text piece : List ℕ) (start : ℕ) → (0 < length open_text → start ≡ 0) → (open_text ≡ [] → start ≡ prefix_len is_white piece)
+    → White (take start piece)
 front-white [] piece start some none = subst (λ (k : ℕ). White (take k piece)) (sym (none refl)) (passing is_white (λ b. is_white b ≡ true) (λ b h. h) piece)
 front-white (x ∷ xs) piece start some none = subst (λ (k : ℕ). White (take k piece)) (sym (some (omega arith))) tt
 
@@ -58,7 +60,8 @@ run-some [] piece start end none le w l =
     elim (cases_eq start end) [
       | inl e ↦
           let at : prefix_len is_white piece ≡ end = sym (none refl) ∙ e in
-          let dark : is_white (get_or piece end 0) ≡ false = ap (λ (k : ℕ). is_white (get_or piece k 0)) (sym at) ∙ prefix_len_stops is_white piece 0 (omega (arith, at)) in
+          let dark : is_white (get_or piece end 0) ≡ false =
+          ap (λ (k : ℕ). is_white (get_or piece k 0)) (sym at) ∙ prefix_len_stops is_white piece 0 (omega (arith, at)) in
           absurd (let no : true ≡ false = sym w ∙ dark in cc)
       | inr ne ↦ omega arith
     ]

@@ -1,5 +1,6 @@
 -- A piece, taken part by part.
-use Rattle.std.proofs.Common.{◌≡◌, ℕ, zero, suc, Bool, ◌+◌, ◌-◌, ◌<◌, ◌≤◌, true, false, Some, None, List, [], ◌∷◌, ◌++◌, length, take, drop, get_or, refl, sym, ap, ◌∙◌, arith, subst, append_assoc, add-zero, length-append}
+use Rattle.std.proofs.Common.{◌≡◌, ℕ, zero, suc, Bool, ◌+◌, ◌-◌, ◌<◌, ◌≤◌, true, false, Some, None, List, [], ◌∷◌, ◌++◌, length, take, drop, get_or, refl, sym}
+use Rattle.std.proofs.Common.{ap, ◌∙◌, arith, subst, append_assoc, add-zero, length-append}
 use Rattle.std.specs.List.{prefix_len, slice_range}
 use Rattle.std.proofs.Math.Seq.{take-add}
 use Rattle.std.proofs.lemmas.List.{append-nil, take-append-drop, take-take, length-take-le, length-drop, get_or-drop, get_or-take, take_more}
@@ -23,7 +24,8 @@ nothing v f = record {
 after : (a b c : Lexing) (xs ys : List ℕ) (hs : List Heard) → Told a b xs [] → Told b c ys hs → Told a c (xs ++ ys) hs
 after a b c xs ys hs r t = record {
   stands = λ bytes s. subst (StandsFor c) (append_assoc bytes xs ys) (t.stands (bytes ++ xs) (r.stands bytes s));
-  settles = λ bytes s. ap settled (sym (append_assoc bytes xs ys)) ∙ t.settles (bytes ++ xs) (r.stands bytes s) ∙ ap (λ (us : List Heard). us ++ hs) (r.settles bytes s ∙ append-nil (settled bytes));
+  settles = λ bytes s. ap settled (sym (append_assoc bytes xs ys)) ∙ t.settles (bytes ++ xs) (r.stands bytes s)
+      ∙ ap (λ (us : List Heard). us ++ hs) (r.settles bytes s ∙ append-nil (settled bytes));
   short = λ bytes s. ap (λ (us : List ℕ). first_long (tokens us)) (sym (append_assoc bytes xs ys)) ∙ t.short (bytes ++ xs) (r.stands bytes s);
 }
 
@@ -51,7 +53,8 @@ pub record Found (old a : Lexing) (piece : List ℕ) (start end kept : ℕ) : Ty
   pub same : length a.open_text ≡ length old.open_text
   pub run : length (slice_range piece start end) ≡ end - start
 
-pub found : (old a : Lexing) (piece : List ℕ) (start end at n : ℕ) (stopped : Bool) (next kept : ℕ) (stopped_next : Bool) → Seen old at n stopped → stopped ≡ false
+pub found : (old a : Lexing) (piece : List ℕ) (start end at n : ℕ) (stopped : Bool) (next kept : ℕ) (stopped_next : Bool) → Seen old at n stopped
+    → stopped ≡ false
     → Seen a next kept stopped_next → a ≡ record old { begin = old.begin + start } → start ≤ length piece → (0 < length old.open_text → start ≡ 0)
     → (old.open_text ≡ [] → start ≡ prefix_len is_white piece) → end ≡ start + prefix_len is_dark (drop start piece) → Found old a piece start end kept
 found old a piece start end at n stopped next kept stopped_next v f w e within some none run =
@@ -70,15 +73,18 @@ found old a piece start end at n stopped next kept stopped_next v f w e within s
 passes-front : (old a : Lexing) (piece : List ℕ) (start end kept : ℕ) → Found old a piece start end kept → Told old a (take start piece) []
 passes-front old a piece start end kept k =
     let n : length (take start piece) ≡ start = length-take-le start piece (omega (arith, k.parts.ordered, k.parts.within)) in
-    skips old a (take start piece) (k.after ∙ ap (λ (m : ℕ). record old { begin = old.begin + m }) (sym n)) k.old_runs k.parts.white (λ h. k.parts.only_blank (omega (arith, n)))
+    skips old a (take start piece) (k.after ∙ ap (λ (m : ℕ). record old { begin = old.begin + m }) (sym n)) k.old_runs k.parts.white
+    (λ h. k.parts.only_blank (omega (arith, n)))
 
-pub length-run : (old a b : Lexing) (piece : List ℕ) (start end kept : ℕ) → Found old a piece start end kept → b ≡ record a { open_text = a.open_text ++ slice_range piece start end }
+pub length-run : (old a b : Lexing) (piece : List ℕ) (start end kept : ℕ) → Found old a piece start end kept
+    → b ≡ record a { open_text = a.open_text ++ slice_range piece start end }
     → length b.open_text ≡ kept + (end - start)
 length-run old a b piece start end kept k e =
     ap (λ (v : Lexing). length v.open_text) e ∙ length-append a.open_text (slice_range piece start end) ∙ omega (arith, k.count, k.same, k.run)
 
 -- the run was kept
-pub runs-to : (old a b : Lexing) (piece : List ℕ) (start end kept : ℕ) → Found old a piece start end kept → b ≡ record a { open_text = a.open_text ++ slice_range piece start end }
+pub runs-to : (old a b : Lexing) (piece : List ℕ) (start end kept : ℕ) → Found old a piece start end kept
+    → b ≡ record a { open_text = a.open_text ++ slice_range piece start end }
     → kept + (end - start) ≤ 65536 → Told old b (take end piece) []
 runs-to old a b piece start end kept k e room =
     let run = slice_range piece start end in
@@ -132,9 +138,11 @@ breaks-within old a piece start end kept k fits long bytes s =
     let grown = goes-on a mid (take n run) (pushed a mid (take n run) refl k.runs (dark-take n run k.parts.dark) (omega (arith, count, k.same, k.count))) in
     let front : take start piece ++ take n run ≡ take (start + n) piece =
     ap (λ (xs : List ℕ). take start piece ++ xs) (take-take n (end - start) (drop start piece) (omega arith)) ∙ sym (take-add start n piece) in
-    let told = subst (λ (xs : List ℕ). Told old mid xs []) front (after old a mid (take start piece) (take n run) [] (passes-front old a piece start end kept k) grown) in
+    let told = subst (λ (xs : List ℕ). Told old mid xs []) front
+    (after old a mid (take start piece) (take n run) [] (passes-front old a piece start end kept k) grown) in
     let dark : is_white x ≡ false =
-    ap is_white (sym (get_or-drop start piece n 0) ∙ sym (get_or-take (end - start) (drop start piece) n 0 less)) ∙ dark-at run n k.parts.dark (omega (arith, k.run)) in
+    ap is_white (sym (get_or-drop start piece n 0) ∙ sym (get_or-take (end - start) (drop start piece) n 0 less))
+    ∙ dark-at run n k.parts.dark (omega (arith, k.run)) in
     let over : 65536 < length mid.open_text + length (x ∷ []) = omega (arith, length-append a.open_text (take n run), count, k.same, k.count) in
     let past = goes-past mid (record mid { failed = true }) (x ∷ []) (refused mid (record mid { failed = true }) (x ∷ []) refl k.runs (dark, tt) over) in
     let before : settled (bytes ++ take (start + n) piece) ≡ settled bytes = told.settles bytes s ∙ append-nil (settled bytes) in
@@ -159,10 +167,12 @@ breaks-run old a c piece start end kept k e fits long =
     let past = goes-past a c run (refused a c run e k.runs k.parts.dark (omega (arith, k.run, k.same, k.count))) in
     let front = passes-front old a piece start end kept k in
     let whole : (bytes : List ℕ) → ((bytes ++ take start piece) ++ run) ++ drop end piece ≡ bytes ++ piece =
-    λ bytes. ap (λ (xs : List ℕ). xs ++ drop end piece) (append_assoc bytes (take start piece) run ∙ ap (λ (xs : List ℕ). bytes ++ xs) (sym (up-to piece start end k.parts.ordered)))
+    λ bytes. ap (λ (xs : List ℕ). xs ++ drop end piece)
+    (append_assoc bytes (take start piece) run ∙ ap (λ (xs : List ℕ). bytes ++ xs) (sym (up-to piece start end k.parts.ordered)))
     ∙ append_assoc bytes (take end piece) (drop end piece) ∙ ap (λ (xs : List ℕ). bytes ++ xs) (take-append-drop end piece) in
     let still : (bytes : List ℕ) → StandsFor old bytes → StandsFor c (bytes ++ piece) =
-    λ bytes s. subst (StandsFor c) (whole bytes) (stays c (drop end piece) stopped ((bytes ++ take start piece) ++ run) (past.stands (bytes ++ take start piece) (front.stands bytes s))) in
+    λ bytes s. subst (StandsFor c) (whole bytes)
+    (stays c (drop end piece) stopped ((bytes ++ take start piece) ++ run) (past.stands (bytes ++ take start piece) (front.stands bytes s))) in
     record {
       still = still;
       long = λ bytes s. long-now c (bytes ++ piece) (still bytes s) stopped ∙ ap (λ (m : ℕ). Some m) (ap (λ (v : Lexing). v.begin) e);

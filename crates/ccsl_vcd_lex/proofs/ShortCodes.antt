@@ -1,5 +1,6 @@
 -- Short codes at the front of some bytes, and in a table.
-use Rattle.std.proofs.Common.{◌≡◌, ℕ, zero, suc, ◌+◌, ◌-◌, ◌*◌, ◌<◌, ◌≤◌, List, [], ◌∷◌, length, take, get_or, Bool, true, false, not, ◌&&◌, nat_le, cond, refl, sym, ap, subst, arith}
+use Rattle.std.proofs.Common.{◌≡◌, ℕ, zero, suc, ◌+◌, ◌-◌, ◌*◌, ◌<◌, ◌≤◌, List, [], ◌∷◌, length, take, get_or, Bool, true, false, not, ◌&&◌, nat_le, cond, refl}
+use Rattle.std.proofs.Common.{sym, ap, subst, arith}
 use Rattle.std.specs.List.{list_all, prefix_len}
 use Rattle.std.proofs.lemmas.Bool.{and_parts, leb-true}
 use Rattle.std.proofs.lemmas.Grind.{common_steps}
@@ -38,7 +39,8 @@ code-one (a ∷ b ∷ more) place l h w e m = record {
   short = omega (arith, m);
 }
 
-pub code-two : (bytes : List ℕ) (place : ℕ) → 3 ≤ length bytes → is_visible (get_or bytes 0 0) ≡ true → is_visible (get_or bytes 1 0) ≡ true → is_white (get_or bytes 2 0) ≡ true
+pub code-two : (bytes : List ℕ) (place : ℕ) → 3 ≤ length bytes → is_visible (get_or bytes 0 0) ≡ true → is_visible (get_or bytes 1 0) ≡ true
+    → is_white (get_or bytes 2 0) ≡ true
     → place ≡ place_of (get_or bytes 0 0 ∷ get_or bytes 1 0 ∷ []) → place < 8930 → IsCode 2 place bytes
 code-two [] place l h g w e m = absurd (omega (arith, l))
 code-two (a ∷ []) place l h g w e m = absurd (omega (arith, l))
@@ -52,7 +54,8 @@ code-two (a ∷ b ∷ c ∷ more) place l h g w e m = record {
   short = omega (arith, m);
 }
 
-pub code-three : (bytes : List ℕ) (place : ℕ) → 4 ≤ length bytes → is_visible (get_or bytes 0 0) ≡ true → is_visible (get_or bytes 1 0) ≡ true → is_visible (get_or bytes 2 0) ≡ true
+pub code-three : (bytes : List ℕ) (place : ℕ) → 4 ≤ length bytes → is_visible (get_or bytes 0 0) ≡ true → is_visible (get_or bytes 1 0) ≡ true
+    → is_visible (get_or bytes 2 0) ≡ true
     → is_white (get_or bytes 3 0) ≡ true → place ≡ place_of (get_or bytes 0 0 ∷ get_or bytes 1 0 ∷ get_or bytes 2 0 ∷ []) → place < SHORT → IsCode 3 place bytes
 code-three [] place l h g k w e m = absurd (omega (arith, l))
 code-three (a ∷ []) place l h g k w e m = absurd (omega (arith, l))
@@ -84,7 +87,8 @@ Shown p (a ∷ b ∷ c ∷ d ∷ more) = ⊥
 -- what stands below the length has digits
 shown : (text : List ℕ) → place_of text < SHORT → Shown (place_of text) text
 shown [] l = absurd (omega arith)
-shown (a ∷ []) l = by_case (is_visible a) _ (λ e. (digit a e, ap (λ w. cond w (a - 33) SHORT) e)) (λ e. absurd (let k : SHORT < SHORT = rw e at l in omega arith))
+shown (a ∷ []) l = by_case (is_visible a) _ (λ e. (digit a e, ap (λ w. cond w (a - 33) SHORT) e))
+    (λ e. absurd (let k : SHORT < SHORT = rw e at l in omega arith))
 shown (a ∷ b ∷ []) l =
     by_case (is_visible a && is_visible b) _
     (λ e. let p = and_parts (is_visible a) (is_visible b) e in (digit a p.0, digit b p.1, ap (λ w. cond w (a - 33 + 94 * (b - 32)) SHORT) e))

@@ -1,5 +1,6 @@
 -- What a tokenizer stands for, step by step. A step takes some bytes that are not white, or some white space.
-use Rattle.std.proofs.Common.{◌≡◌, ℕ, ◌+◌, ◌≤◌, ◌<◌, List, [], ◌∷◌, ◌++◌, length, Bool, true, false, Some, None, nat_lt, refl, sym, ap, ◌∙◌, append_assoc, arith, length-append, filter, zero-add}
+use Rattle.std.proofs.Common.{◌≡◌, ℕ, ◌+◌, ◌≤◌, ◌<◌, List, [], ◌∷◌, ◌++◌, length, Bool, true, false, Some, None, nat_lt, refl, sym, ap, ◌∙◌, append_assoc}
+use Rattle.std.proofs.Common.{arith, length-append, filter, zero-add}
 use Rattle.std.proofs.lemmas.List.{append-nil}
 use Rattle.std.proofs.lemmas.Grind.{common_steps}
 use Rattle.std.proofs.lemmas.Bool.{lt-ltb}
@@ -27,9 +28,12 @@ one-dropped at (b ∷ xs) h =
     rw n refl
 
 pub closed-now : (v : Lexing) (bytes : List ℕ) (s : StandsFor v bytes) → v.failed ≡ false → closed bytes ≡ tokens s.before
-closed-now v bytes s h = ap closed (parts v bytes s h) ∙ closed-parts s.before v.open_text [] s.fresh s.dark (one-dropped (length s.before) v.open_text s.fits) ∙ append-nil (tokens s.before)
+closed-now v bytes s h =
+    ap closed (parts v bytes s h) ∙ closed-parts s.before v.open_text [] s.fresh s.dark (one-dropped (length s.before) v.open_text s.fits)
+    ∙ append-nil (tokens s.before)
 
-tokens-short : (p text : List ℕ) → fresh_after true p ≡ true → Dark text → first_long (tokens p) ≡ None → length text ≤ 65536 → first_long (tokens (p ++ text)) ≡ None
+tokens-short : (p text : List ℕ) → fresh_after true p ≡ true → Dark text → first_long (tokens p) ≡ None → length text ≤ 65536
+    → first_long (tokens (p ++ text)) ≡ None
 tokens-short p text f d s h = ap first_long (tokens-parts p text f d) ∙ long-append (tokens p) (one (length p) text) s ∙ one-short (length p) text h
 
 -- without a token that was too long there is none in the bytes
@@ -48,7 +52,8 @@ pub record Grows (old new : Lexing) (xs : List ℕ) : Type 0 where
 pub grows : (old new : Lexing) (xs : List ℕ) → Grows old new xs → (bytes : List ℕ) → StandsFor old bytes → StandsFor new (bytes ++ xs)
 grows old new xs g bytes s =
     let w : bytes ++ xs ≡ s.before ++ (new.open_text ++ []) =
-    ap (λ (ys : List ℕ). ys ++ xs) (parts old bytes s g.old_runs) ∙ append_assoc s.before old.open_text xs ∙ ap (λ (ys : List ℕ). s.before ++ ys) (sym g.text ∙ sym (append-nil new.open_text)) in
+    ap (λ (ys : List ℕ). ys ++ xs) (parts old bytes s g.old_runs) ∙ append_assoc s.before old.open_text xs
+    ∙ ap (λ (ys : List ℕ). s.before ++ ys) (sym g.text ∙ sym (append-nil new.open_text)) in
     record {
       before = s.before;
       more = [];
@@ -103,7 +108,8 @@ pub record Breaks (old new : Lexing) (xs : List ℕ) : Type 0 where
 pub breaks : (old new : Lexing) (xs : List ℕ) → Breaks old new xs → (bytes : List ℕ) → StandsFor old bytes → StandsFor new (bytes ++ xs)
 breaks old new xs g bytes s =
     let w : bytes ++ xs ≡ s.before ++ (new.open_text ++ xs) =
-    ap (λ (ys : List ℕ). ys ++ xs) (parts old bytes s g.old_runs) ∙ append_assoc s.before old.open_text xs ∙ ap (λ (ys : List ℕ). s.before ++ (ys ++ xs)) (sym g.text) in
+    ap (λ (ys : List ℕ). ys ++ xs) (parts old bytes s g.old_runs) ∙ append_assoc s.before old.open_text xs
+    ∙ ap (λ (ys : List ℕ). s.before ++ (ys ++ xs)) (sym g.text) in
     record {
       before = s.before;
       more = xs;
@@ -130,14 +136,22 @@ stays v xs f bytes s =
     record {
       before = s.before;
       more = s.more ++ xs;
-      whole = ap (λ (ys : List ℕ). ys ++ xs) s.whole ∙ append_assoc s.before (v.open_text ++ s.more) xs ∙ ap (λ (ys : List ℕ). s.before ++ ys) (append_assoc v.open_text s.more xs);
+      whole = ap (λ (ys : List ℕ). ys ++ xs) s.whole ∙ append_assoc s.before (v.open_text ++ s.more) xs
+          ∙ ap (λ (ys : List ℕ). s.before ++ ys) (append_assoc v.open_text s.more xs);
       fresh = s.fresh;
       short = s.short;
       dark = s.dark;
       fits = s.fits;
       begin = s.begin;
       running = λ h. absurd (let e : true ≡ false = sym f ∙ h in cc);
-      too_long = λ _. record { next = g.next; rest = g.rest ++ xs; is = ap (λ (ys : List ℕ). ys ++ xs) g.is ∙ append_assoc g.next g.rest xs; dark = g.dark; long = g.long };
+      too_long = λ _. record {
+        next = g.next;
+        rest = g.rest ++ xs;
+        is = ap (λ (ys : List ℕ). ys ++ xs) g.is ∙ append_assoc g.next g.rest xs;
+        dark =
+            g.dark;
+        long = g.long;
+      };
     }
 
 first-is : (at : ℕ) (text rest : List ℕ) → Dark text → 65536 < length text → first_long (tokens_from true at (text ++ rest)) ≡ Some at
@@ -152,7 +166,9 @@ first-is at (b ∷ xs) rest d n =
 pub long-now : (v : Lexing) (bytes : List ℕ) → StandsFor v bytes → v.failed ≡ true → first_long (tokens bytes) ≡ Some v.begin
 long-now v bytes s f =
     let g : GoesOn v.open_text s.more = s.too_long f in
-    let w : bytes ≡ s.before ++ ((v.open_text ++ g.next) ++ g.rest) = s.whole ∙ ap (λ (ys : List ℕ). s.before ++ (v.open_text ++ ys)) g.is ∙ ap (λ (ys : List ℕ). s.before ++ ys) (sym (append_assoc v.open_text g.next g.rest)) in
+    let w : bytes ≡ s.before ++ ((v.open_text ++ g.next) ++ g.rest) =
+    s.whole ∙ ap (λ (ys : List ℕ). s.before ++ (v.open_text ++ ys)) g.is
+    ∙ ap (λ (ys : List ℕ). s.before ++ ys) (sym (append_assoc v.open_text g.next g.rest)) in
     ap (λ (ys : List ℕ). first_long (tokens ys)) w
     ∙ ap first_long (tokens-cut true 0 s.before ((v.open_text ++ g.next) ++ g.rest) s.fresh)
     ∙ long-append (tokens s.before) _ s.short
@@ -165,7 +181,8 @@ unfolding grows
 grows-closed old new xs g bytes s = closed-now new (bytes ++ xs) (grows old new xs g bytes s) g.new_runs ∙ sym (closed-now old bytes s g.old_runs)
 
 -- white space ends the open token, if there is one
-pub ends-closed : (old new : Lexing) (ws : List ℕ) → Ends old new ws → (bytes : List ℕ) → StandsFor old bytes → closed (bytes ++ ws) ≡ closed bytes ++ one old.begin old.open_text
+pub ends-closed : (old new : Lexing) (ws : List ℕ) → Ends old new ws → (bytes : List ℕ) → StandsFor old bytes
+    → closed (bytes ++ ws) ≡ closed bytes ++ one old.begin old.open_text
 unfolding ends
 ends-closed old new ws g bytes s =
     closed-now new (bytes ++ ws) (ends old new ws g bytes s) g.new_runs
@@ -178,7 +195,8 @@ one-kept at [] e = absurd (omega (arith, e))
 one-kept at (c ∷ xs) e = rw (lt-ltb 65536 (length (c ∷ xs)) e) refl
 
 -- byte 65,537 settles its token
-pub breaks-closed : (old new : Lexing) (xs : List ℕ) → Breaks old new xs → (bytes : List ℕ) → StandsFor old bytes → closed (bytes ++ xs) ≡ closed bytes ++ token old.begin (old.open_text ++ xs) ∷ []
+pub breaks-closed : (old new : Lexing) (xs : List ℕ) → Breaks old new xs → (bytes : List ℕ) → StandsFor old bytes
+    → closed (bytes ++ xs) ≡ closed bytes ++ token old.begin (old.open_text ++ xs) ∷ []
 breaks-closed old new xs g bytes s =
     let n : 65536 < length (old.open_text ++ xs) = omega (arith, length-append old.open_text xs, g.long) in
     ap (λ (ys : List ℕ). closed (ys ++ xs)) (parts old bytes s g.old_runs) ∙ ap closed (append_assoc s.before old.open_text xs)

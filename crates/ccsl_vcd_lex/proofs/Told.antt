@@ -53,7 +53,8 @@ ends-one old new ws g some fits = record {
 pub ends-none : (old new : Lexing) (ws : List ℕ) → Ends old new ws → old.open_text ≡ [] → Told old new ws []
 ends-none old new ws g none = record {
   stands = ends old new ws g;
-  settles = λ bytes s. more-said bytes (bytes ++ ws) [] [] (ends-closed old new ws g bytes s ∙ ap (λ (text : List ℕ). closed bytes ++ one old.begin text) none) refl;
+  settles = λ bytes s. more-said bytes (bytes ++ ws) [] [] (ends-closed old new ws g bytes s ∙ ap (λ (text : List ℕ). closed bytes ++ one old.begin text) none)
+      refl;
   short = λ bytes s. short-now new (bytes ++ ws) (ends old new ws g bytes s) g.new_runs;
 }
 
@@ -70,7 +71,8 @@ goes-past old new xs g =
     record {
       stands = breaks old new xs g;
       long = λ bytes s. long-now new (bytes ++ xs) (breaks old new xs g bytes s) g.new_failed ∙ ap (λ (k : ℕ). Some k) g.begin;
-      broke = λ bytes s _. more-said bytes (bytes ++ xs) _ _ (breaks-closed old new xs g bytes s) (ap (λ (h : Heard). h ∷ []) (long-word old.begin (old.open_text ++ xs) n));
+      broke = λ bytes s _. more-said bytes (bytes ++ xs) _ _ (breaks-closed old new xs g bytes s)
+          (ap (λ (h : Heard). h ∷ []) (long-word old.begin (old.open_text ++ xs) n));
     }
 
 -- a token was too long before

@@ -51,7 +51,8 @@ skipped old new ws e f none w some = record {
   some = some;
 }
 
-pub ended : (old new : Lexing) (b : ℕ) → new ≡ record old { begin = old.begin + length old.open_text + 1; open_text = []; last = old.open_text } → old.failed ≡ false
+pub ended : (old new : Lexing) (b : ℕ) → new ≡ record old { begin = old.begin + length old.open_text + 1; open_text = []; last = old.open_text }
+    → old.failed ≡ false
     → is_white b ≡ true → Ends old new (b ∷ [])
 ended old new b e f w = record {
   begin = ap (λ (v : Lexing). v.begin) e;

@@ -1,5 +1,6 @@
 -- What is kept of a body, token by token.
-use Rattle.std.proofs.Common.{◌≡◌, ℕ, ◌≤◌, ◌<◌, List, [], ◌∷◌, ◌++◌, Bool, true, false, Some, None, Result, Ok, Err, nat_lt, cond, refl, sym, ap, ◌∙◌, append_assoc, arith, map, subst, filter}
+use Rattle.std.proofs.Common.{◌≡◌, ℕ, ◌≤◌, ◌<◌, List, [], ◌∷◌, ◌++◌, Bool, true, false, Some, None, Result, Ok, Err, nat_lt, cond, refl, sym, ap, ◌∙◌}
+use Rattle.std.proofs.Common.{append_assoc, arith, map, subst, filter}
 use Rattle.std.specs.Prelude.{bytes_eq, codes, is_some}
 use Rattle.std.proofs.lemmas.List.{append-nil}
 use Rattle.std.proofs.lemmas.Bool.{ltb-true, ltb-false}
@@ -41,7 +42,8 @@ complete-is b st s = ap complete s.told ∙ rows-done b.binding.bound b.present 
 -- the row of the present time is the one that is given out
 pub row-given : (b : Body) (st : Story) (s : Shows b st) → row_now b.binding.bound b.present s.cur s.old ≡ row_of b
 row-given b st s =
-    let e : map (λ x. x.clock) (filter (Rattle.ccsl_vcd.specs.Rows.ticks s.cur s.old) b.binding.bound) ≡ ticking b.marks = ticking-marks b.binding.codes s.old s.cur b.binding.bound ∙ ap ticking (sym s.marks) in
+    let e : map (λ x. x.clock) (filter (Rattle.ccsl_vcd.specs.Rows.ticks s.cur s.old) b.binding.bound) ≡ ticking b.marks =
+    ticking-marks b.binding.codes s.old s.cur b.binding.bound ∙ ap ticking (sym s.marks) in
     ap (λ (ts : List ℕ). filter has_ticks (record { time = b.present; ticks = ts } ∷ [])) e
 
 -- a refusal
@@ -53,7 +55,9 @@ same-rows b c st next s t e f =
     complete-is c next t ∙ ap (λ v. rows v.bound t.old) e ∙ ap (rows b.binding.bound) f ∙ sym (complete-is b st s) ∙ sym (append-nil (complete st))
 
 -- a token without a change, at the same time
-quiet : (b : Body) (st : Story) (s : Shows b st) (a : Amid) (d : Bool) → Shows (record b { amid = a; dumping = d }) (told (s.old ++ s.cur) (p.body (place_of b s.declared)) (p.goes (p.body (place_of (record b { amid = a; dumping = d }) s.declared)) []))
+quiet : (b : Body) (st : Story) (s : Shows b st) (a : Amid) (d : Bool)
+    → Shows (record b { amid = a; dumping = d })
+    (told (s.old ++ s.cur) (p.body (place_of b s.declared)) (p.goes (p.body (place_of (record b { amid = a; dumping = d }) s.declared)) []))
 quiet b st s a d = record {
   declared = s.declared;
   old = s.old;
@@ -66,7 +70,9 @@ quiet b st s a d = record {
   marks = s.marks;
 }
 
-goes-quiet : (b : Body) (st : Story) (s : Shows b st) (a : Amid) (d : Bool) → Hears st (told (s.old ++ s.cur) (p.body (place_of b s.declared)) (p.goes (p.body (place_of (record b { amid = a; dumping = d }) s.declared)) [])) (Ok (record b { amid = a; dumping = d }, []))
+goes-quiet : (b : Body) (st : Story) (s : Shows b st) (a : Amid) (d : Bool)
+    → Hears st (told (s.old ++ s.cur) (p.body (place_of b s.declared)) (p.goes (p.body (place_of (record b { amid = a; dumping = d }) s.declared)) []))
+    (Ok (record b { amid = a; dumping = d }, []))
 unfolding quiet
 goes-quiet b st s a d = (quiet b st s a d, same-rows b _ st _ s (quiet b st s a d) refl refl)
 
@@ -90,7 +96,9 @@ abbrev after_change : Body → ℕ → Bool → Body
 after_change b n one = record b { amid = Changes; marks = map (put n one b.dumping) b.marks }
 
 change : (b : Body) (st : Story) (s : Shows b st) (code : List ℕ) (one : Bool) (n : ℕ) → number_of code b.binding.codes ≡ Some n
-    → Shows (after_change b n one) (told (s.old ++ s.cur) (p.body (place_of b s.declared)) (p.goes (p.body (record (place_of b s.declared) { amid = p.changes })) (change_at b code one ∷ [])))
+    → Shows (after_change b n one)
+    (told (s.old ++ s.cur) (p.body (place_of b s.declared))
+    (p.goes (p.body (record (place_of b s.declared) { amid = p.changes })) (change_at b code one ∷ [])))
 change b st s code one n e = record {
   declared = s.declared;
   old = s.old;
@@ -108,21 +116,29 @@ declared-so : (b : Body) (st : Story) (s : Shows b st) (code : List ℕ) → is_
 declared-so b st s code = declared-number s.declared code ∙ ap (λ cs. is_some (number_of code cs)) (sym s.codes)
 
 changed : (b : Body) (st : Story) (s : Shows b st) (at : ℕ) (text code : List ℕ) (one : Bool)
-    → Hears st (told (s.old ++ s.cur) (p.body (place_of b s.declared)) (Rattle.ccsl_vcd.specs.Body.changed (place_of b s.declared) (token at text) code one)) (changed_says b at code one)
+    → Hears st (told (s.old ++ s.cur) (p.body (place_of b s.declared)) (Rattle.ccsl_vcd.specs.Body.changed (place_of b s.declared) (token at text) code one))
+    (changed_says b at code one)
 unfolding change
 changed b st s at text code one =
-    (elim (number_of code b.binding.codes) as (λ o. number_of code b.binding.codes ≡ o → Hears st (told (s.old ++ s.cur) (p.body (place_of b s.declared)) (Rattle.ccsl_vcd.specs.Body.changed (place_of b s.declared) (token at text) code one)) (put_number b at one o)) [
+    (elim (number_of code b.binding.codes) as (λ o. number_of code b.binding.codes ≡ o
+    → Hears st (told (s.old ++ s.cur) (p.body (place_of b s.declared))
+    (Rattle.ccsl_vcd.specs.Body.changed (place_of b s.declared) (token at text) code one)) (put_number b at one o)) [
       | Some n ↦ λ e. rw (declared-so b st s code ∙ ap is_some e) (some n e)
       | None ↦ λ e. rw (declared-so b st s code ∙ ap is_some e) (refuses b st s (faults.UnknownCode at))
     ]) refl
   where
-    some : (n : ℕ) → number_of code b.binding.codes ≡ Some n → Hears st (told (s.old ++ s.cur) (p.body (place_of b s.declared)) (p.goes (p.body (record (place_of b s.declared) { amid = p.changes })) (change_at b code one ∷ []))) (Ok (after_change b n one, []))
+    some : (n : ℕ) → number_of code b.binding.codes ≡ Some n
+        → Hears st (told (s.old ++ s.cur) (p.body (place_of b s.declared))
+        (p.goes (p.body (record (place_of b s.declared) { amid = p.changes })) (change_at b code one ∷ []))) (Ok (after_change b n one, []))
     some n e = (change b st s code one n e, same-rows b _ st _ s (change b st s code one n e) refl refl)
 
 skipped : (b : Body) (st : Story) (s : Shows b st) (at : ℕ) (code : List ℕ)
-    → Hears st (told (s.old ++ s.cur) (p.body (place_of b s.declared)) (body_says (place_of b s.declared) (token at code) p.code_skipped)) (skipped_says b at code)
+    → Hears st (told (s.old ++ s.cur) (p.body (place_of b s.declared)) (body_says (place_of b s.declared) (token at code) p.code_skipped))
+    (skipped_says b at code)
 skipped b st s at code =
-    (elim (number_of code b.binding.codes) as (λ o. number_of code b.binding.codes ≡ o → Hears st (told (s.old ++ s.cur) (p.body (place_of b s.declared)) (body_says (place_of b s.declared) (token at code) p.code_skipped)) (pass_number b at o)) [
+    (elim (number_of code b.binding.codes) as (λ o. number_of code b.binding.codes ≡ o
+    → Hears st (told (s.old ++ s.cur) (p.body (place_of b s.declared)) (body_says (place_of b s.declared) (token at code) p.code_skipped))
+    (pass_number b at o)) [
       | Some n ↦ λ e. rw (declared-so b st s code ∙ ap is_some e) (goes-quiet b st s Changes b.dumping)
       | None ↦ λ e. rw (declared-so b st s code ∙ ap is_some e) (refuses b st s (faults.UnknownCode at))
     ]) refl
@@ -146,19 +162,22 @@ later b st s n h = record {
 }
 
 later-rows : (b : Body) (st : Story) (s : Shows b st) (n : ℕ) → b.present < n
-    → complete (told (s.old ++ s.cur) (p.body (place_of b s.declared)) (p.goes (p.body (record (place_of b s.declared) { now = n })) [])) ≡ complete st ++ row_of b
+    → complete (told (s.old ++ s.cur) (p.body (place_of b s.declared)) (p.goes (p.body (record (place_of b s.declared) { now = n })) [])) ≡ complete st
+    ++ row_of b
 unfolding later
 later-rows b st s n h =
     complete-is (at_time b n) _ (later b st s n h) ∙ rows-all b.binding.bound b.present s.old s.cur s.earlier s.current
     ∙ ap (λ rs. rows b.binding.bound s.old ++ rs) (row-given b st s) ∙ ap (λ rs. rs ++ row_of b) (sym (complete-is b st s))
 
 -- the present time once more
-again : (b : Body) (st : Story) (s : Shows b st) (n : ℕ) → n ≡ b.present → Shows b (told (s.old ++ s.cur) (p.body (place_of b s.declared)) (p.goes (p.body (record (place_of b s.declared) { now = n })) []))
+again : (b : Body) (st : Story) (s : Shows b st) (n : ℕ) → n ≡ b.present
+    → Shows b (told (s.old ++ s.cur) (p.body (place_of b s.declared)) (p.goes (p.body (record (place_of b s.declared) { now = n })) []))
 again b st s n e = record {
   declared = s.declared;
   old = s.old;
   cur = s.cur;
-  told = ap (λ cs. record { changes = cs; place = p.body (record (place_of b s.declared) { now = n }); fault = None }) (append-nil (s.old ++ s.cur)) ∙ ap (λ m. record { changes = s.old ++ s.cur; place = p.body (record (place_of b s.declared) { now = m }); fault = None }) e;
+  told = ap (λ cs. record { changes = cs; place = p.body (record (place_of b s.declared) { now = n }); fault = None }) (append-nil (s.old ++ s.cur))
+      ∙ ap (λ m. record { changes = s.old ++ s.cur; place = p.body (record (place_of b s.declared) { now = m }); fault = None }) e;
   earlier = s.earlier;
   current = s.current;
   codes = s.codes;
@@ -171,18 +190,24 @@ timed : (b : Body) (st : Story) (s : Shows b st) (at : ℕ) (text : List ℕ) (n
 unfolding again
 timed b st s at text n =
     (elim (nat_lt n b.present) as (λ v. nat_lt n b.present ≡ v
-    → Hears st (told (s.old ++ s.cur) (p.body (place_of b s.declared)) (cond v (p.refused (faults.TimeBack at b.present n)) (p.goes (p.body (record (place_of b s.declared) { now = n })) [])))
+    → Hears st (told (s.old ++ s.cur) (p.body (place_of b s.declared))
+    (cond v (p.refused (faults.TimeBack at b.present n)) (p.goes (p.body (record (place_of b s.declared) { now = n })) [])))
     (cond v (Err (faults.TimeBack at b.present n)) (cond (nat_lt b.present n) (Ok (at_time b n, row_of b)) (Ok (b, []))))) [
       | true ↦ λ _. refuses b st s (faults.TimeBack at b.present n)
       | false ↦ λ e. onward e
     ]) refl
   where
-    same : n ≡ b.present → Hears st (told (s.old ++ s.cur) (p.body (place_of b s.declared)) (p.goes (p.body (record (place_of b s.declared) { now = n })) [])) (Ok (b, []))
+    same : n ≡ b.present → Hears st (told (s.old ++ s.cur) (p.body (place_of b s.declared)) (p.goes (p.body (record (place_of b s.declared) { now = n })) []))
+        (Ok (b, []))
     same e = (again b st s n e, same-rows b b st _ s (again b st s n e) refl refl)
 
-    onward : nat_lt n b.present ≡ false → Hears st (told (s.old ++ s.cur) (p.body (place_of b s.declared)) (p.goes (p.body (record (place_of b s.declared) { now = n })) [])) (cond (nat_lt b.present n) (Ok (at_time b n, row_of b)) (Ok (b, [])))
+    onward : nat_lt n b.present ≡ false
+        → Hears st (told (s.old ++ s.cur) (p.body (place_of b s.declared)) (p.goes (p.body (record (place_of b s.declared) { now = n })) []))
+        (cond (nat_lt b.present n) (Ok (at_time b n, row_of b)) (Ok (b, [])))
     onward e =
-        (elim (nat_lt b.present n) as (λ v. nat_lt b.present n ≡ v → Hears st (told (s.old ++ s.cur) (p.body (place_of b s.declared)) (p.goes (p.body (record (place_of b s.declared) { now = n })) [])) (cond v (Ok (at_time b n, row_of b)) (Ok (b, [])))) [
+        (elim (nat_lt b.present n) as (λ v. nat_lt b.present n ≡ v
+        → Hears st (told (s.old ++ s.cur) (p.body (place_of b s.declared)) (p.goes (p.body (record (place_of b s.declared) { now = n })) []))
+        (cond v (Ok (at_time b n, row_of b)) (Ok (b, [])))) [
           | true ↦ λ g. (later b st s n (ltb-true _ _ g), later-rows b st s n (ltb-true _ _ g))
           | false ↦ λ g.
               let above : b.present ≤ n = ltb-false n b.present e in
@@ -192,25 +217,34 @@ timed b st s at text n =
         ]) refl
 
 -- a dump block opens or closes
-opened : (b : Body) (st : Story) (s : Shows b st) (at : ℕ) (text : List ℕ) → Hears st (told (s.old ++ s.cur) (p.body (place_of b s.declared)) (change_says (place_of b s.declared) (token at text) w.dump)) (word_says b at w.dump)
+opened : (b : Body) (st : Story) (s : Shows b st) (at : ℕ) (text : List ℕ)
+    → Hears st (told (s.old ++ s.cur) (p.body (place_of b s.declared)) (change_says (place_of b s.declared) (token at text) w.dump)) (word_says b at w.dump)
 opened b st s at text =
-    elim b.dumping as (λ d. Hears st (told (s.old ++ s.cur) (p.body (place_of b s.declared)) (cond d (p.refused (faults.UnknownCommand at)) (p.goes (p.body (record (place_of b s.declared) { dumping = true })) [])))
+    elim b.dumping as (λ d. Hears st
+    (told (s.old ++ s.cur) (p.body (place_of b s.declared))
+    (cond d (p.refused (faults.UnknownCommand at)) (p.goes (p.body (record (place_of b s.declared) { dumping = true })) [])))
     (cond d (Err (faults.UnknownCommand at)) (Ok (record b { dumping = true }, [])))) [
       | true ↦ refuses b st s (faults.UnknownCommand at)
       | false ↦ goes-quiet b st s b.amid true
     ]
 
-closed : (b : Body) (st : Story) (s : Shows b st) (at : ℕ) (text : List ℕ) → Hears st (told (s.old ++ s.cur) (p.body (place_of b s.declared)) (change_says (place_of b s.declared) (token at text) w.close)) (word_says b at w.close)
+closed : (b : Body) (st : Story) (s : Shows b st) (at : ℕ) (text : List ℕ)
+    → Hears st (told (s.old ++ s.cur) (p.body (place_of b s.declared)) (change_says (place_of b s.declared) (token at text) w.close)) (word_says b at w.close)
 closed b st s at text =
-    elim b.dumping as (λ d. Hears st (told (s.old ++ s.cur) (p.body (place_of b s.declared)) (cond d (p.goes (p.body (record (place_of b s.declared) { dumping = false })) []) (p.refused (faults.UnknownCommand at))))
+    elim b.dumping as (λ d. Hears st
+    (told (s.old ++ s.cur) (p.body (place_of b s.declared))
+    (cond d (p.goes (p.body (record (place_of b s.declared) { dumping = false })) []) (p.refused (faults.UnknownCommand at))))
     (cond d (Ok (record b { dumping = false }, [])) (Err (faults.UnknownCommand at)))) [
       | true ↦ goes-quiet b st s b.amid false
       | false ↦ refuses b st s (faults.UnknownCommand at)
     ]
 
-gap : (b : Body) (st : Story) (s : Shows b st) (at : ℕ) (text : List ℕ) → Hears st (told (s.old ++ s.cur) (p.body (place_of b s.declared)) (change_says (place_of b s.declared) (token at text) w.gap)) (word_says b at w.gap)
+gap : (b : Body) (st : Story) (s : Shows b st) (at : ℕ) (text : List ℕ)
+    → Hears st (told (s.old ++ s.cur) (p.body (place_of b s.declared)) (change_says (place_of b s.declared) (token at text) w.gap)) (word_says b at w.gap)
 gap b st s at text =
-    elim b.dumping as (λ d. Hears st (told (s.old ++ s.cur) (p.body (place_of b s.declared)) (cond d (p.refused (faults.UnknownCommand at)) (p.refused (faults.Gap at)))) (cond d (Err (faults.UnknownCommand at)) (Err (faults.Gap at)))) [
+    elim b.dumping as (λ d. Hears st
+    (told (s.old ++ s.cur) (p.body (place_of b s.declared)) (cond d (p.refused (faults.UnknownCommand at)) (p.refused (faults.Gap at))))
+    (cond d (Err (faults.UnknownCommand at)) (Err (faults.Gap at)))) [
       | true ↦ refuses b st s (faults.UnknownCommand at)
       | false ↦ refuses b st s (faults.Gap at)
     ]
@@ -230,9 +264,14 @@ says-word b st s at text w.bad_change = refuses b st s (faults.BadChange at)
 says-word b st s at text w.unknown = refuses b st s (faults.UnknownCommand at)
 
 says-remark : (b : Body) (st : Story) (s : Shows b st) (at : ℕ) (text : List ℕ)
-    → Hears st (told (s.old ++ s.cur) (p.body (place_of b s.declared)) (cond (bytes_eq text (codes "$end")) (p.goes (p.body (record (place_of b s.declared) { amid = p.changes })) []) (p.goes (p.body (place_of b s.declared)) []))) (remark_says b text)
+    → Hears st (told (s.old ++ s.cur) (p.body (place_of b s.declared))
+    (cond (bytes_eq text (codes "$end")) (p.goes (p.body (record (place_of b s.declared) { amid = p.changes })) [])
+    (p.goes (p.body (place_of b s.declared)) []))) (remark_says b text)
 says-remark b st s at text =
-    elim (bytes_eq text (codes "$end")) as (λ v. Hears st (told (s.old ++ s.cur) (p.body (place_of b s.declared)) (cond v (p.goes (p.body (record (place_of b s.declared) { amid = p.changes })) []) (p.goes (p.body (place_of b s.declared)) []))) (cond v (Ok (record b { amid = Changes }, [])) (Ok (b, [])))) [
+    elim (bytes_eq text (codes "$end")) as (λ v. Hears st
+    (told (s.old ++ s.cur) (p.body (place_of b s.declared))
+    (cond v (p.goes (p.body (record (place_of b s.declared) { amid = p.changes })) []) (p.goes (p.body (place_of b s.declared)) [])))
+    (cond v (Ok (record b { amid = Changes }, [])) (Ok (b, [])))) [
       | true ↦ goes-quiet b st s Changes b.dumping
       | false ↦ goes-quiet b st s b.amid b.dumping
     ]
@@ -245,7 +284,8 @@ hears-amid b st s at text (Code one) = changed b st s at text text one
 hears-amid b st s at text CodeSkipped = skipped b st s at text
 
 -- Each token makes of what is kept what it makes of the story.
-pub hears : (wanted : Wanted) (limits : Limits) (b : Body) (st : Story) (s : Shows b st) (at : ℕ) (text : List ℕ) → Hears st (next wanted limits st (word (token at text))) (hear_of b at text)
+pub hears : (wanted : Wanted) (limits : Limits) (b : Body) (st : Story) (s : Shows b st) (at : ℕ) (text : List ℕ)
+    → Hears st (next wanted limits st (word (token at text))) (hear_of b at text)
 unfolding says
 hears wanted limits b st s at text =
     subst (λ (x : Story). Hears st (next wanted limits x (word (token at text))) (hear_of b at text)) (sym s.told) (hears-amid b st s at text b.amid)

@@ -24,7 +24,8 @@ Calm (Err f) = NotMemory f
 
 calm-time : (b : Body) (at n : ℕ) → Calm (time_says b at n)
 calm-time b at n =
-    elim (nat_lt n b.present) as (λ v. Calm (cond v (Err (faults.TimeBack at b.present n)) (cond (nat_lt b.present n) (Ok (at_time b n, row_of b)) (Ok (b, []))))) [
+    elim (nat_lt n b.present) as (λ v. Calm
+    (cond v (Err (faults.TimeBack at b.present n)) (cond (nat_lt b.present n) (Ok (at_time b n, row_of b)) (Ok (b, []))))) [
       | true ↦ tt
       | false ↦ elim (nat_lt b.present n) as (λ v. Calm (cond v (Ok (at_time b n, row_of b)) (Ok (b, [])))) [ true ↦ tt | false ↦ tt ]
     ]
@@ -41,16 +42,21 @@ calm-word b at (w.scalar one code) = calm-changed b at code one
 calm-word b at (w.vector one) = tt
 calm-word b at w.skipped = tt
 calm-word b at w.comment = tt
-calm-word b at w.dump = elim b.dumping as (λ v. Calm (cond v (Err (faults.UnknownCommand at)) (Ok (record b { dumping = true }, [])))) [ true ↦ tt | false ↦ tt ]
+calm-word b at w.dump = elim b.dumping as (λ v. Calm (cond v (Err (faults.UnknownCommand at)) (Ok (record b { dumping = true }, [])))) [
+  | true ↦ tt
+  | false ↦ tt
+]
 calm-word b at w.gap = elim b.dumping as (λ v. Calm (cond v (Err (faults.UnknownCommand at)) (Err (faults.Gap at)))) [ true ↦ tt | false ↦ tt ]
-calm-word b at w.close = elim b.dumping as (λ v. Calm (cond v (Ok (record b { dumping = false }, [])) (Err (faults.UnknownCommand at)))) [ true ↦ tt | false ↦ tt ]
+calm-word b at w.close =
+    elim b.dumping as (λ v. Calm (cond v (Ok (record b { dumping = false }, [])) (Err (faults.UnknownCommand at)))) [ true ↦ tt | false ↦ tt ]
 calm-word b at w.bad_time = tt
 calm-word b at w.bad_change = tt
 calm-word b at w.unknown = tt
 
 calm-at : (b : Body) (at : ℕ) (text : List ℕ) (a : Amid) → Calm (hear_at b at text a)
 calm-at b at text Changes = calm-word b at (w.word_of text)
-calm-at b at text Remark = elim (bytes_eq text (codes "$end")) as (λ v. Calm (cond v (Ok (record b { amid = Changes }, [])) (Ok (b, [])))) [ true ↦ tt | false ↦ tt ]
+calm-at b at text Remark =
+    elim (bytes_eq text (codes "$end")) as (λ v. Calm (cond v (Ok (record b { amid = Changes }, [])) (Ok (b, [])))) [ true ↦ tt | false ↦ tt ]
 calm-at b at text (Code one) = calm-changed b at text one
 calm-at b at text CodeSkipped = calm-skipped b at text
 
@@ -62,7 +68,8 @@ pub body-calm : (f : VcdFault) (b c : Body) (at : ℕ) (text : List ℕ) (old ne
 body-calm f b c at text old new s = says-calm (hear_of b at text) f b c old new (calm-at b at text b.amid) s
 
 -- a reader that is past the header, and a part of a piece further
-pub calm-of : (wanted : Wanted) (v : Reading) (bytes : List ℕ) (f : VcdFault) → v.fault ≡ None → StandsFor wanted v bytes → (is_body v.stage ≡ true → NotMemory f) → IsCalm wanted v.limits bytes f
+pub calm-of : (wanted : Wanted) (v : Reading) (bytes : List ℕ) (f : VcdFault) → v.fault ≡ None → StandsFor wanted v bytes
+    → (is_body v.stage ≡ true → NotMemory f) → IsCalm wanted v.limits bytes f
 calm-of wanted v bytes f e s h p = h (sym (runs-past wanted v bytes (running-of wanted v bytes e s)) ∙ p)
 
 pub piece-calm : {start now : Reading} {before mid : RowList} {piece : List ℕ} {i : ℕ} (f : VcdFault) → Takes start now piece i false before mid →

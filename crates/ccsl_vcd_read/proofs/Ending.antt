@@ -1,5 +1,6 @@
 -- The end of a trace.
-use Rattle.std.proofs.Common.{◌≡◌, ℕ, ◌+◌, ◌-◌, ◌≤◌, List, [], ◌∷◌, ◌++◌, length, Bool, true, false, cond, Option, Some, None, refl, sym, ap, ◌∙◌, subst, append_assoc, arith, length-append}
+use Rattle.std.proofs.Common.{◌≡◌, ℕ, ◌+◌, ◌-◌, ◌≤◌, List, [], ◌∷◌, ◌++◌, length, Bool, true, false, cond, Option, Some, None, refl, sym, ap, ◌∙◌, subst}
+use Rattle.std.proofs.Common.{append_assoc, arith, length-append}
 use Rattle.std.specs.Prelude.{IfNone, IfSome}
 use Rattle.std.proofs.lemmas.List.{append-nil}
 use Rattle.std.proofs.lemmas.Bool.{le-ltb}
@@ -24,13 +25,16 @@ use Rattle.ccsl_vcd_read.proofs.BodyPictures.{complete-is, row-given}
 use Rattle.ccsl_vcd_read.proofs.StagePictures.{caused-map, row-short}
 use Rattle.ccsl_vcd_read.proofs.Taking.{stopped-is, done-within, no-fault, same-shown, so_far-within}
 
-pub reading-within : (wanted : Wanted) (limits : Limits) (bytes : List ℕ) → length bytes ≤ limits.bytes → reading wanted limits bytes ≡ ends_at (length bytes) (story wanted limits (heard bytes))
+pub reading-within : (wanted : Wanted) (limits : Limits) (bytes : List ℕ) → length bytes ≤ limits.bytes
+    → reading wanted limits bytes ≡ ends_at (length bytes) (story wanted limits (heard bytes))
 unfolding reading
 reading-within wanted limits bytes h = rw (le-ltb limits.bytes (length bytes) h) refl
 
-pub end-shown : (wanted : Wanted) (v new : Reading) (bytes : List ℕ) (old rows : List Row) → AtEnd wanted v new bytes old rows → shown new.stage ≡ shown_at (reading wanted v.limits bytes).place
+pub end-shown : (wanted : Wanted) (v new : Reading) (bytes : List ℕ) (old rows : List Row) → AtEnd wanted v new bytes old rows
+    → shown new.stage ≡ shown_at (reading wanted v.limits bytes).place
 end-shown wanted v new bytes old rows a =
-    same-shown wanted v.limits new.stage (story wanted v.limits (heard bytes)) a.pictures ∙ sym (ap (λ (x : Story). shown_at x.place) (reading-within wanted v.limits bytes a.within))
+    same-shown wanted v.limits new.stage (story wanted v.limits (heard bytes)) a.pictures
+    ∙ sym (ap (λ (x : Story). shown_at x.place) (reading-within wanted v.limits bytes a.within))
 
 pub one-left : (s : Stage) → length (row_left s) ≤ 1
 one-left (stage.Header h) = omega arith
@@ -38,11 +42,13 @@ one-left (stage.Body b) = row-short b
 one-left stage.Unbound = omega arith
 
 -- No token was open.
-pub quiet-end : (wanted : Wanted) (v new : Reading) (bytes : List ℕ) (rows : List Row) → Running wanted v bytes → heard bytes ≡ settled bytes ++ [] → new.stage ≡ v.stage → new.rows ≡ v.rows → AtEnd wanted v new bytes rows rows
+pub quiet-end : (wanted : Wanted) (v new : Reading) (bytes : List ℕ) (rows : List Row) → Running wanted v bytes → heard bytes ≡ settled bytes ++ []
+    → new.stage ≡ v.stage → new.rows ≡ v.rows → AtEnd wanted v new bytes rows rows
 quiet-end wanted v new bytes rows s e t r =
     let same : story wanted v.limits (heard bytes) ≡ story wanted v.limits (settled bytes) = ap (story wanted v.limits) (e ∙ append-nil (settled bytes)) in
     record {
-      pictures = subst (λ x. Pictures wanted v.limits x (story wanted v.limits (heard bytes))) (sym t) (subst (λ x. Pictures wanted v.limits v.stage x) (sym same) s.pictures);
+      pictures = subst (λ x. Pictures wanted v.limits x (story wanted v.limits (heard bytes))) (sym t)
+          (subst (λ x. Pictures wanted v.limits v.stage x) (sym same) s.pictures);
       pushes = record {
         pushed = [];
         rows = ap complete same ∙ sym (done-within wanted v.limits bytes s.within) ∙ sym (append-nil (done wanted v.limits bytes));
@@ -54,34 +60,45 @@ quiet-end wanted v new bytes rows s e t r =
     }
 
 -- The last token.
-module _ (wanted : Wanted) (v : Reading) (bytes : List ℕ) (at : ℕ) (text : List ℕ) (s : Running wanted v bytes) (e : heard bytes ≡ settled bytes ++ word (token at text) ∷ []) where
+module _ (wanted : Wanted) (v : Reading) (bytes : List ℕ) (at : ℕ) (text : List ℕ) (s : Running wanted v bytes)
+    (e : heard bytes ≡ settled bytes ++ word (token at text) ∷ []) where
   last-told : story wanted v.limits (heard bytes) ≡ next wanted v.limits (story wanted v.limits (settled bytes)) (word (token at text))
   last-told = ap (story wanted v.limits) e ∙ story-more wanted v.limits (settled bytes) (word (token at text) ∷ [])
 
-  pub word-end : (t : Stage) (ended : Bool) (old new : List Row) (w : Reading) → Heard wanted v.limits v.stage t ended (story wanted v.limits (settled bytes)) (next wanted v.limits (story wanted v.limits (settled bytes)) (word (token at text))) old new
+  pub word-end : (t : Stage) (ended : Bool) (old new : List Row) (w : Reading)
+      → Heard wanted v.limits v.stage t ended (story wanted v.limits (settled bytes))
+      (next wanted v.limits (story wanted v.limits (settled bytes)) (word (token at text))) old new
       → w.stage ≡ t → w.rows ≡ v.rows + (length new - length old) → AtEnd wanted v w bytes old new
   word-end t ended old new w h a b =
-      let total : complete (story wanted v.limits (heard bytes)) ≡ complete (story wanted v.limits (settled bytes)) ++ h.pushed = ap complete last-told ∙ h.rows in
+      let total : complete (story wanted v.limits (heard bytes)) ≡ complete (story wanted v.limits (settled bytes)) ++ h.pushed =
+      ap complete last-told ∙ h.rows in
       let len : length new ≡ length old + length h.pushed = ap length h.block ∙ length-append old h.pushed in
       let more : length new - length old ≡ length h.pushed = omega arith in
       record {
-        pictures = subst (λ x. Pictures wanted v.limits x (story wanted v.limits (heard bytes))) (sym a) (subst (λ x. Pictures wanted v.limits t x) (sym last-told) h.pictures);
+        pictures = subst (λ x. Pictures wanted v.limits x (story wanted v.limits (heard bytes))) (sym a)
+            (subst (λ x. Pictures wanted v.limits t x) (sym last-told) h.pictures);
         pushes = record { pushed = h.pushed; rows = total ∙ ap (λ rs. rs ++ h.pushed) (sym (done-within wanted v.limits bytes s.within)); block = h.block };
-        rows = b ∙ ap (λ k. v.rows + k) more ∙ ap (λ k. k + length h.pushed) s.rows ∙ sym (length-append (complete (story wanted v.limits (settled bytes))) h.pushed) ∙ ap length (sym total);
+        rows = b ∙ ap (λ k. v.rows + k) more ∙ ap (λ k. k + length h.pushed) s.rows
+            ∙ sym (length-append (complete (story wanted v.limits (settled bytes))) h.pushed) ∙ ap length (sym total);
         taken = s.taken;
         within = s.within;
       }
 
-  pub word-refused : (g : VcdFault) → Refuses g (story wanted v.limits (settled bytes)) (next wanted v.limits (story wanted v.limits (settled bytes)) (word (token at text))) → Refused wanted v bytes g
+  pub word-refused : (g : VcdFault)
+      → Refuses g (story wanted v.limits (settled bytes)) (next wanted v.limits (story wanted v.limits (settled bytes)) (word (token at text)))
+      → Refused wanted v bytes g
   word-refused g r =
       let whole : reading wanted v.limits bytes ≡ ends_at (length bytes) (next wanted v.limits (story wanted v.limits (settled bytes)) (word (token at text))) =
       reading-within wanted v.limits bytes s.within ∙ ap (ends_at (length bytes)) last-told in
       record {
-        fault = ap (λ (x : Story). x.fault) whole ∙ ap (λ (o : Option VcdFault). option_or o (at_end (length bytes) (next wanted v.limits (story wanted v.limits (settled bytes)) (word (token at text))).place)) r.fault;
+        fault = ap (λ (x : Story). x.fault) whole
+            ∙ ap (λ (o : Option VcdFault). option_or o
+            (at_end (length bytes) (next wanted v.limits (story wanted v.limits (settled bytes)) (word (token at text))).place)) r.fault;
         rows = ap complete whole ∙ r.rows ∙ sym (done-within wanted v.limits bytes s.within);
       }
 
-pub block-grows : {wanted : Wanted} {limits : Limits} {a b : Stage} {ended : Bool} {st nx : Story} {old new : List Row} → Heard wanted limits a b ended st nx old new → length old ≤ length new
+pub block-grows : {wanted : Wanted} {limits : Limits} {a b : Stage} {ended : Bool} {st nx : Story} {old new : List Row}
+    → Heard wanted limits a b ended st nx old new → length old ≤ length new
 block-grows h = let e = ap length h.block ∙ length-append _ h.pushed in omega (arith, e)
 
 -- Where a trace may end.
@@ -106,7 +123,8 @@ module _ (wanted : Wanted) (v w : Reading) (bytes : List ℕ) (old mid : List Ro
   pub truncated : ends_well w.stage ≡ false → (reading wanted v.limits bytes).fault ≡ Some (faults.Truncated (length bytes))
   truncated e =
       ap (λ (x : Story). x.fault) whole-told
-      ∙ ap (λ (o : Option VcdFault). option_or o (at_end (length bytes) (story wanted v.limits (heard bytes)).place)) (no-fault wanted v.limits w.stage (story wanted v.limits (heard bytes)) a.pictures)
+      ∙ ap (λ (o : Option VcdFault). option_or o (at_end (length bytes) (story wanted v.limits (heard bytes)).place))
+      (no-fault wanted v.limits w.stage (story wanted v.limits (heard bytes)) a.pictures)
       ∙ ap (λ v'. cond v' None (Some (faults.Truncated (length bytes)))) (same-end wanted v.limits w.stage (story wanted v.limits (heard bytes)) a.pictures ∙ e)
 
   pub cut-pushes : Pushes (done wanted v.limits bytes) (complete (reading wanted v.limits bytes)) old mid
@@ -115,7 +133,8 @@ module _ (wanted : Wanted) (v w : Reading) (bytes : List ℕ) (old mid : List Ro
   pub accepted : ends_well w.stage ≡ true → (reading wanted v.limits bytes).fault ≡ None
   accepted e =
       ap (λ (x : Story). x.fault) whole-told
-      ∙ ap (λ (o : Option VcdFault). option_or o (at_end (length bytes) (story wanted v.limits (heard bytes)).place)) (no-fault wanted v.limits w.stage (story wanted v.limits (heard bytes)) a.pictures)
+      ∙ ap (λ (o : Option VcdFault). option_or o (at_end (length bytes) (story wanted v.limits (heard bytes)).place))
+      (no-fault wanted v.limits w.stage (story wanted v.limits (heard bytes)) a.pictures)
       ∙ ap (λ v'. cond v' None (Some (faults.Truncated (length bytes)))) (same-end wanted v.limits w.stage (story wanted v.limits (heard bytes)) a.pictures ∙ e)
 
   all-rows : recorded wanted v.limits bytes ≡ complete (story wanted v.limits (heard bytes)) ++ row_left w.stage
@@ -129,17 +148,21 @@ module _ (wanted : Wanted) (v w : Reading) (bytes : List ℕ) (old mid : List Ro
     block = e ∙ ap (λ rs. rs ++ row_left w.stage) a.pushes.block ∙ append_assoc old a.pushes.pushed (row_left w.stage);
   }
 
-  pub end-counts : (new : List Row) (n taken : ℕ) → new ≡ mid ++ row_left w.stage → n ≡ w.rows + (length new - length mid) → taken ≡ v.taken → AreCounts wanted v.limits bytes n taken
+  pub end-counts : (new : List Row) (n taken : ℕ) → new ≡ mid ++ row_left w.stage → n ≡ w.rows + (length new - length mid) → taken ≡ v.taken
+      → AreCounts wanted v.limits bytes n taken
   end-counts new n taken e k t =
       let len : length new ≡ length mid + length (row_left w.stage) = ap length e ∙ length-append mid (row_left w.stage) in
       let more : length new - length mid ≡ length (row_left w.stage) = omega arith in
       record {
-        rows_are = k ∙ ap (λ j. w.rows + j) more ∙ ap (λ j. j + length (row_left w.stage)) a.rows ∙ sym (length-append (complete (story wanted v.limits (heard bytes))) (row_left w.stage)) ∙ ap length (sym all-rows);
+        rows_are = k ∙ ap (λ j. w.rows + j) more ∙ ap (λ j. j + length (row_left w.stage)) a.rows
+            ∙ sym (length-append (complete (story wanted v.limits (heard bytes))) (row_left w.stage)) ∙ ap length (sym all-rows);
         bytes_are = t ∙ a.taken;
       }
 
 -- a fault's cause, of all bytes
-pub caused-all : (P : Wanted → List ℕ → Type 0) (v : Reading) (f : VcdFault) → ((wanted : Wanted) (bytes : List ℕ) → StandsFor wanted v bytes → Caused f (P wanted bytes)) → Caused f ((wanted : Wanted) (bytes : List ℕ) → StandsFor wanted v bytes → P wanted bytes)
+pub caused-all : (P : Wanted → List ℕ → Type 0) (v : Reading) (f : VcdFault)
+    → ((wanted : Wanted) (bytes : List ℕ) → StandsFor wanted v bytes → Caused f (P wanted bytes))
+    → Caused f ((wanted : Wanted) (bytes : List ℕ) → StandsFor wanted v bytes → P wanted bytes)
 caused-all P v faults.Memory h = tt
 caused-all P v (faults.TokenTooLong a) h = h
 caused-all P v (faults.BadHeader a) h = h
@@ -160,14 +183,20 @@ caused-all P v (faults.Ambiguous a) h = h
 stopped-whole : (wanted : Wanted) (v : Reading) (f : VcdFault) (bytes : List ℕ) → Stopped wanted v f bytes → (reading wanted v.limits bytes).fault ≡ Some f
 stopped-whole wanted v f bytes s = ap (λ xs. (reading wanted v.limits xs).fault) (sym (append-nil bytes)) ∙ decided-first wanted v.limits bytes [] f s.fault
 
-pub stopped-refuses : (v : Reading) (f : VcdFault) → v.fault ≡ Some f → Caused f ((wanted : Wanted) (bytes : List ℕ) → StandsFor wanted v bytes → (reading wanted v.limits bytes).fault ≡ Some f)
-stopped-refuses v f e = caused-all (λ wanted bytes. (reading wanted v.limits bytes).fault ≡ Some f) v f (λ wanted bytes s. caused-map f (stopped-whole wanted v f bytes) (stopped-is wanted v f bytes e s))
+pub stopped-refuses : (v : Reading) (f : VcdFault) → v.fault ≡ Some f
+    → Caused f ((wanted : Wanted) (bytes : List ℕ) → StandsFor wanted v bytes → (reading wanted v.limits bytes).fault ≡ Some f)
+stopped-refuses v f e = caused-all (λ wanted bytes. (reading wanted v.limits bytes).fault ≡ Some f) v f
+    (λ wanted bytes s. caused-map f (stopped-whole wanted v f bytes) (stopped-is wanted v f bytes e s))
 
-pub stopped-shown : (v : Reading) (f : VcdFault) → v.fault ≡ Some f → Caused f ((wanted : Wanted) (bytes : List ℕ) → StandsFor wanted v bytes → shown v.stage ≡ shown_at (so_far wanted v.limits bytes).place)
-stopped-shown v f e = caused-all (λ wanted bytes. shown v.stage ≡ shown_at (so_far wanted v.limits bytes).place) v f (λ wanted bytes s. caused-map f (λ x. x.shown) (stopped-is wanted v f bytes e s))
+pub stopped-shown : (v : Reading) (f : VcdFault) → v.fault ≡ Some f
+    → Caused f ((wanted : Wanted) (bytes : List ℕ) → StandsFor wanted v bytes → shown v.stage ≡ shown_at (so_far wanted v.limits bytes).place)
+stopped-shown v f e = caused-all (λ wanted bytes. shown v.stage ≡ shown_at (so_far wanted v.limits bytes).place) v f
+    (λ wanted bytes s. caused-map f (λ x. x.shown) (stopped-is wanted v f bytes e s))
 
 pub running-shown : (wanted : Wanted) (v : Reading) (bytes : List ℕ) → Running wanted v bytes → shown v.stage ≡ shown_at (so_far wanted v.limits bytes).place
-running-shown wanted v bytes s = same-shown wanted v.limits v.stage (story wanted v.limits (settled bytes)) s.pictures ∙ sym (ap (λ (x : Story). shown_at x.place) (so_far-within wanted v.limits bytes s.within))
+running-shown wanted v bytes s =
+    same-shown wanted v.limits v.stage (story wanted v.limits (settled bytes)) s.pictures
+    ∙ sym (ap (λ (x : Story). shown_at x.place) (so_far-within wanted v.limits bytes s.within))
 
 pub when-none : {P : Type 0} (o : Option VcdFault) → (o ≡ None → P) → IfNone o P
 when-none None h = h refl
@@ -177,7 +206,8 @@ pub when-some : (o : Option VcdFault) (P : VcdFault → Type 0) → ((f : VcdFau
 when-some None P h = tt
 when-some (Some f) P h = h f refl
 
-pub refused-pushes : (wanted : Wanted) (v : Reading) (bytes : List ℕ) (f : VcdFault) (old new : List Row) → new ≡ old → Refused wanted v bytes f → Pushes (done wanted v.limits bytes) (complete (reading wanted v.limits bytes)) old new
+pub refused-pushes : (wanted : Wanted) (v : Reading) (bytes : List ℕ) (f : VcdFault) (old new : List Row) → new ≡ old → Refused wanted v bytes f
+    → Pushes (done wanted v.limits bytes) (complete (reading wanted v.limits bytes)) old new
 refused-pushes wanted v bytes f old new e r = record {
   pushed = [];
   rows = r.rows ∙ sym (append-nil (done wanted v.limits bytes));

@@ -144,12 +144,14 @@ so_far-over wanted v bytes piece s h some =
     let cut : take v.limits.bytes (bytes ++ piece) ≡ bytes = ap (λ k. take k (bytes ++ piece)) n ∙ take-append_seam bytes piece in
     rw (over, cut) refl
 
-pub over-breaks : (wanted : Wanted) (v : Reading) (bytes piece : List ℕ) (rows : List Row) → Running wanted v bytes → v.limits.bytes - v.taken ≡ 0 → 0 < length piece → Breaks wanted v bytes piece (faults.TooLong v.limits.bytes) rows rows
+pub over-breaks : (wanted : Wanted) (v : Reading) (bytes piece : List ℕ) (rows : List Row) → Running wanted v bytes → v.limits.bytes - v.taken ≡ 0
+    → 0 < length piece → Breaks wanted v bytes piece (faults.TooLong v.limits.bytes) rows rows
 unfolding done
 over-breaks wanted v bytes piece rows s h some =
     let e = so_far-over wanted v bytes piece s h some in
     record {
-      fault = ap (λ (x : Story). x.fault) e ∙ ap (λ (o : Option VcdFault). option_or o (Some (faults.TooLong v.limits.bytes))) (no-fault wanted v.limits v.stage (story wanted v.limits (settled bytes)) s.pictures);
+      fault = ap (λ (x : Story). x.fault) e ∙ ap (λ (o : Option VcdFault). option_or o (Some (faults.TooLong v.limits.bytes)))
+          (no-fault wanted v.limits v.stage (story wanted v.limits (settled bytes)) s.pictures);
       shown = same-shown wanted v.limits v.stage (story wanted v.limits (settled bytes)) s.pictures ∙ sym (ap (λ (x : Story). shown_at x.place) e);
       pushes = record {
         pushed = [];
@@ -160,7 +162,8 @@ over-breaks wanted v bytes piece rows s h some =
 
 -- A token is too long.
 
-long-next : (wanted : Wanted) (limits : Limits) (st : Story) (at : ℕ) → st.fault ≡ None → next wanted limits st (too_long at) ≡ record { changes = st.changes; place = st.place; fault = Some (faults.TokenTooLong at) }
+long-next : (wanted : Wanted) (limits : Limits) (st : Story) (at : ℕ) → st.fault ≡ None
+    → next wanted limits st (too_long at) ≡ record { changes = st.changes; place = st.place; fault = Some (faults.TokenTooLong at) }
 unfolding says
 long-next wanted limits st at e = ap (λ (o : Option VcdFault). Rattle.ccsl_vcd.specs.Reading.next_from wanted limits st.changes st.place o (too_long at)) e
 
@@ -177,14 +180,16 @@ long-breaks wanted v bytes piece cut at rows s f b =
     let st : Story = story wanted v.limits (settled bytes) in
     let none : st.fault ≡ None = no-fault wanted v.limits v.stage st s.pictures in
     let told : so_far wanted v.limits (bytes ++ take k piece) ≡ record { changes = st.changes; place = st.place; fault = Some (faults.TokenTooLong at) } =
-    so_far-within wanted v.limits (bytes ++ take k piece) fits ∙ ap (λ xs. story wanted v.limits (settled (bytes ++ xs))) (sym same) ∙ ap (story wanted v.limits) b.broke
+    so_far-within wanted v.limits (bytes ++ take k piece) fits ∙ ap (λ xs. story wanted v.limits (settled (bytes ++ xs))) (sym same)
+    ∙ ap (story wanted v.limits) b.broke
     ∙ story-more wanted v.limits (settled bytes) (too_long at ∷ []) ∙ long-next wanted v.limits st at none in
     record {
       fault = ap (λ (x : Story). x.fault) told;
       shown = same-shown wanted v.limits v.stage st s.pictures ∙ sym (ap (λ (x : Story). shown_at x.place) told);
       pushes = record {
         pushed = [];
-        rows = done-told wanted v.limits (bytes ++ take k piece) _ told ∙ sym (done-within wanted v.limits bytes s.within) ∙ sym (append-nil (done wanted v.limits bytes));
+        rows = done-told wanted v.limits (bytes ++ take k piece) _ told ∙ sym (done-within wanted v.limits bytes s.within)
+            ∙ sym (append-nil (done wanted v.limits bytes));
         block = sym (append-nil rows);
       };
     }

@@ -24,11 +24,13 @@ use Rattle.ccsl_base.proofs.Cases.{rest-is, rest_at}
 -- the bytes of a piece so far, and more of the rest
 pub more-of : (bytes piece : List ℕ) (i n : ℕ) → (bytes ++ take i piece) ++ take n (rest_at i piece) ≡ bytes ++ take (i + n) piece
 more-of bytes piece i n =
-    ap (λ xs. (bytes ++ take i piece) ++ take n xs) (rest-is i piece) ∙ append_assoc bytes (take i piece) (take n (drop i piece)) ∙ ap (λ xs. bytes ++ xs) (sym (take-add i n piece))
+    ap (λ xs. (bytes ++ take i piece) ++ take n xs) (rest-is i piece) ∙ append_assoc bytes (take i piece) (take n (drop i piece))
+    ∙ ap (λ xs. bytes ++ xs) (sym (take-add i n piece))
 
 pub rest-of : (bytes piece : List ℕ) (i : ℕ) → (bytes ++ take i piece) ++ rest_at i piece ≡ bytes ++ piece
 rest-of bytes piece i =
-    ap (λ xs. (bytes ++ take i piece) ++ xs) (rest-is i piece) ∙ append_assoc bytes (take i piece) (drop i piece) ∙ ap (λ xs. bytes ++ xs) (take-append-drop i piece)
+    ap (λ xs. (bytes ++ take i piece) ++ xs) (rest-is i piece) ∙ append_assoc bytes (take i piece) (drop i piece)
+    ∙ ap (λ xs. bytes ++ xs) (take-append-drop i piece)
 
 -- a part of the piece was taken, and there is room for a row
 pub record Passed (start now : Reading) (before after : RowList) (piece : List ℕ) (i : ℕ) : Type 0 where
@@ -102,7 +104,8 @@ module _ (start now next : Reading) (before mid after : RowList) (piece : List �
       record {
         first = sym part.header ∙ e.first;
         some = omega (arith, some);
-        before = ap (λ j. past_header wanted start.limits (bytes ++ take j piece)) k ∙ ap (past_header wanted start.limits) (sym (more-of bytes piece i (n - 1))) ∙ e.before;
+        before = ap (λ j. past_header wanted start.limits (bytes ++ take j piece)) k
+            ∙ ap (past_header wanted start.limits) (sym (more-of bytes piece i (n - 1))) ∙ e.before;
         now = ap (past_header wanted start.limits) (sym (more-of bytes piece i n)) ∙ e.now;
       }
 
@@ -145,8 +148,8 @@ takes-more {start} {now} {next} {before} {mid} {after} {piece} {i} {n} {ended} q
   took = took-more start now next before mid after piece i n ended q room t;
 }
 
-pub still-ready : {v new : Reading} {before after : RowList} {piece : List ℕ} {n : ℕ} {ended : Bool} → CanTake v before → Takes v new piece n ended before after →
-    length after.rows < after.room → CanTake new after
+pub still-ready : {v new : Reading} {before after : RowList} {piece : List ℕ} {n : ℕ} {ended : Bool} → CanTake v before → Takes v new piece n ended before after
+    → length after.rows < after.room → CanTake new after
 still-ready {piece} {n} c t room =
     let s = c.stands in
     record { runs = t.runs; room = room; stands = (s.0, s.1 ++ take n piece, (t.took s.0 s.1 s.2).stands) }
@@ -163,7 +166,8 @@ decides-at {start} {mid} {out} {piece} {i} f q wanted bytes s d =
       front = take i piece ++ e.front;
       back = e.back;
       is_front =
-          sym (take-append-drop i piece) ∙ ap (λ xs. take i piece ++ xs) (sym (rest-is i piece) ∙ e.is_front) ∙ sym (append_assoc (take i piece) e.front e.back);
+          sym (take-append-drop i piece) ∙ ap (λ xs. take i piece ++ xs) (sym (rest-is i piece) ∙ e.is_front)
+          ∙ sym (append_assoc (take i piece) e.front e.back);
       fault = ap (λ xs. (so_far wanted start.limits xs).fault) (sym whole) ∙ e.fault;
       pushes = pushes-both _ _ _ _ _ _ (q.took wanted bytes s).pushes
           (subst (λ xs. Pushes (done wanted start.limits (bytes ++ take i piece)) (done wanted start.limits xs) mid.rows out) whole e.pushes);
@@ -179,7 +183,8 @@ refuses-at : {limits : Limits} {piece : List ℕ} {f : VcdFault} {old new : List
     Decides wanted limits bytes piece f old new → (reading wanted limits (bytes ++ (piece ++ more))).fault ≡ Some f
 refuses-at {limits} {f} wanted bytes more d =
     ap (λ xs. (reading wanted limits (bytes ++ (xs ++ more))).fault) d.is_front
-    ∙ ap (λ xs. (reading wanted limits xs).fault) (ap (λ xs. bytes ++ xs) (append_assoc d.front d.back more) ∙ sym (append_assoc bytes d.front (d.back ++ more)))
+    ∙ ap (λ xs. (reading wanted limits xs).fault) (ap (λ xs. bytes ++ xs) (append_assoc d.front d.back more)
+    ∙ sym (append_assoc bytes d.front (d.back ++ more)))
     ∙ decided-first wanted limits (bytes ++ d.front) (d.back ++ more) f d.fault
 
 pub piece-refuses : {start now next : Reading} {before mid after : RowList} {piece : List ℕ} {i : ℕ} (f : VcdFault) → Takes start now piece i false before mid →
@@ -193,20 +198,25 @@ piece-still {next} {piece} {i} q h wanted bytes s =
     subst (λ xs. StandsFor wanted next xs) (rest-of bytes piece i) (h.still wanted (bytes ++ take i piece) (q.took wanted bytes s).stands)
 
 -- a reader that has stopped
-pub stays-stopped : (v : Reading) (f : VcdFault) → v.fault ≡ Some f → (wanted : Wanted) (bytes more : List ℕ) → StandsFor wanted v bytes → StandsFor wanted v (bytes ++ more)
+pub stays-stopped : (v : Reading) (f : VcdFault) → v.fault ≡ Some f → (wanted : Wanted) (bytes more : List ℕ) → StandsFor wanted v bytes
+    → StandsFor wanted v (bytes ++ more)
 stays-stopped v f e wanted bytes more s =
     stands-stopped wanted v f (bytes ++ more) e (caused-map f (stopped-further wanted v f bytes more) (stopped-is wanted v f bytes e s))
 
-stopped-refuses : (v : Reading) (f : VcdFault) (wanted : Wanted) (bytes more : List ℕ) → Stopped wanted v f bytes → (reading wanted v.limits (bytes ++ more)).fault ≡ Some f
+stopped-refuses : (v : Reading) (f : VcdFault) (wanted : Wanted) (bytes more : List ℕ) → Stopped wanted v f bytes
+    → (reading wanted v.limits (bytes ++ more)).fault ≡ Some f
 stopped-refuses v f wanted bytes more s = decided-first wanted v.limits bytes more f s.fault
 
-pub all-refused : (v : Reading) (f : VcdFault) → v.fault ≡ Some f → Caused f ((wanted : Wanted) (bytes more : List ℕ) → StandsFor wanted v bytes → (reading wanted v.limits (bytes ++ more)).fault ≡ Some f)
+pub all-refused : (v : Reading) (f : VcdFault) → v.fault ≡ Some f
+    → Caused f ((wanted : Wanted) (bytes more : List ℕ) → StandsFor wanted v bytes → (reading wanted v.limits (bytes ++ more)).fault ≡ Some f)
 all-refused v f e = each f e
   where
-    stops : (g : VcdFault) → v.fault ≡ Some g → (wanted : Wanted) (bytes more : List ℕ) → StandsFor wanted v bytes → Caused g ((reading wanted v.limits (bytes ++ more)).fault ≡ Some g)
+    stops : (g : VcdFault) → v.fault ≡ Some g → (wanted : Wanted) (bytes more : List ℕ) → StandsFor wanted v bytes
+        → Caused g ((reading wanted v.limits (bytes ++ more)).fault ≡ Some g)
     stops g k wanted bytes more s = caused-map g (stopped-refuses v g wanted bytes more) (stopped-is wanted v g bytes k s)
 
-    each : (g : VcdFault) → v.fault ≡ Some g → Caused g ((wanted : Wanted) (bytes more : List ℕ) → StandsFor wanted v bytes → (reading wanted v.limits (bytes ++ more)).fault ≡ Some g)
+    each : (g : VcdFault) → v.fault ≡ Some g
+        → Caused g ((wanted : Wanted) (bytes more : List ℕ) → StandsFor wanted v bytes → (reading wanted v.limits (bytes ++ more)).fault ≡ Some g)
     each faults.Memory k = tt
     each (faults.TokenTooLong a) k = stops (faults.TokenTooLong a) k
     each (faults.BadHeader a) k = stops (faults.BadHeader a) k

@@ -1,5 +1,6 @@
 -- Where a block is full, the last byte that was taken filled it.
-use Rattle.std.proofs.Common.{◌≡◌, ℕ, ◌+◌, ◌-◌, ◌≤◌, ◌<◌, List, [], ◌∷◌, ◌++◌, length, take, Bool, true, false, Some, None, if◌then◌else◌, refl, sym, ap, ◌∙◌, subst, append_assoc, arith, length-append, length-take-le, filter, map}
+use Rattle.std.proofs.Common.{◌≡◌, ℕ, ◌+◌, ◌-◌, ◌≤◌, ◌<◌, List, [], ◌∷◌, ◌++◌, length, take, Bool, true, false, Some, None, if◌then◌else◌, refl, sym, ap, ◌∙◌}
+use Rattle.std.proofs.Common.{subst, append_assoc, arith, length-append, length-take-le, filter, map}
 use Rattle.std.proofs.lemmas.List.{append-nil, map-append, take-take}
 use Rattle.std.proofs.Math.Seq.{take-append-add}
 use Rattle.ccsl_base.specs.declared.rows.Row.{Row}
@@ -25,7 +26,8 @@ use Rattle.ccsl_vcd_read.proofs.Faults.{Taken}
 use Rattle.ccsl_vcd_read.proofs.Racing.{part-rows}
 
 -- bytes that settle nothing
-pub quiet-room : (wanted : Wanted) (v : Reading) (bytes more : List ℕ) (out : RowList) → Running wanted v bytes → length (bytes ++ more) ≤ v.limits.bytes → settled (bytes ++ more) ≡ settled bytes
+pub quiet-room : (wanted : Wanted) (v : Reading) (bytes more : List ℕ) (out : RowList) → Running wanted v bytes → length (bytes ++ more) ≤ v.limits.bytes
+    → settled (bytes ++ more) ≡ settled bytes
     → length out.rows < out.room → HadRoom wanted v.limits bytes more out
 quiet-room wanted v bytes more out s w e r =
     let same : done wanted v.limits (bytes ++ more) ≡ done wanted v.limits bytes =
@@ -39,25 +41,31 @@ long-same wanted limits s at =
     elim s.fault as (λ o. complete (next_from wanted limits s.changes s.place o (too_long at)) ≡ complete s) [ None ↦ refl | Some f ↦ refl ]
 
 -- the bytes of one token, of which the end is not seen, complete nothing
-dark-same : (wanted : Wanted) (limits : Limits) (front dark : List ℕ) → fresh_after true front ≡ true → Dark dark → complete (story wanted limits (settled (front ++ dark))) ≡ complete (story wanted limits (settled front))
+dark-same : (wanted : Wanted) (limits : Limits) (front dark : List ℕ) → fresh_after true front ≡ true → Dark dark
+    → complete (story wanted limits (settled (front ++ dark))) ≡ complete (story wanted limits (settled front))
 dark-same wanted limits front dark f d =
-    let before : settled front ≡ map hear (tokens front) = ap settled (sym (append-nil front)) ∙ ap (map hear) (closed-parts front [] [] f tt refl ∙ append-nil (tokens front)) in
+    let before : settled front ≡ map hear (tokens front) =
+    ap settled (sym (append-nil front)) ∙ ap (map hear) (closed-parts front [] [] f tt refl ∙ append-nil (tokens front)) in
     ap (λ ts. complete (story wanted limits (map hear ts))) (closed-parts front dark _ f d refl) ∙ last (length front) dark (tokens front)
     ∙ ap (λ hs. complete (story wanted limits hs)) (sym before)
   where
     none : (ts : List Token) → complete (story wanted limits (map hear (ts ++ []))) ≡ complete (story wanted limits (map hear ts))
     none ts = ap (λ us. complete (story wanted limits (map hear us))) (append-nil ts)
 
-    long : (t : Token) (ts : List Token) → is_long t ≡ true → complete (story wanted limits (map hear (ts ++ t ∷ []))) ≡ complete (story wanted limits (map hear ts))
+    long : (t : Token) (ts : List Token) → is_long t ≡ true
+        → complete (story wanted limits (map hear (ts ++ t ∷ []))) ≡ complete (story wanted limits (map hear ts))
     long t ts e =
-        ap (λ hs. complete (story wanted limits hs)) (map-append hear ts (t ∷ []) ∙ ap (λ (b : Bool). map hear ts ++ (if b then too_long t.at else Rattle.ccsl_vcd_lex.specs.Tokens.word t) ∷ []) e)
+        ap (λ hs. complete (story wanted limits hs)) (map-append hear ts (t ∷ [])
+        ∙ ap (λ (b : Bool). map hear ts ++ (if b then too_long t.at else Rattle.ccsl_vcd_lex.specs.Tokens.word t) ∷ []) e)
         ∙ ap complete (story-more wanted limits (map hear ts) (too_long t.at ∷ []))
         ∙ long-same wanted limits (story wanted limits (map hear ts)) t.at
 
-    last : (n : ℕ) (text : List ℕ) (ts : List Token) → complete (story wanted limits (map hear (ts ++ filter is_long (one n text)))) ≡ complete (story wanted limits (map hear ts))
+    last : (n : ℕ) (text : List ℕ) (ts : List Token)
+        → complete (story wanted limits (map hear (ts ++ filter is_long (one n text)))) ≡ complete (story wanted limits (map hear ts))
     last n [] ts = none ts
     last n (b ∷ xs) ts =
-        (elim (is_long (token n (b ∷ xs))) as (λ x. is_long (token n (b ∷ xs)) ≡ x → complete (story wanted limits (map hear (ts ++ (if x then token n (b ∷ xs) ∷ [] else [])))) ≡ complete (story wanted limits (map hear ts))) [
+        (elim (is_long (token n (b ∷ xs))) as (λ x. is_long (token n (b ∷ xs)) ≡ x
+        → complete (story wanted limits (map hear (ts ++ (if x then token n (b ∷ xs) ∷ [] else [])))) ≡ complete (story wanted limits (map hear ts))) [
           | true ↦ λ e. long (token n (b ∷ xs)) ts e
           | false ↦ λ e. none ts
         ]) refl
@@ -86,13 +94,16 @@ race-filled wanted v bytes piece cut count out s k h o =
     let some : 0 < length q.last = q.some in
     let at : count - 1 ≡ length q.front + (length q.last - 1) = omega (arith, sizes, some) in
     let cut-off : take (count - 1) piece ≡ q.front ++ dark =
-    sym (take-take (count - 1) count piece (omega arith)) ∙ ap (take (count - 1)) (sym k.same ∙ q.is) ∙ ap (λ i. take i (q.front ++ q.last)) at ∙ take-append-add q.front q.last (length q.last - 1) in
+    sym (take-take (count - 1) count piece (omega arith)) ∙ ap (take (count - 1)) (sym k.same ∙ q.is) ∙ ap (λ i. take i (q.front ++ q.last)) at
+    ∙ take-append-add q.front q.last (length q.last - 1) in
     let few : count ≤ v.limits.bytes - v.taken = k.few in
     let size : length (take (count - 1) piece) ≡ count - 1 = length-take-le (count - 1) piece (omega (arith, k.within)) in
-    let within : length (bytes ++ take (count - 1) piece) ≤ v.limits.bytes = omega (arith, length-append bytes (take (count - 1) piece), size, few, s.taken, s.within) in
+    let within : length (bytes ++ take (count - 1) piece) ≤ v.limits.bytes =
+    omega (arith, length-append bytes (take (count - 1) piece), size, few, s.taken, s.within) in
     let front-fresh : fresh_after true (bytes ++ q.front) ≡ true = fresh-append true bytes q.front ∙ ap (λ x. fresh_after x q.front) fresh ∙ r.fresh in
     let all : done wanted v.limits (bytes ++ take (count - 1) piece) ≡ complete (story wanted v.limits (settled bytes)) ++ r.pushed =
-    done-within wanted v.limits (bytes ++ take (count - 1) piece) within ∙ ap (λ xs. complete (story wanted v.limits (settled xs))) (ap (λ xs. bytes ++ xs) cut-off ∙ sym (append_assoc bytes q.front dark))
+    done-within wanted v.limits (bytes ++ take (count - 1) piece) within
+    ∙ ap (λ xs. complete (story wanted v.limits (settled xs))) (ap (λ xs. bytes ++ xs) cut-off ∙ sym (append_assoc bytes q.front dark))
     ∙ dark-same wanted v.limits (bytes ++ q.front) dark front-fresh q.one ∙ part-rows wanted v bytes q.front g.b q.mid out.rows q.rows s g.is r fresh in
     let count-all = ap length all ∙ length-append (complete (story wanted v.limits (settled bytes))) r.pushed in
     let count-rows = ap length r.rows ∙ length-append out.rows r.pushed in

@@ -11,11 +11,14 @@ pub record Further {X : Type 0} (f : X → X) (init now : List X) (i : ℕ) : Ty
 same-front : {X : Type 0} (x y : X) (xs ys : List X) → x ∷ xs ≡ y ∷ ys → (x ≡ y) × (xs ≡ ys)
 same-front x y xs ys e = (cc, cc)
 
-pub goes-on : {X : Type 0} (f : X → X) (init now : List X) (i : ℕ) (d y : X) → i < length now → length now ≡ length init → Further f init now i → y ≡ f (get_or now i d)
+pub goes-on : {X : Type 0} (f : X → X) (init now : List X) (i : ℕ) (d y : X) → i < length now → length now ≡ length init → Further f init now i
+    → y ≡ f (get_or now i d)
     → Further f init (set now i y) (i + 1)
 goes-on f init now i d y h l w e =
     let h' : i < length init = omega arith in
-    let s = same-front (get_or now i d) (get_or init i d) (drop (i + 1) now) (drop (i + 1) init) (ap (λ k. get_or now i d ∷ drop k now) (add-one i) ∙ sym (drop-cons now i d h) ∙ w.back ∙ drop-cons init i d h' ∙ ap (λ k. get_or init i d ∷ drop k init) (sym (add-one i))) in
+    let s = same-front (get_or now i d) (get_or init i d) (drop (i + 1) now) (drop (i + 1) init)
+    (ap (λ k. get_or now i d ∷ drop k now) (add-one i) ∙ sym (drop-cons now i d h) ∙ w.back ∙ drop-cons init i d h'
+    ∙ ap (λ k. get_or init i d ∷ drop k init) (sym (add-one i))) in
     record {
       front = take_more_set now i y h ∙ ap (λ xs. xs ++ y ∷ []) w.front ∙ ap (λ x. map f (take i init) ++ x ∷ []) (e ∙ ap f s.0)
           ∙ sym (map-append f (take i init) (get_or init i d ∷ [])) ∙ ap (map f) (sym (take_more init i d h'));

@@ -1,5 +1,6 @@
 -- Letters of the values 0 and 1, seen through the bits of a vector.
-use Rattle.std.proofs.Common.{◌≡◌, ℕ, suc, ◌+◌, ◌-◌, ◌*◌, ◌<◌, ◌≤◌, List, [], ◌∷◌, ◌++◌, length, take, drop, get_or, map, Bool, true, false, not, cond, nat_eq, ◌||◌, refl, sym, ap, ◌∙◌, arith, length-drop}
+use Rattle.std.proofs.Common.{◌≡◌, ℕ, suc, ◌+◌, ◌-◌, ◌*◌, ◌<◌, ◌≤◌, List, [], ◌∷◌, ◌++◌, length, take, drop, get_or, map, Bool, true, false, not, cond, nat_eq}
+use Rattle.std.proofs.Common.{◌||◌, refl, sym, ap, ◌∙◌, arith, length-drop}
 use Rattle.std.specs.List.{list_all}
 use Rattle.std.proofs.lemmas.Bool.{and_parts, eqb-true, eq-eqb}
 use Rattle.std.proofs.lemmas.List.{take-append-drop, drop-drop}
@@ -52,10 +53,12 @@ pub bits-fail : (d : List ℕ) (i n m : ℕ) → m ≡ mask_l (map is_other (tak
 bits-fail d i n m e some = not-so (list_all is_bit d) (λ h. some (e ∙ mask-all (take n (drop i d)) (all-take is_bit n (drop i d) (all-drop is_bit i d h))))
 
 -- no bit is set in the next bytes
-pub bits-next : (d : List ℕ) (i n m : ℕ) → m ≡ mask_l (map is_other (take n (drop i d))) → m ≡ 0 → list_all is_bit (take i d) ≡ true → list_all is_bit (take (i + n) d) ≡ true
+pub bits-next : (d : List ℕ) (i n m : ℕ) → m ≡ mask_l (map is_other (take n (drop i d))) → m ≡ 0 → list_all is_bit (take i d) ≡ true
+    → list_all is_bit (take (i + n) d) ≡ true
 bits-next d i n m e none h = ap (list_all is_bit) (take-add i n d) ∙ all-both is_bit (take i d) (take n (drop i d)) h (mask-none _ (sym e ∙ none))
 
-last-all : (d : List ℕ) (i n : ℕ) → i ≤ length d → length d ≤ i + n → n ≤ length d → list_all is_bit (take i d) ≡ true → list_all is_bit (take n (drop (length d - n) d)) ≡ true → list_all is_bit d ≡ true
+last-all : (d : List ℕ) (i n : ℕ) → i ≤ length d → length d ≤ i + n → n ≤ length d → list_all is_bit (take i d) ≡ true
+    → list_all is_bit (take n (drop (length d - n) d)) ≡ true → list_all is_bit d ≡ true
 last-all d i n l s m h k =
     let j : ℕ = length d - n in
     let whole : take n (drop j d) ≡ drop j d = Rattle.std.proofs.lemmas.List.take_all n (drop j d) (omega (arith, length-drop j d, m)) in
@@ -65,7 +68,8 @@ last-all d i n l s m h k =
     ∙ all-both is_bit (take i d) (drop i d) h (ap (list_all is_bit) (sym (drop-drop (i - j) j d ∙ ap (λ x. drop x d) sum)) ∙ rest)
 
 -- whether no bit is set in the last bytes
-pub bits-last : (d : List ℕ) (i n m : ℕ) → m ≡ mask_l (map is_other (take n (drop (length d - n) d))) → i ≤ length d → length d ≤ i + n → n ≤ length d → list_all is_bit (take i d) ≡ true
+pub bits-last : (d : List ℕ) (i n m : ℕ) → m ≡ mask_l (map is_other (take n (drop (length d - n) d))) → i ≤ length d → length d ≤ i + n → n ≤ length d
+    → list_all is_bit (take i d) ≡ true
     → nat_eq m 0 ≡ list_all is_bit d
 bits-last d i n m e l s k h = (elim (nat_eq m 0) as (λ w. nat_eq m 0 ≡ w → w ≡ list_all is_bit d) [
   | true ↦ λ q. sym (last-all d i n l s k h (mask-none _ (sym e ∙ eqb-true m 0 q)))

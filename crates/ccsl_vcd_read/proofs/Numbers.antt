@@ -1,5 +1,6 @@
 -- Reading a number from the left.
-use Rattle.std.proofs.Common.{◌≡◌, ℕ, ◌+◌, ◌-◌, ◌*◌, ◌/◌, ◌≤◌, ◌<◌, List, [], ◌∷◌, length, drop, get_or, Bool, true, false, Option, Some, None, nat_le, ◌&&◌, cond, refl, sym, ap, ◌∙◌, arith, drop-cons, add-one}
+use Rattle.std.proofs.Common.{◌≡◌, ℕ, ◌+◌, ◌-◌, ◌*◌, ◌/◌, ◌≤◌, ◌<◌, List, [], ◌∷◌, length, drop, get_or, Bool, true, false, Option, Some, None, nat_le, ◌&&◌}
+use Rattle.std.proofs.Common.{cond, refl, sym, ap, ◌∙◌, arith, drop-cons, add-one}
 use Rattle.std.specs.List.{list_all}
 use Rattle.std.proofs.Math.Bool.{and-false}
 use Rattle.std.proofs.lemmas.List.{drop_all}
@@ -59,7 +60,8 @@ digit-high b h = grind (arith, common_steps)
 front : (i : ℕ) (text : List ℕ) → i < length text → drop i text ≡ get_or text i 0 ∷ drop (i + 1) text
 front i text h = drop-cons text i 0 h ∙ ap (λ (k : ℕ). get_or text i 0 ∷ drop k text) (sym (add-one i))
 
-pub ends-bad : (limit : ℕ) (text : List ℕ) (i n : ℕ) → i < length text → value_of limit n (drop i text) ≡ value_of limit 0 text → is_digit (get_or text i 0) ≡ false
+pub ends-bad : (limit : ℕ) (text : List ℕ) (i n : ℕ) → i < length text → value_of limit n (drop i text) ≡ value_of limit 0 text
+    → is_digit (get_or text i 0) ≡ false
     → None ≡ number limit text
 ends-bad limit text i n lt inv d =
     sym (number-value limit text (omega arith) ∙ sym inv ∙ ap (value_of limit n) (front i text lt) ∙ no-digit limit n (get_or text i 0) (drop (i + 1) text) d)

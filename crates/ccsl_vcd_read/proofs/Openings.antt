@@ -1,5 +1,6 @@
 -- The marks of the bound clocks, clock by clock.
-use Rattle.std.proofs.Common.{◌≡◌, ℕ, ◌+◌, ◌<◌, ◌≤◌, List, [], ◌∷◌, ◌++◌, Bool, true, false, not, cond, nat_lt, nat_eq, Option, Some, None, filter, map, refl, sym, ap, ◌∙◌, arith}
+use Rattle.std.proofs.Common.{◌≡◌, ℕ, ◌+◌, ◌<◌, ◌≤◌, List, [], ◌∷◌, ◌++◌, Bool, true, false, not, cond, nat_lt, nat_eq, Option, Some, None, filter, map, refl}
+use Rattle.std.proofs.Common.{sym, ap, ◌∙◌, arith}
 use Rattle.std.specs.Prelude.{is_some, unwrap_or}
 use Rattle.std.specs.Option.{option_and_then, option_map_or}
 use Rattle.std.specs.List.{list_all, AllByRecursion}
@@ -63,7 +64,12 @@ below-more n (b ∷ bs) h =
               rw (lt-ltb b.clock (n + 1) (omega arith), none-below b.clock (n + 1) bs (omega arith) a, none-below b.clock n bs (omega arith) a) refl
           | false ↦ λ e.
               let more : n < b.clock = grind (arith, common_steps) in
-              rw (le-ltb b.clock (n + 1) (omega arith), none-below b.clock (n + 1) bs (omega arith) a, none-below b.clock n bs (omega arith) a, none-there b.clock n bs l a) refl
+              rw (
+                le-ltb b.clock (n + 1) (omega arith),
+                none-below b.clock (n + 1) bs (omega arith) a,
+                none-below b.clock n bs (omega arith) a,
+                none-there b.clock n bs l a,
+              ) refl
         ]) refl
 
 pub below-all : (n : ℕ) (bs : List Bound) → are_below n (clocks_of bs) ≡ true → below n bs ≡ bs
@@ -114,7 +120,8 @@ found v n code e =
       | None ↦ λ k f. absurd (cc)
     ]) refl e
 
-numbered : (v : Bindings) (bs : List Bound) (n : ℕ) (b : Bound) → list_all (λ x. is_among x.code v.codes) bs ≡ true → bound_to n bs ≡ Some b → is_some (number_of b.code v.codes) ≡ true
+numbered : (v : Bindings) (bs : List Bound) (n : ℕ) (b : Bound) → list_all (λ x. is_among x.code v.codes) bs ≡ true → bound_to n bs ≡ Some b
+    → is_some (number_of b.code v.codes) ≡ true
 numbered v [] n b h e = absurd (cc)
 numbered v (x ∷ xs) n b h e =
     let q = and_parts (is_among x.code v.codes) (list_all (λ y. is_among y.code v.codes) xs) h in
@@ -131,11 +138,20 @@ not-found v n h e =
     ]) refl e
 
 -- the mark of a clock before the first change
-pub first-mark : (v : Bindings) (n code : ℕ) (f : Found v n code) → mark_of v.codes [] [] f.bound ≡ record { clock = n; code = code; event = is_bound_event v n; now = not (is_bound_event v n); before = not (is_bound_event v n) }
+pub first-mark : (v : Bindings) (n code : ℕ) (f : Found v n code)
+    → mark_of v.codes [] [] f.bound ≡ record {
+      clock = n;
+      code = code;
+      event = is_bound_event v n;
+      now = not (is_bound_event v n);
+      before =
+          not (is_bound_event v n);
+    }
 first-mark v n code f =
     let e : is_bound_event v n ≡ f.bound.event = ap (λ o. option_map_or (λ b. b.event) o false) f.there in
     let at : ℕ → ℕ → Bool → Bool → Bool → Mark = λ a b c d g. record { clock = a; code = b; event = c; now = d; before = g } in
-    (elim f.bound.event as (λ w. at f.bound.clock (unwrap_or (number_of f.bound.code v.codes) 0) w (cond w false true) (cond w false true) ≡ at f.bound.clock (unwrap_or (number_of f.bound.code v.codes) 0) w (not w) (not w)) [ true ↦ refl | false ↦ refl ])
+    (elim f.bound.event as (λ w. at f.bound.clock (unwrap_or (number_of f.bound.code v.codes) 0) w (cond w false true) (cond w false true) ≡ at f.bound.clock
+    (unwrap_or (number_of f.bound.code v.codes) 0) w (not w) (not w)) [ true ↦ refl | false ↦ refl ])
     ∙ ap (λ k. at k (unwrap_or (number_of f.bound.code v.codes) 0) f.bound.event (not f.bound.event) (not f.bound.event)) f.clock
     ∙ ap (λ o. at n (unwrap_or o 0) f.bound.event (not f.bound.event) (not f.bound.event)) f.number
     ∙ ap (λ w. at n code w (not w) (not w)) (sym e)
@@ -145,7 +161,8 @@ clocks-marks codes [] = refl
 clocks-marks codes (b ∷ bs) = ap (λ xs. b.clock ∷ xs) (clocks-marks codes bs)
 
 -- one mark more
-pub marks-more : (v : Bindings) (n code : ℕ) (m : Mark) (ms : List Mark) → is_ascending (clocks_of v.bound) ≡ true → Found v n code → m ≡ record { clock = n; code = code; event = is_bound_event v n; now = not (is_bound_event v n); before = not (is_bound_event v n) }
+pub marks-more : (v : Bindings) (n code : ℕ) (m : Mark) (ms : List Mark) → is_ascending (clocks_of v.bound) ≡ true → Found v n code
+    → m ≡ record { clock = n; code = code; event = is_bound_event v n; now = not (is_bound_event v n); before = not (is_bound_event v n) }
     → ms ≡ map (mark_of v.codes [] []) (below n v.bound) → ms ++ m ∷ [] ≡ map (mark_of v.codes [] []) (below (n + 1) v.bound)
 marks-more v n code m ms asc f e h =
     ap (λ xs. xs ++ m ∷ []) h ∙ ap (λ x. map (mark_of v.codes [] []) (below n v.bound) ++ x ∷ []) (e ∙ sym (first-mark v n code f))
@@ -155,7 +172,10 @@ marks-more v n code m ms asc f e h =
 pub marks-none : (v : Bindings) (n : ℕ) (ms : List Mark) → is_ascending (clocks_of v.bound) ≡ true → are_declared v ≡ true → code_number v n ≡ None
     → ms ≡ map (mark_of v.codes [] []) (below n v.bound) → ms ≡ map (mark_of v.codes [] []) (below (n + 1) v.bound)
 marks-none v n ms asc d e h =
-    h ∙ ap (map (mark_of v.codes [] [])) (sym (append-nil (below n v.bound)) ∙ ap (λ o. below n v.bound ++ listed o) (sym (not-found v n d e)) ∙ sym (below-more n v.bound asc))
+    h ∙ ap (map (mark_of v.codes [] [])) (sym (append-nil (below n v.bound)) ∙ ap (λ o. below n v.bound ++ listed o) (sym (not-found v n d e))
+    ∙ sym (below-more n v.bound asc))
 
-pub marks-ascend : (v : Bindings) (n : ℕ) (ms : List Mark) → is_ascending (clocks_of v.bound) ≡ true → ms ≡ map (mark_of v.codes [] []) (below n v.bound) → is_ascending (map (λ m. m.clock) ms) ≡ true
-marks-ascend v n ms asc h = ap (λ xs. is_ascending (map (λ (m : Mark). m.clock) xs)) h ∙ ap is_ascending (clocks-marks v.codes (below n v.bound)) ∙ below-ascends n v.bound asc
+pub marks-ascend : (v : Bindings) (n : ℕ) (ms : List Mark) → is_ascending (clocks_of v.bound) ≡ true → ms ≡ map (mark_of v.codes [] []) (below n v.bound)
+    → is_ascending (map (λ m. m.clock) ms) ≡ true
+marks-ascend v n ms asc h =
+    ap (λ xs. is_ascending (map (λ (m : Mark). m.clock) xs)) h ∙ ap is_ascending (clocks-marks v.codes (below n v.bound)) ∙ below-ascends n v.bound asc

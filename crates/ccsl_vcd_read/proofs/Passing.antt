@@ -1,9 +1,11 @@
 -- Tokens that stand further on, and bytes that were read past a tokenizer.
-use Rattle.std.proofs.Common.{◌≡◌, ℕ, zero, suc, ◌+◌, ◌<◌, List, [], ◌∷◌, ◌++◌, length, take, Bool, true, false, Some, None, nat_lt, ◌||◌, cond, refl, sym, ap, ap₂, ◌∙◌, subst, append_assoc, arith, length-append, filter, map, zero-add, replicate, ⊎_elim}
+use Rattle.std.proofs.Common.{◌≡◌, ℕ, zero, suc, ◌+◌, ◌<◌, List, [], ◌∷◌, ◌++◌, length, take, Bool, true, false, Some, None, nat_lt, ◌||◌, cond, refl, sym, ap}
+use Rattle.std.proofs.Common.{ap₂, ◌∙◌, subst, append_assoc, arith, length-append, filter, map, zero-add, replicate, ⊎_elim}
 use Rattle.std.specs.List.{AllByRecursion}
 use Rattle.std.proofs.lemmas.List.{append-nil, map-append}
 use Rattle.std.proofs.lemmas.Bool.{lt-ltb, le-ltb, cases_lt}
-use Rattle.ccsl_vcd_lex.specs.Tokens.{is_white, Token, token, end_of, run, begins, tokens_from, tokens, closed, settled, heard, Heard, hear, word, too_long, is_long}
+use Rattle.ccsl_vcd_lex.specs.Tokens.{is_white, Token, token, end_of, run, begins, tokens_from, tokens, closed, settled, heard, Heard, hear, word, too_long}
+use Rattle.ccsl_vcd_lex.specs.Tokens.{is_long}
 use Rattle.ccsl_vcd_lex.specs.LongTokens.{first_long}
 use Rattle.ccsl_vcd_lex.specs.Runs.{fresh_after}
 use Rattle.ccsl_vcd_lex.specs.Lexing.{Dark, Lexing, StandsFor, BreaksWithin}
@@ -55,10 +57,14 @@ kept-moved : (n k : ℕ) (ts : List Token) → kept (n + k) (map (moved k) ts) �
 kept-moved n k [] = refl
 kept-moved n k (t ∷ ts) =
     ap₂ (λ w us. cond w (moved k t ∷ us) us) (end-moved n k t) (kept-moved n k ts)
-    ∙ elim (nat_lt (end_of t) n || is_long t) as (λ w. cond w (moved k t ∷ map (moved k) (kept n ts)) (map (moved k) (kept n ts)) ≡ map (moved k) (cond w (t ∷ kept n ts) (kept n ts))) [ true ↦ refl | false ↦ refl ]
+    ∙ elim (nat_lt (end_of t) n || is_long t) as (λ w. cond w (moved k t ∷ map (moved k) (kept n ts)) (map (moved k) (kept n ts)) ≡ map (moved k)
+    (cond w (t ∷ kept n ts) (kept n ts))) [ true ↦ refl | false ↦ refl ]
 
 hear-moved : (k : ℕ) (t : Token) → hear (moved k t) ≡ placed k (hear t)
-hear-moved k t = elim (is_long t) as (λ w. cond w (too_long (t.at + k)) (word (moved k t)) ≡ placed k (cond w (too_long t.at) (word t))) [ true ↦ refl | false ↦ refl ]
+hear-moved k t = elim (is_long t) as (λ w. cond w (too_long (t.at + k)) (word (moved k t)) ≡ placed k (cond w (too_long t.at) (word t))) [
+  | true ↦ refl
+  | false ↦ refl
+]
 
 hears-moved : (k : ℕ) (ts : List Token) → map hear (map (moved k) ts) ≡ map (placed k) (map hear ts)
 hears-moved k [] = refl
@@ -72,7 +78,8 @@ settles_at n x = map hear (kept (n + length x) (tokens_from true n x))
 settles-moved : (n k : ℕ) (x : List ℕ) → settles_at (n + k) x ≡ map (placed k) (settles_at n x)
 settles-moved n k x =
     let e : n + k + length x ≡ n + length x + k = omega arith in
-    ap₂ (λ m ts. map hear (kept m ts)) e (tokens-moved true n k x) ∙ ap (map hear) (kept-moved (n + length x) k (tokens_from true n x)) ∙ hears-moved k (kept (n + length x) (tokens_from true n x))
+    ap₂ (λ m ts. map hear (kept m ts)) e (tokens-moved true n k x) ∙ ap (map hear) (kept-moved (n + length x) k (tokens_from true n x))
+    ∙ hears-moved k (kept (n + length x) (tokens_from true n x))
 
 pub settled-at : (front x : List ℕ) → fresh_after true front ≡ true → settled (front ++ x) ≡ map hear (tokens front) ++ settles_at (length front) x
 settled-at front x f =
@@ -103,11 +110,13 @@ fresh-blank zero = refl
 fresh-blank (suc n) = fresh-behind true [] (blank (suc n)) (white-blank (suc n)) (omega arith)
 
 settled-blank : (n : ℕ) (x : List ℕ) → settled (blank n ++ x) ≡ settles_at n x
-settled-blank n x = settled-at (blank n) x (fresh-blank n) ∙ ap (λ ts. map hear ts ++ settles_at (length (blank n)) x) (tokens-blank n) ∙ ap (λ m. settles_at m x) (length-blank n)
+settled-blank n x = settled-at (blank n) x (fresh-blank n) ∙ ap (λ ts. map hear ts ++ settles_at (length (blank n)) x) (tokens-blank n)
+    ∙ ap (λ m. settles_at m x) (length-blank n)
 
 heard-blank : (n : ℕ) (x : List ℕ) → heard (blank n ++ x) ≡ map hear (tokens_from true n x)
 heard-blank n x =
-    heard-split (blank n) x (fresh-blank n) ∙ ap (λ ts. map hear ts ++ map hear (tokens_from true (length (blank n)) x)) (tokens-blank n) ∙ ap (λ m. map hear (tokens_from true m x)) (length-blank n)
+    heard-split (blank n) x (fresh-blank n) ∙ ap (λ ts. map hear ts ++ map hear (tokens_from true (length (blank n)) x)) (tokens-blank n)
+    ∙ ap (λ m. map hear (tokens_from true m x)) (length-blank n)
 
 -- What bytes behind blanks settle more, they settle more behind other bytes.
 module _ (v : Passing) (bytes : List ℕ) (s : Lexes v bytes) where
@@ -117,7 +126,8 @@ module _ (v : Passing) (bytes : List ℕ) (s : Lexes v bytes) where
   front-settles : (x : List ℕ) → settled (s.front ++ x) ≡ map hear (tokens s.front) ++ map (placed v.passed) (settled (blank s.blanks ++ x))
   front-settles x =
       settled-at s.front x s.fresh
-      ∙ ap (λ hs. map hear (tokens s.front) ++ hs) (ap (λ n. settles_at n x) at-place ∙ settles-moved s.blanks v.passed x ∙ ap (map (placed v.passed)) (sym (settled-blank s.blanks x)))
+      ∙ ap (λ hs. map hear (tokens s.front) ++ hs) (ap (λ n. settles_at n x) at-place ∙ settles-moved s.blanks v.passed x
+      ∙ ap (map (placed v.passed)) (sym (settled-blank s.blanks x)))
 
   whole-settles : (y : List ℕ) → settled (bytes ++ y) ≡ map hear (tokens s.front) ++ map (placed v.passed) (settled ((blank s.blanks ++ s.rest) ++ y))
   whole-settles y =
@@ -127,7 +137,8 @@ module _ (v : Passing) (bytes : List ℕ) (s : Lexes v bytes) where
   bytes-settle : settled bytes ≡ map hear (tokens s.front) ++ map (placed v.passed) (settled (blank s.blanks ++ s.rest))
   bytes-settle = ap settled s.whole ∙ front-settles s.rest
 
-  pub settles-more : (y : List ℕ) (hs : List Heard) → settled ((blank s.blanks ++ s.rest) ++ y) ≡ settled (blank s.blanks ++ s.rest) ++ hs → settled (bytes ++ y) ≡ settled bytes ++ map (placed v.passed) hs
+  pub settles-more : (y : List ℕ) (hs : List Heard) → settled ((blank s.blanks ++ s.rest) ++ y) ≡ settled (blank s.blanks ++ s.rest) ++ hs
+      → settled (bytes ++ y) ≡ settled bytes ++ map (placed v.passed) hs
   settles-more y hs e =
       whole-settles y ∙ ap (λ us. map hear (tokens s.front) ++ map (placed v.passed) us) e
       ∙ ap (λ us. map hear (tokens s.front) ++ us) (map-append (placed v.passed) (settled (blank s.blanks ++ s.rest)) hs)
@@ -137,11 +148,13 @@ module _ (v : Passing) (bytes : List ℕ) (s : Lexes v bytes) where
   pub settles-same : (y : List ℕ) → settled ((blank s.blanks ++ s.rest) ++ y) ≡ settled (blank s.blanks ++ s.rest) → settled (bytes ++ y) ≡ settled bytes
   settles-same y e = settles-more y [] (e ∙ sym (append-nil (settled (blank s.blanks ++ s.rest)))) ∙ append-nil (settled bytes)
 
-  pub all-heard : (hs : List Heard) → heard (blank s.blanks ++ s.rest) ≡ settled (blank s.blanks ++ s.rest) ++ hs → heard bytes ≡ settled bytes ++ map (placed v.passed) hs
+  pub all-heard : (hs : List Heard) → heard (blank s.blanks ++ s.rest) ≡ settled (blank s.blanks ++ s.rest) ++ hs
+      → heard bytes ≡ settled bytes ++ map (placed v.passed) hs
   all-heard hs e =
       ap heard s.whole ∙ heard-split s.front s.rest s.fresh
       ∙ ap (λ us. map hear (tokens s.front) ++ us)
-      (ap (λ n. map hear (tokens_from true n s.rest)) at-place ∙ ap (map hear) (tokens-moved true s.blanks v.passed s.rest) ∙ hears-moved v.passed (tokens_from true s.blanks s.rest)
+      (ap (λ n. map hear (tokens_from true n s.rest)) at-place ∙ ap (map hear) (tokens-moved true s.blanks v.passed s.rest)
+      ∙ hears-moved v.passed (tokens_from true s.blanks s.rest)
       ∙ ap (map (placed v.passed)) (sym (heard-blank s.blanks s.rest) ∙ e) ∙ map-append (placed v.passed) (settled (blank s.blanks ++ s.rest)) hs)
       ∙ sym (append_assoc (map hear (tokens s.front)) (map (placed v.passed) (settled (blank s.blanks ++ s.rest))) (map (placed v.passed) hs))
       ∙ ap (λ us. us ++ map (placed v.passed) hs) (sym bytes-settle)
@@ -166,30 +179,37 @@ long-back k (t ∷ ts) h =
       | false ↦ λ e. long-back k ts e
     ]) h
 
-long-at : (front x : List ℕ) → fresh_after true front ≡ true → first_long (tokens front) ≡ None → first_long (tokens (front ++ x)) ≡ first_long (tokens_from true (length front) x)
+long-at : (front x : List ℕ) → fresh_after true front ≡ true → first_long (tokens front) ≡ None
+    → first_long (tokens (front ++ x)) ≡ first_long (tokens_from true (length front) x)
 long-at front x f h =
-    ap first_long (tokens-cut true 0 front x f ∙ ap (λ n. tokens front ++ tokens_from true n x) (zero-add (length front))) ∙ long-append (tokens front) (tokens_from true (length front) x) h
+    ap first_long (tokens-cut true 0 front x f ∙ ap (λ n. tokens front ++ tokens_from true n x) (zero-add (length front)))
+    ∙ long-append (tokens front) (tokens_from true (length front) x) h
 
 long-blank : (n : ℕ) (x : List ℕ) → first_long (tokens (blank n ++ x)) ≡ first_long (tokens_from true n x)
 unfolding first_long
 long-blank n x = long-at (blank n) x (fresh-blank n) (ap first_long (tokens-blank n)) ∙ ap (λ m. first_long (tokens_from true m x)) (length-blank n)
 
-pub none-behind : (v : Passing) (bytes y : List ℕ) (s : Lexes v bytes) → first_long (tokens ((blank s.blanks ++ s.rest) ++ y)) ≡ None → first_long (tokens (bytes ++ y)) ≡ None
+pub none-behind : (v : Passing) (bytes y : List ℕ) (s : Lexes v bytes) → first_long (tokens ((blank s.blanks ++ s.rest) ++ y)) ≡ None
+    → first_long (tokens (bytes ++ y)) ≡ None
 none-behind v bytes y s h =
     let x = s.rest ++ y in
-    let e : first_long (tokens_from true s.blanks x) ≡ None = sym (long-blank s.blanks x) ∙ ap (λ xs. first_long (tokens xs)) (sym (append_assoc (blank s.blanks) s.rest y)) ∙ h in
+    let e : first_long (tokens_from true s.blanks x) ≡ None =
+    sym (long-blank s.blanks x) ∙ ap (λ xs. first_long (tokens xs)) (sym (append_assoc (blank s.blanks) s.rest y)) ∙ h in
     ap (λ xs. first_long (tokens (xs ++ y))) s.whole ∙ ap (λ xs. first_long (tokens xs)) (append_assoc s.front s.rest y) ∙ long-at s.front x s.fresh s.short
-    ∙ ap (λ n. first_long (tokens_from true n x)) (at-place v bytes s) ∙ ap first_long (tokens-moved true s.blanks v.passed x) ∙ long-moved v.passed (tokens_from true s.blanks x) e
+    ∙ ap (λ n. first_long (tokens_from true n x)) (at-place v bytes s) ∙ ap first_long (tokens-moved true s.blanks v.passed x)
+    ∙ long-moved v.passed (tokens_from true s.blanks x) e
 
 pub none-seen : (v : Passing) (bytes : List ℕ) (s : Lexes v bytes) → first_long (tokens bytes) ≡ None → first_long (tokens (blank s.blanks ++ s.rest)) ≡ None
 none-seen v bytes s h =
     let e : first_long (map (moved v.passed) (tokens_from true s.blanks s.rest)) ≡ None =
-    ap first_long (sym (tokens-moved true s.blanks v.passed s.rest)) ∙ ap (λ n. first_long (tokens_from true n s.rest)) (sym (at-place v bytes s)) ∙ sym (long-at s.front s.rest s.fresh s.short)
+    ap first_long (sym (tokens-moved true s.blanks v.passed s.rest)) ∙ ap (λ n. first_long (tokens_from true n s.rest)) (sym (at-place v bytes s))
+    ∙ sym (long-at s.front s.rest s.fresh s.short)
     ∙ ap (λ xs. first_long (tokens xs)) (sym s.whole) ∙ h in
     long-blank s.blanks s.rest ∙ long-back v.passed (tokens_from true s.blanks s.rest) e
 
 -- More bytes were taken.
-pub lexes-more : (v w : Passing) (bytes y : List ℕ) (s : Lexes v bytes) → w.passed ≡ v.passed → StandsFor w.inner ((blank s.blanks ++ s.rest) ++ y) → Lexes w (bytes ++ y)
+pub lexes-more : (v w : Passing) (bytes y : List ℕ) (s : Lexes v bytes) → w.passed ≡ v.passed → StandsFor w.inner ((blank s.blanks ++ s.rest) ++ y)
+    → Lexes w (bytes ++ y)
 lexes-more v w bytes y s e t = record {
   front = s.front;
   rest = s.rest ++ y;
@@ -201,7 +221,8 @@ lexes-more v w bytes y s e t = record {
   place = s.place ∙ ap (λ n. n + s.blanks) (sym e);
 }
 
-pub breaks-behind : (v : Passing) (bytes piece : List ℕ) (at : ℕ) (s : Lexes v bytes) → BreaksWithin (blank s.blanks ++ s.rest) piece at → BreaksWithin bytes piece (at + v.passed)
+pub breaks-behind : (v : Passing) (bytes piece : List ℕ) (at : ℕ) (s : Lexes v bytes) → BreaksWithin (blank s.blanks ++ s.rest) piece at
+    → BreaksWithin bytes piece (at + v.passed)
 breaks-behind v bytes piece at s b = record {
   taken = b.taken;
   within = b.within;
@@ -250,7 +271,8 @@ module _ (v : Passing) (bytes : List ℕ) (s : Lexes v bytes) (h : first_long (t
 
   same-fresh : fresh_after true bytes ≡ fresh_after true (blank s.blanks ++ s.rest)
   same-fresh =
-      ap (fresh_after true) s.whole ∙ fresh-append true s.front s.rest ∙ ap (λ w. fresh_after w s.rest) (s.fresh ∙ sym (fresh-blank s.blanks)) ∙ sym (fresh-append true (blank s.blanks) s.rest)
+      ap (fresh_after true) s.whole ∙ fresh-append true s.front s.rest ∙ ap (λ w. fresh_after w s.rest) (s.fresh ∙ sym (fresh-blank s.blanks))
+      ∙ sym (fresh-append true (blank s.blanks) s.rest)
 
   pub none-open : fresh_after true bytes ≡ true → v.inner.open_text ≡ []
   none-open f = nothing-open s.stands.before v.inner.open_text s.stands.dark (ap (fresh_after true) (sym seen-parts) ∙ sym same-fresh ∙ f)
@@ -258,7 +280,8 @@ module _ (v : Passing) (bytes : List ℕ) (s : Lexes v bytes) (h : first_long (t
   pub fresh-open : v.inner.open_text ≡ [] → fresh_after true bytes ≡ true
   fresh-open o = same-fresh ∙ ap (fresh_after true) (seen-parts ∙ ap (λ xs. s.stands.before ++ xs) o ∙ append-nil s.stands.before) ∙ s.stands.fresh
 
-pub passes : (v w : Passing) (bytes part : List ℕ) (count : ℕ) (s : Lexes v bytes) → w ≡ record v { passed = v.passed + count } → v.inner.open_text ≡ [] → first_long (tokens bytes) ≡ None
+pub passes : (v w : Passing) (bytes part : List ℕ) (count : ℕ) (s : Lexes v bytes) → w ≡ record v { passed = v.passed + count } → v.inner.open_text ≡ []
+    → first_long (tokens bytes) ≡ None
     → length part ≡ count → fresh_after true (bytes ++ part) ≡ true → first_long (tokens (bytes ++ part)) ≡ None → Lexes w (bytes ++ part)
 passes v w bytes part count s e none h n g k =
     let split : blank s.blanks ++ s.rest ≡ s.stands.before ++ v.inner.open_text = seen-parts v bytes s h in
@@ -268,7 +291,19 @@ passes v w bytes part count s e none h n g k =
     let begin : v.inner.begin ≡ length s.stands.before = s.stands.begin in
     let place : length s.front ≡ v.passed + s.blanks = s.place in
     let total : length (bytes ++ part) ≡ v.passed + count + v.inner.begin =
-    omega (arith, length-append bytes part, n, whole, place, begin, len, length-append (blank s.blanks) s.rest, length-blank s.blanks, length-append s.stands.before v.inner.open_text, open_len) in
+    omega (
+      arith,
+      length-append bytes part,
+      n,
+      whole,
+      place,
+      begin,
+      len,
+      length-append (blank s.blanks) s.rest,
+      length-blank s.blanks,
+      length-append s.stands.before v.inner.open_text,
+      open_len,
+    ) in
     subst (λ (x : Passing). Lexes x (bytes ++ part)) (sym e) (record {
       front = bytes ++ part;
       rest = [];
@@ -297,9 +332,11 @@ unfolding tokens_from
 starts-before f at [] = tt
 starts-before f at (b ∷ bs) =
     let n : at + 1 + length bs ≡ at + length (b ∷ bs) = omega arith in
-    add f (is_white b) (token at (run (b ∷ bs))) (tokens_from (is_white b) (at + 1) bs) (omega arith) (subst (λ m. StartBefore m (tokens_from (is_white b) (at + 1) bs)) n (starts-before (is_white b) (at + 1) bs))
+    add f (is_white b) (token at (run (b ∷ bs))) (tokens_from (is_white b) (at + 1) bs) (omega arith)
+    (subst (λ m. StartBefore m (tokens_from (is_white b) (at + 1) bs)) n (starts-before (is_white b) (at + 1) bs))
   where
-    add : (f w : Bool) (t : Token) (ts : List Token) → t.at < at + length (b ∷ bs) → StartBefore (at + length (b ∷ bs)) ts → StartBefore (at + length (b ∷ bs)) (begins f w t ts)
+    add : (f w : Bool) (t : Token) (ts : List Token) → t.at < at + length (b ∷ bs) → StartBefore (at + length (b ∷ bs)) ts
+        → StartBefore (at + length (b ∷ bs)) (begins f w t ts)
     add true false t ts l k = (l, k)
     add true true t ts l k = k
     add false w t ts l k = k
@@ -307,7 +344,10 @@ starts-before f at (b ∷ bs) =
 inside-kept : (n m : ℕ) (ts : List Token) → StartBefore n ts → StartBefore n (kept m ts)
 inside-kept n m [] k = tt
 inside-kept n m (t ∷ ts) k =
-    elim (nat_lt (end_of t) m || is_long t) as (λ w. StartBefore n (cond w (t ∷ kept m ts) (kept m ts))) [ true ↦ (k.0, inside-kept n m ts k.1) | false ↦ inside-kept n m ts k.1 ]
+    elim (nat_lt (end_of t) m || is_long t) as (λ w. StartBefore n (cond w (t ∷ kept m ts) (kept m ts))) [
+      | true ↦ (k.0, inside-kept n m ts k.1)
+      | false ↦ inside-kept n m ts k.1
+    ]
 
 inside-heard : (n : ℕ) (ts : List Token) → StartBefore n ts → Inside n (map hear ts)
 inside-heard n [] k = tt
@@ -321,7 +361,9 @@ all-before : (xs : List ℕ) → StartBefore (length xs) (tokens xs)
 all-before xs = subst (λ n. StartBefore n (tokens xs)) (zero-add (length xs)) (starts-before true 0 xs)
 
 pub settled-place : (xs : List ℕ) (hs : List Heard) (h : Heard) → settled xs ≡ hs ++ h ∷ [] → place_of h < length xs
-settled-place xs hs h e = last-inside (length xs) hs h (subst (Inside (length xs)) e (inside-heard (length xs) (closed xs) (inside-kept (length xs) (length xs) (tokens xs) (all-before xs))))
+settled-place xs hs h e =
+    last-inside (length xs) hs h
+    (subst (Inside (length xs)) e (inside-heard (length xs) (closed xs) (inside-kept (length xs) (length xs) (tokens xs) (all-before xs))))
 
 pub heard-place : (xs : List ℕ) (hs : List Heard) (h : Heard) → heard xs ≡ hs ++ h ∷ [] → place_of h < length xs
 heard-place xs hs h e = last-inside (length xs) hs h (subst (Inside (length xs)) e (inside-heard (length xs) (tokens xs) (all-before xs)))

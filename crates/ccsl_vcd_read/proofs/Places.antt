@@ -1,5 +1,6 @@
 -- Codes in a table.
-use Rattle.std.proofs.Common.{◌≡◌, ℕ, zero, suc, ◌+◌, ◌<◌, ◌≤◌, List, [], ◌∷◌, ◌++◌, length, take, Bool, true, false, Some, cond, get_or, replicate, slice_set, refl, sym, ap, ◌∙◌, arith, ⊎_elim}
+use Rattle.std.proofs.Common.{◌≡◌, ℕ, zero, suc, ◌+◌, ◌<◌, ◌≤◌, List, [], ◌∷◌, ◌++◌, length, take, Bool, true, false, Some, cond, get_or, replicate, slice_set}
+use Rattle.std.proofs.Common.{refl, sym, ap, ◌∙◌, arith, ⊎_elim}
 use Rattle.std.proofs.lemmas.List.{get_or-set_same, get_or-set_other, take_all}
 use Rattle.std.proofs.lemmas.Bool.{cases_eq}
 use Rattle.ccsl_bind.specs.Codes.{number_of}
@@ -33,7 +34,8 @@ pub still-found : (old new : List ℕ) (codes : List (List ℕ)) → AreFound ol
 still-found old new codes h same text n e = h text n (sym (same (place_of text)) ∙ e)
 
 -- one more code was found
-pub one-found : (table : List ℕ) (codes : List (List ℕ)) (code : List ℕ) (p m : ℕ) → AreFound table codes → p ≡ place_of code → p < length table → p < SHORT → number_of code codes ≡ Some m → AreFound (slice_set table p (m + 1)) codes
+pub one-found : (table : List ℕ) (codes : List (List ℕ)) (code : List ℕ) (p m : ℕ) → AreFound table codes → p ≡ place_of code → p < length table → p < SHORT
+    → number_of code codes ≡ Some m → AreFound (slice_set table p (m + 1)) codes
 one-found table codes code p m h e l s f text n g =
     ⊎_elim
     (λ same.

@@ -1,5 +1,6 @@
 -- What a reader stands for behind tokens that were heard one after another.
-use Rattle.std.proofs.Common.{◌≡◌, ℕ, ◌+◌, ◌-◌, ◌≤◌, ◌<◌, List, [], ◌∷◌, ◌++◌, length, take, true, false, cond, Some, None, Result, Ok, Err, fold, map, get_or, refl, sym, ap, ap₂, ◌∙◌, subst, append_assoc, arith, length-append, zero-add}
+use Rattle.std.proofs.Common.{◌≡◌, ℕ, ◌+◌, ◌-◌, ◌≤◌, ◌<◌, List, [], ◌∷◌, ◌++◌, length, take, true, false, cond, Some, None, Result, Ok, Err, fold, map, get_or}
+use Rattle.std.proofs.Common.{refl, sym, ap, ap₂, ◌∙◌, subst, append_assoc, arith, length-append, zero-add}
 use Rattle.std.proofs.lemmas.List.{append-nil, take_more}
 use Rattle.ccsl_base.specs.declared.rows.Row.{Row}
 use Rattle.ccsl_vcd_lex.specs.Tokens.{is_white, Token, tokens_from, tokens, hear, word, too_long, settled, is_long}
@@ -53,28 +54,37 @@ no-err : (f : VcdFault) (p : Body × List Row) → Err f ≡ fine p → ⊥
 no-err f p e = cc
 
 -- a token, and those behind it
-module _ (wanted : Wanted) (limits : Limits) (ts : List Token) (c : Body) (rows : List Row) (st mid : Story) (each : (b d : Body) (more : List Row) → Shows b mid → hear_all b ts ≡ Ok (d, more) → Kept mid (told wanted limits mid ts) d more) where
-  rest : (q r : Body × List Row) → Kept st mid q.0 q.1 → hear_all q.0 ts ≡ Ok r → fine (r.0, q.1 ++ r.1) ≡ fine (c, rows) → Kept st (told wanted limits mid ts) c rows
+module _ (wanted : Wanted) (limits : Limits) (ts : List Token) (c : Body) (rows : List Row) (st mid : Story)
+    (each : (b d : Body) (more : List Row) → Shows b mid → hear_all b ts ≡ Ok (d, more) → Kept mid (told wanted limits mid ts) d more) where
+  rest : (q r : Body × List Row) → Kept st mid q.0 q.1 → hear_all q.0 ts ≡ Ok r → fine (r.0, q.1 ++ r.1) ≡ fine (c, rows)
+      → Kept st (told wanted limits mid ts) c rows
   rest q r k h g =
       let n = each q.0 r.0 r.1 k.0 h in
-      let p = same-parts r.0 c (q.1 ++ r.1) rows g in
-      (subst (λ x. Shows x (told wanted limits mid ts)) p.0 n.0, n.1 ∙ ap (λ rs. rs ++ r.1) k.1 ∙ append_assoc (complete st) q.1 r.1 ∙ ap (λ rs. complete st ++ rs) p.1)
+      let p = same-parts r.0 c (q.1 ++ r.1) rows g in (
+        subst (λ x. Shows x (told wanted limits mid ts)) p.0 n.0,
+        n.1 ∙ ap (λ rs. rs ++ r.1) k.1 ∙ append_assoc (complete st) q.1 r.1
+            ∙ ap (λ rs. complete st ++ rs) p.1,
+      )
 
-  more : (q : Body × List Row) → Kept st mid q.0 q.1 → (v : Result (Body × List Row) VcdFault) → hear_all q.0 ts ≡ v → behind q.1 v ≡ Ok (c, rows) → Kept st (told wanted limits mid ts) c rows
+  more : (q : Body × List Row) → Kept st mid q.0 q.1 → (v : Result (Body × List Row) VcdFault) → hear_all q.0 ts ≡ v → behind q.1 v ≡ Ok (c, rows)
+      → Kept st (told wanted limits mid ts) c rows
   more q k (Ok r) h g = rest q r k h g
   more q k (Err f) h g = absurd (no-err f (c, rows) g)
 
-  one-told : (r : Result (Body × List Row) VcdFault) → Hears st mid r → fold hear_next (behind [] r) ts ≡ Ok (c, rows) → Kept st (told wanted limits mid ts) c rows
+  one-told : (r : Result (Body × List Row) VcdFault) → Hears st mid r → fold hear_next (behind [] r) ts ≡ Ok (c, rows)
+      → Kept st (told wanted limits mid ts) c rows
   one-told (Ok q) k g = more q k (hear_all q.0 ts) refl (sym (hears-from q.0 q.1 ts) ∙ g)
   one-told (Err f) k g = absurd (no-err f (c, rows) (sym (err-stays f ts) ∙ g))
 
-all-told : (wanted : Wanted) (limits : Limits) (ts : List Token) (b c : Body) (st : Story) (rows : List Row) → Shows b st → hear_all b ts ≡ Ok (c, rows) → Kept st (told wanted limits st ts) c rows
+all-told : (wanted : Wanted) (limits : Limits) (ts : List Token) (b c : Body) (st : Story) (rows : List Row) → Shows b st → hear_all b ts ≡ Ok (c, rows)
+    → Kept st (told wanted limits st ts) c rows
 all-told wanted limits [] b c st rows s e =
     let p = same-parts b c [] rows e in
     (subst (λ x. Shows x st) p.0 s, sym (append-nil (complete st)) ∙ ap (λ rs. complete st ++ rs) p.1)
 all-told wanted limits (t ∷ ts) b c st rows s e =
     let mid = next wanted limits st (word t) in
-    one-told wanted limits ts c rows st mid (λ b' d more x h. all-told wanted limits ts b' d mid more x h) (hear_of b t.at t.text) (hears wanted limits b st s t.at t.text) e
+    one-told wanted limits ts c rows st mid (λ b' d more x h. all-told wanted limits ts b' d mid more x h) (hear_of b t.at t.text)
+    (hears wanted limits b st s t.at t.text) e
 
 -- What bytes behind a token settle.
 
@@ -92,25 +102,35 @@ unfolding tokens_from
 nothing-at n = refl
 
 all-settled : (bytes : List ℕ) → fresh_after true bytes ≡ true → settled bytes ≡ map hear (tokens bytes)
-all-settled bytes f = ap settled (sym (append-nil bytes)) ∙ settled-at bytes [] f ∙ ap (λ hs. map hear (tokens bytes) ++ hs) (nothing-at (length bytes)) ∙ append-nil (map hear (tokens bytes))
+all-settled bytes f = ap settled (sym (append-nil bytes)) ∙ settled-at bytes [] f ∙ ap (λ hs. map hear (tokens bytes) ++ hs) (nothing-at (length bytes))
+    ∙ append-nil (map hear (tokens bytes))
 
-settles-part : (n : ℕ) (part : List ℕ) → fresh_after true part ≡ true → first_long (tokens_from true n part) ≡ None → settles_at n part ≡ map word (tokens_from true n part)
+settles-part : (n : ℕ) (part : List ℕ) → fresh_after true part ≡ true → first_long (tokens_from true n part) ≡ None
+    → settles_at n part ≡ map word (tokens_from true n part)
 settles-part n part f h = ap (map hear) (all-kept (n + length part) (tokens_from true n part) (ends-before true n part f)) ∙ words (tokens_from true n part) h
 
-pub settles-run : (bytes part : List ℕ) → fresh_after true bytes ≡ true → fresh_after true part ≡ true → first_long (tokens_from true (length bytes) part) ≡ None
+pub settles-run : (bytes part : List ℕ) → fresh_after true bytes ≡ true → fresh_after true part ≡ true
+    → first_long (tokens_from true (length bytes) part) ≡ None
     → settled (bytes ++ part) ≡ settled bytes ++ map word (tokens_from true (length bytes) part)
-settles-run bytes part f g h = settled-at bytes part f ∙ ap (λ hs. hs ++ settles_at (length bytes) part) (sym (all-settled bytes f)) ∙ ap (λ hs. settled bytes ++ hs) (settles-part (length bytes) part g h)
+settles-run bytes part f g h =
+    settled-at bytes part f ∙ ap (λ hs. hs ++ settles_at (length bytes) part) (sym (all-settled bytes f))
+    ∙ ap (λ hs. settled bytes ++ hs) (settles-part (length bytes) part g h)
 
-pub short-run : (bytes part : List ℕ) → fresh_after true bytes ≡ true → first_long (tokens bytes) ≡ None → first_long (tokens_from true (length bytes) part) ≡ None → first_long (tokens (bytes ++ part)) ≡ None
+pub short-run : (bytes part : List ℕ) → fresh_after true bytes ≡ true → first_long (tokens bytes) ≡ None
+    → first_long (tokens_from true (length bytes) part) ≡ None → first_long (tokens (bytes ++ part)) ≡ None
 short-run bytes part f n h =
-    ap first_long (tokens-cut true 0 bytes part f ∙ ap (λ k. tokens bytes ++ tokens_from true k part) (zero-add (length bytes))) ∙ long-append (tokens bytes) (tokens_from true (length bytes) part) n ∙ h
+    ap first_long (tokens-cut true 0 bytes part f ∙ ap (λ k. tokens bytes ++ tokens_from true k part) (zero-add (length bytes)))
+    ∙ long-append (tokens bytes) (tokens_from true (length bytes) part) n ∙ h
 
 -- the rows that a part of a body completes
-pub part-rows : (wanted : Wanted) (v : Reading) (bytes part : List ℕ) (b c : Body) (x y : List Row) → Running wanted v bytes → v.stage ≡ stage.Body b → (r : Runs b c (length bytes) part x y) → fresh_after true bytes ≡ true
+pub part-rows : (wanted : Wanted) (v : Reading) (bytes part : List ℕ) (b c : Body) (x y : List Row) → Running wanted v bytes → v.stage ≡ stage.Body b
+    → (r : Runs b c (length bytes) part x y) → fresh_after true bytes ≡ true
     → complete (story wanted v.limits (settled (bytes ++ part))) ≡ complete (story wanted v.limits (settled bytes)) ++ r.pushed
 part-rows wanted v bytes part b c x y s e r f =
-    let shows : Shows b (story wanted v.limits (settled bytes)) = subst (λ (t : Stage). Rattle.ccsl_vcd_read.specs.Staging.Pictures wanted v.limits t (story wanted v.limits (settled bytes))) e s.pictures in
-    ap complete (ap (story wanted v.limits) (settles-run bytes part f r.fresh r.short) ∙ story-more wanted v.limits (settled bytes) (map word (tokens_from true (length bytes) part)))
+    let shows : Shows b (story wanted v.limits (settled bytes)) =
+    subst (λ (t : Stage). Rattle.ccsl_vcd_read.specs.Staging.Pictures wanted v.limits t (story wanted v.limits (settled bytes))) e s.pictures in
+    ap complete (ap (story wanted v.limits) (settles-run bytes part f r.fresh r.short)
+    ∙ story-more wanted v.limits (settled bytes) (map word (tokens_from true (length bytes) part)))
     ∙ (all-told wanted v.limits (tokens_from true (length bytes) part) b c (story wanted v.limits (settled bytes)) r.pushed shows r.hears).1
 
 -- A reader of a body goes on.
@@ -119,7 +139,8 @@ pub record Races (wanted : Wanted) (v w : Reading) (bytes more : List ℕ) (befo
   pub pushes : Pushes (done wanted v.limits bytes) (done wanted v.limits more) before after
   pub past : past_header wanted v.limits more ≡ past_header wanted v.limits bytes
 
-module _ (wanted : Wanted) (v : Reading) (lx : Passing) (bytes part : List ℕ) (b c : Body) (n : ℕ) (x y : List Row) (s : Running wanted v bytes) (e : v.stage ≡ stage.Body b) (r : Runs b c v.taken part x y) (f : fresh_after true bytes ≡ true)
+module _ (wanted : Wanted) (v : Reading) (lx : Passing) (bytes part : List ℕ) (b c : Body) (n : ℕ) (x y : List Row) (s : Running wanted v bytes)
+    (e : v.stage ≡ stage.Body b) (r : Runs b c v.taken part x y) (f : fresh_after true bytes ≡ true)
     (k : length part ≡ n) (l : Lexes lx (bytes ++ part)) (m : length (bytes ++ part) ≤ v.limits.bytes) where
   here : Runs b c (length bytes) part x y
   here = subst (λ i. Runs b c i part x y) s.taken r
@@ -159,7 +180,8 @@ module _ (wanted : Wanted) (v : Reading) (lx : Passing) (bytes part : List ℕ) 
     within = m;
     pictures = subst (λ st. Shows c st) (sym more-story) kept.0;
     rows =
-        ap (λ i. v.rows + i) pushed-length ∙ ap (λ i. i + length here.pushed) s.rows ∙ sym (length-append (complete (story wanted v.limits (settled bytes))) here.pushed) ∙ ap length (sym more-rows);
+        ap (λ i. v.rows + i) pushed-length ∙ ap (λ i. i + length here.pushed) s.rows
+        ∙ sym (length-append (complete (story wanted v.limits (settled bytes))) here.pushed) ∙ ap length (sym more-rows);
     few = omega (arith, few-now, pushed-length, here.few, k);
   }
 
@@ -192,16 +214,21 @@ bodies stage.Unbound t at part x y h = absurd h
 
 -- the lexer passed over the bytes
 abbrev Passes : Passing → Passing → ℕ → Type 0
-Passes v w n = (bytes part : List ℕ) → Lexes v bytes → first_long (tokens bytes) ≡ None → length part ≡ n → fresh_after true (bytes ++ part) ≡ true → first_long (tokens (bytes ++ part)) ≡ None → Lexes w (bytes ++ part)
+Passes v w n = (bytes part : List ℕ) → Lexes v bytes → first_long (tokens bytes) ≡ None → length part ≡ n → fresh_after true (bytes ++ part) ≡ true
+    → first_long (tokens (bytes ++ part)) ≡ None → Lexes w (bytes ++ part)
 
-pub race-on : (wanted : Wanted) (v : Reading) (lx : Passing) (bytes part : List ℕ) (t : Stage) (n : ℕ) (x y : List Row) → Running wanted v bytes → RunsIn v.stage t v.taken part x y → v.lexing.inner.open_text ≡ [] → Passes v.lexing lx n
-    → length part ≡ n → length (bytes ++ part) ≤ v.limits.bytes → Races wanted v (record v { lexing = lx; taken = v.taken + n; stage = t; rows = v.rows + (length y - length x) }) bytes (bytes ++ part) x y
+pub race-on : (wanted : Wanted) (v : Reading) (lx : Passing) (bytes part : List ℕ) (t : Stage) (n : ℕ) (x y : List Row) → Running wanted v bytes
+    → RunsIn v.stage t v.taken part x y → v.lexing.inner.open_text ≡ [] → Passes v.lexing lx n
+    → length part ≡ n → length (bytes ++ part) ≤ v.limits.bytes
+    → Races wanted v (record v { lexing = lx; taken = v.taken + n; stage = t; rows = v.rows + (length y - length x) }) bytes (bytes ++ part) x y
 race-on wanted v lx bytes part t n x y s h o p k m =
     let q = bodies v.stage t v.taken part x y h in
     let r : Runs q.b q.c (length bytes) part x y = subst (λ i. Runs q.b q.c i part x y) s.taken q.ran in
     let f : fresh_after true bytes ≡ true = fresh-open v.lexing bytes s.lexes s.short o in
-    let l : Lexes lx (bytes ++ part) = p bytes part s.lexes s.short k (fresh-append true bytes part ∙ ap (λ w. fresh_after w part) f ∙ r.fresh) (short-run bytes part f s.short r.short) in
-    subst (λ (u : Stage). Races wanted v (record v { lexing = lx; taken = v.taken + n; stage = u; rows = v.rows + (length y - length x) }) bytes (bytes ++ part) x y) (sym q.new)
+    let l : Lexes lx (bytes ++ part) =
+    p bytes part s.lexes s.short k (fresh-append true bytes part ∙ ap (λ w. fresh_after w part) f ∙ r.fresh) (short-run bytes part f s.short r.short) in
+    subst (λ (u : Stage). Races wanted v (record v { lexing = lx; taken = v.taken + n; stage = u; rows = v.rows + (length y - length x) }) bytes (bytes ++ part)
+    x y) (sym q.new)
     (races wanted v lx bytes part q.b q.c n x y s q.old q.ran f k l m)
 
 -- few rows were given out
@@ -232,9 +259,11 @@ raced wanted v lx bytes piece cut t count a b x y s k h o p ea eb =
     (subst (λ i. Races wanted v (new i) bytes (bytes ++ take count cut) x y) n r)
 
 -- white space was taken last
-pub white-last : (bytes piece : List ℕ) (n : ℕ) → 0 < n → n ≤ length piece → is_white (get_or piece (n - 1) 0) ≡ true → fresh_after true (bytes ++ take n piece) ≡ true
+pub white-last : (bytes piece : List ℕ) (n : ℕ) → 0 < n → n ≤ length piece → is_white (get_or piece (n - 1) 0) ≡ true
+    → fresh_after true (bytes ++ take n piece) ≡ true
 white-last bytes piece n some within w =
     let k : n ≡ n - 1 + 1 = omega (arith, some) in
     let x = get_or piece (n - 1) 0 in
     ap (λ i. fresh_after true (bytes ++ take i piece)) k ∙ ap (λ xs. fresh_after true (bytes ++ xs)) (take_more piece (n - 1) 0 (omega (arith, some, within)))
-    ∙ ap (fresh_after true) (sym (append_assoc bytes (take (n - 1) piece) (x ∷ []))) ∙ fresh-behind true (bytes ++ take (n - 1) piece) (x ∷ []) (w, tt) (omega arith)
+    ∙ ap (fresh_after true) (sym (append_assoc bytes (take (n - 1) piece) (x ∷ [])))
+    ∙ fresh-behind true (bytes ++ take (n - 1) piece) (x ∷ []) (w, tt) (omega arith)

@@ -1,5 +1,6 @@
 -- The rows of every text are in order.
-use Rattle.std.proofs.Common.{◌≡◌, ◌≢◌, ℕ, ◌≤◌, ◌<◌, List, [], ◌∷◌, ◌++◌, Bool, true, false, Option, Some, None, nat_eq, nat_lt, cond, filter, map, refl, sym, ◌∙◌, subst, append_assoc, length, take, arith}
+use Rattle.std.proofs.Common.{◌≡◌, ◌≢◌, ℕ, ◌≤◌, ◌<◌, List, [], ◌∷◌, ◌++◌, Bool, true, false, Option, Some, None, nat_eq, nat_lt, cond, filter, map, refl, sym}
+use Rattle.std.proofs.Common.{◌∙◌, subst, append_assoc, length, take, arith}
 use Rattle.std.specs.Prelude.{fold, bytes_eq, codes}
 use Rattle.std.specs.List.{list_all, AllByRecursion}
 use Rattle.std.proofs.lemmas.Bool.{and_parts, lt-ltb, ltb-false, eq-eqb}
@@ -72,7 +73,8 @@ times-rise (c ∷ cs) f = put-rises c.time (times cs) (least-times c.time cs f.0
 
 -- So do those of the rows.
 
-later-rows : (t : ℕ) (q : Row → Bool) (f : ℕ → Row) (ts : List ℕ) → ((u : ℕ) → (f u).time ≡ u) → AllByRecursion (λ u. t < u) ts → list_all (λ r. nat_lt t r.time) (filter q (map f ts)) ≡ true
+later-rows : (t : ℕ) (q : Row → Bool) (f : ℕ → Row) (ts : List ℕ) → ((u : ℕ) → (f u).time ≡ u) → AllByRecursion (λ u. t < u) ts
+    → list_all (λ r. nat_lt t r.time) (filter q (map f ts)) ≡ true
 later-rows t q f [] same h = refl
 later-rows t q f (u ∷ ts) same h =
     let ih = later-rows t q f ts same h.1 in
@@ -140,7 +142,9 @@ same-time n = (omega arith, tt)
 
 changed-steps : (b : p.Body) (t : Token) (code : List ℕ) (one : Bool) → Steps b.now (changed b t code one)
 changed-steps b t code one =
-    elim (is_declared b.declared code) as (λ x. Steps b.now (cond x (p.goes (p.body (record b { amid = p.changes })) (record { time = b.now; code = code; one = one; dumped = b.dumping } ∷ [])) (p.refused (faults.UnknownCode t.at)))) [
+    elim (is_declared b.declared code) as (λ x. Steps b.now
+    (cond x (p.goes (p.body (record b { amid = p.changes })) (record { time = b.now; code = code; one = one; dumped = b.dumping } ∷ []))
+    (p.refused (faults.UnknownCode t.at)))) [
       | true ↦ (omega arith, (refl, tt))
       | false ↦ tt
     ]
@@ -150,10 +154,12 @@ either-steps b true r s h k = h
 either-steps b false r s h k = k
 
 change-steps : (b : p.Body) (t : Token) (x : w.Word) → Steps b.now (change_says b t x)
-change-steps b t (w.time n) = (elim (nat_lt n b.now) as (λ y. nat_lt n b.now ≡ y → Steps b.now (cond y (p.refused (faults.TimeBack t.at b.now n)) (p.goes (p.body (record b { now = n })) []))) [
-  | true ↦ λ e. tt
-  | false ↦ λ e. (ltb-false n b.now e, tt)
-]) refl
+change-steps b t (w.time n) =
+    (elim (nat_lt n b.now) as (λ y. nat_lt n b.now ≡ y
+    → Steps b.now (cond y (p.refused (faults.TimeBack t.at b.now n)) (p.goes (p.body (record b { now = n })) []))) [
+      | true ↦ λ e. tt
+      | false ↦ λ e. (ltb-false n b.now e, tt)
+    ]) refl
 change-steps b t (w.scalar one code) = changed-steps b t code one
 change-steps b t (w.vector one) = same-time b.now
 change-steps b t w.skipped = same-time b.now
@@ -187,18 +193,21 @@ told-orderly : (cs : List p.Change) (v : p.Where) (s : p.Said) → Orderly cs v 
 told-orderly cs v (p.refused f) o s = o
 told-orderly cs v (p.goes u ds) o s = grow cs ds o.falls (up-to (now_at v) (now_at u) cs s.0 o.within) s.1
   where
-    grow : (xs es : List p.Change) → NotFalling xs → AllByRecursion (λ c. c.time ≤ now_at u) xs → AllByRecursion (λ c. c.time ≡ now_at u) es → Orderly (xs ++ es) u
+    grow : (xs es : List p.Change) → NotFalling xs → AllByRecursion (λ c. c.time ≤ now_at u) xs → AllByRecursion (λ c. c.time ≡ now_at u) es
+        → Orderly (xs ++ es) u
     grow xs [] f k e = subst (λ ys. Orderly ys u) (sym (append-nil xs)) (record { falls = f; within = k })
     grow xs (c ∷ es) f k e =
         let low : AllByRecursion (λ x. x.time ≤ c.time) xs = up-to (now_at u) c.time xs (omega (arith, e.0)) k in
         subst (λ ys. Orderly ys u) (append_assoc xs (c ∷ []) es)
         (grow (xs ++ c ∷ []) es (one-more xs c f low) (all-one (λ x. x.time ≤ now_at u) xs c k (omega (arith, e.0))) e.1)
 
-next-orderly : (wanted : Wanted) (l : Limits) (cs : List p.Change) (v : p.Where) (o : Option VcdFault) (h : Heard) → Orderly cs v → Orderly (next_from wanted l cs v o h).changes (next_from wanted l cs v o h).place
+next-orderly : (wanted : Wanted) (l : Limits) (cs : List p.Change) (v : p.Where) (o : Option VcdFault) (h : Heard) → Orderly cs v
+    → Orderly (next_from wanted l cs v o h).changes (next_from wanted l cs v o h).place
 next-orderly wanted l cs v None h k = told-orderly cs v (says wanted l v h) k (says-steps wanted l v h)
 next-orderly wanted l cs v (Some f) h k = k
 
-fold-orderly : (wanted : Wanted) (l : Limits) (s : Story) (hs : List Heard) → Orderly s.changes s.place → Orderly (fold (next wanted l) s hs).changes (fold (next wanted l) s hs).place
+fold-orderly : (wanted : Wanted) (l : Limits) (s : Story) (hs : List Heard) → Orderly s.changes s.place
+    → Orderly (fold (next wanted l) s hs).changes (fold (next wanted l) s hs).place
 fold-orderly wanted l s [] k = k
 fold-orderly wanted l s (h ∷ hs) k = fold-orderly wanted l (next wanted l s h) hs (next-orderly wanted l s.changes s.place s.fault h k)
 

@@ -1,5 +1,7 @@
 -- Tokens that are heard one after another.
-use Rattle.std.proofs.Common.{◌≡◌, ℕ, ◌+◌, ◌-◌, ◌≤◌, ◌<◌, List, [], ◌∷◌, ◌++◌, length, take, drop, get_or, true, false, Some, None, Result, Ok, Err, cond, zero, suc, nat_eq, ◌||◌, length-take-le, map, ◌⊎◌, inl, inr, fold, refl, sym, ap, ◌∙◌, subst, append_assoc, arith, length-append, length-drop}
+use Rattle.std.proofs.Common.{◌≡◌, ℕ, ◌+◌, ◌-◌, ◌≤◌, ◌<◌, List, [], ◌∷◌, ◌++◌, length, take, drop, get_or, true, false, Some, None, Result, Ok, Err, cond, zero}
+use Rattle.std.proofs.Common.{suc, nat_eq, ◌||◌, length-take-le, map, ◌⊎◌, inl, inr, fold, refl, sym, ap, ◌∙◌, subst, append_assoc, arith, length-append}
+use Rattle.std.proofs.Common.{length-drop}
 use Rattle.std.specs.List.{prefix_len}
 use Rattle.std.proofs.lemmas.List.{append-nil, take-take, take_more, drop-drop}
 use Rattle.std.proofs.lemmas.Bool.{eqb-true, not-true, not-false}
@@ -31,7 +33,8 @@ next-behind : (rows : List Row) (r : Result (Body × List Row) VcdFault) (t : To
 next-behind rows (Ok p) t = behind-both rows p.1 (hear_of p.0 t.at t.text)
 next-behind rows (Err f) t = refl
 
-pub all-behind : (rows : List Row) (r : Result (Body × List Row) VcdFault) (ts : List Token) → fold hear_next (behind rows r) ts ≡ behind rows (fold hear_next r ts)
+pub all-behind : (rows : List Row) (r : Result (Body × List Row) VcdFault) (ts : List Token)
+    → fold hear_next (behind rows r) ts ≡ behind rows (fold hear_next r ts)
 all-behind rows r [] = refl
 all-behind rows r (t ∷ ts) = ap (λ q. fold hear_next q ts) (next-behind rows r t) ∙ all-behind rows (hear_next r t) ts
 
@@ -54,7 +57,8 @@ runs-both a b c at p q x y z r s =
       pushed = r.pushed ++ s.pushed;
       hears =
           ap (hear_all a) cut ∙ fold-both (Ok (a, [])) (tokens_from true at p) (tokens_from true (at + length p) q)
-          ∙ ap (λ u. fold hear_next u (tokens_from true (at + length p) q)) r.hears ∙ hears-from b r.pushed (tokens_from true (at + length p) q) ∙ ap (behind r.pushed) s.hears;
+          ∙ ap (λ u. fold hear_next u (tokens_from true (at + length p) q)) r.hears ∙ hears-from b r.pushed (tokens_from true (at + length p) q)
+          ∙ ap (behind r.pushed) s.hears;
       rows = s.rows ∙ ap (λ rs. rs ++ s.pushed) r.rows ∙ append_assoc x r.pushed s.pushed;
       fresh = fresh-append true p q ∙ ap (λ w. fresh_after w q) r.fresh ∙ s.fresh;
       short = ap first_long cut ∙ long-append (tokens_from true at p) (tokens_from true (at + length p) q) r.short ∙ s.short;
@@ -80,7 +84,8 @@ unfolding first_long
 short-one at text h = rw (Rattle.std.proofs.lemmas.Bool.le-ltb 65536 (length text) h) refl
 
 -- a token, and the white space behind it
-pub runs-word : (b c : Body) (at w : ℕ) (text : List ℕ) (x y : List Row) → Dark text → 0 < length text → length text ≤ 65536 → is_white w ≡ true → Says (hear_of b at text) (Ok tt) b c x y
+pub runs-word : (b c : Body) (at w : ℕ) (text : List ℕ) (x y : List Row) → Dark text → 0 < length text → length text ≤ 65536 → is_white w ≡ true
+    → Says (hear_of b at text) (Ok tt) b c x y
     → Runs b c at (text ++ w ∷ []) x y
 runs-word b c at w [] x y d n l h e = absurd (omega arith)
 runs-word b c at w (t ∷ ts) x y d n l h e = go (hear_of b at (t ∷ ts)) refl e
@@ -121,7 +126,8 @@ dark-but-last n bytes e =
     let k : prefix_len is_dark bytes ≡ n + 1 - 1 = omega (arith, e) in
     subst (λ i. Dark (take i bytes)) k (dark-front bytes)
 
-pub front-white : (b : Body) (at end : ℕ) (bytes : List ℕ) (rows : List Row) → end ≡ prefix_len is_dark bytes → end ≡ 0 → end < length bytes → Runs b b at (take 1 bytes) rows rows
+pub front-white : (b : Body) (at end : ℕ) (bytes : List ℕ) (rows : List Row) → end ≡ prefix_len is_dark bytes → end ≡ 0 → end < length bytes
+    → Runs b b at (take 1 bytes) rows rows
 front-white b at end [] rows e z l = absurd (omega arith)
 front-white b at end (x ∷ xs) rows e z l =
     let k : prefix_len is_dark (x ∷ xs) ≡ 0 = sym e ∙ z in
@@ -132,11 +138,13 @@ pub front-word : (b c : Body) (at end : ℕ) (bytes : List ℕ) (x y : List Row)
 front-word b c at end bytes x y e n l m s =
     let k : length (take end bytes) ≡ end = length-take-le end bytes (omega (arith, l)) in
     subst (λ part. Runs b c at part x y) (sym (take_more bytes end 0 l))
-    (runs-word b c at (get_or bytes end 0) (take end bytes) x y (subst (λ i. Dark (take i bytes)) (sym e) (dark-front bytes)) (omega (arith, k, n)) (omega (arith, k, m))
+    (runs-word b c at (get_or bytes end 0) (take end bytes) x y (subst (λ i. Dark (take i bytes)) (sym e) (dark-front bytes)) (omega (arith, k, n))
+    (omega (arith, k, m))
     (subst (λ i. is_white (get_or bytes i 0) ≡ true) (sym e) (white-stop bytes (omega (arith, e, l)))) s)
 
 -- the rest of a piece, as a slice gives it
-pub runs-on : (a b c : Body) (at i n : ℕ) (piece rest : List ℕ) (x y z : List Row) → i ≤ length piece → rest ≡ drop i piece → Runs a b at (take i piece) x y → Runs b c (at + i) (take n rest) y z → Runs a c at (take (i + n) piece) x z
+pub runs-on : (a b c : Body) (at i n : ℕ) (piece rest : List ℕ) (x y z : List Row) → i ≤ length piece → rest ≡ drop i piece → Runs a b at (take i piece) x y
+    → Runs b c (at + i) (take n rest) y z → Runs a c at (take (i + n) piece) x z
 runs-on a b c at i n piece rest x y z l e r s =
     let k : length (take i piece) ≡ i = length-take-le i piece l in
     subst (λ part. Runs a c at part x z) (ap (λ xs. take i piece ++ take n xs) e ∙ sym (take-add i n piece))
@@ -187,7 +195,8 @@ runs-nothing b c at k rest y z r e =
     omega (arith, few, none, ap length r.rows ∙ length-append y r.pushed)
 
 -- The next bytes, which end one token by their last, come behind bytes that left room.
-pub fills-last : (a b : Body) (at k : ℕ) (piece rest more : List ℕ) (x y : List Row) (room : ℕ) → RunsBefore a b at piece rest x y → k ≤ length rest → 0 < k → length y < room → Dark (take (k - 1) rest)
+pub fills-last : (a b : Body) (at k : ℕ) (piece rest more : List ℕ) (x y : List Row) (room : ℕ) → RunsBefore a b at piece rest x y → k ≤ length rest → 0 < k
+    → length y < room → Dark (take (k - 1) rest)
     → more ≡ drop k rest → Fills a at (take (length piece - length more) piece) x room
 fills-last a b at k piece rest more x y room so within some left one cut =
     let n : ℕ = length piece - length rest in
@@ -229,8 +238,10 @@ short-word first [] w n = absurd (omega arith)
 short-word first (c ∷ cs) (inl e) n = rw e refl
 short-word first (c ∷ cs) (inr e) n = rw e refl
 
-pub short-says : (b c : Body) (first number : ℕ) (code : List ℕ) → is_changes (amid_of b.amid) ≡ true → (first ≡ 48) ⊎ (first ≡ 49) → 0 < length code → number_of code b.binding.codes ≡ Some number
-    → c ≡ record b { marks = map (put number (nat_eq first 49) b.dumping) b.marks } → (at : ℕ) (rows : List Row) → Says (hear_of b at (first ∷ code)) (Ok tt) b c rows rows
+pub short-says : (b c : Body) (first number : ℕ) (code : List ℕ) → is_changes (amid_of b.amid) ≡ true → (first ≡ 48) ⊎ (first ≡ 49) → 0 < length code
+    → number_of code b.binding.codes ≡ Some number
+    → c ≡ record b { marks = map (put number (nat_eq first 49) b.dumping) b.marks } → (at : ℕ) (rows : List Row)
+    → Says (hear_of b at (first ∷ code)) (Ok tt) b c rows rows
 short-says b c first number code a w n f e at rows =
     let amid : b.amid ≡ Changes = is-changes b.amid a in
     let said : hear_of b at (first ∷ code) ≡ Ok (record b { amid = Changes; marks = map (put number (nat_eq first 49) b.dumping) b.marks }, []) =

@@ -1,5 +1,6 @@
 -- Changes that are made where they lie.
-use Rattle.std.proofs.Common.{◌≡◌, ℕ, suc, ◌+◌, ◌-◌, ◌<◌, ◌≤◌, ◌⊎◌, inl, inr, List, [], ◌∷◌, length, take, drop, get_or, map, Bool, true, false, not, nat_eq, ◌||◌, cond, Some, Ok, refl, sym, ap, ◌∙◌, subst, arith, length-drop, length-take-le}
+use Rattle.std.proofs.Common.{◌≡◌, ℕ, suc, ◌+◌, ◌-◌, ◌<◌, ◌≤◌, ◌⊎◌, inl, inr, List, [], ◌∷◌, length, take, drop, get_or, map, Bool, true, false, not, nat_eq}
+use Rattle.std.proofs.Common.{◌||◌, cond, Some, Ok, refl, sym, ap, ◌∙◌, subst, arith, length-drop, length-take-le}
 use Rattle.std.specs.List.{list_all, prefix_len}
 use Rattle.std.proofs.lemmas.Bool.{and_parts}
 use Rattle.std.proofs.lemmas.List.{append-nil, drop-drop}
@@ -88,7 +89,8 @@ unfolding is_white
 bit-dark b (inl e) = rw e refl
 bit-dark b (inr e) = rw e refl
 
-one-more : (q : ℕ → Bool) (n : ℕ) (bytes : List ℕ) → 0 < length bytes → q (get_or bytes 0 0) ≡ true → n ≡ prefix_len q (drop 1 bytes) → n + 1 ≡ prefix_len q bytes
+one-more : (q : ℕ → Bool) (n : ℕ) (bytes : List ℕ) → 0 < length bytes → q (get_or bytes 0 0) ≡ true → n ≡ prefix_len q (drop 1 bytes)
+    → n + 1 ≡ prefix_len q bytes
 one-more q n [] l h e = absurd (omega arith)
 one-more q n (x ∷ xs) l h e = rw h (let k : n + 1 ≡ 1 + prefix_len q xs = omega (arith, e) in k)
 
@@ -105,7 +107,8 @@ bit-made b c n place number bytes s a w f e =
     let sum : (n + 1) + 1 ≡ n + 2 = omega arith in
     let text : take (n + 1) bytes ≡ first ∷ code = take-first (n + 1) bytes (omega arith) some ∙ ap (λ (k : ℕ). first ∷ take k (drop 1 bytes)) back in
     subst (Made b c bytes) sum
-    (made-word b c (n + 1) bytes (one-more is_dark n bytes some (bit-dark first (bit-of first w)) s.run) (omega arith) (omega (arith, s.inside, rest)) (omega (arith, s.most))
+    (made-word b c (n + 1) bytes (one-more is_dark n bytes some (bit-dark first (bit-of first w)) s.run) (omega arith) (omega (arith, s.inside, rest))
+    (omega (arith, s.most))
     (λ at rows. subst (λ (t : List ℕ). Says (hear_of b at t) (Ok tt) b c rows rows) (sym text)
     (short-says b c first number code a (bit-of first w) (omega (arith, len, s.some)) f e at rows)))
 
@@ -126,7 +129,8 @@ unfolding word_of
 vector-word [] n h = absurd (omega arith)
 vector-word (l ∷ ls) n h = let s = bits-scalar (l ∷ ls) h in rw s refl
 
-vector-says : (b : Body) (letters : List ℕ) → is_changes (amid_of b.amid) ≡ true → 0 < length letters → list_all is_bit letters ≡ true → (at : ℕ) (rows : List Row)
+vector-says : (b : Body) (letters : List ℕ) → is_changes (amid_of b.amid) ≡ true → 0 < length letters → list_all is_bit letters ≡ true
+    → (at : ℕ) (rows : List Row)
     → Says (hear_of b at (98 ∷ letters)) (Ok tt) b (record b { amid = Code (nat_eq (last_of 98 letters) 49) }) rows rows
 vector-says b letters a n h at rows =
     let said : hear_of b at (98 ∷ letters) ≡ Ok (record b { amid = Code (nat_eq (last_of 98 letters) 49) }, []) =
@@ -134,26 +138,33 @@ vector-says b letters a n h at rows =
     rw said (refl, sym (append-nil rows))
 
 code-says : (b c : Body) (one : Bool) (number : ℕ) (code : List ℕ) → is_changes (amid_of b.amid) ≡ true → number_of code b.binding.codes ≡ Some number
-    → c ≡ record b { marks = map (put number one b.dumping) b.marks } → (at : ℕ) (rows : List Row) → Says (hear_of (record b { amid = Code one }) at code) (Ok tt) (record b { amid = Code one }) c rows rows
+    → c ≡ record b { marks = map (put number one b.dumping) b.marks } → (at : ℕ) (rows : List Row)
+    → Says (hear_of (record b { amid = Code one }) at code) (Ok tt) (record b { amid = Code one }) c rows rows
 code-says b c one number code a f e at rows =
-    let said : hear_of (record b { amid = Code one }) at code ≡ Ok (record b { amid = Changes; marks = map (put number one b.dumping) b.marks }, []) = ap (put_number (record b { amid = Code one }) at one) f in
+    let said : hear_of (record b { amid = Code one }) at code ≡ Ok (record b { amid = Changes; marks = map (put number one b.dumping) b.marks }, []) =
+    ap (put_number (record b { amid = Code one }) at one) f in
     rw said (e ∙ ap (λ (x : Amid). record b { amid = x; marks = map (put number one b.dumping) b.marks }) (is-changes b.amid a), sym (append-nil rows))
 
-pub vector-made : (b c : Body) (k n place number : ℕ) (bytes rest : List ℕ) → is_changes (amid_of b.amid) ≡ true → get_or bytes 0 0 ≡ 98 → 0 < k → list_all is_bit (take k (drop 1 bytes)) ≡ true
-    → k + 1 < length bytes → k + 1 ≤ 65536 → is_white (get_or bytes (k + 1) 0) ≡ true → rest ≡ drop (k + 2) bytes → IsCode n place rest → number_of (take n rest) b.binding.codes ≡ Some number
+pub vector-made : (b c : Body) (k n place number : ℕ) (bytes rest : List ℕ) → is_changes (amid_of b.amid) ≡ true → get_or bytes 0 0 ≡ 98 → 0 < k
+    → list_all is_bit (take k (drop 1 bytes)) ≡ true
+    → k + 1 < length bytes → k + 1 ≤ 65536 → is_white (get_or bytes (k + 1) 0) ≡ true → rest ≡ drop (k + 2) bytes → IsCode n place rest
+    → number_of (take n rest) b.binding.codes ≡ Some number
     → c ≡ record b { marks = map (put number (nat_eq (last_of 98 (take k (drop 1 bytes))) 49) b.dumping) b.marks } → Made b c bytes ((k + 2) + (n + 1))
 vector-made b c k n place number bytes rest a first some bits inside few white after s f e =
     let letters : List ℕ = take k (drop 1 bytes) in
     let len : length letters ≡ k = length-take-le k (drop 1 bytes) (omega (arith, length-drop 1 bytes, inside)) in
     let back : (k + 1) - 1 ≡ k = omega arith in
     let sum : (k + 1) + 1 ≡ k + 2 = omega arith in
-    let text : take (k + 1) bytes ≡ 98 ∷ letters = take-first (k + 1) bytes (omega arith) (omega (arith, inside)) ∙ ap (λ (x : ℕ). x ∷ take ((k + 1) - 1) (drop 1 bytes)) first ∙ ap (λ (i : ℕ). 98 ∷ take i (drop 1 bytes)) back in
+    let text : take (k + 1) bytes ≡ 98 ∷ letters =
+    take-first (k + 1) bytes (omega arith) (omega (arith, inside)) ∙ ap (λ (x : ℕ). x ∷ take ((k + 1) - 1) (drop 1 bytes)) first
+    ∙ ap (λ (i : ℕ). 98 ∷ take i (drop 1 bytes)) back in
     let dark : list_all is_dark (take (k + 1) bytes) ≡ true = ap (list_all is_dark) text ∙ all-dark letters bits in
     let mid : Body = record b { amid = Code (nat_eq (last_of 98 letters) 49) } in
     made-both b mid c (k + 2) (n + 1) bytes rest after
     (subst (Made b mid bytes) sum
     (made-word b mid (k + 1) bytes (run-is is_dark (k + 1) bytes dark inside (ap not white)) (omega arith) inside few
-    (λ at rows. subst (λ (t : List ℕ). Says (hear_of b at t) (Ok tt) b mid rows rows) (sym text) (vector-says b letters a (omega (arith, len, some)) bits at rows))))
+    (λ at rows. subst (λ (t : List ℕ). Says (hear_of b at t) (Ok tt) b mid rows rows) (sym text)
+    (vector-says b letters a (omega (arith, len, some)) bits at rows))))
     (made-word mid c n rest s.run s.some s.inside (omega (arith, s.most)) (code-says b c (nat_eq (last_of 98 letters) 49) number (take n rest) a f e))
   where
     all-dark : (xs : List ℕ) → list_all is_bit xs ≡ true → list_all is_dark (98 ∷ xs) ≡ true
@@ -163,10 +174,11 @@ vector-made b c k n place number bytes rest a first some bits inside few white a
 
 passed-bits : (xs : List ℕ) → list_all is_bit (take (prefix_len (λ b. not (is_other b)) xs) xs) ≡ true
 passed-bits [] = refl
-passed-bits (x ∷ xs) = (elim (is_bit x) as (λ w. is_bit x ≡ w → list_all is_bit (take (cond (not (not w)) (1 + prefix_len (λ b. not (is_other b)) xs) 0) (x ∷ xs)) ≡ true) [
-  | true ↦ λ h. subst (λ n. list_all is_bit (take n (x ∷ xs)) ≡ true) (sym (one_more (prefix_len (λ b. not (is_other b)) xs))) (rw h (passed-bits xs))
-  | false ↦ λ h. refl
-]) refl
+passed-bits (x ∷ xs) = (elim (is_bit x) as (λ w. is_bit x ≡ w
+    → list_all is_bit (take (cond (not (not w)) (1 + prefix_len (λ b. not (is_other b)) xs) 0) (x ∷ xs)) ≡ true) [
+      | true ↦ λ h. subst (λ n. list_all is_bit (take n (x ∷ xs)) ≡ true) (sym (one_more (prefix_len (λ b. not (is_other b)) xs))) (rw h (passed-bits xs))
+      | false ↦ λ h. refl
+    ]) refl
 
 front-bits : (k : ℕ) (xs : List ℕ) → k ≡ prefix_len (λ b. not (is_other b)) xs → list_all is_bit (take k xs) ≡ true
 front-bits k xs e = subst (λ n. list_all is_bit (take n xs) ≡ true) (sym e) (passed-bits xs)

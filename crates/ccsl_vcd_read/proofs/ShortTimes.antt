@@ -1,5 +1,6 @@
 -- Times that are heard where they lie.
-use Rattle.std.proofs.Common.{◌≡◌, ℕ, ◌+◌, ◌-◌, ◌^◌, ◌<◌, ◌≤◌, List, ◌∷◌, length, take, drop, get_or, true, not, Some, Result, Ok, Err, refl, sym, ap, ◌∙◌, subst, arith, length-drop, length-take-le}
+use Rattle.std.proofs.Common.{◌≡◌, ℕ, ◌+◌, ◌-◌, ◌^◌, ◌<◌, ◌≤◌, List, ◌∷◌, length, take, drop, get_or, true, not, Some, Result, Ok, Err, refl, sym, ap, ◌∙◌}
+use Rattle.std.proofs.Common.{subst, arith, length-drop, length-take-le}
 use Rattle.std.specs.List.{list_all}
 use Rattle.std.proofs.lemmas.Bool.{le-leb}
 use Rattle.ccsl_base.specs.declared.rows.Row.{Row}
@@ -26,16 +27,21 @@ number-is text value some d fits =
     let n : value_behind 0 text ≤ 18446744073709551615 = omega (arith, d.amount, fits) in
     number-value 18446744073709551615 text some ∙ rw (d.all, le-leb (value_behind 0 text) 18446744073709551615 n) (ap (λ (v : ℕ). Some v) (sym d.amount))
 
-pub time-heard : (b c : Body) (at k value : ℕ) (bytes : List ℕ) (x y : List Row) → is_changes (amid_of b.amid) ≡ true → get_or bytes 0 0 ≡ 35 → 0 < k → AreDigits (take k (drop 1 bytes)) value → value < 2 ^ 64
-    → k + 1 < length bytes → k + 1 ≤ 65536 → is_white (get_or bytes (k + 1) 0) ≡ true → Says (time_says b at value) (Ok tt) b c x y → Front b c at bytes (k + 1) x y
+pub time-heard : (b c : Body) (at k value : ℕ) (bytes : List ℕ) (x y : List Row) → is_changes (amid_of b.amid) ≡ true → get_or bytes 0 0 ≡ 35 → 0 < k
+    → AreDigits (take k (drop 1 bytes)) value → value < 2 ^ 64
+    → k + 1 < length bytes → k + 1 ≤ 65536 → is_white (get_or bytes (k + 1) 0) ≡ true → Says (time_says b at value) (Ok tt) b c x y
+    → Front b c at bytes (k + 1) x y
 time-heard b c at k value bytes x y a first some d fits inside few white says =
     let ds : List ℕ = take k (drop 1 bytes) in
     let len : length ds ≡ k = length-take-le k (drop 1 bytes) (omega (arith, length-drop 1 bytes, inside)) in
     let back : (k + 1) - 1 ≡ k = omega arith in
-    let text : take (k + 1) bytes ≡ 35 ∷ ds = take-first (k + 1) bytes (omega arith) (omega (arith, inside)) ∙ ap (λ (f : ℕ). f ∷ take ((k + 1) - 1) (drop 1 bytes)) first ∙ ap (λ (n : ℕ). 35 ∷ take n (drop 1 bytes)) back in
+    let text : take (k + 1) bytes ≡ 35 ∷ ds =
+    take-first (k + 1) bytes (omega arith) (omega (arith, inside)) ∙ ap (λ (f : ℕ). f ∷ take ((k + 1) - 1) (drop 1 bytes)) first
+    ∙ ap (λ (n : ℕ). 35 ∷ take n (drop 1 bytes)) back in
     let dark : list_all is_dark (take (k + 1) bytes) ≡ true = ap (list_all is_dark) text ∙ hash-dark ds (digits-dark ds d.all) in
     let heard : hear_of b at (take (k + 1) bytes) ≡ time_says b at value =
-    ap (hear_of b at) text ∙ ap (hear_at b at (35 ∷ ds)) (is-changes b.amid a) ∙ ap (word_says b at) (time-word ds value (number-is ds value (omega (arith, len, some)) d fits)) in (
+    ap (hear_of b at) text ∙ ap (hear_at b at (35 ∷ ds)) (is-changes b.amid a)
+    ∙ ap (word_says b at) (time-word ds value (number-is ds value (omega (arith, len, some)) d fits)) in (
       (λ _. record {
         run = run-is is_dark (k + 1) bytes dark inside (ap not white);
         inside = inside;
@@ -45,7 +51,8 @@ time-heard b c at k value bytes x y a first some d fits inside few white says =
       (λ z. absurd (omega (arith, z))),
     )
 
-pub refused-time : (r : Result (Body × List Row) VcdFault) (f : VcdFault) (b c : Body) (at : ℕ) (bytes : List ℕ) (x y : List Row) → Says r (Err f) b c x y → Front b c at bytes 0 x y
+pub refused-time : (r : Result (Body × List Row) VcdFault) (f : VcdFault) (b c : Body) (at : ℕ) (bytes : List ℕ) (x y : List Row) → Says r (Err f) b c x y
+    → Front b c at bytes 0 x y
 refused-time (Ok p) f b c at bytes x y s = absurd s
 refused-time (Err g) f b c at bytes x y s = ((λ h. absurd (omega (arith, h))), (λ _. (s.1, s.2)))
 

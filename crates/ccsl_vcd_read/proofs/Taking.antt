@@ -1,5 +1,6 @@
 -- What a reader stands for, token by token.
-use Rattle.std.proofs.Common.{◌≡◌, ℕ, ◌+◌, ◌-◌, ◌≤◌, ◌<◌, List, [], ◌∷◌, ◌++◌, length, take, Bool, true, false, not, ◌&&◌, Option, Some, None, refl, sym, ap, ◌∙◌, subst, arith, length-append}
+use Rattle.std.proofs.Common.{◌≡◌, ℕ, ◌+◌, ◌-◌, ◌≤◌, ◌<◌, List, [], ◌∷◌, ◌++◌, length, take, Bool, true, false, not, ◌&&◌, Option, Some, None, refl, sym, ap}
+use Rattle.std.proofs.Common.{◌∙◌, subst, arith, length-append}
 use Rattle.std.proofs.lemmas.List.{append-nil}
 use Rattle.std.proofs.lemmas.Bool.{le-ltb}
 use Rattle.ccsl_base.specs.declared.rows.Row.{Row}
@@ -27,19 +28,23 @@ pub stands-of : (wanted : Wanted) (v : Reading) (bytes : List ℕ) → v.fault �
 unfolding StandsFor
 stands-of wanted v bytes e s = subst (λ (o : Option VcdFault). Stands o wanted v bytes) (sym e) s
 
-pub stands-stopped : (wanted : Wanted) (v : Reading) (f : VcdFault) (bytes : List ℕ) → v.fault ≡ Some f → Caused f (Stopped wanted v f bytes) → StandsFor wanted v bytes
+pub stands-stopped : (wanted : Wanted) (v : Reading) (f : VcdFault) (bytes : List ℕ) → v.fault ≡ Some f → Caused f (Stopped wanted v f bytes)
+    → StandsFor wanted v bytes
 unfolding StandsFor
 stands-stopped wanted v f bytes e s = subst (λ (o : Option VcdFault). Stands o wanted v bytes) (sym e) s
 
-pub stopped-is : (wanted : Wanted) (v : Reading) (f : VcdFault) (bytes : List ℕ) → v.fault ≡ Some f → StandsFor wanted v bytes → Caused f (Stopped wanted v f bytes)
+pub stopped-is : (wanted : Wanted) (v : Reading) (f : VcdFault) (bytes : List ℕ) → v.fault ≡ Some f → StandsFor wanted v bytes
+    → Caused f (Stopped wanted v f bytes)
 unfolding StandsFor
 stopped-is wanted v f bytes e s = subst (λ (o : Option VcdFault). Stands o wanted v bytes) e s
 
-pub so_far-within : (wanted : Wanted) (limits : Limits) (bytes : List ℕ) → length bytes ≤ limits.bytes → so_far wanted limits bytes ≡ story wanted limits (settled bytes)
+pub so_far-within : (wanted : Wanted) (limits : Limits) (bytes : List ℕ) → length bytes ≤ limits.bytes
+    → so_far wanted limits bytes ≡ story wanted limits (settled bytes)
 unfolding so_far
 so_far-within wanted limits bytes h = rw (le-ltb limits.bytes (length bytes) h) refl
 
-pub done-within : (wanted : Wanted) (limits : Limits) (bytes : List ℕ) → length bytes ≤ limits.bytes → done wanted limits bytes ≡ complete (story wanted limits (settled bytes))
+pub done-within : (wanted : Wanted) (limits : Limits) (bytes : List ℕ) → length bytes ≤ limits.bytes
+    → done wanted limits bytes ≡ complete (story wanted limits (settled bytes))
 unfolding done
 done-within wanted limits bytes h = ap complete (so_far-within wanted limits bytes h)
 
@@ -65,7 +70,9 @@ same-shown wanted limits stage.Unbound st x = absurd x
 
 -- the header has ended where a body is kept
 pub runs-past : (wanted : Wanted) (v : Reading) (bytes : List ℕ) → Running wanted v bytes → past_header wanted v.limits bytes ≡ is_body v.stage
-runs-past wanted v bytes s = ap (λ (x : Story). is_past x.place) (so_far-within wanted v.limits bytes s.within) ∙ same-past wanted v.limits v.stage (story wanted v.limits (settled bytes)) s.pictures
+runs-past wanted v bytes s =
+    ap (λ (x : Story). is_past x.place) (so_far-within wanted v.limits bytes s.within)
+    ∙ same-past wanted v.limits v.stage (story wanted v.limits (settled bytes)) s.pictures
 
 -- what the tokenizer made of more bytes
 pub record Fed (v : Reading) (lx : Passing) (bytes more : List ℕ) (n : ℕ) (hs : List Said) : Type 0 where
@@ -117,34 +124,42 @@ few-heard false true r t n k h s l none stays = let z : k ≡ 0 = none refl in o
 few-heard false false r t n k h s l none stays = let z : k ≡ 0 = none refl in omega arith
 
 -- Bytes that end a token.
-module _ (wanted : Wanted) (v : Reading) (lx : Passing) (bytes more : List ℕ) (n at : ℕ) (text : List ℕ) (s : Running wanted v bytes) (f : Fed v lx bytes more n (word (token at text) ∷ [])) where
+module _ (wanted : Wanted) (v : Reading) (lx : Passing) (bytes more : List ℕ) (n at : ℕ) (text : List ℕ) (s : Running wanted v bytes)
+    (f : Fed v lx bytes more n (word (token at text) ∷ [])) where
   pub story-word : story wanted v.limits (settled more) ≡ next wanted v.limits (story wanted v.limits (settled bytes)) (word (token at text))
   story-word = ap (story wanted v.limits) f.settles ∙ story-more wanted v.limits (settled bytes) (word (token at text) ∷ [])
 
   abbrev pub Token : Stage → Bool → List Row → List Row → Type 0
-  Token t ended old new = Heard wanted v.limits v.stage t ended (story wanted v.limits (settled bytes)) (next wanted v.limits (story wanted v.limits (settled bytes)) (word (token at text))) old new
+  Token t ended old new = Heard wanted v.limits v.stage t ended (story wanted v.limits (settled bytes))
+      (next wanted v.limits (story wanted v.limits (settled bytes)) (word (token at text))) old new
 
-  word-complete : (t : Stage) (ended : Bool) (old new : List Row) (h : Token t ended old new) → complete (story wanted v.limits (settled more)) ≡ complete (story wanted v.limits (settled bytes)) ++ h.pushed
+  word-complete : (t : Stage) (ended : Bool) (old new : List Row) (h : Token t ended old new)
+      → complete (story wanted v.limits (settled more)) ≡ complete (story wanted v.limits (settled bytes)) ++ h.pushed
   word-complete t ended old new h = ap complete story-word ∙ h.rows
 
   pushed-length : (t : Stage) (ended : Bool) (old new : List Row) (h : Token t ended old new) → length new - length old ≡ length h.pushed
   pushed-length t ended old new h = let e : length new ≡ length old + length h.pushed = ap length h.block ∙ length-append old h.pushed in omega arith
 
-  pub word-runs : (t : Stage) (ended : Bool) (old new : List Row) → Token t ended old new → Running wanted (record v { lexing = lx; taken = v.taken + n; stage = t; rows = v.rows + (length new - length old) }) more
+  pub word-runs : (t : Stage) (ended : Bool) (old new : List Row) → Token t ended old new
+      → Running wanted (record v { lexing = lx; taken = v.taken + n; stage = t; rows = v.rows + (length new - length old) }) more
   word-runs t ended old new h = record {
     lexes = f.lexes;
     short = f.short;
     taken = ap (λ k. k + n) s.taken ∙ sym f.len;
     within = f.within;
     pictures = subst (λ (x : Story). Pictures wanted v.limits t x) (sym story-word) h.pictures;
-    rows = ap (λ k. v.rows + k) (pushed-length t ended old new h) ∙ ap (λ k. k + length h.pushed) s.rows ∙ sym (length-append (complete (story wanted v.limits (settled bytes))) h.pushed) ∙ ap length (sym (word-complete t ended old new h));
-    few = subst (λ k. FewRows (is_body t) (v.rows + k) (v.taken + n)) (sym (pushed-length t ended old new h)) (few-heard (is_body v.stage) (is_body t) v.rows v.taken n (length h.pushed) s.few f.some h.few (λ e. ap length (h.none e)) h.stays);
+    rows = ap (λ k. v.rows + k) (pushed-length t ended old new h) ∙ ap (λ k. k + length h.pushed) s.rows
+        ∙ sym (length-append (complete (story wanted v.limits (settled bytes))) h.pushed) ∙ ap length (sym (word-complete t ended old new h));
+    few = subst (λ k. FewRows (is_body t) (v.rows + k) (v.taken + n)) (sym (pushed-length t ended old new h))
+        (few-heard (is_body v.stage) (is_body t) v.rows v.taken n (length h.pushed) s.few f.some h.few (λ e. ap length (h.none e)) h.stays);
   }
 
-  pub word-pushes : (t : Stage) (ended : Bool) (old new : List Row) → Token t ended old new → Pushes (done wanted v.limits bytes) (done wanted v.limits more) old new
+  pub word-pushes : (t : Stage) (ended : Bool) (old new : List Row) → Token t ended old new
+      → Pushes (done wanted v.limits bytes) (done wanted v.limits more) old new
   word-pushes t ended old new h = record {
     pushed = h.pushed;
-    rows = done-within wanted v.limits more f.within ∙ word-complete t ended old new h ∙ ap (λ rs. rs ++ h.pushed) (sym (done-within wanted v.limits bytes s.within));
+    rows = done-within wanted v.limits more f.within ∙ word-complete t ended old new h
+        ∙ ap (λ rs. rs ++ h.pushed) (sym (done-within wanted v.limits bytes s.within));
     block = h.block;
   }
 
@@ -157,12 +172,14 @@ module _ (wanted : Wanted) (v : Reading) (lx : Passing) (bytes more : List ℕ) 
       ∙ same-past wanted v.limits t (next wanted v.limits (story wanted v.limits (settled bytes)) (word (token at text))) h.pictures
 
   -- where the header ends, by the last byte
-  pub word-header : (t : Stage) (ended : Bool) (old new : List Row) (piece : List ℕ) → Token t ended old new → more ≡ bytes ++ take n piece → length (bytes ++ take (n - 1) piece) ≤ v.limits.bytes → settled (bytes ++ take (n - 1) piece) ≡ settled bytes
+  pub word-header : (t : Stage) (ended : Bool) (old new : List Row) (piece : List ℕ) → Token t ended old new → more ≡ bytes ++ take n piece
+      → length (bytes ++ take (n - 1) piece) ≤ v.limits.bytes → settled (bytes ++ take (n - 1) piece) ≡ settled bytes
       → HeaderSo ended wanted v.limits bytes piece n
   word-header t ended old new piece h e l q = by-stages (is_body v.stage) (is_body t) ended refl refl h.ends
     where
       back : (y : Bool) → is_body v.stage ≡ y → past_header wanted v.limits (bytes ++ take (n - 1) piece) ≡ y
-      back y z = ap (λ (x : Story). is_past x.place) (so_far-within wanted v.limits (bytes ++ take (n - 1) piece) l ∙ ap (story wanted v.limits) q ∙ sym (so_far-within wanted v.limits bytes s.within)) ∙ past-before ∙ z
+      back y z = ap (λ (x : Story). is_past x.place) (so_far-within wanted v.limits (bytes ++ take (n - 1) piece) l ∙ ap (story wanted v.limits) q
+          ∙ sym (so_far-within wanted v.limits bytes s.within)) ∙ past-before ∙ z
 
       now : (y : Bool) → is_body t ≡ y → past_header wanted v.limits (bytes ++ take n piece) ≡ y
       now y z = ap (past_header wanted v.limits) (sym e) ∙ past-after t ended old new h ∙ z
@@ -176,16 +193,24 @@ module _ (wanted : Wanted) (v : Reading) (lx : Passing) (bytes more : List ℕ) 
       by-stages true b false x y z = now true (h.stays x) ∙ sym (past-before ∙ x)
 
   -- A token that is refused.
-  pub word-fault : (g : VcdFault) → Refuses g (story wanted v.limits (settled bytes)) (next wanted v.limits (story wanted v.limits (settled bytes)) (word (token at text))) → (so_far wanted v.limits more).fault ≡ Some g
+  pub word-fault : (g : VcdFault)
+      → Refuses g (story wanted v.limits (settled bytes)) (next wanted v.limits (story wanted v.limits (settled bytes)) (word (token at text)))
+      → (so_far wanted v.limits more).fault ≡ Some g
   word-fault g r = ap (λ (x : Story). x.fault) (so_far-within wanted v.limits more f.within ∙ story-word) ∙ r.fault
 
-  pub word-shown : (g : VcdFault) → Refuses g (story wanted v.limits (settled bytes)) (next wanted v.limits (story wanted v.limits (settled bytes)) (word (token at text))) → shown v.stage ≡ shown_at (so_far wanted v.limits more).place
+  pub word-shown : (g : VcdFault)
+      → Refuses g (story wanted v.limits (settled bytes)) (next wanted v.limits (story wanted v.limits (settled bytes)) (word (token at text)))
+      → shown v.stage ≡ shown_at (so_far wanted v.limits more).place
   word-shown g r =
-      same-shown wanted v.limits v.stage (story wanted v.limits (settled bytes)) s.pictures ∙ ap shown_at (sym r.place) ∙ sym (ap (λ (x : Story). shown_at x.place) (so_far-within wanted v.limits more f.within ∙ story-word))
+      same-shown wanted v.limits v.stage (story wanted v.limits (settled bytes)) s.pictures ∙ ap shown_at (sym r.place)
+      ∙ sym (ap (λ (x : Story). shown_at x.place) (so_far-within wanted v.limits more f.within ∙ story-word))
 
-  pub refused-pushes : (g : VcdFault) (rows : List Row) → Refuses g (story wanted v.limits (settled bytes)) (next wanted v.limits (story wanted v.limits (settled bytes)) (word (token at text))) → Pushes (done wanted v.limits bytes) (done wanted v.limits more) rows rows
+  pub refused-pushes : (g : VcdFault) (rows : List Row)
+      → Refuses g (story wanted v.limits (settled bytes)) (next wanted v.limits (story wanted v.limits (settled bytes)) (word (token at text)))
+      → Pushes (done wanted v.limits bytes) (done wanted v.limits more) rows rows
   refused-pushes g rows r = record {
     pushed = [];
-    rows = done-within wanted v.limits more f.within ∙ ap complete story-word ∙ r.rows ∙ sym (done-within wanted v.limits bytes s.within) ∙ sym (append-nil (done wanted v.limits bytes));
+    rows = done-within wanted v.limits more f.within ∙ ap complete story-word ∙ r.rows ∙ sym (done-within wanted v.limits bytes s.within)
+        ∙ sym (append-nil (done wanted v.limits bytes));
     block = sym (append-nil rows);
   }

@@ -1,5 +1,6 @@
 -- Ascending clocks, and those that tick among them.
-use Rattle.std.proofs.Common.{◌≡◌, ℕ, ◌+◌, ◌<◌, List, [], ◌∷◌, ◌++◌, length, take, drop, get_or, drop-cons, add-one, Bool, true, false, not, nat_lt, nat_eq, ◌||◌, cond, filter, map, refl, sym, ap, ◌∙◌, subst}
+use Rattle.std.proofs.Common.{◌≡◌, ℕ, ◌+◌, ◌<◌, List, [], ◌∷◌, ◌++◌, length, take, drop, get_or, drop-cons, add-one, Bool, true, false, not, nat_lt, nat_eq}
+use Rattle.std.proofs.Common.{◌||◌, cond, filter, map, refl, sym, ap, ◌∙◌, subst}
 use Rattle.std.specs.List.{list_all}
 use Rattle.std.proofs.lemmas.Bool.{ltb-true, and_parts}
 use Rattle.std.proofs.lemmas.List.{take_more, map-append, take-append-drop, append-nil, length-map}
@@ -32,7 +33,8 @@ ticking-below y (m ∷ ms) h =
 pub ticking-more : (ms : List Mark) (m : Mark) → ticking (ms ++ m ∷ []) ≡ ticking ms ++ cond (is_ticking m) (m.clock ∷ []) []
 ticking-more ms m =
     ap (map (λ x. x.clock)) (filter-append is_ticking ms (m ∷ [])) ∙ map-append (λ (x : Mark). x.clock) (filter is_ticking ms) (filter is_ticking (m ∷ []))
-    ∙ ap (λ zs. ticking ms ++ zs) (elim (is_ticking m) as (λ w. map (λ x. x.clock) (cond w (m ∷ []) []) ≡ cond w (m.clock ∷ []) []) [ true ↦ refl | false ↦ refl ])
+    ∙ ap (λ zs. ticking ms ++ zs)
+    (elim (is_ticking m) as (λ w. map (λ x. x.clock) (cond w (m ∷ []) []) ≡ cond w (m.clock ∷ []) []) [ true ↦ refl | false ↦ refl ])
 
 -- the mark at a place, behind those before it
 pub record At (bound : ℕ) (ms : List Mark) (i : ℕ) (m : Mark) : Type 0 where
@@ -48,15 +50,18 @@ below-at bound (x ∷ xs) ys y h = below-at bound xs ys y ((and_parts (nat_lt x 
 clocks-at : (ms : List Mark) (i : ℕ) (d : Mark) → i < length ms
     → map (λ m. m.clock) ms ≡ map (λ m. m.clock) (take i ms) ++ ((get_or ms i d).clock ∷ map (λ m. m.clock) (drop (i + 1) ms))
 clocks-at ms i d h =
-    ap (map (λ (m : Mark). m.clock)) (sym (take-append-drop i ms) ∙ ap (λ xs. take i ms ++ xs) (drop-cons ms i d h ∙ ap (λ k. get_or ms i d ∷ drop k ms) (sym (add-one i))))
+    ap (map (λ (m : Mark). m.clock)) (sym (take-append-drop i ms)
+    ∙ ap (λ xs. take i ms ++ xs) (drop-cons ms i d h ∙ ap (λ k. get_or ms i d ∷ drop k ms) (sym (add-one i))))
     ∙ map-append (λ (m : Mark). m.clock) (take i ms) (get_or ms i d ∷ drop (i + 1) ms)
 
-pub at-place : (bound : ℕ) (ms : List Mark) (i : ℕ) (d : Mark) → i < length ms → is_ascending (map (λ m. m.clock) ms) ≡ true → are_below bound (map (λ m. m.clock) ms) ≡ true → At bound ms i (get_or ms i d)
+pub at-place : (bound : ℕ) (ms : List Mark) (i : ℕ) (d : Mark) → i < length ms → is_ascending (map (λ m. m.clock) ms) ≡ true
+    → are_below bound (map (λ m. m.clock) ms) ≡ true → At bound ms i (get_or ms i d)
 at-place bound ms i d h asc low =
     let e = clocks-at ms i d h in
     record {
       fits = below-at bound _ _ (get_or ms i d).clock (ap (are_below bound) (sym e) ∙ low);
-      above = ticking-below (get_or ms i d).clock (take i ms) (last-above (map (λ m. m.clock) (take i ms)) (get_or ms i d).clock _ (ap is_ascending (sym e) ∙ asc));
+      above = ticking-below (get_or ms i d).clock (take i ms)
+          (last-above (map (λ m. m.clock) (take i ms)) (get_or ms i d).clock _ (ap is_ascending (sym e) ∙ asc));
       more = take_more ms i d h;
     }
 
@@ -64,14 +69,17 @@ ticks-so : (m : Mark) → m.now ≡ true → m.before ≡ false → is_ticking m
 ticks-so m n b = rw (n, b) refl
 
 -- one more mark that ticks, and one that does not
-pub tick-more : (bound : ℕ) (ms : List Mark) (i : ℕ) (m : Mark) (ticks : List ℕ) → At bound ms i m → ticks ≡ ticking (take i ms) → m.now ≡ true → m.before ≡ false → with_clock m.clock ticks ≡ ticking (take (i + 1) ms)
+pub tick-more : (bound : ℕ) (ms : List Mark) (i : ℕ) (m : Mark) (ticks : List ℕ) → At bound ms i m → ticks ≡ ticking (take i ms) → m.now ≡ true
+    → m.before ≡ false → with_clock m.clock ticks ≡ ticking (take (i + 1) ms)
 tick-more bound ms i m ticks a e n b =
     ap (with_clock m.clock) e ∙ with_clock-last m.clock (ticking (take i ms)) a.above
     ∙ ap (λ w. ticking (take i ms) ++ cond w (m.clock ∷ []) []) (sym (ticks-so m n b)) ∙ sym (ticking-more (take i ms) m) ∙ ap ticking (sym a.more)
 
-pub tick-none : (bound : ℕ) (ms : List Mark) (i : ℕ) (m : Mark) (ticks : List ℕ) → At bound ms i m → ticks ≡ ticking (take i ms) → is_ticking m ≡ false → ticks ≡ ticking (take (i + 1) ms)
+pub tick-none : (bound : ℕ) (ms : List Mark) (i : ℕ) (m : Mark) (ticks : List ℕ) → At bound ms i m → ticks ≡ ticking (take i ms) → is_ticking m ≡ false
+    → ticks ≡ ticking (take (i + 1) ms)
 tick-none bound ms i m ticks a e n =
-    e ∙ sym (append-nil (ticking (take i ms))) ∙ ap (λ w. ticking (take i ms) ++ cond w (m.clock ∷ []) []) (sym n) ∙ sym (ticking-more (take i ms) m) ∙ ap ticking (sym a.more)
+    e ∙ sym (append-nil (ticking (take i ms))) ∙ ap (λ w. ticking (take i ms) ++ cond w (m.clock ∷ []) []) (sym n) ∙ sym (ticking-more (take i ms) m)
+    ∙ ap ticking (sym a.more)
 
 -- Marks keep their clocks.
 
@@ -87,8 +95,10 @@ put-clock code one dumped m =
     ]
 
 -- what a slice of marks was written over
-pub kept : (P : List ℕ → Type 0) (f : Mark → Mark) (old now new : List Mark) (n : ℕ) → ((m : Mark) → (f m).clock ≡ m.clock) → now ≡ old → length now ≡ n → new ≡ map f now
+pub kept : (P : List ℕ → Type 0) (f : Mark → Mark) (old now new : List Mark) (n : ℕ) → ((m : Mark) → (f m).clock ≡ m.clock) → now ≡ old → length now ≡ n
+    → new ≡ map f now
     → P (map (λ m. m.clock) old) → P (map (λ m. m.clock) (take n (new ++ drop (length new) old)))
 kept P f old now new n h e l w p =
     let len : length new ≡ n = ap length w ∙ length-map now f ∙ l in
-    subst P (sym (ap (map (λ (m : Mark). m.clock)) (ap (λ k. take k (new ++ drop (length new) old)) (sym len) ∙ take-append_seam new (drop (length new) old) ∙ w ∙ ap (map f) e) ∙ same-clocks f h old)) p
+    subst P (sym (ap (map (λ (m : Mark). m.clock)) (ap (λ k. take k (new ++ drop (length new) old)) (sym len) ∙ take-append_seam new (drop (length new) old) ∙ w
+    ∙ ap (map f) e) ∙ same-clocks f h old)) p

@@ -1,5 +1,6 @@
 -- What a token makes of a body that is being read, and of its marks.
-use Rattle.std.specs.Prelude.{◌≡◌, ℕ, List, [], ◌∷◌, ◌++◌, Bool, true, false, Option, Some, None, Result, Ok, Err, nat_lt, if◌then◌else◌, codes, bytes_eq, filter, map}
+use Rattle.std.specs.Prelude.{◌≡◌, ℕ, List, [], ◌∷◌, ◌++◌, Bool, true, false, Option, Some, None, Result, Ok, Err, nat_lt, if◌then◌else◌, codes, bytes_eq}
+use Rattle.std.specs.Prelude.{filter, map}
 use Rattle.ccsl_base.specs.declared.rows.Row.{Row}
 use Rattle.ccsl_vcd.specs.declared.fault.VcdFault.{VcdFault}
 use Rattle.ccsl_vcd.specs.declared.fault.VcdFault.TheVariants as faults

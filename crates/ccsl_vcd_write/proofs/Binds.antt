@@ -1,5 +1,6 @@
 -- Each written clock is bound to its declaration.
-use Rattle.std.proofs.Common.{◌≡◌, ℕ, suc, zero, ◌+◌, List, [], ◌∷◌, ◌++◌, length, map, Bool, true, false, ◌||◌, not, nat_lt, cond, Result, Ok, refl, sym, ap, ap₂, ◌∙◌, append_assoc, filter}
+use Rattle.std.proofs.Common.{◌≡◌, ℕ, suc, zero, ◌+◌, List, [], ◌∷◌, ◌++◌, length, map, Bool, true, false, ◌||◌, not, nat_lt, cond, Result, Ok, refl, sym, ap}
+use Rattle.std.proofs.Common.{ap₂, ◌∙◌, append_assoc, filter}
 use Rattle.std.specs.List.{AllByRecursion, range_with_len}
 use Rattle.std.specs.Str.{bytes_eq}
 use Rattle.std.proofs.lemmas.Bool.{and_parts, not-true, or_parts}
@@ -37,7 +38,8 @@ own-qualifies clock name = rw (bytes_eq-refl name name refl) refl
 abbrev AreAway : List Declaration → List (List ℕ) → Type 0
 AreAway ds names = AllByRecursion (λ name. filter (qualifies name) ds ≡ []) names
 
-away-more : (ds : List Declaration) (clock : ℕ) (name : List ℕ) (names : List (List ℕ)) → AreAway ds names → is_among name names ≡ false → AreAway (ds ++ declaration clock name ∷ []) names
+away-more : (ds : List Declaration) (clock : ℕ) (name : List ℕ) (names : List (List ℕ)) → AreAway ds names → is_among name names ≡ false
+    → AreAway (ds ++ declaration clock name ∷ []) names
 away-more ds clock name [] h f = tt
 away-more ds clock name (n ∷ names) h f =
     let p = or_parts (bytes_eq name n) (is_among name names) f in (
@@ -52,7 +54,8 @@ own-candidate ds clock name names h f =
     ap outermost (
     filter-append (qualifies name) ds (declaration clock name ∷ declarations (clock + 1) names)
     ∙ ap (λ (xs : List Declaration). xs ++ filter (qualifies name) (declaration clock name ∷ declarations (clock + 1) names)) h
-    ∙ ap (λ w. cond w (declaration clock name ∷ filter (qualifies name) (declarations (clock + 1) names)) (filter (qualifies name) (declarations (clock + 1) names))) (own-qualifies clock name)
+    ∙ ap (λ w. cond w (declaration clock name ∷ filter (qualifies name) (declarations (clock + 1) names))
+    (filter (qualifies name) (declarations (clock + 1) names))) (own-qualifies clock name)
     ∙ ap (λ (xs : List Declaration). declaration clock name ∷ xs) (others-away name (clock + 1) names f))
 
 binds-from : (declared clock : ℕ) (ds : List Declaration) (names : List (List ℕ)) → are_distinct names ≡ true → AreAway ds names
@@ -65,13 +68,15 @@ binds-from declared clock ds (name ∷ names) d a =
     let rest : bind_from (clock + 1) declared names all ≡ Ok (bounds (clock + 1) (length names)) =
     ap (bind_from (clock + 1) declared names) (sym (append_assoc ds (declaration clock name ∷ []) (declarations (clock + 1) names)))
     ∙ binds-from declared (clock + 1) (ds ++ declaration clock name ∷ []) names p.1 (away-more ds clock name names a.1 fresh) in
-    ap₂ (λ (cs : List Declaration) (r : Result (List Bound) VcdFault). joined (bind_one clock (nat_lt clock declared) cs) r) (own-candidate ds clock name names a.0 fresh) rest
+    ap₂ (λ (cs : List Declaration) (r : Result (List Bound) VcdFault). joined (bind_one clock (nat_lt clock declared) cs) r)
+    (own-candidate ds clock name names a.0 fresh) rest
 
 none-away : (names : List (List ℕ)) → AreAway [] names
 none-away [] = tt
 none-away (name ∷ names) = (refl, none-away names)
 
 -- All names are bound, in order.
-pub binds : (declared : ℕ) (names : List (List ℕ)) → are_distinct names ≡ true → bind (record { names = names; declared = declared }) (declarations 0 names) ≡ Ok (bounds 0 (length names))
+pub binds : (declared : ℕ) (names : List (List ℕ)) → are_distinct names ≡ true
+    → bind (record { names = names; declared = declared }) (declarations 0 names) ≡ Ok (bounds 0 (length names))
 unfolding bind
 binds declared names d = binds-from declared 0 [] names d (none-away names)

@@ -1,5 +1,6 @@
 -- The story of written steps.
-use Rattle.std.proofs.Common.{◌≡◌, ℕ, ◌+◌, ◌*◌, ◌-◌, ◌^◌, ◌≤◌, ◌<◌, List, [], ◌∷◌, ◌++◌, length, map, true, false, not, ◌&&◌, nat_le, cond, Some, None, refl, sym, ap, ap₂, ◌∙◌, arith, append_assoc, append-nil, decimal}
+use Rattle.std.proofs.Common.{◌≡◌, ℕ, ◌+◌, ◌*◌, ◌-◌, ◌^◌, ◌≤◌, ◌<◌, List, [], ◌∷◌, ◌++◌, length, map, true, false, not, ◌&&◌, nat_le, cond, Some, None, refl}
+use Rattle.std.proofs.Common.{sym, ap, ap₂, ◌∙◌, arith, append_assoc, append-nil, decimal}
 use Rattle.std.specs.List.{list_all, AllByRecursion}
 use Rattle.std.specs.Char.{digit_value}
 use Rattle.std.specs.Str.Parse.{AllDigits, IsNumeral, digits_value, digits_value_after}
@@ -76,11 +77,13 @@ abbrev pub AreBelow : ℕ → List ℕ → Type 0
 AreBelow n xs = AllByRecursion (λ x. x < n) xs
 
 module _ (wanted : Wanted) (limits : Limits) (ds : List Declaration) (bs : List Bound) where
-  time-story : (cs : List Change) (now at k : ℕ) → now ≤ k → k < 2 ^ 64 → next wanted limits (body_story cs now ds bs) (word (token at (35 ∷ decimal k))) ≡ body_story cs k ds bs
+  time-story : (cs : List Change) (now at k : ℕ) → now ≤ k → k < 2 ^ 64
+      → next wanted limits (body_story cs now ds bs) (word (token at (35 ∷ decimal k))) ≡ body_story cs k ds bs
   unfolding says
   time-story cs now at k l h = rw (time-word k h, le-ltb k now l) (ap (λ (xs : List Change). body_story xs k ds bs) (append-nil cs))
 
-  tick-story : (cs : List Change) (now at x : ℕ) → is_declared ds (code_of x) ≡ true → next wanted limits (body_story cs now ds bs) (word (token at (tick_line x))) ≡ body_story (cs ++ change now x ∷ []) now ds bs
+  tick-story : (cs : List Change) (now at x : ℕ) → is_declared ds (code_of x) ≡ true
+      → next wanted limits (body_story cs now ds bs) (word (token at (tick_line x))) ≡ body_story (cs ++ change now x ∷ []) now ds bs
   unfolding says
   tick-story cs now at x d = rw (tick-word x, d) refl
 
@@ -105,8 +108,10 @@ module _ (wanted : Wanted) (limits : Limits) (ds : List Declaration) (bs : List 
       ∙ ticks-story n d cs k place xs b
 
   -- The changes of the steps are made, each at its time.
-  pub steps-story : (n : ℕ) → Declares n → (cs : List Change) (now at k : ℕ) (steps : List (List ℕ)) → now ≤ k → k + length steps ≤ 2 ^ 64 → AllByRecursion (AreBelow n) steps
-      → goes wanted limits (body_story cs now ds bs) at (all_words (steps_words k steps)) ≡ body_story (cs ++ steps_changes k steps) (time_behind now k steps) ds bs
+  pub steps-story : (n : ℕ) → Declares n → (cs : List Change) (now at k : ℕ) (steps : List (List ℕ)) → now ≤ k → k + length steps ≤ 2 ^ 64
+      → AllByRecursion (AreBelow n) steps
+      → goes wanted limits (body_story cs now ds bs) at (all_words (steps_words k steps)) ≡ body_story (cs ++ steps_changes k steps) (time_behind now k steps)
+      ds bs
   steps-story n d cs now at k [] l h b = ap (λ (ys : List Change). body_story ys now ds bs) (sym (append-nil cs))
   steps-story n d cs now at k (xs ∷ steps) l h b =
       let place : ℕ = behind at (all_words (step_words k xs)) in

@@ -1,5 +1,6 @@
 -- Codes are short and visible, and no two clocks have the same.
-use Rattle.std.proofs.Common.{◌≡◌, ℕ, ◌+◌, ◌-◌, ◌*◌, ◌/◌, ◌%◌, ◌≤◌, ◌<◌, List, [], ◌∷◌, length, true, false, ◌&&◌, nat_lt, nat_eq, cond, refl, sym, ap, ap₂, ◌∙◌, arith}
+use Rattle.std.proofs.Common.{◌≡◌, ℕ, ◌+◌, ◌-◌, ◌*◌, ◌/◌, ◌%◌, ◌≤◌, ◌<◌, List, [], ◌∷◌, length, true, false, ◌&&◌, nat_lt, nat_eq, cond, refl, sym, ap, ap₂}
+use Rattle.std.proofs.Common.{◌∙◌, arith}
 use Rattle.std.specs.List.{list_all}
 use Rattle.std.specs.Str.{bytes_eq}
 use Rattle.std.proofs.lemmas.Bool.{le-leb, ltb-true, ltb-false, eq-eqb}
@@ -46,7 +47,10 @@ clock_of-code : (x : ℕ) → clock_of (code_of x) ≡ x
 clock_of-code x = by-form (λ c. clock_of c ≡ x) x (λ l. omega arith) (λ l. omega arith)
 
 not-equal : (a b : List ℕ) → (bytes_eq a b ≡ true → nat_eq 0 1 ≡ true) → bytes_eq a b ≡ false
-not-equal a b h = (elim (bytes_eq a b) as (λ w. (w ≡ true → nat_eq 0 1 ≡ true) → w ≡ false) [ true ↦ λ g. absurd (let e : false ≡ true = g refl in cc) | false ↦ λ _. refl ]) h
+not-equal a b h = (elim (bytes_eq a b) as (λ w. (w ≡ true → nat_eq 0 1 ≡ true) → w ≡ false) [
+  | true ↦ λ g. absurd (let e : false ≡ true = g refl in cc)
+  | false ↦ λ _. refl
+]) h
 
 -- two codes are equal where their clocks are
 pub codes-equal : (x y : ℕ) → bytes_eq (code_of y) (code_of x) ≡ nat_eq x y

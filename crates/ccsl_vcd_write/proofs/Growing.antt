@@ -1,14 +1,17 @@
 -- How the written text grows.
-use Rattle.std.proofs.Common.{◌≡◌, ℕ, zero, suc, ◌+◌, ◌*◌, ◌^◌, ◌≤◌, ◌<◌, List, [], ◌∷◌, ◌++◌, length, map, take, filter, Bool, true, false, cond, Some, slice_get, sym, ap, ◌∙◌, arith, lit<, add-one, length-append, append_assoc, append-nil, decimal, codes}
+use Rattle.std.proofs.Common.{◌≡◌, ℕ, zero, suc, ◌+◌, ◌*◌, ◌^◌, ◌≤◌, ◌<◌, List, [], ◌∷◌, ◌++◌, length, map, take, filter, Bool, true, false, cond, Some}
+use Rattle.std.proofs.Common.{slice_get, sym, ap, ◌∙◌, arith, lit<, add-one, length-append, append_assoc, append-nil, decimal, codes}
 use Rattle.std.proofs.lemmas.Fmt.{length-decimal-le}
 use Rattle.ccsl_kernel.specs.Syntax.{System}
 use Rattle.ccsl_vcd_write.specs.Room.{step_room}
-use Rattle.ccsl_vcd_write.specs.Text.{text_of, var_line, var_lines, written_names, written_part, time_line, tick_line, step_text, steps_text, header_text, vcd_text}
+use Rattle.ccsl_vcd_write.specs.Text.{text_of, var_line, var_lines, written_names, written_part, time_line, tick_line, step_text, steps_text, header_text}
+use Rattle.ccsl_vcd_write.specs.Text.{vcd_text}
 use Rattle.ccsl_vcd_write.proofs.CodeLaws.{code-short}
 use Rattle.ccsl_vcd_write.proofs.Lines.{text_of-append}
 
 -- one more declaration
-vars-snoc : (clock n : ℕ) (names : List (List ℕ)) (name : List ℕ) → slice_get names n ≡ Some name → var_lines clock (take (suc n) names) ≡ var_lines clock (take n names) ++ var_line (clock + n) name ∷ []
+vars-snoc : (clock n : ℕ) (names : List (List ℕ)) (name : List ℕ) → slice_get names n ≡ Some name
+    → var_lines clock (take (suc n) names) ≡ var_lines clock (take n names) ++ var_line (clock + n) name ∷ []
 vars-snoc clock n [] name e = absurd (cc)
 vars-snoc clock zero (x ∷ names) name e =
     let same : x ≡ name = cc in
@@ -16,9 +19,11 @@ vars-snoc clock zero (x ∷ names) name e =
     ap (λ (y : List ℕ). var_line clock y ∷ []) same ∙ ap (λ (k : ℕ). var_line k name ∷ []) here
 vars-snoc clock (suc n) (x ∷ names) name e =
     let place : clock + 1 + n ≡ clock + suc n = omega arith in
-    ap (λ (ls : List (List ℕ)). var_line clock x ∷ ls) (vars-snoc (clock + 1) n names name e ∙ ap (λ (k : ℕ). var_lines (clock + 1) (take n names) ++ var_line k name ∷ []) place)
+    ap (λ (ls : List (List ℕ)). var_line clock x ∷ ls)
+    (vars-snoc (clock + 1) n names name e ∙ ap (λ (k : ℕ). var_lines (clock + 1) (take n names) ++ var_line k name ∷ []) place)
 
-pub vars-more : (n : ℕ) (names : List (List ℕ)) (name : List ℕ) → slice_get names n ≡ Some name → text_of (var_lines 0 (take (n + 1) names)) ≡ text_of (var_lines 0 (take n names)) ++ text_of (var_line n name ∷ [])
+pub vars-more : (n : ℕ) (names : List (List ℕ)) (name : List ℕ) → slice_get names n ≡ Some name
+    → text_of (var_lines 0 (take (n + 1) names)) ≡ text_of (var_lines 0 (take n names)) ++ text_of (var_line n name ∷ [])
 vars-more n names name e =
     let here : 0 + n ≡ n = omega arith in
     ap (λ (k : ℕ). text_of (var_lines 0 (take k names))) (add-one n)
@@ -46,7 +51,8 @@ filter-shorter p (x ∷ xs) =
 
 -- A trace with one more step is the trace, and then that step.
 
-steps-snoc : (k : ℕ) (K : System) (steps : List (List ℕ)) (step : List ℕ) → steps_text k K (steps ++ step ∷ []) ≡ steps_text k K steps ++ step_text (k + length steps) K step
+steps-snoc : (k : ℕ) (K : System) (steps : List (List ℕ)) (step : List ℕ)
+    → steps_text k K (steps ++ step ∷ []) ≡ steps_text k K steps ++ step_text (k + length steps) K step
 steps-snoc k K [] step =
     let here : k ≡ k + 0 = omega arith in
     append-nil (step_text k K step) ∙ ap (λ (n : ℕ). step_text n K step) here
@@ -64,7 +70,8 @@ trace-snoc K steps step =
 
 -- the header's lines, one behind the other
 pub header-parts : (out : List ℕ) (K : System)
-    → ((((((out ++ text_of (codes "$version ccsl $end" ∷ [])) ++ text_of (codes "$timescale 1 ns $end" ∷ [])) ++ text_of (codes "$scope module ccsl $end" ∷ [])) ++ text_of (var_lines 0 (written_names K))) ++ text_of (codes "$upscope $end" ∷ [])) ++ text_of (codes "$enddefinitions $end" ∷ []))
+    → ((((((out ++ text_of (codes "$version ccsl $end" ∷ [])) ++ text_of (codes "$timescale 1 ns $end" ∷ [])) ++ text_of (codes "$scope module ccsl $end" ∷ []))
+    ++ text_of (var_lines 0 (written_names K))) ++ text_of (codes "$upscope $end" ∷ [])) ++ text_of (codes "$enddefinitions $end" ∷ []))
     ≡ out ++ header_text K
 header-parts out K =
     let vars : List (List ℕ) = var_lines 0 (written_names K) in

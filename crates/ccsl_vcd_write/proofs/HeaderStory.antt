@@ -1,5 +1,6 @@
 -- The story of a written header.
-use Rattle.std.proofs.Common.{◌≡◌, ℕ, ◌+◌, ◌≤◌, ◌<◌, List, [], ◌∷◌, ◌++◌, length, Bool, true, false, ◌&&◌, nat_eq, cond, Ok, refl, sym, ap, ap₂, ◌∙◌, arith, codes, append_assoc, append-nil, length-append}
+use Rattle.std.proofs.Common.{◌≡◌, ℕ, ◌+◌, ◌≤◌, ◌<◌, List, [], ◌∷◌, ◌++◌, length, Bool, true, false, ◌&&◌, nat_eq, cond, Ok, refl, sym, ap, ap₂, ◌∙◌, arith}
+use Rattle.std.proofs.Common.{codes, append_assoc, append-nil, length-append}
 use Rattle.std.specs.List.{list_all}
 use Rattle.std.proofs.lemmas.Bool.{and_parts, le-leb, lt-leb}
 use Rattle.std.proofs.lemmas.Grind.{common_steps}
@@ -11,7 +12,8 @@ use Rattle.ccsl_vcd.specs.declared.fault.VcdFault.TheVariants as faults
 use Rattle.ccsl_vcd.specs.Words.{number}
 use Rattle.ccsl_vcd.specs.Binding.{Wanted, Declaration, Bound, bind}
 use Rattle.ccsl_vcd.specs.Places.{Header, commands, inside, header, goes as on, refused}
-use Rattle.ccsl_vcd.specs.Header.{HeaderWord, end_command, var, scope, upscope, end_definitions, other_command, plain, begins_command, header_word, is_code, word_fits, inside_says}
+use Rattle.ccsl_vcd.specs.Header.{HeaderWord, end_command, var, scope, upscope, end_definitions, other_command, plain, begins_command, header_word, is_code}
+use Rattle.ccsl_vcd.specs.Header.{word_fits, inside_says}
 use Rattle.ccsl_vcd.specs.Reading.{Story, next, says}
 use Rattle.ccsl_vcd.specs.Grammar.{body_story}
 use Rattle.ccsl_vcd_write.specs.Code.{code_of}
@@ -33,7 +35,13 @@ ends_command plain = false
 -- a text shorter than all commands that are known
 short-word : (text : List ℕ) → length text ≤ 2 → ends_command (header_word text) ≡ false
 short-word text h =
-    rw (longer-equal text (codes "$end") (omega arith), longer-equal text (codes "$var") (omega arith), longer-equal text (codes "$scope") (omega arith), longer-equal text (codes "$upscope") (omega arith), longer-equal text (codes "$enddefinitions") (omega arith))
+    rw (
+      longer-equal text (codes "$end") (omega arith),
+      longer-equal text (codes "$var") (omega arith),
+      longer-equal text (codes "$scope") (omega arith),
+      longer-equal text (codes "$upscope") (omega arith),
+      longer-equal text (codes "$enddefinitions") (omega arith),
+    )
     (elim (begins_command text) as (λ w. ends_command (cond w other_command plain) ≡ false) [ true ↦ refl | false ↦ refl ])
 
 letter-other : (b : ℕ) → is_letter b ≡ true → nat_eq b 36 ≡ false
@@ -64,7 +72,8 @@ vars_words clock (name ∷ names) = var_words clock name ∷ vars_words (clock +
 module _ (wanted : Wanted) (limits : Limits) where
   -- a word inside a command
   passes : (h : Header) (head : Token) (words : List Token) (t : Token) (x : HeaderWord) → ends_command x ≡ false
-      → inside_says wanted limits h head words t x ≡ cond (word_fits (header_word head.text) words t) (on (header (record h { among = inside head (words ++ t ∷ []) })) []) (refused (faults.BadHeader t.at))
+      → inside_says wanted limits h head words t x ≡ cond (word_fits (header_word head.text) words t)
+      (on (header (record h { among = inside head (words ++ t ∷ []) })) []) (refused (faults.BadHeader t.at))
   passes h head words t end_command e = absurd (cc)
   passes h head words t var e = refl
   passes h head words t scope e = refl
@@ -73,7 +82,8 @@ module _ (wanted : Wanted) (limits : Limits) where
   passes h head words t other_command e = refl
   passes h head words t plain e = refl
 
-  word-passes : (depth : ℕ) (ds : List Declaration) (head : Token) (words : List Token) (t : Token) → ends_command (header_word t.text) ≡ false → word_fits (header_word head.text) words t ≡ true
+  word-passes : (depth : ℕ) (ds : List Declaration) (head : Token) (words : List Token) (t : Token) → ends_command (header_word t.text) ≡ false
+      → word_fits (header_word head.text) words t ≡ true
       → next wanted limits (at_header (inside head words) depth ds) (word t) ≡ at_header (inside head (words ++ t ∷ [])) depth ds
   unfolding says
   word-passes depth ds head words t e f =
@@ -103,14 +113,16 @@ module _ (wanted : Wanted) (limits : Limits) where
       ∙ ap (λ (s : Story). goes wanted limits s name_at (name ∷ codes "$end" ∷ [])) coded
       ∙ ap (λ (s : Story). goes wanted limits s end_at (codes "$end" ∷ [])) named
 
-  pub vars-story : (at : ℕ) (ds : List Declaration) (clock : ℕ) (names : List (List ℕ)) → length ds + length names ≤ limits.vars → clock + length names ≤ 1024 → list_all is_word names ≡ true
+  pub vars-story : (at : ℕ) (ds : List Declaration) (clock : ℕ) (names : List (List ℕ)) → length ds + length names ≤ limits.vars → clock + length names ≤ 1024
+      → list_all is_word names ≡ true
       → goes wanted limits (at_header commands 1 ds) at (all_words (vars_words clock names)) ≡ at_header commands 1 (ds ++ declarations clock names)
   vars-story at ds clock [] v c n = ap (at_header commands 1) (sym (append-nil ds))
   vars-story at ds clock (name ∷ names) v c n =
       let p = and_parts (is_word name) (list_all is_word names) n in
       let more : List Declaration = ds ++ declaration clock name ∷ [] in
       goes-append wanted limits (at_header commands 1 ds) at (var_words clock name) (all_words (vars_words (clock + 1) names))
-      ∙ ap (λ (s : Story). goes wanted limits s (behind at (var_words clock name)) (all_words (vars_words (clock + 1) names))) (var-story at ds clock name (omega arith) (omega arith) p.0)
+      ∙ ap (λ (s : Story). goes wanted limits s (behind at (var_words clock name)) (all_words (vars_words (clock + 1) names)))
+      (var-story at ds clock name (omega arith) (omega arith) p.0)
       ∙ vars-story (behind at (var_words clock name)) more (clock + 1) names (omega (arith, length-append ds (declaration clock name ∷ []))) (omega arith) p.1
       ∙ ap (at_header commands 1) (append_assoc ds (declaration clock name ∷ []) (declarations (clock + 1) names))
 
@@ -119,15 +131,18 @@ module _ (wanted : Wanted) (limits : Limits) where
   unfolding says
   version-story at = refl
 
-  pub timescale-story : (at : ℕ) → goes wanted limits (at_header commands 0 []) at (codes "$timescale" ∷ codes "1" ∷ codes "ns" ∷ codes "$end" ∷ []) ≡ at_header commands 0 []
+  pub timescale-story : (at : ℕ)
+      → goes wanted limits (at_header commands 0 []) at (codes "$timescale" ∷ codes "1" ∷ codes "ns" ∷ codes "$end" ∷ []) ≡ at_header commands 0 []
   unfolding says
   timescale-story at = refl
 
-  pub scope-story : (at : ℕ) → 1 ≤ limits.scopes → goes wanted limits (at_header commands 0 []) at (codes "$scope" ∷ codes "module" ∷ codes "ccsl" ∷ codes "$end" ∷ []) ≡ at_header commands 1 []
+  pub scope-story : (at : ℕ) → 1 ≤ limits.scopes
+      → goes wanted limits (at_header commands 0 []) at (codes "$scope" ∷ codes "module" ∷ codes "ccsl" ∷ codes "$end" ∷ []) ≡ at_header commands 1 []
   unfolding says
   scope-story at h = rw (lt-leb limits.scopes 0 h) refl
 
-  pub upscope-story : (at : ℕ) (ds : List Declaration) → goes wanted limits (at_header commands 1 ds) at (codes "$upscope" ∷ codes "$end" ∷ []) ≡ at_header commands 0 ds
+  pub upscope-story : (at : ℕ) (ds : List Declaration)
+      → goes wanted limits (at_header commands 1 ds) at (codes "$upscope" ∷ codes "$end" ∷ []) ≡ at_header commands 0 ds
   unfolding says
   upscope-story at ds = refl
 

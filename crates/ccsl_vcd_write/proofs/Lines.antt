@@ -1,5 +1,6 @@
 -- The tokens of a text of lines, each of words with a blank between them.
-use Rattle.std.proofs.Common.{◌≡◌, ℕ, ◌+◌, ◌≤◌, List, [], ◌∷◌, ◌++◌, length, map, Bool, true, false, ◌&&◌, ◌||◌, nat_le, nat_eq, refl, sym, ap, ◌∙◌, arith, append_assoc, length-append}
+use Rattle.std.proofs.Common.{◌≡◌, ℕ, ◌+◌, ◌≤◌, List, [], ◌∷◌, ◌++◌, length, map, Bool, true, false, ◌&&◌, ◌||◌, nat_le, nat_eq, refl, sym, ap, ◌∙◌, arith}
+use Rattle.std.proofs.Common.{append_assoc, length-append}
 use Rattle.std.specs.List.{list_all}
 use Rattle.std.proofs.lemmas.Bool.{and_parts, leb-true, lt-leb}
 use Rattle.std.proofs.lemmas.Grind.{common_steps}
@@ -107,7 +108,8 @@ is_line (w ∷ ws) = are_spelled (w ∷ ws)
 abbrev pub are_lines : List (List (List ℕ)) → Bool
 are_lines lines = list_all is_line lines
 
-pub text-heard : (at : ℕ) (lines : List (List (List ℕ))) → are_lines lines ≡ true → map hear (tokens_from true at (text_of (map spaced lines))) ≡ map word (placed at (all_words lines))
+pub text-heard : (at : ℕ) (lines : List (List (List ℕ))) → are_lines lines ≡ true
+    → map hear (tokens_from true at (text_of (map spaced lines))) ≡ map word (placed at (all_words lines))
 unfolding tokens_from
 text-heard at [] h = refl
 text-heard at ([] ∷ lines) h = absurd (cc)

@@ -1,5 +1,6 @@
 -- A written trace as lines of words.
-use Rattle.std.proofs.Common.{◌≡◌, ℕ, ◌+◌, ◌^◌, ◌≤◌, ◌<◌, List, [], ◌∷◌, ◌++◌, length, map, Bool, true, ◌&&◌, not, nat_le, refl, sym, ap, ap₂, ◌∙◌, arith, lit<, append_assoc, decimal, codes}
+use Rattle.std.proofs.Common.{◌≡◌, ℕ, ◌+◌, ◌^◌, ◌≤◌, ◌<◌, List, [], ◌∷◌, ◌++◌, length, map, Bool, true, ◌&&◌, not, nat_le, refl, sym, ap, ap₂, ◌∙◌, arith, lit<}
+use Rattle.std.proofs.Common.{append_assoc, decimal, codes}
 use Rattle.std.specs.List.{list_all, AllByRecursion}
 use Rattle.std.specs.Str.Parse.{AllDigits}
 use Rattle.std.proofs.lemmas.Bool.{and_parts, le-leb, leb-true}
@@ -116,7 +117,8 @@ text-same K steps =
 lines-append : (xs ys : List (List (List ℕ))) → are_lines xs ≡ true → are_lines ys ≡ true → are_lines (xs ++ ys) ≡ true
 lines-append xs ys h k = list_all-append is_line xs ys ∙ ap₂ (λ a b. a && b) h k
 
-vars-spelled : (clock : ℕ) (names : List (List ℕ)) → clock + length names ≤ 1024 → list_all is_short_word names ≡ true → are_lines (vars_words clock names) ≡ true
+vars-spelled : (clock : ℕ) (names : List (List ℕ)) → clock + length names ≤ 1024 → list_all is_short_word names ≡ true
+    → are_lines (vars_words clock names) ≡ true
 vars-spelled clock [] c h = refl
 vars-spelled clock (name ∷ names) c h =
     let p = and_parts (is_short_word name) (list_all is_short_word names) h in
@@ -126,12 +128,16 @@ ticks-spelled : (n : ℕ) (xs : List ℕ) → n ≤ 1024 → AreBelow n xs → a
 ticks-spelled n [] c h = refl
 ticks-spelled n (x ∷ xs) c h = let below = h.0 in rw (tick-spelled x (omega arith)) (ticks-spelled n xs c h.1)
 
-steps-spelled : (n k : ℕ) (steps : List (List ℕ)) → n ≤ 1024 → k + length steps ≤ 2 ^ 64 → AllByRecursion (AreBelow n) steps → are_lines (steps_words k steps) ≡ true
+steps-spelled : (n k : ℕ) (steps : List (List ℕ)) → n ≤ 1024 → k + length steps ≤ 2 ^ 64 → AllByRecursion (AreBelow n) steps
+    → are_lines (steps_words k steps) ≡ true
 steps-spelled n k [] c l h = refl
 steps-spelled n k (xs ∷ steps) c l h =
-    lines-append (step_words k xs) (steps_words (k + 1) steps) (rw (time-spelled k (omega arith)) (ticks-spelled n xs c h.0)) (steps-spelled n (k + 1) steps c (omega arith) h.1)
+    lines-append (step_words k xs) (steps_words (k + 1) steps) (rw (time-spelled k (omega arith)) (ticks-spelled n xs c h.0))
+    (steps-spelled n (k + 1) steps c (omega arith) h.1)
 
-pub trace-spelled : (n : ℕ) (names : List (List ℕ)) (parts : List (List ℕ)) → length names ≤ 1024 → n ≤ 1024 → list_all is_short_word names ≡ true → length parts ≤ 2 ^ 64 → AllByRecursion (AreBelow n) parts
+pub trace-spelled : (n : ℕ) (names : List (List ℕ)) (parts : List (List ℕ)) → length names ≤ 1024 → n ≤ 1024 → list_all is_short_word names ≡ true
+    → length parts ≤ 2 ^ 64 → AllByRecursion (AreBelow n) parts
     → are_lines (header_words names ++ steps_words 0 parts) ≡ true
 trace-spelled n names parts few c h l b =
-    lines-append (header_words names) (steps_words 0 parts) (lines-append (vars_words 0 names) _ (vars-spelled 0 names (omega arith) h) refl) (steps-spelled n 0 parts c (omega arith) b)
+    lines-append (header_words names) (steps_words 0 parts) (lines-append (vars_words 0 names) _ (vars-spelled 0 names (omega arith) h) refl)
+    (steps-spelled n 0 parts c (omega arith) b)

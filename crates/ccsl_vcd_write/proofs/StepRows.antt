@@ -1,5 +1,6 @@
 -- The rows of written steps.
-use Rattle.std.proofs.Common.{◌≡◌, ◌≢◌, ℕ, zero, suc, ◌+◌, ◌≤◌, ◌<◌, List, [], ◌∷◌, ◌++◌, length, map, filter, Bool, true, false, ◌&&◌, ◌||◌, nat_lt, nat_eq, cond, refl, sym, ap, ap₂, subst, ◌∙◌, arith, append_assoc, append-nil}
+use Rattle.std.proofs.Common.{◌≡◌, ◌≢◌, ℕ, zero, suc, ◌+◌, ◌≤◌, ◌<◌, List, [], ◌∷◌, ◌++◌, length, map, filter, Bool, true, false, ◌&&◌, ◌||◌, nat_lt, nat_eq}
+use Rattle.std.proofs.Common.{cond, refl, sym, ap, ap₂, subst, ◌∙◌, arith, append_assoc, append-nil}
 use Rattle.std.specs.List.{list_all, AllByRecursion}
 use Rattle.std.proofs.lemmas.Bool.{and_parts, ltb-true, lt-ltb}
 use Rattle.std.proofs.lemmas.Grind.{common_steps}
@@ -74,7 +75,8 @@ picked test low high (suc n) (x ∷ xs) e h t =
 -- an event ticks where a change names its code
 event-member : (k y : ℕ) (xs : List ℕ) → event_ticks (code_of y) (step_changes k xs) ≡ ticks_in y xs
 event-member k y [] = refl
-event-member k y (x ∷ xs) = rw (codes-equal y x) (and-true (nat_eq y x) (event_ticks (code_of y) (step_changes k xs)) ∙ ap (λ w. nat_eq y x || w) (event-member k y xs))
+event-member k y (x ∷ xs) =
+    rw (codes-equal y x) (and-true (nat_eq y x) (event_ticks (code_of y) (step_changes k xs)) ∙ ap (λ w. nat_eq y x || w) (event-member k y xs))
   where
     and-true : (a b : Bool) → ((a && true) || b) ≡ (a || b)
     and-true true b = refl
@@ -106,10 +108,12 @@ pub record IsTicking (n : ℕ) (xs : List ℕ) : Type 0 where
   pub within : IsWithin 0 n xs
   pub some : xs ≢ []
 
-step-row : (n k : ℕ) (old : List Change) (xs : List ℕ) → IsTicking n xs → Earlier k old → rows (bounds 0 n) (old ++ step_changes k xs) ≡ rows (bounds 0 n) old ++ record { time = k; ticks = xs } ∷ []
+step-row : (n k : ℕ) (old : List Change) (xs : List ℕ) → IsTicking n xs → Earlier k old
+    → rows (bounds 0 n) (old ++ step_changes k xs) ≡ rows (bounds 0 n) old ++ record { time = k; ticks = xs } ∷ []
 step-row n k old xs s e =
     let cur : List Change = step_changes k xs in
-    let ticked : map (λ b. b.clock) (filter (ticks cur old) (bounds 0 n)) ≡ xs = picked (ticks cur old) 0 n n xs (omega arith) s.within (λ y l. event-member k y xs) in
+    let ticked : map (λ b. b.clock) (filter (ticks cur old) (bounds 0 n)) ≡ xs =
+    picked (ticks cur old) 0 n n xs (omega arith) s.within (λ y l. event-member k y xs) in
     rows-all (bounds 0 n) k old cur e (step-now k xs)
     ∙ ap (λ (ys : List ℕ). rows (bounds 0 n) old ++ filter has_ticks (record { time = k; ticks = ys } ∷ [])) ticked
     ∙ ap (λ w. rows (bounds 0 n) old ++ cond w (record { time = k; ticks = xs } ∷ []) []) (some-tick xs s.some)

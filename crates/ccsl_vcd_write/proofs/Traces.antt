@@ -1,5 +1,6 @@
 -- THE READ-BACK LAW: the reading of a written trace is the story of its steps.
-use Rattle.std.proofs.Common.{◌≡◌, ℕ, zero, suc, ◌+◌, ◌^◌, ◌≤◌, ◌<◌, List, [], ◌∷◌, ◌++◌, length, map, take, All, true, false, ◌&&◌, ◌||◌, not, nat_lt, nat_eq, IsTrue, cond, Ok, refl, sym, ap, ap₂, ◌∙◌, arith, length-append, codes}
+use Rattle.std.proofs.Common.{◌≡◌, ℕ, zero, suc, ◌+◌, ◌^◌, ◌≤◌, ◌<◌, List, [], ◌∷◌, ◌++◌, length, map, take, All, true, false, ◌&&◌, ◌||◌, not, nat_lt, nat_eq}
+use Rattle.std.proofs.Common.{IsTrue, cond, Ok, refl, sym, ap, ap₂, ◌∙◌, arith, length-append, codes}
 use Rattle.std.specs.List.{list_all, AllByRecursion, range_with_len}
 use Rattle.std.specs.Str.{bytes_eq}
 use Rattle.std.proofs.lemmas.Bool.{and_parts, not-true, lt-ltb, le-ltb, or_parts}
@@ -34,7 +35,8 @@ use Rattle.ccsl_vcd_write.proofs.Spelling.{is_short_word, short-word, all-words,
 
 -- THE HEADER
 
-pub header-story : (wanted : Wanted) (limits : Limits) (names : List (List ℕ)) (bs : List Bound) → length names ≤ limits.vars → 1 ≤ limits.scopes → length names ≤ 1024 → list_all is_word names ≡ true
+pub header-story : (wanted : Wanted) (limits : Limits) (names : List (List ℕ)) (bs : List Bound) → length names ≤ limits.vars → 1 ≤ limits.scopes
+    → length names ≤ 1024 → list_all is_word names ≡ true
     → bind wanted (declarations 0 names) ≡ Ok bs
     → goes wanted limits (at_header commands 0 []) 0 (all_words (header_words names)) ≡ body_story [] 0 (declarations 0 names) bs
 header-story wanted limits names bs v s few n e =
@@ -51,7 +53,8 @@ header-story wanted limits names bs v s few n e =
     let b : ℕ = behind a timescale in
     let c : ℕ = behind b scope in
     let d : ℕ = behind c vars in
-    ap (λ (ws : List (List ℕ)). G (at_header commands 0 []) 0 (version ++ (timescale ++ (scope ++ ws)))) (all_words-append (vars_words 0 names) (upscope ∷ opening ∷ []))
+    ap (λ (ws : List (List ℕ)). G (at_header commands 0 []) 0 (version ++ (timescale ++ (scope ++ ws))))
+    (all_words-append (vars_words 0 names) (upscope ∷ opening ∷ []))
     ∙ cut (at_header commands 0 []) 0 version (timescale ++ (scope ++ (vars ++ (upscope ++ opening))))
     ∙ ap (λ (s : Story). G s a (timescale ++ (scope ++ (vars ++ (upscope ++ opening))))) (version-story wanted limits 0)
     ∙ cut (at_header commands 0 []) a timescale (scope ++ (vars ++ (upscope ++ opening)))
@@ -80,7 +83,8 @@ distinct-take (suc n) (x ∷ names) h =
     let p = and_parts (not (is_among x names)) (are_distinct names) h in
     ap₂ (λ a b. not a && b) (away-take n x names (not-true (is_among x names) p.0)) (distinct-take n names p.1)
 
-short-names : (written i n : ℕ) (names : List (List ℕ)) → i + n ≡ written → Each (λ i name. IsTrue (cond (nat_lt i written) (is_name name) (is_hidden name))) i names → list_all is_short_word (take n names) ≡ true
+short-names : (written i n : ℕ) (names : List (List ℕ)) → i + n ≡ written
+    → Each (λ i name. IsTrue (cond (nat_lt i written) (is_name name) (is_hidden name))) i names → list_all is_short_word (take n names) ≡ true
 short-names written i zero names e h = refl
 short-names written i (suc n) [] e h = refl
 short-names written i (suc n) (name ∷ names) e h =
@@ -130,7 +134,8 @@ step-length k K step = omega arith
 
 steps-length : (k : ℕ) (K : System) (steps : List (List ℕ)) → length steps ≤ length (steps_text k K steps)
 steps-length k K [] = omega arith
-steps-length k K (step ∷ steps) = omega (arith, length-append (step_text k K step) (steps_text (k + 1) K steps), step-length k K step, steps-length (k + 1) K steps)
+steps-length k K (step ∷ steps) =
+    omega (arith, length-append (step_text k K step) (steps_text (k + 1) K steps), step-length k K step, steps-length (k + 1) K steps)
 
 plain-same : (k : ℕ) (K : System) (steps : List (List ℕ)) → plain_rows k (written_parts K steps) ≡ rows_from k K steps
 plain-same k K [] = refl
@@ -140,7 +145,8 @@ plain-same k K (step ∷ steps) = ap (λ (rs : List Row). record { time = k; tic
 
 -- what is read of a written trace
 abbrev pub whole_story : System → List (List ℕ) → Story
-whole_story K steps = body_story (steps_changes 0 (written_parts K steps)) (time_behind 0 0 (written_parts K steps)) (declarations 0 (written_names K)) (bounds 0 K.written)
+whole_story K steps = body_story (steps_changes 0 (written_parts K steps)) (time_behind 0 0 (written_parts K steps)) (declarations 0 (written_names K))
+    (bounds 0 K.written)
 
 -- what is known of the steps
 record Shows (K : System) (steps : List (List ℕ)) : Type 0 where
@@ -158,7 +164,8 @@ shows K limits steps r b =
       few = omega (arith, length-map steps (written_part K), steps-length 0 K steps, length-append (header_text K) (steps_text 0 K steps));
     }
 
-trace-heard : (K : System) (steps : List (List ℕ)) → HasNames K → Shows K steps → heard (vcd_text K steps) ≡ map word (placed 0 (all_words (trace_words K steps)))
+trace-heard : (K : System) (steps : List (List ℕ)) → HasNames K → Shows K steps
+    → heard (vcd_text K steps) ≡ map word (placed 0 (all_words (trace_words K steps)))
 trace-heard K steps n s =
     let few : length (written_names K) ≤ 1024 = let a = n.count in let b = n.few in omega arith in
     ap (λ (bs : List ℕ). map hear (tokens_from true 0 bs)) (sym (text-same K steps))
@@ -176,21 +183,24 @@ trace-story K limits steps n s v c =
     let few : length (written_names K) ≤ 1024 = let a = n.count in let b = n.few in omega arith in
     let fits : length (written_names K) ≤ limits.vars = let a = n.count in omega arith in
     let bound : bind wanted ds ≡ Ok bs = binds K.declared (written_names K) n.distinct ∙ ap (λ (k : ℕ). Ok (bounds 0 k)) n.count in
-    let declares : (x : ℕ) → x < K.written → is_declared ds (code_of x) ≡ true = λ x h. declared-from 0 x (written_names K) (omega arith) (let a = n.count in omega arith) in
+    let declares : (x : ℕ) → x < K.written → is_declared ds (code_of x) ≡ true =
+    λ x h. declared-from 0 x (written_names K) (omega arith) (let a = n.count in omega arith) in
     ap (story wanted limits) (trace-heard K steps n s)
     ∙ ap (G begin 0) (all_words-append (header_words (written_names K)) (steps_words 0 (written_parts K steps)))
     ∙ goes-append wanted limits begin 0 header body
     ∙ ap (λ (t : Story). G t (behind 0 header) body) (header-story wanted limits (written_names K) bs fits c few (all-words (written_names K) n.short) bound)
     ∙ steps-story wanted limits ds bs K.written declares [] 0 (behind 0 header) 0 (written_parts K steps) (omega arith) (let f = s.few in omega arith) s.below
 
-trace-reading : (K : System) (limits : Limits) (steps : List (List ℕ)) → HasNames K → IsReadable K limits steps → limits.bytes < 2 ^ 64 → reading (wanted_of K) limits (vcd_text K steps) ≡ whole_story K steps
+trace-reading : (K : System) (limits : Limits) (steps : List (List ℕ)) → HasNames K → IsReadable K limits steps → limits.bytes < 2 ^ 64
+    → reading (wanted_of K) limits (vcd_text K steps) ≡ whole_story K steps
 unfolding reading
 trace-reading K limits steps n r b =
     rw (le-ltb limits.bytes (length (vcd_text K steps)) r.bytes)
     (ap (ends_at (length (vcd_text K steps))) (trace-story K limits steps n (shows K limits steps r b) r.vars r.scopes))
 
 -- A written trace is read without a fault.
-pub trace-read : (K : System) (limits : Limits) → HasNames K → limits.bytes < 2 ^ 64 → (steps : List (List ℕ)) → IsReadable K limits steps → IsRead (wanted_of K) limits (vcd_text K steps)
+pub trace-read : (K : System) (limits : Limits) → HasNames K → limits.bytes < 2 ^ 64 → (steps : List (List ℕ)) → IsReadable K limits steps
+    → IsRead (wanted_of K) limits (vcd_text K steps)
 trace-read K limits n b steps r = ap (λ (s : Story). s.fault) (trace-reading K limits steps n r b)
 
 -- Every written clock is bound.

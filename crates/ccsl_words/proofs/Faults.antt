@@ -1,12 +1,14 @@
 -- The fault of a text, from how the text splits.
-use Rattle.std.proofs.Common.{◌≡◌, ℕ, suc, ◌+◌, ◌<◌, ◌≤◌, List, [], ◌∷◌, ◌++◌, length, take, Bool, true, false, refl, sym, ap, ap₂, ◌∙◌, subst, inl, inr, cond, append_assoc, length-append, arith}
+use Rattle.std.proofs.Common.{◌≡◌, ℕ, suc, ◌+◌, ◌<◌, ◌≤◌, List, [], ◌∷◌, ◌++◌, length, take, Bool, true, false, refl, sym, ap, ap₂, ◌∙◌, subst, inl, inr, cond}
+use Rattle.std.proofs.Common.{append_assoc, length-append, arith}
 use Rattle.std.proofs.lemmas.List.{take_at, append-nil, length-map, length_push, map_push}
 use Rattle.ccsl_words.specs.declared.fault.WordFault.TheVariants as fault
 use Rattle.ccsl_words.specs.Spelling.{digit, digits, is_digit}
 use Rattle.ccsl_words.specs.Reads.{Reads}
 use Rattle.ccsl_words.specs.Fault.{CanGoOn, EndsWithoutPeriod, letter_count, IsReadTo, PassesLimitAt, IsFault}
 use Rattle.ccsl_words.proofs.Splits.{split_unique, is_digit-digit, digit_is_not}
-use Rattle.ccsl_words.proofs.Fronts.{front_goes_on, letter_count-append, letters_go_on, inside_goes_on, closed_goes_on, stray_in_prefix, stray_in_period, stray_behind, letter_count-digits, letter_count-inside, letter_count-closed}
+use Rattle.ccsl_words.proofs.Fronts.{front_goes_on, letter_count-append, letters_go_on, inside_goes_on, closed_goes_on, stray_in_prefix, stray_in_period}
+use Rattle.ccsl_words.proofs.Fronts.{stray_behind, letter_count-digits, letter_count-inside, letter_count-closed}
 
 length-digits : (p : List Bool) → length (digits p) ≡ length p
 length-digits p = length-map p digit
@@ -42,7 +44,8 @@ next_there text front behind b place splits long =
 
 -- FAULTS BEHIND THE PREFIX
 -- a byte behind the letters of the prefix that opens no period
-pub stray_after_letters : (text : List ℕ) (p : List Bool) (b : ℕ) (behind : List ℕ) → text ≡ digits p ++ b ∷ behind → length p ≤ 4096 → is_digit b ≡ false → (b ≡ 40 → ⊥) →
+pub stray_after_letters : (text : List ℕ) (p : List Bool) (b : ℕ) (behind : List ℕ) → text ≡ digits p ++ b ∷ behind → length p ≤ 4096 → is_digit b ≡ false
+    → (b ≡ 40 → ⊥) →
     IsFault text (fault.BadLetter (length p))
 stray_after_letters text p b behind splits few other not_open =
     inl
@@ -60,7 +63,8 @@ stray_after_letters text p b behind splits few other not_open =
     no_opening q e = not_open (let s : b ∷ [] ≡ 40 ∷ 41 ∷ [] = (split_unique p q (b ∷ []) (40 ∷ 41 ∷ []) other refl e).1 in cc)
 
 -- LETTER NUMBER 4,097
-passes : (text front behind : List ℕ) (b : ℕ) → text ≡ front ++ b ∷ behind → CanGoOn (front ++ b ∷ []) → letter_count front ≡ 4096 → is_digit b ≡ true → PassesLimitAt text (length front)
+passes : (text front behind : List ℕ) (b : ℕ) → text ≡ front ++ b ∷ behind → CanGoOn (front ++ b ∷ []) → letter_count front ≡ 4096 → is_digit b ≡ true
+    → PassesLimitAt text (length front)
 passes text front behind b splits goes full letter =
     let taken = next_taken text front behind b (length front) splits refl in
     record {
@@ -91,10 +95,12 @@ limit_in_prefix text behind p splits long =
     splits ∙ ap (λ (r : List ℕ). r ++ behind) pushed ∙ append_assoc (digits last.0) (digit last.1 ∷ []) behind in
     let count : length p ≡ length last.0 + 1 = ap length last.2 ∙ length_push last.0 last.1 in (
       length (digits last.0),
-      passes text (digits last.0) behind (digit last.1) rest (subst CanGoOn pushed (letters_go_on p)) (omega (arith, count, long, letter_count-digits last.0)) (is_digit-digit last.1),
+      passes text (digits last.0) behind (digit last.1) rest (subst CanGoOn pushed (letters_go_on p)) (omega (arith, count, long, letter_count-digits last.0))
+          (is_digit-digit last.1),
     )
 
-pub limit_in_period : (text behind : List ℕ) (p q : List Bool) → text ≡ digits p ++ 40 ∷ (digits q ++ behind) → length p ≤ 4096 → length p + length q ≡ 4097 → IsFault text fault.TooLong
+pub limit_in_period : (text behind : List ℕ) (p q : List Bool) → text ≡ digits p ++ 40 ∷ (digits q ++ behind) → length p ≤ 4096 → length p + length q ≡ 4097
+    → IsFault text fault.TooLong
 limit_in_period text behind p q splits few long =
     let last = last_letter q (omega (arith, few, long)) in
     let pushed = digits_push q last.0 last.1 last.2 in
@@ -107,7 +113,8 @@ limit_in_period text behind p q splits few long =
     ∙ sym (append_assoc (digits p) (40 ∷ digits last.0) (digit last.1 ∷ behind)) in
     let count : length q ≡ length last.0 + 1 = ap length last.2 ∙ length_push last.0 last.1 in (
       length front,
-      passes text front behind (digit last.1) rest (subst CanGoOn joined (inside_goes_on p q)) (omega (arith, count, long, letter_count-inside p last.0)) (is_digit-digit last.1),
+      passes text front behind (digit last.1) rest (subst CanGoOn joined (inside_goes_on p q)) (omega (arith, count, long, letter_count-inside p last.0))
+          (is_digit-digit last.1),
     )
 
 -- FAULTS INSIDE THE PERIOD, behind letters p, ( and letters q
@@ -117,11 +124,14 @@ module _ (text : List ℕ) (p q : List Bool) (few : length p + length q ≤ 4096
 
   read_inside : (x : List ℕ) → text ≡ digits p ++ 40 ∷ (digits q ++ x) → IsReadTo text (length p + 1 + length q)
   read_inside x splits =
-      read_front text (digits p ++ 40 ∷ digits q) x (length p + 1 + length q) (front_splits x splits) (length-inside p q) (inside_goes_on p q) (omega (arith, letter_count-inside p q, few))
+      read_front text (digits p ++ 40 ∷ digits q) x (length p + 1 + length q) (front_splits x splits) (length-inside p q) (inside_goes_on p q)
+      (omega (arith, letter_count-inside p q, few))
 
-  taken_inside : (b : ℕ) (behind : List ℕ) → text ≡ digits p ++ 40 ∷ (digits q ++ b ∷ behind) → take (length p + 1 + length q + 1) text ≡ digits p ++ 40 ∷ (digits q ++ b ∷ [])
+  taken_inside : (b : ℕ) (behind : List ℕ) → text ≡ digits p ++ 40 ∷ (digits q ++ b ∷ behind)
+      → take (length p + 1 + length q + 1) text ≡ digits p ++ 40 ∷ (digits q ++ b ∷ [])
   taken_inside b behind splits =
-      next_taken text (digits p ++ 40 ∷ digits q) behind b (length p + 1 + length q) (front_splits (b ∷ behind) splits) (length-inside p q) ∙ append_assoc (digits p) (40 ∷ digits q) (b ∷ [])
+      next_taken text (digits p ++ 40 ∷ digits q) behind b (length p + 1 + length q) (front_splits (b ∷ behind) splits) (length-inside p q)
+      ∙ append_assoc (digits p) (40 ∷ digits q) (b ∷ [])
 
   there_inside : (b : ℕ) (behind : List ℕ) → text ≡ digits p ++ 40 ∷ (digits q ++ b ∷ behind) → length p + 1 + length q < length text
   there_inside b behind splits =
@@ -144,7 +154,8 @@ empty_period text behind p splits few =
       },
     )
 
-pub stray_inside : (text : List ℕ) (p q : List Bool) (b : ℕ) (behind : List ℕ) → text ≡ digits p ++ 40 ∷ (digits q ++ b ∷ behind) → length p + length q ≤ 4096 → is_digit b ≡ false → (b ≡ 41 → ⊥) →
+pub stray_inside : (text : List ℕ) (p q : List Bool) (b : ℕ) (behind : List ℕ) → text ≡ digits p ++ 40 ∷ (digits q ++ b ∷ behind) → length p + length q ≤ 4096
+    → is_digit b ≡ false → (b ≡ 41 → ⊥) →
     IsFault text (fault.BadLetter (length p + 1 + length q))
 stray_inside text p q b behind splits few other not_close =
     let taken = taken_inside text p q few b behind splits in
@@ -160,7 +171,8 @@ stray_inside text p q b behind splits few other not_close =
     no_close [] e = not_close (cc)
     no_close (x ∷ q) e = digit_is_not x 41 refl (cc)
 
-pub ends_inside : (text : List ℕ) (p q : List Bool) → text ≡ digits p ++ 40 ∷ digits q → length p + length q ≤ 4096 → IsFault text (fault.BadLetter (length p + 1 + length q))
+pub ends_inside : (text : List ℕ) (p q : List Bool) → text ≡ digits p ++ 40 ∷ digits q → length p + length q ≤ 4096
+    → IsFault text (fault.BadLetter (length p + 1 + length q))
 ends_inside text p q whole few =
     inr
     (record {
@@ -172,7 +184,8 @@ ends_inside text p q whole few =
 abbrev closed : List Bool → List Bool → List ℕ
 closed p q = digits p ++ 40 ∷ (digits q ++ 41 ∷ [])
 
-pub stray_behind_period : (text : List ℕ) (p q : List Bool) (b : ℕ) (behind : List ℕ) → text ≡ digits p ++ 40 ∷ (digits q ++ 41 ∷ b ∷ behind) → length p + length q ≤ 4096 → 0 < length q →
+pub stray_behind_period : (text : List ℕ) (p q : List Bool) (b : ℕ) (behind : List ℕ) → text ≡ digits p ++ 40 ∷ (digits q ++ 41 ∷ b ∷ behind)
+    → length p + length q ≤ 4096 → 0 < length q →
     IsFault text (fault.BadLetter (length p + 1 + length q + 1))
 stray_behind_period text p q b behind splits few some =
     inl
@@ -186,7 +199,8 @@ stray_behind_period text p q b behind splits few some =
     })
   where
     regroup : (x : List ℕ) → digits p ++ 40 ∷ (digits q ++ 41 ∷ x) ≡ closed p q ++ x
-    regroup x = ap (λ (r : List ℕ). digits p ++ 40 ∷ r) (sym (append_assoc (digits q) (41 ∷ []) x)) ∙ sym (append_assoc (digits p) (40 ∷ (digits q ++ 41 ∷ [])) x)
+    regroup x = ap (λ (r : List ℕ). digits p ++ 40 ∷ r) (sym (append_assoc (digits q) (41 ∷ []) x))
+        ∙ sym (append_assoc (digits p) (40 ∷ (digits q ++ 41 ∷ [])) x)
 
     grouped : text ≡ closed p q ++ b ∷ behind
     grouped = splits ∙ regroup (b ∷ behind)
@@ -200,8 +214,10 @@ stray_behind_period text p q b behind splits few some =
 
 -- WORDS
 pub finite_reads : (text : List ℕ) (p : List Bool) → text ≡ digits p → 0 < length p → length p ≤ 4096 → Reads text (record { prefix = p; period = [] })
-finite_reads text p whole some few = record { spelled = whole ∙ sym (append-nil (digits p)); some_letter = omega (arith, some); few_letters = omega (arith, few) }
+finite_reads text p whole some few =
+    record { spelled = whole ∙ sym (append-nil (digits p)); some_letter = omega (arith, some); few_letters = omega (arith, few) }
 
-pub periodic_reads : (text : List ℕ) (p q : List Bool) → text ≡ digits p ++ 40 ∷ (digits q ++ 41 ∷ []) → 0 < length q → length p + length q ≤ 4096 → Reads text (record { prefix = p; period = q })
+pub periodic_reads : (text : List ℕ) (p q : List Bool) → text ≡ digits p ++ 40 ∷ (digits q ++ 41 ∷ []) → 0 < length q → length p + length q ≤ 4096
+    → Reads text (record { prefix = p; period = q })
 periodic_reads text p [] whole some few = absurd (omega (arith, some))
 periodic_reads text p (x ∷ q) whole some few = record { spelled = whole; some_letter = omega (arith, some); few_letters = few }

@@ -1,5 +1,6 @@
 -- Which fronts can go on to a word, and how many letters they have.
-use Rattle.std.proofs.Common.{◌≡◌, ℕ, suc, ◌+◌, ◌<◌, List, [], ◌∷◌, ◌++◌, length, take, drop, Bool, true, false, refl, sym, ap, ap₂, ◌∙◌, cond, append_assoc, zero-add, arith}
+use Rattle.std.proofs.Common.{◌≡◌, ℕ, suc, ◌+◌, ◌<◌, List, [], ◌∷◌, ◌++◌, length, take, drop, Bool, true, false, refl, sym, ap, ap₂, ◌∙◌, cond, append_assoc}
+use Rattle.std.proofs.Common.{zero-add, arith}
 use Rattle.std.proofs.lemmas.List.{take-append-drop, append-nil}
 use Rattle.std.proofs.lemmas.List.Sums.{sum_by-append}
 use Rattle.ccsl_words.specs.Word.{BinaryWord, word_len}
@@ -50,14 +51,16 @@ inside_ends p q more b w other e =
 pub stray_in_period : (p q : List Bool) (b : ℕ) → is_digit b ≡ false → (b ≡ 41 → ⊥) → CanGoOn (digits p ++ 40 ∷ (digits q ++ b ∷ [])) → ⊥
 stray_in_period p q b other not_close g =
     let joined : digits p ++ 40 ∷ (digits q ++ b ∷ g.1) ≡ spelling g.0 =
-    ap (λ (r : List ℕ). digits p ++ 40 ∷ r) (sym (append_assoc (digits q) (b ∷ []) g.1)) ∙ sym (append_assoc (digits p) (40 ∷ (digits q ++ b ∷ [])) g.1) ∙ g.2 in
+    ap (λ (r : List ℕ). digits p ++ 40 ∷ r) (sym (append_assoc (digits q) (b ∷ []) g.1)) ∙ sym (append_assoc (digits p) (40 ∷ (digits q ++ b ∷ [])) g.1)
+    ∙ g.2 in
     let ends = (inside_ends p q g.1 b g.0 other joined).0 in
     not_close (cc)
 
 pub stray_behind : (p q : List Bool) (b : ℕ) → CanGoOn (digits p ++ 40 ∷ (digits q ++ 41 ∷ b ∷ [])) → ⊥
 stray_behind p q b g =
     let joined : digits p ++ 40 ∷ (digits q ++ 41 ∷ b ∷ g.1) ≡ spelling g.0 =
-    ap (λ (r : List ℕ). digits p ++ 40 ∷ r) (sym (append_assoc (digits q) (41 ∷ b ∷ []) g.1)) ∙ sym (append_assoc (digits p) (40 ∷ (digits q ++ 41 ∷ b ∷ [])) g.1) ∙ g.2 in
+    ap (λ (r : List ℕ). digits p ++ 40 ∷ r) (sym (append_assoc (digits q) (41 ∷ b ∷ []) g.1))
+    ∙ sym (append_assoc (digits p) (40 ∷ (digits q ++ 41 ∷ b ∷ [])) g.1) ∙ g.2 in
     let ends = (inside_ends p q (b ∷ g.1) 41 g.0 refl joined).0 in
     cc
 
@@ -91,7 +94,8 @@ letter_count-cons b more = letter_count-append (b ∷ []) more ∙ ap (λ n. n +
 pub letter_count-digits : (p : List Bool) → letter_count (digits p) ≡ length p
 letter_count-digits [] = refl
 letter_count-digits (x ∷ p) =
-    letter_count-cons (digit x) (digits p) ∙ ap₂ (λ (b : Bool) (n : ℕ). cond b 1 0 + n) (is_digit-digit x) (letter_count-digits p) ∙ (let s : 1 + length p ≡ suc (length p) = omega arith in s)
+    letter_count-cons (digit x) (digits p) ∙ ap₂ (λ (b : Bool) (n : ℕ). cond b 1 0 + n) (is_digit-digit x) (letter_count-digits p)
+    ∙ (let s : 1 + length p ≡ suc (length p) = omega arith in s)
 
 pub letter_count-inside : (p q : List Bool) → letter_count (digits p ++ 40 ∷ digits q) ≡ length p + length q
 letter_count-inside p q =

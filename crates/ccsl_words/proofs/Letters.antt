@@ -1,5 +1,6 @@
 -- Words from an offset on.
-use Rattle.std.proofs.Common.{◌≡◌, ◌≢◌, ℕ, zero, suc, ◌+◌, ◌-◌, ◌%◌, ◌<◌, ◌≤◌, ⊎_elim, length, List, [], ◌∷◌, get_or, Bool, true, false, ◌&&◌, cond, refl, sym, ap, ap₂, ◌∙◌, arith, nat_le, nat_lt, nat_eq, le-leb, eq-eqb}
+use Rattle.std.proofs.Common.{◌≡◌, ◌≢◌, ℕ, zero, suc, ◌+◌, ◌-◌, ◌%◌, ◌<◌, ◌≤◌, ⊎_elim, length, List, [], ◌∷◌, get_or, Bool, true, false, ◌&&◌, cond, refl, sym}
+use Rattle.std.proofs.Common.{ap, ap₂, ◌∙◌, arith, nat_le, nat_lt, nat_eq, le-leb, eq-eqb}
 use Rattle.std.proofs.lemmas.Bool.{cases_Bool, cases_lt, cases_eq, lt-leb, ne_eqb, le-ltb, false≢true}
 use Rattle.std.proofs.Math.Nat.{add-mod_left}
 use Rattle.ccsl_words.specs.Word.{BinaryWord, letter, rest, is_finite, word_len, has_ended}
@@ -8,19 +9,22 @@ use Rattle.ccsl_words.specs.Offsets.{offset_at}
 
 letter_cases : (w : BinaryWord) (k : ℕ) (within fin : Bool) → nat_lt k (length w.prefix) ≡ within → is_finite w ≡ fin →
     letter w k ≡ cond within (get_or w.prefix k false) (cond fin false (get_or w.period ((k - length w.prefix) % length w.period) false))
-letter_cases w k within fin e f = ap₂ (λ c d. cond c (get_or w.prefix k false) (cond d false (get_or w.period ((k - length w.prefix) % length w.period) false))) e f
+letter_cases w k within fin e f =
+    ap₂ (λ c d. cond c (get_or w.prefix k false) (cond d false (get_or w.period ((k - length w.prefix) % length w.period) false))) e f
 
 pub past_finite : (w : BinaryWord) (k : ℕ) → is_finite w ≡ true → length w.prefix ≤ k → letter w k ≡ false
 past_finite w k fin l = letter_cases w k false true (le-ltb k (length w.prefix) l) fin
 
-pub past_infinite : (w : BinaryWord) (k : ℕ) → is_finite w ≡ false → length w.prefix ≤ k → letter w k ≡ get_or w.period ((k - length w.prefix) % length w.period) false
+pub past_infinite : (w : BinaryWord) (k : ℕ) → is_finite w ≡ false → length w.prefix ≤ k
+    → letter w k ≡ get_or w.period ((k - length w.prefix) % length w.period) false
 past_infinite w k fin l = letter_cases w k false false (le-ltb k (length w.prefix) l) fin
 
 -- a turn of the period later stands the same letter
 pub letter_turn : (w : BinaryWord) (k : ℕ) → is_finite w ≡ false → length w.prefix ≤ k → letter w (k + length w.period) ≡ letter w k
 letter_turn w k fin l =
     past_infinite w (k + length w.period) fin (omega (arith, l))
-    ∙ ap (λ i. get_or w.period (i % length w.period) false) (let s : k + length w.period - length w.prefix ≡ length w.period + (k - length w.prefix) = omega (arith, l) in s)
+    ∙ ap (λ i. get_or w.period (i % length w.period) false)
+    (let s : k + length w.period - length w.prefix ≡ length w.period + (k - length w.prefix) = omega (arith, l) in s)
     ∙ ap (λ i. get_or w.period i false) (add-mod_left (length w.period) (k - length w.prefix))
     ∙ sym (past_infinite w k fin l)
 
@@ -38,10 +42,12 @@ infinite_len w fin = some w.period fin
     some [] e = absurd (cc)
     some (x ∷ xs) e = omega arith
 
-rest_cases : (w : BinaryWord) (o : ℕ) (fin past wrap : Bool) → is_finite w ≡ fin → nat_le (length w.prefix) o ≡ past → nat_eq (o + 1) (length w.prefix + length w.period) ≡ wrap →
+rest_cases : (w : BinaryWord) (o : ℕ) (fin past wrap : Bool) → is_finite w ≡ fin → nat_le (length w.prefix) o ≡ past
+    → nat_eq (o + 1) (length w.prefix + length w.period) ≡ wrap →
     rest w o ≡ cond fin (cond past (length w.prefix) (o + 1)) (cond wrap (length w.prefix) (o + 1))
 rest_cases w o fin past wrap e e' e'' =
-    ap (λ c. cond c (cond (nat_le (length w.prefix) o) (length w.prefix) (o + 1)) (cond (nat_eq (o + 1) (length w.prefix + length w.period)) (length w.prefix) (o + 1))) e
+    ap (λ c. cond c (cond (nat_le (length w.prefix) o) (length w.prefix) (o + 1))
+    (cond (nat_eq (o + 1) (length w.prefix + length w.period)) (length w.prefix) (o + 1))) e
     ∙ ap₂ (λ c d. cond fin (cond c (length w.prefix) (o + 1)) (cond d (length w.prefix) (o + 1))) e' e''
 
 -- THE NEXT OFFSET, by cases
@@ -131,7 +137,9 @@ not_ended_before w o fin ne e = false≢true (sym (ap₂ (λ (c d : Bool). c && 
 pub ended-offset_at : (w : BinaryWord) (n : ℕ) → is_finite w ≡ true → has_ended w (offset_at w n) ≡ true → word_len w ≤ n
 ended-offset_at w n fin e =
     ⊎_elim
-    (λ (l : n < length w.prefix). absurd (not_ended_before w (offset_at w n) fin (λ (same : offset_at w n ≡ length w.prefix). omega (arith, l, same, offset_before_end w n fin (omega (arith, l)))) e))
+    (λ (l : n < length w.prefix). absurd
+    (not_ended_before w (offset_at w n) fin
+    (λ (same : offset_at w n ≡ length w.prefix). omega (arith, l, same, offset_before_end w n fin (omega (arith, l)))) e))
     (λ (l : length w.prefix ≤ n). omega (arith, l, finite_len w fin))
     (cases_lt n (length w.prefix))
 

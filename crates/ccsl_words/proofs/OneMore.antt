@@ -7,7 +7,8 @@ use Rattle.ccsl_words.specs.Front.{BeginsWith, HasLetters}
 pub begins_from_take : (text : List ℕ) (letters : List Bool) → take (length letters) text ≡ digits letters → BeginsWith text letters
 begins_from_take text letters e = sym (take-append-drop (length letters) text) ∙ ap (λ (front : List ℕ). front ++ drop (length letters) text) e
 
-pub one_more : (text : List ℕ) (letters : List Bool) (x : Bool) (i : ℕ) → take i text ≡ digits letters → length letters ≡ i → i < length text → get_or text i 0 ≡ digit x → HasLetters text (i + 1)
+pub one_more : (text : List ℕ) (letters : List Bool) (x : Bool) (i : ℕ) → take i text ≡ digits letters → length letters ≡ i → i < length text
+    → get_or text i 0 ≡ digit x → HasLetters text (i + 1)
 one_more text letters x i read counted within here =
     let more = letters ++ x ∷ [] in
     let count : length more ≡ i + 1 = length_push letters x ∙ ap (λ n. n + 1) counted in

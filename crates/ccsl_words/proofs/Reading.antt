@@ -1,5 +1,6 @@
 -- What is computed from a text is what the text reads as.
-use Rattle.std.proofs.Common.{◌≡◌, ◌≢◌, ℕ, suc, ◌+◌, ◌-◌, ◌<◌, ◌≤◌, List, [], ◌∷◌, ◌++◌, length, take, drop, map, take_while, Bool, true, false, ◌||◌, Result, Ok, Err, Option, Some, None, refl, sym, ap, ap₂, ◌∙◌, subst, inl, ⊎_elim, cond, nat_eq, nat_le, not, ◌&&◌, append_assoc, arith}
+use Rattle.std.proofs.Common.{◌≡◌, ◌≢◌, ℕ, suc, ◌+◌, ◌-◌, ◌<◌, ◌≤◌, List, [], ◌∷◌, ◌++◌, length, take, drop, map, take_while, Bool, true, false, ◌||◌, Result}
+use Rattle.std.proofs.Common.{Ok, Err, Option, Some, None, refl, sym, ap, ap₂, ◌∙◌, subst, inl, ⊎_elim, cond, nat_eq, nat_le, not, ◌&&◌, append_assoc, arith}
 use Rattle.std.proofs.lemmas.Bool.{cases_Bool, cases_lt, cases_eq, eqb-true, le-leb, leb-true}
 use Rattle.std.proofs.lemmas.List.{take-append-drop, append-nil, length-take, map-append}
 use Rattle.std.proofs.lemmas.List.Sums.{take_while-cons}
@@ -8,18 +9,21 @@ use Rattle.ccsl_words.specs.declared.fault.WordFault.{WordFault}
 use Rattle.ccsl_words.specs.declared.fault.WordFault.TheVariants as fault
 use Rattle.ccsl_words.specs.Word.{BinaryWord, word_len}
 use Rattle.ccsl_base.specs.Empty.{is_empty}
-use Rattle.ccsl_words.specs.Spelling.{digit, digits, period_text, spelling, is_digit, leading_letters, behind_letters, short_word, word_closed, word_with, read_word}
+use Rattle.ccsl_words.specs.Spelling.{digit, digits, period_text, spelling, is_digit, leading_letters, behind_letters, short_word, word_closed, word_with}
+use Rattle.ccsl_words.specs.Spelling.{read_word}
 use Rattle.ccsl_words.specs.Reads.{Reads}
 use Rattle.ccsl_words.specs.Fault.{IsFault}
 use Rattle.ccsl_words.specs.Front.{begins_with_letter, LeadsWith}
 use Rattle.ccsl_words.specs.Verdict.{IsVerdict}
 use Rattle.ccsl_words.proofs.Splits.{split_unique, period_begins}
 use Rattle.ccsl_words.proofs.Verdicts.{word_no_fault}
-use Rattle.ccsl_words.proofs.Faults.{stray_after_letters, limit_in_prefix, limit_in_period, empty_period, stray_inside, ends_inside, stray_behind_period, finite_reads, periodic_reads}
+use Rattle.ccsl_words.proofs.Faults.{stray_after_letters, limit_in_prefix, limit_in_period, empty_period, stray_inside, ends_inside, stray_behind_period}
+use Rattle.ccsl_words.proofs.Faults.{finite_reads, periodic_reads}
 
 -- THE LETTERS at the front
 leading-cons : (b : ℕ) (bs : List ℕ) (letter : Bool) → is_digit b ≡ letter → leading_letters (b ∷ bs) ≡ cond letter (nat_eq b 49 ∷ leading_letters bs) []
-leading-cons b bs letter e = ap (map (λ b. nat_eq b 49)) (take_while-cons is_digit b bs ∙ ap (λ (c : Bool). cond c (b ∷ take_while is_digit bs) []) e) ∙ through letter
+leading-cons b bs letter e =
+    ap (map (λ b. nat_eq b 49)) (take_while-cons is_digit b bs ∙ ap (λ (c : Bool). cond c (b ∷ take_while is_digit bs) []) e) ∙ through letter
   where
     through : (c : Bool) → map (λ b. nat_eq b 49) (cond c (b ∷ take_while is_digit bs) []) ≡ cond c (nat_eq b 49 ∷ leading_letters bs) []
     through true = refl
@@ -56,7 +60,8 @@ front_is p x other =
 short-few : (w : BinaryWord) → word_len w ≤ 4096 → short_word w ≡ Some w
 short-few w few = ap (λ (c : Bool). cond c (Some w) None) (le-leb (word_len w) 4096 few)
 
-closed_word : (p : List Bool) (x : Bool) (q : List Bool) → length p + length (x ∷ q) ≤ 4096 → word_with (40 ∷ (digits (x ∷ q) ++ 41 ∷ [])) p ≡ Some (record { prefix = p; period = x ∷ q })
+closed_word : (p : List Bool) (x : Bool) (q : List Bool) → length p + length (x ∷ q) ≤ 4096
+    → word_with (40 ∷ (digits (x ∷ q) ++ 41 ∷ [])) p ≡ Some (record { prefix = p; period = x ∷ q })
 closed_word p x q few =
     let s = front_is (x ∷ q) (41 ∷ []) refl in
     ap₂ (word_closed p) (sym s.0) (sym s.1) ∙ short-few (record { prefix = p; period = x ∷ q }) few
@@ -75,7 +80,8 @@ read-spelling w some few =
 short_some : (v w : BinaryWord) → short_word v ≡ Some w → (v ≡ w) × (word_len v ≤ 4096)
 short_some v w e =
     ⊎_elim
-    (λ (few : nat_le (word_len v) 4096 ≡ true). (let s : Some v ≡ Some w = sym (ap (λ (c : Bool). cond c (Some v) None) few) ∙ e in (let same : v ≡ w = cc in same, leb-true (word_len v) 4096 few)))
+    (λ (few : nat_le (word_len v) 4096 ≡ true).
+    (let s : Some v ≡ Some w = sym (ap (λ (c : Bool). cond c (Some v) None) few) ∙ e in (let same : v ≡ w = cc in same, leb-true (word_len v) 4096 few)))
     (λ (many : nat_le (word_len v) 4096 ≡ false). absurd (let s : None ≡ Some w = sym (ap (λ (c : Bool). cond c (Some v) None) many) ∙ e in cc))
     (cases_Bool (nat_le (word_len v) 4096))
 
@@ -104,7 +110,8 @@ closing c (b ∷ d ∷ y) (x ∷ q) e = absurd (both (nat_eq b 41) e)
     both true e = cc
     both false e = cc
 
-closed_reads : (text : List ℕ) (p q : List Bool) (y : List ℕ) (w : BinaryWord) → text ≡ digits p ++ 40 ∷ (digits q ++ y) → word_closed p q y ≡ Some w → Reads text w
+closed_reads : (text : List ℕ) (p q : List Bool) (y : List ℕ) (w : BinaryWord) → text ≡ digits p ++ 40 ∷ (digits q ++ y) → word_closed p q y ≡ Some w
+    → Reads text w
 closed_reads text p q y w splits e =
     let test = given (bytes_eq y (codes ")") && not (is_empty q)) (short_word (record { prefix = p; period = q })) e in
     let shape = closing true y q test.0 in
@@ -115,7 +122,8 @@ with_reads : (text : List ℕ) (x : List ℕ) (p : List Bool) (w : BinaryWord) �
 with_reads text [] [] w splits e = absurd (cc)
 with_reads text [] (y ∷ p) w splits e =
     let word = short_some (record { prefix = y ∷ p; period = [] }) w e in
-    subst (Reads text) word.0 (finite_reads text (y ∷ p) (splits ∙ append-nil (digits (y ∷ p))) (let s : 0 < suc (length p) = omega arith in s) (omega (arith, word.1)))
+    subst (Reads text) word.0
+    (finite_reads text (y ∷ p) (splits ∙ append-nil (digits (y ∷ p))) (let s : 0 < suc (length p) = omega arith in s) (omega (arith, word.1)))
 with_reads text (b ∷ bs) p w splits e =
     let test = given (nat_eq b 40) (word_closed p (leading_letters bs) (behind_letters bs)) e in
     let opens : b ≡ 40 = eqb-true b 40 test.0 in
@@ -142,12 +150,18 @@ module _ (text : List ℕ) where
   -- what stands behind the ) of a period
   closed_verdict : (p q : List Bool) (z : List ℕ) → text ≡ digits p ++ 40 ∷ (digits q ++ 41 ∷ z) → length p + length q ≤ 4096 → Verdict text
   closed_verdict p [] z splits few = fault_verdict fault.Empty (empty_period text z p splits (omega (arith, few)))
-  closed_verdict p (x ∷ q) [] splits few = word_verdict (record { prefix = p; period = x ∷ q }) (periodic_reads text p (x ∷ q) splits (let s : 0 < suc (length q) = omega arith in s) few)
-  closed_verdict p (x ∷ q) (d ∷ z) splits few = fault_verdict (fault.BadLetter (length p + 1 + length (x ∷ q) + 1)) (stray_behind_period text p (x ∷ q) d z splits few (let s : 0 < suc (length q) = omega arith in s))
+  closed_verdict p (x ∷ q) [] splits few =
+      word_verdict (record { prefix = p; period = x ∷ q }) (periodic_reads text p (x ∷ q) splits (let s : 0 < suc (length q) = omega arith in s) few)
+  closed_verdict p (x ∷ q) (d ∷ z) splits few =
+      fault_verdict (fault.BadLetter (length p + 1 + length (x ∷ q) + 1))
+      (stray_behind_period text p (x ∷ q) d z splits few (let s : 0 < suc (length q) = omega arith in s))
 
   -- what stands behind the letters of a period
-  period_verdict : (p q : List Bool) (y : List ℕ) → text ≡ digits p ++ 40 ∷ (digits q ++ y) → begins_with_letter y ≡ false → length p + length q ≤ 4096 → Verdict text
-  period_verdict p q [] splits other few = fault_verdict (fault.BadLetter (length p + 1 + length q)) (ends_inside text p q (splits ∙ ap (λ (r : List ℕ). digits p ++ 40 ∷ r) (append-nil (digits q))) few)
+  period_verdict : (p q : List Bool) (y : List ℕ) → text ≡ digits p ++ 40 ∷ (digits q ++ y) → begins_with_letter y ≡ false → length p + length q ≤ 4096
+      → Verdict text
+  period_verdict p q [] splits other few =
+      fault_verdict (fault.BadLetter (length p + 1 + length q))
+      (ends_inside text p q (splits ∙ ap (λ (r : List ℕ). digits p ++ 40 ∷ r) (append-nil (digits q))) few)
   period_verdict p q (c ∷ y) splits other few =
       ⊎_elim
       (λ (e : c ≡ 41). closed_verdict p q y (splits ∙ ap (λ (b : ℕ). digits p ++ 40 ∷ (digits q ++ b ∷ y)) e) few)
@@ -162,7 +176,8 @@ module _ (text : List ℕ) where
       let n = 4097 - length p in
       let rest = digits (drop n q) ++ y in
       let parts : digits q ++ y ≡ digits (take n q) ++ rest =
-      ap (λ (r : List Bool). digits r ++ y) (sym (take-append-drop n q)) ∙ ap (λ (r : List ℕ). r ++ y) (map-append digit (take n q) (drop n q)) ∙ append_assoc (digits (take n q)) (digits (drop n q)) y in
+      ap (λ (r : List Bool). digits r ++ y) (sym (take-append-drop n q)) ∙ ap (λ (r : List ℕ). r ++ y) (map-append digit (take n q) (drop n q))
+      ∙ append_assoc (digits (take n q)) (digits (drop n q)) y in
       fault_verdict fault.TooLong
       (limit_in_period text rest p (take n q) (splits ∙ ap (λ (r : List ℕ). digits p ++ 40 ∷ r) parts) few (omega (arith, many, few, length-take n q))))
       (λ (l : length p + length q ≤ 4096). period_verdict p q y splits other l)
@@ -171,11 +186,14 @@ module _ (text : List ℕ) where
   -- what stands behind the letters of the prefix
   prefix_verdict : (p : List Bool) (x : List ℕ) → text ≡ digits p ++ x → begins_with_letter x ≡ false → length p ≤ 4096 → Verdict text
   prefix_verdict [] [] splits other few = fault_verdict fault.Empty (inl splits)
-  prefix_verdict (a ∷ p) [] splits other few = word_verdict (record { prefix = a ∷ p; period = [] }) (finite_reads text (a ∷ p) (splits ∙ append-nil (digits (a ∷ p))) (let s : 0 < suc (length p) = omega arith in s) few)
+  prefix_verdict (a ∷ p) [] splits other few =
+      word_verdict (record { prefix = a ∷ p; period = [] })
+      (finite_reads text (a ∷ p) (splits ∙ append-nil (digits (a ∷ p))) (let s : 0 < suc (length p) = omega arith in s) few)
   prefix_verdict p (b ∷ bs) splits other few =
       ⊎_elim
       (λ (e : b ≡ 40).
-      opened_verdict p (leading_letters bs) (behind_letters bs) (splits ∙ ap₂ (λ (c : ℕ) (r : List ℕ). digits p ++ c ∷ r) e (leads bs).begins) (leads bs).stops few)
+      opened_verdict p (leading_letters bs) (behind_letters bs) (splits ∙ ap₂ (λ (c : ℕ) (r : List ℕ). digits p ++ c ∷ r) e (leads bs).begins) (leads bs).stops
+      few)
       (λ (ne : b ≡ 40 → ⊥). fault_verdict (fault.BadLetter (length p)) (stray_after_letters text p b bs splits few other ne))
       (cases_eq b 40)
 
@@ -207,6 +225,7 @@ pub word_computed : (text : List ℕ) (r : Result BinaryWord WordFault) → IfOk
 word_computed text (Ok w) h = reads_read text w h
 word_computed text (Err e) h = tt
 
-pub fault_refused : (text : List ℕ) (r : Result BinaryWord WordFault) → IfErr r (λ e. e ≢ fault.Memory → IsFault text e) → IfErr r (λ e. e ≢ fault.Memory → read_word text ≡ None)
+pub fault_refused : (text : List ℕ) (r : Result BinaryWord WordFault) → IfErr r (λ e. e ≢ fault.Memory → IsFault text e)
+    → IfErr r (λ e. e ≢ fault.Memory → read_word text ≡ None)
 fault_refused text (Ok w) h = tt
 fault_refused text (Err e) h = λ ne. fault-read text e (h ne)

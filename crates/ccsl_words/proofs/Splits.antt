@@ -22,7 +22,8 @@ digit_is_not x b other e = false≢true (sym other ∙ ap is_digit (sym e) ∙ i
 abbrev pub Split : List Bool → List Bool → List ℕ → List ℕ → Type 0
 Split p q x y = (p ≡ q) × (x ≡ y)
 
-pub split_unique : (p q : List Bool) (x y : List ℕ) → begins_with_letter x ≡ false → begins_with_letter y ≡ false → digits p ++ x ≡ digits q ++ y → Split p q x y
+pub split_unique : (p q : List Bool) (x y : List ℕ) → begins_with_letter x ≡ false → begins_with_letter y ≡ false → digits p ++ x ≡ digits q ++ y
+    → Split p q x y
 split_unique [] [] x y l r e = (refl, e)
 split_unique [] (b ∷ q) [] y l r e = absurd (cc)
 split_unique [] (b ∷ q) (c ∷ x) y l r e = absurd (digit_is_not b c l (let h : c ≡ digit b = cc in sym h))
@@ -39,7 +40,8 @@ period_begins [] = refl
 period_begins (x ∷ q) = refl
 
 -- the text behind the letters of the prefix is that of the period
-pub prefix_split : (w : BinaryWord) (p : List Bool) (x : List ℕ) → begins_with_letter x ≡ false → digits p ++ x ≡ spelling w → Split p w.prefix x (period_text w.period)
+pub prefix_split : (w : BinaryWord) (p : List Bool) (x : List ℕ) → begins_with_letter x ≡ false → digits p ++ x ≡ spelling w
+    → Split p w.prefix x (period_text w.period)
 prefix_split w p x l e = split_unique p w.prefix x (period_text w.period) l (period_begins w.period) e
 
 -- the letters behind the ( of a period, and what follows them

@@ -1,5 +1,6 @@
 -- What a text is, from whether a byte could be stripped off behind its letters.
-use Rattle.std.proofs.Common.{◌≡◌, ◌≢◌, ℕ, ◌+◌, ◌-◌, ◌<◌, ◌≤◌, List, [], ◌∷◌, ◌++◌, length, take, drop, Bool, true, false, ◌&&◌, refl, sym, ap, ◌∙◌, subst, inl, nat_eq, arith}
+use Rattle.std.proofs.Common.{◌≡◌, ◌≢◌, ℕ, ◌+◌, ◌-◌, ◌<◌, ◌≤◌, List, [], ◌∷◌, ◌++◌, length, take, drop, Bool, true, false, ◌&&◌, refl, sym, ap, ◌∙◌, subst, inl}
+use Rattle.std.proofs.Common.{nat_eq, arith}
 use Rattle.std.proofs.lemmas.Bool.{eqb-true, eqb-false, eq-eqb, false≢true}
 use Rattle.std.proofs.lemmas.List.{append-nil, nil_from_length, take_rest}
 use lib.Pointwise.{pointwise}
@@ -8,7 +9,8 @@ use Rattle.ccsl_words.specs.Spelling.{digits}
 use Rattle.ccsl_words.specs.Reads.{Reads}
 use Rattle.ccsl_words.specs.Front.{begins_with_letter, LeadsWith, HasLetters}
 use Rattle.ccsl_words.specs.Fault.{IsFault}
-use Rattle.ccsl_words.proofs.Faults.{stray_after_letters, limit_in_prefix, limit_in_period, empty_period, stray_inside, ends_inside, stray_behind_period, finite_reads, periodic_reads}
+use Rattle.ccsl_words.proofs.Faults.{stray_after_letters, limit_in_prefix, limit_in_period, empty_period, stray_inside, ends_inside, stray_behind_period}
+use Rattle.ccsl_words.proofs.Faults.{finite_reads, periodic_reads}
 
 -- whether a list begins with a byte, as `strip_prefix` tests it
 abbrev pub begins_with : ℕ → List ℕ → Bool
@@ -41,11 +43,13 @@ module _ (text : List ℕ) (p : List Bool) (n : ℕ) (leads : LeadsWith text p) 
   pub opens : begins_with 40 (from_place n text) ≡ true → text ≡ digits p ++ 40 ∷ drop 1 (from_place n text)
   opens e = splits ∙ ap (λ (r : List ℕ). digits p ++ r) (stripped 40 (from_place n text) e)
 
-  pub not_opened : begins_with 40 (from_place n text) ≡ false → 0 < length (from_place n text) → length p ≤ 4096 → (place : ℕ) → place ≡ length p → IsFault text (fault.BadLetter place)
+  pub not_opened : begins_with 40 (from_place n text) ≡ false → 0 < length (from_place n text) → length p ≤ 4096 → (place : ℕ) → place ≡ length p
+      → IsFault text (fault.BadLetter place)
   not_opened e some few place at =
       subst (λ (k : ℕ). IsFault text (fault.BadLetter k)) (sym at) (by_next (from_place n text) splits (ap begins_with_letter behind ∙ leads.stops) e some)
     where
-      by_next : (z : List ℕ) → text ≡ digits p ++ z → begins_with_letter z ≡ false → begins_with 40 z ≡ false → 0 < length z → IsFault text (fault.BadLetter (length p))
+      by_next : (z : List ℕ) → text ≡ digits p ++ z → begins_with_letter z ≡ false → begins_with 40 z ≡ false → 0 < length z
+          → IsFault text (fault.BadLetter (length p))
       by_next [] whole stops e some = absurd (omega (arith, some))
       by_next (b ∷ z) whole stops e some = stray_after_letters text p b z whole few stops (other_byte 40 b z e)
 
@@ -63,7 +67,8 @@ pub front_long : (text : List ℕ) → HasLetters text 4097 → IsFault text fau
 front_long text has = limit_in_prefix text (drop (length has.0) text) has.0 has.2 has.1
 
 -- A TEXT that opens a period behind letters p: what stands inside it leads with letters q, n of them, and then comes y
-module _ (p : List Bool) (inside : List ℕ) (q : List Bool) (n : ℕ) (leads : LeadsWith inside q) (counted : n ≡ length q) (few : length p + length q ≤ 4096) where
+module _ (p : List Bool) (inside : List ℕ) (q : List Bool) (n : ℕ) (leads : LeadsWith inside q) (counted : n ≡ length q)
+    (few : length p + length q ≤ 4096) where
   abbrev y : List ℕ
   y = from_place n inside
 
@@ -77,7 +82,8 @@ module _ (p : List Bool) (inside : List ℕ) (q : List Bool) (n : ℕ) (leads : 
   closed e = opened ∙ ap (λ (r : List ℕ). digits p ++ 40 ∷ (digits q ++ r)) (stripped 41 y e)
 
   pub not_closed : begins_with 41 y ≡ false → (place : ℕ) → place ≡ length p + 1 + length q → IsFault (digits p ++ 40 ∷ inside) (fault.BadLetter place)
-  not_closed e place at = subst (λ (n : ℕ). IsFault (digits p ++ 40 ∷ inside) (fault.BadLetter n)) (sym at) (by_next y opened (ap begins_with_letter rest ∙ leads.stops) e)
+  not_closed e place at = subst (λ (n : ℕ). IsFault (digits p ++ 40 ∷ inside) (fault.BadLetter n)) (sym at)
+      (by_next y opened (ap begins_with_letter rest ∙ leads.stops) e)
     where
       by_next : (z : List ℕ) → digits p ++ 40 ∷ inside ≡ digits p ++ 40 ∷ (digits q ++ z) → begins_with_letter z ≡ false → begins_with 41 z ≡ false →
           IsFault (digits p ++ 40 ∷ inside) (fault.BadLetter (length p + 1 + length q))
@@ -85,23 +91,29 @@ module _ (p : List Bool) (inside : List ℕ) (q : List Bool) (n : ℕ) (leads : 
       by_next (c ∷ z) splits stops e = stray_inside (digits p ++ 40 ∷ inside) p q c z splits few stops (other_byte 41 c z e)
 
   pub closed_empty : begins_with 41 y ≡ true → length q ≡ 0 → IsFault (digits p ++ 40 ∷ inside) fault.Empty
-  closed_empty e none = empty_period (digits p ++ 40 ∷ inside) (drop 1 y) p (closed e ∙ ap (λ (r : List Bool). digits p ++ 40 ∷ (digits r ++ 41 ∷ drop 1 y)) (nil_from_length q none)) (omega (arith, few))
+  closed_empty e none = empty_period (digits p ++ 40 ∷ inside) (drop 1 y) p
+      (closed e ∙ ap (λ (r : List Bool). digits p ++ 40 ∷ (digits r ++ 41 ∷ drop 1 y)) (nil_from_length q none)) (omega (arith, few))
 
-  pub closed_early : begins_with 41 y ≡ true → 0 < length q → 0 < length (drop 1 y) → (place : ℕ) → place ≡ length p + 1 + length q + 1 → IsFault (digits p ++ 40 ∷ inside) (fault.BadLetter place)
+  pub closed_early : begins_with 41 y ≡ true → 0 < length q → 0 < length (drop 1 y) → (place : ℕ) → place ≡ length p + 1 + length q + 1
+      → IsFault (digits p ++ 40 ∷ inside) (fault.BadLetter place)
   closed_early e some more place at = subst (λ (n : ℕ). IsFault (digits p ++ 40 ∷ inside) (fault.BadLetter n)) (sym at) (by_next (drop 1 y) (closed e) more)
     where
-      by_next : (z : List ℕ) → digits p ++ 40 ∷ inside ≡ digits p ++ 40 ∷ (digits q ++ 41 ∷ z) → 0 < length z → IsFault (digits p ++ 40 ∷ inside) (fault.BadLetter (length p + 1 + length q + 1))
+      by_next : (z : List ℕ) → digits p ++ 40 ∷ inside ≡ digits p ++ 40 ∷ (digits q ++ 41 ∷ z) → 0 < length z
+          → IsFault (digits p ++ 40 ∷ inside) (fault.BadLetter (length p + 1 + length q + 1))
       by_next [] splits more = absurd (omega (arith, more))
       by_next (c ∷ z) splits more = stray_behind_period (digits p ++ 40 ∷ inside) p q c z splits few some
 
   pub closed_word : begins_with 41 y ≡ true → 0 < length q → length (drop 1 y) ≡ 0 → Reads (digits p ++ 40 ∷ inside) (record { prefix = p; period = q })
   closed_word e some none =
-      periodic_reads (digits p ++ 40 ∷ inside) p q (closed e ∙ ap (λ (r : List ℕ). digits p ++ 40 ∷ (digits q ++ 41 ∷ r)) (nil_from_length (drop 1 y) none)) some few
+      periodic_reads (digits p ++ 40 ∷ inside) p q (closed e ∙ ap (λ (r : List ℕ). digits p ++ 40 ∷ (digits q ++ 41 ∷ r)) (nil_from_length (drop 1 y) none))
+      some few
 
 -- more letters inside the period than there is room for
-pub period_long : (p : List Bool) (inside : List ℕ) (room : ℕ) → length p ≤ 4096 → room ≡ 4096 - length p → HasLetters inside (room + 1) → IsFault (digits p ++ 40 ∷ inside) fault.TooLong
+pub period_long : (p : List Bool) (inside : List ℕ) (room : ℕ) → length p ≤ 4096 → room ≡ 4096 - length p → HasLetters inside (room + 1)
+    → IsFault (digits p ++ 40 ∷ inside) fault.TooLong
 period_long p inside room few left has =
-    limit_in_period (digits p ++ 40 ∷ inside) (drop (length has.0) inside) p has.0 (ap (λ (r : List ℕ). digits p ++ 40 ∷ r) has.2) few (omega (arith, few, left, has.1))
+    limit_in_period (digits p ++ 40 ∷ inside) (drop (length has.0) inside) p has.0 (ap (λ (r : List ℕ). digits p ++ 40 ∷ r) has.2) few
+    (omega (arith, few, left, has.1))
 
 -- what `is_empty` says of a length
 pub none_long : (n : ℕ) (b : Bool) → b ≡ nat_eq n 0 → b ≡ true → n ≡ 0

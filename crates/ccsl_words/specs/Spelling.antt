@@ -1,5 +1,6 @@
 -- The texts of binary words: letters 0 and 1, and then nothing or a period of at least one letter in parentheses, as 0110, 01(10) and (1).
-use Rattle.std.specs.Prelude.{ℕ, List, [], ◌∷◌, ◌++◌, map, drop, take_while, length, codes, Bool, true, false, ◌||◌, not, ◌&&◌, nat_eq, nat_le, bytes_eq, Option, Some, None, if◌then◌else◌}
+use Rattle.std.specs.Prelude.{ℕ, List, [], ◌∷◌, ◌++◌, map, drop, take_while, length, codes, Bool, true, false, ◌||◌, not, ◌&&◌, nat_eq, nat_le, bytes_eq}
+use Rattle.std.specs.Prelude.{Option, Some, None, if◌then◌else◌}
 use Rattle.ccsl_base.specs.declared.limits.TheConstants.{MAX_LETTERS}
 use Rattle.ccsl_words.specs.Word.{BinaryWord, word_len}
 use Rattle.ccsl_base.specs.Empty.{is_empty}
@@ -37,7 +38,8 @@ short_word w = if nat_le (word_len w) MAX_LETTERS then Some w else None
 
 -- what follows the letters of a period has to be its end
 abbrev pub word_closed : List Bool → List Bool → List ℕ → Option BinaryWord
-word_closed prefix period behind = if bytes_eq behind (codes ")") && not (is_empty period) then short_word (record { prefix = prefix; period = period }) else None
+word_closed prefix period behind =
+    if bytes_eq behind (codes ")") && not (is_empty period) then short_word (record { prefix = prefix; period = period }) else None
 
 -- with nothing behind the letters of the prefix they are a finite word; else a period follows
 abbrev pub word_with : List ℕ → List Bool → Option BinaryWord

@@ -14,5 +14,6 @@ returns-in-Ok-check-clause-answers c = λ bound rows h.
     let same : map plain c.deref.result.now ≡ items = ap (map plain) c.deref.ensures.value ∙ c.in-Ok.ensures.formulas (completed_rows K rows) h.1.stands in (
       h.0,
       none-certificate (scope_of K) items lines
-          (sym (ap (λ s. first_bad_line s items lines) c.scope.ensures.scope) ∙ sym (ap (λ fs. first_bad_line c.scope.result fs lines) same) ∙ c.in-Ok-check.ensures.answers),
+          (sym (ap (λ s. first_bad_line s items lines) c.scope.ensures.scope) ∙ sym (ap (λ fs. first_bad_line c.scope.result fs lines) same)
+          ∙ c.in-Ok-check.ensures.answers),
     )

@@ -6,4 +6,6 @@ use Rattle.ccsl_elaborate.specs.TreeCells.{groups_before}
 use Rattle.ccsl_elaborate.proofs.cells.add_groups.Given as goal
 
 abbrev pub invariant-loop-definition : goal.invariant-loop-definition
-invariant-loop-definition l = let f = groups_before (map seen_call l.calls) in f l.groups.items (map plain_definition (drop l.definition-index l.definitions)) ≡ f l.fn.groups.items (map plain_definition l.definitions)
+invariant-loop-definition l = let f =
+    groups_before (map seen_call l.calls) in
+    f l.groups.items (map plain_definition (drop l.definition-index l.definitions)) ≡ f l.fn.groups.items (map plain_definition l.definitions)

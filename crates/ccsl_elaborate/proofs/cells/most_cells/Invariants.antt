@@ -9,4 +9,6 @@ use Rattle.ccsl_elaborate.specs.TreeCells.{tree_cells}
 use Rattle.ccsl_elaborate.proofs.cells.most_cells.Given as goal
 
 abbrev pub invariant-loop-member : goal.invariant-loop-member
-invariant-loop-member l = let f = λ (ms : List Member). greatest (map (λ (m : PlainMember). tree_cells (map seen_call l.calls) l.groups m.body) (map plain_member ms)) in record { small : l.most ≤ 4294967295; whole : saturated (max l.most (f (drop l.member-index l.members))) ≡ saturated (f l.members) }
+invariant-loop-member l = let f =
+    λ (ms : List Member). greatest (map (λ (m : PlainMember). tree_cells (map seen_call l.calls) l.groups m.body) (map plain_member ms)) in
+    record { small : l.most ≤ 4294967295; whole : saturated (max l.most (f (drop l.member-index l.members))) ≡ saturated (f l.members) }

@@ -7,4 +7,6 @@ use Rattle.ccsl_kernel.specs.Cells.{saturated, greatest}
 use Rattle.ccsl_elaborate.proofs.cells.most_params.Given as goal
 
 abbrev pub invariant-loop-member : goal.invariant-loop-member
-invariant-loop-member l = let f = λ (ms : List Member). greatest (map (λ (m : PlainMember). length m.params) (map plain_member ms)) in record { small : l.most ≤ 4294967295; whole : saturated (max l.most (f (drop l.member-index l.members))) ≡ saturated (f l.members) }
+invariant-loop-member l = let f =
+    λ (ms : List Member). greatest (map (λ (m : PlainMember). length m.params) (map plain_member ms)) in
+    record { small : l.most ≤ 4294967295; whole : saturated (max l.most (f (drop l.member-index l.members))) ≡ saturated (f l.members) }

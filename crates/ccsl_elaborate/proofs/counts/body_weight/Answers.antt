@@ -9,5 +9,6 @@ use Rattle.ccsl_elaborate.proofs.counts.body_weight.Goals as goal
 pub loop-line-init : goal.loop-line-init
 loop-line-init c = record {
   small = omega arith;
-  whole = body_count-cut (weights_of (map seen_call c.args.calls.now) c.args.total) (map seen_call c.args.calls.now) c.args.weighed.now (map SLineOf (map plain_line c.args.lines.now));
+  whole = body_count-cut (weights_of (map seen_call c.args.calls.now) c.args.total) (map seen_call c.args.calls.now) c.args.weighed.now
+      (map SLineOf (map plain_line c.args.lines.now));
 }

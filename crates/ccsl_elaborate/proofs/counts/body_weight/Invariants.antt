@@ -8,4 +8,10 @@ use Rattle.ccsl_elaborate.specs.Weighed.{weights_of}
 use Rattle.ccsl_elaborate.proofs.counts.body_weight.Given as goal
 
 abbrev pub invariant-loop-line : goal.invariant-loop-line
-invariant-loop-line l = let f = body_count (weights_of (map seen_call l.calls) l.total) (map seen_call l.calls) l.weighed in record { small : l.sum ≤ 4294967295; whole : cut (l.sum + f (map SLineOf (map plain_line (drop l.line-index l.lines)))) ≡ f (map SLineOf (map plain_line l.lines)) }
+invariant-loop-line l = let f =
+    body_count (weights_of (map seen_call l.calls) l.total) (map seen_call l.calls) l.weighed in
+    record {
+      small : l.sum ≤ 4294967295;
+      whole : cut (l.sum
+          + f (map SLineOf (map plain_line (drop l.line-index l.lines)))) ≡ f (map SLineOf (map plain_line l.lines));
+    }

@@ -14,5 +14,6 @@ returns c =
     c.deref.ensures.value ∙ c.in_ok-groups.ensures
     ∙ ap (λ (K : List (Known Callee)). groups_before K (groups_before K [] library.definitions) file.definitions) c.in_ok-calls.ensures in
     subst (λ x. IfOk c.file_weight.result (λ n. n ≡ x))
-    (ap₂ (λ (K : List (Known Callee)) (G : List ℕ). count_behind (record { definition = tree_cells K G; constraint = 2 }) K library file) c.in_ok-calls.ensures groups ∙ sym (cells-agree library file))
+    (ap₂ (λ (K : List (Known Callee)) (G : List ℕ). count_behind (record { definition = tree_cells K G; constraint = 2 }) K library file) c.in_ok-calls.ensures
+    groups ∙ sym (cells-agree library file))
     c.file_weight.ensures

@@ -14,5 +14,6 @@ returns c =
     let defined = c.in_ok-defined.ensures ∙ ap (λ K. count_behind clock_weights K library file) c.in_ok-calls.ensures in
     c.saturating_add.ensures
     ∙ (ap (λ x. cut (c.declared_count.result + x)) defined
-    ∙ cut-sum c.declared_count.result (file_count clock_weights library file) (length (flat_map declared_names file.lines)) (cut (length (expand library file).names)) declared
+    ∙ cut-sum c.declared_count.result (file_count clock_weights library file) (length (flat_map declared_names file.lines))
+    (cut (length (expand library file).names)) declared
     (c.counts_are_lengths.ensures library file).1)

@@ -7,4 +7,6 @@ use Rattle.ccsl_ast.specs.declared.line.SystemLine.{SystemLine}
 use Rattle.ccsl_elaborate.proofs.counts.declared_count.Given as goal
 
 abbrev pub invariant-loop-line : goal.invariant-loop-line
-invariant-loop-line l = let f = λ (ls : List SystemLine). length (flat_map declared_names (map plain_sline ls)) in record { small : l.total ≤ 4294967295; whole : cut (l.total + f (drop l.line-index l.lines)) ≡ cut (f l.lines) }
+invariant-loop-line l = let f =
+    λ (ls : List SystemLine). length (flat_map declared_names (map plain_sline ls)) in
+    record { small : l.total ≤ 4294967295; whole : cut (l.total + f (drop l.line-index l.lines)) ≡ cut (f l.lines) }

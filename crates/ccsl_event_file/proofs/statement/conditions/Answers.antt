@@ -18,7 +18,8 @@ returns-in_err-condition-clause-reads c =
     let is = c.joint.ensures ∙ ap (λ xs. joint (conditions_in xs)) c.as_slice.ensures.value in
     let one = subst (λ w. TakesOne (is_word w) (ahead c.conditions.parser.len before) mid) is c.conditions-test.ensures.takes in
     rw (p.1, p.2) (λ es name t.
-    moved c.in_err-condition.field-0.0 (story len (behind es (event name t [])) (ahead len c.args.parser.now.rest.now)) (story other (first_part (draft es name (condition_of t cs))) mid)
+    moved c.in_err-condition.field-0.0 (story len (behind es (event name t [])) (ahead len c.args.parser.now.rest.now))
+    (story other (first_part (draft es name (condition_of t cs))) mid)
     (c.conditions.invariant.same es name t
     ∙ ap (λ n. story len (behind es (event name t cs)) (ahead n before)) (sym c.conditions.invariant.len)
     ∙ joins es name t cs len (ahead c.conditions.parser.len before) mid one

@@ -14,7 +14,8 @@ returns-in_err-name-clause-reads c =
     let p = err_from_is_err_and c.from_residual.result c.from_residual.ensures.1 in
     let len = c.args.parser.now.len in
     let rest = c.args.parser.now.rest.now in
-    rw (p.1, p.2) (λ es is. no_name c.in_err-name.field-0.0 es len (ahead len rest) (not_over len rest c.args.parser.now.bare c.requires.some) c.in_err-name.ensures.reads)
+    rw (p.1, p.2) (λ es is. no_name c.in_err-name.field-0.0 es len (ahead len rest) (not_over len rest c.args.parser.now.bare c.requires.some)
+    c.in_err-name.ensures.reads)
 
 pub returns-then-not-is_name-clause-reads : goal.returns-then-not-is_name-clause-reads
 returns-then-not-is_name-clause-reads c = λ es is.
@@ -24,7 +25,8 @@ returns-then-not-is_name-clause-reads c = λ es is.
     let name = c.in_ok-name.name.now in
     let bad : may_be_named es name ≡ false = elim c.then-not-is_name.branch [
       | then-not-is_name-via-then-not-is_name w ↦ may_not es name (sym c.is_name.ensures ∙ w.if-not-is_name.true)
-      | then-not-is_name-via-else-not-is_name+then-len-ge-MAX_CLOCKS w ↦ too_many es c.args.names.now name is (subst (λ n. MAX_CLOCKS ≤ n) w.len.ensures w.if-len-ge-MAX_CLOCKS.true)
+      | then-not-is_name-via-else-not-is_name+then-len-ge-MAX_CLOCKS w ↦ too_many es c.args.names.now name is
+          (subst (λ n. MAX_CLOCKS ≤ n) w.len.ensures w.if-len-ge-MAX_CLOCKS.true)
     ] in
     is_bad es name len old mid c.in_ok-name.ensures.reads bad ∙ ap (λ at. fault (faults.Syntax at)) (sym c.at-at.ensures)
 

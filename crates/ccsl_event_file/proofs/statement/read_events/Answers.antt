@@ -36,4 +36,5 @@ statements-init c =
 pub returns-clause-says : goal.returns-clause-says
 returns-clause-says c =
     let text = c.args.text.now in
-    c.statements.invariant.same ∙ over (length text) (map event_in c.statements.events.items) c.statements.parser.rest.now (sym c.is_empty.ensures ∙ c.statements-test.false)
+    c.statements.invariant.same ∙ over (length text) (map event_in c.statements.events.items) c.statements.parser.rest.now
+    (sym c.is_empty.ensures ∙ c.statements-test.false)

@@ -101,5 +101,6 @@ returns-clause-reads c =
     ∙ c.in_ok-trigger.ensures.reads es name ∙ ap (λ n. story n (behind es (event name made [])) triggered) (sym c.in_ok-trigger.ensures.len)
     ∙ c.in_ok-conditions.ensures.reads es name made ∙ ap (λ n. story n (behind es (event name made cs)) met) (sym c.in_ok-conditions.ensures.len)
     ∙ closes es (event name made cs) fourth met new c.in_ok-conditions.ensures.ended c.in_ok-expect_mark-2.ensures.expects
-    ∙ ap (λ n. story n (statement (es ++ event name made cs ∷ [])) new) (c.in_ok-conditions.ensures.len ∙ c.in_ok-trigger.ensures.len ∙ c.in_ok-expect_mark.ensures.len ∙ c.in_ok-name.ensures.len)
+    ∙ ap (λ n. story n (statement (es ++ event name made cs ∷ [])) new)
+    (c.in_ok-conditions.ensures.len ∙ c.in_ok-trigger.ensures.len ∙ c.in_ok-expect_mark.ensures.len ∙ c.in_ok-name.ensures.len)
     ∙ ap (λ x. story len (statement (es ++ event x made cs ∷ [])) new) (sym c.in_ok-name-2.ensures.items)

@@ -21,7 +21,8 @@ expand_texts-requires-clause-new c = λ front back name e.
     ∙ ap (λ f. calls_space 0 0 (library.definitions ++ map plain_definition f)) c.members-2.ensures) in
     let whole =
     expand-whole library file texts.words.items calls (map seen_block c.deref.result.now) texts.start (map plain_sline c.members-3.result.now)
-    c.in_ok-texts.ensures.words space (ap (map seen_block) c.deref.ensures.value ∙ c.in_ok-texts.ensures.blocks) c.in_ok-texts.ensures.start (ap (map plain_sline) c.members-3.ensures) in
+    c.in_ok-texts.ensures.words space (ap (map seen_block) c.deref.ensures.value ∙ c.in_ok-texts.ensures.blocks) c.in_ok-texts.ensures.start
+    (ap (map plain_sline) c.members-3.ensures) in
     c.requires.new front back name (sym (ap (λ K. K.names) whole) ∙ e)
 
 pub expand_texts-requires-clause-few : goal.expand_texts-requires-clause-few
@@ -36,7 +37,8 @@ expand_texts-requires-clause-few c =
     ∙ ap (λ f. calls_space 0 0 (library.definitions ++ map plain_definition f)) c.members-2.ensures) in
     let whole =
     expand-whole library file texts.words.items calls (map seen_block c.deref.result.now) texts.start (map plain_sline c.members-3.result.now)
-    c.in_ok-texts.ensures.words space (ap (map seen_block) c.deref.ensures.value ∙ c.in_ok-texts.ensures.blocks) c.in_ok-texts.ensures.start (ap (map plain_sline) c.members-3.ensures) in
+    c.in_ok-texts.ensures.words space (ap (map seen_block) c.deref.ensures.value ∙ c.in_ok-texts.ensures.blocks) c.in_ok-texts.ensures.start
+    (ap (map plain_sline) c.members-3.ensures) in
     subst (λ K. length K.names ≤ MAX_CLOCKS) (sym whole) c.requires.few
 
 pub returns : goal.returns
@@ -51,5 +53,6 @@ returns c =
     ∙ ap (λ f. calls_space 0 0 (library.definitions ++ map plain_definition f)) c.members-2.ensures) in
     let whole =
     expand-whole library file texts.words.items calls (map seen_block c.deref.result.now) texts.start (map plain_sline c.members-3.result.now)
-    c.in_ok-texts.ensures.words space (ap (map seen_block) c.deref.ensures.value ∙ c.in_ok-texts.ensures.blocks) c.in_ok-texts.ensures.start (ap (map plain_sline) c.members-3.ensures) in
+    c.in_ok-texts.ensures.words space (ap (map seen_block) c.deref.ensures.value ∙ c.in_ok-texts.ensures.blocks) c.in_ok-texts.ensures.start
+    (ap (map plain_sline) c.members-3.ensures) in
     subst (λ s. IfOk c.expand_texts.result (λ parts. plain_system parts ≡ s)) whole c.expand_texts.ensures

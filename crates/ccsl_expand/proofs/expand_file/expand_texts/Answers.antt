@@ -20,5 +20,6 @@ returns c =
     let whole =
     ap (λ i. expanded words calls blocks declared (map seen_item i)) c.deref-2.ensures.value
     ∙ (ap (λ i. expanded words calls blocks declared i) c.in_ok-items.ensures
-    ∙ ap (λ w. expanded words calls blocks declared (unfold_body w calls (unfold_all w calls [] blocks) [] (own_clocks [] lines) c.args.start 0 lines)) c.deref.ensures.value) in
+    ∙ ap (λ w. expanded words calls blocks declared (unfold_body w calls (unfold_all w calls [] blocks) [] (own_clocks [] lines) c.args.start 0 lines))
+    c.deref.ensures.value) in
     subst (λ s. IfOk c.parts.result (λ parts. plain_system parts ≡ s)) whole c.parts.ensures

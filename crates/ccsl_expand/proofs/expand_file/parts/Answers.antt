@@ -24,6 +24,7 @@ returns c =
     let items = map seen_item c.args.items.now in
     parts-whole c.deref-2.result.now calls blocks declared items c.new.result c.in_ok-names.names c.in_ok-named.named.declared c.in_ok-named.named.written
     (map plain_group c.in_ok-contents.contents.groups) (map plain_expr c.in_ok-contents.contents.definitions) c.in_ok-contents.contents.constraints
-    (c.new.ensures ∙ sym c.deref-2.ensures.value) (c.in_ok-names.ensures ∙ (c.deref.ensures.value ∙ c.in_ok-named.ensures.names)) c.in_ok-named.ensures.declared c.in_ok-named.ensures.written
+    (c.new.ensures ∙ sym c.deref-2.ensures.value) (c.in_ok-names.ensures ∙ (c.deref.ensures.value ∙ c.in_ok-named.ensures.names)) c.in_ok-named.ensures.declared
+    c.in_ok-named.ensures.written
     c.in_ok-contents.ensures.groups c.in_ok-contents.ensures.definitions c.in_ok-contents.ensures.constraints
     ∙ ap (λ w. expanded w calls blocks declared items) c.deref-2.ensures.value

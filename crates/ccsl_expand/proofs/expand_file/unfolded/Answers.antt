@@ -17,6 +17,7 @@ returns c =
     let frame = c.in_ok-frame.frame in
     let whole =
     ap (λ bs. unfold_body words calls (unfold_all words calls [] bs) frame.path frame.setting.value c.args.start 0 lines) (take-whole seen_block s.blocks.now)
-    ∙ (ap (λ p. unfold_body words calls (unfold_all words calls [] (map seen_block s.blocks.now)) p frame.setting.value c.args.start 0 lines) c.in_ok-frame.ensures.path
+    ∙ (ap (λ p. unfold_body words calls (unfold_all words calls [] (map seen_block s.blocks.now)) p frame.setting.value c.args.start 0 lines)
+    c.in_ok-frame.ensures.path
     ∙ ap (λ σ. unfold_body words calls (unfold_all words calls [] (map seen_block s.blocks.now)) [] σ c.args.start 0 lines) c.in_ok-frame.ensures.setting) in
     subst (λ x. IfOk c.unfold_system.result (λ v. map seen_item v.items ≡ x)) whole c.unfold_system.ensures

@@ -19,9 +19,11 @@ loop-i-preserved c =
     record {
       setting =
           ap (λ k. c.in_ok-setting.setting ++ arguments (drop (i + 1) params) (argument_atoms words outer k (drop (i + 1) args))) c.in_ok-atom.ensures.next
-          ∙ arguments-step params i (seen_atom c.in_ok-atom.atom) (argument_atoms words outer (c.loop-i.next + length (argument_texts a)) (drop (i + 1) args)) c.loop-i.setting c.in_ok-setting.setting _
+          ∙ arguments-step params i (seen_atom c.in_ok-atom.atom) (argument_atoms words outer (c.loop-i.next + length (argument_texts a)) (drop (i + 1) args))
+          c.loop-i.setting c.in_ok-setting.setting _
           c.in_ok-setting.ensures
-          (ap (λ x. c.loop-i.setting ++ arguments (drop i params) (x ∷ argument_atoms words outer (c.loop-i.next + length (argument_texts a)) (drop (i + 1) args))) c.in_ok-atom.ensures.value
+          (ap (λ x. c.loop-i.setting ++ arguments (drop i params)
+          (x ∷ argument_atoms words outer (c.loop-i.next + length (argument_texts a)) (drop (i + 1) args))) c.in_ok-atom.ensures.value
           ∙ (ap (λ xs. c.loop-i.setting ++ arguments (drop i params) (argument_atoms words outer c.loop-i.next xs)) (sym e) ∙ c.loop-i.invariant.setting));
       next = omega (arith, c.in_ok-atom.ensures.next);
     }

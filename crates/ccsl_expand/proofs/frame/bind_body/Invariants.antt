@@ -6,4 +6,5 @@ use Rattle.ccsl_rules.specs.Unfolded.{own_clocks}
 use Rattle.ccsl_expand.proofs.frame.bind_body.Given as goal
 
 abbrev pub invariant-loop-line : goal.invariant-loop-line
-invariant-loop-line l = l.setting ++ own_clocks l.path (map SLineOf (map plain_line (drop l.line-index l.lines))) ≡ l.fn.setting ++ own_clocks l.path (map SLineOf (map plain_line l.lines))
+invariant-loop-line l = l.setting ++ own_clocks l.path (map SLineOf (map plain_line (drop l.line-index l.lines))) ≡ l.fn.setting
+    ++ own_clocks l.path (map SLineOf (map plain_line l.lines))

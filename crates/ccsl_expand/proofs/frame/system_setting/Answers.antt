@@ -9,5 +9,6 @@ loop-line-preserved c =
     let lines = c.args.lines.now in
     let i = c.loop-line.line-index in
     let e = drop-at lines i c.line-item.result c.loop-line-test.true c.line-item.is in
-    own_clocks-step [] (plain_sline c.line-item.result) (map plain_sline (drop (i + 1) lines)) c.loop-line.setting c.in_ok-setting.setting (own_clocks [] (map plain_sline lines))
+    own_clocks-step [] (plain_sline c.line-item.result) (map plain_sline (drop (i + 1) lines)) c.loop-line.setting c.in_ok-setting.setting
+    (own_clocks [] (map plain_sline lines))
     c.in_ok-setting.ensures (ap (λ xs. c.loop-line.setting ++ own_clocks [] (map plain_sline xs)) (sym e) ∙ c.loop-line.invariant)

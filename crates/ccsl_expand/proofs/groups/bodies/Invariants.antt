@@ -7,4 +7,6 @@ use Rattle.ccsl_expand.specs.Seen.{seen_tables}
 use Rattle.ccsl_expand.proofs.groups.bodies.Given as goal
 
 abbrev pub invariant-loop-member : goal.invariant-loop-member
-invariant-loop-member l = map plain_body l.bodies.items ++ part_bodies (seen_tables l.tables) l.next (map plain_member (drop l.member-index l.members)) ≡ part_bodies (seen_tables l.tables) l.start (map plain_member l.members)
+invariant-loop-member l =
+    map plain_body l.bodies.items ++ part_bodies (seen_tables l.tables) l.next (map plain_member (drop l.member-index l.members)) ≡ part_bodies
+    (seen_tables l.tables) l.start (map plain_member l.members)

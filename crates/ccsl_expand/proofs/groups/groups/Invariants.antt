@@ -6,4 +6,6 @@ use Rattle.ccsl_expand.specs.Seen.{seen_tables, seen_block}
 use Rattle.ccsl_expand.proofs.groups.groups.Given as goal
 
 abbrev pub invariant-loop-block : goal.invariant-loop-block
-invariant-loop-block l = map plain_group l.groups.items ++ numbered_groups (seen_tables l.tables) (map seen_block (drop l.block-index l.blocks)) ≡ numbered_groups (seen_tables l.tables) (map seen_block l.blocks)
+invariant-loop-block l =
+    map plain_group l.groups.items ++ numbered_groups (seen_tables l.tables) (map seen_block (drop l.block-index l.blocks)) ≡ numbered_groups
+    (seen_tables l.tables) (map seen_block l.blocks)

@@ -5,4 +5,5 @@ use Rattle.ccsl_expand.specs.Items.{seen_item}
 use Rattle.ccsl_expand.proofs.system.add_hidden.Given as goal
 
 abbrev pub invariant-loop-item : goal.invariant-loop-item
-invariant-loop-item l = l.names.items ++ map item_name (filter_map hidden_item (map seen_item (drop l.item-index l.items))) ≡ l.fn.names.items ++ map item_name (filter_map hidden_item (map seen_item l.items))
+invariant-loop-item l = l.names.items ++ map item_name (filter_map hidden_item (map seen_item (drop l.item-index l.items))) ≡ l.fn.names.items
+    ++ map item_name (filter_map hidden_item (map seen_item l.items))

@@ -5,4 +5,5 @@ use Rattle.ccsl_expand.specs.Items.{seen_item}
 use Rattle.ccsl_expand.proofs.system.constraints.Given as goal
 
 abbrev pub invariant-loop-item : goal.invariant-loop-item
-invariant-loop-item l = l.out.items ++ filter_map (constraint_of l.names) (map seen_item (drop l.item-index l.items)) ≡ filter_map (constraint_of l.names) (map seen_item l.items)
+invariant-loop-item l = l.out.items ++ filter_map (constraint_of l.names) (map seen_item (drop l.item-index l.items)) ≡ filter_map (constraint_of l.names)
+    (map seen_item l.items)

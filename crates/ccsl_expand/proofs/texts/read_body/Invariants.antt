@@ -6,4 +6,5 @@ use Rattle.ccsl_expand.specs.Numbered.{word_in}
 use Rattle.ccsl_expand.proofs.texts.read_body.Given as goal
 
 abbrev pub invariant-loop-line : goal.invariant-loop-line
-invariant-loop-line l = l.words.items ++ map word_in (flat_map line_texts (map plain_line (drop l.line-index l.lines))) ≡ l.fn.words.items ++ map word_in (flat_map line_texts (map plain_line l.lines))
+invariant-loop-line l = l.words.items ++ map word_in (flat_map line_texts (map plain_line (drop l.line-index l.lines))) ≡ l.fn.words.items
+    ++ map word_in (flat_map line_texts (map plain_line l.lines))

@@ -9,6 +9,8 @@ use Rattle.ccsl_expand.proofs.texts.read_definitions.Given as goal
 abbrev pub invariant-loop-definition : goal.invariant-loop-definition
 invariant-loop-definition l =
     record {
-      words : l.words.items ++ map word_in (flat_map block_texts (map plain_definition (drop l.definition-index l.definitions))) ≡ l.fn.words.items ++ map word_in (flat_map block_texts (map plain_definition l.definitions));
-      numbered : map seen_block l.blocks.items ++ numbered (length l.words.items) (map plain_definition (drop l.definition-index l.definitions)) ≡ map seen_block l.fn.blocks.items ++ numbered (length l.fn.words.items) (map plain_definition l.definitions);
+      words : l.words.items ++ map word_in (flat_map block_texts (map plain_definition (drop l.definition-index l.definitions))) ≡ l.fn.words.items
+          ++ map word_in (flat_map block_texts (map plain_definition l.definitions));
+      numbered : map seen_block l.blocks.items ++ numbered (length l.words.items) (map plain_definition (drop l.definition-index l.definitions)) ≡ map
+          seen_block l.fn.blocks.items ++ numbered (length l.fn.words.items) (map plain_definition l.definitions);
     }

@@ -6,4 +6,5 @@ use Rattle.ccsl_expand.specs.Numbered.{word_in}
 use Rattle.ccsl_expand.proofs.texts.read_system.Given as goal
 
 abbrev pub invariant-loop-line : goal.invariant-loop-line
-invariant-loop-line l = l.words.items ++ map word_in (flat_map entry_texts (map plain_sline (drop l.line-index l.lines))) ≡ l.fn.words.items ++ map word_in (flat_map entry_texts (map plain_sline l.lines))
+invariant-loop-line l = l.words.items ++ map word_in (flat_map entry_texts (map plain_sline (drop l.line-index l.lines))) ≡ l.fn.words.items
+    ++ map word_in (flat_map entry_texts (map plain_sline l.lines))

@@ -16,4 +16,5 @@ decreases-unfold_line l = 2 * l.home
 abbrev pub invariant-unfold_lines-loop-i : goal.invariant-unfold_lines-loop-i
 invariant-unfold_lines-loop-i l =
     let f = unfold_body l.sources.words.now (map seen_call l.sources.calls.now) (earlier l.sources l.home) l.frame.path l.frame.setting.value in
-    map seen_item l.out.items ++ f l.next l.i (map SLineOf (map plain_line (drop l.i l.lines))) ≡ map seen_item l.fn.out.items ++ f l.start 0 (map SLineOf (map plain_line l.lines))
+    map seen_item l.out.items ++ f l.next l.i (map SLineOf (map plain_line (drop l.i l.lines))) ≡ map seen_item l.fn.out.items
+    ++ f l.start 0 (map SLineOf (map plain_line l.lines))

@@ -39,7 +39,9 @@ returns-in-Relation-clause-items c = λ path args.
     let below : d < length s.blocks.now = omega arith in
     let at = get-map seen_block s.blocks.now d b (slice_get-get_or s.blocks.now d c.index-sources-found.result below) in
     let whole = call-earlier s.words.now calls (map seen_block s.blocks.now) c.args.home d (seen_block b) path args c.if-found-home.false at in
-    ap (λ ps. unfold_relation s.words.now calls (earlier s d) b.start ps (map SLineOf (map plain_line c.members-in-Relation.result.now)) path args) c.members.ensures
-    ∙ (ap (λ ls. unfold_relation s.words.now calls (earlier s d) b.start c.in-Relation.params (map SLineOf (map plain_line ls)) path args) c.members-in-Relation.ensures
+    ap (λ ps. unfold_relation s.words.now calls (earlier s d) b.start ps (map SLineOf (map plain_line c.members-in-Relation.result.now)) path args)
+    c.members.ensures
+    ∙ (ap (λ ls. unfold_relation s.words.now calls (earlier s d) b.start c.in-Relation.params (map SLineOf (map plain_line ls)) path args)
+    c.members-in-Relation.ensures
     ∙ (sym (whole ∙ ap (λ x. unfold_block s.words.now calls (earlier s d) b.start (plain_definition x) path args) c.in-Relation.is)
     ∙ unfolding-found (earlier s c.args.home) calls c.args.name.now.name (Some (seen_callee c.in_ok-found.found)) c.in_ok-found.ensures path args))

@@ -10,7 +10,8 @@ use Rattle.ccsl_explain.proofs.deletion.core_of.Goals.{then-branch+in_ok-push, e
 
 pub stays-requires-clause-asked : goal.stays-requires-clause-asked
 stays-requires-clause-asked c =
-    asked-plain c.args.scope.now c.args.formulas.now c.loop-item.formulas (IsLeft c.loop-item.core.items c.loop-item.item) c.loop-item.invariant.masked c.loop-item.auto.formulas
+    asked-plain c.args.scope.now c.args.formulas.now c.loop-item.formulas (IsLeft c.loop-item.core.items c.loop-item.item) c.loop-item.invariant.masked
+    c.loop-item.auto.formulas
     c.requires.asked
 
 pub loop-item-preserved : goal.loop-item-preserved

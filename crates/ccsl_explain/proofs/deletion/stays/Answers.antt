@@ -18,7 +18,8 @@ pub returns-then-not-index-clause-used : goal.returns-then-not-index-clause-used
 returns-then-not-index-clause-used c =
     let us = c.args.used.now.items in
     let is_unused : slice_get us c.args.item ≡ Some false =
-    slice_get-get_or us c.args.item c.index.result.now (omega (arith, c.requires.item, c.requires.marks)) ∙ ap (λ (b : Bool). Some b) (sym c.index.ensures ∙ c.if-not-index.true) in
+    slice_get-get_or us c.args.item c.index.result.now (omega (arith, c.requires.item, c.requires.marks))
+    ∙ ap (λ (b : Bool). Some b) (sym c.index.ensures ∙ c.if-not-index.true) in
     subst (λ (fs : List Formula). Block c.args.scope.now fs (IsUsed us)) (sym c.take_out-formula.ensures.out)
     (unused-block c.args.scope.now (map plain c.args.formulas.now) us c.args.item is_unused c.requires.used)
 
@@ -35,19 +36,24 @@ back c =
 
 pub returns-in-None-clause-used : goal.returns-in-None-clause-used
 returns-in-None-clause-used c =
-    subst (λ (fs : List Boxed). Block c.args.scope.now (map plain fs) (IsUsed c.args.used.now.items)) (sym (back (goal.at.returns-in-None-clause-used c).After-put_back)) c.requires.used
+    subst (λ (fs : List Boxed). Block c.args.scope.now (map plain fs) (IsUsed c.args.used.now.items))
+    (sym (back (goal.at.returns-in-None-clause-used c).After-put_back)) c.requires.used
 
 pub returns-in-None-clause-stays : goal.returns-in-None-clause-stays
 returns-in-None-clause-stays c =
     let scope = c.args.scope.now in
     let fs = map plain c.take_out-formula.new.formulas in
-    let step : HasStep scope fs = MatchOption-at_none (HasStep scope fs) (λ (lines : List Line). is_certificate scope fs lines ≡ true) c.in-None.is c.in_ok-refutation.ensures in
-    (ap (map plain) (back (goal.at.returns-in-None-clause-stays c).After-put_back), subst (λ (fs : List Formula). HasStep c.args.scope.now fs) c.take_out-formula.ensures.out step)
+    let step : HasStep scope fs =
+    MatchOption-at_none (HasStep scope fs) (λ (lines : List Line). is_certificate scope fs lines ≡ true) c.in-None.is c.in_ok-refutation.ensures in (
+      ap (map plain) (back (goal.at.returns-in-None-clause-stays c).After-put_back),
+      subst (λ (fs : List Formula). HasStep c.args.scope.now fs) c.take_out-formula.ensures.out step,
+    )
 
 pub returns-in_ok-used-in-Some-clause-used : goal.returns-in_ok-used-in-Some-clause-used
 returns-in_ok-used-in-Some-clause-used c =
     let scope = c.args.scope.now in
     let fs = map plain c.take_out-formula.new.formulas in
     let found : is_certificate scope fs c.in-Some.lines ≡ true =
-    MatchOption-at_some (HasStep scope fs) (λ (lines : List Line). is_certificate scope fs lines ≡ true) c.in-Some.lines c.in-Some.is c.in_ok-refutation.ensures in
+    MatchOption-at_some (HasStep scope fs) (λ (lines : List Line). is_certificate scope fs lines ≡ true) c.in-Some.lines c.in-Some.is
+    c.in_ok-refutation.ensures in
     c.in_ok-used-in-Some.ensures.block scope fs (ap (λ (lines : List Line). is_certificate scope fs lines) c.members.ensures ∙ found)

@@ -15,7 +15,8 @@ core_of-requires-clause-used c = c.in_ok-used.ensures.block c.args.scope.now (ma
 
 pub certificate-requires-clause-asked : goal.certificate-requires-clause-asked
 certificate-requires-clause-asked c =
-    asked-plain c.args.scope.now c.args.formulas.now c.core_of.new.formulas (Contains c.in_ok-core.core.items) c.in_ok-core.ensures.masked c.in_ok-core.ensures.length c.requires.asked
+    asked-plain c.args.scope.now c.args.formulas.now c.core_of.new.formulas (Contains c.in_ok-core.core.items) c.in_ok-core.ensures.masked
+    c.in_ok-core.ensures.length c.requires.asked
 
 pub certificate-requires-clause-blocks : goal.certificate-requires-clause-blocks
 certificate-requires-clause-blocks c =
@@ -25,7 +26,8 @@ certificate-requires-clause-blocks c =
 
 pub least_steps-requires-clause-asked : goal.least_steps-requires-clause-asked
 least_steps-requires-clause-asked c =
-    asked-plain c.args.scope.now c.args.formulas.now c.core_of.new.formulas (Contains c.in_ok-core.core.items) c.in_ok-core.ensures.masked c.in_ok-core.ensures.length c.requires.asked
+    asked-plain c.args.scope.now c.args.formulas.now c.core_of.new.formulas (Contains c.in_ok-core.core.items) c.in_ok-core.ensures.masked
+    c.in_ok-core.ensures.length c.requires.asked
 
 pub least_steps-requires-clause-open : goal.least_steps-requires-clause-open
 least_steps-requires-clause-open c =
@@ -45,4 +47,5 @@ returns c =
     subst (λ (is : List ℕ). AllZip (λ i s. IsLeastStep scope (without ms i) s) is sets) c.deref.ensures.value c.in_ok-without.ensures in
     subst (λ (is : List ℕ). IsExplained scope fs is lines c.new-2.result) (sym c.new.ensures)
     (subst (λ (ss : List (List ℕ)). IsExplained scope fs core lines ss) (sym c.new-2.ensures)
-    (explained scope fs ms core c.in_ok-core.ensures.masked lines sets (certificate-blocks scope fs c.args.lines.now c.requires.certificate) c.in_ok-core.ensures.core c.in_ok-lines.ensures least))
+    (explained scope fs ms core c.in_ok-core.ensures.masked lines sets (certificate-blocks scope fs c.args.lines.now c.requires.certificate)
+    c.in_ok-core.ensures.core c.in_ok-lines.ensures least))

@@ -15,7 +15,8 @@ loop-item-preserved c =
     let x = get_or items i 0 in
     let set = c.in_ok-least_without.field-0 in
     let R = λ (j : ℕ) (s : List ℕ). IsLeastStep c.args.scope.now (without (map plain c.args.formulas.now) j) s in
-    let least : R x set = subst (λ (fs : List Boxed). IsLeastStep c.args.scope.now (without (map plain fs) x) set) c.loop-item.invariant.0 c.in_ok-least_without.ensures.least in (
+    let least : R x set = subst (λ (fs : List Boxed). IsLeastStep c.args.scope.now (without (map plain fs) x) set) c.loop-item.invariant.0
+    c.in_ok-least_without.ensures.least in (
       c.in_ok-least_without.ensures.same ∙ c.loop-item.invariant.0,
       subst (λ (xs : List ℕ). AllZip R xs c.push.new.self.items) (sym (take_more items i 0 c.loop-item-test.true))
           (subst (λ (sets : List (List ℕ)). AllZip R (take i items ++ x ∷ []) sets) (sym {A = List (List ℕ)} c.in_ok-push.ensures.items)

@@ -18,12 +18,14 @@ loop-line-preserved c =
     let keeps : KeepsUsed us ws = subst (λ (xs : List Bool). KeepsUsed xs ws) was c.mark.ensures.keeps in
     let cites : Cites (IsUsed ws) (get_or lines i c.line-item.result) = subst (λ (e : Line). Cites (IsUsed ws) e) c.line-item.is c.mark.ensures.cites in (
       ap length now ∙ same ∙ c.loop-line.invariant.0,
-      subst (λ (xs : List Bool). All (Cites (IsUsed xs)) (take (i + 1) lines)) (sym now) (more-cited us ws lines i c.line-item.result c.loop-line-test.true keeps c.loop-line.invariant.1 cites),
+      subst (λ (xs : List Bool). All (Cites (IsUsed xs)) (take (i + 1) lines)) (sym now)
+          (more-cited us ws lines i c.line-item.result c.loop-line-test.true keeps c.loop-line.invariant.1 cites),
     )
 
 pub returns-clause-block : goal.returns-clause-block
 returns-clause-block c = λ scope fs h.
     let us = c.loop-line.used.items in
     let lines = c.args.lines.now in
-    let cites : All (Cites (IsUsed us)) lines = subst (λ (es : List Line). All (Cites (IsUsed us)) es) (take_all c.loop-line.line-index lines c.loop-line-test.false) c.loop-line.invariant.1 in
+    let cites : All (Cites (IsUsed us)) lines =
+    subst (λ (es : List Line). All (Cites (IsUsed us)) es) (take_all c.loop-line.line-index lines c.loop-line-test.false) c.loop-line.invariant.1 in
     used-block scope fs us lines cites h

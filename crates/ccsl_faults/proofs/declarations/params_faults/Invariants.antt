@@ -5,4 +5,5 @@ use Rattle.ccsl_rules.specs.Blocks.{params_faults}
 use Rattle.ccsl_faults.proofs.declarations.params_faults.Given as goal
 
 abbrev pub invariant-loop-param : goal.invariant-loop-param
-invariant-loop-param l = earlier l.worst (least (flat_map (λ p. where_so true Arguments p.name.at) (drop l.param-index l.param-items))) ≡ least (params_faults l.params)
+invariant-loop-param l =
+    earlier l.worst (least (flat_map (λ p. where_so true Arguments p.name.at) (drop l.param-index l.param-items))) ≡ least (params_faults l.params)

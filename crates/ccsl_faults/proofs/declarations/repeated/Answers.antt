@@ -12,5 +12,6 @@ loop-place-preserved g c =
     c.where_so-found.ensures ∙ ap (λ d. least (where_so c.is_repeated.result Duplicate d.name.now.at)) (sym c.index-declared-place.is)
     ∙ ap (λ b. least (where_so b Duplicate c.index-declared-place.result.name.now.at)) c.is_repeated.ensures in
     repeated-step c.declared-declared.result.now c.args.space.now c.loop-place.worst
-    {all = least (repeated (take c.args.from (names c.args.space.now)) (drop c.args.from (spots c.args.space.now)))} c.declared-declared.ensures c.loop-place-test.true c.index-declared-place.is
+    {all = least (repeated (take c.args.from (names c.args.space.now)) (drop c.args.from (spots c.args.space.now)))} c.declared-declared.ensures
+    c.loop-place-test.true c.index-declared-place.is
     c.earlier-worst.ensures found c.loop-place.invariant

@@ -9,7 +9,8 @@ use Rattle.ccsl_faults.proofs.definitions.all_calls.Goals as goal
 
 pub returns-clause-space : goal.returns-clause-space
 returns-clause-space c =
-    space-joined (map plain_definition c.args.library.now) (map plain_definition c.args.file.now) _ c.in_ok-groups.groups (ap (map seen_call) c.new-space.ensures)
+    space-joined (map plain_definition c.args.library.now) (map plain_definition c.args.file.now) _ c.in_ok-groups.groups
+    (ap (map seen_call) c.new-space.ensures)
     c.in_ok-groups.ensures.added (sym (length-map c.args.library.now plain_definition)) c.in_ok-groups.ensures.next c.in_ok-add_definitions.ensures.added
 
 pub returns-clause-library : goal.returns-clause-library
@@ -28,5 +29,6 @@ returns-clause-within c =
       length-within xs ys,
       length-space c.add_definitions-2.new.space (xs ++ ys)
           (space-joined xs ys _ c.in_ok-groups.groups (ap (map seen_call) c.new-space.ensures)
-          c.in_ok-groups.ensures.added (sym (length-map c.args.library.now plain_definition)) c.in_ok-groups.ensures.next c.in_ok-add_definitions.ensures.added),
+          c.in_ok-groups.ensures.added (sym (length-map c.args.library.now plain_definition)) c.in_ok-groups.ensures.next
+          c.in_ok-add_definitions.ensures.added),
     )

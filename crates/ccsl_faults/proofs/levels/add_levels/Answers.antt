@@ -14,7 +14,8 @@ loop-definition-preserved c =
     let items = c.in_ok-push.ensures.items in
     let few : c.level-next.result ≤ length seen + 1 = omega (arith, c.level-next.ensures.few, ap length c.deref.ensures.value) in (
       levels-step (seen_sort c.args.sort) calls plain_definition c.args.definitions.now seen c.loop-definition-test.true c.definition-item.is items
-          (c.level-next.ensures.level ∙ ap (λ l. level calls l (counted (seen_sort c.args.sort) (plain_definition c.definition-item.result))) c.deref.ensures.value)
+          (c.level-next.ensures.level ∙ ap (λ l. level calls l (counted (seen_sort c.args.sort) (plain_definition c.definition-item.result)))
+          c.deref.ensures.value)
           c.loop-definition.invariant.0,
       rw items (greatest-step seen c.level-next.result c.loop-definition.invariant.1 few),
       rw items (omega (arith, length-append seen, c.loop-definition.invariant.2)),

@@ -12,4 +12,5 @@ returns-clause-levels c =
     ∙ ap (λ l. rules.levels (seen_sort c.args.sort) (map seen_call c.args.calls.now) l (map plain_definition c.args.file.now))
     (c.in_ok-add_levels.ensures.levels
     ∙ ap (λ l. rules.levels (seen_sort c.args.sort) (map seen_call c.args.calls.now) l (map plain_definition c.args.library.now)) c.new-levels.ensures.items)
-    ∙ sym (levels-append (seen_sort c.args.sort) (map seen_call c.args.calls.now) _ (map plain_definition c.args.library.now) (map plain_definition c.args.file.now))
+    ∙ sym (levels-append (seen_sort c.args.sort) (map seen_call c.args.calls.now) _ (map plain_definition c.args.library.now)
+    (map plain_definition c.args.file.now))

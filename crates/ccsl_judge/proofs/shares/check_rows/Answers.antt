@@ -13,4 +13,5 @@ check_all-requires-clause-ready g c = λ κs b.
     each-can-take w.0 w.1 w.2 c.args.block.now.rows w.4 0 c.args.shares.now (item_count w.0) w.3
 
 pub returns : goal.returns
-returns g c = λ K bound rows f few. each-took K bound rows c.args.block.now.rows few 0 c.args.shares.now c.check_all.new.pieces (item_count K) f c.check_all.ensures
+returns g c = λ K bound rows f few. each-took K bound rows c.args.block.now.rows few 0 c.args.shares.now c.check_all.new.pieces (item_count K) f
+    c.check_all.ensures

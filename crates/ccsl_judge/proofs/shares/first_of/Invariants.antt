@@ -6,4 +6,5 @@ use Rattle.ccsl_judge.proofs.Combining.{Found}
 use Rattle.ccsl_judge.proofs.shares.first_of.Given as goal
 
 abbrev pub invariant-loop-share : goal.invariant-loop-share
-invariant-loop-share l = (K : System) (bound : List ℕ) (rows : List Row) → FollowAll K bound rows l.shares → Found K bound rows (drop l.share-index l.shares) l.first
+invariant-loop-share l =
+    (K : System) (bound : List ℕ) (rows : List Row) → FollowAll K bound rows l.shares → Found K bound rows (drop l.share-index l.shares) l.first

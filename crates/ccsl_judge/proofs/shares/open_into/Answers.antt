@@ -13,7 +13,8 @@ loop-done-preserved c =
     let size = next - start in
     let end : start + size ≡ next = omega (arith, c.next_cut-next.ensures.behind) in
     let s = c.in_ok-open.field-0 in
-    let at : IsAt K bound [] start s.monitor = record { system = c.in_ok-open.ensures.system; start = c.in_ok-open.ensures.start; stands = c.in_ok-open.ensures.stands } in
+    let at : IsAt K bound [] start s.monitor =
+    record { system = c.in_ok-open.ensures.system; start = c.in_ok-open.ensures.start; stands = c.in_ok-open.ensures.stands } in
     record {
       follow = subst (λ xs. Follow K bound [] 0 xs next) (sym c.in_ok-push.ensures.items)
           (subst (Follow K bound [] 0 (c.loop-done.shares.items ++ s ∷ [])) (ap (λ n. start + n) c.in_ok-open.ensures.count ∙ end)

@@ -17,7 +17,8 @@ loop-item-preserved c =
     let weighed : weight ≡ weight_before K bound (i + 1) =
     ap₂ (λ a b. a + b) c.loop-item.invariant.weighed c.weight_of-weight.ensures.weight ∙ sym (weight-more K bound i) in
     let short : 2 ≤ left → weight < goes = λ two. elim c.else-left-gt1.branch [
-      | else-left-gt1-via-then-left-gt1+else-weight-aim w ↦ subst (λ r. weight < cut.weight + r / left) c.saturating_sub.ensures (omega (arith, w.if-weight-aim.false))
+      | else-left-gt1-via-then-left-gt1+else-weight-aim w ↦ subst (λ r. weight < cut.weight + r / left) c.saturating_sub.ensures
+          (omega (arith, w.if-weight-aim.false))
       | else-left-gt1-via-else-left-gt1 w ↦ omega (arith, w.if-left-gt1.false, two)
     ] in
     record {

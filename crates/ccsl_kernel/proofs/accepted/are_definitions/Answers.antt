@@ -21,5 +21,8 @@ returns-then-not-is_definition c =
 
 pub returns : goal.returns
 returns c =
-    let K = plain_system c.args.parts.now in
-    (λ _. each_made_from (IsDefinition K) plain_expr c.args.declared c.args.definitions.now (λ k d l. c.loop-i.invariant k d (omega (arith, l, c.loop-i-test.false))), λ _. refl)
+    let K = plain_system c.args.parts.now in (
+      λ _. each_made_from (IsDefinition K) plain_expr c.args.declared c.args.definitions.now
+          (λ k d l. c.loop-i.invariant k d (omega (arith, l, c.loop-i-test.false))),
+      λ _. refl,
+    )

@@ -7,4 +7,5 @@ use Rattle.ccsl_kernel.proofs.laws.first_steps_matter.Goals as goal
 
 pub returns : goal.returns
 returns c = λ K ok T T' x e ρ b n ok_e l u u' same.
-    first_steps_matter K T T' (dead_below K T x) (dead_below K T' x) (accepted_guarded K ok).bodies e ρ b n ok_e l u u' same (λ i y h. dead_below-same K (accepted_guarded K ok) T T' n u u' same x i y h)
+    first_steps_matter K T T' (dead_below K T x) (dead_below K T' x) (accepted_guarded K ok).bodies e ρ b n ok_e l u u' same
+    (λ i y h. dead_below-same K (accepted_guarded K ok) T T' n u u' same x i y h)

@@ -11,4 +11,5 @@ returns c = λ K ok T x n e is u.
     let guarded = accepted_guarded K ok in
     let scoped = accepted_scoped K ok in
     reads_only x (formula_at K T x e [] 0 n)
-    (reads_below x K T (dead_below K T x) guarded.bodies scoped.bodies e [] 0 (definition_allowed K guarded x e is) (omega arith) (scoped.definitions x e is) tt n (omega arith) u)
+    (reads_below x K T (dead_below K T x) guarded.bodies scoped.bodies e [] 0 (definition_allowed K guarded x e is) (omega arith) (scoped.definitions x e is) tt
+    n (omega arith) u)

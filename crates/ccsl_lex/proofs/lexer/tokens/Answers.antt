@@ -14,20 +14,24 @@ pieces-init c = rw c.new-found.ensures.items (lexed_none c.args.text.now)
 pub pieces-preserved-in_ok-push-in-Some : goal.pieces-preserved-in_ok-push-in-Some
 pieces-preserved-in_ok-push-in-Some c =
     rw (c.in_ok-push-in-Some.ensures.items, map_push plain_token c.pieces.found.items _)
-    (lexed_token c.args.text.now c.pieces.at c.in_ok-len.field-0.len c.in-Some.kind c.in_ok-len.field-0.kind (map plain_token c.pieces.found.items) c.in-Some.is c.pieces.invariant (rw (rest-is c.pieces.at c.args.text.now) at c.in_ok-len.ensures.found))
+    (lexed_token c.args.text.now c.pieces.at c.in_ok-len.field-0.len c.in-Some.kind c.in_ok-len.field-0.kind (map plain_token c.pieces.found.items) c.in-Some.is
+    c.pieces.invariant (rw (rest-is c.pieces.at c.args.text.now) at c.in_ok-len.ensures.found))
 
 pub pieces-preserved : goal.pieces-preserved
-pieces-preserved c = lexed_nothing c.args.text.now c.pieces.at c.in_ok-len.field-0.len c.in_ok-len.field-0.kind (map plain_token c.pieces.found.items) c.in-None.is c.pieces.invariant (rw (rest-is c.pieces.at c.args.text.now) at c.in_ok-len.ensures.found)
+pieces-preserved c = lexed_nothing c.args.text.now c.pieces.at c.in_ok-len.field-0.len c.in_ok-len.field-0.kind (map plain_token c.pieces.found.items)
+    c.in-None.is c.pieces.invariant (rw (rest-is c.pieces.at c.args.text.now) at c.in_ok-len.ensures.found)
 
 pub returns-clause-each_tokens : goal.returns-clause-each_tokens
 returns-clause-each_tokens c =
     let text = c.args.text.now in
-    λ ts a. inl (one_tokens text (map plain_token c.pieces.found.items) ts (lexed_all text c.pieces.at (map plain_token c.pieces.found.items) c.pieces.invariant c.pieces-test.false) a)
+    λ ts a. inl (one_tokens text (map plain_token c.pieces.found.items) ts
+    (lexed_all text c.pieces.at (map plain_token c.pieces.found.items) c.pieces.invariant c.pieces-test.false) a)
 
 pub returns-clause-each_fault : goal.returns-clause-each_fault
 returns-clause-each_fault c =
     let text = c.args.text.now in
-    λ e f. absurd (not_both text (map plain_token c.pieces.found.items) e (lexed_all text c.pieces.at (map plain_token c.pieces.found.items) c.pieces.invariant c.pieces-test.false) f)
+    λ e f. absurd (not_both text (map plain_token c.pieces.found.items) e
+    (lexed_all text c.pieces.at (map plain_token c.pieces.found.items) c.pieces.invariant c.pieces-test.false) f)
 
 pub returns-in_err-len-clause-each_tokens : goal.returns-in_err-len-clause-each_tokens
 returns-in_err-len-clause-each_tokens c =

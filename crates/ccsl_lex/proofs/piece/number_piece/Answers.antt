@@ -14,5 +14,9 @@ returns-in-Some-clause-found c =
 
 pub returns-in-None-clause-fault : goal.returns-in-None-clause-fault
 returns-in-None-clause-fault c =
-    let text = c.args.text.now in
-    (refl, large_number text c.requires (number_none MAX_NUMBER (take (prefix_len is_digit text) text) (rw (c.len-len.ensures.run, c.from.ensures) at c.in-None.ensures) (are_run text c.requires)))
+    let text = c.args.text.now in (
+      refl,
+      large_number text c.requires
+          (number_none MAX_NUMBER (take (prefix_len is_digit text) text) (rw (c.len-len.ensures.run, c.from.ensures) at c.in-None.ensures)
+          (are_run text c.requires)),
+    )

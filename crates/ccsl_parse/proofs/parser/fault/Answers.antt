@@ -17,4 +17,5 @@ pub returns-in-Syntax : goal.returns-in-Syntax
 returns-in-Syntax c = syntax_at c.args.tokens.now c.in-Syntax.rest.now c.place.result (rw c.in-Syntax.is at c.requires) c.place.ensures
 
 pub returns-in-TooDeep : goal.returns-in-TooDeep
-returns-in-TooDeep c = too_deep_at c.args.tokens.now c.in-TooDeep.rest.now c.place-in-TooDeep.result (rw c.in-TooDeep.is at c.requires) c.place-in-TooDeep.ensures
+returns-in-TooDeep c = too_deep_at c.args.tokens.now c.in-TooDeep.rest.now c.place-in-TooDeep.result (rw c.in-TooDeep.is at c.requires)
+    c.place-in-TooDeep.ensures

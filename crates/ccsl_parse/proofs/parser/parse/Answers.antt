@@ -14,7 +14,9 @@ invariant_of-result c =
     record { kept = parsed_keeps MAX_LEVELS c.args.tokens.now file parsed; depth = parsed_depth MAX_LEVELS (terminals c.args.tokens.now) file parsed }
 
 pub returns-in-Ok-clause-tree : goal.returns-in-Ok-clause-tree
-returns-in-Ok-clause-tree c = (said c.args.tokens.now (took (plain_parts c.in-Ok.parts.version c.in-Ok.parts.definitions c.in-Ok.parts.lines) (terminals c.in-Ok.field-0-1.now)) c.in-Ok.ensures).0
+returns-in-Ok-clause-tree c =
+    (said c.args.tokens.now (took (plain_parts c.in-Ok.parts.version c.in-Ok.parts.definitions c.in-Ok.parts.lines) (terminals c.in-Ok.field-0-1.now))
+    c.in-Ok.ensures).0
 
 pub returns-in-Ok-clause-each_tree : goal.returns-in-Ok-clause-each_tree
 returns-in-Ok-clause-each_tree c =

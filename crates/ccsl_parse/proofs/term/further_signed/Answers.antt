@@ -9,7 +9,8 @@ use Rattle.ccsl_parse.proofs.term.further_signed.Goals as goal
 pub returns-in_err-item : goal.returns-in_err-item
 returns-in_err-item c =
     let p = err_from_is_err_and c.from_residual.result c.from_residual.ensures.1 in
-    rw (p.1, p.2) (fails is_sign signed_at signed_falls c.turns.members.items c.in_err-item.field-0.0 (terminals c.turns.rest.now) (many is_sign signed_at (terminals c.args.tokens.now)) c.in_err-item.ensures.0 c.in_err-item.ensures.1 c.turns.invariant)
+    rw (p.1, p.2) (fails is_sign signed_at signed_falls c.turns.members.items c.in_err-item.field-0.0 (terminals c.turns.rest.now)
+    (many is_sign signed_at (terminals c.args.tokens.now)) c.in_err-item.ensures.0 c.in_err-item.ensures.1 c.turns.invariant)
 
 pub turns-smaller : goal.turns-smaller
 turns-smaller c =
@@ -19,7 +20,11 @@ turns-smaller c =
 pub turns-preserved : goal.turns-preserved
 turns-preserved c =
     let f = rw c.in-Some.is at c.in_ok-item.ensures in
-    rw c.in_ok-push.ensures.items (goes_on is_sign signed_at signed_falls c.turns.members.items c.in-Some.item (terminals c.turns.rest.now) (terminals c.in-Some.after.now) (many is_sign signed_at (terminals c.args.tokens.now)) f.0 f.1 c.turns.invariant)
+    rw c.in_ok-push.ensures.items
+    (goes_on is_sign signed_at signed_falls c.turns.members.items c.in-Some.item (terminals c.turns.rest.now) (terminals c.in-Some.after.now)
+    (many is_sign signed_at (terminals c.args.tokens.now)) f.0 f.1 c.turns.invariant)
 
 pub returns : goal.returns
-returns c = rw c.new.ensures (is_done is_sign signed_at signed_falls c.turns.members.items (terminals c.turns.rest.now) (many is_sign signed_at (terminals c.args.tokens.now)) (rw c.in_default.is at c.in_ok-item.ensures) c.turns.invariant)
+returns c = rw c.new.ensures
+    (is_done is_sign signed_at signed_falls c.turns.members.items (terminals c.turns.rest.now) (many is_sign signed_at (terminals c.args.tokens.now))
+    (rw c.in_default.is at c.in_ok-item.ensures) c.turns.invariant)

@@ -29,14 +29,16 @@ asked Precedes eq is e = refl
 asked Subclock eq is e = let z : ⊥ = cc in absurd z
 asked Excludes eq is e = let z : ⊥ = cc in absurd z
 
-either_way : (r : Between) (u v : BinaryWord) (first : Option ℕ) → IfSome first (IsFirstFailure r u v) → IfNone first (NeverFails r u v) → FiltersAreRelated r u v first
+either_way : (r : Between) (u v : BinaryWord) (first : Option ℕ) → IfSome first (IsFirstFailure r u v) → IfNone first (NeverFails r u v)
+    → FiltersAreRelated r u v first
 either_way r u v (Some k) some none = related_until r u v k some
 either_way r u v None some none = related_always r u v none
 
 pub returns-clause-holds : goal.returns-clause-holds
 returns-clause-holds c = none c.first_below.result c.first_below.ensures.holds
   where
-    none : (first : Option ℕ) → IfNone first ((k : ℕ) → k < c.of-turn.result.start + c.of-turn.result.letters → fails_at c.args.relation c.args.left.now c.args.right.now k ≡ false) →
+    none : (first : Option ℕ)
+        → IfNone first ((k : ℕ) → k < c.of-turn.result.start + c.of-turn.result.letters → fails_at c.args.relation c.args.left.now c.args.right.now k ≡ false) →
         IfNone first (NeverFails c.args.relation c.args.left.now c.args.right.now)
     none (Some k) h = h
     none None h =
@@ -46,7 +48,8 @@ returns-clause-holds c = none c.first_below.result c.first_below.ensures.holds
 pub returns-then-turn-clause-filters : goal.returns-then-turn-clause-filters
 returns-then-turn-clause-filters c =
     related_until c.args.relation c.args.left.now c.args.right.now c.first_overtaking.result
-    (subst (λ (r : Between). IsFirstFailure r c.args.left.now c.args.right.now c.first_overtaking.result) (sym (asked c.args.relation c.eq.result c.eq.ensures c.if-eq.true)) c.first_overtaking.ensures.fails)
+    (subst (λ (r : Between). IsFirstFailure r c.args.left.now c.args.right.now c.first_overtaking.result)
+    (sym (asked c.args.relation c.eq.result c.eq.ensures c.if-eq.true)) c.first_overtaking.ensures.fails)
 
 pub returns-clause-filters : goal.returns-clause-filters
 returns-clause-filters c = either_way c.args.relation c.args.left.now c.args.right.now c.first_below.result c.first_below.ensures.fails (returns-clause-holds c)

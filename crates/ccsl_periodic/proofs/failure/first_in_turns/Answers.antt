@@ -23,11 +23,15 @@ so_far c =
     let k = c.loop-k.k in
     elim c.if-right_ticks.branch [
       | then-right_ticks w ↦
-          let place : w.overtaken_at.result ≡ overtaken_at u v t k = w.overtaken_at.ensures.place ∙ ap₂ (λ m n. k + div_ceil (m - n) (t.right - t.left) * t.letters) c.loop-k.invariant.left c.loop-k.invariant.right in
-          let more = one_ticks u v t c.loop-k.first k (omega arith) (sym c.letter-right_ticks.ensures ∙ w.if-right_ticks.true) (subst (λ n. n < 18446744073709551615) place w.overtaken_at.ensures.small) c.loop-k.invariant.so_far in
+          let place : w.overtaken_at.result ≡ overtaken_at u v t k =
+          w.overtaken_at.ensures.place ∙ ap₂ (λ m n. k + div_ceil (m - n) (t.right - t.left) * t.letters) c.loop-k.invariant.left
+          c.loop-k.invariant.right in
+          let more = one_ticks u v t c.loop-k.first k (omega arith) (sym c.letter-right_ticks.ensures ∙ w.if-right_ticks.true)
+          (subst (λ n. n < 18446744073709551615) place w.overtaken_at.ensures.small) c.loop-k.invariant.so_far in
           subst (λ n. IsSoFar u v t n (k + 1)) (sym (w.first-is ∙ w.min-first.ensures ∙ ap (min c.loop-k.first) place)) more
       | else-right_ticks w ↦
-          subst (λ n. IsSoFar u v t n (k + 1)) (sym w.first-is) (one_rests u v t c.loop-k.first k (sym c.letter-right_ticks.ensures ∙ w.if-right_ticks.false) c.loop-k.invariant.so_far)
+          subst (λ n. IsSoFar u v t n (k + 1)) (sym w.first-is)
+          (one_rests u v t c.loop-k.first k (sym c.letter-right_ticks.ensures ∙ w.if-right_ticks.false) c.loop-k.invariant.so_far)
     ]
 
 pub loop-k-preserved : goal.loop-k-preserved
@@ -40,7 +44,11 @@ loop-k-preserved c = record {
 }
 
 pub returns-clause-fails : goal.returns-clause-fails
-returns-clause-fails c = so_far_is_first c.args.left.now c.args.right.now c.args.turn.now c.loop-k.first c.loop-k.k c.requires.turn c.requires.gains c.requires.before (omega arith) c.loop-k.invariant.so_far
+returns-clause-fails c =
+    so_far_is_first c.args.left.now c.args.right.now c.args.turn.now c.loop-k.first c.loop-k.k c.requires.turn c.requires.gains c.requires.before (omega arith)
+    c.loop-k.invariant.so_far
 
 pub returns-clause-small : goal.returns-clause-small
-returns-clause-small c = so_far_is_small c.args.left.now c.args.right.now c.args.turn.now c.loop-k.first c.loop-k.k c.requires.turn c.requires.gains (omega arith) c.loop-k.invariant.so_far
+returns-clause-small c =
+    so_far_is_small c.args.left.now c.args.right.now c.args.turn.now c.loop-k.first c.loop-k.k c.requires.turn c.requires.gains (omega arith)
+    c.loop-k.invariant.so_far

@@ -14,7 +14,8 @@ letter_is c =
     let v = c.args.right.now in
     let k = c.loop-k.k in
     elim c.if-left_ticks.branch [
-      | then-left_ticks w ↦ on_yes u v k c.if-left_ticks.push (sym c.letter-left_ticks.ensures ∙ w.if-left_ticks.true) (w.push-is ∙ w.letter.ensures ∙ ap (letter v) c.loop-k.invariant.counted)
+      | then-left_ticks w ↦ on_yes u v k c.if-left_ticks.push (sym c.letter-left_ticks.ensures ∙ w.if-left_ticks.true)
+          (w.push-is ∙ w.letter.ensures ∙ ap (letter v) c.loop-k.invariant.counted)
       | else-left_ticks w ↦ on_no u v k c.if-left_ticks.push (sym c.letter-left_ticks.ensures ∙ w.if-left_ticks.false) (w.push-is ∙ w.if-left_ticks.false)
     ]
 

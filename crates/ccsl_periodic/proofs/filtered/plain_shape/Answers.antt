@@ -12,12 +12,14 @@ is_gcd : (c : After-greatest_divisor) → IsGcd (length c.args.right.now.period)
 is_gcd c = rw (← c.period_len-3.ensures.period, ← c.period_ones-ones.ensures.ones) c.greatest_divisor.ensures
 
 pub nonzero_div-turns : goal.nonzero_div-turns
-nonzero_div-turns c = divisor_pos (length c.args.right.now.period) (period_ones c.args.left.now) c.greatest_divisor.result (is_gcd c) (infinite_len c.args.right.now c.requires.right_infinite)
+nonzero_div-turns c = divisor_pos (length c.args.right.now.period) (period_ones c.args.left.now) c.greatest_divisor.result (is_gcd c)
+    (infinite_len c.args.right.now c.requires.right_infinite)
 
 pub returns-clause-shape : goal.returns-clause-shape
 returns-clause-shape c =
     rw (c.period_len-4.ensures.period, c.period_len-2.ensures.period)
-    (shape_turns (period_ones c.args.left.now) c.args.left.now c.args.right.now c.behind_both.result _ (omega (arith, c.period_ones-ones.ensures.ones, c.if-ones-eq0.false)) c.behind_both.ensures.place
+    (shape_turns (period_ones c.args.left.now) c.args.left.now c.args.right.now c.behind_both.result _
+    (omega (arith, c.period_ones-ones.ensures.ones, c.if-ones-eq0.false)) c.behind_both.ensures.place
     (c.greatest_divisor.result, rw (← c.period_len-3.ensures.period, ← c.period_ones-ones.ensures.ones) c.greatest_divisor.ensures, refl))
 
 pub returns-clause-some : goal.returns-clause-some
@@ -25,5 +27,8 @@ returns-clause-some c =
     rw (c.period_len-4.ensures.period, c.period_len-2.ensures.period)
     (mul-pos (infinite_len c.args.left.now c.requires.left_infinite)
     (quotient_pos (period_ones c.args.left.now) (length c.args.right.now.period) c.greatest_divisor.result
-    (let h = (let h : IsGcd (length c.args.right.now.period) (period_ones c.args.left.now) c.greatest_divisor.result = rw (← c.period_len-3.ensures.period, ← c.period_ones-ones.ensures.ones) c.greatest_divisor.ensures in h) in (h.1, h.0, λ e a b. h.2 e b a))
+    (let h = (let h : IsGcd (length c.args.right.now.period) (period_ones c.args.left.now) c.greatest_divisor.result = rw (
+      ← c.period_len-3.ensures.period,
+      ← c.period_ones-ones.ensures.ones,
+    ) c.greatest_divisor.ensures in h) in (h.1, h.0, λ e a b. h.2 e b a))
     (infinite_len c.args.right.now c.requires.right_infinite)))

@@ -8,7 +8,8 @@ use Rattle.ccsl_periodic.proofs.filtered.plain_word.Goals as goal
 use Rattle.ccsl_periodic.proofs.filtered.plain_word.Goals.{After-as_slice, After-drop-letters}
 
 long : (c : After-as_slice) → length c.as_slice.result.now ≡ c.args.shape.now.prefix + c.args.shape.now.period
-long c = ap length (c.as_slice.ensures.value ∙ c.in_ok-letters.ensures) ∙ front_len (on_letter c.args.left.now c.args.right.now) (c.args.shape.now.prefix + c.args.shape.now.period)
+long c = ap length (c.as_slice.ensures.value ∙ c.in_ok-letters.ensures)
+    ∙ front_len (on_letter c.args.left.now c.args.right.now) (c.args.shape.now.prefix + c.args.shape.now.period)
 
 pub word_of-requires-clause-prefix : goal.word_of-requires-clause-prefix
 word_of-requires-clause-prefix c = omega (arith, long c)
@@ -19,7 +20,8 @@ word_of-requires-clause-some c = omega (arith, long c, c.requires.some)
 pub word_of-requires-clause-few : goal.word_of-requires-clause-few
 word_of-requires-clause-few c = omega (arith, long c, c.requires.few)
 
-is_spelled : (c : After-drop-letters) → IfOk c.word_of.result (λ v. v ≡ spelled (on_letter c.args.left.now c.args.right.now) c.args.shape.now.prefix c.args.shape.now.period)
+is_spelled : (c : After-drop-letters)
+    → IfOk c.word_of.result (λ v. v ≡ spelled (on_letter c.args.left.now c.args.right.now) c.args.shape.now.prefix c.args.shape.now.period)
 is_spelled c =
     subst (λ (xs : List Bool). IfOk c.word_of.result (λ v. v ≡ record { prefix = take c.args.shape.now.prefix xs; period = drop c.args.shape.now.prefix xs }))
     (c.as_slice.ensures.value ∙ c.in_ok-letters.ensures) c.word_of.ensures

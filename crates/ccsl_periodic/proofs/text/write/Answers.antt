@@ -15,7 +15,9 @@ spell-requires c = omega (arith, ap length (all_letters c), front_len (letter c.
 pub returns : goal.returns
 returns c =
     let w = c.args.word.now in
-    let read : c.as_slice.result.now ≡ front (letter w) (word_len w) = c.as_slice.ensures.value ∙ c.in_ok-letters.ensures ∙ ap (front (letter w)) c.len.ensures.letters in
+    let read : c.as_slice.result.now ≡ front (letter w) (word_len w) =
+    c.as_slice.ensures.value ∙ c.in_ok-letters.ensures ∙ ap (front (letter w)) c.len.ensures.letters in
     let prefix = ap₂ (λ (n : ℕ) (xs : List Bool). take n xs) c.prefix_len.ensures.prefix read ∙ prefix_read w in
     let period = ap₂ (λ (n : ℕ) (xs : List Bool). drop n xs) c.prefix_len.ensures.prefix read ∙ period_read w in
-    subst (λ s. IfOk c.spell.result (λ text. text.items ≡ s)) (ap₂ (λ (a b : List Bool). spelling (record { prefix = a; period = b })) prefix period) c.spell.ensures
+    subst (λ s. IfOk c.spell.result (λ text. text.items ≡ s)) (ap₂ (λ (a b : List Bool). spelling (record { prefix = a; period = b })) prefix period)
+    c.spell.ensures

@@ -20,9 +20,19 @@ called t c = sym (rw c.in-Some.is at c.body.ensures.body)
 pub opened-requires : goal.opened-requires
 opened-requires t c =
     let s = (goal.at.opened-requires t c).In-Some in
-    let ready = body_ready c.args.system.now c.in-Call.group (plain_body c.in-Some.body.now) (body_is c.args.system.now c.in-Call.group c.in-Call.member (plain_body c.in-Some.body.now) c.body.ensures.accepted (called t s)) in
-    let shallow : deep (plain_expr c.in-Some.body.now.root) ≤ suc MAX_LEVELS = ready.1 in
-    (search rules, (shallow, (ready.0, subst (λ w. ActualsFit w c.deref.result.now) c.words.ensures (subst (ActualsFit c.words.result.now) (sym c.deref.ensures.value) c.in_ok-actuals-in-Some.ensures.fit))))
+    let ready = body_ready c.args.system.now c.in-Call.group (plain_body c.in-Some.body.now)
+    (body_is c.args.system.now c.in-Call.group c.in-Call.member (plain_body c.in-Some.body.now) c.body.ensures.accepted (called t s)) in
+    let shallow : deep (plain_expr c.in-Some.body.now.root) ≤ suc MAX_LEVELS = ready.1 in (
+      search rules,
+      (
+        shallow,
+        (
+          ready.0,
+          subst (λ w. ActualsFit w c.deref.result.now) c.words.ensures
+              (subst (ActualsFit c.words.result.now) (sym c.deref.ensures.value) c.in_ok-actuals-in-Some.ensures.fit),
+        ),
+      ),
+    )
 
 pub returns-in_ok-actuals-in-Some-clause-course : goal.returns-in_ok-actuals-in-Some-clause-course
 returns-in_ok-actuals-in-Some-clause-course t c =
@@ -33,5 +43,6 @@ returns-in_ok-actuals-in-Some-clause-course t c =
     (let down =
     opened_call K c.args.level c.in-Call.group c.in-Call.member c.in-Call.args c.args.actuals.now (plain_body c.in-Some.body.now) above (called t s)
     ∙ ap (open_with K (open_bodies K (c.args.level - 1)) (plain_expr c.in-Some.body.now.root))
-    (sym (c.deref.ensures.value ∙ c.in_ok-actuals-in-Some.ensures.values ∙ ap₂ (λ w vs. map (value_of w c.args.actuals.now) vs) c.words.ensures c.members.ensures)) in
+    (sym (c.deref.ensures.value ∙ c.in_ok-actuals-in-Some.ensures.values
+    ∙ ap₂ (λ w vs. map (value_of w c.args.actuals.now) vs) c.words.ensures c.members.ensures)) in
     subst (λ t. IfOk c.opened.result (λ c'. held K.words c' ≡ t)) (sym down) c.opened.ensures.course)

@@ -36,7 +36,8 @@ loop-i-preserved c =
             sym (not_waiting c.args.since c.args.a.now c.args.d.now c.loop-i.i false false (in_a j) (in_d j)
             (ap (wait_of c.args.since (get_or c.args.d.now c.loop-i.i false)) (sym (after j)) ∙ sym w.waits.ensures ∙ w.if-waits.false))
             ∙ c.loop-i.invariant.rest
-        | else-a-i-via-else-a-i w ↦ sym (not_ticking c.args.since c.args.a.now c.args.d.now c.loop-i.i false false (in_a j) (in_d j) w.if-a-i.false) ∙ c.loop-i.invariant.rest
+        | else-a-i-via-else-a-i w ↦ sym (not_ticking c.args.since c.args.a.now c.args.d.now c.loop-i.i false false (in_a j) (in_d j) w.if-a-i.false)
+            ∙ c.loop-i.invariant.rest
       ];
       after = after j;
     }

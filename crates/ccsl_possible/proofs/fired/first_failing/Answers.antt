@@ -8,7 +8,8 @@ returns-then-branch c = λ T stands.
     let s = c.args.set.now in
     let i = c.loop-item.item in
     let definitions = c.definitions-definitions.ensures in
-    let here = item-fails K T s c.args.states.now.system i c.derive-step.result c.in_ok-fails.field-0 c.requires (c.derive-step.ensures.step T stands) (c.in_ok-fails.ensures T stands) (omega (arith, definitions)) in
+    let here = item-fails K T s c.args.states.now.system i c.derive-step.result c.in_ok-fails.field-0 c.requires (c.derive-step.ensures.step T stands)
+    (c.in_ok-fails.ensures T stands) (omega (arith, definitions)) in
     ap (λ n. Some (i - n)) definitions
     ∙ first-here K T s i (omega (arith, definitions)) (omega arith) (c.loop-item.invariant T stands) (sym here ∙ c.if-branch.true)
 

@@ -12,7 +12,8 @@ loop-i-preserved c =
     record {
       within = omega arith;
       proper =
-          proper-at c.args.named i c.loop-i.i c.args.lits.now _ (known c.loop-i.part) inside next c.loop-i.invariant.known c.loop-i.invariant.proper c.if-lit-named.false
+          proper-at c.args.named i c.loop-i.i c.args.lits.now _ (known c.loop-i.part) inside next c.loop-i.invariant.known c.loop-i.invariant.proper
+          c.if-lit-named.false
           (sym c.value.ensures.value ∙ c.in-Open.is);
       known = falsified-at i c.loop-i.i c.args.lits.now _ (known c.loop-i.part) (known c.set.new.self) inside next c.loop-i.invariant.known c.set.ensures;
     }

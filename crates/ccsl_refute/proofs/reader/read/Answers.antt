@@ -16,7 +16,8 @@ returns-in_err-found c =
     let p = err_from_is_err_and c.from_residual.result c.from_residual.ensures.1 in
     let w = c.first_line.result.now in
     rw (p.1, p.2)
-    (Reads-fault members (λ (v : Vec Line Global). v.items) (read_line c.args.names.now (c.lines.at + length w) (tokens c.lines.at w) (Ok [])) (reading c.args.names.now c.args.text.now)
+    (Reads-fault members (λ (v : Vec Line Global). v.items) (read_line c.args.names.now (c.lines.at + length w) (tokens c.lines.at w) (Ok []))
+    (reading c.args.names.now c.args.text.now)
     c.in_err-found.field-0.0
     (step-fault c.args.names.now c.args.text.now c.lines.at c.line_len-len.result _ w c.lines.lines.items
     (rest-is c.lines.at c.args.text.now) c.line_len-len.ensures.len c.line_len-len.ensures.within c.first_line.ensures.line c.lines.invariant.same)

@@ -9,7 +9,8 @@ use Rattle.ccsl_relate.proofs.alone.first_in.Goals.{in-None, in-Some}
 
 pub first_row-requires-clause-room : goal.first_row-requires-clause-room
 first_row-requires-clause-room c =
-    subst (HasRoomFor (length c.args.block.now.rows)) (sym (c.loop-i.invariant.rest c.loop-i.i (omega arith))) (c.requires.room c.loop-i.i Nothing (omega arith))
+    subst (HasRoomFor (length c.args.block.now.rows)) (sym (c.loop-i.invariant.rest c.loop-i.i (omega arith)))
+    (c.requires.room c.loop-i.i Nothing (omega arith))
 
 pub loop-i-preserved : goal.loop-i-preserved
 loop-i-preserved c =

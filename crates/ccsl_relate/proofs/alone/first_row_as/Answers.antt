@@ -14,7 +14,8 @@ fails-requires c =
     let inside : i < length rows = omega (arith, c.requires.inside) in
     record {
       few = subst HasRoom (sym c.loop-i.invariant.gone)
-          (room-after (take i rows) (Relation c.args.related.now) (length rows) (omega (arith, length-take-le i rows (omega (arith, inside)), inside)) c.requires.room);
+          (room-after (take i rows) (Relation c.args.related.now) (length rows) (omega (arith, length-take-le i rows (omega (arith, inside)), inside))
+          c.requires.room);
     }
 
 pub loop-i-preserved : goal.loop-i-preserved

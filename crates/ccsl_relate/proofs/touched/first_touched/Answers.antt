@@ -18,7 +18,8 @@ first_at-place-requires-clause-touched c =
     let clocks = c.insert_all-2.new.self in
     let group = c.index-groups-i.result in
     touches-told ticks step clocks (i * MAX_CLOCKS) group c.gather.new.touched c.loop-i.kept
-    (λ x. c.insert_all-2.ensures x ∙ ap (λ b. b || ticks_in x step) (c.insert_all.ensures x ∙ ap (λ ys. ticks_in x ys || ticks_in x ticks) c.empty-clocks.ensures))
+    (λ x. c.insert_all-2.ensures x ∙ ap (λ b. b || ticks_in x step)
+    (c.insert_all.ensures x ∙ ap (λ ys. ticks_in x ys || ticks_in x ticks) c.empty-clocks.ensures))
     (tell-of c.groups-groups.result.now group (map clocks_of c.args.kept.now) (map clocks_of c.loop-i.kept) i
     (subst (λ gs. AreReaders gs (map clocks_of c.args.kept.now)) (sym c.groups-groups.ensures) c.requires.readers)
     c.loop-i-test.true c.index-groups-i.is c.loop-i.invariant.clocks)
@@ -40,10 +41,12 @@ loop-i-preserved c =
     let old = c.loop-i.kept in
     let new = c.first_at-place.new.kept in
     let none = none-of c.first_at-place.result (sym c.is_some.ensures ∙ c.if-is_some.false) in
-    let here : GoesOn ticks step mid (mid + MAX_CLOCKS) old new = subst (λ o. IfNone o (GoesOn ticks step mid (mid + MAX_CLOCKS) old new)) none c.first_at-place.ensures.none in
+    let here : GoesOn ticks step mid (mid + MAX_CLOCKS) old new =
+    subst (λ o. IfNone o (GoesOn ticks step mid (mid + MAX_CLOCKS) old new)) none c.first_at-place.ensures.none in
     let next : mid + MAX_CLOCKS ≡ (c.loop-i.i + 1) * MAX_CLOCKS = omega arith in
     record {
-      on = subst (λ n. GoesOn ticks step 0 n c.args.kept.now new) next (on-both ticks step 0 mid (mid + MAX_CLOCKS) c.args.kept.now old new c.loop-i.invariant.on here (omega arith) (omega arith));
+      on = subst (λ n. GoesOn ticks step 0 n c.args.kept.now new) next
+          (on-both ticks step 0 mid (mid + MAX_CLOCKS) c.args.kept.now old new c.loop-i.invariant.on here (omega arith) (omega arith));
       clocks = c.first_at-place.ensures.clocks ∙ c.loop-i.invariant.clocks;
     }
 

@@ -27,4 +27,5 @@ loop-i-preserved c =
     }
 
 pub returns-then-fails-clause-clocks : goal.returns-then-fails-clause-clocks
-returns-then-fails-clause-clocks c = clocks-set c.args.step.now c.loop-i.kept c.loop-i.i Nothing c.fails.new.self c.fails.ensures.next ∙ c.loop-i.invariant.clocks
+returns-then-fails-clause-clocks c =
+    clocks-set c.args.step.now c.loop-i.kept c.loop-i.i Nothing c.fails.new.self c.fails.ensures.next ∙ c.loop-i.invariant.clocks

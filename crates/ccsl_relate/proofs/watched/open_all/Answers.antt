@@ -9,6 +9,7 @@ loop-place-preserved c =
     let P = Keeps c.args.system.now c.args.recorded.now [] in
     let items = c.in_ok-push.ensures.items in record {
       keeps = subst (Each P c.args.start) (sym items)
-          (each-more P c.args.start c.loop-place.place c.loop-place.kept.items c.open.result c.loop-place.invariant.keeps c.loop-place.invariant.count c.open.ensures);
+          (each-more P c.args.start c.loop-place.place c.loop-place.kept.items c.open.result c.loop-place.invariant.keeps c.loop-place.invariant.count
+          c.open.ensures);
       count = ap length items ∙ length-append c.loop-place.kept.items (c.open.result ∷ []) ∙ ap (λ n. n + 1) c.loop-place.invariant.count;
     }

@@ -18,5 +18,6 @@ loop-clock-preserved c =
           ∙ names-more K x rest out c.get.result.now (sym (ap (λ names. slice_get names x) c.names.ensures.names) ∙ c.get.ensures.name)
           ∙ sym (ap (λ s. out ++ blank_names K s) next)
           ∙ c.loop-clock.invariant.text;
-      below = (and_parts (nat_lt x (length K.names)) (are_below (length K.names) rest) (sym (ap (are_below (length K.names)) next) ∙ c.loop-clock.invariant.below)).1;
+      below = (and_parts (nat_lt x (length K.names)) (are_below (length K.names) rest)
+          (sym (ap (are_below (length K.names)) next) ∙ c.loop-clock.invariant.below)).1;
     }

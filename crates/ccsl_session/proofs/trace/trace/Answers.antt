@@ -19,7 +19,8 @@ loop-n-preserved c =
     let before = c.loop-n.invariant in
     let ok : IsAccepted h.system = subst IsAccepted (sym before.system) c.is_accepted.ensures in
     let T = completed K (take n R) in
-    let full : c.advance.result ≡ full_step K T s = c.advance.ensures.step ∙ stands_derived h ok T before.stands s ∙ ap (λ (X : System). full_step X T s) before.system in
+    let full : c.advance.result ≡ full_step K T s =
+    c.advance.ensures.step ∙ stands_derived h ok T before.stands s ∙ ap (λ (X : System). full_step X T s) before.system in
     record {
       system = c.advance.ensures.system ∙ before.system;
       stands = goes-on K [] R n s h new c.loop-n-test.true c.index-sets-n.is before.system before.stands c.advance.ensures.stands (omega arith);

@@ -16,7 +16,10 @@ returns-in-Some-clause-ended g c = λ limit first.
     let task = c.lines.invariant.task in
     let system : system_of now ≡ system_of old = ap (λ s. s.now) task.system in
     let goes =
-    at-task (λ K p s. Goes told K p s limit start (state c.lines.world) c.lines.lines (sets_of now) []) (system_of old) (system_of now) old.policy now.policy old.seed now.seed (sym system) (sym task.policy) (sym task.seed)
+    at-task (λ K p s. Goes told K p s limit start (state c.lines.world) c.lines.lines (sets_of now) []) (system_of old) (system_of now) old.policy now.policy
+    old.seed now.seed (sym system) (sym task.policy) (sym task.seed)
     (c.lines.invariant.goes limit first) in
-    at-task (λ K p s. HasEnded told K p s limit start (state c.turn.new.world) c.in-Some.end) (system_of now) (system_of old) now.policy old.policy now.seed old.seed system task.policy task.seed
-    (subst (λ (x : Option Ended). Turns told (system_of now) now.policy now.seed limit start (state c.turn.new.world) c.turn.new.lines (sets_of c.turn.new.session) x) c.in-Some.is (c.in_ok-end.ensures.turns start limit goes))
+    at-task (λ K p s. HasEnded told K p s limit start (state c.turn.new.world) c.in-Some.end) (system_of now) (system_of old) now.policy old.policy now.seed
+    old.seed system task.policy task.seed
+    (subst (λ (x : Option Ended). Turns told (system_of now) now.policy now.seed limit start (state c.turn.new.world) c.turn.new.lines
+    (sets_of c.turn.new.session) x) c.in-Some.is (c.in_ok-end.ensures.turns start limit goes))

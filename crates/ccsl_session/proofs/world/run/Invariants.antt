@@ -15,7 +15,8 @@ invariant-lines g l =
       task : SameTask first l.session;
       stands : Stands l.session.stack;
       stack : IsStack (system_of l.session) (sets_of l.session);
-      goes : (limit : ℕ) → Goes g.W.World.told (system_of first) first.policy first.seed limit (state l.fn.world) (state l.fn.world) l.fn.lines (sets_of first) [] →
+      goes : (limit : ℕ) → Goes g.W.World.told (system_of first) first.policy first.seed limit (state l.fn.world) (state l.fn.world) l.fn.lines (sets_of first)
+          [] →
           Goes g.W.World.told (system_of first) first.policy first.seed limit (state l.fn.world) (state l.world) l.lines (sets_of l.session) [];
     }
 

@@ -32,7 +32,8 @@ goes g c =
     let session = c.in_ok-session.session in
     let start = g.W.World.state c.args.world.now in
     let lines = c.in_ok-lines.ensures in
-    subst (λ R. Goes g.W.World.told (system_of session) session.policy session.seed c.args.limit start start c.in_ok-lines.lines R []) (sym c.in_ok-session.ensures.sets)
+    subst (λ R. Goes g.W.World.told (system_of session) session.policy session.seed c.args.limit start start c.in_ok-lines.lines R [])
+    (sym c.in_ok-session.ensures.sets)
     (opens g.W.World.told (system_of session) session.policy session.seed c.args.limit start c.in_ok-lines.lines lines.limit lines.stands lines.runs)
 
 pub returns-clause-ended : goal.returns-clause-ended

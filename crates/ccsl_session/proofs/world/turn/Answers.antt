@@ -20,7 +20,9 @@ returns-in_err-asked-clause-cut g c =
     let state = g.W.World.state in
     rw (p.1, p.2)
     (λ start limit goes.
-    read-cut g.W.World.told session.stack.system.now session.policy session.seed limit start (record { taken = c.given_lines_are_taken.ensures; few = c.few_bytes_are_read.ensures; search = c.search_ends_no_line.ensures }) (state c.args.world.now) c.args.lines.now session.stack.sets.items goes (state c.hear.new.world) c.in_err-asked.ensures.breaks)
+    read-cut g.W.World.told session.stack.system.now session.policy session.seed limit start
+    (record { taken = c.given_lines_are_taken.ensures; few = c.few_bytes_are_read.ensures; search = c.search_ends_no_line.ensures })
+    (state c.args.world.now) c.args.lines.now session.stack.sets.items goes (state c.hear.new.world) c.in_err-asked.ensures.breaks)
 
 pub returns-in-Asks-clause-stack : goal.returns-in-Asks-clause-stack
 returns-in-Asks-clause-stack g c =
@@ -31,7 +33,8 @@ returns-in-Asks-clause-stack g c =
     let R = session.stack.sets.items in
     let state = g.W.World.state in
     let told = g.W.World.told in
-    let heard = subst (λ (x : Heard). Hears told K (state c.args.world.now) (state c.hear.new.world) c.args.lines.now c.hear.new.lines x) c.in-Asks.is c.in_ok-asked.ensures.hears in
+    let heard = subst (λ (x : Heard). Hears told K (state c.args.world.now) (state c.hear.new.world) c.args.lines.now c.hear.new.lines x) c.in-Asks.is
+    c.in_ok-asked.ensures.hears in
     let q = heard-asked told K (state c.args.world.now) (state c.hear.new.world) c.args.lines.now c.hear.new.lines c.in-Asks.asked heard in
     let done = IfOk-at_ok _ is c.reply.ensures.replies in
     let sets = done.sets ∙ ap (after K session.policy session.seed R) q.1 in
@@ -51,9 +54,13 @@ returns-in-Asks-clause-turns g c =
     let mid = state c.hear.new.world in
     let later = state c.reply.new.world in
     let heard = subst (λ (x : Heard). Hears told K before mid c.args.lines.now c.hear.new.lines x) c.in-Asks.is c.in_ok-asked.ensures.hears in
-    let q = heard-line told K session.policy session.seed limit start (record { taken = c.given_lines_are_taken.ensures; few = c.few_bytes_are_read.ensures; search = c.search_ends_no_line.ensures }) before mid c.args.lines.now c.hear.new.lines R c.in-Asks.asked heard goes in
+    let q = heard-line told K session.policy session.seed limit start
+    (record { taken = c.given_lines_are_taken.ensures; few = c.few_bytes_are_read.ensures; search = c.search_ends_no_line.ensures }) before mid
+    c.args.lines.now c.hear.new.lines R c.in-Asks.asked heard goes in
     let done = IfOk-at_ok _ is c.reply.ensures.replies in
-    answered told K session.policy session.seed limit start (record { taken = c.given_lines_are_taken.ensures; few = c.few_bytes_are_read.ensures; search = c.search_ends_no_line.ensures }) mid later c.args.lines.now c.hear.new.lines R q.0 c.reply.new.session.stack.sets.items end q.2
+    answered told K session.policy session.seed limit start
+    (record { taken = c.given_lines_are_taken.ensures; few = c.few_bytes_are_read.ensures; search = c.search_ends_no_line.ensures }) mid later
+    c.args.lines.now c.hear.new.lines R q.0 c.reply.new.session.stack.sets.items end q.2
     (subst (λ (a : Asked). Adds told Report (answer K session.policy session.seed R a) mid later) q.1 done.adds)
     (done.sets ∙ ap (after K session.policy session.seed R) q.1)
     (done.ends ∙ ap (λ (a : Asked). if is_quit a then Some Quit else None) q.1))
@@ -71,8 +78,12 @@ returns-in-Asks-clause-cut g c =
     let mid = state c.hear.new.world in
     let later = state c.reply.new.world in
     let heard = subst (λ (x : Heard). Hears told K before mid c.args.lines.now c.hear.new.lines x) c.in-Asks.is c.in_ok-asked.ensures.hears in
-    let q = heard-line told K session.policy session.seed limit start (record { taken = c.given_lines_are_taken.ensures; few = c.few_bytes_are_read.ensures; search = c.search_ends_no_line.ensures }) before mid c.args.lines.now c.hear.new.lines R c.in-Asks.asked heard goes in
-    unanswered told K session.policy session.seed limit start (record { taken = c.given_lines_are_taken.ensures; few = c.few_bytes_are_read.ensures; search = c.search_ends_no_line.ensures }) mid later c.args.lines.now c.hear.new.lines R q.0 fault q.2
+    let q = heard-line told K session.policy session.seed limit start
+    (record { taken = c.given_lines_are_taken.ensures; few = c.few_bytes_are_read.ensures; search = c.search_ends_no_line.ensures }) before mid
+    c.args.lines.now c.hear.new.lines R c.in-Asks.asked heard goes in
+    unanswered told K session.policy session.seed limit start
+    (record { taken = c.given_lines_are_taken.ensures; few = c.few_bytes_are_read.ensures; search = c.search_ends_no_line.ensures }) mid later
+    c.args.lines.now c.hear.new.lines R q.0 fault q.2
     (subst (λ (a : Asked). NotWritten told (answer K session.policy session.seed R a) mid later fault) q.1 (IfErr-at_err _ is c.reply.ensures.fails)))
 
 pub returns-in-Ends-clause-turns : goal.returns-in-Ends-clause-turns
@@ -84,4 +95,6 @@ returns-in-Ends-clause-turns g c = λ start limit goes.
     let before = state c.args.world.now in
     let later = state c.hear.new.world in
     let heard = subst (λ (x : Heard). Hears told K before later c.args.lines.now c.hear.new.lines x) c.in-Ends.is c.in_ok-asked.ensures.hears in
-    heard-end told K session.policy session.seed limit start (record { taken = c.given_lines_are_taken.ensures; few = c.few_bytes_are_read.ensures; search = c.search_ends_no_line.ensures }) before later c.args.lines.now c.hear.new.lines session.stack.sets.items c.in-Ends.end heard goes
+    heard-end told K session.policy session.seed limit start
+    (record { taken = c.given_lines_are_taken.ensures; few = c.few_bytes_are_read.ensures; search = c.search_ends_no_line.ensures }) before later
+    c.args.lines.now c.hear.new.lines session.stack.sets.items c.in-Ends.end heard goes

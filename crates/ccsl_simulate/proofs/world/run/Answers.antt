@@ -57,7 +57,8 @@ returns-in_err-turn-clause-undone g c =
     (λ seed s.
     let stands = c.loop-n.invariant.stands seed s in
     let size : length (run_of old seed n) ≡ n = sym (ap length (same-run old sim seed n task)) ∙ stands.steps in
-    undone-there told old.system.now old.policy seed c.args.steps (g.W.World.state c.args.world.now) n c.loop-n-test.true size before after (c.loop-n.invariant.adds seed s) fault
+    undone-there told old.system.now old.policy seed c.args.steps (g.W.World.state c.args.world.now) n c.loop-n-test.true size before after
+    (c.loop-n.invariant.adds seed s) fault
     (of-task old sim (λ K policy. TurnFails told K policy seed n before after fault) task (c.in_err-turn.ensures.fails seed stands)))
 
 pub returns-in-Ends-clause-done : goal.returns-in-Ends-clause-done
@@ -71,7 +72,8 @@ returns-in-Ends-clause-done g c = λ seed s.
     let task = c.loop-n.invariant.task in
     let stands = c.loop-n.invariant.stands seed s in
     let size : length (run_of old seed n) ≡ n = sym (ap length (same-run old sim seed n task)) ∙ stands.steps in
-    ends-there told old.system.now old.policy seed c.args.steps (g.W.World.state c.args.world.now) n c.loop-n-test.true size before after (c.loop-n.invariant.adds seed s)
+    ends-there told old.system.now old.policy seed c.args.steps (g.W.World.state c.args.world.now) n c.loop-n-test.true size before after
+    (c.loop-n.invariant.adds seed s)
     (of-task old sim (λ K policy. WritesLines told K policy seed n before after) task
     (subst (λ (x : Turn). TurnDoes told sim.system.now sim.policy seed n before after x) c.in-Ends.is (c.in_ok-turn.ensures.does seed stands)))
 
@@ -87,18 +89,21 @@ loop-n-preserved g c =
     let task = c.loop-n.invariant.task in
     let writes : (seed : ℕ) → Stands seed 0 old → WritesStep told old.system.now old.policy seed n before after = λ seed s.
     of-task old sim (λ K policy. WritesStep told K policy seed n before after) task
-    (subst (λ (x : Turn). TurnDoes told sim.system.now sim.policy seed n before after x) c.in-Goes.is (c.in_ok-turn.ensures.does seed (c.loop-n.invariant.stands seed s))) in
+    (subst (λ (x : Turn). TurnDoes told sim.system.now sim.policy seed n before after x) c.in-Goes.is
+    (c.in_ok-turn.ensures.does seed (c.loop-n.invariant.stands seed s))) in
     let w = c.requires.stands in
     let q = writes w.0 w.1 in
     record {
       task = same-task old sim c.turn.new.self task c.turn.ensures.task;
       trace = trace-open told _ before after q.adds c.loop-n.invariant.trace;
       cert = cert-open told _ before after q.adds c.loop-n.invariant.cert;
-      stands = λ seed s. subst (λ k. Stands seed k c.turn.new.self) (sym (add-one n)) (c.in_ok-turn.ensures.stands seed c.in-Goes.is (c.loop-n.invariant.stands seed s));
+      stands = λ seed s. subst (λ k. Stands seed k c.turn.new.self) (sym (add-one n))
+          (c.in_ok-turn.ensures.stands seed c.in-Goes.is (c.loop-n.invariant.stands seed s));
       adds = λ seed s.
           let size : length (run_of old seed n) ≡ n = sym (ap length (same-run old sim seed n task)) ∙ (c.loop-n.invariant.stands seed s).steps in
           subst (λ k. Adds told TraceOut (vcd_text old.system.now (run_of old seed k)) start after) (sym (add-one n))
-          (step-adds told old.system.now old.policy seed c.args.steps start n c.loop-n-test.true size before after (c.loop-n.invariant.adds seed s) (writes seed s));
+          (step-adds told old.system.now old.policy seed c.args.steps start n c.loop-n-test.true size before after (c.loop-n.invariant.adds seed s)
+          (writes seed s));
     }
 
 pub returns-clause-done : goal.returns-clause-done
@@ -106,5 +111,7 @@ returns-clause-done g c = λ seed s.
     let old = c.args.sim.now in
     let n = c.loop-n.n in
     let end : n ≡ c.args.steps = omega arith in
-    let size : length (run_of old seed n) ≡ n = sym (ap length (same-run old c.loop-n.sim seed n c.loop-n.invariant.task)) ∙ (c.loop-n.invariant.stands seed s).steps in
-    full-there g.W.World.told old.system.now old.policy seed c.args.steps (g.W.World.state c.args.world.now) n end size (g.W.World.state c.loop-n.world) (c.loop-n.invariant.adds seed s)
+    let size : length (run_of old seed n) ≡ n =
+    sym (ap length (same-run old c.loop-n.sim seed n c.loop-n.invariant.task)) ∙ (c.loop-n.invariant.stands seed s).steps in
+    full-there g.W.World.told old.system.now old.policy seed c.args.steps (g.W.World.state c.args.world.now) n end size (g.W.World.state c.loop-n.world)
+    (c.loop-n.invariant.adds seed s)

@@ -7,5 +7,6 @@ use Rattle.ccsl_spaces.proofs.calls.calls_space.Goals as goal
 
 pub returns : goal.returns
 returns c =
-    space-joined (map plain_definition c.args.library.now) (map plain_definition c.args.file.now) _ c.in_ok-groups.groups (ap (map seen_call) c.new-space.ensures)
+    space-joined (map plain_definition c.args.library.now) (map plain_definition c.args.file.now) _ c.in_ok-groups.groups
+    (ap (map seen_call) c.new-space.ensures)
     c.in_ok-groups.ensures.added (sym (length-map c.args.library.now plain_definition)) c.in_ok-groups.ensures.next c.in_ok-add_definitions.ensures.added

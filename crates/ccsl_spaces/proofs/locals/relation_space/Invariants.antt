@@ -7,4 +7,5 @@ use Rattle.ccsl_spaces.proofs.locals.relation_space.Given as goal
 
 abbrev pub invariant-loop-number : goal.invariant-loop-number
 invariant-loop-number l =
-    l.space ++ lines_space l.number (map SLineOf (map plain_line (drop l.number l.lines))) ≡ params_space l.params ++ lines_space 0 (map SLineOf (map plain_line l.lines))
+    l.space ++ lines_space l.number (map SLineOf (map plain_line (drop l.number l.lines))) ≡ params_space l.params
+    ++ lines_space 0 (map SLineOf (map plain_line l.lines))

@@ -16,6 +16,7 @@ returns-in-Ok c =
 pub returns : goal.returns
 returns c = record {
   r = c.in-Err.refusal;
-  refused = ap (λ l. refusal l (plain_file c.args.file.now)) (sym c.in_ok-library.ensures.tree) ∙ c.in-Err.ensures.refused c.in_ok-refusal_line-in-Err.ensures.cause;
+  refused = ap (λ l. refusal l (plain_file c.args.file.now)) (sym c.in_ok-library.ensures.tree)
+      ∙ c.in-Err.ensures.refused c.in_ok-refusal_line-in-Err.ensures.cause;
   is = c.in_ok-refusal_line-in-Err.ensures.line;
 }

@@ -10,5 +10,6 @@ returns-in-Err c =
 pub returns : goal.returns
 returns c =
     of_syntax c.in-Err-parse.fault
-    (no-tree c.args.text.now c.in-Ok.tokens.items c.in-Err-parse.fault c.in_ok-syntax_line-in-Err-parse.ensures.cause c.in-Ok.ensures.tokens (rw c.as_slice.ensures.value at c.in-Err-parse.ensures.fault))
+    (no-tree c.args.text.now c.in-Ok.tokens.items c.in-Err-parse.fault c.in_ok-syntax_line-in-Err-parse.ensures.cause c.in-Ok.ensures.tokens
+    (rw c.as_slice.ensures.value at c.in-Err-parse.ensures.fault))
     c.in_ok-syntax_line-in-Err-parse.ensures.line

@@ -15,7 +15,17 @@ pub advanced-moved-requires : goal.advanced-moved-requires
 advanced-moved-requires t c =
     let part = part_at _ _ c.args.i _ _ c.definition.ensures.accepted c.definition.ensures.definition c.requires.groups c.requires.room in
     let room = part.room in
-    record { table = c.requires.table; groups = omega arith; shallow = part.shallow; offsets = part.offsets; stands = part.stands; actuals = search rules; room = omega arith; few = c.requires.few }
+    record {
+      table = c.requires.table;
+      groups = omega arith;
+      shallow = part.shallow;
+      offsets = part.offsets;
+      stands = part.stands;
+      actuals =
+          search rules;
+      room = omega arith;
+      few = c.requires.few;
+    }
 
 pub split_at_mut-rest-requires : goal.split_at_mut-rest-requires
 split_at_mut-rest-requires t c =
@@ -49,16 +59,24 @@ returns-then-i-definitions t c =
     let known = c.args.gone.now in
     let s = c.args.step.now in
     let new : trees_in K earlier (drop i K.definitions) (left ++ rest') ≡ read K earlier e [] row' ∷ trees_in K earlier es rest' =
-    ap (λ es. trees_in K earlier es (left ++ rest')) part.split ∙ trees_new K earlier e es row' left rest rest' c.requires.table few c.split_at_mut-rest.ensures.value len in
+    ap (λ es. trees_in K earlier es (left ++ rest')) part.split
+    ∙ trees_new K earlier e es row' left rest rest' c.requires.table few c.split_at_mut-rest.ensures.value len in
     let old : trees_in K earlier (drop i K.definitions) row ≡ read K earlier e [] row ∷ trees_in K earlier es rest =
-    ap (λ es. trees_in K earlier es row) part.split ∙ trees_old K earlier e es row row' left rest c.split_at_mut-rest.ensures.value len c.advanced-moved.ensures.rest in
-    let out : (read K earlier e [] row' ≡ next K s (gone_in known) (read K earlier e [] row)) × (c.advanced-moved.result.dead ≡ dead_of (gone_in known) (read K earlier e [] row')) =
-    subst (Outcome K s (gone_in known) (length earlier) [] (read K earlier e [] row) (read K earlier e [] row') c.advanced-moved.result.dead) (c.advanced-moved.ensures.inner part.inner) c.advanced-moved.ensures.next in
-    let ticks : c.put.new.set ≡ put (eval (formula_of (read K earlier e [] row)) s) x s = c.put.ensures ∙ ap₂ (λ b k. put b k s) c.advanced-moved.ensures.tick clock in
-    let dies : c.put-then-i-definitions.new.set ≡ put (dead_of (gone_in known) (read K earlier e [] row')) x known = c.put-then-i-definitions.ensures ∙ ap₂ (λ b k. put b k known) out.1 clock in
+    ap (λ es. trees_in K earlier es row) part.split ∙ trees_old K earlier e es row row' left rest c.split_at_mut-rest.ensures.value len
+    c.advanced-moved.ensures.rest in
+    let out : (read K earlier e [] row' ≡ next K s (gone_in known) (read K earlier e [] row))
+    × (c.advanced-moved.result.dead ≡ dead_of (gone_in known) (read K earlier e [] row')) =
+    subst (Outcome K s (gone_in known) (length earlier) [] (read K earlier e [] row) (read K earlier e [] row') c.advanced-moved.result.dead)
+    (c.advanced-moved.ensures.inner part.inner) c.advanced-moved.ensures.next in
+    let ticks : c.put.new.set ≡ put (eval (formula_of (read K earlier e [] row)) s) x s =
+    c.put.ensures ∙ ap₂ (λ b k. put b k s) c.advanced-moved.ensures.tick clock in
+    let dies : c.put-then-i-definitions.new.set ≡ put (dead_of (gone_in known) (read K earlier e [] row')) x known =
+    c.put-then-i-definitions.ensures ∙ ap₂ (λ b k. put b k known) out.1 clock in
     record {
       trees = new
-          ∙ passes K s known x (read K earlier e [] row) (read K earlier e [] row') (trees_in K earlier es rest) (trees_in K earlier es rest') c.put.new.set c.put-then-i-definitions.new.set out.0 ticks dies (c.advance_from.ensures.trees ∙ ap (λ k. passed_all K c.put.new.set c.put-then-i-definitions.new.set k (trees_in K earlier es rest)) later)
+          ∙ passes K s known x (read K earlier e [] row) (read K earlier e [] row') (trees_in K earlier es rest) (trees_in K earlier es rest') c.put.new.set
+          c.put-then-i-definitions.new.set out.0 ticks dies (c.advance_from.ensures.trees
+          ∙ ap (λ k. passed_all K c.put.new.set c.put-then-i-definitions.new.set k (trees_in K earlier es rest)) later)
           ∙ sym (ap (passed_all K s known x) old);
       step = c.advance_from.ensures.step ∙ ap₂ (derived_in (trees_in K earlier es rest)) later ticks ∙ sym (ap (λ ts. derived_in ts x s) old);
       gone = c.advance_from.ensures.gone ∙ ap₂ (λ k known. deaths_from known k (trees_in K earlier es rest')) later dies ∙ sym (ap (deaths_from known x) new);

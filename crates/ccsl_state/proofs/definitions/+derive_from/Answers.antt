@@ -14,7 +14,17 @@ pub heard-heard-requires : goal.heard-heard-requires
 heard-heard-requires t c =
     let part = part_at _ _ c.args.i _ _ c.definition.ensures.accepted c.definition.ensures.definition c.requires.groups c.requires.room in
     let room = part.room in
-    record { table = c.requires.table; groups = omega arith; shallow = part.shallow; offsets = part.offsets; stands = part.stands; actuals = search rules; room = omega arith; few = c.requires.few }
+    record {
+      table = c.requires.table;
+      groups = omega arith;
+      shallow = part.shallow;
+      offsets = part.offsets;
+      stands = part.stands;
+      actuals =
+          search rules;
+      room = omega arith;
+      few = c.requires.few;
+    }
 
 pub split_at-requires : goal.split_at-requires
 split_at-requires t c =
@@ -46,7 +56,9 @@ returns-then-i-definitions t c =
     let clock : c.scope.result.declared + i ≡ x = ap (λ (s : Scope). s.declared + i) c.scope.ensures.scope in
     let later : K.declared + (i + 1) ≡ suc x = omega arith in
     let known = c.args.step.now in
-    let put_is : c.put.new.set ≡ put (eval (formula_of (read K earlier e [] row)) known) x known = c.put.ensures ∙ ap₂ (λ b k. put b k known) c.heard-heard.ensures.tick clock in
+    let put_is : c.put.new.set ≡ put (eval (formula_of (read K earlier e [] row)) known) x known =
+    c.put.ensures ∙ ap₂ (λ b k. put b k known) c.heard-heard.ensures.tick clock in
     c.derive_from.ensures
     ∙ ap₂ (λ k s. derived_in (trees_in K earlier es rest) k s) later put_is
-    ∙ sym (ap (λ ts. derived_in ts x known) (ap (λ es. trees_in K earlier es row) part.split ∙ trees_old K earlier e es row row left rest c.split_at.ensures.by_index.0 len refl))
+    ∙ sym (ap (λ ts. derived_in ts x known) (ap (λ es. trees_in K earlier es row) part.split
+    ∙ trees_old K earlier e es row row left rest c.split_at.ensures.by_index.0 len refl))

@@ -14,7 +14,19 @@ pub opened-born-requires : goal.opened-born-requires
 opened-born-requires t c =
     let part = part_at _ _ c.args.i _ _ c.definition.ensures.accepted c.definition.ensures.definition c.requires.groups c.requires.room in
     let room = part.room in
-    record { table = c.requires.table; groups = omega arith; shallow = part.shallow; offsets = part.offsets; stands = part.stands; placed = inner_not_own c.args.lay.now.system.now (length c.args.lay.now.earlier.now) c.args.lay.now.system.now.words (plain_expr c.definition.result.now) _ part.inner; actuals = search rules; room = omega arith; few = c.requires.few }
+    record {
+      table = c.requires.table;
+      groups = omega arith;
+      shallow = part.shallow;
+      offsets = part.offsets;
+      stands = part.stands;
+      placed =
+          inner_not_own c.args.lay.now.system.now (length c.args.lay.now.earlier.now) c.args.lay.now.system.now.words (plain_expr c.definition.result.now) _
+          part.inner;
+      actuals = search rules;
+      room = omega arith;
+      few = c.requires.few;
+    }
 
 pub split_at_mut-rest-requires : goal.split_at_mut-rest-requires
 split_at_mut-rest-requires t c =
@@ -48,8 +60,11 @@ returns-then-i-definitions t c =
     let known = c.args.gone.now in
     let rest' = c.open_from.new.row in
     let front = trees_new K earlier e es c.opened-born.new.row left rest rest' c.requires.table few c.split_at_mut-rest.ensures.value len in
-    let put_is : c.put.new.set ≡ put (dead_of (gone_in known) (opening K e [])) x known = c.put.ensures ∙ ap₂ (λ b k. put b k known) c.opened-born.ensures.dead clock in
+    let put_is : c.put.new.set ≡ put (dead_of (gone_in known) (opening K e [])) x known =
+    c.put.ensures ∙ ap₂ (λ b k. put b k known) c.opened-born.ensures.dead clock in
     record {
-      trees = ap (λ es. trees_in K earlier es (left ++ rest')) part.split ∙ front ∙ ap₂ (λ t ts. t ∷ ts) c.opened-born.ensures.tree c.open_from.ensures.trees ∙ sym (ap (opened_all K) part.split);
-      gone = c.open_from.ensures.gone ∙ ap₂ (λ k known. deaths_from known k (opened_all K es)) later put_is ∙ sym (ap (λ es. deaths_from known x (opened_all K es)) part.split);
+      trees = ap (λ es. trees_in K earlier es (left ++ rest')) part.split ∙ front ∙ ap₂ (λ t ts. t ∷ ts) c.opened-born.ensures.tree c.open_from.ensures.trees
+          ∙ sym (ap (opened_all K) part.split);
+      gone = c.open_from.ensures.gone ∙ ap₂ (λ k known. deaths_from known k (opened_all K es)) later put_is
+          ∙ sym (ap (λ es. deaths_from known x (opened_all K es)) part.split);
     }

@@ -8,7 +8,8 @@ use Rattle.ccsl_state.proofs.flat.lag_clocks.Goals as goal
 pub returns-clause-tick : goal.returns-clause-tick
 returns-clause-tick c =
     let len = c.split_at_mut-head.ensures.front_len ∙ c.lag_cells.ensures.cells in
-    let old = ap (lag_at c.args.m) c.split_at_mut-head.ensures.value ∙ lag_front c.args.m c.split_at_mut-head.result.0.now c.split_at_mut-head.result.1.now len in
+    let old = ap (lag_at c.args.m) c.split_at_mut-head.ensures.value
+    ∙ lag_front c.args.m c.split_at_mut-head.result.0.now c.split_at_mut-head.result.1.now len in
     c.lag_ticks-tick.ensures ∙ ap₂ (λ o u. two_ticks o false u) (sym old) c.has-right.ensures.member
 
 pub returns-clause-node : goal.returns-clause-node

@@ -13,6 +13,8 @@ returns c = record {
   gone = c.put-2.ensures;
   unsettled = c.put-3.ensures;
   waiting = λ p. c.wait.ensures p
-      ∙ ap (λ ys. ticks_in p c.remove.new.self || (c.has_news-news.result && ticks_in p ys)) (c.index-sets-clock.is ∙ get_or_default c.args.sets.now c.args.clock c.index-sets-clock.result [] c.requires.inside)
-      ∙ ap (λ t. t || (c.has_news-news.result && ticks_in p (slice_index_or c.args.sets.now c.args.clock []))) (ap (ticks_in p) c.remove.ensures ∙ ticks_in-filter (λ y. not (nat_eq c.args.i y)) p c.args.passage.now.waiting);
+      ∙ ap (λ ys. ticks_in p c.remove.new.self || (c.has_news-news.result && ticks_in p ys))
+      (c.index-sets-clock.is ∙ get_or_default c.args.sets.now c.args.clock c.index-sets-clock.result [] c.requires.inside)
+      ∙ ap (λ t. t || (c.has_news-news.result && ticks_in p (slice_index_or c.args.sets.now c.args.clock [])))
+      (ap (ticks_in p) c.remove.ensures ∙ ticks_in-filter (λ y. not (nat_eq c.args.i y)) p c.args.passage.now.waiting);
 }

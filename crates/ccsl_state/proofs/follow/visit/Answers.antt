@@ -14,7 +14,8 @@ use Rattle.ccsl_state.proofs.follow.visit.Goals as goal
 
 pub split_at_mut-region-requires : goal.split_at_mut-region-requires
 split_at_mut-region-requires c =
-    let p = placed c.args.lay.now.system.now c.args.lay.now.earlier.now c.args.lay.now.system.now.definitions c.args.i 0 (plain_expr c.definition-e.result.now) c.args.place c.args.row.now c.definition-e.ensures.definition c.requires.place in
+    let p = placed c.args.lay.now.system.now c.args.lay.now.earlier.now c.args.lay.now.system.now.definitions c.args.i 0 (plain_expr c.definition-e.result.now)
+    c.args.place c.args.row.now c.definition-e.ensures.definition c.requires.place in
     let r = p.0 in
     let room = c.requires.room in
     omega arith
@@ -52,10 +53,12 @@ returns c =
     let known = c.args.gone.now in
     let few : cells_from earlier K.definitions ≤ 32768 = (let room = c.requires.room in let cells = c.requires.few in omega arith) in
     let m = c.definition_advanced.ensures in
-    let same = visited_tree K earlier c.requires.table i e c.args.place c.args.row.now left region region' s known few c.definition-e.ensures.definition c.requires.place c.split_at_mut-region.ensures.value c.split_at_mut-region.ensures.front_len in
+    let same = visited_tree K earlier c.requires.table i e c.args.place c.args.row.now left region region' s known few c.definition-e.ensures.definition
+    c.requires.place c.split_at_mut-region.ensures.value c.split_at_mut-region.ensures.front_len in
     record {
       tick = m.tick ∙ ap (λ t. eval (formula_of t) s) (sym same);
       dead = m.dead ∙ ap (dead_of (gone_in known)) (m.tree_is ∙ ap (next K s (gone_in known)) (sym same));
       settled = λ h. ap (λ t. is_settled (gone_in known) (next K s (gone_in known) t)) same ∙ m.settled h;
-      trees = visited_trees K earlier c.requires.table i e c.args.place c.args.row.now left region region' s known few c.definition-e.ensures.definition c.requires.place c.split_at_mut-region.ensures.value c.split_at_mut-region.ensures.front_len m.rest m.tree_is;
+      trees = visited_trees K earlier c.requires.table i e c.args.place c.args.row.now left region region' s known few c.definition-e.ensures.definition
+          c.requires.place c.split_at_mut-region.ensures.value c.split_at_mut-region.ensures.front_len m.rest m.tree_is;
     }

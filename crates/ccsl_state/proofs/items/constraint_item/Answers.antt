@@ -18,4 +18,5 @@ returns c =
     ∙ ap₂ (relation_formula con.kind con.left con.right)
     (c.count_at-left.ensures ∙ ap (λ cells. count_of (slice_index cells (2 * c.args.j))) counts)
     (c.count_at-right.ensures ∙ ap (λ cells. count_of (slice_index cells (2 * c.args.j + 1))) counts)
-    ∙ sym (constraint_is (held_at c.args.lay.now row) c.requires.accepted (trees_len K (calls_of K) K.definitions row) c.args.j con c.constraint-constraint.ensures.constraint)
+    ∙ sym (constraint_is (held_at c.args.lay.now row) c.requires.accepted (trees_len K (calls_of K) K.definitions row) c.args.j con
+    c.constraint-constraint.ensures.constraint)

@@ -12,7 +12,8 @@ use Rattle.ccsl_state.proofs.items.definition_formula.Goals as goal
 
 pub split_at-requires : goal.split_at-requires
 split_at-requires c =
-    let p = placed c.args.lay.now.system.now c.args.lay.now.earlier.now c.args.lay.now.system.now.definitions c.args.i 0 (plain_expr c.definition-e.result.now) c.args.place c.args.row.now c.definition-e.ensures.definition c.requires.place in
+    let p = placed c.args.lay.now.system.now c.args.lay.now.earlier.now c.args.lay.now.system.now.definitions c.args.i 0 (plain_expr c.definition-e.result.now)
+    c.args.place c.args.row.now c.definition-e.ensures.definition c.requires.place in
     let r = p.0 in
     let room = c.requires.room in
     omega arith
@@ -32,7 +33,8 @@ told-requires-clause-stands c =
 
 pub told-requires-clause-room : goal.told-requires-clause-room
 told-requires-clause-room c =
-    let p = placed c.args.lay.now.system.now c.args.lay.now.earlier.now c.args.lay.now.system.now.definitions c.args.i 0 (plain_expr c.definition-e.result.now) c.args.place c.args.row.now c.definition-e.ensures.definition c.requires.place in
+    let p = placed c.args.lay.now.system.now c.args.lay.now.earlier.now c.args.lay.now.system.now.definitions c.args.i 0 (plain_expr c.definition-e.result.now)
+    c.args.place c.args.row.now c.definition-e.ensures.definition c.requires.place in
     let r = p.0 in
     let room = c.requires.room in
     let back = c.split_at.ensures.back_len in
@@ -40,7 +42,8 @@ told-requires-clause-room c =
 
 pub returns : goal.returns
 returns c =
-    let p = placed c.args.lay.now.system.now c.args.lay.now.earlier.now c.args.lay.now.system.now.definitions c.args.i 0 (plain_expr c.definition-e.result.now) c.args.place c.args.row.now c.definition-e.ensures.definition c.requires.place in
+    let p = placed c.args.lay.now.system.now c.args.lay.now.earlier.now c.args.lay.now.system.now.definitions c.args.i 0 (plain_expr c.definition-e.result.now)
+    c.args.place c.args.row.now c.definition-e.ensures.definition c.requires.place in
     let K = c.args.lay.now.system.now in
     let earlier = c.args.lay.now.earlier.now in
     let e = plain_expr c.definition-e.result.now in

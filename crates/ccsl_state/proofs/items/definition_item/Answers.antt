@@ -7,7 +7,8 @@ pub definition_formula-requires-clause-table : goal.definition_formula-requires-
 definition_formula-requires-clause-table c = (ready_table c.args.lay.now.system.now c.args.lay.now.earlier.now c.requires.accepted c.requires.whole.calls).table
 
 pub definition_formula-requires-clause-groups : goal.definition_formula-requires-clause-groups
-definition_formula-requires-clause-groups c = (ready_table c.args.lay.now.system.now c.args.lay.now.earlier.now c.requires.accepted c.requires.whole.calls).groups
+definition_formula-requires-clause-groups c =
+    (ready_table c.args.lay.now.system.now c.args.lay.now.earlier.now c.requires.accepted c.requires.whole.calls).groups
 
 pub definition_formula-requires-clause-room : goal.definition_formula-requires-clause-room
 definition_formula-requires-clause-room c =

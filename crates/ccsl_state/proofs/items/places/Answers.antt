@@ -7,21 +7,29 @@ use Rattle.ccsl_state.proofs.PlaceLaws.{next_place, more_places}
 use Rattle.ccsl_state.proofs.items.places.Goals as goal
 
 pub size_of-requires : goal.size_of-requires
-size_of-requires c = let r = (next_place c.args.lay.now.earlier.now c.args.lay.now.system.now.definitions c.loop-i.i (plain_expr c.definition.result.now) c.definition.ensures.definition).1 in let few = c.requires in omega arith
+size_of-requires c = let r =
+    (next_place c.args.lay.now.earlier.now c.args.lay.now.system.now.definitions c.loop-i.i (plain_expr c.definition.result.now)
+    c.definition.ensures.definition).1 in let few = c.requires in omega arith
 
 pub overflow_cast-place : goal.overflow_cast-place
-overflow_cast-place c = let r = (next_place c.args.lay.now.earlier.now c.args.lay.now.system.now.definitions c.loop-i.i (plain_expr c.definition.result.now) c.definition.ensures.definition).1 in let few = c.requires in let size = c.size_of.ensures in omega arith
+overflow_cast-place c = let r =
+    (next_place c.args.lay.now.earlier.now c.args.lay.now.system.now.definitions c.loop-i.i (plain_expr c.definition.result.now)
+    c.definition.ensures.definition).1 in let few = c.requires in let size = c.size_of.ensures in omega arith
 
 pub overflow_add-place : goal.overflow_add-place
-overflow_add-place c = let r = (next_place c.args.lay.now.earlier.now c.args.lay.now.system.now.definitions c.loop-i.i (plain_expr c.definition.result.now) c.definition.ensures.definition).1 in let few = c.requires in let size = c.size_of.ensures in let here = c.loop-i.invariant.next in omega arith
+overflow_add-place c = let r =
+    (next_place c.args.lay.now.earlier.now c.args.lay.now.system.now.definitions c.loop-i.i (plain_expr c.definition.result.now)
+    c.definition.ensures.definition).1 in let few = c.requires in let size = c.size_of.ensures in let here = c.loop-i.invariant.next in omega arith
 
 pub loop-i-preserved : goal.loop-i-preserved
 loop-i-preserved c =
     rw c.in_ok-push.ensures.items
-    (more_places c.args.lay.now.earlier.now c.args.lay.now.system.now.definitions c.loop-i.i (plain_expr c.definition.result.now) c.loop-i.places.items c.loop-i.place c.size_of.result c.definition.ensures.definition c.loop-i.invariant c.size_of.ensures)
+    (more_places c.args.lay.now.earlier.now c.args.lay.now.system.now.definitions c.loop-i.i (plain_expr c.definition.result.now) c.loop-i.places.items
+    c.loop-i.place c.size_of.result c.definition.ensures.definition c.loop-i.invariant c.size_of.ensures)
 
 pub returns : goal.returns
 returns c =
     let defs = c.args.lay.now.system.now.definitions in
-    let all : c.loop-i.i ≡ length defs = (let count = c.definitions-count.ensures in let past = c.loop-i-test.false in let most = c.loop-i.auto.i-end in omega arith) in
+    let all : c.loop-i.i ≡ length defs =
+    (let count = c.definitions-count.ensures in let past = c.loop-i-test.false in let most = c.loop-i.auto.i-end in omega arith) in
     c.loop-i.invariant.first ∙ ap (places_from c.args.lay.now.earlier.now 0) (ap (λ n. take n defs) all ∙ take-length defs)

@@ -10,5 +10,6 @@ returns-then-bit_at c = sym (any_at c.args.m c.loop-p.p (bits_of c.args.cells.no
 
 pub loop-p-preserved : goal.loop-p-preserved
 loop-p-preserved c =
-    let below : c.loop-p.p < length (bits_of c.args.cells.now) = let r = c.requires.within in let t = c.loop-p-test.true in omega (arith, r, t, bits_of_len c.args.cells.now) in
+    let below : c.loop-p.p < length (bits_of c.args.cells.now) = let r = c.requires.within in let t =
+    c.loop-p-test.true in omega (arith, r, t, bits_of_len c.args.cells.now) in
     any_more (bits_of c.args.cells.now) c.loop-p.p below c.loop-p.invariant (sym c.bit_at.ensures ∙ c.if-bit_at.false)

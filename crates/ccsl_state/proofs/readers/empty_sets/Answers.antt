@@ -11,5 +11,6 @@ loop-preserved c = record {
       let count = c.loop.invariant.count in
       omega (arith, more, sum, count)
       );
-  empty = λ y. ap (λ sets. slice_index_or sets y []) c.in_ok-push.ensures.items ∙ empty_more c.loop.sets.items c.empty.result c.empty.ensures c.loop.invariant.empty y;
+  empty = λ y. ap (λ sets. slice_index_or sets y []) c.in_ok-push.ensures.items
+      ∙ empty_more c.loop.sets.items c.empty.result c.empty.ensures c.loop.invariant.empty y;
 }

@@ -24,9 +24,13 @@ returns c =
     let first : K.declared + 0 ≡ K.declared = omega arith in
     let front = c.split_at_mut-front.result.0.now in
     let counts = c.split_at_mut-front.result.1.now in
-    let few : length counts ≡ 2 * length K.constraints = (let back = c.split_at_mut-front.ensures.back_len in let end = c.before_counts-end.ensures in omega arith) in
-    let r = row_goes_on K c.requires.accepted c.args.lay.now.earlier.now c.requires.whole.calls (K.declared + 0) first c.args.declared.now c.advance_from.new.step c.advance_from.new.gone
-    front counts c.advance_from.new.row c.count_ticks.new.cells c.args.row.now (c.advance_from.new.row ++ c.count_ticks.new.cells) c.split_at_mut-front.ensures.value refl
+    let few : length counts ≡ 2 * length K.constraints =
+    (let back = c.split_at_mut-front.ensures.back_len in let end = c.before_counts-end.ensures in omega arith) in
+    let r = row_goes_on K c.requires.accepted c.args.lay.now.earlier.now c.requires.whole.calls (K.declared + 0) first c.args.declared.now
+    c.advance_from.new.step c.advance_from.new.gone
+    front counts c.advance_from.new.row c.count_ticks.new.cells c.args.row.now (c.advance_from.new.row ++ c.count_ticks.new.cells)
+    c.split_at_mut-front.ensures.value refl
     c.advance_from.auto.row few c.count_ticks.auto.cells c.requires.whole.size c.requires.below
-    (rw (c.copy-step.ensures, c.empty-gone.ensures) at c.advance_from.ensures.trees) (rw c.copy-step.ensures at c.advance_from.ensures.step) (rw c.empty-gone.ensures at c.advance_from.ensures.gone) c.count_ticks.ensures in
+    (rw (c.copy-step.ensures, c.empty-gone.ensures) at c.advance_from.ensures.trees) (rw c.copy-step.ensures at c.advance_from.ensures.step)
+    (rw c.empty-gone.ensures at c.advance_from.ensures.gone) c.count_ticks.ensures in
     record { step = r.derived; next = r.next; gone = r.deaths; below = r.below }

@@ -10,11 +10,15 @@ reply_on-requires g c = record {
 pub returns-clause-answers : goal.returns-clause-answers
 returns-clause-answers g c =
     (certify-replies c.first_bad_line_is_first.ensures.certificate g.W.World.told c.args.system.now c.args.trace.now c.args.cert.now
-    (g.W.World.state c.args.world.now) (g.W.World.state c.open_in.new.self) c.in_ok-open_in.ensures.ok (g.W.World.state c.open_in-2.new.self) c.in_ok-open_in-2.ensures.ok
-    (g.W.World.state c.certify-certified.new.world) c.reply_on.result c.certify-certified.result c.certify-certified.ensures.certified c.certify-certified.ensures.uncertified c.reply_on.ensures).0
+    (g.W.World.state c.args.world.now) (g.W.World.state c.open_in.new.self) c.in_ok-open_in.ensures.ok (g.W.World.state c.open_in-2.new.self)
+    c.in_ok-open_in-2.ensures.ok
+    (g.W.World.state c.certify-certified.new.world) c.reply_on.result c.certify-certified.result c.certify-certified.ensures.certified
+    c.certify-certified.ensures.uncertified c.reply_on.ensures).0
 
 pub returns-clause-stop : goal.returns-clause-stop
 returns-clause-stop g c =
     (certify-replies c.first_bad_line_is_first.ensures.certificate g.W.World.told c.args.system.now c.args.trace.now c.args.cert.now
-    (g.W.World.state c.args.world.now) (g.W.World.state c.open_in.new.self) c.in_ok-open_in.ensures.ok (g.W.World.state c.open_in-2.new.self) c.in_ok-open_in-2.ensures.ok
-    (g.W.World.state c.certify-certified.new.world) c.reply_on.result c.certify-certified.result c.certify-certified.ensures.certified c.certify-certified.ensures.uncertified c.reply_on.ensures).1
+    (g.W.World.state c.args.world.now) (g.W.World.state c.open_in.new.self) c.in_ok-open_in.ensures.ok (g.W.World.state c.open_in-2.new.self)
+    c.in_ok-open_in-2.ensures.ok
+    (g.W.World.state c.certify-certified.new.world) c.reply_on.result c.certify-certified.result c.certify-certified.ensures.certified
+    c.certify-certified.ensures.uncertified c.reply_on.ensures).1

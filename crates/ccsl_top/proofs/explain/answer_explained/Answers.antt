@@ -30,21 +30,24 @@ blocked_report-requires-clause-members g c =
     let why = subst (λ (e : Explained). Explains (scope_of K) c.requires.explained.0 e) c.in-Blocked.is c.requires.explained.2 in
     subst (λ (is : List ℕ). AreMembers K is c.members-in-Blocked.result.now) (sym c.members.ensures)
     (subst (λ (sets : List (List ℕ)). AreMembers K c.in-Blocked.core sets) (sym c.members-in-Blocked.ensures)
-    (are-members K c.requires.accepted (scope_of K) c.requires.explained.0 c.in-Blocked.core why.is_core c.requires.explained.1 c.in-Blocked.without refl why.least))
+    (are-members K c.requires.accepted (scope_of K) c.requires.explained.0 c.in-Blocked.core why.is_core c.requires.explained.1 c.in-Blocked.without refl
+    why.least))
 
 pub answer_blocked-requires-clause-below : goal.answer_blocked-requires-clause-below
 answer_blocked-requires-clause-below g c =
     let K = c.args.system.now in
     let why = subst (λ (e : Explained). Explains (scope_of K) c.requires.explained.0 e) c.in-Blocked.is c.requires.explained.2 in
     subst (λ (ls : List Line). All (λ line. AreBelow (length K.names) (literals line)) ls) (sym c.members-in-Blocked-2.ensures)
-    (c.valid_lines_name_clocks.ensures (scope_of K) c.requires.explained.0 c.in-Blocked.lines (valid-lines (scope_of K) c.requires.explained.0 c.in-Blocked.lines why.certificate))
+    (c.valid_lines_name_clocks.ensures (scope_of K) c.requires.explained.0 c.in-Blocked.lines
+    (valid-lines (scope_of K) c.requires.explained.0 c.in-Blocked.lines why.certificate))
 
 pub returns-in_ok-report-in-Blocked-clause-answers : goal.returns-in_ok-report-in-Blocked-clause-answers
 returns-in_ok-report-in-Blocked-clause-answers g c =
     run-blocked g.W.World.told c.args.system.now c.args.cert.now c.args.steps (g.W.World.state c.args.world.now)
     c.in-Blocked.core c.members.result.now c.in-Blocked.lines c.members-in-Blocked-2.result.now c.in-Blocked.without c.members-in-Blocked.result.now
     c.members.ensures c.members-in-Blocked-2.ensures c.members-in-Blocked.ensures c.args.explained.now c.in-Blocked.is
-    c.in_ok-report-in-Blocked.report.items (g.W.World.state c.answer_blocked.new.world) c.in_ok-report-in-Blocked.ensures c.answer_blocked.result c.answer_blocked.ensures.answers
+    c.in_ok-report-in-Blocked.report.items (g.W.World.state c.answer_blocked.new.world) c.in_ok-report-in-Blocked.ensures c.answer_blocked.result
+    c.answer_blocked.ensures.answers
 
 pub returns-in_ok-report-in-Blocked-clause-stop : goal.returns-in_ok-report-in-Blocked-clause-stop
 returns-in_ok-report-in-Blocked-clause-stop g c =

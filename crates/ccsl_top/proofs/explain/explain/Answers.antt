@@ -13,7 +13,8 @@ pub returns-in-Ok-Run-clause-answers : goal.returns-in-Ok-Run-clause-answers
 returns-in-Ok-Run-clause-answers g c =
     let r = rw c.in-Ok-Run.field-0-is at c.in-Ok-Run.ensures.replayed in
     trace-answers g.W.World.told c.args.system.now c.args.cert.now c.args.trace.now (g.W.World.state c.args.world.now) (g.W.World.state c.open_in.new.self)
-    c.in_ok-open_in.ensures.ok (g.W.World.state c.replay.new.world) r.bound r.rows r.trace c.in-Ok-Run.steps r.answers.0 (g.W.World.state c.explain_run.new.world)
+    c.in_ok-open_in.ensures.ok (g.W.World.state c.replay.new.world) r.bound r.rows r.trace c.in-Ok-Run.steps r.answers.0
+    (g.W.World.state c.explain_run.new.world)
     c.in-Ok-Run.states r.answers.1 c.explain_run.result c.explain_run.ensures.answers
 
 pub returns-in-Ok-Run-clause-stop : goal.returns-in-Ok-Run-clause-stop
@@ -27,5 +28,6 @@ pub returns-in_ok-explain_no_run-in-Ok-NotRun-clause-answers : goal.returns-in_o
 returns-in_ok-explain_no_run-in-Ok-NotRun-clause-answers g c =
     let r = rw c.in-Ok-NotRun.field-0-is at c.in-Ok-NotRun.ensures.replayed in
     trace-no-run g.W.World.told c.args.system.now c.args.cert.now c.args.trace.now (g.W.World.state c.args.world.now) (g.W.World.state c.open_in.new.self)
-    c.in_ok-open_in.ensures.ok (g.W.World.state c.replay.new.world) r.bound r.rows r.trace c.in-Ok-NotRun.step c.in-Ok-NotRun.time c.in-Ok-NotRun.item r.answers _
+    c.in_ok-open_in.ensures.ok (g.W.World.state c.replay.new.world) r.bound r.rows r.trace c.in-Ok-NotRun.step c.in-Ok-NotRun.time c.in-Ok-NotRun.item r.answers
+    _
     (ap (outcome 1) c.in_ok-explain_no_run-in-Ok-NotRun.ensures)

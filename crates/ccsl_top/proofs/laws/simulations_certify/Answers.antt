@@ -4,5 +4,6 @@ use Rattle.ccsl_top.proofs.laws.simulations_certify.Goals as goal
 pub returns : goal.returns
 returns c =
     let K = c.args.system.now in
-    simulations-certify c.first_bad_line_is_first.ensures.certificate c.valid_lines_name_clocks.ensures c.written_lines_read_back.ensures K c.names.ensures.accepted
+    simulations-certify c.first_bad_line_is_first.ensures.certificate c.valid_lines_name_clocks.ensures c.written_lines_read_back.ensures K
+    c.names.ensures.accepted
     (rw c.names.ensures.names at c.are_distinct.ensures) (c.names_stand_in_certificates.ensures K c.names.ensures.accepted) c.simulated_traces_are_runs.ensures

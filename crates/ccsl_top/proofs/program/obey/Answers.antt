@@ -7,15 +7,18 @@ use Rattle.ccsl_top.proofs.program.obey.Goals as goal
 
 pub trial-tried-requires-clause-least : goal.trial-tried-requires-clause-least
 trial-tried-requires-clause-least g c =
-    λ κs b. (trial-ranges c.in-Trial.clocks c.in-Trial.steps c.in-Trial.seed c.in-Trial.workers c.requires.meant.0 (c.requires.meant.1 ∙ ap Ok c.in-Trial.is)).least
+    λ κs b. (trial-ranges c.in-Trial.clocks c.in-Trial.steps c.in-Trial.seed c.in-Trial.workers c.requires.meant.0
+    (c.requires.meant.1 ∙ ap Ok c.in-Trial.is)).least
 
 pub trial-tried-requires-clause-most : goal.trial-tried-requires-clause-most
 trial-tried-requires-clause-most g c =
-    λ κs b. (trial-ranges c.in-Trial.clocks c.in-Trial.steps c.in-Trial.seed c.in-Trial.workers c.requires.meant.0 (c.requires.meant.1 ∙ ap Ok c.in-Trial.is)).most
+    λ κs b. (trial-ranges c.in-Trial.clocks c.in-Trial.steps c.in-Trial.seed c.in-Trial.workers c.requires.meant.0
+    (c.requires.meant.1 ∙ ap Ok c.in-Trial.is)).most
 
 pub trial-tried-requires-clause-few : goal.trial-tried-requires-clause-few
 trial-tried-requires-clause-few g c =
-    λ κs b. (trial-ranges c.in-Trial.clocks c.in-Trial.steps c.in-Trial.seed c.in-Trial.workers c.requires.meant.0 (c.requires.meant.1 ∙ ap Ok c.in-Trial.is)).few
+    λ κs b. (trial-ranges c.in-Trial.clocks c.in-Trial.steps c.in-Trial.seed c.in-Trial.workers c.requires.meant.0
+    (c.requires.meant.1 ∙ ap Ok c.in-Trial.is)).few
 
 pub periodic-requires-clause-left : goal.periodic-requires-clause-left
 periodic-requires-clause-left g c = (subst HasInfiniteWords c.in-Periodic.is c.requires.infinite).0

@@ -24,11 +24,13 @@ pub returns-in-Ok-Refused : goal.returns-in-Ok-Refused
 returns-in-Ok-Refused g c = λ words means.
     let old = g.W.World.state c.args.world.now in
     c.report.ensures words old
-    (refused g.W.World.told c.args.command.now c.args.spec.now c.requires.named old (g.W.World.state c.read_specification.new.world) c.in-Ok-Refused.ensures.reads _ refl
+    (refused g.W.World.told c.args.command.now c.args.spec.now c.requires.named old (g.W.World.state c.read_specification.new.world)
+    c.in-Ok-Refused.ensures.reads _ refl
     (rw c.in-Ok-Refused.field-0-is at c.in-Ok-Refused.ensures.spec) words means) (record {})
 
 pub returns-in-Err : goal.returns-in-Err
 returns-in-Err g c = λ words means.
     let old = g.W.World.state c.args.world.now in
     c.report-in-Err.ensures words old (record {})
-    (unread g.W.World.told c.args.command.now c.args.spec.now c.requires.named old (g.W.World.state c.read_specification.new.world) c.in-Err.stop c.in-Err.ensures.stop words means)
+    (unread g.W.World.told c.args.command.now c.args.spec.now c.requires.named old (g.W.World.state c.read_specification.new.world) c.in-Err.stop
+    c.in-Err.ensures.stop words means)

@@ -1,6 +1,7 @@
 use Rattle.std.proofs.lemmas.Result.{err_from_is_err_and}
 use Rattle.ccsl_top.proofs.Existing.{certificate}
-use Rattle.ccsl_top.proofs.Simulating.{first-some, first-counts, trace-fails, cert-fails, undone-stops, texts-written, texts-some, half-some, half-counts, both-written}
+use Rattle.ccsl_top.proofs.Simulating.{first-some, first-counts, trace-fails, cert-fails, undone-stops, texts-written, texts-some, half-some, half-counts}
+use Rattle.ccsl_top.proofs.Simulating.{both-written}
 use Rattle.ccsl_top.proofs.simulate.write_run.Goals as goal
 
 pub returns-in_err-open_out-2-clause-stop : goal.returns-in_err-open_out-2-clause-stop
@@ -13,7 +14,8 @@ returns-in_err-open_out-2-clause-stop g c =
     let start = g.W.World.state c.args.world.now in
     let first = g.W.World.state c.open_out.new.self in
     rw (p.1, p.2)
-    (cert-fails told c.args.system.now c.args.policy c.args.seed c.args.steps c.args.trace.now c.args.cert.now ending start first (g.W.World.state c.open_out-2.new.self)
+    (cert-fails told c.args.system.now c.args.policy c.args.seed c.args.steps c.args.trace.now c.args.cert.now ending start first
+    (g.W.World.state c.open_out-2.new.self)
     (first-some told c.args.system.now c.args.policy c.args.seed c.args.steps c.args.trace.now c.args.cert.now ending start first c.in_ok-open_out.ensures.ok)
     (first-counts told c.args.system.now c.args.policy c.args.seed c.args.steps c.args.trace.now c.args.cert.now ending start first c.in_ok-open_out.ensures.ok)
     c.in_err-open_out-2.ensures.err)
@@ -27,7 +29,8 @@ returns-in_err-done-clause-stop g c =
     rw (p.1, p.2)
     (undone-stops g.W.World.told c.args.system.now c.args.policy c.args.seed c.args.steps c.args.trace.now c.args.cert.now ending
     (g.W.World.state c.args.world.now) (g.W.World.state c.open_out.new.self) c.in_ok-open_out.ensures.ok
-    (g.W.World.state c.open_out-2.new.self) c.in_ok-open_out-2.ensures.ok (g.W.World.state c.simulate.new.world) c.in_err-done.field-0.0 c.in_err-done.ensures.undone)
+    (g.W.World.state c.open_out-2.new.self) c.in_ok-open_out-2.ensures.ok (g.W.World.state c.simulate.new.world) c.in_err-done.field-0.0
+    c.in_err-done.ensures.undone)
 
 pub returns-in_err-close_out-clause-stop : goal.returns-in_err-close_out-clause-stop
 returns-in_err-close_out-clause-stop g c =
@@ -40,10 +43,12 @@ returns-in_err-close_out-clause-stop g c =
     let first = g.W.World.state c.open_out.new.self in
     let second = g.W.World.state c.open_out-2.new.self in
     let now = g.W.World.state c.simulate.new.world in
-    let x = texts-written told c.args.system.now c.args.policy c.args.seed c.args.steps c.args.trace.now c.args.cert.now ending start first c.in_ok-open_out.ensures.ok
+    let x = texts-written told c.args.system.now c.args.policy c.args.seed c.args.steps c.args.trace.now c.args.cert.now ending start first
+    c.in_ok-open_out.ensures.ok
     second c.in_ok-open_out-2.ensures.ok now c.in_ok-done.done c.in_ok-done.ensures.done in
     rw (p.1, p.2)
-    (trace-fails told c.args.system.now c.args.policy c.args.seed c.args.steps c.args.trace.now c.args.cert.now ending start now (g.W.World.state c.close_out.new.self)
+    (trace-fails told c.args.system.now c.args.policy c.args.seed c.args.steps c.args.trace.now c.args.cert.now ending start now
+    (g.W.World.state c.close_out.new.self)
     (texts-some told c.args.system.now c.args.policy c.args.seed c.args.steps c.args.trace.now c.args.cert.now ending start first c.in_ok-open_out.ensures.ok
     second c.in_ok-open_out-2.ensures.ok now c.in_ok-done.done x) x.counts c.in_err-close_out.ensures.err)
 
@@ -59,10 +64,12 @@ returns-in_err-close_out-2-clause-stop g c =
     let second = g.W.World.state c.open_out-2.new.self in
     let now = g.W.World.state c.simulate.new.world in
     let closed = g.W.World.state c.close_out.new.self in
-    let x = texts-written told c.args.system.now c.args.policy c.args.seed c.args.steps c.args.trace.now c.args.cert.now ending start first c.in_ok-open_out.ensures.ok
+    let x = texts-written told c.args.system.now c.args.policy c.args.seed c.args.steps c.args.trace.now c.args.cert.now ending start first
+    c.in_ok-open_out.ensures.ok
     second c.in_ok-open_out-2.ensures.ok now c.in_ok-done.done c.in_ok-done.ensures.done in
     rw (p.1, p.2)
-    (cert-fails told c.args.system.now c.args.policy c.args.seed c.args.steps c.args.trace.now c.args.cert.now ending start closed (g.W.World.state c.close_out-2.new.self)
+    (cert-fails told c.args.system.now c.args.policy c.args.seed c.args.steps c.args.trace.now c.args.cert.now ending start closed
+    (g.W.World.state c.close_out-2.new.self)
     (half-some told c.args.system.now c.args.policy c.args.seed c.args.steps c.args.trace.now c.args.cert.now ending start first c.in_ok-open_out.ensures.ok
     second c.in_ok-open_out-2.ensures.ok now c.in_ok-done.done x closed c.in_ok-close_out.ensures.ok)
     (half-counts told c.args.system.now c.args.policy c.args.seed c.args.steps c.args.trace.now c.args.cert.now ending start first c.in_ok-open_out.ensures.ok
@@ -78,7 +85,9 @@ returns-clause-done g c =
     let second = g.W.World.state c.open_out-2.new.self in
     let now = g.W.World.state c.simulate.new.world in
     let closed = g.W.World.state c.close_out.new.self in
-    let x = texts-written told c.args.system.now c.args.policy c.args.seed c.args.steps c.args.trace.now c.args.cert.now ending start first c.in_ok-open_out.ensures.ok
+    let x = texts-written told c.args.system.now c.args.policy c.args.seed c.args.steps c.args.trace.now c.args.cert.now ending start first
+    c.in_ok-open_out.ensures.ok
     second c.in_ok-open_out-2.ensures.ok now c.in_ok-done.done c.in_ok-done.ensures.done in
     both-written told c.args.system.now c.args.policy c.args.seed c.args.steps c.args.trace.now c.args.cert.now ending start first c.in_ok-open_out.ensures.ok
-    second c.in_ok-open_out-2.ensures.ok now c.in_ok-done.done x closed c.in_ok-close_out.ensures.ok (g.W.World.state c.close_out-2.new.self) c.in_ok-close_out-2.ensures.ok
+    second c.in_ok-open_out-2.ensures.ok now c.in_ok-done.done x closed c.in_ok-close_out.ensures.ok (g.W.World.state c.close_out-2.new.self)
+    c.in_ok-close_out-2.ensures.ok

@@ -12,12 +12,16 @@ returns-then-is_empty-clause-value c =
 pub returns-then-b-lt48-clause-value : goal.returns-then-b-lt48-clause-value
 returns-then-b-lt48-clause-value c =
     elim c.then-b-lt48.branch [
-      | then-b-lt48-via-then-b-lt48 w ↦ ends-bad c.args.limit c.args.text.now c.loop-b.b-index c.loop-b.value c.loop-b-test.true c.loop-b.invariant.0 (digit-low _ w.if-b-lt48.true)
-      | then-b-lt48-via-else-b-lt48+then-b-gt57 w ↦ ends-bad c.args.limit c.args.text.now c.loop-b.b-index c.loop-b.value c.loop-b-test.true c.loop-b.invariant.0 (digit-high _ w.if-b-gt57.true)
+      | then-b-lt48-via-then-b-lt48 w ↦ ends-bad c.args.limit c.args.text.now c.loop-b.b-index c.loop-b.value c.loop-b-test.true c.loop-b.invariant.0
+          (digit-low _ w.if-b-lt48.true)
+      | then-b-lt48-via-else-b-lt48+then-b-gt57 w ↦ ends-bad c.args.limit c.args.text.now c.loop-b.b-index c.loop-b.value c.loop-b-test.true
+          c.loop-b.invariant.0 (digit-high _ w.if-b-gt57.true)
     ]
 
 pub returns-then-value-limit-clause-value : goal.returns-then-value-limit-clause-value
-returns-then-value-limit-clause-value c = ends-large c.args.limit c.args.text.now c.loop-b.b-index c.loop-b.value c.loop-b-test.true c.loop-b.invariant.0 c.if-b-gt57.false c.if-b-lt48.false c.if-value-limit.true
+returns-then-value-limit-clause-value c =
+    ends-large c.args.limit c.args.text.now c.loop-b.b-index c.loop-b.value c.loop-b-test.true c.loop-b.invariant.0 c.if-b-gt57.false c.if-b-lt48.false
+    c.if-value-limit.true
 
 pub returns-clause-value : goal.returns-clause-value
 returns-clause-value c =

@@ -11,8 +11,10 @@ use Rattle.ccsl_vcd_read.proofs.stage.hear.Goals as goal
 
 pub returns-in-Ok-clause-heard : goal.returns-in-Ok-clause-heard
 returns-in-Ok-clause-heard c = λ wanted st s.
-    subst (λ (x : Stage). Heard wanted c.args.limits x (stage.Body c.hear.new.self) false st (next wanted c.args.limits st (word (token c.args.at c.args.text.now))) c.args.out.now.rows c.hear.new.out.rows) (sym c.in-Body.is)
-    (body-heard wanted c.args.limits c.in-Body.body c.hear.new.self st c.args.at c.args.text.now c.args.out.now.rows c.hear.new.out.rows c.in-Ok.ensures.said (subst (λ (x : Stage). Pictures wanted c.args.limits x st) c.in-Body.is s))
+    subst (λ (x : Stage). Heard wanted c.args.limits x (stage.Body c.hear.new.self) false st
+    (next wanted c.args.limits st (word (token c.args.at c.args.text.now))) c.args.out.now.rows c.hear.new.out.rows) (sym c.in-Body.is)
+    (body-heard wanted c.args.limits c.in-Body.body c.hear.new.self st c.args.at c.args.text.now c.args.out.now.rows c.hear.new.out.rows c.in-Ok.ensures.said
+    (subst (λ (x : Stage). Pictures wanted c.args.limits x st) c.in-Body.is s))
 
 pub returns-in-Ok-clause-left : goal.returns-in-Ok-clause-left
 returns-in-Ok-clause-left c = room-left c.in-Body.body c.hear.new.self c.args.at c.args.text.now c.args.out.now.rows c.hear.new.out.rows c.in-Ok.ensures.said
@@ -20,4 +22,5 @@ returns-in-Ok-clause-left c = room-left c.in-Body.body c.hear.new.self c.args.at
 pub returns-in-Err-clause-refuses : goal.returns-in-Err-clause-refuses
 returns-in-Err-clause-refuses c =
     weaken c.in-Err.fault (λ (wanted : Wanted) (st : Story) (s : Pictures wanted c.args.limits c.args.stage.now st).
-    body-refused wanted c.args.limits c.in-Body.body c.hear.new.self st c.args.at c.args.text.now c.in-Err.fault c.args.out.now.rows c.hear.new.out.rows c.in-Err.ensures.said (subst (λ (x : Stage). Pictures wanted c.args.limits x st) c.in-Body.is s))
+    body-refused wanted c.args.limits c.in-Body.body c.hear.new.self st c.args.at c.args.text.now c.in-Err.fault c.args.out.now.rows c.hear.new.out.rows
+    c.in-Err.ensures.said (subst (λ (x : Stage). Pictures wanted c.args.limits x st) c.in-Body.is s))

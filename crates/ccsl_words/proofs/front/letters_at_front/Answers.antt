@@ -11,4 +11,5 @@ returns-then-len-room-clause-long c =
     elim c.match-byte.branch [ in-48 w ↦ cc (w.in-48.is, ap digit w.letter-is) | in-49 w ↦ cc (w.in-49.is, ap digit w.letter-is) ] in
     let full : c.loop-byte.byte-index ≡ c.args.room = cc in
     λ _. subst (λ (n : ℕ). HasLetters c.args.text.now (n + 1)) full
-    (one_more c.args.text.now c.loop-byte.letters.items c.match-byte.letter c.loop-byte.byte-index c.loop-byte.invariant.read (cc (c.loop-byte.letters.ok.0)) c.loop-byte-test.true here)
+    (one_more c.args.text.now c.loop-byte.letters.items c.match-byte.letter c.loop-byte.byte-index c.loop-byte.invariant.read (cc (c.loop-byte.letters.ok.0))
+    c.loop-byte-test.true here)

@@ -14,7 +14,8 @@ loop-clock-preserved-then-clock-bound c =
           subst (λ s. IsTaking c.args.bound c.args.self.now s rest) (sym c.insert.ensures)
           (taking-in c.args.bound c.args.self.now c.loop-clock.set rest c.in-Some.clock c.if-clock-bound.true taking);
       ascending = c.loop-clock.invariant.ascending;
-      below = (and_parts (nat_lt c.in-Some.clock MAX_CLOCKS) (are_below MAX_CLOCKS rest) (subst (λ r. are_below MAX_CLOCKS r ≡ true) c.in-Some.ensures.steps c.loop-clock.invariant.below)).1;
+      below = (and_parts (nat_lt c.in-Some.clock MAX_CLOCKS) (are_below MAX_CLOCKS rest)
+          (subst (λ r. are_below MAX_CLOCKS r ≡ true) c.in-Some.ensures.steps c.loop-clock.invariant.below)).1;
     }
 
 pub loop-clock-preserved : goal.loop-clock-preserved
@@ -25,5 +26,6 @@ loop-clock-preserved c =
           taking-out c.args.bound c.args.self.now c.loop-clock.set rest c.in-Some.clock c.if-clock-bound.false
           (subst (λ r. IsTaking c.args.bound c.args.self.now c.loop-clock.set r) c.in-Some.ensures.steps c.loop-clock.invariant.taking);
       ascending = c.loop-clock.invariant.ascending;
-      below = (and_parts (nat_lt c.in-Some.clock MAX_CLOCKS) (are_below MAX_CLOCKS rest) (subst (λ r. are_below MAX_CLOCKS r ≡ true) c.in-Some.ensures.steps c.loop-clock.invariant.below)).1;
+      below = (and_parts (nat_lt c.in-Some.clock MAX_CLOCKS) (are_below MAX_CLOCKS rest)
+          (subst (λ r. are_below MAX_CLOCKS r ≡ true) c.in-Some.ensures.steps c.loop-clock.invariant.below)).1;
     }

@@ -22,7 +22,8 @@ invariant_of-self c =
     let all =
     made-behind _ c.loop-i.i _ c.loop-i.self-inside.words c.self.inside.words (omega (arith, c.self.invariant.0))
     (record { bits = c.word_without-first.ensures.bits; none = c.word_without-first.ensures.none }) c.loop-i.invariant.made
-    (λ k m. zero-beyond _ _ _ (c.one.invariant.2 k (omega (arith, m, c.loop-i-test.false, c.max-i-end.ensures))) (c.self.invariant.2 k (omega (arith, m, c.loop-i-test.false, c.max-i-end.ensures)))) in
+    (λ k m. zero-beyond _ _ _ (c.one.invariant.2 k (omega (arith, m, c.loop-i-test.false, c.max-i-end.ensures)))
+    (c.self.invariant.2 k (omega (arith, m, c.loop-i-test.false, c.max-i-end.ensures)))) in
     (all.0 ∙ c.self.invariant.0, c.one.invariant.1, λ j l. (all.1 j).none (c.one.invariant.2 j l))
 
 pub returns : goal.returns
@@ -30,6 +31,7 @@ returns c =
     let all =
     made-behind _ c.loop-i.i _ c.loop-i.self-inside.words c.self.inside.words (omega (arith, c.self.invariant.0))
     (record { bits = c.word_without-first.ensures.bits; none = c.word_without-first.ensures.none }) c.loop-i.invariant.made
-    (λ k m. zero-beyond _ _ _ (c.one.invariant.2 k (omega (arith, m, c.loop-i-test.false, c.max-i-end.ensures))) (c.self.invariant.2 k (omega (arith, m, c.loop-i-test.false, c.max-i-end.ensures)))) in
+    (λ k m. zero-beyond _ _ _ (c.one.invariant.2 k (omega (arith, m, c.loop-i-test.false, c.max-i-end.ensures)))
+    (c.self.invariant.2 k (omega (arith, m, c.loop-i-test.false, c.max-i-end.ensures)))) in
     words-difference c.loop-i.self-inside.words c.one.inside.words c.other.inside.words (all.0 ∙ c.self.invariant.0 ∙ sym c.one.invariant.0) all.1
     ∙ ap₂ difference c.one.view_is c.other.view_is

@@ -18,7 +18,8 @@ returns-then-clock-lt-MAX_CLOCKS-clause-below c = ap (are_below 1024) (sym c.sel
 pub returns-else-clock-lt-MAX_CLOCKS-clause-member : goal.returns-else-clock-lt-MAX_CLOCKS-clause-member
 returns-else-clock-lt-MAX_CLOCKS-clause-member c =
     le-ltb c.args.clock 1024 c.if-clock-lt-MAX_CLOCKS.false
-    ∙ sym (ticks_in-words c.self.inside.words c.args.clock ∙ clear-past c.self.inside.words c.args.clock (omega (arith, c.self.invariant.0, c.if-clock-lt-MAX_CLOCKS.false)))
+    ∙ sym (ticks_in-words c.self.inside.words c.args.clock
+    ∙ clear-past c.self.inside.words c.args.clock (omega (arith, c.self.invariant.0, c.if-clock-lt-MAX_CLOCKS.false)))
     ∙ ap (ticks_in c.args.clock) c.self.view_is
 
 pub returns-else-clock-lt-MAX_CLOCKS-clause-ascending : goal.returns-else-clock-lt-MAX_CLOCKS-clause-ascending

@@ -15,9 +15,11 @@ pub overflow_add-count : goal.overflow_add-count
 overflow_add-count c =
     let words : List ℕ = take c.self.inside.used c.self.inside.words in
     let next : c.loop-word.count + c.size_of_word-count.result ≡ sum_by size_of_word (take (c.loop-word.word-index + 1) words) = loop-word-preserved c in
-    let most : sum_by size_of_word (take (c.loop-word.word-index + 1) words) ≤ sum_by size_of_word words = sum_by-take-le size_of_word words (c.loop-word.word-index + 1) in
+    let most : sum_by size_of_word (take (c.loop-word.word-index + 1) words) ≤ sum_by size_of_word words =
+    sum_by-take-le size_of_word words (c.loop-word.word-index + 1) in
     let all : sum_by size_of_word words ≤ 64 * length words = sizes-most words in
-    let few : length words ≡ c.self.inside.used = length-take-le c.self.inside.used c.self.inside.words (omega (arith, c.self.invariant.0, c.self.invariant.1)) in
+    let few : length words ≡ c.self.inside.used =
+    length-take-le c.self.inside.used c.self.inside.words (omega (arith, c.self.invariant.0, c.self.invariant.1)) in
     omega (arith, next, most, all, few, c.self.invariant.1)
 
 pub returns : goal.returns
@@ -26,4 +28,5 @@ returns c =
     c.loop-word.invariant
     ∙ ap (sum_by size_of_word) (take_all c.loop-word.word-index words (omega (arith, c.loop-word-test.false)))
     ∙ sym (length-members words)
-    ∙ ap length (members-used c.self.inside.used c.self.inside.words (omega (arith, c.self.invariant.0, c.self.invariant.1)) c.self.invariant.2 ∙ c.self.view_is)
+    ∙ ap length (members-used c.self.inside.used c.self.inside.words (omega (arith, c.self.invariant.0, c.self.invariant.1)) c.self.invariant.2
+    ∙ c.self.view_is)

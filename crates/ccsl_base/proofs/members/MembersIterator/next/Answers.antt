@@ -41,7 +41,8 @@ pub returns-clause-steps : goal.returns-clause-steps
 returns-clause-steps c =
     sym c.self.view_is
     ∙ sym c.words.invariant.same
-    ∙ left-next c.words.self-inside.word _ c.words.self-inside.first c.lowest-place.result c.words.self-inside.words.now c.lowest-place.ensures.inside c.lowest-place.ensures.here c.lowest-place.ensures.below
+    ∙ left-next c.words.self-inside.word _ c.words.self-inside.first c.lowest-place.result c.words.self-inside.words.now c.lowest-place.ensures.inside
+    c.lowest-place.ensures.here c.lowest-place.ensures.below
     (ap (λ b. nat_eq b 1) (bit_at_clear_same w64 _ c.lowest-place.result c.lowest-place.ensures.inside))
     (λ i l n. ap (λ b. nat_eq b 1) (bit_at_clear_other w64 _ c.lowest-place.result c.lowest-place.ensures.inside i l n))
 

@@ -9,10 +9,13 @@ unfolding reserved
 loop-word-init c = refl
 
 pub returns-then-eq : goal.returns-then-eq
-returns-then-eq c = sym (found_at c.args.text.now c.loop-word.word-index _ c.loop-word-test.true (rw (← c.spelling.ensures) (sym c.eq.ensures ∙ c.if-eq.true))) ∙ c.loop-word.invariant
+returns-then-eq c = sym (found_at c.args.text.now c.loop-word.word-index _ c.loop-word-test.true (rw (← c.spelling.ensures) (sym c.eq.ensures ∙ c.if-eq.true)))
+    ∙ c.loop-word.invariant
 
 pub loop-word-preserved : goal.loop-word-preserved
-loop-word-preserved c = sym (passed_at c.args.text.now c.loop-word.word-index w.Ccsl c.loop-word-test.true (rw (← c.spelling.ensures) (sym c.eq.ensures ∙ c.if-eq.false))) ∙ c.loop-word.invariant
+loop-word-preserved c = sym
+    (passed_at c.args.text.now c.loop-word.word-index w.Ccsl c.loop-word-test.true (rw (← c.spelling.ensures) (sym c.eq.ensures ∙ c.if-eq.false)))
+    ∙ c.loop-word.invariant
 
 pub returns : goal.returns
 returns c = sym (none_behind c.args.text.now c.loop-word.word-index c.loop-word-test.false) ∙ c.loop-word.invariant

@@ -15,7 +15,8 @@ bound_clocks-requires c =
 pub new-requires-clause-clocks : goal.new-requires-clause-clocks
 new-requires-clause-clocks c =
     let s = subst (λ (x : Collected). StandsFor c.requires.0 x c.requires.1) (sym c.self.view_is) c.requires.2 in
-    (all-bound _ c.self.inside.codes c.requires.1 c.self.inside.found.items c.in-Ok.bound s.found (ap (clocks_from 0 c.self.inside.declared) (sym c.as_slice.ensures.value) ∙ c.in-Ok.ensures)).1
+    (all-bound _ c.self.inside.codes c.requires.1 c.self.inside.found.items c.in-Ok.bound s.found
+    (ap (clocks_from 0 c.self.inside.declared) (sym c.as_slice.ensures.value) ∙ c.in-Ok.ensures)).1
 
 pub new-requires-clause-numbers : goal.new-requires-clause-numbers
 new-requires-clause-numbers c =
@@ -26,11 +27,13 @@ pub returns-in-Ok-clause-bound : goal.returns-in-Ok-clause-bound
 returns-in-Ok-clause-bound c = λ wanted ds t.
     let s = subst (λ (x : Collected). StandsFor wanted x ds) (sym c.self.view_is) t in
     ap (λ w. bind w ds) (sym s.wanted)
-    ∙ (all-bound _ c.self.inside.codes ds c.self.inside.found.items c.in-Ok.bound s.found (ap (clocks_from 0 c.self.inside.declared) (sym c.as_slice.ensures.value) ∙ c.in-Ok.ensures)).0
+    ∙ (all-bound _ c.self.inside.codes ds c.self.inside.found.items c.in-Ok.bound s.found
+    (ap (clocks_from 0 c.self.inside.declared) (sym c.as_slice.ensures.value) ∙ c.in-Ok.ensures)).0
     ∙ ap (λ v. Ok v.bound) (sym c.new.ensures)
 
 pub returns-in-Err-clause-refuses : goal.returns-in-Err-clause-refuses
 returns-in-Err-clause-refuses c = λ wanted ds t.
     let s = subst (λ (x : Collected). StandsFor wanted x ds) (sym c.self.view_is) t in
     subst (λ w. Refuses c.in-Err.fault (bind w ds)) s.wanted
-    (all-refused _ c.self.inside.codes ds c.self.inside.found.items c.in-Err.fault s.found (ap (clocks_from 0 c.self.inside.declared) (sym c.as_slice.ensures.value) ∙ c.in-Err.ensures))
+    (all-refused _ c.self.inside.codes ds c.self.inside.found.items c.in-Err.fault s.found
+    (ap (clocks_from 0 c.self.inside.declared) (sym c.as_slice.ensures.value) ∙ c.in-Err.ensures))

@@ -11,7 +11,8 @@ use Rattle.ccsl_bind.proofs.binder.Binder.open.Goals as goal
 pub loop-clock-init : goal.loop-clock-init
 loop-clock-init c = record {
   names_are = c.new-names.ensures;
-  found = subst (λ ns. AllSumUp [] [] ns c.new-found.result.items) (sym c.new-names.ensures) (subst (λ os. AllSumUp [] [] [] os) (sym c.new-found.ensures.items) tt);
+  found = subst (λ ns. AllSumUp [] [] ns c.new-found.result.items) (sym c.new-names.ensures)
+      (subst (λ os. AllSumUp [] [] [] os) (sym c.new-found.ensures.items) tt);
 }
 
 pub add-requires : goal.add-requires
@@ -23,7 +24,8 @@ pub loop-clock-preserved : goal.loop-clock-preserved
 loop-clock-preserved c =
     subst (λ os. Named c.add.new.self c.args.system.now.names os (c.loop-clock.clock + 1)) (sym c.in_ok-push.ensures.items)
     (named-more c.loop-clock.names c.add.new.self c.args.system.now.names c.loop-clock.found.items c.loop-clock.clock c.get.result.now c.in_ok-add.field-0
-    (ap are_distinct (sym c.names.ensures.names) ∙ c.get.ensures.distinct) (ap (λ ns. slice_get ns c.loop-clock.clock) (sym c.names.ensures.names) ∙ c.get.ensures.name) c.loop-clock.invariant c.in_ok-add.ensures.added)
+    (ap are_distinct (sym c.names.ensures.names) ∙ c.get.ensures.distinct)
+    (ap (λ ns. slice_get ns c.loop-clock.clock) (sym c.names.ensures.names) ∙ c.get.ensures.name) c.loop-clock.invariant c.in_ok-add.ensures.added)
 
 pub returns : goal.returns
 unfolding codes_of
@@ -31,7 +33,8 @@ returns c =
     let n = let k : c.loop-clock.clock ≡ c.written-clock-end.result = omega arith in k ∙ c.written-clock-end.ensures.written in
     let names = c.loop-clock.invariant.names_are ∙ ap (λ i. take i c.args.system.now.names) n in
     record {
-      wanted = ap (λ ns. record { names = ns; declared = c.scope.result.declared }) names ∙ ap (λ d. record { names = take c.args.system.now.written c.args.system.now.names; declared = d }) (ap (λ s. s.declared) c.scope.ensures.scope);
+      wanted = ap (λ ns. record { names = ns; declared = c.scope.result.declared }) names
+          ∙ ap (λ d. record { names = take c.args.system.now.written c.args.system.now.names; declared = d }) (ap (λ s. s.declared) c.scope.ensures.scope);
       codes = c.with_hasher.ensures;
       found = subst (λ t. AllSumUp t [] c.loop-clock.names c.loop-clock.found.items) (sym c.with_hasher.ensures) c.loop-clock.invariant.found;
       few =

@@ -4,4 +4,5 @@ use Rattle.ccsl_bind.proofs.Binds.{all-declared}
 use Rattle.ccsl_bind.proofs.binding.Binding.bound.Goals as goal
 
 pub returns-clause-declared : goal.returns-clause-declared
-returns-clause-declared c = subst (λ (v : Bindings). are_declared v ≡ true) c.self.view_is (all-declared 0 c.self.inside.codes c.self.inside.slots.items c.self.invariant.1)
+returns-clause-declared c =
+    subst (λ (v : Bindings). are_declared v ≡ true) c.self.view_is (all-declared 0 c.self.inside.codes c.self.inside.slots.items c.self.invariant.1)

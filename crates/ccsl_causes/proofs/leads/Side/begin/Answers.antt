@@ -14,4 +14,5 @@ loop-lead-preserved c =
     let lead : Lead = get_or now at (record { right = 0; since = 0 }) in
     let inside : at < length now = omega arith in
     ap (slice_set now at) c.begin.ensures
-    ∙ map_over_more f c.deref_mut-lead-items.result.now now at lead c.loop-lead-test.true c.loop-lead.invariant (get_or_default now at (record { right = 0; since = 0 }) lead inside)
+    ∙ map_over_more f c.deref_mut-lead-items.result.now now at lead c.loop-lead-test.true c.loop-lead.invariant
+    (get_or_default now at (record { right = 0; since = 0 }) lead inside)

@@ -8,5 +8,6 @@ abbrev pub invariant-loop-i : goal.invariant-loop-i
 invariant-loop-i l = record {
   system : l.self.system ≡ l.fn.self.system;
   monitor : l.self.monitor ≡ l.fn.self.monitor;
-  after : (rows : List Row) → AreAfter l.fn.self.system.now rows l.fn.self.states → length rows + length l.block.rows < 2 ^ 64 → AreAfter l.fn.self.system.now (rows ++ take l.i l.block.rows) l.self.states;
+  after : (rows : List Row) → AreAfter l.fn.self.system.now rows l.fn.self.states → length rows + length l.block.rows < 2 ^ 64
+      → AreAfter l.fn.self.system.now (rows ++ take l.i l.block.rows) l.self.states;
 }

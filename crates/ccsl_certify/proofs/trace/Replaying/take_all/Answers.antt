@@ -7,5 +7,6 @@ take_next-requires g c = let w = c.requires.goes in record { goes = (w.0, w.1, w
 
 pub returns-in-Ok-Some-clause-ended : goal.returns-in-Ok-Some-clause-ended
 returns-in-Ok-Some-clause-ended g c = λ K limits start s.
-    subst (λ o. Stands g.W.World.told K limits start (g.W.World.state c.take_next.new.world) o c.take_next.new.self.feed c.take_next.new.self.follower) c.in-Ok-Some.field-0-is
+    subst (λ o. Stands g.W.World.told K limits start (g.W.World.state c.take_next.new.world) o c.take_next.new.self.feed c.take_next.new.self.follower)
+    c.in-Ok-Some.field-0-is
     (c.in-Ok-Some.ensures.stands K limits start (c.loop-rows.invariant K limits start s))

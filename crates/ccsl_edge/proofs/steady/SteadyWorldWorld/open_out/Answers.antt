@@ -6,4 +6,5 @@ pub returns-clause-ok : goal.returns-clause-ok
 returns-clause-ok c =
     let long : length c.self.inside.sources ≡ 7 = omega arith in
     rw (← c.self.view_is)
-    (OpensOut-source c.self.inside.files.items c.self.inside.sources c.args.slot c.index.result c.index-2.result c.args._name.now c.index.ensures c.index-2.ensures long)
+    (OpensOut-source c.self.inside.files.items c.self.inside.sources c.args.slot c.index.result c.index-2.result c.args._name.now c.index.ensures
+    c.index-2.ensures long)

@@ -27,7 +27,8 @@ returns-in_err-right-clause-reads c =
     let now = ahead other c.takes_mark.new.self.rest.now in
     rw (p.1, p.2) (λ d at parts.
     moved c.in_err-right.field-0.0 (story len (behind_left d at parts c.args.left) old) (story other (right d at parts c.args.left) now)
-    (colon d at parts len c.args.left old now c.if-not-takes_mark.ensures.takes ∙ ap (λ n. story n (right d at parts c.args.left) now) (sym c.if-not-takes_mark.ensures.len))
+    (colon d at parts len c.args.left old now c.if-not-takes_mark.ensures.takes
+    ∙ ap (λ n. story n (right d at parts c.args.left) now) (sym c.if-not-takes_mark.ensures.len))
     (no_second d at parts c.in_err-right.field-0.0 other c.args.left now c.in_err-right.ensures.reads))
 
 pub returns-clause-reads : goal.returns-clause-reads
@@ -36,7 +37,10 @@ returns-clause-reads c = λ d at parts.
     let old = ahead len c.args.self.now.rest.now in
     let now = ahead c.takes_mark.new.self.len c.takes_mark.new.self.rest.now in
     let later = ahead c.index.new.self.len c.index.new.self.rest.now in
-    reads_behind c.bracket-2.result len c.index.new.self.len (behind_left d at parts c.args.left) (bracket d (path at parts (Range c.args.left c.in_ok-right.right))) old later
-    (λ s. behind_path d (path at parts s)) (ahead c.bracket-2.new.self.len c.bracket-2.new.self.rest.now) (c.in_ok-right.ensures.len ∙ c.if-not-takes_mark.ensures.len)
-    (colon d at parts len c.args.left old now c.if-not-takes_mark.ensures.takes ∙ second d at parts len c.args.left c.in_ok-right.right now later c.in_ok-right.ensures.reads)
+    reads_behind c.bracket-2.result len c.index.new.self.len (behind_left d at parts c.args.left)
+    (bracket d (path at parts (Range c.args.left c.in_ok-right.right))) old later
+    (λ s. behind_path d (path at parts s)) (ahead c.bracket-2.new.self.len c.bracket-2.new.self.rest.now)
+    (c.in_ok-right.ensures.len ∙ c.if-not-takes_mark.ensures.len)
+    (colon d at parts len c.args.left old now c.if-not-takes_mark.ensures.takes
+    ∙ second d at parts len c.args.left c.in_ok-right.right now later c.in_ok-right.ensures.reads)
     (c.bracket-2.ensures.reads d at parts)

@@ -10,7 +10,8 @@ pub returns-in-None : goal.returns-in-None
 returns-in-None c =
     let s = c.self.inside in
     let whole : length s.names.items ≡ length (map seen_atom s.atoms.items) = c.self.invariant.as_many ∙ sym (length-map s.atoms.items seen_atom) in
-    atom_of-missing s.names.items (map seen_atom s.atoms.items) c.args.name.now whole (sym (c.self.invariant.first_places c.args.name.now) ∙ (sym c.find.ensures ∙ c.in-None.is))
+    atom_of-missing s.names.items (map seen_atom s.atoms.items) c.args.name.now whole
+    (sym (c.self.invariant.first_places c.args.name.now) ∙ (sym c.find.ensures ∙ c.in-None.is))
     ∙ ap (λ σ. atom_of σ c.args.name.now) c.self.view_is
 
 pub returns-in-Some : goal.returns-in-Some

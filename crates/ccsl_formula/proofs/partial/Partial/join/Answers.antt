@@ -5,11 +5,13 @@ use Rattle.ccsl_formula.proofs.partial.Partial.join.Goals as goal
 
 pub returns : goal.returns
 returns c =
-    known-joined c.self.inside.valued c.self.inside.truth c.other.inside.valued c.other.inside.truth c.insert_all.new.self c.remove_all.new.self c.insert_all-2.new.self
+    known-joined c.self.inside.valued c.self.inside.truth c.other.inside.valued c.other.inside.truth c.insert_all.new.self c.remove_all.new.self
+    c.insert_all-2.new.self
     c.insert_all.ensures c.remove_all.ensures c.insert_all-2.ensures c.other.invariant
     ∙ ap₂ (λ p q. joined (known p) (known q)) c.self.view_is c.other.view_is
 
 pub invariant_of-self : goal.invariant_of-self
 invariant_of-self c =
-    within-joined c.self.inside.valued c.self.inside.truth c.other.inside.valued c.other.inside.truth c.insert_all.new.self c.remove_all.new.self c.insert_all-2.new.self
+    within-joined c.self.inside.valued c.self.inside.truth c.other.inside.valued c.other.inside.truth c.insert_all.new.self c.remove_all.new.self
+    c.insert_all-2.new.self
     c.insert_all.ensures c.remove_all.ensures c.insert_all-2.ensures c.self.invariant c.other.invariant

@@ -6,8 +6,10 @@ use Rattle.ccsl_formula.proofs.partial.Partial.pairs.Goals as goal
 
 pub returns-clause-ascending : goal.returns-clause-ascending
 returns-clause-ascending c =
-    ap (λ ps. is_ascending (clocks ps)) (sym c.self.view_is) ∙ ap is_ascending (clocks-pairs c.self.inside.valued c.self.inside.truth) ∙ c.members.ensures.ascending
+    ap (λ ps. is_ascending (clocks ps)) (sym c.self.view_is) ∙ ap is_ascending (clocks-pairs c.self.inside.valued c.self.inside.truth)
+    ∙ c.members.ensures.ascending
 
 pub returns-clause-below : goal.returns-clause-below
 returns-clause-below c =
-    ap (λ ps. are_below 1024 (clocks ps)) (sym c.self.view_is) ∙ ap (are_below 1024) (clocks-pairs c.self.inside.valued c.self.inside.truth) ∙ c.members.ensures.below
+    ap (λ ps. are_below 1024 (clocks ps)) (sym c.self.view_is) ∙ ap (are_below 1024) (clocks-pairs c.self.inside.valued c.self.inside.truth)
+    ∙ c.members.ensures.below

@@ -26,7 +26,8 @@ returns-then-has-clause-ascending c =
 
 pub returns-then-has-clause-below : goal.returns-then-has-clause-below
 returns-then-has-clause-below c =
-    ap (λ ps. are_below 1024 (clocks ps)) (sym c.self.view_is) ∙ ap (are_below 1024) (clocks-pairs c.self.inside.valued c.self.inside.truth) ∙ c.has.ensures.below
+    ap (λ ps. are_below 1024 (clocks ps)) (sym c.self.view_is) ∙ ap (are_below 1024) (clocks-pairs c.self.inside.valued c.self.inside.truth)
+    ∙ c.has.ensures.below
 
 pub returns-else-has-clause-value : goal.returns-else-has-clause-value
 returns-else-has-clause-value c =
@@ -40,4 +41,5 @@ returns-else-has-clause-ascending c =
 
 pub returns-else-has-clause-below : goal.returns-else-has-clause-below
 returns-else-has-clause-below c =
-    ap (λ ps. are_below 1024 (clocks ps)) (sym c.self.view_is) ∙ ap (are_below 1024) (clocks-pairs c.self.inside.valued c.self.inside.truth) ∙ c.has.ensures.below
+    ap (λ ps. are_below 1024 (clocks ps)) (sym c.self.view_is) ∙ ap (are_below 1024) (clocks-pairs c.self.inside.valued c.self.inside.truth)
+    ∙ c.has.ensures.below

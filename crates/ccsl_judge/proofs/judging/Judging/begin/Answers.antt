@@ -5,7 +5,8 @@ use Rattle.ccsl_judge.proofs.judging.Judging.begin.Goals as goal
 
 pub next-requires : goal.next-requires
 next-requires g c =
-    let now = g.W.World.state c.args.world.now in record { feeds = (wanted_of c.args.system.now, c.args.limits.now, now, [], c.in-Ok.ensures.feeds g.W.World.told now) }
+    let now = g.W.World.state c.args.world.now in
+    record { feeds = (wanted_of c.args.system.now, c.args.limits.now, now, [], c.in-Ok.ensures.feeds g.W.World.told now) }
 
 pub returns-in-Err-next-clause-unread : goal.returns-in-Err-next-clause-unread
 returns-in-Err-next-clause-unread g c =

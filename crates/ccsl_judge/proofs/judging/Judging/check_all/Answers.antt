@@ -9,5 +9,6 @@ check_next-requires-clause-goes g c = λ κs b.
 
 pub returns-in-Ok-Some-clause-ended : goal.returns-in-Ok-Some-clause-ended
 returns-in-Ok-Some-clause-ended g c = λ K limits start s.
-    subst (λ e. Stands g.W.World.told K limits start (g.W.World.state c.check_next.new.world) e c.check_next.new.self.feed c.check_next.new.self.shares.items) c.in-Ok-Some.field-0-is
+    subst (λ e. Stands g.W.World.told K limits start (g.W.World.state c.check_next.new.world) e c.check_next.new.self.feed c.check_next.new.self.shares.items)
+    c.in-Ok-Some.field-0-is
     (c.in-Ok-Some.ensures.stands K limits start (c.loop-rows.invariant K limits start s))

@@ -31,8 +31,10 @@ returns-in-Bound g c = record {
       let given = c.in-Ok.ensures.gives (wanted_of K) limits start s.rows s.feeds in
       let few = given-few g.W.World.told (wanted_of K) limits start now _ s.bound s.shows c.next.new.self s.rows c.in-Ok.next given in
       let took = subst (λ b. FollowAll K s.bound (s.rows ++ b.rows) c.check_rows.new.shares) c.block.ensures
-      (c.check_rows.ensures K s.bound s.rows (subst (FollowAll K s.bound s.rows) (sym c.as_mut_slice-shares.ensures.value) s.follow) (subst (λ b. length s.rows + length b.rows < 2 ^ 64) (sym c.block.ensures) few)) in
-      let items = with_items_is c.args.self.now.shares c.check_rows.new.shares (c.check_rows.auto.shares ∙ ap length c.as_mut_slice-shares.ensures.value ∙ sym c.args.self.now.shares.ok.0) in
+      (c.check_rows.ensures K s.bound s.rows (subst (FollowAll K s.bound s.rows) (sym c.as_mut_slice-shares.ensures.value) s.follow)
+      (subst (λ b. length s.rows + length b.rows < 2 ^ 64) (sym c.block.ensures) few)) in
+      let items = with_items_is c.args.self.now.shares c.check_rows.new.shares
+      (c.check_rows.auto.shares ∙ ap length c.as_mut_slice-shares.ensures.value ∙ sym c.args.self.now.shares.ok.0) in
       subst (Goes g.W.World.told K limits start now c.next.new.self) (sym items)
       (goes-on g.W.World.told K limits start now _ s.bound s.shows c.next.new.self s.rows c.check_rows.new.shares took c.in-Ok.next given c.in-Bound.is);
   nears = nearer c.in-Ok.next c.args.self.now.feed c.next.new.self c.in-Ok.ensures.nears c.in-Bound.is;
@@ -45,7 +47,10 @@ returns-in-Ended-clause-stands g c = λ K limits start s.
     let given = c.in-Ok.ensures.gives (wanted_of K) limits start s.rows s.feeds in
     let few = given-few g.W.World.told (wanted_of K) limits start now _ s.bound s.shows c.next.new.self s.rows c.in-Ok.next given in
     let took = subst (λ b. FollowAll K s.bound (s.rows ++ b.rows) c.check_rows.new.shares) c.block.ensures
-    (c.check_rows.ensures K s.bound s.rows (subst (FollowAll K s.bound s.rows) (sym c.as_mut_slice-shares.ensures.value) s.follow) (subst (λ b. length s.rows + length b.rows < 2 ^ 64) (sym c.block.ensures) few)) in
-    let items = with_items_is c.args.self.now.shares c.check_rows.new.shares (c.check_rows.auto.shares ∙ ap length c.as_mut_slice-shares.ensures.value ∙ sym c.args.self.now.shares.ok.0) in
+    (c.check_rows.ensures K s.bound s.rows (subst (FollowAll K s.bound s.rows) (sym c.as_mut_slice-shares.ensures.value) s.follow)
+    (subst (λ b. length s.rows + length b.rows < 2 ^ 64) (sym c.block.ensures) few)) in
+    let items = with_items_is c.args.self.now.shares c.check_rows.new.shares
+    (c.check_rows.auto.shares ∙ ap length c.as_mut_slice-shares.ensures.value ∙ sym c.args.self.now.shares.ok.0) in
     subst (HasEnded g.W.World.told K limits start now c.in-Ended.counts.rows) (sym items)
-    (has-ended g.W.World.told K limits start now _ s.bound s.shows c.next.new.self s.rows c.check_rows.new.shares took c.in-Ended.counts (rw c.in-Ended.is at given))
+    (has-ended g.W.World.told K limits start now _ s.bound s.shows c.next.new.self s.rows c.check_rows.new.shares took c.in-Ended.counts
+    (rw c.in-Ended.is at given))

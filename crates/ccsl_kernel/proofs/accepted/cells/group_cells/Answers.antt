@@ -11,5 +11,6 @@ returns c =
     let params : c.most_params.result ≡ saturated (greatest (map (λ b. length b.params) members)) =
     c.most_params.ensures ∙ ap (λ (bs : List BoxedBody). saturated (greatest (map (λ b. length b.params) (map plain_body bs)))) c.members-members.ensures in
     let cells : c.most_cells.result ≡ saturated (greatest (map (λ b. cells_in c.args.earlier.now b.root) members)) =
-    c.most_cells.ensures ∙ ap (λ (bs : List BoxedBody). saturated (greatest (map (λ b. cells_in c.args.earlier.now b.root) (map plain_body bs)))) c.members-members.ensures in
+    c.most_cells.ensures ∙ ap (λ (bs : List BoxedBody). saturated (greatest (map (λ b. cells_in c.args.earlier.now b.root) (map plain_body bs))))
+    c.members-members.ensures in
     omega (arith, c.saturated.ensures, params, cells)

@@ -9,6 +9,8 @@ use Rattle.ccsl_kernel.proofs.accepted.cells.most_params.Goals as goal
 
 pub loop-member-preserved : goal.loop-member-preserved
 loop-member-preserved c =
-    most_more plain_body (λ (b : Body). length b.params) c.args.members.now c.loop-member.member-index c.member-item.result c.loop-member.most c.saturated.result c.max-most.result
+    most_more plain_body (λ (b : Body). length b.params) c.args.members.now c.loop-member.member-index c.member-item.result c.loop-member.most
+    c.saturated.result c.max-most.result
     c.loop-member-test.true c.loop-member.invariant
-    (c.saturated.ensures ∙ ap (λ (ks : List ParamKind). saturated (length ks)) c.members.ensures ∙ ap (λ (b : BoxedBody). saturated (length b.params)) c.member-item.is) c.max-most.ensures
+    (c.saturated.ensures ∙ ap (λ (ks : List ParamKind). saturated (length ks)) c.members.ensures
+    ∙ ap (λ (b : BoxedBody). saturated (length b.params)) c.member-item.is) c.max-most.ensures

@@ -11,7 +11,8 @@ pub returns-then-params-arguments : goal.returns-then-params-arguments
 returns-then-params-arguments c =
     let here = c.args.here.now in (
       λ h. absurd (false≢true h),
-      λ all. absurd (c.if-params-arguments.true (arguments_len (map plain_group here.groups.now) here.words.now here.clocks here.params.now c.args.params.now c.args.arguments.now all)),
+      λ all. absurd (c.if-params-arguments.true
+          (arguments_len (map plain_group here.groups.now) here.words.now here.clocks here.params.now c.args.params.now c.args.arguments.now all)),
     )
 
 pub returns-then-not-is_argument : goal.returns-then-not-is_argument
@@ -22,14 +23,17 @@ returns-then-not-is_argument c =
           (false≢true
           (sym c.if-not-is_argument.true
           ∙ c.is_argument.ensures.1
-          (subst (λ (v : Value). IsArgument (map plain_group here.groups.now) here.words.now here.clocks here.params.now (get_or c.args.params.now c.loop-i.i kind.Clock) v) (sym c.index-arguments-i.is)
-          (arguments_at (map plain_group here.groups.now) here.words.now here.clocks here.params.now c.args.params.now c.args.arguments.now c.loop-i.i kind.Clock c.index-arguments-i.result c.loop-i-test.true all)))),
+          (subst (λ (v : Value). IsArgument (map plain_group here.groups.now) here.words.now here.clocks here.params.now
+          (get_or c.args.params.now c.loop-i.i kind.Clock) v) (sym c.index-arguments-i.is)
+          (arguments_at (map plain_group here.groups.now) here.words.now here.clocks here.params.now c.args.params.now c.args.arguments.now c.loop-i.i
+          kind.Clock c.index-arguments-i.result c.loop-i-test.true all)))),
     )
 
 pub returns : goal.returns
 returns c =
     let here = c.args.here.now in (
-      λ _. arguments_from (map plain_group here.groups.now) here.words.now here.clocks here.params.now c.args.params.now c.args.arguments.now c.if-params-arguments.false
+      λ _. arguments_from (map plain_group here.groups.now) here.words.now here.clocks here.params.now c.args.params.now c.args.arguments.now
+          c.if-params-arguments.false
           (λ j k v l. c.loop-i.invariant j k v (omega (arith, l, c.loop-i-test.false))),
       λ _. refl,
     )

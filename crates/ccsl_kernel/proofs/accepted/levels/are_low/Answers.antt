@@ -51,5 +51,7 @@ loop-group-preserved c =
           ∙ ap (λ (g : Group). group_levels (levels ++ level_of levels (plain_group g) ∷ []) rest) c.group-item.is
           ∙ sym (levels_more plain_group levels c.args.groups.now c.loop-group.group-index c.group-item.result c.loop-group-test.true)
           ∙ c.loop-group.invariant.rest;
-      low = subst (All (λ n. n ≤ MAX_CALL_LEVELS)) (sym pushed) (All-push (λ n. n ≤ MAX_CALL_LEVELS) levels (level_of levels group) c.loop-group.invariant.low (omega (arith, level, c.if-level-ge-MAX_CALL_LEVELS.false)));
+      low = subst (All (λ n. n ≤ MAX_CALL_LEVELS)) (sym pushed)
+          (All-push (λ n. n ≤ MAX_CALL_LEVELS) levels (level_of levels group) c.loop-group.invariant.low
+          (omega (arith, level, c.if-level-ge-MAX_CALL_LEVELS.false)));
     }

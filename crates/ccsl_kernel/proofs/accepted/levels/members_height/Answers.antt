@@ -11,4 +11,5 @@ loop-member-preserved c =
     let here = c.height.ensures ∙ ap (λ (b : BoxedBody). height c.args.levels.now (plain_body b).root) c.member-item.is in
     c.max-highest.ensures
     ∙ ap₂ max c.loop-member.invariant here
-    ∙ greatest_more plain_body (λ (b : Body). height c.args.levels.now b.root) c.args.members.now c.loop-member.member-index c.member-item.result c.loop-member-test.true
+    ∙ greatest_more plain_body (λ (b : Body). height c.args.levels.now b.root) c.args.members.now c.loop-member.member-index c.member-item.result
+    c.loop-member-test.true

@@ -28,7 +28,8 @@ pub loop-i-preserved : goal.loop-i-preserved
 loop-i-preserved c =
     let i = c.loop-i.i in
     each_below (Fits c.args.written) i c.args.names.now c.loop-i.invariant
-    (λ d. ap (λ (n : List ℕ). cond (nat_lt i c.args.written) (is_name n) (is_hidden n)) (get_or_from_slice_get c.args.names.now i c.get.result.now d c.get.ensures.name)
+    (λ d. ap (λ (n : List ℕ). cond (nat_lt i c.args.written) (is_name n) (is_hidden n))
+    (get_or_from_slice_get c.args.names.now i c.get.result.now d c.get.ensures.name)
     ∙ sym c.fits_clock.ensures
     ∙ c.if-not-fits_clock.false)
 

@@ -10,7 +10,8 @@ is_gcd : (c : After-greatest_divisor-divisor) → IsGcd (length c.args.left.now.
 is_gcd c = rw (← c.period_len-left_len.ensures.period, ← c.period_len-right_len.ensures.period) c.greatest_divisor-divisor.ensures
 
 positive : (c : After-greatest_divisor-divisor) → 0 < c.greatest_divisor-divisor.result
-positive c = divisor_pos (length c.args.left.now.period) (length c.args.right.now.period) c.greatest_divisor-divisor.result (is_gcd c) (infinite_len c.args.left.now c.requires.left_infinite)
+positive c = divisor_pos (length c.args.left.now.period) (length c.args.right.now.period) c.greatest_divisor-divisor.result (is_gcd c)
+    (infinite_len c.args.left.now c.requires.left_infinite)
 
 pub nonzero_div-left_turns : goal.nonzero_div-left_turns
 nonzero_div-left_turns c = positive c

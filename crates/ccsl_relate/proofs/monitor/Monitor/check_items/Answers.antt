@@ -25,8 +25,24 @@ returns-clause-stands c = λ recorded rows s few.
     let count = c.first_in.ensures.count ∙ ap length value in
     let after = (with_items c.self.inside.kept c.first_in.new.kept).items in
     let after-is = with_items_is c.self.inside.kept c.first_in.new.kept (count ∙ sym c.self.inside.kept.ok.0) in
-    let now : Watching = record { system = c.self.inside.system.now; start = c.self.inside.start; kept = after; states = c.self.inside.states; steps = c.self.inside.steps + c.len-rows.result; first = c.match-first_in.first } in
-    let old : Watching = record { system = c.self.inside.system.now; start = c.self.inside.start; kept = c.self.inside.kept.items; states = c.self.inside.states; steps = c.self.inside.steps; first = c.self.inside.first } in
+    let now : Watching = record {
+      system = c.self.inside.system.now;
+      start = c.self.inside.start;
+      kept = after;
+      states = c.self.inside.states;
+      steps =
+          c.self.inside.steps + c.len-rows.result;
+      first = c.match-first_in.first;
+    } in
+    let old : Watching = record {
+      system = c.self.inside.system.now;
+      start = c.self.inside.start;
+      kept = c.self.inside.kept.items;
+      states =
+          c.self.inside.states;
+      steps = c.self.inside.steps;
+      first = c.self.inside.first;
+    } in
     let is : old ≡ v = c.self.view_is in
     elim c.match-first_in.branch [
       | in-None w ↦
@@ -44,8 +60,15 @@ returns-clause-stands c = λ recorded rows s few.
           after f at
           (ap length after-is ∙ c.first_in.ensures.count ∙ ap length kept-is)
           w.row.ensures
-          (subst (λ ks. IsFirstIn block ks f) kept-is (subst (λ o. IfSome o (IsFirstIn block c.as_mut_slice-kept.result.now)) w.in-Some.is c.first_in.ensures.fails))
+          (subst (λ ks. IsFirstIn block ks f) kept-is
+          (subst (λ o. IfSome o (IsFirstIn block c.as_mut_slice-kept.result.now)) w.in-Some.is c.first_in.ensures.fails))
           (ap (λ o. record now { first = o }) w.first-is
-          ∙ ap (λ (u : Watching). record u { kept = after; steps = u.steps + c.len-rows.result; first = Some (record { step = u.steps + f.row; time = at.time; item = u.start + f.place }) }) is
-          ∙ ap (λ n. record v { kept = after; steps = v.steps + n; first = Some (record { step = v.steps + f.row; time = at.time; item = v.start + f.place }) }) c.len-rows.ensures)
+          ∙ ap (λ (u : Watching). record u {
+            kept = after;
+            steps = u.steps + c.len-rows.result;
+            first =
+                Some (record { step = u.steps + f.row; time = at.time; item = u.start + f.place });
+          }) is
+          ∙ ap (λ n. record v { kept = after; steps = v.steps + n; first = Some (record { step = v.steps + f.row; time = at.time; item = v.start + f.place }) })
+          c.len-rows.ensures)
     ]

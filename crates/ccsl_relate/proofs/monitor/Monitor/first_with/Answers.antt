@@ -30,8 +30,17 @@ returns c = λ recorded rows s l.
     let count = c.in_ok-place.ensures.count ∙ ap length value in
     let written = with_items c.self.inside.kept c.first_violated.new.kept in
     let items = with_items_is c.self.inside.kept c.first_violated.new.kept (count ∙ sym c.self.inside.kept.ok.0) in
-    let w : Watching = record { system = K; start = c.self.inside.start; kept = written.items; states = c.first_violated.new.states; steps = c.self.inside.steps; first = c.self.inside.first } in
-    subst (λ v. IsNext recorded v w rows c.args.row.now (Some (record { step = c.self.inside.steps; time = c.args.row.now.time; item = c.self.inside.start + c.in_ok-place.place }))) c.self.view_is
+    let w : Watching = record {
+      system = K;
+      start = c.self.inside.start;
+      kept = written.items;
+      states = c.first_violated.new.states;
+      steps =
+          c.self.inside.steps;
+      first = c.self.inside.first;
+    } in
+    subst (λ v. IsNext recorded v w rows c.args.row.now
+    (Some (record { step = c.self.inside.steps; time = c.args.row.now.time; item = c.self.inside.start + c.in_ok-place.place }))) c.self.view_is
     (next-violated recorded _ rows c.args.row.now t c.ascends.ensures.ascending n w refl
     (ap length items ∙ count)
     c.in_ok-place.place
@@ -50,7 +59,15 @@ returns-in_err-place c = λ recorded rows s l.
     let count = c.in_err-place.ensures.count ∙ ap length value in
     let written = with_items c.self.inside.kept c.first_violated.new.kept in
     let items = with_items_is c.self.inside.kept c.first_violated.new.kept (count ∙ sym c.self.inside.kept.ok.0) in
-    let w : Watching = record { system = K; start = c.self.inside.start; kept = written.items; states = c.first_violated.new.states; steps = c.self.inside.steps; first = c.self.inside.first } in
+    let w : Watching = record {
+      system = K;
+      start = c.self.inside.start;
+      kept = written.items;
+      states = c.first_violated.new.states;
+      steps =
+          c.self.inside.steps;
+      first = c.self.inside.first;
+    } in
     subst (IsNext recorded c.args.self.now w rows c.args.row.now) (sym c.from_residual.ensures)
     (subst (λ v. IsNext recorded v w rows c.args.row.now None) c.self.view_is
     (next-obeyed recorded _ rows c.args.row.now t c.ascends.ensures.ascending n w refl

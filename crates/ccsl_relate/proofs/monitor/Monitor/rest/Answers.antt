@@ -14,4 +14,5 @@ pub returns-clause-stands : goal.returns-clause-stands
 returns-clause-stands c = λ recorded rows s l.
     let x = some-of c.args.self.now.first c.requires.violated in
     rests recorded c.args.self.now _ rows c.args.block.now.rows x.0 s c.rows_are_sets.ensures x.1
-    (ap (λ (v : Watching). record v { steps = v.steps + c.len.result }) c.self.view_is ∙ ap (λ n. record c.args.self.now { steps = c.args.self.now.steps + n }) c.len.ensures)
+    (ap (λ (v : Watching). record v { steps = v.steps + c.len.result }) c.self.view_is
+    ∙ ap (λ n. record c.args.self.now { steps = c.args.self.now.steps + n }) c.len.ensures)

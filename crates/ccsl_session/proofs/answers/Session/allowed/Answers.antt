@@ -10,7 +10,8 @@ use Rattle.ccsl_session.proofs.Choices.{allowed-named}
 use Rattle.ccsl_session.proofs.answers.Session.allowed.Goals as goal
 use Rattle.ccsl_session.proofs.answers.Session.allowed.Goals.{In_ok-set}
 
-set_is : (c : In_ok-set) → c.in_ok-set.set ≡ allowed_clocks c.args.self.now.stack.system.now (completed c.args.self.now.stack.system.now c.args.self.now.stack.sets.items)
+set_is : (c : In_ok-set)
+    → c.in_ok-set.set ≡ allowed_clocks c.args.self.now.stack.system.now (completed c.args.self.now.stack.system.now c.args.self.now.stack.sets.items)
 set_is c =
     let stands = c.requires.stands in
     let K = c.args.self.now.stack.system.now in
@@ -29,7 +30,8 @@ returns-clause-answers c =
     let K = c.args.self.now.stack.system.now in
     on_ok_weaker c.put_allowed.result
     (λ (written : c.put_allowed.new.out.items ≡ c.clear.new.self.items ++ allowed_text K c.in_ok-set.set). record {
-      text = written ∙ ap (λ (bs : List ℕ). bs ++ allowed_text K c.in_ok-set.set) c.clear.ensures.items ∙ ap (allowed_text K) (set_is (goal.at.returns-clause-answers c).In_ok-set);
+      text = written ∙ ap (λ (bs : List ℕ). bs ++ allowed_text K c.in_ok-set.set) c.clear.ensures.items
+          ∙ ap (allowed_text K) (set_is (goal.at.returns-clause-answers c).In_ok-set);
       sets = refl;
       stands = c.requires.stands;
     })

@@ -31,9 +31,11 @@ returns-clause-choice c =
     let T = completed K R in
     let taken = c.len.result * c.from.result in
     let declared = ap (λ (s : Scope). s.declared) c.scope-scope.ensures.scope in
-    let formulas : map plain c.deref.result.now ≡ item_formulas K T = ap (map plain) c.deref.ensures.value ∙ c.in_ok-put_formulas.ensures.formulas T c.requires.states.stands in
+    let formulas : map plain c.deref.result.now ≡ item_formulas K T =
+    ap (map plain) c.deref.ensures.value ∙ c.in_ok-put_formulas.ensures.formulas T c.requires.states.stands in
     let words : c.deref-2.result.now ≡ words_of_step K session.seed (length T) =
     c.deref-2.ensures.value
     ∙ c.in_ok-words.ensures.words session.seed taken c.at-draw.ensures
     ∙ step-words K R session.seed c.len.result c.scope-scope.result.declared taken c.len.ensures declared (ap (λ n. c.len.result * n) c.from.ensures) in
-    chooses-at session.policy _ (scope_of K) _ (item_formulas K T) _ (words_of_step K session.seed (length T)) c.choose.result c.scope-scope.ensures.scope formulas words c.choose.ensures
+    chooses-at session.policy _ (scope_of K) _ (item_formulas K T) _ (words_of_step K session.seed (length T)) c.choose.result c.scope-scope.ensures.scope
+    formulas words c.choose.ensures

@@ -10,4 +10,5 @@ put_step-requires c =
     let session = c.args.self.now in
     let K = system_of session in
     subst (λ (s : Session). are_below (length (system_of s).names) c.in-Some.set ≡ true) (sym c.next_set.ensures.same)
-    (next-named K c.requires.stands.accepted session.policy session.seed session.stack.sets.items c.requires.stack c.in-Some.set (sym c.in-Some.is ∙ c.in_ok-set.ensures.next))
+    (next-named K c.requires.stands.accepted session.policy session.seed session.stack.sets.items c.requires.stack c.in-Some.set
+    (sym c.in-Some.is ∙ c.in_ok-set.ensures.next))

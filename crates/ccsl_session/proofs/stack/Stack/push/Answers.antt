@@ -24,7 +24,8 @@ returns-in_ok-push-2-clause-stands c =
       copies =
           subst (λ S. AreCopies K S c.push-then-len-eq0.new.self.items) (sym is)
           (subst (AreCopies K (R ++ s ∷ [])) (sym {A = List Held} copies)
-          (copies-more K R s c.args.self.now.copies.items c.in_ok-copy.field-0 stands.copies (subst (λ (h : Held). AreBehind K (R ++ s ∷ []) h) (sym copy) behind) full));
+          (copies-more K R s c.args.self.now.copies.items c.in_ok-copy.field-0 stands.copies
+          (subst (λ (h : Held). AreBehind K (R ++ s ∷ []) h) (sym copy) behind) full));
     }
 
 pub returns-else-len-eq0-clause-stands : goal.returns-else-len-eq0-clause-stands
@@ -39,7 +40,8 @@ returns-else-len-eq0-clause-stands c =
     record {
       accepted = stands.accepted;
       few = omega (arith, ap length is, length-append R (s ∷ []));
-      states = subst (λ S. AreBehind K S new) (sym is) (behind-more K R s c.args.self.now.states new stands.states c.advance.ensures.system c.advance.ensures.stands (omega arith));
+      states = subst (λ S. AreBehind K S new) (sym is)
+          (behind-more K R s c.args.self.now.states new stands.states c.advance.ensures.system c.advance.ensures.stands (omega arith));
       copies =
           subst (λ S. AreCopies K S c.args.self.now.copies.items) (sym is)
           (copies-same K R s c.args.self.now.copies.items stands.copies (λ full. c.if-len-eq0.false (ap (λ n. n % 256) counted ∙ full)));

@@ -12,7 +12,10 @@ returns c =
     let copies = c.args.self.now.copies in
     let k = c.len-last.result - 1 in
     let copy = c.index.result.now in
-    let last : slice_get copies.items k ≡ Some copy = slice_get_read copies.items (length copies.items) k copy refl (omega (arith, copies.ok.0, c.requires.copies.count)) c.index.ensures in
+    let last : slice_get copies.items k ≡ Some copy =
+    slice_get_read copies.items (length copies.items) k copy refl (omega (arith, copies.ok.0, c.requires.copies.count)) c.index.ensures in
     let states = c.in_ok-states.states in
-    let behind : AreBehind K (take (k * 256) R) states = subst (AreBehind K (take (k * 256) R)) (sym c.in_ok-states.ensures) (c.requires.copies.each k copy last) in
-    replayed K R _ (k * 256) states c.go_on.new.states behind (take_rest c.deref.result.now (k * 256) ∙ ap (drop (k * 256)) c.deref.ensures.value) c.go_on.ensures.system c.go_on.ensures.stands (omega arith)
+    let behind : AreBehind K (take (k * 256) R) states =
+    subst (AreBehind K (take (k * 256) R)) (sym c.in_ok-states.ensures) (c.requires.copies.each k copy last) in
+    replayed K R _ (k * 256) states c.go_on.new.states behind (take_rest c.deref.result.now (k * 256) ∙ ap (drop (k * 256)) c.deref.ensures.value)
+    c.go_on.ensures.system c.go_on.ensures.stands (omega arith)

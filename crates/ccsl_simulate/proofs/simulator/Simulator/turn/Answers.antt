@@ -28,8 +28,10 @@ returns-in-Step-clause-stands g c =
     let chosen =
     subst (λ (x : Choice). Chooses (scope_of K) (item_formulas K (run_of old seed c.args.n)) old.policy (words_of_step K seed c.args.n) x) c.in-Step.is
     (c.in_ok-set.ensures.choice (run_of old seed c.args.n) seed c.args.n s.states s.draw) in
-    stands-next seed c.args.n old c.choice.new.self c.in_ok-set.ensures.task c.in_ok-set.ensures.states s c.in-Step.set c.write_step.ensures.set chosen c.write_step.new.self c.write_step.ensures.task
-    (c.in_ok-set.ensures.draw seed (c.args.n * K.declared) s.draw) c.write_step.ensures.draw c.write_step.ensures.system c.write_step.ensures.stands c.requires.few)
+    stands-next seed c.args.n old c.choice.new.self c.in_ok-set.ensures.task c.in_ok-set.ensures.states s c.in-Step.set c.write_step.ensures.set chosen
+    c.write_step.new.self c.write_step.ensures.task
+    (c.in_ok-set.ensures.draw seed (c.args.n * K.declared) s.draw) c.write_step.ensures.draw c.write_step.ensures.system c.write_step.ensures.stands
+    c.requires.few)
 
 pub returns-in-Step-clause-does : goal.returns-in-Step-clause-does
 returns-in-Step-clause-does g c =
@@ -43,8 +45,10 @@ returns-in-Step-clause-does g c =
     let told = g.W.World.told in
     let before = g.W.World.state c.args.world.now in
     let after = g.W.World.state c.write_step.new.world in
-    subst (λ (x : Turn). TurnDoes told K old.policy seed c.args.n before after x) (sym (IfOk-at_ok (λ x. x ≡ Rattle.ccsl_simulate.specs.declared.simulator.Turn.TheVariants.Goes) is c.write_step.ensures.goes))
-    (turn-goes seed c.args.n old c.choice.new.self c.in_ok-set.ensures.task c.in_ok-set.ensures.states s c.in-Step.set c.write_step.ensures.set chosen told before after
+    subst (λ (x : Turn). TurnDoes told K old.policy seed c.args.n before after x)
+    (sym (IfOk-at_ok (λ x. x ≡ Rattle.ccsl_simulate.specs.declared.simulator.Turn.TheVariants.Goes) is c.write_step.ensures.goes))
+    (turn-goes seed c.args.n old c.choice.new.self c.in_ok-set.ensures.task c.in_ok-set.ensures.states s c.in-Step.set c.write_step.ensures.set chosen told
+    before after
     (IfOk-at_ok _ is c.write_step.ensures.writes)))
 
 pub returns-in-Step-clause-fails : goal.returns-in-Step-clause-fails
@@ -56,7 +60,8 @@ returns-in-Step-clause-fails g c =
     let chosen =
     subst (λ (x : Choice). Chooses (scope_of K) (item_formulas K (run_of old seed c.args.n)) old.policy (words_of_step K seed c.args.n) x) c.in-Step.is
     (c.in_ok-set.ensures.choice (run_of old seed c.args.n) seed c.args.n s.states s.draw) in
-    step-fails seed c.args.n old c.choice.new.self c.in_ok-set.ensures.task c.in_ok-set.ensures.states s c.in-Step.set c.write_step.ensures.set chosen g.W.World.told (g.W.World.state c.args.world.now) (g.W.World.state c.write_step.new.world) fault
+    step-fails seed c.args.n old c.choice.new.self c.in_ok-set.ensures.task c.in_ok-set.ensures.states s c.in-Step.set c.write_step.ensures.set chosen
+    g.W.World.told (g.W.World.state c.args.world.now) (g.W.World.state c.write_step.new.world) fault
     (IfErr-at_err _ is c.write_step.ensures.fails))
 
 pub returns-in-Deadlock-clause-does : goal.returns-in-Deadlock-clause-does
@@ -71,7 +76,8 @@ returns-in-Deadlock-clause-does g c =
     let told = g.W.World.told in
     let before = g.W.World.state c.args.world.now in
     let after = g.W.World.state c.write_lines.new.world in
-    subst (λ (x : Turn). TurnDoes told K old.policy seed c.args.n before after x) (sym (IfOk-at_ok (λ x. x ≡ Rattle.ccsl_simulate.specs.declared.simulator.Turn.TheVariants.Ends) is c.write_lines.ensures.ends))
+    subst (λ (x : Turn). TurnDoes told K old.policy seed c.args.n before after x)
+    (sym (IfOk-at_ok (λ x. x ≡ Rattle.ccsl_simulate.specs.declared.simulator.Turn.TheVariants.Ends) is c.write_lines.ensures.ends))
     (turn-ends seed c.args.n old c.choice.new.self c.in_ok-set.ensures.task c.in_ok-set.ensures.states s c.in-Deadlock.lines d told before after
     (IfOk-at_ok _ is c.write_lines.ensures.writes)))
 
@@ -84,5 +90,6 @@ returns-in-Deadlock-clause-fails g c =
     let d =
     subst (λ (x : Choice). Chooses (scope_of K) (item_formulas K (run_of old seed c.args.n)) old.policy (words_of_step K seed c.args.n) x) c.in-Deadlock.is
     (c.in_ok-set.ensures.choice (run_of old seed c.args.n) seed c.args.n s.states s.draw) in
-    lines-fail seed c.args.n old c.choice.new.self c.in_ok-set.ensures.task c.in_ok-set.ensures.states s c.in-Deadlock.lines d g.W.World.told (g.W.World.state c.args.world.now) (g.W.World.state c.write_lines.new.world) fault
+    lines-fail seed c.args.n old c.choice.new.self c.in_ok-set.ensures.task c.in_ok-set.ensures.states s c.in-Deadlock.lines d g.W.World.told
+    (g.W.World.state c.args.world.now) (g.W.World.state c.write_lines.new.world) fault
     (IfErr-at_err _ is c.write_lines.ensures.fails))

@@ -15,7 +15,8 @@ pub follow-requires-clause-kept : goal.follow-requires-clause-kept
 follow-requires-clause-kept c =
     let K = c.self.inside.system.now in
     subst (λ ts. AreKept K c.self.inside.readers.followed ts c.self.inside.passage.gone c.self.inside.passage.unsettled)
-    (ap₂ (λ C row. trees_in K C K.definitions row) (sym (c.as_slice.ensures.value ∙ c.self.invariant.calls)) (sym c.as_mut_slice.ensures.value)) c.self.invariant.kept
+    (ap₂ (λ C row. trees_in K C K.definitions row) (sym (c.as_slice.ensures.value ∙ c.self.invariant.calls)) (sym c.as_mut_slice.ensures.value))
+    c.self.invariant.kept
 
 pub follow-requires-clause-low : goal.follow-requires-clause-low
 follow-requires-clause-low c =
@@ -31,9 +32,11 @@ returns-clause-step c = λ T stands.
     let trees = trees_in h.system c.as_slice.result.now h.system.definitions c.follow.new.row in
     let low : are_below h.system.declared s ≡ true = subst (λ (p : HeldPart). are_below p.system.declared s ≡ true) (sym c.self.view_is) c.requires in
     let ascends : is_ascending s ≡ true = ap is_ascending (sym c.copy_from.ensures) ∙ c.hear.ensures.ascends in
-    let passed = passed_by h s c.copy_from.new.self c.as_slice.result.now c.as_mut_slice.result.now trees new.step new.gone (c.as_slice.ensures.value ∙ c.self.invariant.calls) c.as_mut_slice.ensures.value c.copy_from.ensures c.follow.ensures.passed in
+    let passed = passed_by h s c.copy_from.new.self c.as_slice.result.now c.as_mut_slice.result.now trees new.step new.gone
+    (c.as_slice.ensures.value ∙ c.self.invariant.calls) c.as_mut_slice.ensures.value c.copy_from.ensures c.follow.ensures.passed in
     subst (λ (p : HeldPart). PartStandsFor p T → c.copy_from-2.new.self ≡ part_of p (full_step p.system T s)) c.self.view_is
-    (λ st. c.copy_from-2.ensures ∙ part_step h T s c.self.invariant.accepted c.self.invariant.closed low ascends old.gone old.unsettled c.self.invariant.kept trees new.step new.gone new.unsettled passed c.follow.ensures.kept st c.follow.ensures.ascends) stands
+    (λ st. c.copy_from-2.ensures ∙ part_step h T s c.self.invariant.accepted c.self.invariant.closed low ascends old.gone old.unsettled c.self.invariant.kept
+    trees new.step new.gone new.unsettled passed c.follow.ensures.kept st c.follow.ensures.ascends) stands
 
 pub returns-clause-stands : goal.returns-clause-stands
 returns-clause-stands c = λ T stands short.
@@ -46,10 +49,14 @@ returns-clause-stands c = λ T stands short.
     let low : are_below h.system.declared s ≡ true = subst (λ (p : HeldPart). are_below p.system.declared s ≡ true) (sym c.self.view_is) c.requires in
     let ascends : is_ascending s ≡ true = ap is_ascending (sym c.copy_from.ensures) ∙ c.hear.ensures.ascends in
     let calls_are = c.as_slice.ensures.value ∙ c.self.invariant.calls in
-    let passed = passed_by h s c.copy_from.new.self c.as_slice.result.now c.as_mut_slice.result.now trees new.step new.gone calls_are c.as_mut_slice.ensures.value c.copy_from.ensures c.follow.ensures.passed in
+    let passed = passed_by h s c.copy_from.new.self c.as_slice.result.now c.as_mut_slice.result.now trees new.step new.gone calls_are
+    c.as_mut_slice.ensures.value c.copy_from.ensures c.follow.ensures.passed in
     let written = with_items c.self.inside.row row' in
     let next : HeldPart = record { system = h.system; followed = h.followed; row = written.items } in
-    let is : written.items ≡ row' = front_head c.self.inside.row.len row' (drop (length row') c.self.inside.row.items) (c.follow.auto.row ∙ c.as_mut_slice.ensures.len) in
-    let same : (i : ℕ) → followed_tree next i ≡ slice_get trees i = λ i. ap₂ (λ C row. slice_get (trees_in h.system C h.system.definitions row) i) (sym calls_are) is in
+    let is : written.items ≡ row' =
+    front_head c.self.inside.row.len row' (drop (length row') c.self.inside.row.items) (c.follow.auto.row ∙ c.as_mut_slice.ensures.len) in
+    let same : (i : ℕ) → followed_tree next i ≡ slice_get trees i =
+    λ i. ap₂ (λ C row. slice_get (trees_in h.system C h.system.definitions row) i) (sym calls_are) is in
     subst (λ (p : HeldPart). PartStandsFor p T → PartStandsFor next (T ++ full_step p.system T s ∷ [])) c.self.view_is
-    (λ st. part_stands h T s c.self.invariant.accepted c.self.invariant.closed low ascends old.gone old.unsettled c.self.invariant.kept trees new.step new.gone new.unsettled passed c.follow.ensures.kept st next short refl refl same) stands
+    (λ st. part_stands h T s c.self.invariant.accepted c.self.invariant.closed low ascends old.gone old.unsettled c.self.invariant.kept trees new.step new.gone
+    new.unsettled passed c.follow.ensures.kept st next short refl refl same) stands

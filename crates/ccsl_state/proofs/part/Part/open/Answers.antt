@@ -22,7 +22,8 @@ returns-clause-stands c =
     let K = c.args.system.now in
     let row' = c.row_opened.new.row in
     let written = with_items c.in_ok-row.row row' in
-    let is : written.items ≡ row' = front_head c.in_ok-row.row.len row' (drop (length row') c.in_ok-row.row.items) (c.row_opened.auto.row ∙ c.as_mut_slice.ensures.len) in
+    let is : written.items ≡ row' =
+    front_head c.in_ok-row.row.len row' (drop (length row') c.in_ok-row.row.items) (c.row_opened.auto.row ∙ c.as_mut_slice.ensures.len) in
     part_opened (record { system = K; followed = c.in_ok-readers.readers.followed; row = written.items }) c.in_ok-calls.ensures.accepted
     (ap (λ row. trees_of (let h : Held = record { system = K; row = row } in h)) is ∙ c.row_opened.ensures.trees)
 
@@ -32,9 +33,11 @@ invariant_of-result c =
     let r = c.in_ok-readers.readers in
     let row' = c.row_opened.new.row in
     let written = with_items c.in_ok-row.row row' in
-    let is : written.items ≡ row' = front_head c.in_ok-row.row.len row' (drop (length row') c.in_ok-row.row.items) (c.row_opened.auto.row ∙ c.as_mut_slice.ensures.len) in
+    let is : written.items ≡ row' =
+    front_head c.in_ok-row.row.len row' (drop (length row') c.in_ok-row.row.items) (c.row_opened.auto.row ∙ c.as_mut_slice.ensures.len) in
     let trees = trees_in K (calls_of K) K.definitions written.items in
-    let opened : trees ≡ opened_all K K.definitions = ap (λ row. trees_of (let h : Held = record { system = K; row = row } in h)) is ∙ c.row_opened.ensures.trees in
+    let opened : trees ≡ opened_all K K.definitions =
+    ap (λ row. trees_of (let h : Held = record { system = K; row = row } in h)) is ∙ c.row_opened.ensures.trees in
     record {
       accepted = c.in_ok-calls.ensures.accepted;
       calls = search rules;
@@ -42,5 +45,6 @@ invariant_of-result c =
       readers = subst (λ F. AreReaders K F r.sets.items) (sym c.in_ok-readers.ensures.followed) c.in_ok-readers.ensures.readers;
       row = search rules;
       closed = subst (IsClosed K) (sym c.in_ok-readers.ensures.followed) c.reached.ensures.closed;
-      kept = subst (λ gone. AreKept K r.followed trees gone c.numbers.result) (sym c.empty-2.ensures) (kept_opened K c.in_ok-calls.ensures.accepted r.followed trees c.numbers.result opened c.numbers.ensures);
+      kept = subst (λ gone. AreKept K r.followed trees gone c.numbers.result) (sym c.empty-2.ensures)
+          (kept_opened K c.in_ok-calls.ensures.accepted r.followed trees c.numbers.result opened c.numbers.ensures);
     }

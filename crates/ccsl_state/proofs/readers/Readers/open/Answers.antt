@@ -48,7 +48,8 @@ loop-i-preserved c =
     let K = c.args.system.now in
     let F = c.args.followed in
     let i = c.loop-i.i in
-    let has : c.has.result ≡ ticks_in (K.declared + i) F = c.has.ensures.member ∙ ap (λ (s : Scope). ticks_in (s.declared + i) F) c.scope-declared.ensures.scope in
+    let has : c.has.result ≡ ticks_in (K.declared + i) F =
+    c.has.ensures.member ∙ ap (λ (s : Scope). ticks_in (s.declared + i) F) c.scope-declared.ensures.scope in
     elim c.if-has.branch [
       | then-has w ↦
           let e = plain_expr w.definition.result.now in
@@ -59,7 +60,8 @@ loop-i-preserved c =
             before = subst (ReadBefore K F (i + 1)) (sym items)
                 (read_more K F i c.loop-i.sets.items c.loop-i.invariant.before e new w.definition.ensures.definition (sym has ∙ w.if-has.true) (λ y p.
                 w.add_reader.ensures y p
-                ∙ ap₂ (λ t sets. (nat_eq p i && t) || ticks_in p (slice_index_or sets y [])) (named_alone e w.empty-named.result w.add_named.new.set w.empty-named.ensures w.add_named.ensures y) w.as_mut_slice.ensures.value));
+                ∙ ap₂ (λ t sets. (nat_eq p i && t) || ticks_in p (slice_index_or sets y []))
+                (named_alone e w.empty-named.result w.add_named.new.set w.empty-named.ensures w.add_named.ensures y) w.as_mut_slice.ensures.value));
           })
       | else-has w ↦ rw w.sets-is (record {
         count = c.loop-i.invariant.count;
@@ -70,4 +72,5 @@ loop-i-preserved c =
 pub returns-clause-readers : goal.returns-clause-readers
 returns-clause-readers c =
     read_all c.args.system.now c.args.followed c.loop-i.sets.items c.loop-i.i
-    (let upto = c.loop-i.auto.i-end in let past = c.loop-i-test.false in let all = c.definitions-i-end.ensures in omega (arith, upto, past, all)) c.loop-i.invariant.count c.loop-i.invariant.before
+    (let upto = c.loop-i.auto.i-end in let past = c.loop-i-test.false in let all =
+    c.definitions-i-end.ensures in omega (arith, upto, past, all)) c.loop-i.invariant.count c.loop-i.invariant.before

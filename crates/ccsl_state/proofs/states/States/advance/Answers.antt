@@ -17,7 +17,8 @@ returns-clause-stands c = λ T stands short.
     let written = with_items c.self.inside.row row' in
     let new : Held = record { system = K; row = written.items } in
     let old : Held = record { system = K; row = c.as_mut_slice.result.now } in
-    let is : written.items ≡ row' = front_head c.self.inside.row.len row' (drop (length row') c.self.inside.row.items) (c.row_advanced-passed.auto.row ∙ c.as_mut_slice.ensures.len) in
+    let is : written.items ≡ row' =
+    front_head c.self.inside.row.len row' (drop (length row') c.self.inside.row.items) (c.row_advanced-passed.auto.row ∙ c.as_mut_slice.ensures.len) in
     let at : old ≡ c.args.self.now = ap (λ row. record { system = K; row = row }) c.as_mut_slice.ensures.value ∙ c.self.view_is in
     let next : Advances c.args.self.now (derived_by c.args.self.now s) new =
     subst (λ (h : Held). Advances h (derived_by h s) new) at
@@ -34,7 +35,8 @@ returns-clause-silent c = λ T stands short obeys low.
     let written = with_items c.self.inside.row row' in
     let new : Held = record { system = K; row = written.items } in
     let old : Held = record { system = K; row = c.as_mut_slice.result.now } in
-    let is : written.items ≡ row' = front_head c.self.inside.row.len row' (drop (length row') c.self.inside.row.items) (c.row_advanced-passed.auto.row ∙ c.as_mut_slice.ensures.len) in
+    let is : written.items ≡ row' =
+    front_head c.self.inside.row.len row' (drop (length row') c.self.inside.row.items) (c.row_advanced-passed.auto.row ∙ c.as_mut_slice.ensures.len) in
     let at : old ≡ c.args.self.now = ap (λ row. record { system = K; row = row }) c.as_mut_slice.ensures.value ∙ c.self.view_is in
     let next : Advances c.args.self.now (derived_by c.args.self.now s) new =
     subst (λ (h : Held). Advances h (derived_by h s) new) at

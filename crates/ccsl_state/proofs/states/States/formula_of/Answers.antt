@@ -23,6 +23,8 @@ returns-clause-below c =
     let K = c.self.inside.system.now in
     let item = c.args.item in
     let h = held c.self.inside in
-    let is : plain c.in_ok-item_formula.field-0 ≡ formula_in h item = c.in_ok-item_formula.ensures ∙ ap (λ row. formula_in (record { system = K; row = row }) item) c.as_slice-2.ensures.value in
+    let is : plain c.in_ok-item_formula.field-0 ≡ formula_in h item =
+    c.in_ok-item_formula.ensures ∙ ap (λ row. formula_in (record { system = K; row = row }) item) c.as_slice-2.ensures.value in
     subst (λ (h' : Held). ReadsBelow (length h'.system.names) (plain c.in_ok-item_formula.field-0)) c.self.view_is
-    (subst (ReadsBelow (length K.names)) (sym is) (formula_below h c.self.invariant.accepted c.self.invariant.below (trees_len K (calls_of K) K.definitions c.self.inside.row.items) item))
+    (subst (ReadsBelow (length K.names)) (sym is)
+    (formula_below h c.self.invariant.accepted c.self.invariant.below (trees_len K (calls_of K) K.definitions c.self.inside.row.items) item))

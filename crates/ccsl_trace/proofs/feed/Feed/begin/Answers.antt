@@ -8,4 +8,5 @@ returns-clause-unbound c = unbound (wanted_of c.args.system.now) c.in_ok-reader.
 
 pub returns-clause-feeds : goal.returns-clause-feeds
 returns-clause-feeds c = λ told now.
-    opened told (wanted_of c.args.system.now) c.args.limits now _ (omega arith) c.in_ok-pending.ensures c.in_ok-block.ensures refl c.in_ok-reader.ensures.limits c.in_ok-reader.ensures.runs c.in_ok-reader.ensures.stands
+    opened told (wanted_of c.args.system.now) c.args.limits now _ (omega arith) c.in_ok-pending.ensures c.in_ok-block.ensures refl c.in_ok-reader.ensures.limits
+    c.in_ok-reader.ensures.runs c.in_ok-reader.ensures.stands

@@ -13,7 +13,8 @@ invariant-loop-next g l = record {
   ended : l.self.ended ≡ None;
   bound : bound_of l.self ≡ bound_of l.fn.self;
   nearer : calls_left l.self ≤ calls_left l.fn.self;
-  feeds : (wanted : Wanted) (limits : Limits) (start : State) (rows : List Row) → Feeds g.W.World.told wanted limits start (g.W.World.state l.fn.world) l.fn.self rows
+  feeds : (wanted : Wanted) (limits : Limits) (start : State) (rows : List Row)
+      → Feeds g.W.World.told wanted limits start (g.W.World.state l.fn.world) l.fn.self rows
       → Feeds g.W.World.told wanted limits start (g.W.World.state l.world) l.self rows;
 }
 

@@ -25,20 +25,36 @@ returns-clause-closer c =
     let s = subst (λ x. Runs w.0 w.1 w.2 x w.3) (sym c.self.view_is) w.4 in
     let fresh = ap (λ (x : Feeding). x.handed) c.self.view_is ∙ c.requires.fresh in
     let some = subst (λ (x : Feeding). 0 < length x.pending) (sym c.self.view_is) c.requires.some in
-    let new : Feeding = record { reading = c.feed.new.self; pending = c.take.new.self; block = c.feed.new.out; handed = c.self.inside.handed; ended = c.self.inside.ended } in
+    let new : Feeding = record {
+      reading = c.feed.new.self;
+      pending = c.take.new.self;
+      block = c.feed.new.out;
+      handed = c.self.inside.handed;
+      ended =
+          c.self.inside.ended;
+    } in
     subst (λ (x : Feeding). left_of new < left_of x) c.self.view_is
     (comes-closer w.0 w.1 w.2 _ w.3 s new c.in-Ok.taken.bytes fresh c.feed.ensures.limits c.in-Ok.ensures.runs.0
-    (rw c.bytes.ensures.same at (c.in-Ok.ensures.stands w.0 s.taken s.stands)) some (c.in-Ok.ensures.moves (subst (λ xs. 0 < length xs) (sym c.bytes.ensures.same) some)))
+    (rw c.bytes.ensures.same at (c.in-Ok.ensures.stands w.0 s.taken s.stands)) some
+    (c.in-Ok.ensures.moves (subst (λ xs. 0 < length xs) (sym c.bytes.ensures.same) some)))
 
 pub returns-clause-turns : goal.returns-clause-turns
 returns-clause-turns c =
     let w = c.requires.runs in
     let s = subst (λ x. Runs w.0 w.1 w.2 x w.3) (sym c.self.view_is) w.4 in
     let fresh = ap (λ (x : Feeding). x.handed) c.self.view_is ∙ c.requires.fresh in
-    let new : Feeding = record { reading = c.feed.new.self; pending = c.take.new.self; block = c.feed.new.out; handed = c.self.inside.handed; ended = c.self.inside.ended } in
+    let new : Feeding = record {
+      reading = c.feed.new.self;
+      pending = c.take.new.self;
+      block = c.feed.new.out;
+      handed = c.self.inside.handed;
+      ended =
+          c.self.inside.ended;
+    } in
     subst (λ (x : Feeding). Turns c.in-Ok.taken.header_ended (bound_of x) (bound_of new)) c.self.view_is
     (turns w.0 w.1 w.2 _ w.3 s new c.in-Ok.taken.bytes fresh c.feed.ensures.limits c.in-Ok.ensures.runs.0
-    (rw c.bytes.ensures.same at (c.in-Ok.ensures.stands w.0 s.taken s.stands)) c.in-Ok.taken.header_ended (rw c.bytes.ensures.same at (c.in-Ok.ensures.header w.0 s.taken s.stands)))
+    (rw c.bytes.ensures.same at (c.in-Ok.ensures.stands w.0 s.taken s.stands)) c.in-Ok.taken.header_ended
+    (rw c.bytes.ensures.same at (c.in-Ok.ensures.header w.0 s.taken s.stands)))
 
 pub returns-clause-near : goal.returns-clause-near
 returns-clause-near c = λ e wanted limits bytes rows r.

@@ -9,17 +9,26 @@ use Rattle.ccsl_trace.proofs.feed.Feed.step.Goals as goal
 
 pub returns-then-is_full-clause-gives : goal.returns-then-is_full-clause-gives
 returns-then-is_full-clause-gives g c = λ wanted limits start rows f.
-    let new : Feeding = record { reading = c.self.inside.reader; pending = c.self.inside.pending; block = c.self.inside.block; handed = true; ended = c.self.inside.ended } in
+    let new : Feeding = record {
+      reading = c.self.inside.reader;
+      pending = c.self.inside.pending;
+      block = c.self.inside.block;
+      handed = true;
+      ended =
+          c.self.inside.ended;
+    } in
     let full = c.is_full.ensures.full.0 c.if-is_full.true in
     let s = subst (λ x. Feeds g.W.World.told wanted limits start (g.W.World.state c.args.world.now) x rows) (sym c.self.view_is) f in
     subst (λ (x : Feeding). GivesRows g.W.World.told wanted limits start (g.W.World.state c.args.world.now) (bound_of x) new rows) c.self.view_is
-    (gives-rows g.W.World.told wanted limits start (g.W.World.state c.args.world.now) _ rows s new (ap (λ (x : Feeding). x.ended) c.self.view_is ∙ c.requires.ended) (ap (λ (x : Feeding). x.handed) c.self.view_is ∙ c.requires.fresh) full refl)
+    (gives-rows g.W.World.told wanted limits start (g.W.World.state c.args.world.now) _ rows s new
+    (ap (λ (x : Feeding). x.ended) c.self.view_is ∙ c.requires.ended) (ap (λ (x : Feeding). x.handed) c.self.view_is ∙ c.requires.fresh) full refl)
 
 pub returns-in_err-refill-clause-unread : goal.returns-in_err-refill-clause-unread
 returns-in_err-refill-clause-unread g c =
     let p = err_from_is_err_and c.from_residual.result c.from_residual.ensures.1 in
     rw p.1 (λ wanted limits start rows f.
-    subst (λ t. IsUnread g.W.World.told wanted limits start (g.W.World.state c.refill.new.world) t) (sym (p.2 ∙ c.in_err-refill.ensures.fault)) (c.in_err-refill.ensures.fails wanted limits start rows f))
+    subst (λ t. IsUnread g.W.World.told wanted limits start (g.W.World.state c.refill.new.world) t) (sym (p.2 ∙ c.in_err-refill.ensures.fault))
+    (c.in_err-refill.ensures.fails wanted limits start rows f))
 
 pub returns-in_err-finish-clause-unread : goal.returns-in_err-finish-clause-unread
 returns-in_err-finish-clause-unread g c =
@@ -28,16 +37,21 @@ returns-in_err-finish-clause-unread g c =
     let n = c.in_ok-refill.ensures.feeds wanted limits start rows f in
     let e = ap (λ (x : Feeding). x.ended) c.refill.ensures.kept ∙ c.requires.ended in
     subst (λ t. IsUnread g.W.World.told wanted limits start (g.W.World.state c.refill.new.world) t) (sym p.2)
-    (refuses-end g.W.World.told wanted limits start (g.W.World.state c.refill.new.world) c.refill.new.self rows n (c.in_ok-refill.ensures.left c.if-not-branch.true) _
-    (c.in_err-finish.ensures.refuses wanted limits n.bytes rows (runs-of g.W.World.told wanted limits start (g.W.World.state c.refill.new.world) c.refill.new.self rows n e))))
+    (refuses-end g.W.World.told wanted limits start (g.W.World.state c.refill.new.world) c.refill.new.self rows n
+    (c.in_ok-refill.ensures.left c.if-not-branch.true) _
+    (c.in_err-finish.ensures.refuses wanted limits n.bytes rows
+    (runs-of g.W.World.told wanted limits start (g.W.World.state c.refill.new.world) c.refill.new.self rows n e))))
 
 pub returns-then-not-branch-clause-gives : goal.returns-then-not-branch-clause-gives
 returns-then-not-branch-clause-gives g c = λ wanted limits start rows f.
     let n = c.in_ok-refill.ensures.feeds wanted limits start rows f in
     let e = ap (λ (x : Feeding). x.ended) c.refill.ensures.kept ∙ c.requires.ended in
-    subst (λ o. Gives g.W.World.told wanted limits start (g.W.World.state c.refill.new.world) c.in_ok-finish.field-0 o c.finish.new.self rows) (ap bound_of c.refill.ensures.kept)
-    (gives-finish g.W.World.told wanted limits start (g.W.World.state c.refill.new.world) c.refill.new.self rows n (c.in_ok-refill.ensures.left c.if-not-branch.true) c.in_ok-finish.field-0 (bound_of c.refill.new.self) c.finish.new.self
-    (c.in_ok-finish.ensures.finishes wanted limits n.bytes rows (runs-of g.W.World.told wanted limits start (g.W.World.state c.refill.new.world) c.refill.new.self rows n e)))
+    subst (λ o. Gives g.W.World.told wanted limits start (g.W.World.state c.refill.new.world) c.in_ok-finish.field-0 o c.finish.new.self rows)
+    (ap bound_of c.refill.ensures.kept)
+    (gives-finish g.W.World.told wanted limits start (g.W.World.state c.refill.new.world) c.refill.new.self rows n
+    (c.in_ok-refill.ensures.left c.if-not-branch.true) c.in_ok-finish.field-0 (bound_of c.refill.new.self) c.finish.new.self
+    (c.in_ok-finish.ensures.finishes wanted limits n.bytes rows
+    (runs-of g.W.World.told wanted limits start (g.W.World.state c.refill.new.world) c.refill.new.self rows n e)))
 
 pub returns-then-not-branch-clause-nears : goal.returns-then-not-branch-clause-nears
 returns-then-not-branch-clause-nears g c =
@@ -50,8 +64,14 @@ returns-then-not-branch-clause-nears g c =
 pub pass-requires-clause-runs : goal.pass-requires-clause-runs
 pass-requires-clause-runs g c =
     let w = c.requires.feeds in
-    let f = c.in_ok-refill.ensures.feeds w.0 w.1 w.2 w.3 w.4 in
-    (w.0, w.1, f.bytes, w.3, runs-of g.W.World.told w.0 w.1 w.2 (g.W.World.state c.refill.new.world) c.refill.new.self w.3 f (ap (λ (x : Feeding). x.ended) c.refill.ensures.kept ∙ c.requires.ended))
+    let f = c.in_ok-refill.ensures.feeds w.0 w.1 w.2 w.3 w.4 in (
+      w.0,
+      w.1,
+      f.bytes,
+      w.3,
+      runs-of g.W.World.told w.0 w.1 w.2 (g.W.World.state c.refill.new.world) c.refill.new.self w.3 f
+          (ap (λ (x : Feeding). x.ended) c.refill.ensures.kept ∙ c.requires.ended),
+    )
 
 pub returns-in_err-pass-clause-unread : goal.returns-in_err-pass-clause-unread
 returns-in_err-pass-clause-unread g c =
@@ -61,7 +81,8 @@ returns-in_err-pass-clause-unread g c =
     let e = ap (λ (x : Feeding). x.ended) c.refill.ensures.kept ∙ c.requires.ended in
     subst (λ t. IsUnread g.W.World.told wanted limits start (g.W.World.state c.refill.new.world) t) (sym p.2)
     (refuses-on g.W.World.told wanted limits start (g.W.World.state c.refill.new.world) c.refill.new.self rows n _
-    (c.in_err-pass.ensures.refuses wanted limits n.bytes rows (runs-of g.W.World.told wanted limits start (g.W.World.state c.refill.new.world) c.refill.new.self rows n e))))
+    (c.in_err-pass.ensures.refuses wanted limits n.bytes rows
+    (runs-of g.W.World.told wanted limits start (g.W.World.state c.refill.new.world) c.refill.new.self rows n e))))
 
 pub returns-then-branch-clause-gives : goal.returns-then-branch-clause-gives
 returns-then-branch-clause-gives g c = λ wanted limits start rows f.
@@ -70,5 +91,6 @@ returns-then-branch-clause-gives g c = λ wanted limits start rows f.
     let r = runs-of g.W.World.told wanted limits start (g.W.World.state c.refill.new.world) c.refill.new.self rows n e in
     let t = subst (λ b. Turns b (bound_of c.refill.new.self) (bound_of c.pass.new.self)) c.if-branch.true c.in_ok-pass.ensures.turns in
     subst (λ o. GivesBound g.W.World.told wanted limits start (g.W.World.state c.refill.new.world) o c.pass.new.self rows) (ap bound_of c.refill.ensures.kept)
-    (gives-bound g.W.World.told wanted limits start (g.W.World.state c.refill.new.world) c.refill.new.self rows n c.pass.new.self t.1 e (c.pass.ensures.ended ∙ e) t.0 t.2
+    (gives-bound g.W.World.told wanted limits start (g.W.World.state c.refill.new.world) c.refill.new.self rows n c.pass.new.self t.1 e
+    (c.pass.ensures.ended ∙ e) t.0 t.2
     (c.in_ok-pass.ensures.near (ap Ok c.if-branch.true) wanted limits n.bytes rows r) (c.in_ok-pass.ensures.runs wanted limits n.bytes rows r))

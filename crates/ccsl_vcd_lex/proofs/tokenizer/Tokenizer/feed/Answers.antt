@@ -30,7 +30,8 @@ returns-then-self-eq0 c =
     let v = seen old _ _ _ _ _ c.self.view_is (omega (arith, c.self.inside.current.ok.0)) (omega arith) in
     let f : old.failed ≡ false = v.failed ∙ c.if-self.false in
     let none = nothing-open old _ _ _ v c.if-self-eq0.true in
-    let r = ends-none old c.skip.new.self (c.args.byte ∷ []) (skipped old c.skip.new.self (c.args.byte ∷ []) c.skip.ensures f none (sym c.is_space.ensures ∙ c.if-is_space.true, tt) (omega arith)) none in
+    let r = ends-none old c.skip.new.self (c.args.byte ∷ [])
+    (skipped old c.skip.new.self (c.args.byte ∷ []) c.skip.ensures f none (sym c.is_space.ensures ∙ c.if-is_space.true, tt) (omega arith)) none in
     record {
       stands = r.stands;
       settled = r.settles;
@@ -53,7 +54,8 @@ returns-then-is_space c =
     let fits : length old.open_text ≤ 65536 = omega (arith, v.count) in
     let last = ap (λ (v : Lexing). v.last) c.end_token.ensures.after in
     let word = same-word _ old.begin old.open_text new.last (ap (λ s. s.at) c.end_token.ensures.span) last in
-    let r = subst (Told old new (c.args.byte ∷ [])) word (ends-one old new (c.args.byte ∷ []) (ended old new c.args.byte c.end_token.ensures.after f (sym c.is_space.ensures ∙ c.if-is_space.true)) some fits) in
+    let r = subst (Told old new (c.args.byte ∷ [])) word
+    (ends-one old new (c.args.byte ∷ []) (ended old new c.args.byte c.end_token.ensures.after f (sym c.is_space.ensures ∙ c.if-is_space.true)) some fits) in
     record {
       stands = r.stands;
       settled = r.settles;

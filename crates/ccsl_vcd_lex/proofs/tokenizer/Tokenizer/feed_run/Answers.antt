@@ -40,7 +40,8 @@ returns-then-end-start c =
     let front = c.skip_front-start.ensures in
     let k = found old a piece c.skip_front-start.result c.run_end-end.result _ _ _ _ _ _
     (seen old _ _ _ _ _ c.self.view_is (omega (arith, c.self.inside.current.ok.0)) (omega arith)) c.if-self.false
-    (seen a _ _ _ _ _ c.self-2.view_is (omega (arith, c.self-2.inside.current.ok.0)) (omega arith)) front.after front.within front.open front.none c.run_end-end.ensures.value in
+    (seen a _ _ _ _ _ c.self-2.view_is (omega (arith, c.self-2.inside.current.ok.0)) (omega arith)) front.after front.within front.open front.none
+    c.run_end-end.ensures.value in
     let r = subst (RefusedPiece old c.refuse.new.self piece) (sym (ap (λ t. t.at) c.refuse.ensures.at))
     (breaks-run old a c.refuse.new.self piece _ _ _ k c.refuse.ensures.after (omega arith) (omega arith)) in
     record {
@@ -68,7 +69,8 @@ returns-then-end-piece c =
     let front = c.skip_front-start.ensures in
     let k = found old a piece c.skip_front-start.result c.run_end-end.result _ _ _ _ _ _
     (seen old _ _ _ _ _ c.self.view_is (omega (arith, c.self.inside.current.ok.0)) (omega arith)) c.if-self.false
-    (seen a _ _ _ _ _ c.self-2.view_is (omega (arith, c.self-2.inside.current.ok.0)) (omega arith)) front.after front.within front.open front.none c.run_end-end.ensures.value in
+    (seen a _ _ _ _ _ c.self-2.view_is (omega (arith, c.self-2.inside.current.ok.0)) (omega arith)) front.after front.within front.open front.none
+    c.run_end-end.ensures.value in
     let r = runs-to old a c.append.new.self piece _ _ _ k c.append.ensures (omega arith) in
     record {
       within = c.run_end-end.ensures.within;
@@ -98,7 +100,8 @@ returns c =
     let front = c.skip_front-start.ensures in
     let k = found old a piece c.skip_front-start.result c.run_end-end.result _ _ _ _ _ _
     (seen old _ _ _ _ _ c.self.view_is (omega (arith, c.self.inside.current.ok.0)) (omega arith)) c.if-self.false
-    (seen a _ _ _ _ _ c.self-2.view_is (omega (arith, c.self-2.inside.current.ok.0)) (omega arith)) front.after front.within front.open front.none c.run_end-end.ensures.value in
+    (seen a _ _ _ _ _ c.self-2.view_is (omega (arith, c.self-2.inside.current.ok.0)) (omega arith)) front.after front.within front.open front.none
+    c.run_end-end.ensures.value in
     let ran = runs-to old a b piece _ _ _ k c.append.ensures (omega arith) in
     let less : end < length piece = omega (arith, c.run_end-end.ensures.within) in
     let runs : b.failed ≡ false = ap (λ (x : Lexing). x.failed) c.append.ensures ∙ k.runs in
@@ -107,14 +110,16 @@ returns c =
     let fits : length b.open_text ≤ 65536 = omega (arith, text) in
     let last = ap (λ (x : Lexing). x.last) c.end_token.ensures.after in
     let named = same-word _ b.begin b.open_text new.last (ap (λ t. t.at) c.end_token.ensures.span) last in
-    let r = subst (Told old new (take (end + 1) piece)) named (ends-run old b new piece end ran c.end_token.ensures.after runs (k.parts.stops less) less some fits) in
+    let r = subst (Told old new (take (end + 1) piece)) named
+    (ends-run old b new piece end ran c.end_token.ensures.after runs (k.parts.stops less) less some fits) in
     record {
       within = omega arith;
       moves = λ _. omega arith;
       stops = λ _. refl;
       stands = r.stands;
       settled = r.settles;
-      by_last = λ bytes s. ap (λ (k : ℕ). settled (bytes ++ take k piece)) (let e : end + 1 - 1 ≡ end = omega arith in e) ∙ ran.settles bytes s ∙ append-nil (settled bytes);
+      by_last = λ bytes s. ap (λ (k : ℕ). settled (bytes ++ take k piece)) (let e : end + 1 - 1 ≡ end = omega arith in e) ∙ ran.settles bytes s
+          ∙ append-nil (settled bytes);
       span = (ap (λ t. t.len) c.end_token.ensures.span ∙ ap length (sym last), rw last fits);
       keeps = tt;
       short = r.short;

@@ -10,7 +10,8 @@ returns c =
     let code = c.in-Some.code in
     let is : IsCode code.len code.place _ = subst (IsCode code.len code.place) (rest-is 1 c.args.bytes.now) c.in-Some.ensures in
     bit-made c.args.self.now _ code.len code.place c.in-Some-known.number c.args.bytes.now is
-    (sym c.is_changes.ensures ∙ c.if-not-is_changes.false) (sym c.is_bit.ensures ∙ c.if-not-is_bit.false) (c.in-Some-known.ensures.number _ is.at) (ap (λ (ms : List Mark). record c.args.self.now { marks = ms }) c.change.ensures)
+    (sym c.is_changes.ensures ∙ c.if-not-is_changes.false) (sym c.is_bit.ensures ∙ c.if-not-is_bit.false) (c.in-Some-known.ensures.number _ is.at)
+    (ap (λ (ms : List Mark). record c.args.self.now { marks = ms }) c.change.ensures)
 
 pub returns-then-is_empty : goal.returns-then-is_empty
 returns-then-is_empty c = none-made c.args.self.now c.args.bytes.now

@@ -13,11 +13,13 @@ loop-out-init c = record {
 
 pub loop-out-preserved : goal.loop-out-preserved
 loop-out-preserved c = record {
-  so_far = runs-before-more c.args.self.now c.loop-out.self c.step-taken.new.self c.args.at c.step-taken.result c.args.piece.now c.loop-out.rest.now _ c.args.out.now.rows c.loop-out.out.rows c.step-taken.new.out.rows
+  so_far = runs-before-more c.args.self.now c.loop-out.self c.step-taken.new.self c.args.at c.step-taken.result c.args.piece.now c.loop-out.rest.now _
+      c.args.out.now.rows c.loop-out.out.rows c.step-taken.new.out.rows
       c.loop-out.invariant.so_far c.step-taken.ensures.within c.step-taken.ensures.runs (rest-is c.step-taken.result c.loop-out.rest.now);
   room = c.step-taken.ensures.room ∙ c.loop-out.invariant.room;
   full = λ e.
-      fills-last c.args.self.now c.loop-out.self c.args.at c.step-taken.result c.args.piece.now c.loop-out.rest.now _ c.args.out.now.rows c.loop-out.out.rows c.args.out.now.room c.loop-out.invariant.so_far
+      fills-last c.args.self.now c.loop-out.self c.args.at c.step-taken.result c.args.piece.now c.loop-out.rest.now _ c.args.out.now.rows c.loop-out.out.rows
+      c.args.out.now.room c.loop-out.invariant.so_far
       c.step-taken.ensures.within (grind (arith, common_steps, c.if-taken-eq0.false))
       (grind (arith, common_steps, c.is_full.ensures, c.if-not-is_full.true, c.loop-out.invariant.room))
       (c.step-taken.ensures.full e) (rest-is c.step-taken.result c.loop-out.rest.now);
@@ -25,7 +27,8 @@ loop-out-preserved c = record {
 
 pub returns-then-taken-eq0-clause-runs : goal.returns-then-taken-eq0-clause-runs
 returns-then-taken-eq0-clause-runs c =
-    runs-before-end c.args.self.now c.loop-out.self c.step-taken.new.self c.args.at c.step-taken.result c.args.piece.now c.loop-out.rest.now c.args.out.now.rows c.loop-out.out.rows c.step-taken.new.out.rows
+    runs-before-end c.args.self.now c.loop-out.self c.step-taken.new.self c.args.at c.step-taken.result c.args.piece.now c.loop-out.rest.now c.args.out.now.rows
+    c.loop-out.out.rows c.step-taken.new.out.rows
     c.loop-out.invariant.so_far c.step-taken.ensures.runs c.if-taken-eq0.true
 
 pub returns-then-taken-eq0-clause-full : goal.returns-then-taken-eq0-clause-full

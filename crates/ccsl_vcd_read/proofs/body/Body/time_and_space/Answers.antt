@@ -10,7 +10,8 @@ returns-then-time-eq0-clause-runs c =
 
 pub returns-clause-runs : goal.returns-clause-runs
 returns-clause-runs c =
-    front-heard c.args.self.now c.short_time-time.new.self c.args.at c.short_time-time.result c.args.bytes.now c.args.out.now.rows c.short_time-time.new.out.rows c.short_time-time.ensures.heard
+    front-heard c.args.self.now c.short_time-time.new.self c.args.at c.short_time-time.result c.args.bytes.now c.args.out.now.rows
+    c.short_time-time.new.out.rows c.short_time-time.ensures.heard
     (omega (arith, c.if-time-eq0.false))
 
 pub returns-clause-one : goal.returns-clause-one

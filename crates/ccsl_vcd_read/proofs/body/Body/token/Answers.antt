@@ -12,8 +12,10 @@ returns-then-end-eq0-clause-runs c =
 
 pub returns-in-Ok-clause-runs : goal.returns-in-Ok-clause-runs
 returns-in-Ok-clause-runs c =
-    front-word c.args.self.now c.hear.new.self c.args.at c.run_end-end.result c.args.bytes.now c.args.out.now.rows c.hear.new.out.rows (c.run_end-end.ensures.value ∙ zero-add _)
-    (omega (arith, c.if-end-eq0.false)) (omega (arith, c.run_end-end.ensures.within, c.if-end-bytes.false)) c.if-end-gt-MAX_TOKEN_BYTES.false c.in-Ok.ensures.said
+    front-word c.args.self.now c.hear.new.self c.args.at c.run_end-end.result c.args.bytes.now c.args.out.now.rows c.hear.new.out.rows
+    (c.run_end-end.ensures.value ∙ zero-add _)
+    (omega (arith, c.if-end-eq0.false)) (omega (arith, c.run_end-end.ensures.within, c.if-end-bytes.false)) c.if-end-gt-MAX_TOKEN_BYTES.false
+    c.in-Ok.ensures.said
 
 pub returns-in-Err-clause-runs : goal.returns-in-Err-clause-runs
 returns-in-Err-clause-runs c = runs-same _ _ c.args.self.now c.hear.new.self c.args.at c.args.out.now.rows c.hear.new.out.rows c.in-Err.ensures.said

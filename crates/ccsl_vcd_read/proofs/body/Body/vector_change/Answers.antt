@@ -23,10 +23,13 @@ returns c =
     let some : 0 < k = omega (arith, c.if-end-eq1.false) in
     let inside : k + 1 < length bytes = omega (arith, c.if-end-bytes.false, c.bits_at_front-end.ensures.within, length-drop 1 bytes, ap length rest) in
     subst (Made c.args.self.now _ bytes) sum
-    (vector-made c.args.self.now _ k code.len code.place c.in-Some-known.number bytes _ (sym c.is_changes.ensures ∙ c.if-not-is_changes.false) c.if-bytes-ne98.false some
+    (vector-made c.args.self.now _ k code.len code.place c.in-Some-known.number bytes _ (sym c.is_changes.ensures ∙ c.if-not-is_changes.false)
+    c.if-bytes-ne98.false some
     (subst (λ (xs : List ℕ). list_all is_bit (take k xs) ≡ true) rest c.bits_at_front-end.ensures.are) inside c.if-end-gt-MAX_TOKEN_BYTES.false
-    (sym c.is_space.ensures ∙ c.if-not-is_space.false) (rest-is ((k + 1) + 1) bytes ∙ ap (λ (i : ℕ). drop i bytes) two) here (c.in-Some-known.ensures.number _ here.at)
-    (ap (λ (ms : List Mark). record c.args.self.now { marks = ms }) (c.change.ensures ∙ ap (λ (v : ℕ). map (put c.in-Some-known.number (nat_eq v 49) c.args.self.now.dumping) c.args.self.now.marks) last)))
+    (sym c.is_space.ensures ∙ c.if-not-is_space.false) (rest-is ((k + 1) + 1) bytes ∙ ap (λ (i : ℕ). drop i bytes) two) here
+    (c.in-Some-known.ensures.number _ here.at)
+    (ap (λ (ms : List Mark). record c.args.self.now { marks = ms })
+    (c.change.ensures ∙ ap (λ (v : ℕ). map (put c.in-Some-known.number (nat_eq v 49) c.args.self.now.dumping) c.args.self.now.marks) last)))
 
 pub returns-then-end-eq1 : goal.returns-then-end-eq1
 returns-then-end-eq1 c = none-made c.args.self.now c.args.bytes.now

@@ -9,10 +9,19 @@ pub overflow_add-result : goal.overflow_add-result
 overflow_add-result c =
     let s = enter _ _ c.requires.0 c.self.view_is c.requires.1 in
     let y = take c.in-Ok.fed.bytes c.args.piece.now in
-    let e = c.in-Ok.ensures.settled (blank s.blanks ++ s.rest) s.stands ∙ ap (λ o. settled (blank s.blanks ++ s.rest) ++ named o c.feed_run.new.self.last) c.in-Some.is in
+    let e = c.in-Ok.ensures.settled (blank s.blanks ++ s.rest) s.stands
+    ∙ ap (λ o. settled (blank s.blanks ++ s.rest) ++ named o c.feed_run.new.self.last) c.in-Some.is in
     let h = word (token c.in-Some.span.at c.feed_run.new.self.last) ∷ [] in
-    let l : c.in-Some.span.at + c.self.inside.passed < length (c.requires.0 ++ y) = settled-place (c.requires.0 ++ y) (settled c.requires.0) _ (settles-more _ c.requires.0 s y h e) in
-    omega (arith, l, c.requires.3, length-append c.requires.0 y, length-take-le c.in-Ok.fed.bytes c.args.piece.now c.in-Ok.ensures.within, c.in-Ok.ensures.within)
+    let l : c.in-Some.span.at + c.self.inside.passed < length (c.requires.0 ++ y) =
+    settled-place (c.requires.0 ++ y) (settled c.requires.0) _ (settles-more _ c.requires.0 s y h e) in
+    omega (
+      arith,
+      l,
+      c.requires.3,
+      length-append c.requires.0 y,
+      length-take-le c.in-Ok.fed.bytes c.args.piece.now c.in-Ok.ensures.within,
+      c.in-Ok.ensures.within,
+    )
 
 pub overflow_add-result-in-Err : goal.overflow_add-result-in-Err
 overflow_add-result-in-Err c =
@@ -42,11 +51,13 @@ returns-clause-settled c =
       | in-Ok+in-Some w ↦ rw w.result-is (λ bytes t.
           let s = enter _ _ bytes c.self.view_is t in
           settles-more _ bytes s (take w.in-Ok.fed.bytes c.args.piece.now) (word (token w.in-Some.span.at c.feed_run.new.self.last) ∷ [])
-          (w.in-Ok.ensures.settled (blank s.blanks ++ s.rest) s.stands ∙ ap (λ o. settled (blank s.blanks ++ s.rest) ++ named o c.feed_run.new.self.last) w.in-Some.is))
+          (w.in-Ok.ensures.settled (blank s.blanks ++ s.rest) s.stands
+          ∙ ap (λ o. settled (blank s.blanks ++ s.rest) ++ named o c.feed_run.new.self.last) w.in-Some.is))
       | in-Ok+in-None w ↦ rw w.result-is (λ bytes t.
           let s = enter _ _ bytes c.self.view_is t in
           settles-more _ bytes s (take w.in-Ok.fed.bytes c.args.piece.now) []
-          (w.in-Ok.ensures.settled (blank s.blanks ++ s.rest) s.stands ∙ ap (λ o. settled (blank s.blanks ++ s.rest) ++ named o c.feed_run.new.self.last) w.in-None.is)
+          (w.in-Ok.ensures.settled (blank s.blanks ++ s.rest) s.stands
+          ∙ ap (λ o. settled (blank s.blanks ++ s.rest) ++ named o c.feed_run.new.self.last) w.in-None.is)
           ∙ ap (λ o. settled bytes ++ named o c.feed_run.new.self.last) (sym w.in-None.is))
       | in-Err w ↦ rw w.result-is tt
     ]

@@ -15,7 +15,8 @@ overflow_add-result c =
     let s = enter _ _ c.requires.0 c.self.view_is c.requires.1 in
     let e = c.in-Some.ensures.all (blank s.blanks ++ s.rest) s.stands in
     let h = word (token c.in-Some.span.at c.finish.new.self.last) ∷ [] in
-    let l : c.in-Some.span.at + c.self.inside.passed < length c.requires.0 = heard-place c.requires.0 (settled c.requires.0) _ (all-heard _ c.requires.0 s h e) in
+    let l : c.in-Some.span.at + c.self.inside.passed < length c.requires.0 =
+    heard-place c.requires.0 (settled c.requires.0) _ (all-heard _ c.requires.0 s h e) in
     omega (arith, l, c.requires.3)
 
 pub returns : goal.returns
@@ -24,7 +25,9 @@ returns c = record {
       let s = enter _ _ bytes c.self.view_is t in
       let e = c.finish.ensures.all (blank s.blanks ++ s.rest) s.stands in
       elim c.match-finish.branch [
-        | in-Some w ↦ rw w.result-is (all-heard _ bytes s (word (token w.in-Some.span.at c.finish.new.self.last) ∷ []) (e ∙ ap (λ o. settled (blank s.blanks ++ s.rest) ++ named o c.finish.new.self.last) w.in-Some.is))
+        | in-Some w ↦ rw w.result-is
+            (all-heard _ bytes s (word (token w.in-Some.span.at c.finish.new.self.last) ∷ [])
+            (e ∙ ap (λ o. settled (blank s.blanks ++ s.rest) ++ named o c.finish.new.self.last) w.in-Some.is))
         | in-None w ↦ rw w.result-is (all-heard _ bytes s [] (e ∙ ap (λ o. settled (blank s.blanks ++ s.rest) ++ named o c.finish.new.self.last) w.in-None.is))
       ];
 }

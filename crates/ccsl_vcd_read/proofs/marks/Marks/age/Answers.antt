@@ -22,6 +22,7 @@ pub returns : goal.returns
 returns c =
     let left : (x : ℕ) → ticks_in x c.copy_difference.new.self ≡ (ticks_in x c.self.inside.ones && not (ticks_in x c.self.inside.events)) =
     λ x. ap (ticks_in x) c.copy_difference.ensures ∙ ticks_in-difference c.self.inside.ones c.self.inside.events x in
-    marks-age c.self.inside.ones c.self.inside.earlier c.copy_from.new.self c.copy_difference.new.self c.self.inside.events c.self.inside.slots.items c.self.invariant.marked
+    marks-age c.self.inside.ones c.self.inside.earlier c.copy_from.new.self c.copy_difference.new.self c.self.inside.events c.self.inside.slots.items
+    c.self.invariant.marked
     (λ x. ap (ticks_in x) c.copy_from.ensures ∙ left x) left
     ∙ ap (map aged) c.self.view_is

@@ -3,7 +3,8 @@ use Rattle.std.proofs.lemmas.Grind.{common_steps}
 use Rattle.ccsl_vcd_read.specs.Reading.{Reading, Takes}
 use Rattle.ccsl_vcd_read.proofs.Wanting.{in-header, shown-none, out-same}
 use Rattle.ccsl_vcd_read.proofs.StagePictures.{caused-map}
-use Rattle.ccsl_vcd_read.proofs.Feeding.{starts, ready-of, still-ready, takes-more, piece-decides, piece-refuses, piece-still, stays-stopped, all-refused, if-none}
+use Rattle.ccsl_vcd_read.proofs.Feeding.{starts, ready-of, still-ready, takes-more, piece-decides, piece-refuses, piece-still, stays-stopped, all-refused}
+use Rattle.ccsl_vcd_read.proofs.Feeding.{if-none}
 use Rattle.ccsl_vcd_read.proofs.Calm.{piece-calm}
 use Rattle.ccsl_vcd_read.proofs.reader.Reader.feed.Goals as goal
 

@@ -30,9 +30,11 @@ pub returns-then-not-may_end-clause-refuses : goal.returns-then-not-may_end-clau
 returns-then-not-may_end-clause-refuses c =
     weaken c.fail.result (λ (wanted : Wanted) (bytes : List ℕ) (t : StandsFor wanted c.args.self.now bytes).
     let a = c.in-Ok.ensures.ends wanted bytes t in
-    let e : ends_well c.last_token.new.self.stage ≡ false = ap (λ (x : Reading). ends_well x.stage) (sym c.self-in-Ok.view_is) ∙ sym c.may_end.ensures ∙ c.if-not-may_end.true in
+    let e : ends_well c.last_token.new.self.stage ≡ false =
+    ap (λ (x : Reading). ends_well x.stage) (sym c.self-in-Ok.view_is) ∙ sym c.may_end.ensures ∙ c.if-not-may_end.true in
     let n = ap (λ (x : Reading). x.taken) c.self.view_is ∙ a.taken in
-    truncated wanted c.args.self.now c.last_token.new.self bytes _ _ a e ∙ ap (λ k. Rattle.std.proofs.Common.Some (faults.Truncated k)) (sym n) ∙ ap (λ f. Rattle.std.proofs.Common.Some f) (sym c.fail.ensures.result))
+    truncated wanted c.args.self.now c.last_token.new.self bytes _ _ a e ∙ ap (λ k. Rattle.std.proofs.Common.Some (faults.Truncated k)) (sym n)
+    ∙ ap (λ f. Rattle.std.proofs.Common.Some f) (sym c.fail.ensures.result))
 
 pub returns-then-not-may_end-clause-completes : goal.returns-then-not-may_end-clause-completes
 returns-then-not-may_end-clause-completes c =
@@ -41,7 +43,8 @@ returns-then-not-may_end-clause-completes c =
 
 pub returns-else-not-may_end-clause-accepts : goal.returns-else-not-may_end-clause-accepts
 returns-else-not-may_end-clause-accepts c = λ wanted bytes t.
-    let e : ends_well c.last_token.new.self.stage ≡ true = ap (λ (x : Reading). ends_well x.stage) (sym c.self-in-Ok.view_is) ∙ sym c.may_end.ensures ∙ c.if-not-may_end.false in
+    let e : ends_well c.last_token.new.self.stage ≡ true =
+    ap (λ (x : Reading). ends_well x.stage) (sym c.self-in-Ok.view_is) ∙ sym c.may_end.ensures ∙ c.if-not-may_end.false in
     accepted wanted c.args.self.now c.last_token.new.self bytes _ _ (c.in-Ok.ensures.ends wanted bytes t) e
 
 pub returns-else-not-may_end-clause-pushes : goal.returns-else-not-may_end-clause-pushes
@@ -54,7 +57,8 @@ returns-else-not-may_end-clause-counts c = λ wanted bytes t.
     end-counts wanted c.args.self.now c.last_token.new.self bytes _ _ (c.in-Ok.ensures.ends wanted bytes t) c.give_left.new.out.rows _ _
     (ap (λ x. x.rows) c.give_left.ensures ∙ ap (λ (x : Reading). c.last_token.new.out.rows ++ row_left x.stage) c.self-in-Ok.view_is)
     (ap (λ (x : Reading). x.rows + (c.len.result - c.len-before.result)) c.self-in-Ok.view_is
-    ∙ ap (λ k. c.last_token.new.self.rows + (k - c.len-before.result)) c.len.ensures ∙ ap (λ k. c.last_token.new.self.rows + (length c.give_left.new.out.rows - k)) c.len-before.ensures)
+    ∙ ap (λ k. c.last_token.new.self.rows + (k - c.len-before.result)) c.len.ensures
+    ∙ ap (λ k. c.last_token.new.self.rows + (length c.give_left.new.out.rows - k)) c.len-before.ensures)
     (ap (λ (x : Reading). x.taken) c.self.view_is)
 
 pub returns-in-Err-clause-calm : goal.returns-in-Err-clause-calm

@@ -38,14 +38,18 @@ returns-in-Some-clause-refused c = fault_refused c.args.text.now c.with_period.r
 pub returns-then-not-is_empty-clause-fault : goal.returns-then-not-is_empty-clause-fault
 returns-then-not-is_empty-clause-fault c =
     λ _. not_opened c.args.text.now c.in_ok-prefix.prefix.items c.len.result c.in_ok-prefix.ensures.letters (omega arith) c.in_default.ensures.cases
-    (some_long _ c.is_empty.result c.is_empty.ensures c.if-not-is_empty.true) (omega (arith, c.in_ok-prefix.ensures.few)) c.len-then-not-is_empty.result (omega arith)
+    (some_long _ c.is_empty.result c.is_empty.ensures c.if-not-is_empty.true) (omega (arith, c.in_ok-prefix.ensures.few)) c.len-then-not-is_empty.result
+    (omega arith)
 
 pub returns-then-not-is_empty-clause-refused : goal.returns-then-not-is_empty-clause-refused
-returns-then-not-is_empty-clause-refused c = fault_refused c.args.text.now (Err (fault.BadLetter c.len-then-not-is_empty.result)) (returns-then-not-is_empty-clause-fault c)
+returns-then-not-is_empty-clause-refused c =
+    fault_refused c.args.text.now (Err (fault.BadLetter c.len-then-not-is_empty.result)) (returns-then-not-is_empty-clause-fault c)
 
 pub returns-clause-computed : goal.returns-clause-computed
 returns-clause-computed c =
     rw (c.new.ensures, c.new-3.ensures, c.new-2.ensures.items)
     (reads_read c.args.text.now _
-    (ended_word c.args.text.now c.in_ok-prefix.prefix.items c.len.result c.in_ok-prefix.ensures.letters (omega arith) (none_long _ c.is_empty.result c.is_empty.ensures c.if-not-is_empty.false)
-    (omega (arith, some_long (vec_len c.in_ok-prefix.prefix) c.is_empty-2.result c.is_empty-2.ensures c.if-is_empty.false)) (omega (arith, c.in_ok-prefix.ensures.few))))
+    (ended_word c.args.text.now c.in_ok-prefix.prefix.items c.len.result c.in_ok-prefix.ensures.letters (omega arith)
+    (none_long _ c.is_empty.result c.is_empty.ensures c.if-not-is_empty.false)
+    (omega (arith, some_long (vec_len c.in_ok-prefix.prefix) c.is_empty-2.result c.is_empty-2.ensures c.if-is_empty.false))
+    (omega (arith, c.in_ok-prefix.ensures.few))))

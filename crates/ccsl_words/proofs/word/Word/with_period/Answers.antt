@@ -18,10 +18,13 @@ returns-in_default-clause-fault c =
 pub returns-then-is_empty-clause-fault : goal.returns-then-is_empty-clause-fault
 returns-then-is_empty-clause-fault c =
     λ _. closed_empty c.args.prefix.items c.args.inside.now c.in_ok-period.period.items c.len-4.result c.in_ok-period.ensures.letters (omega arith)
-    (omega (arith, c.in_ok-period.ensures.few, c.requires)) c.in-Some.ensures.cases.0 (omega (arith, none_long (vec_len c.in_ok-period.period) c.is_empty.result c.is_empty.ensures c.if-is_empty.true))
+    (omega (arith, c.in_ok-period.ensures.few, c.requires)) c.in-Some.ensures.cases.0
+    (omega (arith, none_long (vec_len c.in_ok-period.period) c.is_empty.result c.is_empty.ensures c.if-is_empty.true))
 
 pub returns-then-not-is_empty-clause-fault : goal.returns-then-not-is_empty-clause-fault
 returns-then-not-is_empty-clause-fault c =
     λ _. closed_early c.args.prefix.items c.args.inside.now c.in_ok-period.period.items c.len-4.result c.in_ok-period.ensures.letters (omega arith)
-    (omega (arith, c.in_ok-period.ensures.few, c.requires)) c.in-Some.ensures.cases.0 (omega (arith, some_long (vec_len c.in_ok-period.period) c.is_empty.result c.is_empty.ensures c.if-is_empty.false))
-    (omega (arith, some_long (length c.in-Some.after.now) c.is_empty-2.result c.is_empty-2.ensures c.if-not-is_empty.true, ap length c.in-Some.ensures.cases.1)) _ (omega arith)
+    (omega (arith, c.in_ok-period.ensures.few, c.requires)) c.in-Some.ensures.cases.0
+    (omega (arith, some_long (vec_len c.in_ok-period.period) c.is_empty.result c.is_empty.ensures c.if-is_empty.false))
+    (omega (arith, some_long (length c.in-Some.after.now) c.is_empty-2.result c.is_empty-2.ensures c.if-not-is_empty.true, ap length c.in-Some.ensures.cases.1))
+    _ (omega arith)
