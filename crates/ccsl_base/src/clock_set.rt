@@ -51,7 +51,8 @@ fn either_word(word: u64, other: u64) -> u64
 /// The bits of a word that are not another's.
 #[inline(always)]
 fn word_without(word: u64, other: u64) -> u64
-    ensures bits { (i : ℕ) → i < u64.BITS → is_set result i ≡ (is_set word i && not (is_set other i)) }
+    ensures bits { (i : ℕ) → i < u64.BITS →
+        is_set result i ≡ (is_set word i && not (is_set other i)) }
     ensures none { word ≡ 0 → result ≡ 0 }
 {
     word & !other
@@ -126,7 +127,8 @@ impl ClockSet {
     /// Takes the members of another set out.
     #[inline(always)]
     pub fn remove_all(&mut self, other: &ClockSet)
-        ensures { (x : ℕ) → ticks_in x self.new ≡ (ticks_in x self.old && not (ticks_in x other.now)) }
+        ensures { (x : ℕ) → ticks_in x self.new
+            ≡ (ticks_in x self.old && not (ticks_in x other.now)) }
     {
         for i in 0..self.used.min(other.used) {
             self.words[i] = word_without(self.words[i], other.words[i]);

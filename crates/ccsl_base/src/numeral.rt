@@ -9,7 +9,8 @@ use crate::name::is_digit;
 /// A number with one more digit behind it, where it is at most `most`.
 fn with_digit(value: u64, digit: u8, most: u64) -> Option<u64>
     requires { IsTrue (is_digit digit) }
-    ensures { result ≡ (if nat_le (value * 10 + (digit - 48)) most then Some (value * 10 + (digit - 48)) else None) }
+    ensures { result ≡ (if nat_le (value * 10 + (digit - 48)) most then Some
+        (value * 10 + (digit - 48)) else None) }
 {
     let more = value.checked_mul(10)?.checked_add(u64::from(digit - b'0'))?;
     if more <= most { Some(more) } else { None }

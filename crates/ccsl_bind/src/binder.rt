@@ -71,7 +71,8 @@ impl Binder {
     // The number of a code, which is a new one where no declaration has it yet.
     fn number(&mut self, code: &[u8]) -> Result<u32, Memory>
         requires { length self.old.codes < 4294967295 }
-        ensures codes { OnOk result (self.new ≡ record self.old { codes = put_code self.old.codes code.now }) }
+        ensures codes { OnOk result (self.new
+            ≡ record self.old { codes = put_code self.old.codes code.now }) }
         ensures there { IfOk result (λ n. number_of code.now self.new.codes ≡ Some n) }
     {
         if let Some(number) = self.codes.find(code) {
@@ -91,8 +92,10 @@ impl Binder {
         code: &[u8],
         reference: &[u8],
     ) -> Result<(), Memory>
-        requires { (wanted : Wanted) × (ds : List Declaration) × StandsFor wanted self.old ds × (length ds < 4294967295) }
-        ensures { IfOk result (λ _. (wanted : Wanted) (ds : List Declaration) → StandsFor wanted self.old ds →
+        requires { (wanted : Wanted) × (ds : List Declaration) × StandsFor wanted self.old ds
+            × (length ds < 4294967295) }
+        ensures { IfOk result (λ _. (wanted : Wanted) (ds : List Declaration) →
+            StandsFor wanted self.old ds →
             StandsFor wanted self.new (ds ++ record {
               depth = depth;
               kind = kind.now;
@@ -114,7 +117,10 @@ impl Binder {
     // One more declaration that qualifies for a clock.
     fn note(&mut self, clock: u32, depth: u32, code: u32, event: bool)
         requires { clock < length self.old.found }
-        ensures { self.new ≡ record self.old { found = slice_set self.old.found clock (Some (noted (slice_index_or self.old.found clock None) depth code event)) } }
+        ensures { self.new ≡ record self.old {
+          found = slice_set self.old.found clock
+              (Some (noted (slice_index_or self.old.found clock None) depth code event));
+        } }
     {
         let candidates = noted(self.found[clock as usize], depth, code, event);
         self.found[clock as usize] = Some(candidates);
@@ -123,11 +129,14 @@ impl Binder {
     /// Binds the clocks.
     pub fn close(self) -> Result<Binding, BindFault>
         requires { (wanted : Wanted) × (ds : List Declaration) × StandsFor wanted self ds }
-        ensures bound { IfOk result (λ b. (wanted : Wanted) (ds : List Declaration) → StandsFor wanted self ds →
+        ensures bound { IfOk result (λ b. (wanted : Wanted) (ds : List Declaration) →
+            StandsFor wanted self ds →
             bind wanted ds ≡ Ok b.bound) }
-        ensures codes { IfOk result (λ b. (wanted : Wanted) (ds : List Declaration) → StandsFor wanted self ds →
+        ensures codes { IfOk result (λ b. (wanted : Wanted) (ds : List Declaration) →
+            StandsFor wanted self ds →
             b.codes ≡ codes_of ds) }
-        ensures refuses { IfErr result (λ e. (wanted : Wanted) (ds : List Declaration) → StandsFor wanted self ds →
+        ensures refuses { IfErr result (λ e. (wanted : Wanted) (ds : List Declaration) →
+            StandsFor wanted self ds →
             Refuses e (bind wanted ds)) }
     {
         match bound_clocks(self.found.as_slice(), self.declared) {

@@ -50,7 +50,8 @@ impl Counts {
     pub fn count(&mut self, step: &ClockSet)
         ensures clocks { length self.new ≡ length self.old }
         ensures counts { (x : ℕ) → x < length self.old →
-            slice_index_or self.new x 0 ≡ counted (ticks_in x step.now) (slice_index_or self.old x 0) }
+            slice_index_or self.new x 0 ≡ counted (ticks_in x step.now)
+            (slice_index_or self.old x 0) }
     {
         for clock in step.members() {
             let at = clock as usize;

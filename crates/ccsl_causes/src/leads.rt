@@ -127,7 +127,8 @@ impl Leads {
     pub fn hear(&mut self, step: &ClockSet, time: u64, before: &Counts)
         ensures clocks { length self.new ≡ length self.old }
         ensures leads { (x : ℕ) → x < length self.old →
-            slice_index_or self.new x [] ≡ led before.now time (ticks_in x step.now) x (slice_index_or self.old x []) }
+            slice_index_or self.new x [] ≡ led before.now time (ticks_in x step.now) x
+            (slice_index_or self.old x []) }
     {
         for clock in step.members() {
             let at = clock as usize;

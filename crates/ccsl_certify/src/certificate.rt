@@ -30,7 +30,8 @@ fn check_lines(
 ) -> Result<CertVerdict, CertifyFault>
     requires { states.now.system ≡ system.now }
     ensures answers { IfOk result (λ v. (bound : List ℕ) (rows : List Row) →
-        replaying.Answers system.now bound rows (Replayed.Run steps states.now) → Answers system.now bound rows lines.now v) }
+        replaying.Answers system.now bound rows (Replayed.Run steps states.now) →
+        Answers system.now bound rows lines.now v) }
     ensures memory { IfErr result (λ fault. fault ≡ faults.Memory) }
 {
     let mut formulas = Vec::new(alloc);

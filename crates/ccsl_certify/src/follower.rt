@@ -43,7 +43,8 @@ impl<'s> Follower<'s> {
     fn advance(&mut self, row: &Row)
         ensures system { self.new.system ≡ self.old.system }
         ensures monitor { self.new.monitor ≡ self.old.monitor }
-        ensures after { (rows : List Row) → AreAfter self.old.system.now rows self.old.states → length rows + 1 < 2 ^ 64 →
+        ensures after { (rows : List Row) → AreAfter self.old.system.now rows self.old.states →
+            length rows + 1 < 2 ^ 64 →
             AreAfter self.old.system.now (rows ++ row.now ∷ []) self.new.states }
     {
         let declared = row.ticks.below(self.system.scope().declared);
@@ -65,10 +66,12 @@ impl<'s> Follower<'s> {
 
     /// Takes the rows of a block as the next ones.
     pub(crate) fn take(&mut self, block: &Block)
-        requires { (K : System) × (bound : List ℕ) × (rows : List Row) × Follows K bound rows self.old
+        requires { (K : System) × (bound : List ℕ) × (rows : List Row)
+            × Follows K bound rows self.old
             × (length rows + length block.now.rows < 2 ^ 64) }
         ensures { (K : System) (bound : List ℕ) (rows : List Row) → Follows K bound rows self.old →
-            length rows + length block.now.rows < 2 ^ 64 → Follows K bound (rows ++ block.now.rows) self.new }
+            length rows + length block.now.rows < 2 ^ 64 →
+            Follows K bound (rows ++ block.now.rows) self.new }
     {
         self.monitor.check_block(block);
         self.advance_all(block);
@@ -76,7 +79,8 @@ impl<'s> Follower<'s> {
 
     /// The answer on the rows that it has taken.
     pub(crate) fn answer(self, count: u64) -> Replayed<'s>
-        ensures { (K : System) (bound : List ℕ) (rows : List Row) → Follows K bound rows self.entry → count ≡ length rows →
+        ensures { (K : System) (bound : List ℕ) (rows : List Row) →
+            Follows K bound rows self.entry → count ≡ length rows →
             Answers K bound rows result }
     {
         match self.monitor.first() {

@@ -31,7 +31,8 @@ struct Replaying<'s> {
 
 // What follows the trace whose bound clocks a feed shows.
 fn follower_for<'s>(alloc: Global, system: &'s System, feed: &Feed) -> Result<Follower<'s>, Memory>
-    ensures { IfOk result (λ f. (bound : List ℕ) → bound_of feed.now ≡ Some bound → Follows system.now bound [] f) }
+    ensures { IfOk result (λ f. (bound : List ℕ) → bound_of feed.now ≡ Some bound →
+        Follows system.now bound [] f) }
 {
     match feed.bound() {
         Some(bound) => Follower::open(alloc, system, bound),
@@ -48,13 +49,17 @@ fn follow_header<'s, W: World>(
 ) -> Result<Follower<'s>, ReplayFault>
     requires unbound { bound_of feed.old ≡ None }
     requires feeds { (limits : Limits) ×
-        Feeds W.told (wanted_of system.now) limits (W.state world.old) (W.state world.old) feed.old [] }
+        Feeds W.told (wanted_of system.now) limits (W.state world.old)
+        (W.state world.old) feed.old [] }
     ensures goes { IfOk result (λ f. (limits : Limits) →
-        Feeds W.told (wanted_of system.now) limits (W.state world.old) (W.state world.old) feed.old [] →
+        Feeds W.told (wanted_of system.now) limits (W.state world.old)
+        (W.state world.old) feed.old [] →
         Goes W.told system.now limits (W.state world.old) (W.state world.new) feed.new f) }
     ensures unread { IfErr result (λ fault. (limits : Limits) →
-        Feeds W.told (wanted_of system.now) limits (W.state world.old) (W.state world.old) feed.old [] →
-        IsUnread W.told (wanted_of system.now) limits (W.state world.old) (W.state world.new) fault) }
+        Feeds W.told (wanted_of system.now) limits (W.state world.old)
+        (W.state world.old) feed.old [] →
+        IsUnread W.told (wanted_of system.now) limits (W.state world.old)
+        (W.state world.new) fault) }
 {
     match feed.next(world) {
         Ok(_header) => {}
@@ -76,9 +81,11 @@ impl<'s> Replaying<'s> {
         limits: &Limits,
     ) -> Result<Replaying<'s>, ReplayFault>
         ensures goes { IfOk result (λ r.
-            Goes W.told system.now limits.now (W.state world.old) (W.state world.new) r.feed r.follower) }
+            Goes W.told system.now limits.now (W.state world.old)
+            (W.state world.new) r.feed r.follower) }
         ensures unread { IfErr result (λ fault.
-            IsUnread W.told (wanted_of system.now) limits.now (W.state world.old) (W.state world.new) fault) }
+            IsUnread W.told (wanted_of system.now) limits.now (W.state world.old)
+            (W.state world.new) fault) }
     {
         let mut feed = match Feed::open(alloc, keys, system, limits) {
             Ok(feed) => feed,
@@ -97,8 +104,10 @@ impl<'s> Replaying<'s> {
             × Goes W.told K limits start (W.state world.old) self.old.feed self.old.follower }
         ensures stands { IfOk result (λ ended. (K : System) (limits : Limits) (start : State) →
             Goes W.told K limits start (W.state world.old) self.old.feed self.old.follower →
-            Stands W.told K limits start (W.state world.new) ended self.new.feed self.new.follower) }
-        ensures nears { IfOk result (λ ended. IfNone ended (calls_left self.new.feed < calls_left self.old.feed)) }
+            Stands W.told K limits start (W.state world.new) ended
+            self.new.feed self.new.follower) }
+        ensures nears { IfOk result (λ ended.
+            IfNone ended (calls_left self.new.feed < calls_left self.old.feed)) }
         ensures unread { IfErr result (λ fault. (K : System) (limits : Limits) (start : State) →
             Goes W.told K limits start (W.state world.old) self.old.feed self.old.follower →
             IsUnread W.told (wanted_of K) limits start (W.state world.new) fault) }
@@ -148,7 +157,8 @@ pub fn replay<'s, W: World>(
     ensures replayed { IfOk result (λ replayed.
         IsReplayed W.told system.now limits.now (W.state world.old) (W.state world.new) replayed) }
     ensures unread { IfErr result (λ fault.
-        IsUnread W.told (wanted_of system.now) limits.now (W.state world.old) (W.state world.new) fault) }
+        IsUnread W.told (wanted_of system.now) limits.now (W.state world.old)
+        (W.state world.new) fault) }
 {
     let mut replaying = match Replaying::begin(alloc, keys, world, system, limits) {
         Ok(replaying) => replaying,

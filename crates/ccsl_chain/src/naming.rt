@@ -48,7 +48,8 @@ pub fn names(alloc: Global, clocks: u32) -> Result<Names, Memory>
     requires least { 0 < clocks }
     requires most { clocks ≤ MAX_TRIAL_CLOCKS }
     ensures { IfOk result (λ names. names ≡
-        map clock_name (range_with_len 0 clocks) ++ map hidden_name (range_with_len 0 (clocks - 1))) }
+        map clock_name (range_with_len 0 clocks)
+        ++ map hidden_name (range_with_len 0 (clocks - 1))) }
 {
     let mut names = declared(alloc, clocks)?;
     for i in 0..clocks - 1 {

@@ -69,7 +69,8 @@ fn key_fault(
 ) -> Result<Option<Usage>, Memory>
     requires key { pair.key.now ≡ key_part word.now }
     requires value { pair.value.now ≡ value_part word.now }
-    ensures { IfOk result (λ fault. fault ≡ key_fault name earlier.now i word.now (key_of name word.now)) }
+    ensures { IfOk result (λ fault. fault
+        ≡ key_fault name earlier.now i word.now (key_of name word.now)) }
 {
     let Some(key) = key_named(name, pair.key) else {
         return Ok(Some(Usage::UnknownKey(i)));

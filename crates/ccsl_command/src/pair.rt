@@ -18,7 +18,8 @@ pub(crate) struct Pair<'a> {
 /// The pair of a word, or `None` where it has no `=`.
 pub(crate) fn split(word: &CommandWord) -> Option<Pair<'_>>
     ensures { MatchOption result (is_pair word.now ≡ false) (λ pair.
-        (is_pair word.now ≡ true) × (pair.key.now ≡ key_part word.now) × (pair.value.now ≡ value_part word.now)) }
+        (is_pair word.now ≡ true) × (pair.key.now ≡ key_part word.now)
+        × (pair.value.now ≡ value_part word.now)) }
 {
     match word.as_str().split_once('=') {
         Some((key, value)) => Some(Pair { key, value }),

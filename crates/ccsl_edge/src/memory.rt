@@ -143,7 +143,8 @@ impl World for MemoryWorld {
 
     fn open_in(&mut self, slot: Slot, name: &str) -> Result<(), Failed>
         requires input { IsInputFile slot }
-        ensures ok { OnOk result (OpensIn tells_all slot name.now (shown self.old) (shown self.new)) }
+        ensures ok { OnOk result
+            (OpensIn tells_all slot name.now (shown self.old) (shown self.new)) }
         ensures err { OnErr result (Fails slot (shown self.old) (shown self.new)) }
         ensures once { OnErr result (CountsFault slot self.old self.new) }
         ensures counts { Counts CallKind.OpenIn self.old self.new }
@@ -168,7 +169,8 @@ impl World for MemoryWorld {
 
     fn open_out(&mut self, slot: Slot, name: &str) -> Result<(), Failed>
         requires output { IsOutputFile slot }
-        ensures ok { OnOk result (OpensOut tells_all slot name.now (shown self.old) (shown self.new)) }
+        ensures ok { OnOk result
+            (OpensOut tells_all slot name.now (shown self.old) (shown self.new)) }
         ensures err { OnErr result (Fails slot (shown self.old) (shown self.new)) }
         ensures once { OnErr result (CountsFault slot self.old self.new) }
         ensures counts { Counts CallKind.OpenOut self.old self.new }
@@ -193,7 +195,8 @@ impl World for MemoryWorld {
             Takes tells_all slot count (shown self.old) (shown self.new) buf.new) }
         ensures err { OnErr result (Fails slot (shown self.old) (shown self.new)) }
         ensures count { IfOk result (λ count.
-            count ≡ min self.old.piece (min (length buf.old) (length (slot_in self.old.slots slot).left))) }
+            count ≡ min self.old.piece
+            (min (length buf.old) (length (slot_in self.old.slots slot).left))) }
         ensures once { OnErr result (CountsFault slot self.old self.new) }
         ensures counts { Counts CallKind.Read self.old self.new }
         ensures succeeds { OnOk result (Succeeds CallKind.Read ⊥ self.old self.new) }

@@ -41,7 +41,8 @@ fn read_at_most<W: World>(
     requires some { 0 < most }
     requires room { most ≤ length buf.old }
     ensures few { IfOk result (λ count. count ≤ most) }
-    ensures ok { IfOk result (λ count. Takes W.told slot count (W.state world.old) (W.state world.new) buf.new) }
+    ensures ok { IfOk result
+        (λ count. Takes W.told slot count (W.state world.old) (W.state world.new) buf.new) }
     ensures err { OnErr result (Fails slot (W.state world.old) (W.state world.new)) }
 {
     world.read(slot, &mut buf[..most])
@@ -87,7 +88,9 @@ impl Pending {
     /// read. That byte is not kept.
     pub fn refill<W: World>(&mut self, world: &mut W, slot: Slot, left: u64) -> Result<u64, Failed>
         requires input { IsInput slot }
-        ensures ok { IfOk result (λ count. Refills W.told slot left count (W.state world.old) (W.state world.new) self.new) }
+        ensures ok { IfOk result
+            (λ count. Refills W.told slot left count (W.state world.old)
+            (W.state world.new) self.new) }
         ensures err { OnErr result (Fails slot (W.state world.old) (W.state world.new)) }
     {
         self.from = 0;

@@ -80,7 +80,8 @@ impl Place {
     }
 
     pub(crate) fn open_out(&mut self, name: String)
-        ensures { self.new ≡ record self.old { written = []; name = string_bytes name; is_open = true } }
+        ensures { self.new ≡ record
+            self.old { written = []; name = string_bytes name; is_open = true } }
     {
         self.written.clear();
         self.name = name;

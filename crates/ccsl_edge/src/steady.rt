@@ -132,8 +132,11 @@ impl World for SteadyWorld {
 
     fn open_in(&mut self, slot: Slot, name: &str) -> Result<(), Failed>
         requires input { IsInputFile slot }
-        ensures ok { OnOk result (OpensIn tells_left slot name.now (file_state self.old.slots) (file_state self.new.slots)) }
-        ensures err { OnErr result (Fails slot (file_state self.old.slots) (file_state self.new.slots)) }
+        ensures ok { OnOk result
+            (OpensIn tells_left slot name.now (file_state self.old.slots)
+            (file_state self.new.slots)) }
+        ensures err { OnErr result
+            (Fails slot (file_state self.old.slots) (file_state self.new.slots)) }
         ensures always { IsOk result }
         ensures bytes { (slot_in self.new.slots slot).left ≡ held self.old.files name.now }
         ensures files { self.new.files ≡ self.old.files }
@@ -150,8 +153,11 @@ impl World for SteadyWorld {
 
     fn open_out(&mut self, slot: Slot, _name: &str) -> Result<(), Failed>
         requires output { IsOutputFile slot }
-        ensures ok { OnOk result (OpensOut tells_left slot _name.now (file_state self.old.slots) (file_state self.new.slots)) }
-        ensures err { OnErr result (Fails slot (file_state self.old.slots) (file_state self.new.slots)) }
+        ensures ok { OnOk result
+            (OpensOut tells_left slot _name.now (file_state self.old.slots)
+            (file_state self.new.slots)) }
+        ensures err { OnErr result
+            (Fails slot (file_state self.old.slots) (file_state self.new.slots)) }
         ensures always { IsOk result }
         ensures files { self.new.files ≡ self.old.files }
     {
@@ -167,10 +173,13 @@ impl World for SteadyWorld {
         requires input { IsInput slot }
         requires room { 0 < length buf.old }
         ensures ok { IfOk result (λ count.
-            Takes tells_left slot count (file_state self.old.slots) (file_state self.new.slots) buf.new) }
-        ensures err { OnErr result (Fails slot (file_state self.old.slots) (file_state self.new.slots)) }
+            Takes tells_left slot count (file_state self.old.slots)
+            (file_state self.new.slots) buf.new) }
+        ensures err { OnErr result
+            (Fails slot (file_state self.old.slots) (file_state self.new.slots)) }
         ensures always { result ≡
-            Ok (min self.old.piece (min (length buf.old) (length (slot_in self.old.slots slot).left))) }
+            Ok (min self.old.piece
+            (min (length buf.old) (length (slot_in self.old.slots slot).left))) }
         ensures files { self.new.files ≡ self.old.files }
     {
         let source = self.sources[slot.index()];
@@ -186,8 +195,10 @@ impl World for SteadyWorld {
         requires some { 0 < length bytes.now }
         ensures within { IfOk result (λ count. (0 < count) × (count ≤ length bytes.now)) }
         ensures ok { IfOk result (λ count.
-            Adds tells_left slot (take count bytes.now) (file_state self.old.slots) (file_state self.new.slots)) }
-        ensures err { OnErr result (Fails slot (file_state self.old.slots) (file_state self.new.slots)) }
+            Adds tells_left slot (take count bytes.now) (file_state self.old.slots)
+            (file_state self.new.slots)) }
+        ensures err { OnErr result
+            (Fails slot (file_state self.old.slots) (file_state self.new.slots)) }
         ensures always { result ≡ Ok (min self.old.piece (length bytes.now)) }
         ensures same { self.new ≡ self.old }
     {
@@ -197,8 +208,10 @@ impl World for SteadyWorld {
     fn close_out(&mut self, slot: Slot) -> Result<(), Failed>
         requires output { IsOutputFile slot }
         requires opened { IsTrue (slot_in self.old.slots slot).is_open }
-        ensures ok { OnOk result (Closes tells_left slot (file_state self.old.slots) (file_state self.new.slots)) }
-        ensures err { OnErr result (Fails slot (file_state self.old.slots) (file_state self.new.slots)) }
+        ensures ok { OnOk result
+            (Closes tells_left slot (file_state self.old.slots) (file_state self.new.slots)) }
+        ensures err { OnErr result
+            (Fails slot (file_state self.old.slots) (file_state self.new.slots)) }
         ensures always { IsOk result }
         ensures files { self.new.files ≡ self.old.files }
     {

@@ -15,7 +15,8 @@ use ccsl_spaces::{Callee, Role, Space, find_call};
 
 // The cells of a call. A name that is no expression's calls nothing.
 fn call_cells(calls: &Space<'_, Callee<'_>>, groups: &[u32], name: &Spot) -> u32
-    ensures { result ≡ saturated (call_cells groups.now (look name.now.name (map seen_call calls.now))) }
+    ensures { result ≡ saturated
+        (call_cells groups.now (look name.now.name (map seen_call calls.now))) }
 {
     match find_call(calls, name.name.bytes()) {
         None => 1,
@@ -40,7 +41,8 @@ fn cells_of_two(op: BinaryOp, left: u32, right: u32) -> u32
 
 /// The cells of an expression, from those of a call to each group.
 pub fn tree_cells(calls: &Space<'_, Callee<'_>>, groups: &[u32], tree: &Tree) -> u32
-    ensures { result ≡ saturated (tree_cells (map seen_call calls.now) groups.now (plain tree.now)) }
+    ensures { result ≡ saturated
+        (tree_cells (map seen_call calls.now) groups.now (plain tree.now)) }
 {
     match tree {
         Tree::Name(_) | Tree::Never => 1,
@@ -79,7 +81,8 @@ fn most_params(members: &[Member]) -> u32
 
 // The greatest count of the bodies of a group.
 fn most_cells(calls: &Space<'_, Callee<'_>>, groups: &[u32], members: &[Member]) -> u32
-    ensures { result ≡ saturated (greatest (map (λ m. tree_cells (map seen_call calls.now) groups.now m.body)
+    ensures { result ≡ saturated
+        (greatest (map (λ m. tree_cells (map seen_call calls.now) groups.now m.body)
         (map plain_member members.now))) }
 {
     let mut most: u32 = 0;
@@ -105,7 +108,8 @@ pub fn add_groups(
     definitions: &[Definition],
 ) -> Result<(), Memory>
     ensures { OnOk result (groups.new.items ≡
-        groups_before (map seen_call calls.now) groups.old.items (map plain_definition definitions.now)) }
+        groups_before (map seen_call calls.now) groups.old.items
+        (map plain_definition definitions.now)) }
 {
     for definition in definitions {
         if let Definition::Group(members) = definition {

@@ -28,7 +28,8 @@ pub enum Total<'a> {
 }
 
 fn definition_weight(total: Total<'_>, calls: &Space<'_, Callee<'_>>, tree: &Tree) -> u32
-    ensures { result ≡ cut (definition_weight (map seen_call calls.now) total.entry (plain tree.now)) }
+    ensures { result ≡ cut
+        (definition_weight (map seen_call calls.now) total.entry (plain tree.now)) }
 {
     match total {
         Total::Clocks => 1,
@@ -80,7 +81,8 @@ fn body_weight(
     lines: &[RelationLine],
 ) -> u32
     ensures { let known = map seen_call calls.now in
-        result ≡ body_count (weights_of known total.entry) known weighed.now (map SLineOf (map plain_line lines.now)) }
+        result ≡ body_count (weights_of known total.entry) known weighed.now
+        (map SLineOf (map plain_line lines.now)) }
 {
     let mut sum: u32 = 0;
     for line in lines {
@@ -96,7 +98,8 @@ fn block_weight(
     definition: &Definition,
 ) -> u32
     ensures { let known = map seen_call calls.now in
-        result ≡ block_count (weights_of known total.entry) known weighed.now (plain_definition definition.now) }
+        result ≡ block_count (weights_of known total.entry) known weighed.now
+        (plain_definition definition.now) }
 {
     match definition {
         Definition::Relation { lines, .. } => body_weight(total, calls, weighed, lines.members()),
@@ -112,7 +115,8 @@ fn weigh_definitions(
 ) -> Result<(), Memory>
     ensures { let known = map seen_call calls.now in
         OnOk result (weighed.new.items ≡
-        counts (weights_of known total.entry) known weighed.old.items (map plain_definition definitions.now)) }
+        counts (weights_of known total.entry) known weighed.old.items
+        (map plain_definition definitions.now)) }
 {
     for definition in definitions {
         let weight = block_weight(total, calls, weighed, definition);
@@ -128,7 +132,8 @@ fn entry_weight(
     line: &SystemLine,
 ) -> u32
     ensures { let known = map seen_call calls.now in
-        result ≡ entry_count (weights_of known total.entry) known weighed.now (plain_sline line.now) }
+        result ≡ entry_count (weights_of known total.entry) known
+        weighed.now (plain_sline line.now) }
 {
     match line {
         SystemLine::Clocks(_) => 0,
@@ -143,7 +148,8 @@ fn system_weight(
     lines: &[SystemLine],
 ) -> u32
     ensures { let known = map seen_call calls.now in
-        result ≡ body_count (weights_of known total.entry) known weighed.now (map plain_sline lines.now) }
+        result ≡ body_count (weights_of known total.entry) known weighed.now
+        (map plain_sline lines.now) }
 {
     let mut sum: u32 = 0;
     for line in lines {
@@ -162,7 +168,8 @@ fn file_weight(
 ) -> Result<u32, Memory>
     ensures { let known = map seen_call calls.now in
         IfOk result (λ n. n ≡
-        count_behind (weights_of known total.entry) known (plain_file library.now) (plain_file file.now)) }
+        count_behind (weights_of known total.entry) known
+        (plain_file library.now) (plain_file file.now)) }
 {
     let mut weighed = Vec::new(alloc);
     weigh_definitions(total, calls, &mut weighed, library.definitions.members())?;
@@ -228,7 +235,8 @@ fn groups_cells(
 ) -> Result<Vec<u32>, Memory>
     ensures { let known = map seen_call calls.now in
         IfOk result (λ groups. groups.items ≡ groups_before known
-        (groups_before known [] (plain_file library.now).definitions) (plain_file file.now).definitions) }
+        (groups_before known [] (plain_file library.now).definitions)
+        (plain_file file.now).definitions) }
 {
     let mut groups = Vec::new(alloc);
     add_groups(calls, &mut groups, library.definitions.members())?;

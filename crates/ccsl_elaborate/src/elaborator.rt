@@ -54,7 +54,8 @@ fn assembled(alloc: Global, library: &File, file: &File, count: u32) -> Result<S
     requires faultless { IsFaultless (plain_file library.now) (plain_file file.now) }
     requires cells { count ≡ cells (expand (plain_file library.now) (plain_file file.now)) }
     requires few { count ≤ MAX_CELLS }
-    ensures { IfOk result (λ system. IsAnswer (plain_file library.now) (plain_file file.now) (Ok system)) }
+    ensures { IfOk result
+        (λ system. IsAnswer (plain_file library.now) (plain_file file.now) (Ok system)) }
 {
     every_file_is_kept(library);
     every_file_is_kept(file);
@@ -66,7 +67,8 @@ fn assembled(alloc: Global, library: &File, file: &File, count: u32) -> Result<S
 
 fn judged(alloc: Global, library: &File, file: &File) -> Result<Result<System, Refusal>, Memory>
     requires { refusal empty (plain_file library.now) ≡ None }
-    ensures { IfOk result (λ answer. IsAnswer (plain_file library.now) (plain_file file.now) answer) }
+    ensures { IfOk result
+        (λ answer. IsAnswer (plain_file library.now) (plain_file file.now) answer) }
 {
     match weighed(alloc, library, file)? {
         Err(refusal) => Ok(Err(refusal)),

@@ -48,7 +48,8 @@ impl<'a> Parser<'a> {
     }
 
     pub(crate) fn syntax(&self) -> EventFault
-        ensures { result ≡ EventFault.Syntax (place_of self.now.len (ahead self.now.len self.now.rest.now)) }
+        ensures { result ≡ EventFault.Syntax
+            (place_of self.now.len (ahead self.now.len self.now.rest.now)) }
     {
         EventFault::Syntax { at: self.at() }
     }
@@ -61,8 +62,10 @@ impl<'a> Parser<'a> {
 
     pub(crate) fn advance(&mut self)
         ensures len { self.new.len ≡ self.old.len }
-        ensures ahead { ahead self.new.len self.new.rest.now ≡ behind_next (ahead self.old.len self.old.rest.now) }
-        ensures shorter { 0 < length self.old.rest.now → length self.new.rest.now < length self.old.rest.now }
+        ensures ahead { ahead self.new.len self.new.rest.now
+            ≡ behind_next (ahead self.old.len self.old.rest.now) }
+        ensures shorter { 0 < length self.old.rest.now →
+            length self.new.rest.now < length self.old.rest.now }
         ensures within { length self.new.rest.now ≤ length self.old.rest.now }
     {
         self.rest = skip_blank(token_at_front(self.rest).1);

@@ -16,7 +16,8 @@ use ccsl_base::{Memory, decimal};
 use ccsl_scopes::{Path, Select};
 
 fn put_without_blanks(text: &[u8], parts: &mut Vec<u8>) -> Result<(), Memory>
-    ensures { OnOk result (parts.new.items ≡ parts.old.items ++ filter (λ b. not (b == 32)) text.now) }
+    ensures { OnOk result (parts.new.items
+        ≡ parts.old.items ++ filter (λ b. not (b == 32)) text.now) }
 {
     for b in text {
         if *b != b' ' {
@@ -30,7 +31,8 @@ fn put_without_blanks(text: &[u8], parts: &mut Vec<u8>) -> Result<(), Memory>
 // has one.
 fn put_part(next: Token<'_>, parts: &mut Vec<u8>) -> Result<bool, Memory>
     ensures is { IfOk result (λ put. put ≡ is_some (part_seen (seen next.entry))) }
-    ensures put { OnOk result (parts.new.items ≡ parts.old.items ++ unwrap_or (part_seen (seen next.entry)) []) }
+    ensures put { OnOk result (parts.new.items
+        ≡ parts.old.items ++ unwrap_or (part_seen (seen next.entry)) []) }
 {
     match next {
         Token::Word(word) => {
@@ -81,8 +83,10 @@ impl Parser<'_> {
     fn bracket(&mut self, select: Select) -> Result<Select, EventFault>
         ensures len { self.new.len ≡ self.old.len }
         ensures reads { (d : Draft) (at : ℕ) (parts : List ℕ) →
-            Reads result self.old.len (bracket d (path at parts select)) (ahead self.old.len self.old.rest.now)
-            (λ select. behind_path d (path at parts select)) (ahead self.new.len self.new.rest.now) }
+            Reads result self.old.len (bracket d (path at parts select))
+            (ahead self.old.len self.old.rest.now)
+            (λ select. behind_path d (path at parts select))
+            (ahead self.new.len self.new.rest.now) }
         ensures within { length self.new.rest.now ≤ length self.old.rest.now }
     {
         self.expect_mark(b']')?;
@@ -93,8 +97,10 @@ impl Parser<'_> {
     fn range(&mut self, left: u32) -> Result<Select, EventFault>
         ensures len { self.new.len ≡ self.old.len }
         ensures reads { (d : Draft) (at : ℕ) (parts : List ℕ) →
-            Reads result self.old.len (behind_left d at parts left) (ahead self.old.len self.old.rest.now)
-            (λ select. behind_path d (path at parts select)) (ahead self.new.len self.new.rest.now) }
+            Reads result self.old.len (behind_left d at parts left)
+            (ahead self.old.len self.old.rest.now)
+            (λ select. behind_path d (path at parts select))
+            (ahead self.new.len self.new.rest.now) }
         ensures within { length self.new.rest.now ≤ length self.old.rest.now }
     {
         if !self.takes_mark(b':') {
@@ -109,8 +115,10 @@ impl Parser<'_> {
         ensures len { self.new.len ≡ self.old.len }
         ensures reads { (d : Draft) (at : ℕ) (parts : List ℕ) →
             next_is (is_mark 46) (ahead self.old.len self.old.rest.now) ≡ false →
-            Reads result self.old.len (behind_part d at parts) (ahead self.old.len self.old.rest.now)
-            (λ select. behind_path d (path at parts select)) (ahead self.new.len self.new.rest.now) }
+            Reads result self.old.len (behind_part d at parts)
+            (ahead self.old.len self.old.rest.now)
+            (λ select. behind_path d (path at parts select))
+            (ahead self.new.len self.new.rest.now) }
         ensures within { length self.new.rest.now ≤ length self.old.rest.now }
     {
         if !self.takes_mark(b'[') {
@@ -124,9 +132,11 @@ impl Parser<'_> {
     fn more_parts(&mut self, parts: &mut Vec<u8>) -> Result<(), EventFault>
         ensures len { self.new.len ≡ self.old.len }
         ensures reads { (d : Draft) (at : ℕ) →
-            Reads result self.old.len (behind_part d at parts.old.items) (ahead self.old.len self.old.rest.now)
+            Reads result self.old.len (behind_part d at parts.old.items)
+            (ahead self.old.len self.old.rest.now)
             (λ _. behind_part d at parts.new.items) (ahead self.new.len self.new.rest.now) }
-        ensures ended { OnOk result (next_is (is_mark 46) (ahead self.new.len self.new.rest.now) ≡ false) }
+        ensures ended { OnOk result
+            (next_is (is_mark 46) (ahead self.new.len self.new.rest.now) ≡ false) }
         ensures within { length self.new.rest.now ≤ length self.old.rest.now }
     {
         'parts: while self.takes_mark(b'.') {

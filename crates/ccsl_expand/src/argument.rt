@@ -57,7 +57,8 @@ fn sum(setting: &Setting, term: &Term) -> u32
 }
 
 fn copy(alloc: Global, atom: Option<&Atom>) -> Result<Atom, Memory>
-    ensures { IfOk result (λ a. seen_atom a ≡ atom_or_zero (option_map (λ b. seen_atom b.now) atom.entry)) }
+    ensures { IfOk result (λ a. seen_atom a
+        ≡ atom_or_zero (option_map (λ b. seen_atom b.now) atom.entry)) }
 {
     match atom {
         Some(Atom::Clock(whole)) => {

@@ -48,7 +48,8 @@ fn read_file<'a>(
 ) -> Result<u32, Memory>
     ensures words { OnOk result (words.new.items ≡
         words.old.items ++ map word_in (sheet_texts (plain_file file.now))) }
-    ensures blocks { OnOk result (map seen_block blocks.new.items ≡ map seen_block blocks.old.items ++
+    ensures blocks { OnOk result (map seen_block blocks.new.items
+        ≡ map seen_block blocks.old.items ++
         numbered (length words.old.items) (plain_file file.now).definitions) }
     ensures start { IfOk result (λ start. start ≡
         length words.old.items + length (flat_map block_texts (plain_file file.now).definitions)) }
@@ -60,9 +61,11 @@ fn read_file<'a>(
 }
 
 fn read_files<'a>(alloc: Global, library: &'a File, file: &'a File) -> Result<Texts<'a>, Memory>
-    ensures words { IfOk result (λ r. r.words.items ≡ words_of (plain_file library.now) (plain_file file.now)) }
+    ensures words { IfOk result (λ r. r.words.items
+        ≡ words_of (plain_file library.now) (plain_file file.now)) }
     ensures blocks { IfOk result (λ r.
-        map seen_block r.blocks.items ≡ numbered_files (plain_file library.now) (plain_file file.now)) }
+        map seen_block r.blocks.items ≡ numbered_files
+        (plain_file library.now) (plain_file file.now)) }
     ensures start { IfOk result (λ r. r.start ≡ length (sheet_texts (plain_file library.now)) +
         length (flat_map block_texts (plain_file file.now).definitions)) }
 {
@@ -79,7 +82,8 @@ fn read_files<'a>(alloc: Global, library: &'a File, file: &'a File) -> Result<Te
 
 fn system_frame(alloc: Global, lines: &[SystemLine]) -> Result<Frame, Memory>
     ensures path { IfOk result (λ f. f.path ≡ []) }
-    ensures setting { IfOk result (λ f. f.setting.value ≡ own_clocks [] (map plain_sline lines.now)) }
+    ensures setting { IfOk result (λ f. f.setting.value
+        ≡ own_clocks [] (map plain_sline lines.now)) }
 {
     let setting = Rc::new(alloc, system_setting(alloc, lines)?)?;
     Ok(Frame {
@@ -95,7 +99,8 @@ fn unfolded<'a>(
     lines: &'a [SystemLine],
 ) -> Result<Vec<Item<'a>>, Memory>
     ensures { IfOk result (λ v. map seen_item v.items ≡
-        unfold_body sources.now.words.now (map seen_call sources.now.calls.now) (all_unfolded sources.now)
+        unfold_body sources.now.words.now (map seen_call sources.now.calls.now)
+        (all_unfolded sources.now)
         [] (own_clocks [] (map plain_sline lines.now)) start 0 (map plain_sline lines.now)) }
 {
     let frame = system_frame(alloc, lines)?;
@@ -116,7 +121,8 @@ fn named(alloc: Global, lines: &[SystemLine], items: &[Item<'_>]) -> Result<Nami
     ensures declared { IfOk result (λ n. n.declared ≡
         length (flat_map declared_names (map plain_sline lines.now))) }
     ensures written { IfOk result (λ n. n.written ≡
-        length (flat_map declared_names (map plain_sline lines.now)) + length (filter_map written_item (map seen_item items.now))) }
+        length (flat_map declared_names (map plain_sline lines.now)) + length
+        (filter_map written_item (map seen_item items.now))) }
 {
     let mut names = declared(alloc, lines)?;
     let declared = u32::try_from(names.len()).map_err(|_| Memory)?;
@@ -135,8 +141,10 @@ fn definitions(
     tables: &Tables<'_, '_>,
     items: &[Item<'_>],
 ) -> Result<Vec<Expr>, Memory>
-    ensures { IfOk result (λ v. map plain_expr v.items ≡ map (item_definition (seen_tables tables.now))
-        (filter_map written_item (map seen_item items.now) ++ filter_map hidden_item (map seen_item items.now))) }
+    ensures { IfOk result (λ v. map plain_expr v.items
+        ≡ map (item_definition (seen_tables tables.now))
+        (filter_map written_item (map seen_item items.now)
+        ++ filter_map hidden_item (map seen_item items.now))) }
 {
     let mut out = Vec::new(alloc);
     push_written(alloc, tables, &mut out, items)?;
@@ -162,7 +170,8 @@ fn contents_of(
         numbered_groups (seen_tables tables.now) (map seen_block blocks.now)) }
     ensures definitions { IfOk result (λ made. map plain_expr made.definitions ≡
         map (item_definition (seen_tables tables.now))
-        (filter_map written_item (map seen_item items.now) ++ filter_map hidden_item (map seen_item items.now))) }
+        (filter_map written_item (map seen_item items.now)
+        ++ filter_map hidden_item (map seen_item items.now))) }
     ensures constraints { IfOk result (λ made. made.constraints ≡
         filter_map (constraint_of tables.now.names.now) (map seen_item items.now)) }
 {
@@ -184,8 +193,10 @@ fn parts<'a>(
     lines: &[SystemLine],
     items: &[Item<'_>],
 ) -> Result<Parts, Memory>
-    requires new { AreNew (names_of (flat_map declared_names (map plain_sline lines.now)) (map seen_item items.now)) }
-    requires few { length (names_of (flat_map declared_names (map plain_sline lines.now)) (map seen_item items.now))
+    requires new { AreNew
+        (names_of (flat_map declared_names (map plain_sline lines.now)) (map seen_item items.now)) }
+    requires few { length
+        (names_of (flat_map declared_names (map plain_sline lines.now)) (map seen_item items.now))
         ≤ MAX_CLOCKS }
     ensures { IfOk result (λ parts. plain_system parts ≡
         expanded words.items (map seen_call calls.now) (map seen_block blocks.now)
@@ -218,9 +229,11 @@ fn expand_texts<'a>(
     start: u32,
     lines: &'a [SystemLine],
 ) -> Result<Parts, Memory>
-    requires new { AreNew (expanded_texts (map seen_call calls.now) words.items (map seen_block blocks.now) start
+    requires new { AreNew
+        (expanded_texts (map seen_call calls.now) words.items (map seen_block blocks.now) start
         (map plain_sline lines.now)).names }
-    requires few { length (expanded_texts (map seen_call calls.now) words.items (map seen_block blocks.now) start
+    requires few { length
+        (expanded_texts (map seen_call calls.now) words.items (map seen_block blocks.now) start
         (map plain_sline lines.now)).names ≤ MAX_CLOCKS }
     ensures { IfOk result (λ parts. plain_system parts ≡
         expanded_texts (map seen_call calls.now) words.items (map seen_block blocks.now) start
@@ -239,7 +252,8 @@ fn expand_texts<'a>(
 /// answered.
 pub fn expand(alloc: Global, library: &File, file: &File) -> Result<Parts, Memory>
     requires new { AreNew (expand (plain_file library.now) (plain_file file.now)).names }
-    requires few { length (expand (plain_file library.now) (plain_file file.now)).names ≤ MAX_CLOCKS }
+    requires few { length (expand (plain_file library.now) (plain_file file.now)).names
+        ≤ MAX_CLOCKS }
     ensures { IfOk result (λ parts.
         plain_system parts ≡ expand (plain_file library.now) (plain_file file.now)) }
 {

@@ -100,7 +100,8 @@ fn arguments(
 ) -> Result<Seq<Value>, Memory>
     ensures values { IfOk result (λ v.
         v ≡ resolve_arguments (seen_tables tables.now) setting.now next.old arguments.now) }
-    ensures next { OnOk result (next.new ≡ next.old + length (flat_map argument_texts arguments.now)) }
+    ensures next { OnOk result (next.new
+        ≡ next.old + length (flat_map argument_texts arguments.now)) }
 {
     let mut values = Vec::new(alloc);
     for given in arguments {
@@ -163,9 +164,11 @@ fn operands(
     right: &Tree,
 ) -> Result<(Box<Expr>, Box<Expr>), Memory>
     ensures left { IfOk result (λ both.
-        plain_expr both.0.value ≡ resolve (seen_tables tables.now) setting.now next.old (plain left.now)) }
+        plain_expr both.0.value ≡ resolve (seen_tables tables.now) setting.now
+        next.old (plain left.now)) }
     ensures right { IfOk result (λ both. plain_expr both.1.value ≡
-        resolve (seen_tables tables.now) setting.now (next.old + length (texts (plain left.now))) (plain right.now)) }
+        resolve (seen_tables tables.now) setting.now
+        (next.old + length (texts (plain left.now))) (plain right.now)) }
     ensures next { OnOk result (next.new ≡
         next.old + (length (texts (plain left.now)) + length (texts (plain right.now)))) }
 {
@@ -184,7 +187,8 @@ fn operand(
     tree: &Tree,
 ) -> Result<Box<Expr>, Memory>
     ensures expression { IfOk result (λ e.
-        plain_expr e.value ≡ resolve (seen_tables tables.now) setting.now next.old (plain tree.now)) }
+        plain_expr e.value ≡ resolve (seen_tables tables.now) setting.now
+        next.old (plain tree.now)) }
     ensures next { OnOk result (next.new ≡ next.old + length (texts (plain tree.now))) }
 {
     let expression = resolve(alloc, tables, setting, next, tree)?;
@@ -242,7 +246,8 @@ fn choice(
     second: &Tree,
 ) -> Result<Expr, Memory>
     ensures expression { IfOk result (λ e. plain_expr e ≡
-        resolve (seen_tables tables.now) setting.now next.old (EIf asked.now (plain first.now) (plain second.now))) }
+        resolve (seen_tables tables.now) setting.now next.old
+        (EIf asked.now (plain first.now) (plain second.now))) }
     ensures next { OnOk result (next.new ≡
         next.old + length (texts (EIf asked.now (plain first.now) (plain second.now)))) }
 {

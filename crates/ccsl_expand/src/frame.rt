@@ -53,7 +53,8 @@ fn bind_line(
 ) -> Result<Setting, Memory>
     ensures { IfOk result (λ s.
         s ≡ setting ++
-        map (λ x. (x.name, AClock (inside path.now x.name))) (declares (SLineOf (plain_line line.now)))) }
+        map (λ x. (x.name, AClock (inside path.now x.name)))
+        (declares (SLineOf (plain_line line.now)))) }
 {
     match line {
         RelationLine::Define(name, _) => bind_clock(alloc, setting, path, name),
@@ -89,7 +90,8 @@ fn bind_declared(alloc: Global, mut setting: Setting, names: &[Spot]) -> Result<
 
 fn bind_system_line(alloc: Global, setting: Setting, line: &SystemLine) -> Result<Setting, Memory>
     ensures { IfOk result (λ s.
-        s ≡ setting ++ map (λ x. (x.name, AClock (inside [] x.name))) (declares (plain_sline line.now))) }
+        s ≡ setting ++ map (λ x. (x.name, AClock (inside [] x.name)))
+        (declares (plain_sline line.now))) }
 {
     match line {
         SystemLine::Clocks(names) => bind_declared(alloc, setting, names.members()),

@@ -58,7 +58,8 @@ fn body(
 ) -> Result<Body, Memory>
     ensures body { IfOk result (λ b.
         plain_body b ≡ part_body (seen_tables tables.now) next.old (plain_member member.now)) }
-    ensures next { OnOk result (next.new ≡ next.old + length (texts (plain_member member.now).body)) }
+    ensures next { OnOk result (next.new
+        ≡ next.old + length (texts (plain_member member.now).body)) }
 {
     let setting = own_params(alloc, member.params.members())?;
     let params = kinds(alloc, member.params.members())?;

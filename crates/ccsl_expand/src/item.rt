@@ -52,7 +52,8 @@ pub fn push_definition<'a>(
     tree: &'a Tree,
 ) -> Result<(), Memory>
     ensures { OnOk result (map seen_item out.new.items ≡ map seen_item out.old.items ++
-        Defines frame.now.path (inside frame.now.path name.now.name) frame.now.setting.value start (plain tree.now) ∷ []) }
+        Defines frame.now.path (inside frame.now.path name.now.name) frame.now.setting.value
+        start (plain tree.now) ∷ []) }
 {
     let whole = inside(alloc, frame.path.bytes(), name.name.bytes())?;
     let item = Item::Defines {

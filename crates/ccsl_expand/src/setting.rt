@@ -83,7 +83,8 @@ impl Setting {
 
     /// What a name stands for.
     pub fn find(&self, name: &[u8]) -> Option<&Atom>
-        ensures { atom_or_zero (option_map (λ a. seen_atom a.now) result) ≡ atom_of self.now name.now }
+        ensures { atom_or_zero (option_map (λ a. seen_atom a.now) result)
+            ≡ atom_of self.now name.now }
     {
         match self.first.find(name) {
             None => None,

@@ -31,7 +31,8 @@ fn add_spots(alloc: Global, names: &mut Vec<Text>, spots: &[Spot]) -> Result<(),
 }
 
 fn add_declared_by(alloc: Global, names: &mut Vec<Text>, line: &SystemLine) -> Result<(), Memory>
-    ensures { OnOk result (names.new.items ≡ names.old.items ++ declared_names (plain_sline line.now)) }
+    ensures { OnOk result (names.new.items
+        ≡ names.old.items ++ declared_names (plain_sline line.now)) }
 {
     match line {
         SystemLine::Clocks(spots) => add_spots(alloc, names, spots.members()),
@@ -41,7 +42,8 @@ fn add_declared_by(alloc: Global, names: &mut Vec<Text>, line: &SystemLine) -> R
 
 /// The names of the clocks that the system's lines declare.
 pub fn declared(alloc: Global, lines: &[SystemLine]) -> Result<Vec<Text>, Memory>
-    ensures { IfOk result (λ names. names.items ≡ flat_map declared_names (map plain_sline lines.now)) }
+    ensures { IfOk result (λ names. names.items
+        ≡ flat_map declared_names (map plain_sline lines.now)) }
 {
     let mut names = Vec::new(alloc);
     for line in lines {
@@ -103,7 +105,8 @@ fn push_if_written(
     item: &Item<'_>,
 ) -> Result<(), Memory>
     ensures { OnOk result (map plain_expr out.new.items ≡ map plain_expr out.old.items ++
-        map (item_definition (seen_tables tables.now)) (option_to_list (written_item (seen_item item.now)))) }
+        map (item_definition (seen_tables tables.now))
+        (option_to_list (written_item (seen_item item.now)))) }
 {
     if let Item::Defines {
         path,
@@ -128,7 +131,8 @@ pub fn push_written(
     items: &[Item<'_>],
 ) -> Result<(), Memory>
     ensures { OnOk result (map plain_expr out.new.items ≡ map plain_expr out.old.items ++
-        map (item_definition (seen_tables tables.now)) (filter_map written_item (map seen_item items.now))) }
+        map (item_definition (seen_tables tables.now))
+        (filter_map written_item (map seen_item items.now))) }
 {
     for item in items {
         push_if_written(alloc, tables, out, item)?;
@@ -143,7 +147,8 @@ fn push_if_hidden(
     item: &Item<'_>,
 ) -> Result<(), Memory>
     ensures { OnOk result (map plain_expr out.new.items ≡ map plain_expr out.old.items ++
-        map (item_definition (seen_tables tables.now)) (option_to_list (hidden_item (seen_item item.now)))) }
+        map (item_definition (seen_tables tables.now))
+        (option_to_list (hidden_item (seen_item item.now)))) }
 {
     if let Item::Defines {
         path,
@@ -168,7 +173,8 @@ pub fn push_hidden(
     items: &[Item<'_>],
 ) -> Result<(), Memory>
     ensures { OnOk result (map plain_expr out.new.items ≡ map plain_expr out.old.items ++
-        map (item_definition (seen_tables tables.now)) (filter_map hidden_item (map seen_item items.now))) }
+        map (item_definition (seen_tables tables.now))
+        (filter_map hidden_item (map seen_item items.now))) }
 {
     for item in items {
         push_if_hidden(alloc, tables, out, item)?;
@@ -231,7 +237,8 @@ pub fn constraints(
     names: &Names,
     items: &[Item<'_>],
 ) -> Result<Vec<Constraint>, Memory>
-    ensures { IfOk result (λ v. v.items ≡ filter_map (constraint_of names.now) (map seen_item items.now)) }
+    ensures { IfOk result
+        (λ v. v.items ≡ filter_map (constraint_of names.now) (map seen_item items.now)) }
 {
     let mut out = Vec::new(alloc);
     for item in items {

@@ -131,8 +131,10 @@ pub fn read_definitions<'a>(
     definitions: &'a [Definition],
 ) -> Result<(), Memory>
     ensures words { OnOk result (words.new.items ≡
-        words.old.items ++ map word_in (flat_map block_texts (map plain_definition definitions.now))) }
-    ensures numbered { OnOk result (map seen_block blocks.new.items ≡ map seen_block blocks.old.items ++
+        words.old.items ++ map word_in
+        (flat_map block_texts (map plain_definition definitions.now))) }
+    ensures numbered { OnOk result (map seen_block blocks.new.items
+        ≡ map seen_block blocks.old.items ++
         numbered (length words.old.items) (map plain_definition definitions.now)) }
 {
     for definition in definitions {

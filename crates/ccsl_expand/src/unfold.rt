@@ -43,7 +43,8 @@ struct Body<'a> {
 fn body_of<'a>(sources: &Sources<'_, 'a>, home: usize, name: &Spot) -> Option<Body<'a>>
     requires { home ≤ length sources.now.blocks.now }
     ensures items { (path : List ℕ) (args : List Atom) → items_within sources.now result path args ≡
-        unfolding_of (map seen_call sources.now.calls.now) (earlier sources.now home) name.now.name path args }
+        unfolding_of (map seen_call sources.now.calls.now) (earlier sources.now home)
+        name.now.name path args }
     ensures lower { IfSome result (λ body. body.home < home) }
 {
     let found = callee(sources.calls, name)?;
@@ -79,7 +80,8 @@ fn inner_frame(
 ) -> Result<Frame, Memory>
     ensures path { IfOk result (λ f. f.path ≡ call_path outer.now.path name.now.name i) }
     ensures setting { IfOk result (λ f. f.setting.value ≡
-        arguments body.now.params.now (argument_atoms sources.now.words.now outer.now.setting.value next.old args.now)
+        arguments body.now.params.now
+        (argument_atoms sources.now.words.now outer.now.setting.value next.old args.now)
         ++ own_clocks f.path (map SLineOf (map plain_line body.now.lines.now))) }
     ensures next { OnOk result (next.new ≡ next.old + length (flat_map argument_texts args.now)) }
 {
@@ -112,7 +114,8 @@ fn unfold_line<'a>(
 ) -> Result<(), Memory>
     requires { home ≤ length sources.now.blocks.now }
     ensures items { OnOk result (map seen_item out.new.items ≡ map seen_item out.old.items ++
-        unfold_line sources.now.words.now (map seen_call sources.now.calls.now) (earlier sources.now home)
+        unfold_line sources.now.words.now (map seen_call sources.now.calls.now)
+        (earlier sources.now home)
         frame.now.path frame.now.setting.value next.old i (plain_line line.now)) }
     ensures next { OnOk result (next.new ≡ next.old + length (line_texts (plain_line line.now))) }
 {
@@ -158,7 +161,8 @@ fn unfold_lines<'a>(
 ) -> Result<(), Memory>
     requires { home ≤ length sources.now.blocks.now }
     ensures { OnOk result (map seen_item out.new.items ≡ map seen_item out.old.items ++
-        unfold_body sources.now.words.now (map seen_call sources.now.calls.now) (earlier sources.now home)
+        unfold_body sources.now.words.now (map seen_call sources.now.calls.now)
+        (earlier sources.now home)
         frame.now.path frame.now.setting.value start 0 (map SLineOf (map plain_line lines.now))) }
 {
     let mut next = start;
@@ -178,7 +182,8 @@ fn unfold_entry<'a>(
     line: &'a SystemLine,
 ) -> Result<(), Memory>
     ensures items { OnOk result (map seen_item out.new.items ≡ map seen_item out.old.items ++
-        unfold_entry sources.now.words.now (map seen_call sources.now.calls.now) (earlier sources.now (length sources.now.blocks.now))
+        unfold_entry sources.now.words.now (map seen_call sources.now.calls.now)
+        (earlier sources.now (length sources.now.blocks.now))
         frame.now.path frame.now.setting.value next.old i (plain_sline line.now)) }
     ensures next { OnOk result (next.new ≡ next.old + length (entry_texts (plain_sline line.now))) }
 {
@@ -200,7 +205,8 @@ pub fn unfold_system<'a>(
     lines: &'a [SystemLine],
 ) -> Result<Vec<Item<'a>>, Memory>
     ensures { IfOk result (λ v. map seen_item v.items ≡
-        unfold_body sources.now.words.now (map seen_call sources.now.calls.now) (earlier sources.now (length sources.now.blocks.now))
+        unfold_body sources.now.words.now (map seen_call sources.now.calls.now)
+        (earlier sources.now (length sources.now.blocks.now))
         frame.now.path frame.now.setting.value start 0 (map plain_sline lines.now)) }
 {
     let mut items = Vec::new(alloc);

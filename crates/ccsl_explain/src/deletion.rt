@@ -29,7 +29,8 @@ fn stays(
     requires used { Block scope.now (map plain formulas.old) (IsUsed used.old.items) }
     ensures marks { OnOk result (length used.new.items ≡ length formulas.new) }
     ensures used { OnOk result (Block scope.now (map plain formulas.new) (IsUsed used.new.items)) }
-    ensures stays { IfOk result (λ stays. Stays scope.now (map plain formulas.old) (map plain formulas.new) item stays) }
+    ensures stays { IfOk result (λ stays.
+        Stays scope.now (map plain formulas.old) (map plain formulas.new) item stays) }
 {
     let formula = take_out(formulas, item);
     if !used[item as usize] {
@@ -58,7 +59,8 @@ pub fn core_of(
     requires marks { length used.items ≡ length formulas.old }
     requires used { Block scope.now (map plain formulas.old) (IsUsed used.items) }
     ensures core { IfOk result (λ core. IsCore scope.now (map plain formulas.old) core.items) }
-    ensures masked { IfOk result (λ core. IsMasked (map plain formulas.old) (Contains core.items) (map plain formulas.new)) }
+    ensures masked { IfOk result (λ core.
+        IsMasked (map plain formulas.old) (Contains core.items) (map plain formulas.new)) }
     ensures length { length formulas.new ≡ length formulas.old }
 {
     let mut core = Vec::new(alloc);

@@ -80,7 +80,9 @@ pub fn least_steps(
     requires asked { IsAsked scope.now (map plain formulas.old) }
     requires items { All (λ i. i < length formulas.old) items.now }
     requires open { All (λ i. HasStep scope.now (without (map plain formulas.old) i)) items.now }
-    ensures { IfOk result (λ sets. AllZip (λ i s. IsLeastStep scope.now (without (map plain formulas.old) i) s) items.now sets.items) }
+    ensures { IfOk result
+        (λ sets. AllZip (λ i s. IsLeastStep scope.now (without (map plain formulas.old) i) s)
+        items.now sets.items) }
 {
     let wishes = negatives(alloc, scope.named)?;
     let mut sets = Vec::with_capacity(alloc, items.len())?;

@@ -33,7 +33,8 @@ pub fn refutation(
 pub fn certificate(alloc: Global, formulas: &[Formula], scope: &Scope) -> Result<Seq<Line>, Memory>
     requires asked { IsAsked scope.now (map plain formulas.now) }
     requires blocks { Blocks scope.now (map plain formulas.now) }
-    ensures { IfOk result (λ lines. is_certificate scope.now (map plain formulas.now) lines ≡ true) }
+    ensures { IfOk result
+        (λ lines. is_certificate scope.now (map plain formulas.now) lines ≡ true) }
 {
     match refutation(alloc, formulas, scope)? {
         None => unreachable!(),

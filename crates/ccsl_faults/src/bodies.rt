@@ -37,7 +37,8 @@ pub(crate) fn system_faults<'a>(
     home: &Home<'_, 'a>,
     lines: &'a [SystemLine],
 ) -> Result<Option<Fault>, Memory>
-    ensures { IfOk result (λ fault. fault ≡ least (body_faults home.now [] (map plain_sline lines.now))) }
+    ensures { IfOk result (λ fault. fault
+        ≡ least (body_faults home.now [] (map plain_sline lines.now))) }
 {
     let locals = system_space(home.alloc, lines)?;
     let used = system_lines_faults(&home.scene(&locals), lines)?;
@@ -46,7 +47,8 @@ pub(crate) fn system_faults<'a>(
 
 /// The parameters and the body of a member of a group.
 fn member_faults<'a>(home: &Home<'_, 'a>, member: &'a Member) -> Result<Option<Fault>, Memory>
-    ensures { IfOk result (λ fault. fault ≡ least (part_faults home.now (plain_member member.now))) }
+    ensures { IfOk result (λ fault. fault
+        ≡ least (part_faults home.now (plain_member member.now))) }
 {
     let params = member.params.members();
     let locals = params_space(home.alloc, params)?;

@@ -83,7 +83,8 @@ fn name_faults(
     arguments: &[Argument],
 ) -> Option<Fault>
     ensures { result ≡
-        least (called_faults (seen_scene scene.now) wants_relation position name.now arguments.now) }
+        least (called_faults (seen_scene scene.now) wants_relation position
+        name.now arguments.now) }
 {
     match find_call(scene.calls, name.name.bytes()) {
         None => where_so(true, Cause::Unknown, name.at),
@@ -100,7 +101,8 @@ pub(crate) fn call_faults(
     arguments: &[Argument],
 ) -> Result<Option<Fault>, Memory>
     ensures { IfOk result (λ fault. fault ≡
-        least (rules.call_faults (seen_scene scene.now) wants_relation position name.now arguments.now)) }
+        least (rules.call_faults (seen_scene scene.now) wants_relation position
+        name.now arguments.now)) }
 {
     let about_name = name_faults(scene, wants_relation, position, name, arguments);
     Ok(earlier(about_name, arguments_faults(scene, arguments)?))

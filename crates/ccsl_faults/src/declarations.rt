@@ -18,7 +18,8 @@ use ccsl_spaces::Space;
 /// The names of a space, from a place on, that it has before.
 pub(crate) fn repeated<T: Copy>(space: &Space<T>, from: usize) -> Option<Fault>
     requires { from ≤ length space.now }
-    ensures { result ≡ least (repeated (take from (names space.now)) (drop from (spots space.now))) }
+    ensures { result ≡ least
+        (repeated (take from (names space.now)) (drop from (spots space.now))) }
 {
     let mut worst = None;
     let declared = space.declared();

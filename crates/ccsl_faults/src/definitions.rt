@@ -116,7 +116,8 @@ fn parts_faults<'a>(
     requires room { first + length own.now < 2 ^ 64 }
     requires groups { first + length own.now ≤ length heights.now.groups.items }
     requires relations { first + length own.now ≤ length heights.now.relations.items }
-    ensures { IfOk result (λ fault. fault ≡ least (parts_faults (map seen_call calls.now.space) (seen_heights heights.now)
+    ensures { IfOk result (λ fault. fault
+        ≡ least (parts_faults (map seen_call calls.now.space) (seen_heights heights.now)
         calls.now.of_library first (map plain_definition own.now) (map plain_sline lines.now))) }
 {
     let declared = repeated(&calls.space, calls.of_library);
@@ -138,7 +139,8 @@ fn least_fault<'a>(
     lines: &'a [SystemLine],
 ) -> Result<Option<Fault>, Memory>
     ensures { IfOk result (λ fault. fault ≡ least (faults_of
-        (map plain_definition library.now) (map plain_definition own.now) (map plain_sline lines.now))) }
+        (map plain_definition library.now) (map plain_definition own.now)
+        (map plain_sline lines.now))) }
 {
     let calls = all_calls(alloc, library, own)?;
     let heights = all_levels(alloc, &calls.space, library, own)?;
@@ -148,7 +150,8 @@ fn least_fault<'a>(
 /// The fault of a file behind a library, if it has any: of all faults the one with the least place, and at one place the first
 /// in the order of [`Cause`](crate::Cause). The library's own uses and declarations are not looked at.
 pub fn first_fault(alloc: Global, file: &File, library: &File) -> Result<Option<Fault>, Memory>
-    ensures { IfOk result (λ fault. fault ≡ rules.first_fault (plain_file library.now) (plain_file file.now)) }
+    ensures { IfOk result (λ fault. fault
+        ≡ rules.first_fault (plain_file library.now) (plain_file file.now)) }
 {
     least_fault(
         alloc,

@@ -30,7 +30,8 @@ fn right_of(op: BinaryOp, position: Position) -> Position
 
 /// The number of `delayed`.
 fn delay_faults(at: usize, count: u32) -> Option<Fault>
-    ensures { result ≡ least (where_so (nat_lt count 1 || nat_lt MAX_DELAY count) causes.Arguments at) }
+    ensures { result ≡ least
+        (where_so (nat_lt count 1 || nat_lt MAX_DELAY count) causes.Arguments at) }
 {
     where_so(count < 1 || MAX_DELAY < count, Cause::Arguments, at)
 }

@@ -97,7 +97,8 @@ fn members_height(calls: &Space<Callee>, levels: &[usize], members: &[Member]) -
 }
 
 fn line_height(calls: &Space<Callee>, levels: &[usize], line: &RelationLine) -> usize
-    ensures { result ≡ height_of (map seen_call calls.now) levels.now (called_line (plain_line line.now)) }
+    ensures { result ≡ height_of (map seen_call calls.now) levels.now
+        (called_line (plain_line line.now)) }
 {
     match line {
         RelationLine::Define(_, _) => 0,
@@ -149,7 +150,8 @@ fn add_levels(
     ensures levels { OnOk result (levels.new.items ≡ rules.levels (seen_sort sort)
         (map seen_call calls.now) levels.old.items (map plain_definition definitions.now)) }
     ensures few { OnOk result (greatest levels.new.items ≤ length levels.new.items) }
-    ensures count { OnOk result (length levels.new.items ≡ length levels.old.items + length definitions.now) }
+    ensures count { OnOk result (length levels.new.items
+        ≡ length levels.old.items + length definitions.now) }
 {
     for definition in definitions {
         let next = level(sort, calls, levels, definition);
@@ -165,7 +167,8 @@ fn levels(
     library: &[Definition],
     file: &[Definition],
 ) -> Result<Vec<usize>, Memory>
-    ensures levels { IfOk result (λ v. v.items ≡ rules.levels (seen_sort sort) (map seen_call calls.now) []
+    ensures levels { IfOk result (λ v. v.items
+        ≡ rules.levels (seen_sort sort) (map seen_call calls.now) []
         (map plain_definition library.now ++ map plain_definition file.now)) }
     ensures count { IfOk result (λ v. length v.items ≡ length library.now + length file.now) }
 {
@@ -184,8 +187,10 @@ pub(crate) fn all_levels(
 ) -> Result<Heights, Memory>
     ensures heights { IfOk result (λ h. seen_heights h ≡ heights_of (map seen_call calls.now)
         (map plain_definition library.now ++ map plain_definition file.now)) }
-    ensures groups { IfOk result (λ h. length h.groups.items ≡ length library.now + length file.now) }
-    ensures relations { IfOk result (λ h. length h.relations.items ≡ length library.now + length file.now) }
+    ensures groups { IfOk result (λ h. length h.groups.items
+        ≡ length library.now + length file.now) }
+    ensures relations { IfOk result (λ h.
+        length h.relations.items ≡ length library.now + length file.now) }
 {
     let groups = levels(alloc, Sort::Groups, calls, library, file)?;
     let relations = levels(alloc, Sort::Relations, calls, library, file)?;

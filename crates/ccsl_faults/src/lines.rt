@@ -61,7 +61,8 @@ pub(crate) fn relation_lines_faults(
     lines: &[RelationLine],
 ) -> Result<Option<Fault>, Memory>
     ensures { IfOk result (λ fault. fault ≡
-        least (rules.entries_faults (seen_scene scene.now) 0 (map SLineOf (map plain_line lines.now)))) }
+        least (rules.entries_faults (seen_scene scene.now) 0
+        (map SLineOf (map plain_line lines.now)))) }
 {
     let mut worst = None;
     for (number, line) in lines.iter().enumerate() {

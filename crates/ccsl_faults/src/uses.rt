@@ -72,7 +72,8 @@ fn primary_faults(scene: &Scene, primary: &Primary) -> Option<Fault>
 }
 
 fn rest_faults(scene: &Scene, rest: &[(Sign, Primary)]) -> Option<Fault>
-    ensures { result ≡ least (flat_map (λ p. rules.prim_faults (seen_scene scene.now) p.1) rest.now) }
+    ensures { result ≡ least
+        (flat_map (λ p. rules.prim_faults (seen_scene scene.now) p.1) rest.now) }
 {
     let mut worst = None;
     for (_, primary) in rest {
@@ -102,7 +103,8 @@ pub(crate) fn text_faults(alloc: Global, at: usize, text: &[u8]) -> Result<Optio
 }
 
 pub(crate) fn word_faults(scene: &Scene, word: &WordTerm) -> Result<Option<Fault>, Memory>
-    ensures { IfOk result (λ fault. fault ≡ least (rules.word_faults (seen_scene scene.now) word.now)) }
+    ensures { IfOk result (λ fault. fault
+        ≡ least (rules.word_faults (seen_scene scene.now) word.now)) }
 {
     match word {
         WordTerm::Text(at, text) => text_faults(scene.alloc, *at, text.bytes()),

@@ -14,7 +14,8 @@ use std::alloc::Global;
 /// The negation. That of a constant is the other constant.
 pub fn not(alloc: Global, f: Formula) -> Result<Formula, Memory>
     ensures value { IfOk result (λ r. Same (plain r) (FNot (plain f))) }
-    ensures reads { IfOk result (λ r. (v : ℕ) → reads (plain r) v ≡ true → reads (plain f) v ≡ true) }
+    ensures reads { IfOk result (λ r. (v : ℕ) → reads (plain r) v ≡ true →
+        reads (plain f) v ≡ true) }
     ensures shape { IfOk result (λ r. plain r ≡ negation (plain f)) }
     ensures folded { IfOk result (λ r. is_folded (plain f) ≡ true → is_folded (plain r) ≡ true) }
 {
@@ -31,7 +32,8 @@ pub fn and(alloc: Global, f: Formula, g: Formula) -> Result<Formula, Memory>
     ensures value { IfOk result (λ r. Same (plain r) (FAnd (plain f) (plain g))) }
     ensures reads { IfOk result (λ r. (v : ℕ) → reads (plain r) v ≡ true →
         (reads (plain f) v || reads (plain g) v) ≡ true) }
-    ensures shape { IfOk result (λ r. is_constant (plain f) ≡ false → is_constant (plain g) ≡ false →
+    ensures shape { IfOk result (λ r. is_constant (plain f) ≡ false →
+        is_constant (plain g) ≡ false →
         plain r ≡ FAnd (plain f) (plain g)) }
     ensures constant { IfOk result (λ r. (is_constant (plain f) || is_constant (plain g)) ≡ true →
         (IsEither (plain f) (plain g) (plain r))) }
@@ -52,7 +54,8 @@ pub fn or(alloc: Global, f: Formula, g: Formula) -> Result<Formula, Memory>
     ensures value { IfOk result (λ r. Same (plain r) (FOr (plain f) (plain g))) }
     ensures reads { IfOk result (λ r. (v : ℕ) → reads (plain r) v ≡ true →
         (reads (plain f) v || reads (plain g) v) ≡ true) }
-    ensures shape { IfOk result (λ r. is_constant (plain f) ≡ false → is_constant (plain g) ≡ false →
+    ensures shape { IfOk result (λ r. is_constant (plain f) ≡ false →
+        is_constant (plain g) ≡ false →
         plain r ≡ FOr (plain f) (plain g)) }
     ensures constant { IfOk result (λ r. (is_constant (plain f) || is_constant (plain g)) ≡ true →
         (IsEither (plain f) (plain g) (plain r))) }
@@ -73,10 +76,12 @@ pub fn iff(alloc: Global, f: Formula, g: Formula) -> Result<Formula, Memory>
     ensures value { IfOk result (λ r. Same (plain r) (FIff (plain f) (plain g))) }
     ensures reads { IfOk result (λ r. (v : ℕ) → reads (plain r) v ≡ true →
         (reads (plain f) v || reads (plain g) v) ≡ true) }
-    ensures shape { IfOk result (λ r. is_constant (plain f) ≡ false → is_constant (plain g) ≡ false →
+    ensures shape { IfOk result (λ r. is_constant (plain f) ≡ false →
+        is_constant (plain g) ≡ false →
         plain r ≡ FIff (plain f) (plain g)) }
     ensures constant { IfOk result (λ r. (is_constant (plain f) || is_constant (plain g)) ≡ true →
-        IsEither (plain f) (plain g) (plain r) ⊎ IsEither (negation (plain f)) (negation (plain g)) (plain r)) }
+        IsEither (plain f) (plain g) (plain r)
+        ⊎ IsEither (negation (plain f)) (negation (plain g)) (plain r)) }
     ensures folded { IfOk result (λ r. is_folded (plain f) ≡ true → is_folded (plain g) ≡ true →
         is_folded (plain r) ≡ true) }
 {

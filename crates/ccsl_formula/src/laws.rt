@@ -9,12 +9,14 @@ ghost use Rattle.ccsl_formula.specs.Variables.{reads};
 
 /// A formula with the Kleene value No is false under all values that agree with the known ones.
 pub fn no_is_false()
-    ensures { (f : Formula) (p : Part) (v : Assignment) → Agrees v p → kleene f p ≡ No → truth f v ≡ false }
+    ensures { (f : Formula) (p : Part) (v : Assignment) → Agrees v p →
+        kleene f p ≡ No → truth f v ≡ false }
 {}
 
 /// A formula with the Kleene value Yes is true under all values that agree with the known ones.
 pub fn yes_is_true()
-    ensures { (f : Formula) (p : Part) (v : Assignment) → Agrees v p → kleene f p ≡ Yes → truth f v ≡ true }
+    ensures { (f : Formula) (p : Part) (v : Assignment) → Agrees v p →
+        kleene f p ≡ Yes → truth f v ≡ true }
 {}
 
 /// Where each variable of a formula is known, its Kleene value is its truth value.

@@ -59,7 +59,8 @@ impl Partial {
 
     /// The value of a clock, where it has one.
     pub fn get(&self, clock: u32) -> Option<bool>
-        ensures { MatchOption result (known self.now clock ≡ Open) (λ b. known self.now clock ≡ known_as b) }
+        ensures { MatchOption result (known self.now clock ≡ Open)
+            (λ b. known self.now clock ≡ known_as b) }
     {
         match self.value(clock) {
             Truth3::Yes => Some(true),

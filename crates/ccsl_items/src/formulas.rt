@@ -24,7 +24,8 @@ pub fn put_formulas(
     requires system { states.now.system ≡ system.now }
     ensures formulas { OnOk result ((T : List Step) → StandsFor states.now T →
         map plain formulas.new.items ≡ item_formulas system.now T) }
-    ensures below { OnOk result (All (ReadsBelow (length system.now.names)) (map plain formulas.new.items)) }
+    ensures below { OnOk result
+        (All (ReadsBelow (length system.now.names)) (map plain formulas.new.items)) }
     ensures count { OnOk result (length formulas.new.items ≡ item_count system.now) }
 {
     formulas.clear();

@@ -62,9 +62,11 @@ impl<'s> Judging<'s> {
     ) -> Result<Judging<'s>, JudgeFault>
         requires { 1 ≤ workers }
         ensures goes { IfOk result (λ j.
-            Goes W.told system.now limits.now (W.state world.old) (W.state world.new) j.feed j.shares.items) }
+            Goes W.told system.now limits.now (W.state world.old)
+            (W.state world.new) j.feed j.shares.items) }
         ensures unread { IfErr result (λ fault.
-            IsUnread W.told (wanted_of system.now) limits.now (W.state world.old) (W.state world.new) fault) }
+            IsUnread W.told (wanted_of system.now) limits.now (W.state world.old)
+            (W.state world.new) fault) }
     {
         let mut feed = match Feed::open(alloc, keys, system, limits) {
             Ok(feed) => feed,
@@ -99,8 +101,10 @@ impl<'s> Judging<'s> {
             × Goes W.told K limits start (W.state world.old) self.old.feed self.old.shares.items }
         ensures stands { IfOk result (λ ended. (K : System) (limits : Limits) (start : State) →
             Goes W.told K limits start (W.state world.old) self.old.feed self.old.shares.items →
-            Stands W.told K limits start (W.state world.new) ended self.new.feed self.new.shares.items) }
-        ensures nears { IfOk result (λ ended. IfNone ended (calls_left self.new.feed < calls_left self.old.feed)) }
+            Stands W.told K limits start (W.state world.new) ended
+            self.new.feed self.new.shares.items) }
+        ensures nears { IfOk result (λ ended.
+            IfNone ended (calls_left self.new.feed < calls_left self.old.feed)) }
         ensures unread { IfErr result (λ fault. (K : System) (limits : Limits) (start : State) →
             Goes W.told K limits start (W.state world.old) self.old.feed self.old.shares.items →
             IsUnread W.told (wanted_of K) limits start (W.state world.new) fault) }
@@ -164,7 +168,8 @@ pub fn judge<R: Threads + Sync, W: World, G: Gate>(
         IsJudged W.told system.now limits.now (W.state world.old) (W.state world.new) verdict) }
     ensures item { IfOk result (HasItem system.now) }
     ensures unread { IfErr result (λ fault.
-        IsUnread W.told (wanted_of system.now) limits.now (W.state world.old) (W.state world.new) fault) }
+        IsUnread W.told (wanted_of system.now) limits.now (W.state world.old)
+        (W.state world.new) fault) }
 {
     let mut judging = match Judging::begin(alloc, keys, world, system, workers, limits) {
         Ok(judging) => judging,

@@ -85,10 +85,12 @@ pub(crate) fn check_rows<R: Threads + Sync, G: Gate>(
     gate: &G,
 )
     requires workers { 1 ≤ workers }
-    requires follow { (K : System) × (bound : List ℕ) × (rows : List Row) × FollowAll K bound rows shares.old
+    requires follow { (K : System) × (bound : List ℕ) × (rows : List Row)
+        × FollowAll K bound rows shares.old
         × (length rows + length block.now.rows < 2 ^ 64) }
     ensures { (K : System) (bound : List ℕ) (rows : List Row) → FollowAll K bound rows shares.old →
-        length rows + length block.now.rows < 2 ^ 64 → FollowAll K bound (rows ++ block.now.rows) shares.new }
+        length rows + length block.now.rows < 2 ^ 64 →
+        FollowAll K bound (rows ++ block.now.rows) shares.new }
 {
     check_all(rt, shares, block, workers, gate);
 }

@@ -22,7 +22,8 @@ pub enum Verdict {
 pub(crate) fn verdict_on(first: Option<Violation>, rows: u64) -> Verdict
     ensures verdict { (K : System) (bound : List ℕ) (taken : List Row) → rows ≡ length taken →
         Finds K bound taken 0 (item_count K) first → plain result ≡ verdict K bound taken }
-    ensures item { (K : System) (bound : List ℕ) (taken : List Row) → Finds K bound taken 0 (item_count K) first → HasItem K result }
+    ensures item { (K : System) (bound : List ℕ) (taken : List Row) →
+        Finds K bound taken 0 (item_count K) first → HasItem K result }
 {
     match first {
         None => Verdict::Run(rows),

@@ -63,7 +63,8 @@ pub(crate) fn next_cut(system: &System, bound: &ClockSet, cut: Cut, left: u32, a
     ensures last { left ≡ 1 → result.item ≡ item_count system.now }
     ensures weight { result.weight ≤ result.item * WITH_STATES }
     ensures weighed { result.weight ≡ spec.weight_before system.now bound.now result.item }
-    ensures reaches { (spec.aim cut.weight left all ≤ result.weight) ⊎ (result.item + left ≡ item_count system.now + 1) }
+    ensures reaches { (spec.aim cut.weight left all ≤ result.weight)
+        ⊎ (result.item + left ≡ item_count system.now + 1) }
     ensures below { (n : ℕ) → 2 ≤ left → cut.item < n → n < result.item →
         spec.weight_before system.now bound.now n < spec.aim cut.weight left all }
 {

@@ -65,7 +65,8 @@ fn are_members(parts: &Parts, group: usize, members: &[Body]) -> bool
 /// Whether each member of each group is as it has to be.
 fn are_bodies(parts: &Parts, groups: &[Group]) -> bool
     ensures { let K = plain_system parts.now in
-        IsTrue result ↔ Each (λ g members. All (IsBody K g) members) 0 (map plain_group groups.now) }
+        IsTrue result ↔ Each (λ g members. All (IsBody K g) members) 0
+        (map plain_group groups.now) }
 {
     for (i, group) in groups.iter().enumerate() {
         if !are_members(parts, i, group.members.members()) {

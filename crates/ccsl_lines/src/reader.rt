@@ -87,9 +87,12 @@ impl LineReader {
 
     /// The next line. It takes no memory. After a failed read no other call is made.
     pub fn next<W: World>(&mut self, world: &mut W) -> Result<Next, Failed>
-        ensures gives { IfOk result (λ next. Gives W.told (W.state world.old) (W.state world.new) self.old self.new next) }
-        ensures nears { IfOk result (λ next. goes_on next ≡ true → calls_left self.new < calls_left self.old) }
-        ensures breaks { OnErr result (Breaks W.told (W.state world.old) (W.state world.new) self.old) }
+        ensures gives { IfOk result (λ next.
+            Gives W.told (W.state world.old) (W.state world.new) self.old self.new next) }
+        ensures nears { IfOk result (λ next. goes_on next ≡ true →
+            calls_left self.new < calls_left self.old) }
+        ensures breaks { OnErr result
+            (Breaks W.told (W.state world.old) (W.state world.new) self.old) }
     {
         if self.ended {
             return Ok(Next::Ended);
@@ -189,9 +192,13 @@ impl LineReader {
     fn read_piece<W: World>(&mut self, world: &mut W) -> Result<Option<Next>, Failed>
         requires fresh { self.old.handed ≡ false }
         requires looked_at { self.old.pending ≡ [] }
-        ensures reads { IfOk result (λ found. IfNone found (ReadsOn W.told (W.state world.old) (W.state world.new) self.old self.new)) }
-        ensures same { IfOk result (λ found. IfSome found (λ _. Reads W.told Input [] (W.state world.old) (W.state world.new))) }
-        ensures stops { IfOk result (λ found. IfSome found (λ next. Stops next W.told (W.state world.new) self.old self.new)) }
+        ensures reads { IfOk result (λ found.
+            IfNone found (ReadsOn W.told (W.state world.old)
+            (W.state world.new) self.old self.new)) }
+        ensures same { IfOk result (λ found.
+            IfSome found (λ _. Reads W.told Input [] (W.state world.old) (W.state world.new))) }
+        ensures stops { IfOk result (λ found.
+            IfSome found (λ next. Stops next W.told (W.state world.new) self.old self.new)) }
         ensures err { OnErr result (Fails Input (W.state world.old) (W.state world.new)) }
         ensures wanted { OnErr result (self.old.left ≢ None) }
     {

@@ -131,8 +131,10 @@ impl Walk {
         line: &RelationLine,
     ) -> Result<bool, Memory>
         ensures found { IfOk result (λ found. found ≡ true →
-            (more : List Origin) × (self.new.trail.items ≡ self.old.trail.items ++ origin_of home line.now ∷ more)) }
-        ensures passed { IfOk result (λ found. found ≡ false → self.new.trail.items ≡ self.old.trail.items) }
+            (more : List Origin)
+            × (self.new.trail.items ≡ self.old.trail.items ++ origin_of home line.now ∷ more)) }
+        ensures passed { IfOk result (λ found. found ≡ false →
+            self.new.trail.items ≡ self.old.trail.items) }
     {
         self.trail.push(Origin {
             home,
@@ -161,9 +163,11 @@ impl Walk {
         home: Home,
         lines: &[RelationLine],
     ) -> Result<bool, Memory>
-        ensures found { IfOk result (λ found. found ≡ true → (line : RelationLine) × (more : List Origin) ×
+        ensures found { IfOk result (λ found. found ≡ true →
+            (line : RelationLine) × (more : List Origin) ×
             (self.new.trail.items ≡ self.old.trail.items ++ origin_of home line ∷ more)) }
-        ensures passed { IfOk result (λ found. found ≡ false → self.new.trail.items ≡ self.old.trail.items) }
+        ensures passed { IfOk result (λ found. found ≡ false →
+            self.new.trail.items ≡ self.old.trail.items) }
     {
         for line in lines {
             if self.is_from(blocks, limit, true, home, line)? {
@@ -180,8 +184,10 @@ impl Walk {
         line: &RelationLine,
     ) -> Result<bool, Memory>
         ensures found { IfOk result (λ found. found ≡ true → (more : List Origin) ×
-            (self.new.trail.items ≡ self.old.trail.items ++ origin_of Specification line.now ∷ more)) }
-        ensures passed { IfOk result (λ found. found ≡ false → self.new.trail.items ≡ self.old.trail.items) }
+            (self.new.trail.items ≡ self.old.trail.items
+            ++ origin_of Specification line.now ∷ more)) }
+        ensures passed { IfOk result (λ found. found ≡ false →
+            self.new.trail.items ≡ self.old.trail.items) }
     {
         self.is_from(blocks, blocks.len(), false, Home::Specification, line)
     }

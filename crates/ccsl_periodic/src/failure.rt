@@ -34,7 +34,8 @@ pub fn compare(left: &Word, right: &Word, relation: Between) -> Option<u64>
 /// The first failure among so many letters.
 fn first_below(left: &Word, right: &Word, relation: Between, end: u64) -> Option<u64>
     ensures fails { IfSome result (IsFirstFailure relation left.now right.now) }
-    ensures holds { IfNone result ((k : ℕ) → k < end → fails_at relation left.now right.now k ≡ false) }
+    ensures holds { IfNone result ((k : ℕ) → k < end →
+        fails_at relation left.now right.now k ≡ false) }
     ensures below { IfSome result (λ k. k < end) }
 {
     let mut left_ones = 0;
@@ -79,7 +80,8 @@ fn first_overtaking(left: &Word, right: &Word, turn: &Turn) -> u64
 fn first_in_turns(left: &Word, right: &Word, turn: &Turn) -> u64
     requires turn { IsTurn left.now right.now turn.now }
     requires gains { turn.now.left < turn.now.right }
-    requires before { (k : ℕ) → k < turn.now.start → fails_at Between.Precedes left.now right.now k ≡ false }
+    requires before { (k : ℕ) → k < turn.now.start →
+        fails_at Between.Precedes left.now right.now k ≡ false }
     ensures fails { IsFirstFailure Between.Precedes left.now right.now result }
     ensures small { result < u64.MAX }
 {
@@ -103,7 +105,8 @@ fn overtaken_at(place: u64, left_ones: u64, right_ones: u64, turn: &Turn) -> u64
     requires place_small { place ≤ MAX_LETTERS + MAX_LETTERS * MAX_LETTERS }
     requires letters_small { turn.now.letters ≤ MAX_LETTERS * MAX_LETTERS }
     requires few { left_ones ≤ place }
-    ensures place { result ≡ place + div_ceil (left_ones - right_ones) (turn.now.right - turn.now.left) * turn.now.letters }
+    ensures place { result ≡ place + div_ceil (left_ones - right_ones)
+        (turn.now.right - turn.now.left) * turn.now.letters }
     ensures small { result < u64.MAX }
 {
     let turns = left_ones

@@ -112,7 +112,8 @@ fn behind_both(left: &Word, right: &Word) -> u64
 
 /// The first letters of `left` on `right`.
 fn on_letters(alloc: Global, left: &Word, right: &Word, count: u64) -> Result<Vec<bool>, Memory>
-    ensures { IfOk result (λ v. v.items ≡ map (on_letter left.now right.now) (range_with_len 0 count)) }
+    ensures { IfOk result
+        (λ v. v.items ≡ map (on_letter left.now right.now) (range_with_len 0 count)) }
 {
     let mut letters = Vec::new(alloc);
     let mut left_ones = 0;

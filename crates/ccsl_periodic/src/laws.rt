@@ -11,7 +11,8 @@ ghost use Rattle.ccsl_periodic.specs.Laws.{CanonicalWordsAreOne, PlainLengthsAre
 /// Between two filters of a clock the formula of a relation holds at each step before the tick of that clock at which their
 /// words first fail, and fails at that tick; where they never fail it holds at each step.
 pub fn filters_are_related()
-    ensures until { (relation : Between) (u v : BinaryWord) (k : ℕ) → IsFirstFailure relation u v k →
+    ensures until { (relation : Between) (u v : BinaryWord) (k : ℕ) →
+        IsFirstFailure relation u v k →
         FiltersAreRelated relation u v (Some k) }
     ensures always { (relation : Between) (u v : BinaryWord) → NeverFails relation u v →
         FiltersAreRelated relation u v None }

@@ -46,7 +46,8 @@ pub(crate) fn word_of(alloc: Global, letters: &[bool], prefix: usize) -> Result<
     requires prefix { prefix ≤ length letters.now }
     requires some { 0 < length letters.now }
     requires few { length letters.now ≤ MAX_LETTERS }
-    ensures { IfOk result (λ w. w ≡ record { prefix = take prefix letters.now; period = drop prefix letters.now }) }
+    ensures { IfOk result
+        (λ w. w ≡ record { prefix = take prefix letters.now; period = drop prefix letters.now }) }
 {
     let text = spell(alloc, letters, prefix)?;
     match Word::read(alloc, text.as_slice()) {
@@ -60,7 +61,8 @@ pub(crate) fn word_of(alloc: Global, letters: &[bool], prefix: usize) -> Result<
 fn spell(alloc: Global, letters: &[bool], prefix: usize) -> Result<Vec<u8>, Memory>
     requires { prefix ≤ length letters.now }
     ensures { IfOk result (λ text.
-        text.items ≡ spelling (record { prefix = take prefix letters.now; period = drop prefix letters.now })) }
+        text.items ≡ spelling
+        (record { prefix = take prefix letters.now; period = drop prefix letters.now })) }
 {
     let mut text = Vec::new(alloc);
     push_digits(&mut text, &letters[..prefix])?;

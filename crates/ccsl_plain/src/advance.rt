@@ -33,8 +33,10 @@ pub fn advanced<'s>(
         moved.tick ≡ tick_of step.now gone (held system.now.words course.entry)) }
     ensures next { IfOk result (λ moved. (gone : ℕ → Bool) →
         held system.now.words moved.course ≡
-        next system.now step.now gone (gone_in deaths.now at) (held system.now.words course.entry)) }
-    ensures ready { IfOk result (λ moved. IsReady system.now.words (held system.now.words moved.course)) }
+        next system.now step.now gone (gone_in deaths.now at)
+        (held system.now.words course.entry)) }
+    ensures ready { IfOk result (λ moved.
+        IsReady system.now.words (held system.now.words moved.course)) }
 {
     let words = system.words();
     match course {

@@ -93,7 +93,8 @@ impl Connective {
 impl Binary {
     /// How the operator joins its operands' formulas, after these ticks of theirs.
     pub fn connective(self, p: &[bool], q: &[bool]) -> Connective
-        ensures { (a d : Now) → (binary_row self (operand_of a p.now) (operand_of d q.now)).formula ≡
+        ensures { (a d : Now) →
+            (binary_row self (operand_of a p.now) (operand_of d q.now)).formula ≡
             connected result a.formula d.formula }
     {
         match self {

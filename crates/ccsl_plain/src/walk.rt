@@ -36,7 +36,8 @@ pub fn followed<'s>(
     ensures course { let course = opening system.now (plain_expr e.now) [] in
         IfOk result (λ walk. held system.now.words walk.course ≡
         grown system.now list.now (gone_in deaths.now) course 0 (length list.now)) }
-    ensures deaths { let life = course_life system.now list.now (gone_in deaths.now) (plain_expr e.now) [] in
+    ensures deaths { let life = course_life system.now list.now
+        (gone_in deaths.now) (plain_expr e.now) [] in
         IfOk result (λ walk. walk.deaths.items ≡
         map (λ n. (life 0 n).dead) (steps 0 (suc (length list.now)))) }
 {

@@ -69,7 +69,8 @@ pub fn choose(
     requires reads { AllBelow scope.now.named (map plain formulas.now) }
     requires few { length formulas.now < 2 ^ 32 }
     requires words { length words.now ≡ scope.now.declared }
-    ensures { IfOk result (λ choice. Chooses scope.now (map plain formulas.now) policy words.now choice) }
+    ensures { IfOk result
+        (λ choice. Chooses scope.now (map plain formulas.now) policy words.now choice) }
 {
     let ranked = ranked(alloc, words)?;
     let wishes = wishes(alloc, policy, &ranked)?;

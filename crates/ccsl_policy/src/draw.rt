@@ -48,8 +48,10 @@ impl Draw {
 
     /// The next words. On `Memory` no word is taken.
     pub fn next(&mut self, alloc: Global, n: u32) -> Result<Vec<u32>, Memory>
-        ensures words { IfOk result (λ v. (seed j : ℕ) → StandsFor self.old seed j → v.items ≡ words_from seed j n) }
-        ensures stands { IfOk result (λ _. (seed j : ℕ) → StandsFor self.old seed j → StandsFor self.new seed (j + n)) }
+        ensures words { IfOk result (λ v. (seed j : ℕ) → StandsFor self.old seed j →
+            v.items ≡ words_from seed j n) }
+        ensures stands { IfOk result (λ _. (seed j : ℕ) → StandsFor self.old seed j →
+            StandsFor self.new seed (j + n)) }
         ensures kept { OnErr result (self.new ≡ self.old) }
     {
         drawn(&mut self.generator, alloc, n)
@@ -58,8 +60,10 @@ impl Draw {
 
 /// The next words of a generator. Room for them is taken first.
 fn drawn(generator: &mut Pcg32, alloc: Global, n: u32) -> Result<Vec<u32>, Memory>
-    ensures words { IfOk result (λ v. (seed j : ℕ) → StandsFor generator.old seed j → v.items ≡ words_from seed j n) }
-    ensures stands { IfOk result (λ _. (seed j : ℕ) → StandsFor generator.old seed j → StandsFor generator.new seed (j + n)) }
+    ensures words { IfOk result (λ v. (seed j : ℕ) → StandsFor generator.old seed j →
+        v.items ≡ words_from seed j n) }
+    ensures stands { IfOk result (λ _. (seed j : ℕ) → StandsFor generator.old seed j →
+        StandsFor generator.new seed (j + n)) }
     ensures kept { OnErr result (generator.new ≡ generator.old) }
 {
     let mut list = Vec::with_capacity(alloc, n as usize)?;

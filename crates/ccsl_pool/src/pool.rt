@@ -108,7 +108,8 @@ fn start_one_of<R: Threads + Sync, P: Piece, G: Gate>(
     let mut back = ||
         requires { IsSync R.row × IsSync G.row × IsSend P.row × (next + left < 2 ^ 32)
             × Every (λ p. P.can_take p block.now.rows) others.now }
-        ensures { Pairwise (λ p q. P.takes p block.entry.now.rows q) others.entry.now others.exit.now }
+        ensures { Pairwise (λ p q. P.takes p block.entry.now.rows q)
+            others.entry.now others.exit.now }
     { start_each(rt, gate, block, next, left, others) };
     join_mut(rt, &mut front, &mut back);
 }
@@ -125,8 +126,10 @@ fn start<R: Threads + Sync, P: Piece, G: Gate>(
     ensures { Pairwise (λ p q. P.takes p block.now.rows q) pieces.old pieces.new }
 {
     let mut work = ||
-        requires { IsSync G.row × IsSend P.row × Every (λ p. P.can_take p block.now.rows) pieces.now }
-        ensures { Pairwise (λ p q. P.takes p block.entry.now.rows q) pieces.entry.now pieces.exit.now }
+        requires { IsSync G.row × IsSend P.row
+            × Every (λ p. P.can_take p block.now.rows) pieces.now }
+        ensures { Pairwise (λ p q. P.takes p block.entry.now.rows q)
+            pieces.entry.now pieces.exit.now }
     { part(gate, block, number, pieces) };
     let mut wait = || {};
     join_mut(rt, &mut work, &mut wait);

@@ -17,7 +17,8 @@ use std::alloc::Global;
 /// answers for all its members.
 pub fn allowed(alloc: Global, system: &System, states: &States<'_>) -> Result<ClockSet, Memory>
     requires { states.now.system ≡ system.now }
-    ensures { IfOk result (λ set. (T : List Step) → StandsFor states.now T → IsNamedRun system.now T →
+    ensures { IfOk result (λ set. (T : List Step) → StandsFor states.now T →
+        IsNamedRun system.now T →
         set ≡ allowed_clocks system.now T) }
 {
     let mut formulas = Vec::new(alloc);

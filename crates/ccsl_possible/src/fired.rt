@@ -30,7 +30,8 @@ pub fn first_failing(
     set: &ClockSet,
 ) -> Result<Option<u32>, Memory>
     requires { states.now.system ≡ system.now }
-    ensures { IfOk result (λ found. (T : List Step) → StandsFor states.now T → found ≡ first_failing system.now T set.now) }
+    ensures { IfOk result (λ found. (T : List Step) → StandsFor states.now T →
+        found ≡ first_failing system.now T set.now) }
 {
     let step = states.derive(set);
     let definitions = system.definitions();

@@ -53,7 +53,8 @@ fn add_set_with(
     requires clock { clock < scope.now.named }
     requires found { AllMayTick scope.now (map plain formulas.now) found.old }
     ensures found { OnOk result (AllMayTick scope.now (map plain formulas.now) found.new) }
-    ensures clock { OnOk result (MayTick scope.now (map plain formulas.now) clock → ticks_in clock found.new ≡ true) }
+    ensures clock { OnOk result (MayTick scope.now (map plain formulas.now) clock →
+        ticks_in clock found.new ≡ true) }
 {
     if found.has(clock) {
         return Ok(());
@@ -72,7 +73,8 @@ pub(crate) fn may_tick(
 ) -> Result<ClockSet, Memory>
     requires { CanBeAsked scope.now formulas.now }
     ensures ascending { IfOk result (λ set. IsTrue (is_ascending set)) }
-    ensures those { IfOk result (λ set. AreThoseBelow scope.now (map plain formulas.now) scope.now.declared set) }
+    ensures those { IfOk result
+        (λ set. AreThoseBelow scope.now (map plain formulas.now) scope.now.declared set) }
 {
     let mut found = ClockSet::empty();
     let mut clocks = ClockSet::empty();

@@ -26,7 +26,8 @@ pub enum CheckFault {
 /// Each literal false, where no clock is named twice and each is below `named`.
 pub fn assumed(named: u32, lits: &[Lit]) -> Option<Partial>
     requires { named ≤ MAX_CLOCKS }
-    ensures { MatchOption result (are_proper named lits.now ≡ false) (λ p. (are_proper named lits.now ≡ true) × (known p ≡ falsified lits.now)) }
+    ensures { MatchOption result (are_proper named lits.now ≡ false)
+        (λ p. (are_proper named lits.now ≡ true) × (known p ≡ falsified lits.now)) }
 {
     let mut part = Partial::empty();
     let mut i = lits.len();

@@ -56,7 +56,8 @@ pub fn unit(part: &Partial, lits: &[Lit]) -> Option<Lit>
 
 /// The clause of a line.
 pub fn clause_of<'a>(line: &'a Line, nonempty: &'a [Lit]) -> &'a [Lit]
-    ensures { (declared : ℕ) → nonempty.now ≡ positives declared → result.now ≡ clause declared line.now }
+    ensures { (declared : ℕ) → nonempty.now ≡ positives declared →
+        result.now ≡ clause declared line.now }
 {
     match line {
         Line::Nonempty => nonempty,

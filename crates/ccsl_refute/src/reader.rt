@@ -60,8 +60,10 @@ fn literals_before_from(
     tokens: &mut Tokens,
     names: &Names,
 ) -> Result<(Vec<Lit>, bool), CertFault>
-    ensures literals { Reads (λ r. r.0.items) (read_literals names.now (before_from tokens.old.0)) result }
-    ensures from { IfOk result (λ r. after_from tokens.old.0 ≡ (if r.1 then Some tokens.new.0 else None)) }
+    ensures literals { Reads (λ r. r.0.items)
+        (read_literals names.now (before_from tokens.old.0)) result }
+    ensures from { IfOk result (λ r. after_from tokens.old.0
+        ≡ (if r.1 then Some tokens.new.0 else None)) }
     ensures end { tokens.new.1 ≡ tokens.old.1 }
 {
     let mut lits = Vec::new(alloc);
@@ -129,7 +131,8 @@ fn line_of(
     names: &Names,
 ) -> Result<Line, CertFault>
     ensures { Reads (λ line. line)
-        (read_tokens names.now tokens.old.1 (first.entry.at, first.entry.bytes.now) tokens.old.0) result }
+        (read_tokens names.now tokens.old.1 (first.entry.at, first.entry.bytes.now) tokens.old.0)
+        result }
 {
     if first.bytes == b"n".as_slice() {
         nonempty(tokens)

@@ -24,7 +24,8 @@ fn write_word(text: &mut Vec<u8>, word: &[u8]) -> Result<(), Memory>
 
 fn write_literal(text: &mut Vec<u8>, lit: Lit, names: &Names) -> Result<(), Memory>
     requires { lit.clock < length names.now }
-    ensures { IfOk result (λ _. text.new.items ≡ text.old.items ++ spaced (literal_text names.now lit ∷ [])) }
+    ensures { IfOk result (λ _. text.new.items
+        ≡ text.old.items ++ spaced (literal_text names.now lit ∷ [])) }
 {
     text.push(b' ')?;
     if !lit.positive {
@@ -49,7 +50,8 @@ fn write_literals(text: &mut Vec<u8>, lits: &[Lit], names: &Names) -> Result<(),
 
 fn write_hints(text: &mut Vec<u8>, hints: &[u64]) -> Result<(), Memory>
     ensures fit { IfOk result (λ _. AllBelow (2 ^ 64) hints.now) }
-    ensures text { IfOk result (λ _. text.new.items ≡ text.old.items ++ spaced (map decimal hints.now)) }
+    ensures text { IfOk result (λ _. text.new.items
+        ≡ text.old.items ++ spaced (map decimal hints.now)) }
 {
     let mut digits = Buffer::new();
     let mut rest = hints;
@@ -63,7 +65,8 @@ fn write_hints(text: &mut Vec<u8>, hints: &[u64]) -> Result<(), Memory>
 fn write_line(text: &mut Vec<u8>, line: &Line, names: &Names) -> Result<(), Memory>
     requires { AreBelow (length names.now) (literals line.now) }
     ensures fit { IfOk result (λ _. NumbersFit line.now) }
-    ensures text { IfOk result (λ _. text.new.items ≡ text.old.items ++ line_text names.now line.now) }
+    ensures text { IfOk result (λ _. text.new.items
+        ≡ text.old.items ++ line_text names.now line.now) }
 {
     match line {
         Line::Nonempty => text.push(b'n')?,

@@ -31,7 +31,8 @@ fn first_row_as(
     ensures clocks { clocks_of (Relation related.new) ≡ clocks_of (Relation related.old) }
     ensures fails { IfSome result (IsFirstRow block.now.rows end (Relation related.old)) }
     ensures none { IfNone result (ObeysUpTo block.now.rows end (Relation related.old)) }
-    ensures next { IfNone result (Relation related.new ≡ after_rows (take end block.now.rows) (Relation related.old)) }
+    ensures next { IfNone result (Relation related.new
+        ≡ after_rows (take end block.now.rows) (Relation related.old)) }
 {
     let mut now = *related;
     now.kind = kind;
@@ -51,7 +52,8 @@ fn first_row_of(related: &mut Related, block: &Block, end: usize) -> Option<usiz
     ensures clocks { clocks_of (Relation related.new) ≡ clocks_of (Relation related.old) }
     ensures fails { IfSome result (IsFirstRow block.now.rows end (Relation related.old)) }
     ensures none { IfNone result (ObeysUpTo block.now.rows end (Relation related.old)) }
-    ensures next { IfNone result (Relation related.new ≡ after_rows (take end block.now.rows) (Relation related.old)) }
+    ensures next { IfNone result (Relation related.new
+        ≡ after_rows (take end block.now.rows) (Relation related.old)) }
 {
     match related.kind {
         RelationKind::Subclock => first_row_as(related, RelationKind::Subclock, block, end),

@@ -116,8 +116,10 @@ impl<'s> Monitor<'s> {
     // The first violation, with this row taken too.
     #[inline(always)]
     fn first_with(&mut self, row: &Row) -> Option<Violation>
-        requires { (recorded : List ℕ) × (rows : List Row) × StandsFor recorded self.old rows × (length rows + 1 < 2 ^ 64) }
-        ensures { (recorded : List ℕ) (rows : List Row) → StandsFor recorded self.old rows → length rows + 1 < 2 ^ 64 →
+        requires { (recorded : List ℕ) × (rows : List Row) × StandsFor recorded self.old rows
+            × (length rows + 1 < 2 ^ 64) }
+        ensures { (recorded : List ℕ) (rows : List Row) → StandsFor recorded self.old rows →
+            length rows + 1 < 2 ^ 64 →
             IsNext recorded self.old self.new rows row.now result }
     {
         row.ticks.ascends();
@@ -143,11 +145,13 @@ impl<'s> Monitor<'s> {
     // The next row.
     #[inline(always)]
     fn check_row(&mut self, row: &Row)
-        requires { (recorded : List ℕ) × (rows : List Row) × StandsFor recorded self.old rows × (length rows + 1 < 2 ^ 64) }
+        requires { (recorded : List ℕ) × (rows : List Row) × StandsFor recorded self.old rows
+            × (length rows + 1 < 2 ^ 64) }
         ensures system { self.new.system ≡ self.old.system }
         ensures start { self.new.start ≡ self.old.start }
         ensures count { length self.new.kept ≡ length self.old.kept }
-        ensures stands { (recorded : List ℕ) (rows : List Row) → StandsFor recorded self.old rows → length rows + 1 < 2 ^ 64 →
+        ensures stands { (recorded : List ℕ) (rows : List Row) → StandsFor recorded self.old rows →
+            length rows + 1 < 2 ^ 64 →
             StandsFor recorded self.new (rows ++ row.now ∷ []) }
     {
         self.first = self.first_with(row);
@@ -163,7 +167,8 @@ impl<'s> Monitor<'s> {
         ensures start { self.new.start ≡ self.old.start }
         ensures count { length self.new.kept ≡ length self.old.kept }
         ensures stands { (recorded : List ℕ) (rows : List Row) → StandsFor recorded self.old rows →
-            length rows + length block.now.rows < 2 ^ 64 → StandsFor recorded self.new (rows ++ block.now.rows) }
+            length rows + length block.now.rows < 2 ^ 64 →
+            StandsFor recorded self.new (rows ++ block.now.rows) }
     {
         rows_are_sets(block);
         self.steps += block.len() as u64;
@@ -179,7 +184,8 @@ impl<'s> Monitor<'s> {
         ensures start { self.new.start ≡ self.old.start }
         ensures count { length self.new.kept ≡ length self.old.kept }
         ensures stands { (recorded : List ℕ) (rows : List Row) → StandsFor recorded self.old rows →
-            length rows + length block.now.rows < 2 ^ 64 → StandsFor recorded self.new (rows ++ block.now.rows) }
+            length rows + length block.now.rows < 2 ^ 64 →
+            StandsFor recorded self.new (rows ++ block.now.rows) }
     {
         rows_are_sets(block);
         let rows = block.len() as u64;
@@ -204,7 +210,8 @@ impl<'s> Monitor<'s> {
         ensures start { self.new.start ≡ self.old.start }
         ensures count { length self.new.kept ≡ length self.old.kept }
         ensures stands { (recorded : List ℕ) (rows : List Row) → StandsFor recorded self.old rows →
-            length rows + length block.now.rows < 2 ^ 64 → StandsFor recorded self.new (rows ++ block.now.rows) }
+            length rows + length block.now.rows < 2 ^ 64 →
+            StandsFor recorded self.new (rows ++ block.now.rows) }
     {
         if self.first().is_some() {
             self.rest(block);

@@ -46,7 +46,8 @@ impl Model for Readers {
 // Has so many sets at least.
 fn grow(places: &mut Vec<ClockSet>, count: usize) -> Result<(), Memory>
     ensures count { OnOk result (count ≤ length places.new.items) }
-    ensures same { OnOk result ((clock : ℕ) → slice_index_or places.new.items clock [] ≡ slice_index_or places.old.items clock []) }
+    ensures same { OnOk result ((clock : ℕ) →
+        slice_index_or places.new.items clock [] ≡ slice_index_or places.old.items clock []) }
 {
     while places.len() < count {
         places.push(ClockSet::empty())?;
@@ -69,7 +70,8 @@ fn enter_clock(places: &mut Vec<ClockSet>, clock: u32, place: u32) -> Result<(),
 fn enter(places: &mut Vec<ClockSet>, watched: &Watched, place: u32) -> Result<(), Memory>
     requires { place < MAX_CLOCKS }
     ensures { OnOk result ((c p : ℕ) → ticks_in p (slice_index_or places.new.items c []) ≡
-        (ticks_in p (slice_index_or places.old.items c []) || (nat_eq p place && ticks_in c (clocks_of watched.now)))) }
+        (ticks_in p (slice_index_or places.old.items c [])
+        || (nat_eq p place && ticks_in c (clocks_of watched.now)))) }
 {
     match watched {
         Watched::Nothing => Ok(()),
@@ -99,7 +101,8 @@ impl Group {
     #[inline(always)]
     pub(crate) fn gather(&self, clocks: &ClockSet, touched: &mut ClockSet)
         ensures { (p : ℕ) → ticks_in p touched.new ≡
-            (ticks_in p touched.old || list_any (λ c. ticks_in p (slice_index_or self.now c [])) clocks.now) }
+            (ticks_in p touched.old || list_any (λ c.
+            ticks_in p (slice_index_or self.now c [])) clocks.now) }
     {
         for clock in clocks.members() {
             if let Some(places) = self.places.get(clock as usize) {

@@ -39,7 +39,8 @@ pub(crate) fn rows_are_sets(block: &Block)
 // The declared clocks among some.
 #[inline(always)]
 fn put_declared(declared: &mut ClockSet, ticks: &ClockSet, undeclared: &ClockSet)
-    ensures { (K : System) → IsUndeclared K undeclared.now → declared.new ≡ declared_part K ticks.now }
+    ensures { (K : System) → IsUndeclared K undeclared.now →
+        declared.new ≡ declared_part K ticks.now }
 {
     declared.copy_difference(ticks, undeclared);
     ticks.ascends();
@@ -50,10 +51,12 @@ fn put_declared(declared: &mut ClockSet, ticks: &ClockSet, undeclared: &ClockSet
 #[inline(always)]
 fn next_step(states: &mut Part<'_>, undeclared: &ClockSet, ticks: &ClockSet, step: &mut ClockSet)
     requires { IsUndeclared states.old.system undeclared.now }
-    ensures known { (K : System) (x : ℕ) → is_known K (Some states.new) x ≡ is_known K (Some states.old) x }
+    ensures known { (K : System) (x : ℕ) →
+        is_known K (Some states.new) x ≡ is_known K (Some states.old) x }
     ensures step { (K : System) (T : List Step) → AreAfter K (Some states.old) T →
         step.new ≡ step_known K (Some states.old) T ticks.now }
-    ensures after { (K : System) (T : List Step) → AreAfter K (Some states.old) T → length T + 1 < 2 ^ 64 →
+    ensures after { (K : System) (T : List Step) →
+        AreAfter K (Some states.old) T → length T + 1 < 2 ^ 64 →
         AreAfter K (Some states.new) (T ++ full_step K T (declared_part K ticks.now) ∷ []) }
 {
     put_declared(step, ticks, undeclared);
@@ -81,7 +84,8 @@ pub(crate) fn first_violated(
     ensures fails { (K : System) (T : List Step) → AreAfter K states.old T →
         IfSome result (FailsFirst ticks.now (step_known K states.old T ticks.now) kept.old) }
     ensures none { (K : System) (T : List Step) → AreAfter K states.old T →
-        IfNone result (All (λ w. fails_in ticks.now (step_known K states.old T ticks.now) w ≡ false) kept.old) }
+        IfNone result (All (λ w. fails_in ticks.now (step_known K states.old T ticks.now) w ≡ false)
+        kept.old) }
     ensures next { (K : System) (T : List Step) → AreAfter K states.old T →
         IfNone result (kept.new ≡ map (next_in (step_known K states.old T ticks.now)) kept.old) }
     ensures after { (K : System) (T : List Step) → AreAfter K states.old T → length T + 1 < 2 ^ 64 →

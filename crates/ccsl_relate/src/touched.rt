@@ -27,11 +27,13 @@ fn first_at(
     step: &ClockSet,
 ) -> Option<u32>
     requires few { length kept.old < 2 ^ 32 }
-    requires room { (k : ℕ) (d : Watched) → start ≤ k → k < length kept.old → HasRoom (slice_index_or kept.old k d) }
+    requires room { (k : ℕ) (d : Watched) → start ≤ k → k < length kept.old →
+        HasRoom (slice_index_or kept.old k d) }
     requires touched { Touches ticks.now step.now touched.now start kept.old }
     ensures clocks { map clocks_of kept.new ≡ map clocks_of kept.old }
     ensures fails { IfSome result (FailsFrom ticks.now step.now start kept.old) }
-    ensures none { IfNone result (GoesOn ticks.now step.now start (start + MAX_CLOCKS) kept.old kept.new) }
+    ensures none { IfNone result
+        (GoesOn ticks.now step.now start (start + MAX_CLOCKS) kept.old kept.new) }
 {
     for place in touched.members() {
         let at = start + place as usize;

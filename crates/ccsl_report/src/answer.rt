@@ -44,7 +44,8 @@ pub fn run_no(
     system: &System,
 ) -> Result<Vec<u8>, Memory>
     requires { item < item_count system.now }
-    ensures { IfOk result (λ text. text.items ≡ broken_text (codes "run: ") step time item system.now) }
+    ensures { IfOk result (λ text. text.items
+        ≡ broken_text (codes "run: ") step time item system.now) }
 {
     line(alloc, &broken_parts("run: ", step, time, item, system))
 }
@@ -92,7 +93,8 @@ pub fn cert_no_run(
     system: &System,
 ) -> Result<Vec<u8>, Memory>
     requires { item < item_count system.now }
-    ensures { IfOk result (λ text. text.items ≡ broken_text (codes "certificate: ") step time item system.now) }
+    ensures { IfOk result (λ text. text.items
+        ≡ broken_text (codes "certificate: ") step time item system.now) }
 {
     line(
         alloc,

@@ -23,7 +23,8 @@ pub fn explain_no_run(
     system: &System,
 ) -> Result<Vec<u8>, Memory>
     requires { item < item_count system.now }
-    ensures { IfOk result (λ text. text.items ≡ broken_text (codes "explain: ") step time item system.now) }
+    ensures { IfOk result (λ text. text.items
+        ≡ broken_text (codes "explain: ") step time item system.now) }
 {
     line(alloc, &broken_parts("explain: ", step, time, item, system))
 }

@@ -72,7 +72,8 @@ fn with_clock<'a>(kind: &'a str, system: &'a System, clock: u32) -> [Part<'a>; 7
 
 /// The pieces of the line on a refused trace; of a want of memory there is no line.
 pub(crate) fn trace_parts<'a>(fault: &VcdFault, system: &'a System) -> [Part<'a>; 7]
-    ensures text { fault.now ≢ VcdFault.Memory → line (part_texts result) ≡ trace_text fault.now system.now }
+    ensures text { fault.now ≢ VcdFault.Memory →
+        line (part_texts result) ≡ trace_text fault.now system.now }
     ensures short { length (line (part_texts result)) ≤ full_room system.now }
 {
     match fault {

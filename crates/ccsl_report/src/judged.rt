@@ -61,7 +61,8 @@ pub fn put_run(steps: u64, out: &mut Vec<u8>)
 pub fn put_no_run(step: u64, time: u64, item: u32, system: &System, out: &mut Vec<u8>)
     requires item { item < item_count system.now }
     requires room { vec_len out.old + room system.now ≤ vec_capacity out.old }
-    ensures { out.new.items ≡ out.old.items ++ broken_text (codes "run: ") step time item system.now }
+    ensures { out.new.items ≡ out.old.items
+        ++ broken_text (codes "run: ") step time item system.now }
 {
     put_line(out, &broken_parts("run: ", step, time, item, system));
 }

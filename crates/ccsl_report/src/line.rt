@@ -20,7 +20,8 @@ pub(crate) enum Part<'a> {
 // Fails only where the room is not there.
 fn append(out: &mut Vec<u8>, part: &Part<'_>) -> Result<(), AllocError>
     ensures text { OnOk result (out.new.items ≡ out.old.items ++ part_text part.now) }
-    ensures full { OnErr result (vec_capacity out.old < vec_len out.old + length (part_text part.now)) }
+    ensures full { OnErr result (vec_capacity out.old
+        < vec_len out.old + length (part_text part.now)) }
     ensures len { OnOk result (vec_len out.new ≡ vec_len out.old + length (part_text part.now)) }
     ensures capacity { vec_capacity out.old ≤ vec_capacity out.new }
 {
@@ -33,8 +34,10 @@ fn append(out: &mut Vec<u8>, part: &Part<'_>) -> Result<(), AllocError>
 
 fn append_all(out: &mut Vec<u8>, parts: &[Part<'_>]) -> Result<(), AllocError>
     ensures text { OnOk result (out.new.items ≡ out.old.items ++ concat (part_texts parts.now)) }
-    ensures full { OnErr result (vec_capacity out.old < vec_len out.old + length (concat (part_texts parts.now))) }
-    ensures len { OnOk result (vec_len out.new ≡ vec_len out.old + length (concat (part_texts parts.now))) }
+    ensures full { OnErr result (vec_capacity out.old
+        < vec_len out.old + length (concat (part_texts parts.now))) }
+    ensures len { OnOk result (vec_len out.new
+        ≡ vec_len out.old + length (concat (part_texts parts.now))) }
     ensures capacity { vec_capacity out.old ≤ vec_capacity out.new }
 {
     for part in parts {
@@ -45,7 +48,8 @@ fn append_all(out: &mut Vec<u8>, parts: &[Part<'_>]) -> Result<(), AllocError>
 
 fn append_line(out: &mut Vec<u8>, parts: &[Part<'_>]) -> Result<(), AllocError>
     ensures text { OnOk result (out.new.items ≡ out.old.items ++ line (part_texts parts.now)) }
-    ensures full { OnErr result (vec_capacity out.old < vec_len out.old + length (line (part_texts parts.now))) }
+    ensures full { OnErr result (vec_capacity out.old
+        < vec_len out.old + length (line (part_texts parts.now))) }
 {
     append_all(out, parts)?;
     out.extend_from_slice(b"\n")

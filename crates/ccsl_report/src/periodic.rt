@@ -40,7 +40,8 @@ pub fn periodic_fails<'a>(
     tick: u64,
 ) -> Result<Vec<u8>, Memory>
     requires { relation ≢ RelationName.On }
-    ensures { IfOk result (λ text. text.items ≡ periodic_fails_text left.now right.now relation tick) }
+    ensures { IfOk result (λ text. text.items
+        ≡ periodic_fails_text left.now right.now relation tick) }
 {
     let parts = [
         Text("periodic: "),

@@ -22,7 +22,8 @@ fn lines(text: &[u8]) -> u64
 /// each of its ticks.
 pub fn ticks_in_text(alloc: Global, system: &System, text: &[u8], steps: u64) -> Result<u64, Memory>
     requires { (T : List Step) × (text.now ≡ vcd_text system.now T) × (length T ≡ steps) }
-    ensures { IfOk result (λ ticks. (T : List Step) → text.now ≡ vcd_text system.now T → length T ≡ steps →
+    ensures { IfOk result (λ ticks. (T : List Step) →
+        text.now ≡ vcd_text system.now T → length T ≡ steps →
         ticks ≡ ticks_written system.now T) }
 {
     let header = header(alloc, system)?;

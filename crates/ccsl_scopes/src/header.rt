@@ -42,7 +42,8 @@ impl Header {
         ensures kept { length self.old.codes ≤ length self.new.codes }
         ensures variables { self.new.variables ≡ self.old.variables }
         ensures timescale { self.new.timescale ≡ self.old.timescale }
-        ensures refused { IfErr result (λ f. (f ≡ VcdFault.Memory) ⊎ (room ≤ length self.old.codes)) }
+        ensures refused { IfErr result (λ f. (f ≡ VcdFault.Memory)
+            ⊎ (room ≤ length self.old.codes)) }
     {
         if let Some(code) = self.codes.find(text) {
             return Ok(code);
@@ -58,7 +59,8 @@ impl Header {
     /// One variable more, whose code is declared.
     pub(crate) fn put(&mut self, variable: Variable) -> Result<(), Memory>
         requires { variable.code < length self.old.codes }
-        ensures variables { OnOk result (self.new.variables.items ≡ self.old.variables.items ++ variable ∷ []) }
+        ensures variables { OnOk result (self.new.variables.items
+            ≡ self.old.variables.items ++ variable ∷ []) }
         ensures codes { self.new.codes ≡ self.old.codes }
         ensures timescale { self.new.timescale ≡ self.old.timescale }
     {

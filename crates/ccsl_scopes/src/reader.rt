@@ -103,7 +103,8 @@ impl HeaderReader {
     // A token in a command's place.
     fn start(&mut self, at: u64, text: &[u8]) -> Result<(), VcdFault>
         ensures { (limits : Limits) (h : Heading) → StandsBetween limits h self.old →
-            Opens limits (starts limits h (token at text.now) (header_word text.now)) result self.new }
+            Opens limits (starts limits h (token at text.now) (header_word text.now)) result
+            self.new }
     {
         let word = header_word(text);
         match word {
@@ -131,7 +132,8 @@ impl HeaderReader {
     fn take_size(&mut self, at: u64, text: &[u8]) -> Result<(), VcdFault>
         ensures ok { OnOk result (size_of text.now ≡ Some self.new.size) }
         ensures kept { self.new ≡ record self.old { size = self.new.size } }
-        ensures refused { IfErr result (λ f. (f ≡ VcdFault.BadHeader at) × (size_of text.now ≡ None)) }
+        ensures refused { IfErr result (λ f. (f ≡ VcdFault.BadHeader at)
+            × (size_of text.now ≡ None)) }
     {
         let Some(size) = decimal(text, u64::from(u32::MAX)) else {
             return Err(VcdFault::BadHeader { at });
@@ -142,15 +144,18 @@ impl HeaderReader {
 
     fn take_code(&mut self, at: u64, text: &[u8]) -> Result<(), VcdFault>
         ensures fits { OnOk result (is_code text.now ≡ true) }
-        ensures known { OnOk result (self.new.header.codes ≡ with_code self.old.header.codes text.now) }
-        ensures number { OnOk result (find_name text.now self.new.header.codes ≡ Some self.new.code) }
+        ensures known { OnOk result (self.new.header.codes
+            ≡ with_code self.old.header.codes text.now) }
+        ensures number { OnOk result
+            (find_name text.now self.new.header.codes ≡ Some self.new.code) }
         ensures variables { OnOk result (self.new.header.variables ≡ self.old.header.variables) }
         ensures timescale { OnOk result (self.new.header.timescale ≡ self.old.header.timescale) }
         ensures kept { OnOk result (self.new ≡ record self.old {
           header = self.new.header;
           code = self.new.code;
         }) }
-        ensures refused { IfErr result (λ f. ((f ≡ VcdFault.BadHeader at) × (is_code text.now ≡ false))
+        ensures refused { IfErr result (λ f.
+            ((f ≡ VcdFault.BadHeader at) × (is_code text.now ≡ false))
             ⊎ ((is_code text.now ≡ true)
             × ((f ≡ VcdFault.Memory) ⊎ (self.old.limits.vars ≤ length self.old.header.codes)))) }
     {
@@ -177,7 +182,8 @@ impl HeaderReader {
 
     // Another one.
     fn take_more(&mut self, text: &[u8]) -> Result<(), Memory>
-        ensures reference { OnOk result (self.new.reference.items ≡ self.old.reference.items ++ text.now) }
+        ensures reference { OnOk result (self.new.reference.items
+            ≡ self.old.reference.items ++ text.now) }
         ensures kept { OnOk result (self.new ≡ record self.old { reference = self.new.reference }) }
     {
         self.reference.extend_from_slice(text)?;
@@ -217,7 +223,8 @@ impl HeaderReader {
     }
 
     fn take_timescale(&mut self, text: &[u8]) -> Result<(), Memory>
-        ensures text { OnOk result ((before : List ℕ) → text_in self.old.header.timescale ≡ Some before →
+        ensures text { OnOk result ((before : List ℕ) →
+            text_in self.old.header.timescale ≡ Some before →
             text_in self.new.header.timescale ≡ Some (put_spaced before text.now)) }
         ensures variables { OnOk result (self.new.header.variables ≡ self.old.header.variables) }
         ensures codes { OnOk result (self.new.header.codes ≡ self.old.header.codes) }
@@ -273,7 +280,8 @@ impl HeaderReader {
         ensures name { OnOk result (self.new.scopes.items ≡ self.old.scopes.items ++ 32 ∷ []) }
         ensures kept { OnOk result (self.new ≡ record self.old { scopes = self.new.scopes }) }
         ensures refused { IfErr result (λ f. (f ≡ VcdFault.Memory)
-            ⊎ ((f ≡ VcdFault.TooDeep self.old.head) × (self.old.limits.scopes < length self.old.begins.items))) }
+            ⊎ ((f ≡ VcdFault.TooDeep self.old.head)
+            × (self.old.limits.scopes < length self.old.begins.items))) }
     {
         if self.begins.len() as u64 > u64::from(self.limits.scopes) {
             return Err(VcdFault::TooDeep { at: self.head });
@@ -283,7 +291,8 @@ impl HeaderReader {
     }
 
     fn end_upscope(&mut self)
-        ensures { (limits : Limits) (h : Heading) (known : List (List ℕ)) (scale : Option (List ℕ)) →
+        ensures { (limits : Limits) (h : Heading) (known : List (List ℕ))
+            (scale : Option (List ℕ)) →
             Holds limits h [] [] known scale self.old →
             Holds limits (record h { scopes = outer h.scopes }) [] [] known scale self.new }
     {
@@ -294,7 +303,8 @@ impl HeaderReader {
 
     // The path of a variable in the open scopes.
     fn path(&self) -> Result<Vec<u8>, Memory>
-        ensures { IfOk result (λ path. path.items ≡ self.now.scopes.items ++ self.now.reference.items) }
+        ensures { IfOk result (λ path. path.items
+            ≡ self.now.scopes.items ++ self.now.reference.items) }
     {
         let room = self.scopes.len().saturating_add(self.reference.len());
         let mut path = Vec::with_capacity(self.alloc, room)?;
@@ -338,7 +348,8 @@ impl HeaderReader {
 
     // The end of the open command, and whether it ends the header.
     fn end(&mut self, word: HeaderWord, at: u64) -> Result<bool, VcdFault>
-        ensures { (limits : Limits) (h : Heading) (head : Token) (words : List Token) (text : List ℕ) →
+        ensures { (limits : Limits) (h : Heading) (head : Token)
+            (words : List Token) (text : List ℕ) →
             StandsIn limits h word head words self.old → Counts words self.old →
             Answers limits (ends limits h word head words (token at text)) result self.new }
     {

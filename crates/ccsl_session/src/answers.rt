@@ -63,8 +63,10 @@ impl<'s> Session<'s> {
     fn choice(&mut self) -> Result<Choice, Memory>
         requires { Stands self.old.stack }
         ensures same { self.new ≡ record self.old { formulas = self.new.formulas } }
-        ensures choice { IfOk result (λ choice. let run = completed (system_of self.old) (sets_of self.old) in
-            Chooses (scope_of (system_of self.old)) (item_formulas (system_of self.old) run) self.old.policy
+        ensures choice { IfOk result (λ choice.
+            let run = completed (system_of self.old) (sets_of self.old) in
+            Chooses (scope_of (system_of self.old))
+            (item_formulas (system_of self.old) run) self.old.policy
             (words_of_step (system_of self.old) self.old.seed (length run)) choice) }
     {
         let scope = self.stack.system.scope();
@@ -104,7 +106,8 @@ impl<'s> Session<'s> {
 
     fn say_number(&mut self, word: &[u8], number: u64) -> Result<(), Memory>
         ensures same { self.new ≡ record self.old { text = self.new.text } }
-        ensures text { OnOk result (self.new.text.items ≡ answer_line (word.now ++ decimal number)) }
+        ensures text { OnOk result (self.new.text.items
+            ≡ answer_line (word.now ++ decimal number)) }
     {
         self.text.clear();
         put_numbered(word, number, &mut self.text)

@@ -28,7 +28,8 @@ pub(crate) struct Stack<'s> {
 // The states go on by declared sets.
 fn go_on(states: &mut States<'_>, sets: &[ClockSet])
     ensures system { states.new.system ≡ states.old.system }
-    ensures stands { (T : List Step) → StandsFor states.old T → length T + length sets.now < 2 ^ 64 →
+    ensures stands { (T : List Step) → StandsFor states.old T →
+        length T + length sets.now < 2 ^ 64 →
         StandsFor states.new (completed_after states.old.system T sets.now) }
 {
     for set in sets {
@@ -103,7 +104,8 @@ impl<'s> Stack<'s> {
         requires { Stands self.old }
         ensures system { self.new.system ≡ self.old.system }
         ensures found { IfOk result (λ found. found ≡ nat_lt 0 (length self.old.sets.items)) }
-        ensures sets { OnOk result (self.new.sets.items ≡ take (length self.old.sets.items - 1) self.old.sets.items) }
+        ensures sets { OnOk result (self.new.sets.items
+            ≡ take (length self.old.sets.items - 1) self.old.sets.items) }
         ensures stands { OnOk result (Stands self.new) }
     {
         if self.sets.pop().is_none() {

@@ -26,7 +26,8 @@ fn put_number(number: u64, out: &mut Vec<u8>) -> Result<(), Memory>
 
 /// A line of a word and a number.
 pub(crate) fn put_numbered(word: &[u8], number: u64, out: &mut Vec<u8>) -> Result<(), Memory>
-    ensures { OnOk result (out.new.items ≡ out.old.items ++ answer_line (word.now ++ decimal number)) }
+    ensures { OnOk result (out.new.items
+        ≡ out.old.items ++ answer_line (word.now ++ decimal number)) }
 {
     out.extend_from_slice(word)?;
     put_number(number, out)?;

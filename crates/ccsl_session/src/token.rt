@@ -30,7 +30,8 @@ impl<'a> Tokens<'a> {
 
     /// The next token.
     pub(crate) fn next(&mut self) -> Option<&'a [u8]>
-        ensures { MatchOption result ((self.old ≡ []) × (self.new ≡ [])) (λ t. self.old ≡ t.now ∷ self.new) }
+        ensures { MatchOption result ((self.old ≡ []) × (self.new ≡ []))
+            (λ t. self.old ≡ t.now ∷ self.new) }
     {
         let word = &self.rest[blanks(self.rest)..];
         let len = letters(word);

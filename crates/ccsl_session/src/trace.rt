@@ -13,7 +13,8 @@ use std::alloc::Global;
 /// The value change dump of the run that declared sets complete to.
 pub(crate) fn trace(alloc: Global, system: &System, sets: &[ClockSet]) -> Result<Vec<u8>, Memory>
     requires { length sets.now < 2 ^ 64 }
-    ensures { IfOk result (λ text. text.items ≡ vcd_text system.now (completed system.now sets.now)) }
+    ensures { IfOk result (λ text. text.items
+        ≡ vcd_text system.now (completed system.now sets.now)) }
 {
     system.is_accepted();
     let mut text = header(alloc, system)?;

@@ -35,8 +35,10 @@ pub(crate) enum Heard {
 fn hear<W: World>(world: &mut W, lines: &mut LineReader, system: &System) -> Result<Heard, Failed>
     ensures hears { IfOk result (λ heard.
         Hears W.told system.now (W.state world.old) (W.state world.new) lines.old lines.new heard) }
-    ensures nears { IfOk result (λ heard. is_line heard ≡ true → calls_left lines.new < calls_left lines.old) }
-    ensures breaks { OnErr result (Breaks W.told (W.state world.old) (W.state world.new) lines.old) }
+    ensures nears { IfOk result (λ heard. is_line heard ≡ true →
+        calls_left lines.new < calls_left lines.old) }
+    ensures breaks { OnErr result
+        (Breaks W.told (W.state world.old) (W.state world.new) lines.old) }
 {
     match lines.next(world)? {
         Next::Line => Ok(Heard::Asks(read(system, lines.line()))),
@@ -56,7 +58,8 @@ fn reply<W: World>(
     requires stack { IsStack (system_of session.old) (sets_of session.old) }
     ensures task { SameTask session.old session.new }
     ensures replies { IfOk result (λ end.
-        Replies W.told (plain asked) session.old session.new (W.state world.old) (W.state world.new) end) }
+        Replies W.told (plain asked) session.old session.new (W.state world.old)
+        (W.state world.new) end) }
     ensures fails { IfErr result (λ fault.
         RepliesNot W.told (plain asked) session.old (W.state world.old) (W.state world.new) fault) }
 {
@@ -89,7 +92,8 @@ fn turn<W: World>(
     ensures cut { IfErr result (λ fault. (start : State) (limit : ℕ) →
         Goes W.told (system_of session.old) session.old.policy session.old.seed limit start
         (W.state world.old) lines.old (sets_of session.old) [] →
-        IsCut W.told (system_of session.old) session.old.policy session.old.seed limit start (W.state world.new) fault) }
+        IsCut W.told (system_of session.old) session.old.policy session.old.seed limit start
+        (W.state world.new) fault) }
     ensures nears { IfOk result (λ end. end ≡ None → calls_left lines.new < calls_left lines.old) }
 {
     given_lines_are_taken();
@@ -111,12 +115,14 @@ fn run<W: World>(
     requires stands { Stands session.old.stack }
     requires stack { IsStack (system_of session.old) (sets_of session.old) }
     ensures ended { IfOk result (λ ended. (limit : ℕ) →
-        Goes W.told (system_of session.old) session.old.policy session.old.seed limit (W.state world.old)
+        Goes W.told (system_of session.old) session.old.policy session.old.seed
+        limit (W.state world.old)
         (W.state world.old) lines.old (sets_of session.old) [] →
         HasEnded W.told (system_of session.old) session.old.policy session.old.seed limit
         (W.state world.old) (W.state world.new) ended) }
     ensures cut { IfErr result (λ fault. (limit : ℕ) →
-        Goes W.told (system_of session.old) session.old.policy session.old.seed limit (W.state world.old)
+        Goes W.told (system_of session.old) session.old.policy session.old.seed
+        limit (W.state world.old)
         (W.state world.old) lines.old (sets_of session.old) [] →
         IsCut W.told (system_of session.old) session.old.policy session.old.seed limit
         (W.state world.old) (W.state world.new) fault) }
@@ -140,7 +146,8 @@ pub fn session<W: World>(
     limit: u64,
 ) -> Result<Ended, Stop>
     ensures ended { IfOk result (λ ended.
-        HasEnded W.told system.now policy seed limit (W.state world.old) (W.state world.new) ended) }
+        HasEnded W.told system.now policy seed limit (W.state world.old)
+        (W.state world.new) ended) }
     ensures cut { IfErr result (λ fault.
         IsCut W.told system.now policy seed limit (W.state world.old) (W.state world.new) fault) }
 {

@@ -85,9 +85,11 @@ impl<'s> Simulator<'s> {
         ensures states { self.new.states ≡ self.old.states }
         ensures draw { OnOk result ((seed j : ℕ) → generator.StandsFor self.old.draw seed j →
             generator.StandsFor self.new.draw seed (j + self.old.system.now.declared)) }
-        ensures choice { IfOk result (λ choice. (T : List Step) (seed n : ℕ) → states.StandsFor self.old.states T →
+        ensures choice { IfOk result (λ choice. (T : List Step) (seed n : ℕ) →
+            states.StandsFor self.old.states T →
             generator.StandsFor self.old.draw seed (n * self.old.system.now.declared) →
-            Chooses (scope_of self.old.system.now) (item_formulas self.old.system.now T) self.old.policy
+            Chooses (scope_of self.old.system.now)
+            (item_formulas self.old.system.now T) self.old.policy
             (words_of_step self.old.system.now seed n) choice) }
     {
         let scope = self.system.scope();
@@ -103,12 +105,15 @@ impl<'s> Simulator<'s> {
         ensures task { SameTask self.old self.new }
         ensures draw { self.new.draw ≡ self.old.draw }
         ensures system { self.new.states.system ≡ self.old.states.system }
-        ensures stands { (T : List Step) → states.StandsFor self.old.states T → length T + 1 < 2 ^ 64 →
-            states.StandsFor self.new.states (T ++ full_step self.old.states.system T set.now ∷ []) }
+        ensures stands { (T : List Step) →
+            states.StandsFor self.old.states T → length T + 1 < 2 ^ 64 →
+            states.StandsFor self.new.states
+            (T ++ full_step self.old.states.system T set.now ∷ []) }
         ensures goes { IfOk result (λ turn. turn ≡ turns.Goes) }
         ensures writes { OnOk result (Adds W.told TraceOut (step_text n self.old.system.now set.now)
             (W.state world.old) (W.state world.new)) }
-        ensures fails { IfErr result (λ fault. WriteFails W.told TraceOut (step_text n self.old.system.now set.now)
+        ensures fails { IfErr result (λ fault.
+            WriteFails W.told TraceOut (step_text n self.old.system.now set.now)
             (W.state world.old) (W.state world.new) fault) }
     {
         set.ascends();
@@ -122,11 +127,14 @@ impl<'s> Simulator<'s> {
     // Writes the lines that show that no step is left.
     fn write_lines<W: World>(&self, world: &mut W, lines: &Seq<Line>) -> Result<Turn, Stop>
         requires opened { IsTrue ((W.state world.old).slot_of CertOut).is_open }
-        requires below { All (λ line. AreBelow (length self.now.system.now.names) (literals line)) lines.now }
+        requires below { All
+            (λ line. AreBelow (length self.now.system.now.names) (literals line)) lines.now }
         ensures ends { IfOk result (λ turn. turn ≡ turns.Ends) }
-        ensures writes { OnOk result (Adds W.told CertOut (lines_text self.now.system.now.names lines.now)
+        ensures writes { OnOk result
+            (Adds W.told CertOut (lines_text self.now.system.now.names lines.now)
             (W.state world.old) (W.state world.new)) }
-        ensures fails { IfErr result (λ fault. WriteFails W.told CertOut (lines_text self.now.system.now.names lines.now)
+        ensures fails { IfErr result (λ fault.
+            WriteFails W.told CertOut (lines_text self.now.system.now.names lines.now)
             (W.state world.old) (W.state world.new) fault) }
     {
         let text = write(self.alloc, lines.members(), self.system.names())?;
@@ -141,12 +149,15 @@ impl<'s> Simulator<'s> {
         requires few { n + 1 < 2 ^ 64 }
         requires stands { (seed : ℕ) × Stands seed n self.old }
         ensures task { SameTask self.old self.new }
-        ensures stands { IfOk result (λ turn. (seed : ℕ) → turn ≡ turns.Goes → Stands seed n self.old →
+        ensures stands { IfOk result (λ turn. (seed : ℕ) →
+            turn ≡ turns.Goes → Stands seed n self.old →
             Stands seed (suc n) self.new) }
         ensures does { IfOk result (λ turn. (seed : ℕ) → Stands seed n self.old →
-            TurnDoes W.told self.old.system.now self.old.policy seed n (W.state world.old) (W.state world.new) turn) }
+            TurnDoes W.told self.old.system.now self.old.policy seed n (W.state world.old)
+            (W.state world.new) turn) }
         ensures fails { IfErr result (λ fault. (seed : ℕ) → Stands seed n self.old →
-            TurnFails W.told self.old.system.now self.old.policy seed n (W.state world.old) (W.state world.new) fault) }
+            TurnFails W.told self.old.system.now self.old.policy seed n (W.state world.old)
+            (W.state world.new) fault) }
     {
         match self.choice()? {
             Choice::Step(set) => self.write_step(world, n, &set),

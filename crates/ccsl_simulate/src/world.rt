@@ -20,9 +20,11 @@ fn run<W: World>(world: &mut W, sim: &mut Simulator<'_>, steps: u64) -> Result<D
     requires header { sim.old.text.items ≡ header_text sim.old.system.now }
     requires stands { (seed : ℕ) × Stands seed 0 sim.old }
     ensures done { IfOk result (λ done. (seed : ℕ) → Stands seed 0 sim.old →
-        IsDone W.told sim.old.system.now sim.old.policy seed steps (W.state world.old) (W.state world.new) done) }
+        IsDone W.told sim.old.system.now sim.old.policy seed steps (W.state world.old)
+        (W.state world.new) done) }
     ensures undone { IfErr result (λ fault. (seed : ℕ) → Stands seed 0 sim.old →
-        IsUndone W.told sim.old.system.now sim.old.policy seed steps (W.state world.old) (W.state world.new) fault) }
+        IsUndone W.told sim.old.system.now sim.old.policy seed steps (W.state world.old)
+        (W.state world.new) fault) }
 {
     write_all(world, Slot::TraceOut, &sim.text)?;
     for n in 0..steps {
@@ -50,7 +52,8 @@ pub fn simulate<W: World>(
     ensures done { IfOk result (λ done.
         IsDone W.told system.now policy seed steps (W.state world.old) (W.state world.new) done) }
     ensures undone { IfErr result (λ fault.
-        IsUndone W.told system.now policy seed steps (W.state world.old) (W.state world.new) fault) }
+        IsUndone W.told system.now policy seed steps (W.state world.old)
+        (W.state world.new) fault) }
 {
     let mut sim = Simulator::open(alloc, system, policy, seed)?;
     run(world, &mut sim, steps)

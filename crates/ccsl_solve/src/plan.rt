@@ -108,7 +108,8 @@ fn decided(problem: &Problem, part: &Partial, proposed: Option<Lit>, from: usize
 fn open_wish(wishes: &[Lit], part: &Partial, from: usize) -> usize
     requires { AreSettled wishes.now from (known part.now) }
     ensures settled { AreSettled wishes.now result (known part.now) }
-    ensures open { (l : Lit) → slice_get wishes.now result ≡ Some l → known part.now l.clock ≡ Open }
+    ensures open { (l : Lit) → slice_get wishes.now result ≡ Some l →
+        known part.now l.clock ≡ Open }
 {
     let mut next = from;
     while next < wishes.len() && !is_open_at(part, wishes[next].clock) {

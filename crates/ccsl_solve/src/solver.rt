@@ -69,7 +69,8 @@ pub fn solve(
     requires reads { AllBelow scope.now.named (map plain formulas.now) }
     requires fixed { IsInside scope.now.named (known fixed.now) }
     requires few { length formulas.now < 2 ^ 32 }
-    ensures { IfOk result (λ answer. Answers scope.now (map plain formulas.now) (known fixed.now) answer) }
+    ensures { IfOk result
+        (λ answer. Answers scope.now (map plain formulas.now) (known fixed.now) answer) }
 {
     solve_by(alloc, formulas, scope, fixed, &[])
 }
@@ -88,7 +89,9 @@ pub fn solve_by(
     requires fixed { IsInside scope.now.named (known fixed.now) }
     requires few { length formulas.now < 2 ^ 32 }
     requires wishes { AreBelow scope.now.named wishes.now }
-    ensures { IfOk result (λ answer. AnswersBest scope.now (map plain formulas.now) wishes.now (known fixed.now) answer) }
+    ensures { IfOk result
+        (λ answer. AnswersBest scope.now (map plain formulas.now) wishes.now
+        (known fixed.now) answer) }
 {
     let nonempty = positives(alloc, scope.declared)?;
     let problem = Problem {

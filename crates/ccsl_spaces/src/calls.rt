@@ -46,7 +46,8 @@ fn add_definition<'a>(
     requires group { group ≤ block }
     ensures added { OnOk result (map seen_call space.new ≡
         map seen_call space.old ++ calls_space block group (plain_definition definition.now ∷ [])) }
-    ensures next { IfOk result (λ next. next ≡ group_after group (plain_definition definition.now)) }
+    ensures next { IfOk result (λ next. next
+        ≡ group_after group (plain_definition definition.now)) }
 {
     match definition {
         Definition::Relation { name, params, .. } => {
@@ -77,7 +78,8 @@ pub fn add_definitions<'a>(
     requires group { group ≤ block }
     ensures added { OnOk result (map seen_call space.new ≡
         map seen_call space.old ++ calls_space block group (map plain_definition definitions.now)) }
-    ensures next { IfOk result (λ next. next ≡ groups_after group (map plain_definition definitions.now)) }
+    ensures next { IfOk result (λ next. next
+        ≡ groups_after group (map plain_definition definitions.now)) }
     ensures few { IfOk result (λ next. next ≤ block + length definitions.now) }
 {
     let mut next = group;
@@ -107,7 +109,8 @@ pub fn find_call<'s, 'a>(
     calls: &'s Space<'a, Callee<'a>>,
     name: &[u8],
 ) -> Option<&'s Declaration<'a, Callee<'a>>>
-    ensures { option_map (λ d. seen_call (known d.now)) result ≡ look name.now (map seen_call calls.now) }
+    ensures { option_map (λ d. seen_call (known d.now)) result
+        ≡ look name.now (map seen_call calls.now) }
 {
     calls.find(name)
 }

@@ -40,7 +40,8 @@ fn add_relation_line<'a>(
     line: &'a RelationLine,
 ) -> Result<(), Memory>
     requires { number + 1 < 2 ^ 64 }
-    ensures { OnOk result (space.new ≡ space.old ++ declared_by number (SLineOf (plain_line line.now))) }
+    ensures { OnOk result
+        (space.new ≡ space.old ++ declared_by number (SLineOf (plain_line line.now))) }
 {
     if let RelationLine::Define(name, _) = line {
         space.add(name, number + 1, Kind::Clock)?;

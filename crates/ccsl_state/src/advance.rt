@@ -171,7 +171,8 @@ fn one_advanced<'s>(
         (ticks (left_tree lay.now a.now actuals.now 1 row.old) step.now) }
     ensures tree { left_tree lay.now a.now actuals.now 1 row.new ≡
         after lay.now step.now gone.now (left_tree lay.now a.now actuals.now 1 row.old) }
-    ensures dead { result.dead ≡ one_dead (one_at lay.now.system.now.words unary (slice_index row.new 0))
+    ensures dead { result.dead ≡ one_dead
+        (one_at lay.now.system.now.words unary (slice_index row.new 0))
         (dead_of (gone_in gone.now) (left_tree lay.now a.now actuals.now 1 row.new)) }
     ensures settled { result.settled ≡ true → is_settled (gone_in gone.now)
         (after lay.now step.now gone.now (left_tree lay.now a.now actuals.now 1 row.old)) ≡ true }
@@ -223,16 +224,19 @@ fn two_advanced<'s>(
         (ticks (right_tree lay.now a.now d.now actuals.now (own_cells op) row.old) step.now))
         (two_at op row.old) }
     ensures left { left_tree lay.now a.now actuals.now (own_cells op) row.new ≡
-        after lay.now step.now gone.now (left_tree lay.now a.now actuals.now (own_cells op) row.old) }
+        after lay.now step.now gone.now
+        (left_tree lay.now a.now actuals.now (own_cells op) row.old) }
     ensures right { right_tree lay.now a.now d.now actuals.now (own_cells op) row.new ≡
         after lay.now step.now gone.now (right_tree lay.now a.now d.now actuals.now
         (own_cells op) row.old) }
     ensures dead { result.dead ≡ node_dead (two_at op row.new)
         (dead_of (gone_in gone.now) (left_tree lay.now a.now actuals.now (own_cells op) row.new))
-        (dead_of (gone_in gone.now) (right_tree lay.now a.now d.now actuals.now (own_cells op) row.new)) }
+        (dead_of (gone_in gone.now)
+        (right_tree lay.now a.now d.now actuals.now (own_cells op) row.new)) }
     ensures settled { result.settled ≡ true →
         AreSettled lay.now a.now d.now actuals.now (own_cells op) step.now gone.now row.old }
-    ensures rest { let n = own_cells op + size lay.now a.now + size lay.now d.now in drop n row.new ≡
+    ensures rest { let n = own_cells op + size lay.now a.now + size lay.now d.now in
+        drop n row.new ≡
         drop n row.old }
     ensures size { result.size ≡ own_cells op + size lay.now a.now + size lay.now d.now }
     ensures tail { result.tail ≡ None }
@@ -275,14 +279,16 @@ fn then_advanced<'s>(
     requires actuals { ParamsFit lay.now actuals.now }
     requires room { 1 + max (size lay.now a.now) (size lay.now d.now) ≤ length row.old }
     requires few { length row.old ≤ MAX_CELLS }
-    ensures tick { result.tick ≡ ticks (then_tree lay.now a.now d.now actuals.now row.old) step.now }
+    ensures tick { result.tick
+        ≡ ticks (then_tree lay.now a.now d.now actuals.now row.old) step.now }
     ensures next { Outcome lay.now.system.now step.now (gone_in gone.now)
         (length lay.now.earlier.now) actuals.now
         (then_tree lay.now a.now d.now actuals.now row.old)
         (then_tree lay.now a.now d.now actuals.now row.new)
         result.dead result.tail }
     ensures settled { result.settled ≡ true → is_settled (gone_in gone.now)
-        (after lay.now step.now gone.now (then_tree lay.now a.now d.now actuals.now row.old)) ≡ true }
+        (after lay.now step.now gone.now (then_tree lay.now a.now d.now actuals.now row.old))
+        ≡ true }
     ensures rest { let n = 1 + max (size lay.now a.now) (size lay.now d.now) in drop n row.new ≡
         drop n row.old }
     ensures size { result.size ≡ 1 + max (size lay.now a.now) (size lay.now d.now) }
@@ -349,7 +355,8 @@ fn call_advanced(
     requires room { HasRoom lay.now group (length row.old) }
     requires few { length row.old ≤ MAX_CELLS }
     ensures tick { result.tick ≡ ticks (call_tree lay.now row.old) step.now }
-    ensures tree { call_tree lay.now row.new ≡ after lay.now step.now gone.now (call_tree lay.now row.old) }
+    ensures tree { call_tree lay.now row.new
+        ≡ after lay.now step.now gone.now (call_tree lay.now row.old) }
     ensures dead { result.dead ≡ dead_of (gone_in gone.now) (call_tree lay.now row.new) }
     ensures settled { result.settled ≡ true → is_settled (gone_in gone.now)
         (after lay.now step.now gone.now (call_tree lay.now row.old)) ≡ true }
@@ -418,16 +425,19 @@ fn lag_advanced<'s>(
         (ticks (left_tree lay.now a.now actuals.now (2 + words_of m) row.old) step.now)
         (ticks (right_tree lay.now a.now d.now actuals.now (2 + words_of m) row.old) step.now) }
     ensures left { left_tree lay.now a.now actuals.now (2 + words_of m) row.new ≡
-        after lay.now step.now gone.now (left_tree lay.now a.now actuals.now (2 + words_of m) row.old) }
+        after lay.now step.now gone.now
+        (left_tree lay.now a.now actuals.now (2 + words_of m) row.old) }
     ensures right { right_tree lay.now a.now d.now actuals.now (2 + words_of m) row.new ≡
         after lay.now step.now gone.now (right_tree lay.now a.now d.now actuals.now
         (2 + words_of m) row.old) }
     ensures dead { result.dead ≡ two_dead (lag_at m row.new)
         (dead_of (gone_in gone.now) (left_tree lay.now a.now actuals.now (2 + words_of m) row.new))
-        (dead_of (gone_in gone.now) (right_tree lay.now a.now d.now actuals.now (2 + words_of m) row.new)) }
+        (dead_of (gone_in gone.now)
+        (right_tree lay.now a.now d.now actuals.now (2 + words_of m) row.new)) }
     ensures settled { result.settled ≡ true →
         AreSettled lay.now a.now d.now actuals.now (2 + words_of m) step.now gone.now row.old }
-    ensures rest { let n = 2 + words_of m + size lay.now a.now + size lay.now d.now in drop n row.new ≡
+    ensures rest { let n = 2 + words_of m + size lay.now a.now + size lay.now d.now in
+        drop n row.new ≡
         drop n row.old }
     ensures size { result.size ≡ 2 + words_of m + size lay.now a.now + size lay.now d.now }
     ensures tail { result.tail ≡ None }

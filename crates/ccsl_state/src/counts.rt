@@ -16,7 +16,8 @@ fn count_pair(cells: &mut [u64], at: usize, left: bool, right: bool)
         bumped left (count_of (slice_index cells.old at)) }
     ensures right { count_of (slice_index cells.new (at + 1)) ≡
         bumped right (count_of (slice_index cells.old (at + 1))) }
-    ensures others { (k : ℕ) → k ≢ at → k ≢ at + 1 → slice_index cells.new k ≡ slice_index cells.old k }
+    ensures others { (k : ℕ) → k ≢ at → k ≢ at + 1 →
+        slice_index cells.new k ≡ slice_index cells.old k }
 {
     cells[at] = bumped(left, count_at(cells[at]));
     cells[at + 1] = bumped(right, count_at(cells[at + 1]));

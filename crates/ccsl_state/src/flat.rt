@@ -43,10 +43,12 @@ fn one_clock(
     gone: &ClockSet,
 ) -> Visited
     requires { 1 ≤ length row.old }
-    ensures tick { result.tick ≡ one_ticks (one_at words.now unary (slice_index row.old 0)) (ticks_in x step.now) }
+    ensures tick { result.tick ≡ one_ticks
+        (one_at words.now unary (slice_index row.old 0)) (ticks_in x step.now) }
     ensures node { one_at words.now unary (slice_index row.new 0) ≡
         one_next (one_at words.now unary (slice_index row.old 0)) (ticks_in x step.now) }
-    ensures dead { result.dead ≡ one_dead (one_at words.now unary (slice_index row.new 0)) (ticks_in x gone.now) }
+    ensures dead { result.dead ≡ one_dead
+        (one_at words.now unary (slice_index row.new 0)) (ticks_in x gone.now) }
     ensures rest { drop 1 row.new ≡ drop 1 row.old }
 {
     let stepped = unary.stepped(words, &mut row[0], step.has(x), gone.has(x));
@@ -68,10 +70,13 @@ fn two_clocks(
     gone: &ClockSet,
 ) -> Visited
     requires { own_cells op ≤ length row.old }
-    ensures tick { result.tick ≡ node_ticks (two_at op row.old) (ticks_in x step.now) (ticks_in y step.now) }
+    ensures tick { result.tick ≡ node_ticks (two_at op row.old)
+        (ticks_in x step.now) (ticks_in y step.now) }
     ensures node { two_at op row.new ≡
-        option_map (λ o. two_next o (ticks_in x step.now) (ticks_in y step.now)) (two_at op row.old) }
-    ensures dead { result.dead ≡ node_dead (two_at op row.new) (ticks_in x gone.now) (ticks_in y gone.now) }
+        option_map (λ o. two_next o (ticks_in x step.now) (ticks_in y step.now))
+        (two_at op row.old) }
+    ensures dead { result.dead ≡ node_dead (two_at op row.new)
+        (ticks_in x gone.now) (ticks_in y gone.now) }
     ensures rest { drop (own_cells op) row.new ≡ drop (own_cells op) row.old }
 {
     let (head, _) = row.split_at_mut(own_cells(op));
@@ -91,9 +96,12 @@ fn lag_clocks(m: u32, x: u32, y: u32, row: &mut [u64], step: &ClockSet, gone: &C
     requires some { 1 ≤ m }
     requires short { m ≤ MAX_DELAY }
     requires room { 2 + words_of m ≤ length row.old }
-    ensures tick { result.tick ≡ two_ticks (lag_at m row.old) (ticks_in x step.now) (ticks_in y step.now) }
-    ensures node { lag_at m row.new ≡ two_next (lag_at m row.old) (ticks_in x step.now) (ticks_in y step.now) }
-    ensures dead { result.dead ≡ two_dead (lag_at m row.new) (ticks_in x gone.now) (ticks_in y gone.now) }
+    ensures tick { result.tick ≡ two_ticks (lag_at m row.old)
+        (ticks_in x step.now) (ticks_in y step.now) }
+    ensures node { lag_at m row.new ≡ two_next (lag_at m row.old)
+        (ticks_in x step.now) (ticks_in y step.now) }
+    ensures dead { result.dead ≡ two_dead (lag_at m row.new)
+        (ticks_in x gone.now) (ticks_in y gone.now) }
     ensures rest { drop (2 + words_of m) row.new ≡ drop (2 + words_of m) row.old }
 {
     let (head, _) = row.split_at_mut(lag_cells(m));

@@ -39,7 +39,8 @@ fn visit(
     requires table { HasTable lay.now }
     requires groups { length lay.now.earlier.now ≡ length lay.now.system.now.groups }
     requires within { i < length lay.now.system.now.definitions }
-    requires place { slice_get (places_from lay.now.earlier.now 0 lay.now.system.now.definitions) i ≡
+    requires place { slice_get (places_from lay.now.earlier.now 0 lay.now.system.now.definitions) i
+        ≡
         Some place }
     requires room { cells_from lay.now.earlier.now lay.now.system.now.definitions ≤ length row.old }
     requires few { length row.old ≤ MAX_CELLS }
@@ -106,7 +107,8 @@ pub fn follow(
 )
     requires accepted { IsAccepted lay.now.system.now }
     requires whole { IsWhole lay.now row.old }
-    requires places { places.now ≡ places_from lay.now.earlier.now 0 lay.now.system.now.definitions }
+    requires places { places.now ≡ places_from lay.now.earlier.now 0
+        lay.now.system.now.definitions }
     requires readers { AreReaders lay.now.system.now readers.now.followed readers.now.sets.items }
     requires kept { AreKept lay.now.system.now readers.now.followed
         (trees_from lay.now 0 row.old) passage.old.gone passage.old.unsettled }

@@ -24,7 +24,8 @@ use std::alloc::Global;
 /// Where each definition's region begins.
 pub fn places(alloc: Global, lay: &Lay<'_>) -> Result<Vec<u32>, Memory>
     requires { cells_from lay.now.earlier.now lay.now.system.now.definitions ≤ MAX_CELLS }
-    ensures { IfOk result (λ v. v.items ≡ places_from lay.now.earlier.now 0 lay.now.system.now.definitions) }
+    ensures { IfOk result
+        (λ v. v.items ≡ places_from lay.now.earlier.now 0 lay.now.system.now.definitions) }
 {
     let count = lay.system.definitions();
     let mut places = Vec::with_capacity(alloc, count as usize)?;
@@ -47,7 +48,8 @@ pub fn definition_formula(
     requires table { HasTable lay.now }
     requires groups { length lay.now.earlier.now ≡ length lay.now.system.now.groups }
     requires within { i < length lay.now.system.now.definitions }
-    requires place { slice_get (places_from lay.now.earlier.now 0 lay.now.system.now.definitions) i ≡
+    requires place { slice_get (places_from lay.now.earlier.now 0 lay.now.system.now.definitions) i
+        ≡
         Some place }
     requires room { cells_from lay.now.earlier.now lay.now.system.now.definitions ≤ length row.now }
     requires few { length row.now ≤ MAX_CELLS }
@@ -71,7 +73,8 @@ fn definition_item(
     requires accepted { IsAccepted lay.now.system.now }
     requires whole { IsWhole lay.now row.now }
     requires within { i < length lay.now.system.now.definitions }
-    requires place { slice_get (places_from lay.now.earlier.now 0 lay.now.system.now.definitions) i ≡
+    requires place { slice_get (places_from lay.now.earlier.now 0 lay.now.system.now.definitions) i
+        ≡
         Some place }
     ensures { IfOk result (λ f. plain f ≡ formula_in (held_at lay.now row.now) i) }
 {
@@ -106,7 +109,8 @@ pub fn item_formula(
 ) -> Result<Formula, Memory>
     requires accepted { IsAccepted lay.now.system.now }
     requires whole { IsWhole lay.now row.now }
-    requires places { places.now ≡ places_from lay.now.earlier.now 0 lay.now.system.now.definitions }
+    requires places { places.now ≡ places_from lay.now.earlier.now 0
+        lay.now.system.now.definitions }
     requires within { item < item_count lay.now.system.now }
     ensures { IfOk result (λ f. plain f ≡ formula_in (held_at lay.now row.now) item) }
 {

@@ -26,7 +26,8 @@ impl Unary {
     /// Rewrites the cell after a step in which the operand ticked or not, and is dead after it or not.
     pub fn stepped(self, words: &[Word], cell: &mut u64, t: bool, x: bool) -> Stepped
         ensures tick { result.tick ≡ one_ticks (one_at words.now self cell.old) t }
-        ensures node { one_at words.now self cell.new ≡ one_next (one_at words.now self cell.old) t }
+        ensures node { one_at words.now self cell.new
+            ≡ one_next (one_at words.now self cell.old) t }
         ensures dead { result.dead ≡ one_dead (one_at words.now self cell.new) x }
     {
         let tick = self.ticks(words, *cell, t);

@@ -127,7 +127,8 @@ fn one_opened(
     requires few { length row.old ≤ MAX_CELLS }
     ensures node { one_at lay.now.system.now.words unary (slice_index row.new 0) ≡
         one_at lay.now.system.now.words unary first }
-    ensures tree { left_tree lay.now a.now actuals.now 1 row.new ≡ newborn lay.now a.now actuals.now }
+    ensures tree { left_tree lay.now a.now actuals.now 1 row.new
+        ≡ newborn lay.now a.now actuals.now }
     ensures rest { drop (1 + size lay.now a.now) row.new ≡ drop (1 + size lay.now a.now) row.old }
     ensures dead { result.dead ≡ dead_of (gone_in gone.now)
         (TOne (one_at lay.now.system.now.words unary first) (newborn lay.now a.now actuals.now)) }
@@ -170,10 +171,12 @@ fn two_opened(
         newborn lay.now a.now actuals.now }
     ensures right { right_tree lay.now a.now d.now actuals.now (own_cells op) row.new ≡
         newborn lay.now d.now actuals.now }
-    ensures rest { let n = own_cells op + size lay.now a.now + size lay.now d.now in drop n row.new ≡
+    ensures rest { let n = own_cells op + size lay.now a.now + size lay.now d.now in
+        drop n row.new ≡
         drop n row.old }
     ensures dead { result.dead ≡ dead_of (gone_in gone.now)
-        (pair_at (two_opened op) (newborn lay.now a.now actuals.now) (newborn lay.now d.now actuals.now)) }
+        (pair_at (two_opened op) (newborn lay.now a.now actuals.now)
+        (newborn lay.now d.now actuals.now)) }
     ensures size { result.size ≡ own_cells op + size lay.now a.now + size lay.now d.now }
 {
     let (head, rest) = row.split_at_mut(own_cells(op));
@@ -207,7 +210,8 @@ fn then_opened(
     requires room { 1 + max (size lay.now a.now) (size lay.now d.now) ≤ length row.old }
     requires few { length row.old ≤ MAX_CELLS }
     ensures flag { flag_at row.new ≡ false }
-    ensures tree { left_tree lay.now a.now actuals.now 1 row.new ≡ newborn lay.now a.now actuals.now }
+    ensures tree { left_tree lay.now a.now actuals.now 1 row.new
+        ≡ newborn lay.now a.now actuals.now }
     ensures rest { let n = 1 + max (size lay.now a.now) (size lay.now d.now) in drop n row.new ≡
         drop n row.old }
     ensures dead { result.dead ≡ false }
@@ -296,7 +300,8 @@ fn lag_opened(
         newborn lay.now a.now actuals.now }
     ensures right { right_tree lay.now a.now d.now actuals.now (2 + words_of m) row.new ≡
         newborn lay.now d.now actuals.now }
-    ensures rest { let n = 2 + words_of m + size lay.now a.now + size lay.now d.now in drop n row.new ≡
+    ensures rest { let n = 2 + words_of m + size lay.now a.now + size lay.now d.now in
+        drop n row.new ≡
         drop n row.old }
     ensures dead { result.dead ≡ two_dead (Lagging m (replicate m false))
         (dead_of (gone_in gone.now) (newborn lay.now a.now actuals.now))

@@ -63,7 +63,8 @@ impl Readers {
     /// The numbers of the followed definitions.
     pub fn numbers(&self, system: &System) -> ClockSet
         ensures { (i : ℕ) → ticks_in i result ≡
-            (nat_lt i (length system.now.definitions) && ticks_in (system.now.declared + i) self.now.followed) }
+            (nat_lt i (length system.now.definitions)
+            && ticks_in (system.now.declared + i) self.now.followed) }
     {
         let declared = system.scope().declared;
         let mut numbers = ClockSet::empty();

@@ -111,7 +111,8 @@ impl<'s> States<'s> {
         ensures row { result ≡ is_dead self.now definition }
         ensures dead { (T : List Step) (e : Expression) → StandsFor self.now T →
             definition_of self.now.system (self.now.system.declared + definition) ≡ Some e →
-            result ≡ dead_at self.now.system T (self.now.system.declared + definition) e [] 0 (length T) }
+            result ≡ dead_at self.now.system T
+            (self.now.system.declared + definition) e [] 0 (length T) }
     {
         self.gone.has(self.system.scope().declared + definition)
     }
@@ -125,7 +126,8 @@ impl<'s> States<'s> {
             StandsFor self.new (T ++ full_step self.old.system T declared.now ∷ []) }
         ensures cells { length self.new.row ≡ length self.old.row }
         ensures silent { (T : List Step) → StandsFor self.old T → length T + 1 < 2 ^ 64 →
-            ObeysDefinitions self.old.system T → are_below self.old.system.declared declared.now ≡ true →
+            ObeysDefinitions self.old.system T →
+            are_below self.old.system.declared declared.now ≡ true →
             StaySilent self.old result self.new }
     {
         let lay = Lay {

@@ -45,7 +45,8 @@ fn name_formula(actual: Actual) -> Formula
 
 /// Whether an operator of one operand lets its operand's formula through.
 fn is_open(unary: Unary, words: &[Word], cell: u64) -> bool
-    ensures { (f : Plain) → one_formula (one_at words.now unary cell) f ≡ (if result then f else FFalse) }
+    ensures { (f : Plain) →
+        one_formula (one_at words.now unary cell) f ≡ (if result then f else FFalse) }
 {
     unary.ticks(words, cell, true)
 }
@@ -253,7 +254,8 @@ fn two_told(
     ensures formula { IfOk result (λ t. plain t.formula ≡ node_formula (two_at op row.now)
         (formula_of (left_tree lay.now a.now actuals.now (own_cells op) row.now))
         (formula_of (right_tree lay.now a.now d.now actuals.now (own_cells op) row.now))) }
-    ensures size { IfOk result (λ t. t.size ≡ own_cells op + size lay.now a.now + size lay.now d.now) }
+    ensures size { IfOk result (λ t. t.size
+        ≡ own_cells op + size lay.now a.now + size lay.now d.now) }
 {
     let own = own_cells(op);
     let left = told(alloc, lay, a, actuals, &row[own..])?;
@@ -290,7 +292,8 @@ fn lag_told(
     ensures formula { IfOk result (λ t. plain t.formula ≡ two_formula (lag_at m row.now)
         (formula_of (left_tree lay.now a.now actuals.now (2 + words_of m) row.now))
         (formula_of (right_tree lay.now a.now d.now actuals.now (2 + words_of m) row.now))) }
-    ensures size { IfOk result (λ t. t.size ≡ 2 + words_of m + size lay.now a.now + size lay.now d.now) }
+    ensures size { IfOk result (λ t. t.size
+        ≡ 2 + words_of m + size lay.now a.now + size lay.now d.now) }
 {
     let own = lag_cells(m) + size_of(a, lay.earlier);
     let right = told(alloc, lay, d, actuals, &row[own..])?;
@@ -321,7 +324,8 @@ fn one_of_told(
     requires few { length row.now ≤ MAX_CELLS }
     ensures formula { IfOk result (λ t. plain t.formula ≡
         formula_of (left_tree lay.now e.now actuals.now 1 row.now)) }
-    ensures size { IfOk result (λ t. t.size ≡ 1 + max (size lay.now e.now) (size lay.now other.now)) }
+    ensures size { IfOk result (λ t. t.size
+        ≡ 1 + max (size lay.now e.now) (size lay.now other.now)) }
 {
     let part = told(alloc, lay, e, actuals, &row[1..])?;
     Ok(Part {

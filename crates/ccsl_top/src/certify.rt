@@ -53,7 +53,8 @@ pub(crate) fn certify<W: World>(
 ) -> Result<Reply, Stop>
     requires trace { W.allows Trace trace.now }
     requires cert { W.allows Cert cert.now }
-    ensures answers { IfOk result (λ reply. CertifyAnswers W.told system.now trace.now cert.now reply
+    ensures answers { IfOk result (λ reply.
+        CertifyAnswers W.told system.now trace.now cert.now reply
         (W.state world.old) (W.state world.new)) }
     ensures stop { IfErr result (λ stop. IsBothStop stop (W.state world.old) (W.state world.new)) }
 {

@@ -44,7 +44,8 @@ fn put_member(
 ) -> Result<(), Memory>
     requires item { item < item_count system.now }
     requires named { (x : ℕ) → ticks_in x set.now ≡ true → x < length system.now.names }
-    ensures { IfOk result (λ _. report.new.items ≡ report.old.items ++ explain_member_text item set.now system.now) }
+    ensures { IfOk result (λ _. report.new.items
+        ≡ report.old.items ++ explain_member_text item set.now system.now) }
 {
     let line = explain_member(alloc, item, set, system)?;
     report.extend_from_slice(&line)?;
@@ -60,7 +61,8 @@ fn put_members(
     report: &mut Vec<u8>,
 ) -> Result<(), Memory>
     requires { AreMembers system.now core.now without.now }
-    ensures { IfOk result (λ _. report.new.items ≡ report.old.items ++ member_lines system.now core.now without.now) }
+    ensures { IfOk result (λ _. report.new.items
+        ≡ report.old.items ++ member_lines system.now core.now without.now) }
 {
     for (item, set) in core.iter().zip(without) {
         put_member(alloc, system, *item, set, report)?;
@@ -79,7 +81,8 @@ fn blocked_report(
     requires few { length core.now < 2 ^ 32 }
     requires members { AreMembers system.now core.now without.now }
     ensures { IfOk result (λ report. report.items ≡
-        explain_blocked_text steps (length core.now) ++ member_lines system.now core.now without.now) }
+        explain_blocked_text steps (length core.now)
+        ++ member_lines system.now core.now without.now) }
 {
     let mut report = explain_blocked(alloc, steps, core.len() as u32)?;
     put_members(alloc, system, core, without, &mut report)?;
@@ -89,8 +92,10 @@ fn blocked_report(
 // Writes a certificate under a name, by one call.
 fn write_certificate<W: World>(world: &mut W, cert: &str, text: &[u8]) -> Result<(), Failed>
     requires { W.allows CertOut cert.now }
-    ensures whole { OnOk result (WritesWhole W.told (file_of cert.now text.now) (W.state world.old) (W.state world.new)) }
-    ensures breaks { OnErr result (WritesBreak W.told (file_of cert.now text.now) (W.state world.old) (W.state world.new)) }
+    ensures whole { OnOk result
+        (WritesWhole W.told (file_of cert.now text.now) (W.state world.old) (W.state world.new)) }
+    ensures breaks { OnErr result
+        (WritesBreak W.told (file_of cert.now text.now) (W.state world.old) (W.state world.new)) }
 {
     world.open_out(Slot::CertOut, cert)?;
     write_all(world, Slot::CertOut, text)?;
@@ -108,9 +113,11 @@ fn answer_blocked<W: World>(
 ) -> Result<Reply, Stop>
     requires allowed { W.allows CertOut cert.now }
     requires below { All (λ line. AreBelow (length system.now.names) (literals line)) lines.now }
-    ensures answers { IfOk result (λ reply. BlockedAnswers W.told (cert_output system.now cert.now lines.now) report.items
+    ensures answers { IfOk result (λ reply.
+        BlockedAnswers W.told (cert_output system.now cert.now lines.now) report.items
         reply (W.state world.old) (W.state world.new)) }
-    ensures stop { IfErr result (λ stop. IsWriteStop W.told (cert_output system.now cert.now lines.now)
+    ensures stop { IfErr result (λ stop.
+        IsWriteStop W.told (cert_output system.now cert.now lines.now)
         (W.state world.old) (W.state world.new) stop) }
 {
     let text = write(alloc, lines, system.names())?;
@@ -134,10 +141,14 @@ fn answer_explained<W: World>(
     requires accepted { IsAccepted system.now }
     requires explained { (formulas : List Plain) × (length formulas ≡ item_count system.now)
         × Explains (scope_of system.now) formulas explained.now }
-    ensures answers { IfOk result (λ reply. (formulas : List Plain) → Explains (scope_of system.now) formulas explained.now →
-        RunAnswers W.told system.now cert.now steps formulas (W.state world.old) (W.state world.new) reply) }
-    ensures stop { IfErr result (λ stop. (formulas : List Plain) → Explains (scope_of system.now) formulas explained.now →
-        IsRunStop W.told system.now cert.now formulas (W.state world.old) (W.state world.new) stop) }
+    ensures answers { IfOk result (λ reply. (formulas : List Plain) →
+        Explains (scope_of system.now) formulas explained.now →
+        RunAnswers W.told system.now cert.now steps formulas (W.state world.old)
+        (W.state world.new) reply) }
+    ensures stop { IfErr result (λ stop. (formulas : List Plain) →
+        Explains (scope_of system.now) formulas explained.now →
+        IsRunStop W.told system.now cert.now formulas (W.state world.old)
+        (W.state world.new) stop) }
 {
     match explained {
         Explained::Open(_set) => Ok(Reply {
@@ -168,9 +179,11 @@ fn explain_formulas<W: World>(
     requires allowed { W.allows CertOut cert.now }
     requires below { All (ReadsBelow (length system.now.names)) (map plain formulas.now) }
     requires count { length formulas.now ≡ item_count system.now }
-    ensures answers { IfOk result (λ reply. RunAnswers W.told system.now cert.now steps (map plain formulas.now)
+    ensures answers { IfOk result (λ reply.
+        RunAnswers W.told system.now cert.now steps (map plain formulas.now)
         (W.state world.old) (W.state world.new) reply) }
-    ensures stop { IfErr result (λ stop. IsRunStop W.told system.now cert.now (map plain formulas.now)
+    ensures stop { IfErr result (λ stop.
+        IsRunStop W.told system.now cert.now (map plain formulas.now)
         (W.state world.old) (W.state world.new) stop) }
 {
     let explained = ccsl_explain::explain(alloc, formulas, &system.scope())?;
@@ -189,9 +202,11 @@ fn explain_run<W: World>(
     requires allowed { W.allows CertOut cert.now }
     requires system { states.now.system ≡ system.now }
     ensures answers { IfOk result (λ reply. (T : List Step) → StandsFor states.now T →
-        RunAnswers W.told system.now cert.now steps (item_formulas system.now T) (W.state world.old) (W.state world.new) reply) }
+        RunAnswers W.told system.now cert.now steps (item_formulas system.now T) (W.state world.old)
+        (W.state world.new) reply) }
     ensures stop { IfErr result (λ stop. (T : List Step) → StandsFor states.now T →
-        IsRunStop W.told system.now cert.now (item_formulas system.now T) (W.state world.old) (W.state world.new) stop) }
+        IsRunStop W.told system.now cert.now (item_formulas system.now T) (W.state world.old)
+        (W.state world.new) stop) }
 {
     let mut formulas = Vec::new(alloc);
     put_formulas(alloc, system, states, &mut formulas)?;

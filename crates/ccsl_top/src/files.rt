@@ -29,7 +29,8 @@ pub(crate) fn read_file<W: World>(
     requires allowed { W.allows slot name.now }
     ensures reads { IfOk result (λ _. Reads (only slot) (W.state world.old) (W.state world.new)) }
     ensures file { IfOk result (λ read.
-        IsFile W.told (W.state world.old).files name.now limit (option_map (λ bytes. bytes.items) read)) }
+        IsFile W.told (W.state world.old).files name.now limit
+        (option_map (λ bytes. bytes.items) read)) }
     ensures stop { IfErr result (λ stop. IsStop stop slot (W.state world.old) (W.state world.new)) }
 {
     match world.open_in(slot, name) {

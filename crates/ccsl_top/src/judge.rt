@@ -75,7 +75,8 @@ pub(crate) fn judge<R: Threads + Sync, W: World, G: Gate>(
     ensures status { IfOk result (λ reply. IsReadStatus (plain_reply reply).status) }
     ensures outcome { IfOk result (λ reply. IsTrue W.told.files → IsTrue W.told.left →
         plain_reply reply ≡ judge_outcome system.now (held (W.state world.old).files trace.now)) }
-    ensures stop { IfErr result (λ stop. IsTraceStop stop W.told system.now trace.now (W.state world.old) (W.state world.new)) }
+    ensures stop { IfErr result (λ stop.
+        IsTraceStop stop W.told system.now trace.now (W.state world.old) (W.state world.new)) }
 {
     let line = empty_line(machine.alloc, system)?;
     if world.open_in(Slot::Trace, trace).is_err() {

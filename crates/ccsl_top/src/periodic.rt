@@ -35,7 +35,8 @@ fn related(
     requires left { is_finite left.now ≡ false }
     requires right { is_finite right.now ≡ false }
     requires named { relation ≢ RelationName.On }
-    ensures { IfOk result (λ reply. IsRelated left.now right.now relation between (plain_reply reply)) }
+    ensures { IfOk result
+        (λ reply. IsRelated left.now right.now relation between (plain_reply reply)) }
 {
     let first = spelled(alloc, left)?;
     let second = spelled(alloc, right)?;
@@ -82,7 +83,8 @@ pub(crate) fn periodic(
 ) -> Result<Reply, Stop>
     requires left { is_finite left.now ≡ false }
     requires right { is_finite right.now ≡ false }
-    ensures reply { IfOk result (λ reply. IsPeriodicOutcome left.now right.now relation (plain_reply reply)) }
+    ensures reply { IfOk result (λ reply.
+        IsPeriodicOutcome left.now right.now relation (plain_reply reply)) }
     ensures stop { IfErr result (λ reason. reason ≡ stop.Memory) }
 {
     let reply = match relation {

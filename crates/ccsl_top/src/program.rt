@@ -58,9 +58,11 @@ fn answer_on<R: Threads + Sync, W: World, G: Gate>(
     requires allowed { AreAllowed W.allows (files_of command.now) }
     requires named { spec_of command.now ≢ None }
     requires no_session { is_session (Ok command.now) ≡ false }
-    ensures ok { (start : State) → IsSpecified W.told command.now system.now start (W.state world.old) →
+    ensures ok { (start : State) →
+        IsSpecified W.told command.now system.now start (W.state world.old) →
         IfOk result (λ reply. AnswersTo W.told command.now reply start (W.state world.new)) }
-    ensures err { (start : State) → IsSpecified W.told command.now system.now start (W.state world.old) →
+    ensures err { (start : State) →
+        IsSpecified W.told command.now system.now start (W.state world.old) →
         IfErr result (λ stop. StopsAt W.told command.now stop start (W.state world.new)) }
 {
     match command {

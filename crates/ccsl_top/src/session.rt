@@ -21,7 +21,8 @@ use std::alloc::Global;
 
 // The last line, where the input has more bytes than are taken.
 fn report_too_long<W: World>(alloc: Global, world: &mut W) -> u8
-    ensures { (words : List (List ℕ)) (K : System) (policy : Policy) (seed : ℕ) (start begun : State) →
+    ensures { (words : List (List ℕ)) (K : System) (policy : Policy)
+        (seed : ℕ) (start begun : State) →
         Begins W.told words K policy seed start begun →
         HasEnded W.told K policy seed MAX_FILE_BYTES begun (W.state world.old) ended.TooLong →
         Headline W.told words result start (W.state world.new) }

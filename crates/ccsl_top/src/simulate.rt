@@ -41,9 +41,11 @@ pub(crate) fn write_run<W: World>(
 ) -> Result<Done, Stop>
     requires trace { W.allows TraceOut trace.now }
     requires cert { W.allows CertOut cert.now }
-    ensures done { IfOk result (λ done. WritesBoth W.told system.now policy seed steps trace.now cert.now
+    ensures done { IfOk result
+        (λ done. WritesBoth W.told system.now policy seed steps trace.now cert.now
         (W.state world.old) (W.state world.new) done) }
-    ensures stop { IfErr result (λ stop. IsWriteStop W.told system.now policy seed steps trace.now cert.now
+    ensures stop { IfErr result (λ stop.
+        IsWriteStop W.told system.now policy seed steps trace.now cert.now
         (W.state world.old) (W.state world.new) stop) }
 {
     // By these laws each simulation has a certificate, of which nothing written is a front.
@@ -88,8 +90,10 @@ pub(crate) fn simulate<W: World>(
     requires trace { W.allows TraceOut trace.now }
     requires cert { W.allows CertOut cert.now }
     ensures answers { IfOk result (λ reply. (done : Ended) × IsDoneReply done steps reply
-        × WritesBoth W.told system.now policy seed steps trace.now cert.now (W.state world.old) (W.state world.new) done) }
-    ensures stop { IfErr result (λ stop. IsWriteStop W.told system.now policy seed steps trace.now cert.now
+        × WritesBoth W.told system.now policy seed steps trace.now cert.now (W.state world.old)
+        (W.state world.new) done) }
+    ensures stop { IfErr result (λ stop.
+        IsWriteStop W.told system.now policy seed steps trace.now cert.now
         (W.state world.old) (W.state world.new) stop) }
 {
     let done = write_run(alloc, world, system, policy, seed, steps, trace, cert)?;

@@ -77,8 +77,10 @@ fn judged_steps<R: Threads + Sync, G: Gate>(
     system: &System,
     workers: u32,
 ) -> Result<u64, Memory>
-    requires { (seed : ℕ) × (steps : ℕ) × HoldsTrace system.now seed steps world.old × (steps ≤ MAX_STEPS) }
-    ensures steps { IfOk result (λ made. (seed steps : ℕ) → HoldsTrace system.now seed steps world.old → steps ≤ MAX_STEPS →
+    requires { (seed : ℕ) × (steps : ℕ) × HoldsTrace system.now seed steps
+        world.old × (steps ≤ MAX_STEPS) }
+    ensures steps { IfOk result (λ made. (seed steps : ℕ) →
+        HoldsTrace system.now seed steps world.old → steps ≤ MAX_STEPS →
         made ≡ length (drawn_run system.now seed steps)) }
     ensures files { IfOk result (λ _. world.new.files ≡ world.old.files) }
 {
@@ -105,8 +107,10 @@ fn judged_steps<R: Threads + Sync, G: Gate>(
 fn ticks_of(alloc: Global, world: &MemoryWorld, system: &System, made: u64) -> Result<u64, Memory>
     requires { (seed : ℕ) × (steps : ℕ) × KeepsTrace system.now seed steps world.now.files
         × (made ≡ length (drawn_run system.now seed steps)) }
-    ensures { IfOk result (λ ticks. (seed steps : ℕ) → KeepsTrace system.now seed steps world.now.files →
-        made ≡ length (drawn_run system.now seed steps) → ticks ≡ ticks_written system.now (drawn_run system.now seed steps)) }
+    ensures { IfOk result (λ ticks. (seed steps : ℕ) →
+        KeepsTrace system.now seed steps world.now.files →
+        made ≡ length (drawn_run system.now seed steps) →
+        ticks ≡ ticks_written system.now (drawn_run system.now seed steps)) }
 {
     match world.file(TRACE) {
         Some(text) => ticks_in_text(alloc, system, text, made),
@@ -121,8 +125,10 @@ fn counted<R: Threads + Sync, G: Gate>(
     system: &System,
     workers: u32,
 ) -> Result<(u64, u64), Memory>
-    requires { (seed : ℕ) × (steps : ℕ) × HoldsTrace system.now seed steps world.old × (steps ≤ MAX_STEPS) }
-    ensures { IfOk result (λ counts. (seed steps : ℕ) → HoldsTrace system.now seed steps world.old → steps ≤ MAX_STEPS →
+    requires { (seed : ℕ) × (steps : ℕ) × HoldsTrace system.now seed steps
+        world.old × (steps ≤ MAX_STEPS) }
+    ensures { IfOk result (λ counts. (seed steps : ℕ) →
+        HoldsTrace system.now seed steps world.old → steps ≤ MAX_STEPS →
         (counts.0 ≡ length (drawn_run system.now seed steps))
         × (counts.1 ≡ ticks_written system.now (drawn_run system.now seed steps))) }
 {

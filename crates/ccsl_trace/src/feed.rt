@@ -113,12 +113,15 @@ impl Feed {
         ensures kept { self.new ≡ record self.old { pending = self.new.pending } }
         ensures some { IfOk result (λ more. more ≡ true → 0 < length self.new.pending) }
         ensures none { IfOk result (λ more. more ≡ false → self.new.pending ≡ []) }
-        ensures left { IfOk result (λ more. more ≡ false → IsTrue W.told.left → ((W.state world.new).slot_of Trace).left ≡ []) }
-        ensures feeds { OnOk result ((wanted : Wanted) (limits : Limits) (start : State) (rows : List Row) →
+        ensures left { IfOk result (λ more. more ≡ false → IsTrue W.told.left →
+            ((W.state world.new).slot_of Trace).left ≡ []) }
+        ensures feeds { OnOk result
+            ((wanted : Wanted) (limits : Limits) (start : State) (rows : List Row) →
             Feeds W.told wanted limits start (W.state world.old) self.old rows →
             Feeds W.told wanted limits start (W.state world.new) self.new rows) }
         ensures fault { IfErr result (λ fault. fault ≡ TraceFault.Fault) }
-        ensures fails { OnErr result ((wanted : Wanted) (limits : Limits) (start : State) (rows : List Row) →
+        ensures fails { OnErr result
+            ((wanted : Wanted) (limits : Limits) (start : State) (rows : List Row) →
             Feeds W.told wanted limits start (W.state world.old) self.old rows →
             Fails W.told wanted limits start (W.state world.new)) }
     {
@@ -134,19 +137,23 @@ impl Feed {
 
     // The reader takes of the piece what it can, and tells whether that ended the header.
     fn pass(&mut self) -> Result<bool, TraceFault>
-        requires runs { (wanted : Wanted) × (limits : Limits) × (bytes : List ℕ) × (rows : List Row) × Runs wanted limits bytes self.old rows }
+        requires runs { (wanted : Wanted) × (limits : Limits) × (bytes : List ℕ) × (rows : List Row)
+            × Runs wanted limits bytes self.old rows }
         requires fresh { self.old.handed ≡ false }
         requires some { 0 < length self.old.pending }
         requires room { length self.old.block.rows < self.old.block.room }
-        ensures runs { OnOk result ((wanted : Wanted) (limits : Limits) (bytes : List ℕ) (rows : List Row) →
+        ensures runs { OnOk result
+            ((wanted : Wanted) (limits : Limits) (bytes : List ℕ) (rows : List Row) →
             Runs wanted limits bytes self.old rows → Runs wanted limits bytes self.new rows) }
         ensures fresh { self.new.handed ≡ false }
         ensures ended { self.new.ended ≡ self.old.ended }
         ensures closer { OnOk result (left_of self.new < left_of self.old) }
         ensures turns { IfOk result (λ ended. Turns ended (bound_of self.old) (bound_of self.new)) }
-        ensures near { result ≡ Ok true → (wanted : Wanted) (limits : Limits) (bytes : List ℕ) (rows : List Row) →
+        ensures near { result ≡ Ok true →
+            (wanted : Wanted) (limits : Limits) (bytes : List ℕ) (rows : List Row) →
             Runs wanted limits bytes self.old rows → IsNear wanted limits bytes }
-        ensures refuses { IfErr result (λ fault. (wanted : Wanted) (limits : Limits) (bytes : List ℕ) (rows : List Row) →
+        ensures refuses { IfErr result (λ fault.
+            (wanted : Wanted) (limits : Limits) (bytes : List ℕ) (rows : List Row) →
             Runs wanted limits bytes self.old rows → RefusesAll fault wanted limits bytes) }
         ensures calm { IfSome (bound_of self.old) (λ _. result ≢ Err TraceFault.Memory) }
     {
@@ -160,13 +167,17 @@ impl Feed {
 
     // The trace has ended. Where that has ended the header, the bound clocks are handed out first.
     fn finish(&mut self) -> Result<Next, TraceFault>
-        requires runs { (wanted : Wanted) × (limits : Limits) × (bytes : List ℕ) × (rows : List Row) × Runs wanted limits bytes self.old rows }
+        requires runs { (wanted : Wanted) × (limits : Limits) × (bytes : List ℕ) × (rows : List Row)
+            × Runs wanted limits bytes self.old rows }
         requires fresh { self.old.handed ≡ false }
         requires none { self.old.pending ≡ [] }
         requires room { length self.old.block.rows < self.old.block.room }
-        ensures finishes { IfOk result (λ next. (wanted : Wanted) (limits : Limits) (bytes : List ℕ) (rows : List Row) →
-            Runs wanted limits bytes self.old rows → Finishes next wanted limits bytes (bound_of self.old) self.new rows) }
-        ensures refuses { IfErr result (λ fault. (wanted : Wanted) (limits : Limits) (bytes : List ℕ) (rows : List Row) →
+        ensures finishes { IfOk result (λ next.
+            (wanted : Wanted) (limits : Limits) (bytes : List ℕ) (rows : List Row) →
+            Runs wanted limits bytes self.old rows →
+            Finishes next wanted limits bytes (bound_of self.old) self.new rows) }
+        ensures refuses { IfErr result (λ fault.
+            (wanted : Wanted) (limits : Limits) (bytes : List ℕ) (rows : List Row) →
             Runs wanted limits bytes self.old rows → RefusesIt fault wanted limits bytes) }
         ensures calm { IfSome (bound_of self.old) (λ _. result ≢ Err TraceFault.Memory) }
     {
@@ -188,12 +199,18 @@ impl Feed {
             × Feeds W.told wanted limits start (W.state world.old) self.old rows }
         requires fresh { self.old.handed ≡ false }
         requires ended { self.old.ended ≡ None }
-        ensures gives { IfOk result (λ found. IfSome found (λ next. (wanted : Wanted) (limits : Limits) (start : State) (rows : List Row) →
+        ensures gives { IfOk result (λ found.
+            IfSome found (λ next. (wanted : Wanted) (limits : Limits)
+            (start : State) (rows : List Row) →
             Feeds W.told wanted limits start (W.state world.old) self.old rows →
-            Gives W.told wanted limits start (W.state world.new) next (bound_of self.old) self.new rows)) }
+            Gives W.told wanted limits start (W.state world.new) next
+            (bound_of self.old) self.new rows)) }
         ensures nears { IfOk result (λ found. IfSome found (λ next. Nears next self.old self.new)) }
-        ensures goes_on { IfOk result (λ found. IfNone found (GoesOn W.told (W.state world.old) (W.state world.new) self.old self.new)) }
-        ensures unread { IfErr result (λ fault. (wanted : Wanted) (limits : Limits) (start : State) (rows : List Row) →
+        ensures goes_on { IfOk result (λ found.
+            IfNone found (GoesOn W.told (W.state world.old)
+            (W.state world.new) self.old self.new)) }
+        ensures unread { IfErr result (λ fault.
+            (wanted : Wanted) (limits : Limits) (start : State) (rows : List Row) →
             Feeds W.told wanted limits start (W.state world.old) self.old rows →
             IsUnread W.told wanted limits start (W.state world.new) fault) }
         ensures calm { IfSome (bound_of self.old) (λ _. result ≢ Err TraceFault.Memory) }
@@ -218,10 +235,13 @@ impl Feed {
         requires feeds { (wanted : Wanted) × (limits : Limits) × (start : State) × (rows : List Row)
             × Feeds W.told wanted limits start (W.state world.old) self.old rows }
         // What is handed out follows what was handed out before, since any state that the feed has started from.
-        ensures gives { IfOk result (λ next. (wanted : Wanted) (limits : Limits) (start : State) (rows : List Row) →
+        ensures gives { IfOk result (λ next.
+            (wanted : Wanted) (limits : Limits) (start : State) (rows : List Row) →
             Feeds W.told wanted limits start (W.state world.old) self.old rows →
-            Gives W.told wanted limits start (W.state world.new) next (bound_of self.old) self.new rows) }
-        ensures unread { IfErr result (λ fault. (wanted : Wanted) (limits : Limits) (start : State) (rows : List Row) →
+            Gives W.told wanted limits start (W.state world.new) next
+            (bound_of self.old) self.new rows) }
+        ensures unread { IfErr result (λ fault.
+            (wanted : Wanted) (limits : Limits) (start : State) (rows : List Row) →
             Feeds W.told wanted limits start (W.state world.old) self.old rows →
             IsUnread W.told wanted limits start (W.state world.new) fault) }
         // Once the bound clocks were handed out no memory is wanted.

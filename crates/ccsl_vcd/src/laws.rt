@@ -26,22 +26,28 @@ pub fn decided_first()
 /// What is spelled by the grammar of a body is read without a fault, with the changes that its items make. What is read
 /// without a fault up to a place where a file may end is spelled so.
 pub fn body_grammar()
-    ensures read { (w : Wanted) (l : Limits) (ds : List Declaration) (bs : List Bound) (cs : List Change) (now : ℕ)
+    ensures read { (w : Wanted) (l : Limits) (ds : List Declaration) (bs : List Bound)
+        (cs : List Change) (now : ℕ)
         (items : List Item) → IsBody ds now items →
         fold (next w l) (body_story cs now ds bs) (map word (items_tokens items))
         ≡ body_story (cs ++ changes_of now items) (time_after now items) ds bs }
-    ensures spelled { (w : Wanted) (l : Limits) (ds : List Declaration) (bs : List Bound) (cs : List Change) (now : ℕ)
-        (tokens : List Token) → EndsWell (fold (next w l) (body_story cs now ds bs) (map word tokens)) →
+    ensures spelled { (w : Wanted) (l : Limits) (ds : List Declaration) (bs : List Bound)
+        (cs : List Change) (now : ℕ)
+        (tokens : List Token) →
+        EndsWell (fold (next w l) (body_story cs now ds bs) (map word tokens)) →
         (items : List Item) × IsBody ds now items × (tokens ≡ items_tokens items) }
 {}
 
 /// What is spelled by the grammar of a header is read into a body, with the declarations of its commands, or to the
 /// fault of their binding. What is read into a body begins with a header of the grammar.
 pub fn header_grammar()
-    ensures read { (w : Wanted) (l : Limits) (commands : List Command) (last : Command) (bound : List Bound) →
+    ensures read { (w : Wanted) (l : Limits) (commands : List Command)
+        (last : Command) (bound : List Bound) →
         IsHeader l commands last → bind w (declarations 0 commands) ≡ Ok bound →
-        story w l (map word (header_tokens commands last)) ≡ body_story [] 0 (declarations 0 commands) bound }
-    ensures refused { (w : Wanted) (l : Limits) (commands : List Command) (last : Command) (f : VcdFault) →
+        story w l (map word (header_tokens commands last))
+        ≡ body_story [] 0 (declarations 0 commands) bound }
+    ensures refused { (w : Wanted) (l : Limits) (commands : List Command)
+        (last : Command) (f : VcdFault) →
         IsHeader l commands last → bind w (declarations 0 commands) ≡ Err f →
         (story w l (map word (header_tokens commands last))).fault ≡ Some f }
     ensures spelled { (w : Wanted) (l : Limits) (tokens : List Token) (b : Body) →
@@ -53,8 +59,10 @@ pub fn header_grammar()
 pub fn file_grammar()
     ensures read { (w : Wanted) (l : Limits) (file : List ℕ) (t : IsTrace w l file) →
         reading w l file
-        ≡ body_story (changes_of 0 t.items) (time_after 0 t.items) (declarations 0 t.commands) t.bound }
-    ensures spelled { (w : Wanted) (l : Limits) (file : List ℕ) → IsRead w l file → IsTrace w l file }
+        ≡ body_story (changes_of 0 t.items) (time_after 0 t.items)
+        (declarations 0 t.commands) t.bound }
+    ensures spelled { (w : Wanted) (l : Limits) (file : List ℕ) →
+        IsRead w l file → IsTrace w l file }
 {}
 
 /// A byte completes at most one row, and so does the end of a file.
@@ -69,7 +77,8 @@ pub fn rows_come_one_by_one()
 /// to bind.
 pub fn faults_name_clocks()
     ensures unbound { (w : Wanted) (l : Limits) (file : List ℕ) (clock : ℕ) →
-        (reading w l file).fault ≡ Some (Unbound clock) → clock < length w.names × clock < w.declared }
+        (reading w l file).fault ≡ Some (Unbound clock) →
+        clock < length w.names × clock < w.declared }
     ensures ambiguous { (w : Wanted) (l : Limits) (file : List ℕ) (clock : ℕ) →
         (reading w l file).fault ≡ Some (Ambiguous clock) → clock < length w.names }
 {}

@@ -62,7 +62,8 @@ fn feed_all(reader: &mut Reader, block: &mut Block, piece: &[u8]) -> Result<(), 
     requires room { length block.old.rows < block.old.room }
     requires stands { (wanted : Wanted) × (bytes : List ℕ) × StandsFor wanted reader.old bytes }
     ensures room { OnOk result (length block.new.rows < block.new.room) }
-    ensures stands { OnOk result ((wanted : Wanted) × (bytes : List ℕ) × StandsFor wanted reader.new bytes) }
+    ensures stands { OnOk result ((wanted : Wanted) × (bytes : List ℕ)
+        × StandsFor wanted reader.new bytes) }
 {
     let mut rest = piece;
     while !rest.is_empty() {

@@ -14,6 +14,8 @@ pub fn longest_runs()
 
 /// What bytes settle comes first in what more bytes settle, and in what is said of a whole file that begins with them.
 pub fn settled_stays()
-    ensures further { (bytes more : List ℕ) → (rest : List Heard) × (settled (bytes ++ more) ≡ settled bytes ++ rest) }
-    ensures whole { (bytes more : List ℕ) → (rest : List Heard) × (heard (bytes ++ more) ≡ settled bytes ++ rest) }
+    ensures further { (bytes more : List ℕ) →
+        (rest : List Heard) × (settled (bytes ++ more) ≡ settled bytes ++ rest) }
+    ensures whole { (bytes more : List ℕ) →
+        (rest : List Heard) × (heard (bytes ++ more) ≡ settled bytes ++ rest) }
 {}

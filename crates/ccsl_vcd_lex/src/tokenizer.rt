@@ -83,7 +83,8 @@ impl Tokenizer {
         requires ordered { start ≤ end }
         requires within { end ≤ length piece.now }
         requires room { length self.old.open_text + (end - start) ≤ MAX_TOKEN_BYTES }
-        ensures { self.new ≡ record self.old { open_text = self.old.open_text ++ slice_range piece.now start end } }
+        ensures { self.new ≡ record
+            self.old { open_text = self.old.open_text ++ slice_range piece.now start end } }
     {
         copy_part(
             self.current.as_mut_slice(),
@@ -161,7 +162,8 @@ impl Tokenizer {
     /// Takes the next byte, and says which token it ends. Once a token was too long every call says so again.
     pub fn feed(&mut self, byte: u8) -> Result<Option<Span>, TokenTooLong>
         requires { (bytes : List ℕ) × StandsFor self.old bytes × (length bytes + 1 < 2 ^ 64) }
-        ensures stands { (bytes : List ℕ) → StandsFor self.old bytes → StandsFor self.new (bytes ++ byte ∷ []) }
+        ensures stands { (bytes : List ℕ) → StandsFor self.old bytes →
+            StandsFor self.new (bytes ++ byte ∷ []) }
 
         ensures settled { IfOk result (λ found. (bytes : List ℕ) → StandsFor self.old bytes →
             settled (bytes ++ byte ∷ []) ≡ settled bytes ++ named found self.new.last) }
@@ -173,9 +175,11 @@ impl Tokenizer {
 
         ensures long { IfErr result (λ e. (bytes : List ℕ) → StandsFor self.old bytes →
             first_long (tokens (bytes ++ byte ∷ [])) ≡ Some e.at) }
-        ensures broke { IfErr result (λ e. (bytes : List ℕ) → StandsFor self.old bytes → first_long (tokens bytes) ≡ None →
+        ensures broke { IfErr result (λ e. (bytes : List ℕ) → StandsFor self.old bytes →
+            first_long (tokens bytes) ≡ None →
             settled (bytes ++ byte ∷ []) ≡ settled bytes ++ too_long e.at ∷ []) }
-        ensures again { (bytes : List ℕ) (at : ℕ) → StandsFor self.old bytes → first_long (tokens bytes) ≡ Some at →
+        ensures again { (bytes : List ℕ) (at : ℕ) → StandsFor self.old bytes →
+            first_long (tokens bytes) ≡ Some at →
             result ≡ Err (record { at = at }) }
     {
         if self.failed {
@@ -197,7 +201,8 @@ impl Tokenizer {
 
     /// Takes the bytes of a piece up to the first by which a token ends, or all of them, as `feed` takes one.
     pub fn feed_run(&mut self, piece: &[u8]) -> Result<Fed, TokenTooLong>
-        requires { (bytes : List ℕ) × StandsFor self.old bytes × (length bytes + length piece.now < 2 ^ 64) }
+        requires { (bytes : List ℕ) × StandsFor self.old bytes
+            × (length bytes + length piece.now < 2 ^ 64) }
         ensures within { IfOk result (λ fed. fed.bytes ≤ length piece.now) }
         ensures moves { IfOk result (λ fed. 0 < length piece.now → 0 < fed.bytes) }
         ensures stops { IfOk result (λ fed. fed.bytes < length piece.now → IsSome fed.ended) }
@@ -205,8 +210,10 @@ impl Tokenizer {
         ensures stands { IfOk result (λ fed. (bytes : List ℕ) → StandsFor self.old bytes →
             StandsFor self.new (bytes ++ take fed.bytes piece.now)) }
         ensures settled { IfOk result (λ fed. (bytes : List ℕ) → StandsFor self.old bytes →
-            settled (bytes ++ take fed.bytes piece.now) ≡ settled bytes ++ named fed.ended self.new.last) }
-        ensures by_last { IfOk result (λ fed. OnSome fed.ended ((bytes : List ℕ) → StandsFor self.old bytes →
+            settled (bytes ++ take fed.bytes piece.now)
+            ≡ settled bytes ++ named fed.ended self.new.last) }
+        ensures by_last { IfOk result (λ fed.
+            OnSome fed.ended ((bytes : List ℕ) → StandsFor self.old bytes →
             settled (bytes ++ take (fed.bytes - 1) piece.now) ≡ settled bytes)) }
         ensures span { IfOk result (λ fed. Spans fed.ended self.new.last) }
         ensures keeps { MatchResult result (λ fed. IfNone fed.ended (self.new.last ≡ self.old.last))
@@ -214,12 +221,15 @@ impl Tokenizer {
         ensures short { IfOk result (λ fed. (bytes : List ℕ) → StandsFor self.old bytes →
             first_long (tokens (bytes ++ take fed.bytes piece.now)) ≡ None) }
 
-        ensures still { IfErr result (λ _. (bytes : List ℕ) → StandsFor self.old bytes → StandsFor self.new (bytes ++ piece.now)) }
+        ensures still { IfErr result (λ _. (bytes : List ℕ) → StandsFor self.old bytes →
+            StandsFor self.new (bytes ++ piece.now)) }
         ensures long { IfErr result (λ e. (bytes : List ℕ) → StandsFor self.old bytes →
             first_long (tokens (bytes ++ piece.now)) ≡ Some e.at) }
-        ensures broke { IfErr result (λ e. (bytes : List ℕ) → StandsFor self.old bytes → first_long (tokens bytes) ≡ None →
+        ensures broke { IfErr result (λ e. (bytes : List ℕ) → StandsFor self.old bytes →
+            first_long (tokens bytes) ≡ None →
             BreaksWithin bytes piece.now e.at) }
-        ensures again { (bytes : List ℕ) (at : ℕ) → StandsFor self.old bytes → first_long (tokens bytes) ≡ Some at →
+        ensures again { (bytes : List ℕ) (at : ℕ) → StandsFor self.old bytes →
+            first_long (tokens bytes) ≡ Some at →
             result ≡ Err (record { at = at }) }
     {
         if self.failed {
@@ -245,7 +255,8 @@ impl Tokenizer {
 
     /// Ends the token that is open, if there is one, at the end of the file. After it only `token` is called.
     pub fn finish(&mut self) -> Option<Span>
-        requires { (bytes : List ℕ) × StandsFor self.old bytes × (first_long (tokens bytes) ≡ None) }
+        requires { (bytes : List ℕ) × StandsFor self.old bytes
+            × (first_long (tokens bytes) ≡ None) }
         ensures all { (bytes : List ℕ) → StandsFor self.old bytes →
             heard bytes ≡ settled bytes ++ named result self.new.last }
         ensures span { Spans result self.new.last }

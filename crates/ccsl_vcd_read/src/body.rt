@@ -41,7 +41,8 @@ impl Body {
     #[inline(always)]
     fn time(&mut self, at: u64, time: u64, out: &mut Block) -> Result<(), VcdFault>
         requires { length out.old.rows < out.old.room }
-        ensures said { Says (time_says self.old at time) result self.old self.new out.old.rows out.new.rows }
+        ensures said { Says (time_says self.old at time) result self.old self.new
+            out.old.rows out.new.rows }
         ensures room { out.new.room ≡ out.old.room }
     {
         if time < self.present {
@@ -125,7 +126,8 @@ impl Body {
     #[inline(always)]
     fn say(&mut self, at: u64, word: Word, code: &[u8], out: &mut Block) -> Result<(), VcdFault>
         requires { length out.old.rows < out.old.room }
-        ensures said { Says (word_says self.old at (meant word code.now)) result self.old self.new out.old.rows out.new.rows }
+        ensures said { Says (word_says self.old at (meant word code.now)) result self.old self.new
+            out.old.rows out.new.rows }
         ensures room { out.new.room ≡ out.old.room }
     {
         match word {
@@ -147,7 +149,8 @@ impl Body {
     #[inline(always)]
     pub(crate) fn hear(&mut self, at: u64, text: &[u8], out: &mut Block) -> Result<(), VcdFault>
         requires { length out.old.rows < out.old.room }
-        ensures said { Says (hear_of self.old at text.now) result self.old self.new out.old.rows out.new.rows }
+        ensures said { Says (hear_of self.old at text.now) result self.old self.new
+            out.old.rows out.new.rows }
         ensures room { out.new.room ≡ out.old.room }
     {
         match self.amid {

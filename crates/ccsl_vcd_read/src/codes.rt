@@ -57,7 +57,8 @@ impl Codes {
     /// The number of the code of a place, if it was found before.
     #[inline(always)]
     pub(crate) fn known(&self, place: usize) -> Option<u32>
-        ensures number { IfSome result (λ n. (code : List ℕ) → place ≡ place_of code → number_of code self.now.codes ≡ Some n) }
+        ensures number { IfSome result (λ n. (code : List ℕ) → place ≡ place_of code →
+            number_of code self.now.codes ≡ Some n) }
         ensures below { OnSome result (place < SHORT) }
     {
         if place >= SHORT || place >= self.table.len() {
@@ -69,7 +70,8 @@ impl Codes {
 
     // A code of that place was found.
     fn put(&mut self, place: usize, number: u32)
-        requires { (code : List ℕ) × (place ≡ place_of code) × (number_of code self.old.codes ≡ Some number) }
+        requires { (code : List ℕ) × (place ≡ place_of code)
+            × (number_of code self.old.codes ≡ Some number) }
         ensures { self.new ≡ self.old }
     {
         if place < SHORT && number < u32::MAX {

@@ -129,8 +129,10 @@ impl Heading {
 
     // The end of a whole declaration.
     fn declare(&mut self) -> Result<(), VcdFault>
-        requires { (wanted : Wanted) × (ds : List Declaration) × StandsFor wanted self.old.binder ds × (length ds < 4294967295) × (self.old.vars ≡ length ds) }
-        ensures declared { IfOk result (λ _. (wanted : Wanted) (ds : List Declaration) → StandsFor wanted self.old.binder ds →
+        requires { (wanted : Wanted) × (ds : List Declaration) × StandsFor wanted self.old.binder ds
+            × (length ds < 4294967295) × (self.old.vars ≡ length ds) }
+        ensures declared { IfOk result (λ _. (wanted : Wanted) (ds : List Declaration) →
+            StandsFor wanted self.old.binder ds →
             StandsFor wanted self.new.binder (ds ++ declared_in self.old ∷ [])) }
         ensures kept { IfOk result (λ _. self.new ≡ record self.old {
           binder = self.new.binder;
@@ -155,9 +157,13 @@ impl Heading {
     fn end_command(&mut self, limits: Limits, at: u64) -> Result<bool, VcdFault>
         requires stands { (wanted : Wanted) × (st : Story) × HeadShows wanted limits self.old st }
         requires inside { self.old.command ≢ Between }
-        ensures goes { IfOk result (λ over. (wanted : Wanted) (st : Story) (text : List ℕ) → HeadShows wanted limits self.old st → header_word text ≡ end_command →
-            HeadGoes over wanted limits self.new st (next wanted limits st (word (token at text)))) }
-        ensures refuses { IfErr result (λ f. Caused f ((wanted : Wanted) (st : Story) (text : List ℕ) → HeadShows wanted limits self.old st → header_word text ≡ end_command →
+        ensures goes { IfOk result (λ over. (wanted : Wanted) (st : Story) (text : List ℕ) →
+            HeadShows wanted limits self.old st → header_word text ≡ end_command →
+            HeadGoes over wanted limits self.new st
+            (next wanted limits st (word (token at text)))) }
+        ensures refuses { IfErr result (λ f.
+            Caused f ((wanted : Wanted) (st : Story) (text : List ℕ) →
+            HeadShows wanted limits self.old st → header_word text ≡ end_command →
             Refuses f st (next wanted limits st (word (token at text))))) }
     {
         match self.command {
@@ -176,9 +182,12 @@ impl Heading {
     /// A token that ended, at a place, and whether it ends the header.
     pub(crate) fn hear(&mut self, limits: Limits, at: u64, text: &[u8]) -> Result<bool, VcdFault>
         requires { (wanted : Wanted) × (st : Story) × HeadShows wanted limits self.old st }
-        ensures goes { IfOk result (λ over. (wanted : Wanted) (st : Story) → HeadShows wanted limits self.old st →
-            HeadGoes over wanted limits self.new st (next wanted limits st (word (token at text.now)))) }
-        ensures refuses { IfErr result (λ f. Caused f ((wanted : Wanted) (st : Story) → HeadShows wanted limits self.old st →
+        ensures goes { IfOk result (λ over. (wanted : Wanted) (st : Story) →
+            HeadShows wanted limits self.old st →
+            HeadGoes over wanted limits self.new st
+            (next wanted limits st (word (token at text.now)))) }
+        ensures refuses { IfErr result (λ f.
+            Caused f ((wanted : Wanted) (st : Story) → HeadShows wanted limits self.old st →
             Refuses f st (next wanted limits st (word (token at text.now))))) }
     {
         match self.command {

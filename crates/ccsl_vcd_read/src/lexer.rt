@@ -39,17 +39,22 @@ impl Lexer {
 
     /// Takes the bytes of a piece up to the first by which a token ends, or all of them.
     pub(crate) fn feed_run(&mut self, piece: &[u8]) -> Result<Fed, TokenTooLong>
-        requires { (bytes : List ℕ) × Lexes self.old bytes × (first_long (tokens bytes) ≡ None) × (length bytes + length piece.now < 2 ^ 64) }
+        requires { (bytes : List ℕ) × Lexes self.old bytes × (first_long (tokens bytes) ≡ None)
+            × (length bytes + length piece.now < 2 ^ 64) }
         ensures within { IfOk result (λ fed. fed.bytes ≤ length piece.now) }
         ensures moves { IfOk result (λ fed. 0 < length piece.now → 0 < fed.bytes) }
-        ensures stands { IfOk result (λ fed. (bytes : List ℕ) → Lexes self.old bytes → Lexes self.new (bytes ++ take fed.bytes piece.now)) }
+        ensures stands { IfOk result (λ fed. (bytes : List ℕ) → Lexes self.old bytes →
+            Lexes self.new (bytes ++ take fed.bytes piece.now)) }
         ensures settled { IfOk result (λ fed. (bytes : List ℕ) → Lexes self.old bytes →
-            settled (bytes ++ take fed.bytes piece.now) ≡ settled bytes ++ named fed.ended self.new.inner.last) }
-        ensures by_last { IfOk result (λ fed. OnSome fed.ended ((bytes : List ℕ) → Lexes self.old bytes →
+            settled (bytes ++ take fed.bytes piece.now)
+            ≡ settled bytes ++ named fed.ended self.new.inner.last) }
+        ensures by_last { IfOk result (λ fed.
+            OnSome fed.ended ((bytes : List ℕ) → Lexes self.old bytes →
             settled (bytes ++ take (fed.bytes - 1) piece.now) ≡ settled bytes)) }
         ensures short { IfOk result (λ fed. (bytes : List ℕ) → Lexes self.old bytes →
             first_long (tokens (bytes ++ take fed.bytes piece.now)) ≡ None) }
-        ensures broke { IfErr result (λ e. (bytes : List ℕ) → Lexes self.old bytes → first_long (tokens bytes) ≡ None →
+        ensures broke { IfErr result (λ e. (bytes : List ℕ) → Lexes self.old bytes →
+            first_long (tokens bytes) ≡ None →
             BreaksWithin bytes piece.now e.at) }
     {
         let passed = self.passed;
@@ -74,16 +79,20 @@ impl Lexer {
     pub(crate) fn pass(&mut self, count: u64)
         requires fits { (bytes : List ℕ) × Lexes self.old bytes × (length bytes + count < 2 ^ 64) }
         requires nothing_open { self.old.inner.open_text ≡ [] }
-        ensures { (bytes part : List ℕ) → Lexes self.old bytes → first_long (tokens bytes) ≡ None → length part ≡ count →
-            fresh_after true (bytes ++ part) ≡ true → first_long (tokens (bytes ++ part)) ≡ None → Lexes self.new (bytes ++ part) }
+        ensures { (bytes part : List ℕ) → Lexes self.old bytes →
+            first_long (tokens bytes) ≡ None → length part ≡ count →
+            fresh_after true (bytes ++ part) ≡ true → first_long (tokens (bytes ++ part)) ≡ None →
+            Lexes self.new (bytes ++ part) }
     {
         self.passed += count;
     }
 
     /// Ends the token that is open, if there is one, at the end of the file. After it only `token` is called.
     pub(crate) fn finish(&mut self) -> Option<Span>
-        requires { (bytes : List ℕ) × Lexes self.old bytes × (first_long (tokens bytes) ≡ None) × (length bytes < 2 ^ 64) }
-        ensures all { (bytes : List ℕ) → Lexes self.old bytes → heard bytes ≡ settled bytes ++ named result self.new.inner.last }
+        requires { (bytes : List ℕ) × Lexes self.old bytes × (first_long (tokens bytes) ≡ None)
+            × (length bytes < 2 ^ 64) }
+        ensures all { (bytes : List ℕ) → Lexes self.old bytes →
+            heard bytes ≡ settled bytes ++ named result self.new.inner.last }
     {
         let passed = self.passed;
         match self.inner.finish() {

@@ -52,8 +52,10 @@ fn begin(alloc: Global, binding: Binding) -> Result<Body, VcdFault>
 /// Binds the clocks, and begins the body.
 pub(crate) fn open_body(alloc: Global, binder: Binder) -> Result<Body, VcdFault>
     requires { (wanted : Wanted) × (ds : List Declaration) × StandsFor wanted binder ds }
-    ensures opened { IfOk result (λ b. (wanted : Wanted) (ds : List Declaration) → StandsFor wanted binder ds → IsOpened wanted ds b) }
-    ensures refuses { IfErr result (λ f. Caused f ((wanted : Wanted) (ds : List Declaration) → StandsFor wanted binder ds →
+    ensures opened { IfOk result (λ b. (wanted : Wanted) (ds : List Declaration) →
+        StandsFor wanted binder ds → IsOpened wanted ds b) }
+    ensures refuses { IfErr result (λ f.
+        Caused f ((wanted : Wanted) (ds : List Declaration) → StandsFor wanted binder ds →
         bind wanted ds ≡ Err f)) }
 {
     match binder.close() {

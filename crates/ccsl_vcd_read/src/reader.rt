@@ -127,20 +127,30 @@ impl Reader {
     // The token that ended last, at a place, and whether it ends the header.
     fn hear_token(&mut self, at: u64, out: &mut Block) -> Result<bool, VcdFault>
         requires room { length out.old.rows < out.old.room }
-        requires pictures { (wanted : Wanted) × (st : Story) × Pictures wanted self.old.limits self.old.stage st }
+        requires pictures { (wanted : Wanted) × (st : Story)
+            × Pictures wanted self.old.limits self.old.stage st }
         requires rows { self.old.rows + 1 < 2 ^ 64 }
-        ensures heard { IfOk result (λ ended. (wanted : Wanted) (st : Story) → Pictures wanted self.old.limits self.old.stage st →
-            Heard wanted self.old.limits self.old.stage self.new.stage ended st (next wanted self.old.limits st (word (token at self.old.lexing.inner.last))) out.old.rows out.new.rows) }
+        ensures heard { IfOk result (λ ended. (wanted : Wanted) (st : Story) →
+            Pictures wanted self.old.limits self.old.stage st →
+            Heard wanted self.old.limits self.old.stage self.new.stage ended st
+            (next wanted self.old.limits st (word (token at self.old.lexing.inner.last)))
+            out.old.rows out.new.rows) }
         ensures counts { OnOk result (self.new ≡ record self.old {
           stage = self.new.stage;
           rows = self.old.rows + (length out.new.rows - length out.old.rows);
         }) }
-        ensures left { OnOk result (length out.new.rows + length (row_left self.new.stage) ≤ length out.old.rows + 1) }
-        ensures refuses { IfErr result (λ f. Caused f ((wanted : Wanted) (st : Story) → Pictures wanted self.old.limits self.old.stage st →
-            Refuses f st (next wanted self.old.limits st (word (token at self.old.lexing.inner.last))))) }
-        ensures stops { IfErr result (λ f. self.new ≡ record self.old { stage = self.new.stage; fault = Some f }) }
+        ensures left { OnOk result (length out.new.rows + length (row_left self.new.stage)
+            ≤ length out.old.rows + 1) }
+        ensures refuses { IfErr result (λ f.
+            Caused f ((wanted : Wanted) (st : Story) →
+            Pictures wanted self.old.limits self.old.stage st →
+            Refuses f st (next wanted self.old.limits st
+            (word (token at self.old.lexing.inner.last))))) }
+        ensures stops { IfErr result (λ f. self.new
+            ≡ record self.old { stage = self.new.stage; fault = Some f }) }
         ensures calm { IfErr result (λ f. is_body self.old.stage ≡ true → NotMemory f) }
-        ensures kept { OnErr result ((out.new ≡ out.old) × (shown self.new.stage ≡ shown self.old.stage)) }
+        ensures kept { OnErr result ((out.new ≡ out.old)
+            × (shown self.new.stage ≡ shown self.old.stage)) }
         ensures room { out.new.room ≡ out.old.room }
     {
         let before = out.len();
@@ -238,7 +248,8 @@ impl Reader {
     /// them. Once there was a fault every call answers it.
     pub fn feed(&mut self, piece: &[u8], out: &mut Block) -> Result<Taken, VcdFault>
         requires room { length out.old.rows < out.old.room }
-        requires stands { IfNone self.old.fault ((wanted : Wanted) × (bytes : List ℕ) × StandsFor wanted self.old bytes) }
+        requires stands { IfNone self.old.fault
+            ((wanted : Wanted) × (bytes : List ℕ) × StandsFor wanted self.old bytes) }
         ensures limits { self.new.limits ≡ self.old.limits }
         ensures room { out.new.room ≡ out.old.room }
         ensures within { IfOk result (λ t. t.bytes ≤ length piece.now) }
@@ -247,34 +258,48 @@ impl Reader {
         ensures stops { IfOk result (λ t. t.bytes < length piece.now →
             (length out.new.rows ≡ out.new.room) ⊎ (t.header_ended ≡ true)) }
         // Where the block is full, the last byte that was taken filled it.
-        ensures filled { IfOk result (λ t. FilledByLast self.old piece.now t.bytes out.old out.new) }
+        ensures filled { IfOk result
+            (λ t. FilledByLast self.old piece.now t.bytes out.old out.new) }
 
-        ensures stands { IfOk result (λ t. (wanted : Wanted) (bytes : List ℕ) → StandsFor wanted self.old bytes →
+        ensures stands { IfOk result (λ t. (wanted : Wanted) (bytes : List ℕ) →
+            StandsFor wanted self.old bytes →
             StandsFor wanted self.new (bytes ++ take t.bytes piece.now)) }
         ensures runs { OnOk result ((self.new.fault ≡ None) × (self.old.fault ≡ None)) }
         // The rows that were pushed are those that the bytes taken complete.
-        ensures pushes { IfOk result (λ t. (wanted : Wanted) (bytes : List ℕ) → StandsFor wanted self.old bytes →
-            Pushes (done wanted self.old.limits bytes) (done wanted self.old.limits (bytes ++ take t.bytes piece.now)) out.old.rows out.new.rows) }
-        ensures header { IfOk result (λ t. (wanted : Wanted) (bytes : List ℕ) → StandsFor wanted self.old bytes →
+        ensures pushes { IfOk result (λ t. (wanted : Wanted) (bytes : List ℕ) →
+            StandsFor wanted self.old bytes →
+            Pushes (done wanted self.old.limits bytes)
+            (done wanted self.old.limits (bytes ++ take t.bytes piece.now))
+            out.old.rows out.new.rows) }
+        ensures header { IfOk result (λ t. (wanted : Wanted) (bytes : List ℕ) →
+            StandsFor wanted self.old bytes →
             HeaderSo t.header_ended wanted self.old.limits bytes piece.now t.bytes) }
 
         // A fault is one that some bytes from the front of the piece decide, unless it is want of memory.
-        ensures decides { IfErr result (λ f. IfNone self.old.fault (Caused f ((wanted : Wanted) (bytes : List ℕ) → StandsFor wanted self.old bytes →
+        ensures decides { IfErr result (λ f.
+            IfNone self.old.fault (Caused f ((wanted : Wanted) (bytes : List ℕ) →
+            StandsFor wanted self.old bytes →
             Decides wanted self.old.limits bytes piece.now f out.old.rows out.new.rows))) }
         // It is the fault of every file that begins with the bytes so far and this piece.
-        ensures refuses { IfErr result (λ f. Caused f ((wanted : Wanted) (bytes more : List ℕ) → StandsFor wanted self.old bytes →
+        ensures refuses { IfErr result (λ f.
+            Caused f ((wanted : Wanted) (bytes more : List ℕ) → StandsFor wanted self.old bytes →
             (reading wanted self.old.limits (bytes ++ (piece.now ++ more))).fault ≡ Some f)) }
         // Once the header has ended it is no want of memory.
-        ensures calm { IfErr result (λ f. IfNone self.old.fault ((wanted : Wanted) (bytes : List ℕ) → StandsFor wanted self.old bytes →
+        ensures calm { IfErr result
+            (λ f. IfNone self.old.fault ((wanted : Wanted) (bytes : List ℕ) →
+            StandsFor wanted self.old bytes →
             IsCalm wanted self.old.limits bytes f)) }
         ensures faulty { IfErr result (λ f. self.new.fault ≡ Some f) }
         // Where memory is wanted no row was pushed, and no clock is bound.
         ensures unpushed { IfErr result (λ f. IsMemory f → out.new ≡ out.old) }
-        ensures unbound { IfErr result (λ f. IsMemory f → IfNone self.old.fault (shows self.new ≡ None)) }
-        ensures still { OnErr result ((wanted : Wanted) (bytes : List ℕ) → StandsFor wanted self.old bytes →
+        ensures unbound { IfErr result (λ f. IsMemory f →
+            IfNone self.old.fault (shows self.new ≡ None)) }
+        ensures still { OnErr result ((wanted : Wanted) (bytes : List ℕ) →
+            StandsFor wanted self.old bytes →
             StandsFor wanted self.new (bytes ++ piece.now)) }
         // After a fault it answers that fault, and does nothing.
-        ensures sticks { IfSome self.old.fault (λ f. (result ≡ Err f) × (self.new ≡ self.old) × (out.new ≡ out.old)) }
+        ensures sticks { IfSome self.old.fault
+            (λ f. (result ≡ Err f) × (self.new ≡ self.old) × (out.new ≡ out.old)) }
     {
         if let Some(fault) = self.fault {
             return Err(fault);
@@ -305,15 +330,19 @@ impl Reader {
         requires ready { CanTake self.old out.old }
         requires rows { self.old.rows + 1 < 2 ^ 64 }
         requires fits { self.old.taken < 2 ^ 64 }
-        ensures ends { OnOk result ((wanted : Wanted) (bytes : List ℕ) → StandsFor wanted self.old bytes →
+        ensures ends { OnOk result ((wanted : Wanted) (bytes : List ℕ) →
+            StandsFor wanted self.old bytes →
             AtEnd wanted self.old self.new bytes out.old.rows out.new.rows) }
-        ensures left { OnOk result (length out.new.rows + length (row_left self.new.stage) ≤ length out.old.rows + 1) }
+        ensures left { OnOk result (length out.new.rows + length (row_left self.new.stage)
+            ≤ length out.old.rows + 1) }
         ensures few { OnOk result (self.new.rows + length (row_left self.new.stage) < 2 ^ 64) }
-        ensures refuses { IfErr result (λ f. Caused f ((wanted : Wanted) (bytes : List ℕ) → StandsFor wanted self.old bytes →
+        ensures refuses { IfErr result (λ f.
+            Caused f ((wanted : Wanted) (bytes : List ℕ) → StandsFor wanted self.old bytes →
             Refused wanted self.old bytes f)) }
         ensures stops { IfErr result (λ f. self.new.fault ≡ Some f) }
         ensures calm { IfErr result (λ f. is_body self.old.stage ≡ true → NotMemory f) }
-        ensures kept { OnErr result ((out.new ≡ out.old) × (shown self.new.stage ≡ shown self.old.stage)) }
+        ensures kept { OnErr result ((out.new ≡ out.old)
+            × (shown self.new.stage ≡ shown self.old.stage)) }
         ensures room { out.new.room ≡ out.old.room }
     {
         match self.lexer.finish() {
@@ -328,31 +357,45 @@ impl Reader {
     /// Ends the trace: its last token has ended, and the row of the present time is complete. After an Ok no other call is made.
     pub fn finish(&mut self, out: &mut Block) -> Result<Counts, VcdFault>
         requires room { length out.old.rows < out.old.room }
-        requires stands { IfNone self.old.fault ((wanted : Wanted) × (bytes : List ℕ) × StandsFor wanted self.old bytes) }
+        requires stands { IfNone self.old.fault
+            ((wanted : Wanted) × (bytes : List ℕ) × StandsFor wanted self.old bytes) }
         ensures room { out.new.room ≡ out.old.room }
-        ensures accepts { OnOk result ((wanted : Wanted) (bytes : List ℕ) → StandsFor wanted self.old bytes →
+        ensures accepts { OnOk result ((wanted : Wanted) (bytes : List ℕ) →
+            StandsFor wanted self.old bytes →
             (reading wanted self.old.limits bytes).fault ≡ None) }
-        ensures pushes { OnOk result ((wanted : Wanted) (bytes : List ℕ) → StandsFor wanted self.old bytes →
-            Pushes (done wanted self.old.limits bytes) (recorded wanted self.old.limits bytes) out.old.rows out.new.rows) }
-        ensures counts { IfOk result (λ n. (wanted : Wanted) (bytes : List ℕ) → StandsFor wanted self.old bytes →
+        ensures pushes { OnOk result ((wanted : Wanted) (bytes : List ℕ) →
+            StandsFor wanted self.old bytes →
+            Pushes (done wanted self.old.limits bytes) (recorded wanted self.old.limits bytes)
+            out.old.rows out.new.rows) }
+        ensures counts { IfOk result (λ n. (wanted : Wanted) (bytes : List ℕ) →
+            StandsFor wanted self.old bytes →
             AreCounts wanted self.old.limits bytes n.rows n.bytes) }
         // It shows the bound clocks, also where the end of the trace ended the header.
-        ensures shows { OnOk result ((wanted : Wanted) (bytes : List ℕ) → StandsFor wanted self.old bytes →
+        ensures shows { OnOk result ((wanted : Wanted) (bytes : List ℕ) →
+            StandsFor wanted self.old bytes →
             shows self.new ≡ shown_at (reading wanted self.old.limits bytes).place) }
 
-        ensures refuses { IfErr result (λ f. Caused f ((wanted : Wanted) (bytes : List ℕ) → StandsFor wanted self.old bytes →
+        ensures refuses { IfErr result (λ f.
+            Caused f ((wanted : Wanted) (bytes : List ℕ) → StandsFor wanted self.old bytes →
             (reading wanted self.old.limits bytes).fault ≡ Some f)) }
         // The rows that were pushed are those that the last token completes.
-        ensures completes { IfErr result (λ f. IfNone self.old.fault (Caused f ((wanted : Wanted) (bytes : List ℕ) → StandsFor wanted self.old bytes →
-            Pushes (done wanted self.old.limits bytes) (complete (reading wanted self.old.limits bytes)) out.old.rows out.new.rows))) }
+        ensures completes { IfErr result (λ f.
+            IfNone self.old.fault (Caused f ((wanted : Wanted) (bytes : List ℕ) →
+            StandsFor wanted self.old bytes →
+            Pushes (done wanted self.old.limits bytes)
+            (complete (reading wanted self.old.limits bytes)) out.old.rows out.new.rows))) }
         // Once the header has ended it is no want of memory.
-        ensures calm { IfErr result (λ f. IfNone self.old.fault ((wanted : Wanted) (bytes : List ℕ) → StandsFor wanted self.old bytes →
+        ensures calm { IfErr result
+            (λ f. IfNone self.old.fault ((wanted : Wanted) (bytes : List ℕ) →
+            StandsFor wanted self.old bytes →
             IsCalm wanted self.old.limits bytes f)) }
         ensures faulty { IfErr result (λ f. self.new.fault ≡ Some f) }
         // Where memory is wanted no row was pushed, and no clock is bound.
         ensures unpushed { IfErr result (λ f. IsMemory f → out.new ≡ out.old) }
-        ensures unbound { IfErr result (λ f. IsMemory f → IfNone self.old.fault (shows self.new ≡ None)) }
-        ensures sticks { IfSome self.old.fault (λ f. (result ≡ Err f) × (self.new ≡ self.old) × (out.new ≡ out.old)) }
+        ensures unbound { IfErr result (λ f. IsMemory f →
+            IfNone self.old.fault (shows self.new ≡ None)) }
+        ensures sticks { IfSome self.old.fault
+            (λ f. (result ≡ Err f) × (self.new ≡ self.old) × (out.new ≡ out.old)) }
     {
         if let Some(fault) = self.fault {
             return Err(fault);
@@ -377,9 +420,11 @@ impl Reader {
     /// The bound clocks, once the header has ended and bound them.
     pub fn bound(&self) -> Option<&ClockSet>
         ensures shows { option_copied result ≡ shows self.now }
-        ensures runs { IfNone self.now.fault ((wanted : Wanted) (bytes : List ℕ) → StandsFor wanted self.now bytes →
+        ensures runs { IfNone self.now.fault ((wanted : Wanted) (bytes : List ℕ) →
+            StandsFor wanted self.now bytes →
             option_copied result ≡ shown_at (so_far wanted self.now.limits bytes).place) }
-        ensures stopped { IfSome self.now.fault (λ f. Caused f ((wanted : Wanted) (bytes : List ℕ) → StandsFor wanted self.now bytes →
+        ensures stopped { IfSome self.now.fault
+            (λ f. Caused f ((wanted : Wanted) (bytes : List ℕ) → StandsFor wanted self.now bytes →
             option_copied result ≡ shown_at (so_far wanted self.now.limits bytes).place)) }
     {
         bound(&self.stage)

@@ -27,10 +27,13 @@ pub(crate) enum Stage {
 
 // The header has ended: binds the clocks.
 fn begin_body(stage: &mut Stage, alloc: Global) -> Result<(), VcdFault>
-    requires { (wanted : Wanted) × (st : Story) × (after : Story) × IsClosing wanted stage.old st after }
-    ensures goes { IfOk result (λ _. (wanted : Wanted) (st next : Story) → IsClosing wanted stage.old st next →
+    requires { (wanted : Wanted) × (st : Story) × (after : Story)
+        × IsClosing wanted stage.old st after }
+    ensures goes { IfOk result (λ _. (wanted : Wanted) (st next : Story) →
+        IsClosing wanted stage.old st next →
         Begins stage.new st next) }
-    ensures refuses { IfErr result (λ f. Caused f ((wanted : Wanted) (st next : Story) → IsClosing wanted stage.old st next →
+    ensures refuses { IfErr result (λ f.
+        Caused f ((wanted : Wanted) (st next : Story) → IsClosing wanted stage.old st next →
         Refuses f st next)) }
     ensures none { OnErr result (shown stage.new ≡ None) }
 {
@@ -57,10 +60,14 @@ pub(crate) fn hear(
 ) -> Result<bool, VcdFault>
     requires room { length out.old.rows < out.old.room }
     requires pictures { (wanted : Wanted) × (st : Story) × Pictures wanted limits stage.old st }
-    ensures heard { IfOk result (λ ended. (wanted : Wanted) (st : Story) → Pictures wanted limits stage.old st →
-        Heard wanted limits stage.old stage.new ended st (next wanted limits st (word (token at text.now))) out.old.rows out.new.rows) }
-    ensures left { IfOk result (λ _. length out.new.rows + length (row_left stage.new) ≤ length out.old.rows + 1) }
-    ensures refuses { IfErr result (λ f. Caused f ((wanted : Wanted) (st : Story) → Pictures wanted limits stage.old st →
+    ensures heard { IfOk result (λ ended. (wanted : Wanted) (st : Story) →
+        Pictures wanted limits stage.old st →
+        Heard wanted limits stage.old stage.new ended st
+        (next wanted limits st (word (token at text.now))) out.old.rows out.new.rows) }
+    ensures left { IfOk result (λ _. length out.new.rows + length (row_left stage.new)
+        ≤ length out.old.rows + 1) }
+    ensures refuses { IfErr result (λ f.
+        Caused f ((wanted : Wanted) (st : Story) → Pictures wanted limits stage.old st →
         Refuses f st (next wanted limits st (word (token at text.now))))) }
     ensures kept { OnErr result ((out.new ≡ out.old) × (shown stage.new ≡ shown stage.old)) }
     ensures calm { IfErr result (λ f. is_body stage.old ≡ true → NotMemory f) }

@@ -86,7 +86,8 @@ impl Users {
     /// One more clock.
     pub(crate) fn add(&mut self, slot: Slot) -> Result<(), Memory>
         ensures added { IfOk result (λ _. IsMore self.old self.new slot) }
-        ensures same { OnErr result ((n : ℕ) → user_in (slice_get self.new n) ≡ user_in (slice_get self.old n)) }
+        ensures same { OnErr result ((n : ℕ) →
+            user_in (slice_get self.new n) ≡ user_in (slice_get self.old n)) }
     {
         let place = slot.code as usize;
         self.reach(place)?;

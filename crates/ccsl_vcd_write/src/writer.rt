@@ -22,7 +22,8 @@ fn put_line(line: &[u8], out: &mut Vec<u8>) -> Result<(), Memory>
 /// The line that declares a clock.
 fn put_var(clock: u32, name: &[u8], out: &mut Vec<u8>) -> Result<(), Memory>
     requires { clock < MAX_CLOCKS }
-    ensures { OnOk result (out.new.items ≡ out.old.items ++ text_of (var_line clock name.now ∷ [])) }
+    ensures { OnOk result (out.new.items
+        ≡ out.old.items ++ text_of (var_line clock name.now ∷ [])) }
 {
     out.extend_from_slice(b"$var event 1 ")?;
     out.reserve(MOST_CODE_BYTES)?;

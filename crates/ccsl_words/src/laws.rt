@@ -17,7 +17,8 @@ pub fn text_has_verdict()
 
 /// A text doesn't read as two words, has no two faults, and reads as none where it has one.
 pub fn verdict_is_unique()
-    ensures { (text : List ℕ) (v w : Result BinaryWord WordFault) → IsVerdict text v → IsVerdict text w → v ≡ w }
+    ensures { (text : List ℕ) (v w : Result BinaryWord WordFault) → IsVerdict text v →
+        IsVerdict text w → v ≡ w }
 {}
 
 /// Two words with one spelling are one.
@@ -27,7 +28,8 @@ pub fn spellings_differ()
 
 /// The spelling of a word with 1 to [`MAX_LETTERS`] letters reads as that word.
 pub fn spelling_reads_back()
-    ensures { (w : BinaryWord) → 0 < word_len w → word_len w ≤ MAX_LETTERS → read_word (spelling w) ≡ Some w }
+    ensures { (w : BinaryWord) → 0 < word_len w → word_len w ≤ MAX_LETTERS →
+        read_word (spelling w) ≡ Some w }
 {}
 
 /// The word that is computed from a text is the one whose spelling the text is.
@@ -58,11 +60,13 @@ pub fn offset_stands_for_place()
 
 /// A finite word has ended after n letters where it has no more than n.
 pub fn offset_tells_the_end()
-    ensures { (w : BinaryWord) (n : ℕ) → is_finite w ≡ true → (has_ended w (offset_at w n) ≡ true) ↔ (word_len w ≤ n) }
+    ensures { (w : BinaryWord) (n : ℕ) → is_finite w ≡ true →
+        (has_ended w (offset_at w n) ≡ true) ↔ (word_len w ≤ n) }
 {}
 
 /// The next offset doesn't pass a finite word's length, nor come to an infinite one's.
 pub fn rest_stays_within()
     ensures finite { (w : BinaryWord) (o : ℕ) → is_finite w ≡ true → rest w o ≤ word_len w }
-    ensures infinite { (w : BinaryWord) (o : ℕ) → is_finite w ≡ false → o < word_len w → rest w o < word_len w }
+    ensures infinite { (w : BinaryWord) (o : ℕ) → is_finite w ≡ false →
+        o < word_len w → rest w o < word_len w }
 {}

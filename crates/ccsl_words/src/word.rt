@@ -60,7 +60,8 @@ impl Word {
     fn with_period(alloc: Global, prefix: Vec<bool>, inside: &[u8]) -> Result<Word, WordFault>
         requires { vec_len prefix ≤ MAX_LETTERS }
         ensures word { IfOk result (λ w. Reads (digits prefix.items ++ 40 ∷ inside.now) w) }
-        ensures fault { IfErr result (λ e. e ≢ WordFault.Memory → IsFault (digits prefix.items ++ 40 ∷ inside.now) e) }
+        ensures fault { IfErr result (λ e. e ≢ WordFault.Memory →
+            IsFault (digits prefix.items ++ 40 ∷ inside.now) e) }
     {
         let period = letters_at_front(alloc, inside, MAX_LETTERS - prefix.len())?;
         let end = prefix.len() + 1 + period.len();

@@ -60,7 +60,8 @@ fn fits_clock(name: &[u8], i: u32, written: u32) -> bool
 /// Whether each name is one for its clock.
 pub fn are_named(names: &Names, written: u32) -> bool
     ensures { IsTrue result ↔
-        Each (λ i name. IsTrue (if nat_lt i written then is_name name else is_hidden name)) 0 names.now }
+        Each (λ i name. IsTrue (if nat_lt i written then is_name name else is_hidden name)) 0
+        names.now }
 {
     for i in 0..names.len() {
         if !fits_clock(names.get(i), i, written) {
