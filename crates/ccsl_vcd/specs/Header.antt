@@ -4,7 +4,6 @@ use Rattle.std.specs.Prelude.{ℕ, ◌+◌, ◌-◌, List, [], ◌∷◌, ◌++�
 use Rattle.std.specs.Prelude.{◌==◌, ◌&&◌, if◌then◌else◌, codes, bytes_eq, flat_map}
 use Rattle.std.specs.List.{list_all}
 use Rattle.ccsl_vcd_lex.specs.Tokens.{Token}
-use Rattle.ccsl_vcd_lex.specs.ShortCodes.{is_visible}
 use Rattle.ccsl_vcd.specs.declared.fault.VcdFault.{VcdFault}
 use Rattle.ccsl_vcd.specs.declared.fault.VcdFault.TheVariants as faults
 use Rattle.ccsl_vcd.specs.declared.limits.Limits.{Limits}
@@ -37,7 +36,7 @@ header_word text =
 
 -- A code has visible characters. That there are at most 32 of them is this project's profile.
 abbrev pub is_code : List ℕ → Bool
-is_code text = nat_le (length text) 32 && list_all is_visible text
+is_code text = nat_le (length text) 32 && list_all (λ b. nat_le 33 b && nat_le b 126) text
 
 -- A reference is an identifier, with a bit or a range of bits behind it. The range of a single bit, as simulators write it for a
 -- net of one bit, is taken away; all other tokens are joined.

@@ -7,7 +7,8 @@ use Rattle.std.proofs.lemmas.Grind.{common_steps}
 use Rattle.ccsl_base.proofs.Sets.{by_case}
 use Rattle.ccsl_vcd_lex.specs.Tokens.{is_white}
 use Rattle.ccsl_vcd_lex.specs.Lexing.{is_dark}
-use Rattle.ccsl_vcd_lex.specs.ShortCodes.{is_visible, SHORT, place_of, IsCode}
+use Rattle.ccsl_base.specs.Name.{is_visible}
+use Rattle.ccsl_vcd_lex.specs.ShortCodes.{SHORT, place_of, IsCode}
 
 -- a run of bytes at the front
 pub run-is : (q : ℕ → Bool) (n : ℕ) (xs : List ℕ) → list_all q (take n xs) ≡ true → n < length xs → q (get_or xs n 0) ≡ false → n ≡ prefix_len q xs

@@ -1,11 +1,9 @@
 -- The identifier codes of one to three bytes, and where they stand in a table. IEEE 1364-2005, clause 18.2.1: a code is made of
 -- the visible characters of ASCII.
-use Rattle.std.specs.Prelude.{◌≡◌, ℕ, ◌+◌, ◌-◌, ◌*◌, ◌<◌, ◌≤◌, List, [], ◌∷◌, length, take, Bool, nat_le, ◌&&◌, if◌then◌else◌}
+use Rattle.std.specs.Prelude.{◌≡◌, ℕ, ◌+◌, ◌-◌, ◌*◌, ◌<◌, ◌≤◌, List, [], ◌∷◌, length, take, ◌&&◌, if◌then◌else◌}
 use Rattle.std.specs.List.{prefix_len}
+use Rattle.ccsl_base.specs.Name.{is_visible}
 use Rattle.ccsl_vcd_lex.specs.Lexing.{is_dark}
-
-abbrev pub is_visible : ℕ → Bool
-is_visible b = nat_le 33 b && nat_le b 126
 
 -- as many places as there are codes of one to three bytes; no other has one
 abbrev pub SHORT : ℕ

@@ -3,7 +3,8 @@
 ghost use Rattle.std.specs.Prelude.{◌≡◌, ◌<◌, ◌≤◌, [], ◌∷◌, true, false, IfSome};
 ghost use Rattle.std.specs.List.{list_all};
 ghost use Rattle.ccsl_vcd_lex.specs.Tokens.{is_white};
-ghost use Rattle.ccsl_vcd_lex.specs.ShortCodes.{is_visible, place_of, IsCode};
+ghost use Rattle.ccsl_base.specs.Name.{is_visible};
+ghost use Rattle.ccsl_vcd_lex.specs.ShortCodes.{place_of, IsCode};
 
 use crate::scan::is_space;
 
