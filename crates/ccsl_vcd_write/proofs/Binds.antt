@@ -25,7 +25,7 @@ pub bound-clocks : (clock n : ℕ) → map (λ b. b.clock) (bounds clock n) ≡ 
 bound-clocks clock zero = refl
 bound-clocks clock (suc n) = ap (λ (xs : List ℕ). clock ∷ xs) (bound-clocks (clock + 1) n)
 
-others-away : (name : List ℕ) (clock : ℕ) (names : List (List ℕ)) → is_among name names ≡ false → filter (qualifies name) (declarations clock names) ≡ []
+pub others-away : (name : List ℕ) (clock : ℕ) (names : List (List ℕ)) → is_among name names ≡ false → filter (qualifies name) (declarations clock names) ≡ []
 others-away name clock [] h = refl
 others-away name clock (n ∷ names) h =
     let p = or_parts (bytes_eq name n) (is_among name names) h in

@@ -100,7 +100,7 @@ module _ (wanted : Wanted) (limits : Limits) (ds : List Declaration) (bs : List 
       ∙ ticks-story n d (cs ++ change now x ∷ []) now place xs b.1
       ∙ ap (λ (ys : List Change). body_story ys now ds bs) (append_assoc cs (change now x ∷ []) (step_changes now xs))
 
-  step-story : (n : ℕ) → Declares n → (cs : List Change) (now at k : ℕ) (xs : List ℕ) → now ≤ k → k < 2 ^ 64 → AreBelow n xs
+  pub step-story : (n : ℕ) → Declares n → (cs : List Change) (now at k : ℕ) (xs : List ℕ) → now ≤ k → k < 2 ^ 64 → AreBelow n xs
       → goes wanted limits (body_story cs now ds bs) at (all_words (step_words k xs)) ≡ body_story (cs ++ step_changes k xs) k ds bs
   step-story n d cs now at k xs l h b =
       let place : ℕ = behind at ((35 ∷ decimal k) ∷ []) in

@@ -23,7 +23,7 @@ use Rattle.ccsl_vcd_write.proofs.Stories.{goes, goes-append, at_header}
 
 -- WORDS that end no command
 
-abbrev ends_command : HeaderWord → Bool
+abbrev pub ends_command : HeaderWord → Bool
 ends_command end_command = true
 ends_command var = false
 ends_command scope = false
@@ -82,7 +82,7 @@ module _ (wanted : Wanted) (limits : Limits) where
   passes h head words t other_command e = refl
   passes h head words t plain e = refl
 
-  word-passes : (depth : ℕ) (ds : List Declaration) (head : Token) (words : List Token) (t : Token) → ends_command (header_word t.text) ≡ false
+  pub word-passes : (depth : ℕ) (ds : List Declaration) (head : Token) (words : List Token) (t : Token) → ends_command (header_word t.text) ≡ false
       → word_fits (header_word head.text) words t ≡ true
       → next wanted limits (at_header (inside head words) depth ds) (word t) ≡ at_header (inside head (words ++ t ∷ [])) depth ds
   unfolding says

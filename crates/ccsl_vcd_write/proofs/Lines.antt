@@ -65,7 +65,7 @@ own-token at [] n d = absurd (omega arith)
 own-token at (b ∷ bs) n d = one-token at b bs d
 
 -- a word and white space behind it
-one-word : (at : ℕ) (w : List ℕ) (end : ℕ) (rest : List ℕ) → is_spelled w ≡ true → is_white end ≡ true
+pub one-word : (at : ℕ) (w : List ℕ) (end : ℕ) (rest : List ℕ) → is_spelled w ≡ true → is_white end ≡ true
     → map hear (tokens_from true at (w ++ end ∷ rest)) ≡ word (token at w) ∷ map hear (tokens_from true (at + length w + 1) rest)
 one-word at w end rest h e =
     let s = spells w h in
@@ -77,11 +77,11 @@ one-word at w end rest h e =
     ∙ ap (λ (k : ℕ). hear (token at w) ∷ map hear (tokens_from true k rest)) place
     ∙ ap (λ (x : Heard). x ∷ map hear (tokens_from true (at + length w + 1) rest)) (short-word at w (omega (arith, s.short)))
 
-blank-white : is_white 32 ≡ true
+pub blank-white : is_white 32 ≡ true
 unfolding is_white
 blank-white = refl
 
-feed-white : is_white 10 ≡ true
+pub feed-white : is_white 10 ≡ true
 unfolding is_white
 feed-white = refl
 

@@ -81,7 +81,7 @@ trace_words K steps = header_words (written_names K) ++ steps_words 0 (written_p
 var-same : (clock : ℕ) (name : List ℕ) → spaced (var_words clock name) ≡ var_line clock name
 var-same clock name = sym (simp append_assoc)
 
-vars-same : (clock : ℕ) (names : List (List ℕ)) → map spaced (vars_words clock names) ≡ var_lines clock names
+pub vars-same : (clock : ℕ) (names : List (List ℕ)) → map spaced (vars_words clock names) ≡ var_lines clock names
 vars-same clock [] = refl
 vars-same clock (name ∷ names) = ap₂ (λ (l : List ℕ) (ls : List (List ℕ)). l ∷ ls) (var-same clock name) (vars-same (clock + 1) names)
 
@@ -114,17 +114,17 @@ text-same K steps =
 
 -- and their words are visible
 
-lines-append : (xs ys : List (List (List ℕ))) → are_lines xs ≡ true → are_lines ys ≡ true → are_lines (xs ++ ys) ≡ true
+pub lines-append : (xs ys : List (List (List ℕ))) → are_lines xs ≡ true → are_lines ys ≡ true → are_lines (xs ++ ys) ≡ true
 lines-append xs ys h k = list_all-append is_line xs ys ∙ ap₂ (λ a b. a && b) h k
 
-vars-spelled : (clock : ℕ) (names : List (List ℕ)) → clock + length names ≤ 1024 → list_all is_short_word names ≡ true
+pub vars-spelled : (clock : ℕ) (names : List (List ℕ)) → clock + length names ≤ 1024 → list_all is_short_word names ≡ true
     → are_lines (vars_words clock names) ≡ true
 vars-spelled clock [] c h = refl
 vars-spelled clock (name ∷ names) c h =
     let p = and_parts (is_short_word name) (list_all is_short_word names) h in
     rw (code-spelled clock (omega arith), word-spelled name p.0) (vars-spelled (clock + 1) names (omega arith) p.1)
 
-ticks-spelled : (n : ℕ) (xs : List ℕ) → n ≤ 1024 → AreBelow n xs → are_lines (map (λ x. tick_line x ∷ []) xs) ≡ true
+pub ticks-spelled : (n : ℕ) (xs : List ℕ) → n ≤ 1024 → AreBelow n xs → are_lines (map (λ x. tick_line x ∷ []) xs) ≡ true
 ticks-spelled n [] c h = refl
 ticks-spelled n (x ∷ xs) c h = let below = h.0 in rw (tick-spelled x (omega arith)) (ticks-spelled n xs c h.1)
 

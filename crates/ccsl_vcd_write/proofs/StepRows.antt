@@ -53,7 +53,7 @@ absent low high y [] h l = refl
 absent low high y (x ∷ xs) h l = let a = h.0 in rw (not-eq y x (omega arith)) (absent (x + 1) high y xs h.2 (omega arith))
 
 -- the bound clocks that pass a test which tells the members of a set
-picked : (test : Bound → Bool) (low high n : ℕ) (xs : List ℕ) → low + n ≡ high → IsWithin low high xs → ((y : ℕ) → low ≤ y → test (own_bound y) ≡ ticks_in y xs)
+pub picked : (test : Bound → Bool) (low high n : ℕ) (xs : List ℕ) → low + n ≡ high → IsWithin low high xs → ((y : ℕ) → low ≤ y → test (own_bound y) ≡ ticks_in y xs)
     → map (λ b. b.clock) (filter test (bounds low n)) ≡ xs
 picked test low high zero [] e h t = refl
 picked test low high zero (x ∷ xs) e h t = let a = h.0 in let b = h.1 in absurd (omega arith)
@@ -73,7 +73,7 @@ picked test low high (suc n) (x ∷ xs) e h t =
     ]) refl
 
 -- an event ticks where a change names its code
-event-member : (k y : ℕ) (xs : List ℕ) → event_ticks (code_of y) (step_changes k xs) ≡ ticks_in y xs
+pub event-member : (k y : ℕ) (xs : List ℕ) → event_ticks (code_of y) (step_changes k xs) ≡ ticks_in y xs
 event-member k y [] = refl
 event-member k y (x ∷ xs) =
     rw (codes-equal y x) (and-true (nat_eq y x) (event_ticks (code_of y) (step_changes k xs)) ∙ ap (λ w. nat_eq y x || w) (event-member k y xs))
@@ -82,15 +82,15 @@ event-member k y (x ∷ xs) =
     and-true true b = refl
     and-true false b = refl
 
-step-now : (k : ℕ) (xs : List ℕ) → Now k (step_changes k xs)
+pub step-now : (k : ℕ) (xs : List ℕ) → Now k (step_changes k xs)
 step-now k [] = tt
 step-now k (x ∷ xs) = (refl, step-now k xs)
 
-earlier-step : (k : ℕ) (xs : List ℕ) → Earlier (k + 1) (step_changes k xs)
+pub earlier-step : (k : ℕ) (xs : List ℕ) → Earlier (k + 1) (step_changes k xs)
 earlier-step k [] = tt
 earlier-step k (x ∷ xs) = (omega arith, earlier-step k xs)
 
-earlier-more : (k : ℕ) (old cur : List Change) → Earlier k old → Earlier (k + 1) cur → Earlier (k + 1) (old ++ cur)
+pub earlier-more : (k : ℕ) (old cur : List Change) → Earlier k old → Earlier (k + 1) cur → Earlier (k + 1) (old ++ cur)
 earlier-more k [] cur e c = c
 earlier-more k (o ∷ old) cur e c = (let before = e.0 in omega arith, earlier-more k old cur e.1 c)
 

@@ -110,7 +110,7 @@ has-names K names a e d =
 
 -- THE STEPS
 
-declared-from : (clock x : ℕ) (names : List (List ℕ)) → clock ≤ x → x < clock + length names → is_declared (declarations clock names) (code_of x) ≡ true
+pub declared-from : (clock x : ℕ) (names : List (List ℕ)) → clock ≤ x → x < clock + length names → is_declared (declarations clock names) (code_of x) ≡ true
 declared-from clock x [] l h = absurd (omega arith)
 declared-from clock x (name ∷ names) l h =
     rw (codes-equal x clock) (
