@@ -53,7 +53,8 @@ absent low high y [] h l = refl
 absent low high y (x ∷ xs) h l = let a = h.0 in rw (not-eq y x (omega arith)) (absent (x + 1) high y xs h.2 (omega arith))
 
 -- the bound clocks that pass a test which tells the members of a set
-pub picked : (test : Bound → Bool) (low high n : ℕ) (xs : List ℕ) → low + n ≡ high → IsWithin low high xs → ((y : ℕ) → low ≤ y → test (own_bound y) ≡ ticks_in y xs)
+pub picked : (test : Bound → Bool) (low high n : ℕ) (xs : List ℕ) → low + n ≡ high → IsWithin low high xs
+    → ((y : ℕ) → low ≤ y → test (own_bound y) ≡ ticks_in y xs)
     → map (λ b. b.clock) (filter test (bounds low n)) ≡ xs
 picked test low high zero [] e h t = refl
 picked test low high zero (x ∷ xs) e h t = let a = h.0 in let b = h.1 in absurd (omega arith)
