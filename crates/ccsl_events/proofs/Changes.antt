@@ -56,6 +56,7 @@ stands-behind plan p b v code letters s a k = record {
   recording = s.recording;
   now = s.now;
   skips = s.skips;
+  times = s.times;
 }
 
 change-text : (n letter : ℕ) (bytes : List ℕ) → take (n + 1) (letter ∷ bytes) ≡ letter ∷ take n bytes

@@ -36,6 +36,7 @@ stands-on plan p b b' t s is =
       recording = ap (λ r. if t then true else r) s.recording;
       now = s.now;
       skips = s.skips;
+      times = s.times;
     })
 
 -- a gap begins where a block may, and gaps are skipped

@@ -1,7 +1,7 @@
 -- The body of a dump for some events: what its tokens say one after another, and what is written of it. IEEE 1364-2005, clauses
 -- 18.2.1 and 18.2.3. That times do not fall, that a code is declared, that blocks do not hold blocks and what a gap is are
 -- this project's profile.
-use Rattle.std.specs.Prelude.{ℕ, List, [], ◌++◌, take, drop, length, filter, map, Bool, true, false, not, Option, Some, None, nat_lt, ◌&&◌, if◌then◌else◌, codes, bytes_eq, decimal, slice_get, fold}
+use Rattle.std.specs.Prelude.{ℕ, ◌+◌, List, [], ◌++◌, take, drop, length, filter, map, Bool, true, false, not, Option, Some, None, nat_lt, ◌&&◌, if◌then◌else◌, codes, bytes_eq, decimal, slice_get, fold}
 use Rattle.std.specs.List.{list_any, range_with_len}
 use Rattle.ccsl_vcd_lex.specs.Tokens.{Token, Heard, word, too_long, hear, tokens_from}
 use Rattle.ccsl_vcd.specs.declared.fault.VcdFault.{VcdFault}
@@ -45,6 +45,8 @@ pub record Place : Type 0 where
   pub views : ℕ → View
   -- the rows of the times before
   pub written : List ℕ
+  -- how many times have these rows
+  pub times : ℕ
 
 -- the next token stands there, or the token is refused
 pub data Said : Type 0 where
@@ -63,6 +65,10 @@ names_at watches views = filter (λ name. happens_in (slice_get watches name) vi
 -- THE ROW OF A TIME: its names are those that happen
 abbrev pub row_of : Plan → ℕ → (ℕ → View) → List ℕ
 row_of plan now views = row_text (decimal now) (names_at plan.watches views)
+
+-- a time has a row where something happens at it
+abbrev pub has_row : Plan → (ℕ → View) → Bool
+has_row plan views = nat_lt 0 (length (names_at plan.watches views))
 
 -- a value of a code, for a variable or for no variable
 abbrev pub heard_by : List ℕ → List ℕ → Bool → Option Variable → View → View
@@ -84,7 +90,11 @@ changed plan p at code letters =
 
 -- the present time is over
 abbrev pub passed : Plan → Place → Place
-passed plan p = record p { views = λ n. at_rest (p.views n); written = p.written ++ row_of plan p.now p.views }
+passed plan p = record p {
+  views = λ n. at_rest (p.views n);
+  written = p.written ++ row_of plan p.now p.views;
+  times = p.times + (if has_row plan p.views then 1 else 0);
+}
 
 abbrev pub time_says : Plan → Place → ℕ → ℕ → Said
 time_says plan p at n =
@@ -149,7 +159,7 @@ next plan s h = next_from plan s.place s.fault h
 
 -- before the first token nothing is seen, and the time is 0
 abbrev pub begin : Place
-begin = record { amid = changes; dumping = false; recording = true; now = 0; views = λ n. no_view; written = [] }
+begin = record { amid = changes; dumping = false; recording = true; now = 0; views = λ n. no_view; written = []; times = 0 }
 
 -- WHAT THE TOKENS OF A BODY SAY one after another
 unfoldable pub story : Plan → List Heard → Story

@@ -1,5 +1,5 @@
 -- What a body that is being read stands for: a place among its tokens.
-use Rattle.std.specs.Prelude.{◌≡◌, ◌⊎◌, ℕ, List, ◌++◌, Bool, true, false, Result, Ok, Err}
+use Rattle.std.specs.Prelude.{◌≡◌, ◌⊎◌, ℕ, ◌-◌, ◌^◌, min, List, ◌++◌, Bool, true, false, Result, Ok, Err}
 use Rattle.ccsl_vcd.specs.declared.fault.VcdFault.{VcdFault}
 use Rattle.ccsl_vcd.specs.declared.fault.VcdFault.TheVariants as faults
 use Rattle.ccsl_events.specs.declared.body.Body.{Body}
@@ -21,6 +21,10 @@ IsAmid kind letters remark = kind ≡ Remark
 IsAmid kind letters (code_of of) = (kind ≡ Code) × (letters ≡ of)
 IsAmid kind letters code_skipped = kind ≡ CodeSkipped
 
+-- a count in 64 bits, which stays at the largest number
+abbrev pub counted : ℕ → ℕ
+counted n = min n (2 ^ 64 - 1)
+
 pub record Stands (plan : Plan) (p : Place) (b : Body) : Type 0 where
   pub keeps : Keeps plan p.views b.values
   pub amid : IsAmid b.amid b.letters.items p.amid
@@ -28,6 +32,7 @@ pub record Stands (plan : Plan) (p : Place) (b : Body) : Type 0 where
   pub recording : b.is_on ≡ p.recording
   pub now : b.present ≡ p.now
   pub skips : are_skipped b.gaps ≡ plan.skips
+  pub times : b.times ≡ counted p.times
 
 -- the next place, and what is written on the way there, behind what was written before
 pub record Follows (plan : Plan) (before : List ℕ) (q : Place) (b : Body) (old new : List ℕ) : Type 0 where

@@ -5,7 +5,7 @@ ghost use Rattle.ccsl_vcd_lex.specs.Tokens.{token};
 ghost use Rattle.ccsl_vcd.specs.Words.{is_scalar, dump};
 ghost use Rattle.ccsl_events.specs.Keeping.{Keeps};
 ghost use Rattle.ccsl_events.specs.Dump.{Plan, Place, begin, remark, code_of, code_skipped, goes, changed, passed, time_says, block_says, gap_says, end_says, word_says, token_says, may_end};
-ghost use Rattle.ccsl_events.specs.Standing.{are_skipped, Stands, Answers};
+ghost use Rattle.ccsl_events.specs.Standing.{are_skipped, counted, Stands, Answers};
 ghost use Rattle.ccsl_events.specs.Run.{IsOpen, Runs, Takes};
 ghost use Rattle.ccsl_events.specs.Meant.{meant};
 
@@ -90,7 +90,9 @@ impl Body {
     }
 
     /// How many times have a row so far.
-    pub fn times(&self) -> u64 {
+    pub fn times(&self) -> u64
+        ensures { (plan : Plan) (p : Place) → Stands plan p self.now → result ≡ counted p.times }
+    {
         self.times
     }
 
@@ -98,9 +100,8 @@ impl Body {
     pub fn settle(&mut self, out: &mut Vec<u8>) -> Result<(), VcdFault>
         ensures { (plan : Plan) (p : Place) → Stands plan p self.old → Answers plan p.written (goes (passed plan p)) result self.new out.old.items out.new.items }
     {
-        if self.values.settle(self.present, out)? {
-            self.times = self.times.saturating_add(1);
-        }
+        let has_row = self.values.settle(self.present, out)?;
+        self.times = self.times.saturating_add(u64::from(has_row));
         Ok(())
     }
 

@@ -3,7 +3,7 @@
 ghost use Rattle.std.specs.Prelude.{◌≡◌, ◌<◌, ◌⊎◌, ℕ, List, IfErr, false, true, if◌then◌else◌, ◌++◌, [], Some, OnOk, IfOk, length, map};
 ghost use Rattle.ccsl_triggers.specs.Held.{held, settle_held, forget_held};
 ghost use Rattle.ccsl_triggers.specs.Views.{View, no_view, at_rest};
-ghost use Rattle.ccsl_events.specs.Dump.{Plan, is_declared, heard_in, row_of};
+ghost use Rattle.ccsl_events.specs.Dump.{Plan, is_declared, heard_in, row_of, has_row};
 ghost use Rattle.ccsl_triggers.specs.Triggers.{view_at};
 ghost use Rattle.ccsl_events.specs.Keeping.{fires, with_names, users_of, with_users, replaced, held_at, settle_each, kept, set_one, set_chain, is_known, SameTables, Knows, Keeps};
 
@@ -218,6 +218,8 @@ impl Values {
     pub(crate) fn settle(&mut self, time: u64, out: &mut Vec<u8>) -> Result<bool, Memory>
         ensures row { OnOk result ((plan : Plan) (views : ℕ → View) → Keeps plan views self.old →
             out.new.items ≡ out.old.items ++ row_of plan time views) }
+        ensures counts { IfOk result (λ is_row. (plan : Plan) (views : ℕ → View) → Keeps plan views self.old →
+            is_row ≡ has_row plan views) }
         ensures keeps { OnOk result ((plan : Plan) (views : ℕ → View) → Keeps plan views self.old →
             Keeps plan (λ n. at_rest (views n)) self.new) }
     {

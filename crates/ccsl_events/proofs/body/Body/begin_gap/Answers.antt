@@ -11,4 +11,12 @@ returns-in-Skip c plan p s =
     gap-goes plan p c.args.at block _
     (subst (λ (r : Result (Unit {0}) VcdFault). Answers plan p.written (block_says p c.args.at) r block [] []) c.in_ok-begin_block.was (c.begin_block.ensures plan p s))
     (ap are_skipped c.in-Skip.is)
-    (λ q t. record { keeps = c.forget.ensures plan q.views t.keeps; amid = t.amid; dumping = t.dumping; recording = refl; now = t.now; skips = t.skips })
+    (λ q t. record {
+      keeps = c.forget.ensures plan q.views t.keeps;
+      amid = t.amid;
+      dumping = t.dumping;
+      recording = refl;
+      now = t.now;
+      skips = t.skips;
+      times = t.times;
+    })
