@@ -30,7 +30,8 @@ set_one-at number letters dumped k n l =
     ⊎_elim
     (λ (e : n ≡ number).
     ap (held_at (set_one number letters dumped k).all) e ∙ held_at-same k.all number (touch_held letters dumped) l
-    ∙ sym (ap (λ t. if t then touch_held letters dumped (held_at k.all n) else held_at k.all n) (eq-eqb n number e) ∙ ap (λ i. touch_held letters dumped (held_at k.all i)) e))
+    ∙ sym (ap (λ t. if t then touch_held letters dumped (held_at k.all n) else held_at k.all n) (eq-eqb n number e)
+    ∙ ap (λ i. touch_held letters dumped (held_at k.all i)) e))
     (λ (e : n ≡ number → ⊥).
     held_at-other k.all number n (touch_held letters dumped) e
     ∙ sym (ap (λ t. if t then touch_held letters dumped (held_at k.all n) else held_at k.all n) (ne_eqb n number e)))
@@ -100,8 +101,10 @@ set_chain-at (suc most) (Some number) letters dumped k n =
     by true e later =
         let l : number < length k.all = ltb-true number (length k.all) e in
         later
-        ∙ ap (λ ns. if ticks_in n ns then touch_held letters dumped (held_at k'.all n) else held_at k'.all n) (set_one-chain most (held_at k.all number).next number letters dumped k l)
-        ∙ ap (λ g. if ticks_in n (chain most (held_at k.all number).next k.all) then touch_held letters dumped g else g) (set_one-at number letters dumped k n l)
+        ∙ ap (λ ns. if ticks_in n ns then touch_held letters dumped (held_at k'.all n) else held_at k'.all n)
+        (set_one-chain most (held_at k.all number).next number letters dumped k l)
+        ∙ ap (λ g. if ticks_in n (chain most (held_at k.all number).next k.all) then touch_held letters dumped g else g)
+        (set_one-at number letters dumped k n l)
         ∙ twice (ticks_in n (chain most (held_at k.all number).next k.all)) (nat_eq n number)
 
 pub ticks_in-append : (x : ℕ) (ys : List ℕ) (z : ℕ) → ticks_in x ys ≡ true → ticks_in x (ys ++ z ∷ []) ≡ true
@@ -157,7 +160,8 @@ set_chain-flags (suc most) (Some number) letters dumped k flags n h =
     one : number < length k.all → (i : ℕ) → (held_at k'.all i).touched ≡ true → ticks_in i k'.touched ≡ true
     one l i g = on (nat_eq i number) refl (sym (ap (λ h. h.touched) (set_one-at number letters dumped k i l)) ∙ g)
       where
-        on : (b : Bool) → nat_eq i number ≡ b → (if nat_eq i number then touch_held letters dumped (held_at k.all i) else held_at k.all i).touched ≡ true → ticks_in i k'.touched ≡ true
+        on : (b : Bool) → nat_eq i number ≡ b → (if nat_eq i number then touch_held letters dumped (held_at k.all i) else held_at k.all i).touched ≡ true
+            → ticks_in i k'.touched ≡ true
         on true s g = here i (eqb-true i number s)
         on false s g =
             put-keeps number (held_at k.all number).touched k.touched i

@@ -42,11 +42,13 @@ letter-dark b h s =
 abbrev behind : Plan → Place → List ℕ → List ℕ → Place
 behind plan p code letters = record p { amid = changes; views = if p.recording then heard_in plan code letters p.dumping p.views else p.views }
 
-declared-goes : (plan : Plan) (p : Place) (at : ℕ) (code letters : List ℕ) → is_declared plan code ≡ true → changed plan p at code letters ≡ goes (behind plan p code letters)
+declared-goes : (plan : Plan) (p : Place) (at : ℕ) (code letters : List ℕ) → is_declared plan code ≡ true
+    → changed plan p at code letters ≡ goes (behind plan p code letters)
 declared-goes plan p at code letters d = ap (λ (w : Bool). if w then goes (behind plan p code letters) else refused (faults.UnknownCode at)) d
 
 stands-behind : (plan : Plan) (p : Place) (b : Body) (v : Values) (code letters : List ℕ) → Stands plan p b → b.amid ≡ Changes
-    → Keeps plan (if b.is_on then heard_in plan code letters b.is_dumping p.views else p.views) v → Stands plan (behind plan p code letters) (record b { values = v })
+    → Keeps plan (if b.is_on then heard_in plan code letters b.is_dumping p.views else p.views) v → Stands plan (behind plan p code letters)
+    (record b { values = v })
 stands-behind plan p b v code letters s a k = record {
   keeps =
       subst (λ (r : Bool). Keeps plan (if r then heard_in plan code letters p.dumping p.views else p.views) v) s.recording
@@ -67,7 +69,8 @@ change-run n place letter bytes h l is =
     let e : n + 1 ≡ 1 + prefix_len is_dark bytes = omega (arith, is.run) in
     rw (letter-dark letter h l) e
 
-pub change-runs : (plan : Plan) (p : Place) (b : Body) (v : Values) (at n place letter : ℕ) (bytes out : List ℕ) → Stands plan p b → b.amid ≡ Changes → letter < 256 → is_scalar letter ≡ true → IsCode n place bytes
+pub change-runs : (plan : Plan) (p : Place) (b : Body) (v : Values) (at n place letter : ℕ) (bytes out : List ℕ) → Stands plan p b → b.amid ≡ Changes
+    → letter < 256 → is_scalar letter ≡ true → IsCode n place bytes
     → is_declared plan (take n bytes) ≡ true → Keeps plan (if b.is_on then heard_in plan (take n bytes) (letter ∷ []) b.is_dumping p.views else p.views) v
     → Runs plan p at (take (n + 2) (letter ∷ bytes)) (record b { values = v }) out out
 change-runs plan p b v at n place letter bytes out s a h l is d k =
@@ -81,7 +84,8 @@ change-runs plan p b v at n place letter bytes out s a h l is d k =
     ∙ declared-goes plan p at code (letter ∷ []) d) in
     let sum : (n + 1) + 1 ≡ n + 2 = omega arith in
     subst (λ (i : ℕ). Runs plan p at (take i (letter ∷ bytes)) (record b { values = v }) out out) sum
-    (front-word plan p at (n + 1) (letter ∷ bytes) (record b { values = v }) out out (change-run n place letter bytes h l is) (omega arith) (omega (arith, is.inside)) (omega (arith, is.most))
+    (front-word plan p at (n + 1) (letter ∷ bytes) (record b { values = v }) out out (change-run n place letter bytes h l is) (omega arith)
+    (omega (arith, is.inside)) (omega (arith, is.most))
     (subst (λ (w : Said). Answers plan p.written w (Ok tt) (record b { values = v }) out out) said
     (follows-still plan q (record b { values = v }) out (stands-behind plan p b v code (letter ∷ []) s a k))))
 
@@ -99,9 +103,12 @@ b-dark = refl
 vector-run : (end : ℕ) (bytes : List ℕ) → end ≡ prefix_len is_dark bytes → end + 1 ≡ prefix_len is_dark (98 ∷ bytes)
 vector-run end bytes e = let k : end + 1 ≡ 1 + prefix_len is_dark bytes = omega (arith, e) in rw b-dark k
 
-pub vector-runs : (plan : Plan) (p : Place) (b : Body) (v : Values) (at end n place : ℕ) (bytes rest out : List ℕ) → Stands plan p b → b.amid ≡ Changes → 0 < end → end < length bytes → end < 65536
-    → end ≡ prefix_len is_dark bytes → list_all is_scalar (take end bytes) ≡ true → rest ≡ drop (end + 1) bytes → IsCode n place rest → is_declared plan (take n rest) ≡ true
-    → Keeps plan (if b.is_on then heard_in plan (take n rest) (take end bytes) b.is_dumping p.views else p.views) v → Runs plan p at (take (end + n + 3) (98 ∷ bytes)) (record b { values = v }) out out
+pub vector-runs : (plan : Plan) (p : Place) (b : Body) (v : Values) (at end n place : ℕ) (bytes rest out : List ℕ) → Stands plan p b → b.amid ≡ Changes
+    → 0 < end → end < length bytes → end < 65536
+    → end ≡ prefix_len is_dark bytes → list_all is_scalar (take end bytes) ≡ true → rest ≡ drop (end + 1) bytes → IsCode n place rest → is_declared plan
+    (take n rest) ≡ true
+    → Keeps plan (if b.is_on then heard_in plan (take n rest) (take end bytes) b.is_dumping p.views else p.views) v → Runs plan p at
+    (take (end + n + 3) (98 ∷ bytes)) (record b { values = v }) out out
 vector-runs plan p b v at end n place bytes rest out s a some inside few run all cut is d k =
     let letters : List ℕ = take end bytes in
     let code : List ℕ = take n rest in
@@ -115,7 +122,8 @@ vector-runs plan p b v at end n place bytes rest out s a some inside few run all
     ∙ ap (λ (text : List ℕ). word_says plan p (token at text) (word_of text)) (change-text end 98 bytes)
     ∙ ap (word_says plan p (token at (98 ∷ letters))) (vector-word letters (omega (arith, len, some)) all) in
     let one = front-told plan p mid at (end + 1) all_bytes (vector-run end bytes run) (omega arith) (omega (arith, inside)) (omega (arith, few)) first in
-    let two = front-told plan mid q (at + length xs) n rest is.run is.some is.inside (omega (arith, is.most)) (declared-goes plan mid (at + length xs) code letters d) in
+    let two = front-told plan mid q (at + length xs) n rest is.run is.some is.inside (omega (arith, is.most))
+    (declared-goes plan mid (at + length xs) code letters d) in
     let sum : ((end + 1) + 1) + (n + 1) ≡ end + n + 3 = omega arith in
     let back : (end + 1) + 1 ≡ suc (end + 1) = omega arith in
     let parts : take (end + n + 3) all_bytes ≡ xs ++ take (n + 1) rest =

@@ -96,13 +96,17 @@ keeps-settled plan views old new k tables is none =
 
 -- a value
 
-set_chain-length : (most : ℕ) (first : Option ℕ) (letters : List ℕ) (dumped : Bool) (k : Kept) → length (set_chain most first letters dumped k).all ≡ length k.all
+set_chain-length : (most : ℕ) (first : Option ℕ) (letters : List ℕ) (dumped : Bool) (k : Kept)
+    → length (set_chain most first letters dumped k).all ≡ length k.all
 set_chain-length zero first letters dumped k = refl
 set_chain-length (suc most) None letters dumped k = refl
 set_chain-length (suc most) (Some number) letters dumped k =
     by (nat_lt number (length k.all)) (set_chain-length most (held_at k.all number).next letters dumped (set_one number letters dumped k))
   where
-    by : (b : Bool) → length (set_chain most (held_at k.all number).next letters dumped (set_one number letters dumped k)).all ≡ length (set_one number letters dumped k).all → length (if b then set_chain most (held_at k.all number).next letters dumped (set_one number letters dumped k) else k).all ≡ length k.all
+    by : (b : Bool)
+        → length (set_chain most (held_at k.all number).next letters dumped (set_one number letters dumped k)).all ≡ length
+        (set_one number letters dumped k).all → length (if b then set_chain most (held_at k.all number).next letters dumped
+        (set_one number letters dumped k) else k).all ≡ length k.all
     by false later = refl
     by true later = later ∙ set_one-length number letters dumped k
 
@@ -135,13 +139,16 @@ unread : (code letters : List ℕ) (dumped : Bool) (o : Option Variable) (v : Vi
 unread code letters dumped None v e = refl
 unread code letters dumped (Some x) v e = rw e refl
 
-keeps-set : (plan : Plan) (views : ℕ → View) (old new : Values) (code letters : List ℕ) (dumped : Bool) (first : ℕ) → Keeps plan views old → SameTables old new →
+keeps-set : (plan : Plan) (views : ℕ → View) (old new : Values) (code letters : List ℕ) (dumped : Bool) (first : ℕ) → Keeps plan views old
+    → SameTables old new →
     kept new ≡ set_chain (length (map held old.signals.items)) (Some first) letters dumped (kept old) →
     ((n : ℕ) → reads plan code n ≡ ticks_in n (chain (length (map held old.signals.items)) (Some first) (map held old.signals.items))) →
     Keeps plan (heard_in plan code letters dumped views) new
 keeps-set plan views old new code letters dumped first k tables is readers =
-    keeps-same plan views views' old new k tables (subst (λ s. SameLayout hs s.all) (sym is) (set-layout most (Some first) letters dumped (kept old))) seen quiet
-    (λ n. subst (λ s. (held_at s.all n).touched ≡ true → ticks_in n s.touched ≡ true) (sym is) (set_chain-flags most (Some first) letters dumped (kept old) k.flags n))
+    keeps-same plan views views' old new k tables (subst (λ s. SameLayout hs s.all) (sym is)
+    (set-layout most (Some first) letters dumped (kept old))) seen quiet
+    (λ n. subst (λ s. (held_at s.all n).touched ≡ true → ticks_in n s.touched ≡ true) (sym is)
+    (set_chain-flags most (Some first) letters dumped (kept old) k.flags n))
   where
     hs : List Held
     hs = map held old.signals.items
@@ -176,11 +183,14 @@ keeps-set plan views old new code letters dumped first k tables is readers =
       where
         was : (b : Bool) → ticks_in n old.touched.items ≡ b → ticks_in n old.touched.items ≡ false
         was false f = f
-        was true f = absurd (let yes : ticks_in n new.touched.items ≡ true = ap (λ s. ticks_in n s.touched) is ∙ set_chain-touched most (Some first) letters dumped (kept old) n f in cc (yes, e))
+        was true f = absurd (let yes : ticks_in n new.touched.items ≡ true =
+            ap (λ s. ticks_in n s.touched) is ∙ set_chain-touched most (Some first) letters dumped (kept old) n f in cc (yes, e))
 
         by : (b : Bool) → hears n ≡ b → IsQuiet (views' n)
         by true h = absurd (let yes : ticks_in n new.touched.items ≡ true = touched n h in cc (yes, e))
-        by false h = subst IsQuiet (unread code letters dumped (slice_get plan.variables n) (views n) (readers n ∙ h)) (k.quiet n (was (ticks_in n old.touched.items) refl))
+        by false h =
+            subst IsQuiet (unread code letters dumped (slice_get plan.variables n) (views n) (readers n ∙ h))
+            (k.quiet n (was (ticks_in n old.touched.items) refl))
 
 keeps-alike : (plan : Plan) (views views' : ℕ → View) (v : Values) → Keeps plan views v → ((n : ℕ) → views n ≡ views' n) → Keeps plan views' v
 keeps-alike plan views views' v k same = record {
@@ -214,7 +224,8 @@ keeps-changed plan views old new Unused code letters dumped true k tables is kno
     keeps-alike plan views (heard_in plan code letters dumped views) new (keeps-still plan views old new k tables is)
     (λ n. unread code letters dumped (slice_get plan.variables n) (views n) (knows.1 n))
 keeps-changed plan views old new Unused code letters dumped false k tables is knows known = keeps-still plan views old new k tables is
-keeps-changed plan views old new (Used first) code letters dumped true k tables is knows known = keeps-set plan views old new code letters dumped first k tables is knows.1
+keeps-changed plan views old new (Used first) code letters dumped true k tables is knows known =
+    keeps-set plan views old new code letters dumped first k tables is knows.1
 keeps-changed plan views old new (Used first) code letters dumped false k tables is knows known = keeps-still plan views old new k tables is
 
 pub declared : (plan : Plan) (hs : List Held) (code : List ℕ) (known : Entry) → Knows plan hs code known → is_declared plan code ≡ is_known known
@@ -237,7 +248,12 @@ pub keeps-forgotten : (plan : Plan) (views : ℕ → View) (old new : Values) �
     Keeps plan (λ n. no_view) new
 keeps-forgotten plan views old new k tables is =
     keeps-same plan views (λ n. no_view) old new k tables
-    (subst (λ s. SameLayout hs s.all) (sym is) (record { len = forget-length hs; sizes = λ n. ap (λ h. h.size) (forget-at hs n); nexts = λ n. ap (λ h. h.next) (forget-at hs n) }))
+    (subst (λ s. SameLayout hs s.all) (sym is) (record {
+      len = forget-length hs;
+      sizes = λ n. ap (λ h. h.size) (forget-at hs n);
+      nexts =
+          λ n. ap (λ h. h.next) (forget-at hs n);
+    }))
     (λ n. ap (λ s. (held_at s.all n).view) is ∙ ap (λ h. h.view) (forget-at hs n))
     (λ n e. record { same = refl; unheard = refl })
     (λ n e. ap (λ s. ticks_in n s.touched) is ∙ k.flags n (sym (ap (λ s. (held_at s.all n).touched) is ∙ ap (λ h. h.touched) (forget-at hs n)) ∙ e))

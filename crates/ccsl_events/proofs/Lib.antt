@@ -7,6 +7,7 @@ mod Names
 mod Standing
 mod Run
 mod Quick
+mod Canonical
 mod Tables
 mod Changes
 mod Examples

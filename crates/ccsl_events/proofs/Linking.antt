@@ -49,7 +49,8 @@ got-at [] s code (suc n) e = absurd (omega (arith, e))
 got-at (t ∷ ss) s code zero e = absurd (omega (arith, e))
 got-at (t ∷ ss) s code (suc n) e = got-at ss s code n (omega (arith, e))
 
-got-last : (ss : List Source) (s : Source) (code n : ℕ) → has_number code (slice_get (ss ++ s ∷ []) n) ≡ ((nat_eq n (length ss) && (s.code == code)) || has_number code (slice_get ss n))
+got-last : (ss : List Source) (s : Source) (code n : ℕ)
+    → has_number code (slice_get (ss ++ s ∷ []) n) ≡ ((nat_eq n (length ss) && (s.code == code)) || has_number code (slice_get ss n))
 got-last ss s code n =
     ⊎_elim
     (λ (before : n < length ss).
@@ -94,7 +95,8 @@ chain-longer (suc a) (suc b) hs h (Some f) down low la lb =
     let here : f < length hs = low f refl in
     let below : f < suc a = la f refl in
     let under : f < suc b = lb f refl in
-    ap (λ t. if t then f ∷ chain a (held_at (hs ++ h ∷ []) f).next (hs ++ h ∷ []) else []) (lt-ltb f (length (hs ++ h ∷ [])) (omega (arith, here, length-last hs h)))
+    ap (λ t. if t then f ∷ chain a (held_at (hs ++ h ∷ []) f).next (hs ++ h ∷ []) else [])
+    (lt-ltb f (length (hs ++ h ∷ [])) (omega (arith, here, length-last hs h)))
     ∙ ap (λ g. f ∷ chain a g.next (hs ++ h ∷ [])) (held-before hs h f here)
     ∙ ap (λ ns. f ∷ ns)
     (chain-longer a b hs h (held_at hs f).next down
@@ -173,7 +175,8 @@ linked-more codes ss hs es s h k l is = record {
     longer a code more =
         chain-longer a (length hs) hs h (first_in (slice_get es code)) k.behind (low code) (λ f e. omega (arith, low code f e, more)) (low code)
 
-    others : (code n : ℕ) → (code ≡ s.code → ⊥) → has_number code (slice_get (ss ++ s ∷ []) n) ≡ ticks_in n (chain (length hs') (first_in (slice_get es' code)) hs')
+    others : (code n : ℕ) → (code ≡ s.code → ⊥)
+        → has_number code (slice_get (ss ++ s ∷ []) n) ≡ ticks_in n (chain (length hs') (first_in (slice_get es' code)) hs')
     others code n other =
         got-last ss s code n
         ∙ ap (λ b. (nat_eq n (length ss) && b) || has_number code (slice_get ss n)) (ne_eqb s.code code (λ e. other (sym e)))
@@ -192,7 +195,8 @@ linked-more codes ss hs es s h k l is = record {
     last-chain : chain (length hs') (Some (length hs)) hs' ≡ length hs ∷ links_of s.code
     last-chain =
         ap (λ m. chain m (Some (length hs)) hs') (length-last hs h ∙ plus (length hs))
-        ∙ ap (λ t. if t then length hs ∷ chain (length hs) (held_at hs' (length hs)).next hs' else []) (lt-ltb (length hs) (length hs') (omega (arith, length-last hs h)))
+        ∙ ap (λ t. if t then length hs ∷ chain (length hs) (held_at hs' (length hs)).next hs' else [])
+        (lt-ltb (length hs) (length hs') (omega (arith, length-last hs h)))
         ∙ ap (λ g. length hs ∷ chain (length hs) g.next hs') (held-last hs h (length hs) refl ∙ is)
         ∙ ap (λ ns. length hs ∷ ns) (longer (length hs) s.code (omega arith))
       where

@@ -25,7 +25,8 @@ use Rattle.ccsl_events.proofs.Settling.{view_at-held}
 ticks_in-with_if : (t : Bool) (x c : ℕ) (s : List ℕ) → ticks_in x (if t then with_clock c s else s) ≡ (ticks_in x s || (nat_eq x c && t))
 ticks_in-with_if true x c s =
     ⊎_elim
-    (λ (e : x ≡ c). ap (λ y. ticks_in y (with_clock c s)) e ∙ ticks_in-with_same c s ∙ sym (ap (λ b. ticks_in x s || (b && true)) (eq-eqb x c e) ∙ or-true (ticks_in x s)))
+    (λ (e : x ≡ c). ap (λ y. ticks_in y (with_clock c s)) e ∙ ticks_in-with_same c s
+    ∙ sym (ap (λ b. ticks_in x s || (b && true)) (eq-eqb x c e) ∙ or-true (ticks_in x s)))
     (λ (n : x ≡ c → ⊥). ticks_in-with_other c x s n ∙ or-no (ticks_in x s) ∙ sym (ap (λ b. ticks_in x s || (b && true)) (ne_eqb x c n)))
     (cases_eq x c)
   where
@@ -103,7 +104,8 @@ above-range a b (suc n) l = and_from (nat_lt a b) (list_all (nat_lt a) (range_wi
 
 range-ascends : (a n : ℕ) → is_ascending (range_with_len a n) ≡ true
 range-ascends a zero = refl
-range-ascends a (suc n) = and_from (list_all (nat_lt a) (range_with_len (a + 1) n)) (is_ascending (range_with_len (a + 1) n)) (above-range a (a + 1) n (omega arith)) (range-ascends (a + 1) n)
+range-ascends a (suc n) = and_from (list_all (nat_lt a) (range_with_len (a + 1) n)) (is_ascending (range_with_len (a + 1) n))
+    (above-range a (a + 1) n (omega arith)) (range-ascends (a + 1) n)
 
 in-range : (a n x : ℕ) → a ≤ x → x < a + n → ticks_in x (range_with_len a n) ≡ true
 in-range a zero x l h = absurd (omega (arith, l, h))
@@ -151,7 +153,8 @@ names-found ns users ws v are quiet few =
     neither a b c = ap (λ d. a && d) (and-false b) ∙ and-false a ∙ sym (and-false c)
 
     alike : (x : ℕ) (o : Option Watch) → slice_get ws x ≡ o →
-        (is_user ns users x && (nat_lt x MAX_CLOCKS && happens_in (slice_get ws x) v)) ≡ (ticks_in x (range_with_len 0 (length ws)) && happens_in (slice_get ws x) v)
+        (is_user ns users x && (nat_lt x MAX_CLOCKS && happens_in (slice_get ws x) v)) ≡
+        (ticks_in x (range_with_len 0 (length ws)) && happens_in (slice_get ws x) v)
     alike x None at = rw at (neither (is_user ns users x) (nat_lt x MAX_CLOCKS) (ticks_in x (range_with_len 0 (length ws))))
     alike x (Some w) at = rw at (by (happens w v) refl)
       where

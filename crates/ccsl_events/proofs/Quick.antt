@@ -18,6 +18,7 @@ use Rattle.ccsl_events.specs.declared.body.Amid.TheVariants.{Changes, Remark, Co
 use Rattle.ccsl_events.specs.Dump.{Plan, Place, Amid, changes, remark, code_of, code_skipped, Said, time_says, word_says, token_says}
 use Rattle.ccsl_events.specs.Standing.{IsAmid, Stands, Answers}
 use Rattle.ccsl_events.specs.Run.{Runs, Breaks}
+use Rattle.ccsl_events.specs.Times.{IsTime}
 use Rattle.ccsl_events.proofs.Run.{front-word, front-breaks}
 use Rattle.ccsl_vcd_lex.proofs.Cuts.{hash-dark}
 use Rattle.ccsl_vcd.proofs.Words.{time-word}
@@ -43,21 +44,14 @@ number-is text value some d =
     let n : value_behind 0 text ≤ 18446744073709551615 = omega (arith, d.amount, d.fits) in
     number-value 18446744073709551615 text some ∙ rw (d.all, le-leb (value_behind 0 text) 18446744073709551615 n) (ap (λ (v : ℕ). Some v) (sym d.amount))
 
--- so many digits stand at the front of the bytes behind a #, and white space behind them
-pub record IsTime (k value : ℕ) (bytes : List ℕ) : Type 0 where
-  pub some : 0 < k
-  pub few : k ≤ 19
-  pub digits : AreDigits (take k bytes) value
-  pub inside : k < length bytes
-  pub white : is_white (get_or bytes k 0) ≡ true
-
 time-text : (k : ℕ) (bytes : List ℕ) → take (k + 1) (35 ∷ bytes) ≡ 35 ∷ take k bytes
 time-text k bytes = let e : k + 1 ≡ suc k = omega arith in ap (λ (i : ℕ). take i (35 ∷ bytes)) e
 
 time-run : (k value : ℕ) (bytes : List ℕ) → IsTime k value bytes → k + 1 ≡ prefix_len is_dark (35 ∷ bytes)
 time-run k value bytes t =
     let e : k + 1 ≡ suc k = omega arith in
-    run-is is_dark (k + 1) (35 ∷ bytes) (ap (list_all is_dark) (time-text k bytes) ∙ hash-dark (take k bytes) (digits-dark (take k bytes) t.digits.all)) (omega (arith, t.inside))
+    run-is is_dark (k + 1) (35 ∷ bytes) (ap (list_all is_dark) (time-text k bytes) ∙ hash-dark (take k bytes) (digits-dark (take k bytes) t.digits.all))
+    (omega (arith, t.inside))
     (ap (λ (i : ℕ). is_dark (get_or (35 ∷ bytes) i 0)) e ∙ ap not t.white)
 
 time-said : (plan : Plan) (p : Place) (b : Body) (at k value : ℕ) (bytes : List ℕ) → Stands plan p b → b.amid ≡ Changes → IsTime k value bytes
@@ -66,7 +60,8 @@ time-said plan p b at k value bytes s a t =
     let len : length (take k bytes) ≡ k = length-take-le k bytes (omega (arith, t.inside)) in
     sym (ap (token_says plan p (token at (take (k + 1) (35 ∷ bytes)))) (amid-changes b.amid b.letters.items p.amid s.amid a)
     ∙ ap (λ (text : List ℕ). word_says plan p (token at text) (word_of text)) (time-text k bytes)
-    ∙ ap (word_says plan p (token at (35 ∷ take k bytes))) (time-word (take k bytes) value (number-is (take k bytes) value (omega (arith, len, t.some)) t.digits)))
+    ∙ ap (word_says plan p (token at (35 ∷ take k bytes))) (time-word (take k bytes) value
+    (number-is (take k bytes) value (omega (arith, len, t.some)) t.digits)))
 
 pub time-runs : (plan : Plan) (p : Place) (b c : Body) (at k value : ℕ) (bytes x y : List ℕ) → Stands plan p b → b.amid ≡ Changes → IsTime k value bytes
     → Answers plan p.written (time_says plan p at value) (Ok tt) c x y → Runs plan p at (take (k + 2) (35 ∷ bytes)) c x y
@@ -76,7 +71,8 @@ time-runs plan p b c at k value bytes x y s a t h =
     (front-word plan p at (k + 1) (35 ∷ bytes) c x y (time-run k value bytes t) (omega arith) (omega (arith, t.inside)) (omega (arith, t.few))
     (subst (λ (said : Said). Answers plan p.written said (Ok tt) c x y) (time-said plan p b at k value bytes s a t) h))
 
-pub time-breaks : (plan : Plan) (p : Place) (b c : Body) (at k value : ℕ) (bytes : List ℕ) (f : VcdFault) (x y : List ℕ) → Stands plan p b → b.amid ≡ Changes → IsTime k value bytes
+pub time-breaks : (plan : Plan) (p : Place) (b c : Body) (at k value : ℕ) (bytes : List ℕ) (f : VcdFault) (x y : List ℕ) → Stands plan p b → b.amid ≡ Changes
+    → IsTime k value bytes
     → Answers plan p.written (time_says plan p at value) (Err f) c x y → (f ≡ faults.Memory) ⊎ Breaks plan p at (35 ∷ bytes) f p.written x y
 time-breaks plan p b c at k value bytes f x y s a t h =
     front-breaks plan p at (k + 1) (35 ∷ bytes) f c x y (time-run k value bytes t) (omega arith) (omega (arith, t.inside)) (omega (arith, t.few))

@@ -42,10 +42,12 @@ fold-both plan s [] ys = refl
 fold-both plan s (x ∷ xs) ys = fold-both plan (next plan s x) xs ys
 
 -- the story goes on behind a part
-pub told-on : (plan : Plan) (p q : Place) (at : ℕ) (xs ys : List ℕ) → fresh_after true xs ≡ true → story_from plan p (settled_from at xs) ≡ record { place = q; fault = None }
+pub told-on : (plan : Plan) (p q : Place) (at : ℕ) (xs ys : List ℕ) → fresh_after true xs ≡ true
+    → story_from plan p (settled_from at xs) ≡ record { place = q; fault = None }
     → story_from plan p (settled_from at (xs ++ ys)) ≡ story_from plan q (settled_from (at + length xs) ys)
 told-on plan p q at xs ys h e =
-    ap (story_from plan p) (settled-cut at xs ys h) ∙ fold-both plan (record { place = p; fault = None }) (settled_from at xs) (settled_from (at + length xs) ys)
+    ap (story_from plan p) (settled-cut at xs ys h) ∙ fold-both plan (record { place = p; fault = None }) (settled_from at xs)
+    (settled_from (at + length xs) ys)
     ∙ ap (λ (s : Story). fold (next plan) s (settled_from (at + length xs) ys)) e
 
 -- Parts that are taken.
@@ -54,7 +56,8 @@ pub runs-none : (plan : Plan) (p : Place) (at : ℕ) (b : Body) (out : List ℕ)
 unfolding tokens_from fresh_after
 runs-none plan p at b out s = record { place = p; told = refl; fresh = refl; follows = follows-still plan p b out s }
 
-pub runs-both : (plan : Plan) (p : Place) (at : ℕ) (xs ys : List ℕ) (a b : Body) (x y z : List ℕ) → (r : Runs plan p at xs a x y) → Runs plan r.place (at + length xs) ys b y z → Runs plan p at (xs ++ ys) b x z
+pub runs-both : (plan : Plan) (p : Place) (at : ℕ) (xs ys : List ℕ) (a b : Body) (x y z : List ℕ) → (r : Runs plan p at xs a x y)
+    → Runs plan r.place (at + length xs) ys b y z → Runs plan p at (xs ++ ys) b x z
 runs-both plan p at xs ys a b x y z r s = record {
   place = s.place;
   told = told-on plan p r.place at xs ys r.fresh r.told ∙ s.told;
@@ -75,7 +78,8 @@ runs-white plan p at w b out h s =
     record { place = p; told = ap (story_from plan p) none; fresh = fresh; follows = follows-still plan p b out s }
 
 -- a token and the white space behind it
-settled-word : (at w : ℕ) (text : List ℕ) → Dark text → 0 < length text → length text ≤ 65536 → is_white w ≡ true → settled_from at (text ++ w ∷ []) ≡ word (token at text) ∷ []
+settled-word : (at w : ℕ) (text : List ℕ) → Dark text → 0 < length text → length text ≤ 65536 → is_white w ≡ true
+    → settled_from at (text ++ w ∷ []) ≡ word (token at text) ∷ []
 settled-word at w [] d n l h = absurd (omega arith)
 settled-word at w (t ∷ ts) d n l h =
     let one : tokens_from true at ((t ∷ ts) ++ w ∷ []) ≡ token at (t ∷ ts) ∷ [] = from-behind true at (t ∷ ts) (w ∷ []) (h, tt) ∙ one-token at t ts d in
@@ -87,7 +91,8 @@ word-told : (plan : Plan) (p : Place) (t : Token) → story_from plan p (word t 
 unfolding says
 word-told plan p t = refl
 
-runs-word : (plan : Plan) (p : Place) (at w : ℕ) (text : List ℕ) (b : Body) (x y : List ℕ) → Dark text → 0 < length text → length text ≤ 65536 → is_white w ≡ true
+runs-word : (plan : Plan) (p : Place) (at w : ℕ) (text : List ℕ) (b : Body) (x y : List ℕ) → Dark text → 0 < length text → length text ≤ 65536
+    → is_white w ≡ true
     → Answers plan p.written (token_says plan p (token at text) p.amid) (Ok tt) b x y → Runs plan p at (text ++ w ∷ []) b x y
 runs-word plan p at w text b x y d n l h a = go (token_says plan p (token at text) p.amid) refl a
   where
@@ -100,7 +105,8 @@ runs-word plan p at w text b x y d n l h a = go (token_says plan p (token at tex
     }
     go (refused g) e f = absurd f
 
-word-breaks : (plan : Plan) (p : Place) (at w : ℕ) (text : List ℕ) (f : VcdFault) (b : Body) (x y : List ℕ) → Dark text → 0 < length text → length text ≤ 65536 → is_white w ≡ true
+word-breaks : (plan : Plan) (p : Place) (at w : ℕ) (text : List ℕ) (f : VcdFault) (b : Body) (x y : List ℕ) → Dark text → 0 < length text
+    → length text ≤ 65536 → is_white w ≡ true
     → Answers plan p.written (token_says plan p (token at text) p.amid) (Err f) b x y
     → (f ≡ faults.Memory) ⊎ ((story_from plan p (settled_from at (text ++ w ∷ [])) ≡ record { place = p; fault = Some f }) × (y ≡ x))
 word-breaks plan p at w text f b x y d n l h a = go (token_says plan p (token at text) p.amid) refl a
@@ -153,7 +159,8 @@ dark-front (x ∷ xs) =
     one-more : (n : ℕ) → 1 + n ≡ suc n
     one-more n = omega arith
 
-pub front-white : (plan : Plan) (p : Place) (at end : ℕ) (bytes : List ℕ) (b : Body) (out : List ℕ) → end ≡ prefix_len is_dark bytes → end ≡ 0 → end < length bytes → Stands plan p b
+pub front-white : (plan : Plan) (p : Place) (at end : ℕ) (bytes : List ℕ) (b : Body) (out : List ℕ) → end ≡ prefix_len is_dark bytes → end ≡ 0
+    → end < length bytes → Stands plan p b
     → Runs plan p at (take (end + 1) bytes) b out out
 front-white plan p at end [] b out e z l s = absurd (omega arith)
 front-white plan p at end (x ∷ xs) b out e z l s =
@@ -162,17 +169,20 @@ front-white plan p at end (x ∷ xs) b out e z l s =
     subst (λ (i : ℕ). Runs plan p at (take i (x ∷ xs)) b out out) one
     (runs-white plan p at x b out (subst (λ i. is_white (get_or (x ∷ xs) i 0) ≡ true) k (white-stop (x ∷ xs) (omega (arith, e, l)))) s)
 
-pub front-word : (plan : Plan) (p : Place) (at end : ℕ) (bytes : List ℕ) (b : Body) (x y : List ℕ) → end ≡ prefix_len is_dark bytes → 0 < end → end < length bytes → end ≤ 65536
+pub front-word : (plan : Plan) (p : Place) (at end : ℕ) (bytes : List ℕ) (b : Body) (x y : List ℕ) → end ≡ prefix_len is_dark bytes → 0 < end
+    → end < length bytes → end ≤ 65536
     → Answers plan p.written (token_says plan p (token at (take end bytes)) p.amid) (Ok tt) b x y → Runs plan p at (take (end + 1) bytes) b x y
 front-word plan p at end bytes b x y e n l m a =
     let k : length (take end bytes) ≡ end = length-take-le end bytes (omega (arith, l)) in
     subst (λ part. Runs plan p at part b x y) (sym (take_more bytes end 0 l))
-    (runs-word plan p at (get_or bytes end 0) (take end bytes) b x y (subst (λ i. Dark (take i bytes)) (sym e) (dark-front bytes)) (omega (arith, k, n)) (omega (arith, k, m))
+    (runs-word plan p at (get_or bytes end 0) (take end bytes) b x y (subst (λ i. Dark (take i bytes)) (sym e) (dark-front bytes)) (omega (arith, k, n))
+    (omega (arith, k, m))
     (subst (λ i. is_white (get_or bytes i 0) ≡ true) (sym e) (white-stop bytes (omega (arith, e, l)))) a)
 
 -- what it says, where that is a place
 pub front-told : (plan : Plan) (p q : Place) (at end : ℕ) (bytes : List ℕ) → end ≡ prefix_len is_dark bytes → 0 < end → end < length bytes → end ≤ 65536
-    → token_says plan p (token at (take end bytes)) p.amid ≡ goes q → (story_from plan p (settled_from at (take (end + 1) bytes)) ≡ record { place = q; fault = None }) × (fresh_after true (take (end + 1) bytes) ≡ true)
+    → token_says plan p (token at (take end bytes)) p.amid ≡ goes q →
+    (story_from plan p (settled_from at (take (end + 1) bytes)) ≡ record { place = q; fault = None }) × (fresh_after true (take (end + 1) bytes) ≡ true)
 front-told plan p q at end bytes e n l m s =
     let text : List ℕ = take end bytes in
     let w : ℕ = get_or bytes end 0 in
@@ -180,20 +190,24 @@ front-told plan p q at end bytes e n l m s =
     let white : is_white w ≡ true = subst (λ i. is_white (get_or bytes i 0) ≡ true) (sym e) (white-stop bytes (omega (arith, e, l))) in
     let dark : Dark text = subst (λ i. Dark (take i bytes)) (sym e) (dark-front bytes) in
     let said : story_from plan p (settled_from at (text ++ w ∷ [])) ≡ record { place = q; fault = None } =
-    ap (story_from plan p) (settled-word at w text dark (omega (arith, k, n)) (omega (arith, k, m)) white) ∙ word-told plan p (token at text) ∙ ap (told p) s in (
+    ap (story_from plan p) (settled-word at w text dark (omega (arith, k, n)) (omega (arith, k, m)) white) ∙ word-told plan p (token at text)
+    ∙ ap (told p) s in (
       subst (λ (part : List ℕ). story_from plan p (settled_from at part) ≡ record { place = q; fault = None }) (sym (take_more bytes end 0 l)) said,
       subst (λ (part : List ℕ). fresh_after true part ≡ true) (sym (take_more bytes end 0 l)) (fresh-behind true text (w ∷ []) (white, tt) (omega arith)),
     )
 
-pub front-breaks : (plan : Plan) (p : Place) (at end : ℕ) (bytes : List ℕ) (f : VcdFault) (b : Body) (x y : List ℕ) → end ≡ prefix_len is_dark bytes → 0 < end → end < length bytes → end ≤ 65536
+pub front-breaks : (plan : Plan) (p : Place) (at end : ℕ) (bytes : List ℕ) (f : VcdFault) (b : Body) (x y : List ℕ) → end ≡ prefix_len is_dark bytes → 0 < end
+    → end < length bytes → end ≤ 65536
     → Answers plan p.written (token_says plan p (token at (take end bytes)) p.amid) (Err f) b x y
     → (f ≡ faults.Memory) ⊎ Breaks plan p at bytes f p.written x y
 front-breaks plan p at end bytes f b x y e n l m a =
     let k : length (take end bytes) ≡ end = length-take-le end bytes (omega (arith, l)) in
-    by (word-breaks plan p at (get_or bytes end 0) (take end bytes) f b x y (subst (λ i. Dark (take i bytes)) (sym e) (dark-front bytes)) (omega (arith, k, n)) (omega (arith, k, m))
+    by (word-breaks plan p at (get_or bytes end 0) (take end bytes) f b x y (subst (λ i. Dark (take i bytes)) (sym e) (dark-front bytes))
+    (omega (arith, k, n)) (omega (arith, k, m))
     (subst (λ i. is_white (get_or bytes i 0) ≡ true) (sym e) (white-stop bytes (omega (arith, e, l)))) a)
   where
-    by : (f ≡ faults.Memory) ⊎ ((story_from plan p (settled_from at (take end bytes ++ get_or bytes end 0 ∷ [])) ≡ record { place = p; fault = Some f }) × (y ≡ x))
+    by : (f ≡ faults.Memory)
+        ⊎ ((story_from plan p (settled_from at (take end bytes ++ get_or bytes end 0 ∷ [])) ≡ record { place = p; fault = Some f }) × (y ≡ x))
         → (f ≡ faults.Memory) ⊎ Breaks plan p at bytes f p.written x y
     by (inl is) = inl is
     by (inr is) = inr (record {
@@ -240,10 +254,13 @@ breaks-on plan p at xs ys a x y z f r (inr b) = inr (record {
   where
     parts : (xs ys : List ℕ) (n : ℕ) → take (length xs + n) (xs ++ ys) ≡ xs ++ take n ys
     parts [] ys n = let z : zero + n ≡ n = omega arith in ap (λ (i : ℕ). take i ys) z
-    parts (x ∷ xs) ys n = let z : length (x ∷ xs) + n ≡ suc (length xs + n) = omega arith in ap (λ (i : ℕ). take i (x ∷ (xs ++ ys))) z ∙ ap (λ (zs : List ℕ). x ∷ zs) (parts xs ys n)
+    parts (x ∷ xs) ys n =
+        let z : length (x ∷ xs) + n ≡ suc (length xs + n) = omega arith in
+        ap (λ (i : ℕ). take i (x ∷ (xs ++ ys))) z ∙ ap (λ (zs : List ℕ). x ∷ zs) (parts xs ys n)
 
 -- nothing was taken by one way, and by the next so much
-pub takes-next : (plan : Plan) (p : Place) (at : ℕ) (bytes : List ℕ) (a : Body) (x y z : List ℕ) (b : Body) (res : Result ℕ VcdFault) → (r : Runs plan p at [] a x y) → Takes plan r.place at bytes res b y z → Takes plan p at bytes res b x z
+pub takes-next : (plan : Plan) (p : Place) (at : ℕ) (bytes : List ℕ) (a : Body) (x y z : List ℕ) (b : Body) (res : Result ℕ VcdFault)
+    → (r : Runs plan p at [] a x y) → Takes plan r.place at bytes res b y z → Takes plan p at bytes res b x z
 takes-next plan p at bytes a x y z b (Ok n) r t =
     let none : at ≡ at + length {A = ℕ} [] = omega arith in
     runs-both plan p at [] (take n bytes) a b x y z r (subst (λ (i : ℕ). Runs plan r.place i (take n bytes) b y z) none t)
@@ -251,7 +268,8 @@ takes-next plan p at bytes a x y z b (Err f) r t =
     let none : at ≡ at + length {A = ℕ} [] = omega arith in
     breaks-on plan p at [] bytes a x y z f r (subst (λ (i : ℕ). (f ≡ faults.Memory) ⊎ Breaks plan r.place i bytes f r.place.written y z) none t)
 
-pub step-takes : (plan : Plan) (p : Place) (at n : ℕ) (bytes : List ℕ) (a b : Body) (x y z : List ℕ) (res : Result ℕ VcdFault) → n ≡ 0 → Runs plan p at (take n bytes) a x y
+pub step-takes : (plan : Plan) (p : Place) (at n : ℕ) (bytes : List ℕ) (a b : Body) (x y z : List ℕ) (res : Result ℕ VcdFault) → n ≡ 0
+    → Runs plan p at (take n bytes) a x y
     → ((q : Place) → Stands plan q a → Takes plan q at bytes res b y z) → Takes plan p at bytes res b x z
 step-takes plan p at n bytes a b x y z res e r t =
     let none : Runs plan p at [] a x y = subst (λ (i : ℕ). Runs plan p at (take i bytes) a x y) e r in
@@ -288,15 +306,18 @@ rest-more k piece rest more r within cut =
     record { fits = omega (arith, r.fits, len); is = cut ∙ ap (drop k) r.is ∙ drop-drop k n piece ∙ ap (λ i. drop i piece) sum }
 
 -- of a part and then of the rest
-pub runs-on : (plan : Plan) (p : Place) (at i n : ℕ) (piece rest : List ℕ) (a b : Body) (x y z : List ℕ) → i ≤ length piece → rest ≡ drop i piece → (r : Runs plan p at (take i piece) a x y)
+pub runs-on : (plan : Plan) (p : Place) (at i n : ℕ) (piece rest : List ℕ) (a b : Body) (x y z : List ℕ) → i ≤ length piece → rest ≡ drop i piece
+    → (r : Runs plan p at (take i piece) a x y)
     → Runs plan r.place (at + i) (take n rest) b y z → Runs plan p at (take (i + n) piece) b x z
 runs-on plan p at i n piece rest a b x y z l e r s =
     let k : length (take i piece) ≡ i = length-take-le i piece l in
     subst (λ part. Runs plan p at part b x z) (ap (λ xs. take i piece ++ take n xs) e ∙ sym (take-add i n piece))
     (runs-both plan p at (take i piece) (take n rest) a b x y z r (subst (λ j. Runs plan r.place (at + j) (take n rest) b y z) (sym k) s))
 
-pub runs-more : (plan : Plan) (p : Place) (at k : ℕ) (piece rest : List ℕ) (a b : Body) (x y z : List ℕ) → IsRest piece rest → Runs plan p at (take (length piece - length rest) piece) a x y
-    → ((q : Place) → Stands plan q a → Runs plan q (at + (length piece - length rest)) (take k rest) b y z) → Runs plan p at (take (length piece - length rest + k) piece) b x z
+pub runs-more : (plan : Plan) (p : Place) (at k : ℕ) (piece rest : List ℕ) (a b : Body) (x y z : List ℕ) → IsRest piece rest
+    → Runs plan p at (take (length piece - length rest) piece) a x y
+    → ((q : Place) → Stands plan q a → Runs plan q (at + (length piece - length rest)) (take k rest) b y z) → Runs plan p at
+    (take (length piece - length rest + k) piece) b x z
 runs-more plan p at k piece rest a b x y z so r on =
     runs-on plan p at (length piece - length rest) k piece rest a b x y z (omega arith) so.is r (on r.place r.follows.stands)
 
@@ -314,6 +335,6 @@ rest-breaks plan p at piece rest a x y z f so r on =
     (subst (λ (i : ℕ). (f ≡ faults.Memory) ⊎ Breaks plan r.place (at + i) rest f r.place.written y z) (sym k) (on r.place r.follows.stands)))
 
 -- a place inside a piece fits the width of places
-pub place-fits : (at : ℕ) (piece rest : List ℕ) → at + length piece < 18446744073709551616
-    → (at + (length piece - length rest)) % 18446744073709551616 ≡ at + (length piece - length rest)
-place-fits at piece rest h = omega arith
+pub place-fits : (at : ℕ) (piece rest : List ℕ) → length rest ≤ length piece → at + length piece < 18446744073709551616
+    → ((at + length piece) % 18446744073709551616 + (18446744073709551616 - length rest)) % 18446744073709551616 ≡ at + (length piece - length rest)
+place-fits at piece rest l h = omega arith

@@ -31,7 +31,8 @@ settle-same hs n =
     (cases_lt n (length hs))
 
 -- one with a number among some is settled, and each other stays
-pub settle_each-at : (ns : List ℕ) (hs : List Held) (n : ℕ) → held_at (settle_each ns hs) n ≡ (if ticks_in n ns then settle_held (held_at hs n) else held_at hs n)
+pub settle_each-at : (ns : List ℕ) (hs : List Held) (n : ℕ)
+    → held_at (settle_each ns hs) n ≡ (if ticks_in n ns then settle_held (held_at hs n) else held_at hs n)
 settle_each-at [] hs n = refl
 settle_each-at (m ∷ ns) hs n = settle_each-at ns (replaced m settle_held hs) n ∙ by (nat_eq n m) refl
   where
@@ -46,7 +47,8 @@ settle_each-at (m ∷ ns) hs n = settle_each-at ns (replaced m settle_held hs) n
         (if ticks_in n ns then settle_held after else after) ≡ (if ticks_in n (m ∷ ns) then settle_held (held_at hs n) else held_at hs n)
     by true e =
         let here : after ≡ settle_held (held_at hs n) = ap (λ k. held_at (replaced k settle_held hs) n) (sym (eqb-true n m e)) ∙ settle-same hs n in
-        ap (λ h. if ticks_in n ns then settle_held h else h) here ∙ twice (ticks_in n ns) ∙ sym (ap (λ t. if t || ticks_in n ns then settle_held (held_at hs n) else held_at hs n) e)
+        ap (λ h. if ticks_in n ns then settle_held h else h) here ∙ twice (ticks_in n ns)
+        ∙ sym (ap (λ t. if t || ticks_in n ns then settle_held (held_at hs n) else held_at hs n) e)
     by false e =
         ap (λ h. if ticks_in n ns then settle_held h else h) (held_at-other hs m n settle_held (eqb-false n m e))
         ∙ sym (ap (λ t. if t || ticks_in n ns then settle_held (held_at hs n) else held_at hs n) e)
@@ -68,7 +70,8 @@ pub settle_each-touched : (ns : List ℕ) (hs : List Held) (n : ℕ) → ((held_
     (held_at (settle_each ns hs) n).touched ≡ false
 settle_each-touched ns hs n flag = ap (λ h. h.touched) (settle_each-at ns hs n) ∙ by (ticks_in n ns) refl (held_at hs n).touched refl
   where
-    by : (b : Bool) → ticks_in n ns ≡ b → (t : Bool) → (held_at hs n).touched ≡ t → (if ticks_in n ns then settle_held (held_at hs n) else held_at hs n).touched ≡ false
+    by : (b : Bool) → ticks_in n ns ≡ b → (t : Bool) → (held_at hs n).touched ≡ t
+        → (if ticks_in n ns then settle_held (held_at hs n) else held_at hs n).touched ≡ false
     by true e t f = rw e refl
     by false e false f = rw e f
     by false e true f = absurd (cc (flag f, e))

@@ -11,7 +11,8 @@ held_at-map (t ∷ ss) zero s l e = ap held (sym e)
 held_at-map (t ∷ ss) (suc i) s l e = held_at-map ss i s (omega (arith, l)) e
 
 pub forget-more : (hs : List Held) (i : ℕ) → i < length hs →
-    slice_set (map forget_held (take i hs) ++ drop i hs) i (forget_held (held_at (map forget_held (take i hs) ++ drop i hs) i)) ≡ map forget_held (take (suc i) hs) ++ drop (suc i) hs
+    slice_set (map forget_held (take i hs) ++ drop i hs) i (forget_held (held_at (map forget_held (take i hs) ++ drop i hs) i)) ≡ map forget_held
+    (take (suc i) hs) ++ drop (suc i) hs
 forget-more [] i l = absurd (omega (arith, l))
 forget-more (h ∷ hs) zero l = refl
 forget-more (h ∷ hs) (suc i) l = ap (λ gs. forget_held h ∷ gs) (forget-more hs i (omega (arith, l)))
@@ -30,7 +31,8 @@ pub replaced-past : (f : Held → Held) (hs : List Held) (i : ℕ) → length hs
 replaced-past f hs i l = past hs i (f (held_at hs i)) l
 
 -- one value was taken
-pub one-set : (ss : List Signal) (i : ℕ) (old new : Signal) (touched touched' : List ℕ) (letters : List ℕ) (dumped : Bool) → i < length ss → old ≡ get_or ss i old →
+pub one-set : (ss : List Signal) (i : ℕ) (old new : Signal) (touched touched' : List ℕ) (letters : List ℕ) (dumped : Bool) → i < length ss
+    → old ≡ get_or ss i old →
     held new ≡ touch_held letters dumped (held old) → touched' ≡ put_touched i (held old).touched touched →
     record { all = map held (slice_set ss i new); touched = touched' } ≡ set_one i letters dumped (record { all = map held ss; touched = touched })
 one-set ss i old new touched touched' letters dumped l e is more =

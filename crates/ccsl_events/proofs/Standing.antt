@@ -1,12 +1,12 @@
 -- What stands for a place, and what follows it.
-use Rattle.std.proofs.Common.{◌≡◌, inl, inr, ℕ, List, [], ◌++◌, Bool, true, false, Result, Ok, Err, if◌then◌else◌, refl, sym, ap, subst, ◌∙◌}
+use Rattle.std.proofs.Common.{◌≡◌, inl, inr, ℕ, ◌+◌, ◌-◌, ◌^◌, min, List, [], ◌++◌, Bool, true, false, Result, Ok, Err, if◌then◌else◌, refl, sym, ap, subst, ◌∙◌, arith}
 use Rattle.std.proofs.lemmas.List.{append-nil}
 use Rattle.ccsl_vcd.specs.declared.fault.VcdFault.{VcdFault}
 use Rattle.ccsl_vcd.specs.declared.fault.VcdFault.TheVariants as faults
 use Rattle.ccsl_triggers.specs.Views.{no_view}
 use Rattle.ccsl_events.specs.declared.body.Body.{Body}
 use Rattle.ccsl_events.specs.Dump.{Plan, Place, Said, goes, refused, block_says, gap_says}
-use Rattle.ccsl_events.specs.Standing.{are_skipped, Stands, Follows, Answers}
+use Rattle.ccsl_events.specs.Standing.{are_skipped, counted, Stands, Follows, Answers}
 
 -- nothing is written on the way
 pub follows-still : (plan : Plan) (q : Place) (b : Body) (xs : List ℕ) → Stands plan q b → Follows plan q.written q b xs xs
@@ -25,6 +25,10 @@ answers-still plan before (refused g) (Ok u) b xs a = a
 answers-still plan before (refused g) (Err f) b xs (inl is) = inl (is.0, refl)
 answers-still plan before (refused g) (Err f) b xs (inr m) = inr m
 
+-- so many more are counted
+pub counted-more : (n more : ℕ) → min (counted n + more) (2 ^ 64 - 1) ≡ counted (n + more)
+counted-more n more = omega arith
+
 -- values are recorded from here on, if a test holds
 pub stands-on : (plan : Plan) (p : Place) (b b' : Body) (t : Bool) → Stands plan p b → b' ≡ record b { is_on = if t then true else b.is_on } →
     Stands plan (record p { recording = if t then true else p.recording }) b'
@@ -41,7 +45,8 @@ stands-on plan p b b' t s is =
 
 -- a gap begins where a block may, and gaps are skipped
 pub gap-goes : (plan : Plan) (p : Place) (at : ℕ) (b c : Body) → Answers plan p.written (block_says p at) (Ok tt) b [] [] → are_skipped b.gaps ≡ true →
-    ((q : Place) → Stands plan q b → Stands plan (record q { recording = false; views = λ n. no_view }) c) → Answers plan p.written (gap_says plan p at) (Ok tt) c [] []
+    ((q : Place) → Stands plan q b → Stands plan (record q { recording = false; views = λ n. no_view }) c)
+    → Answers plan p.written (gap_says plan p at) (Ok tt) c [] []
 gap-goes plan p at b c a skip on = by p.dumping refl
   where
     block : Place

@@ -42,7 +42,8 @@ kept-user number name n k users e = by (n == number)
     by true = ticks_in-append k (users_of users n) name e
     by false = e
 
-pub first-more : (count done : ℕ) (watches : List Watch) (old new : List (Vec ℕ Global)) (w : Watch) → AreFirstUsers count done watches old → slice_get watches done ≡ Some w →
+pub first-more : (count done : ℕ) (watches : List Watch) (old new : List (Vec ℕ Global)) (w : Watch) → AreFirstUsers count done watches old
+    → slice_get watches done ≡ Some w →
     length new ≡ length old → ((n : ℕ) → users_of new n ≡ with_user (variable_of w.trigger) done old n) → AreFirstUsers count (done + 1) watches new
 first-more count done watches old new w first at len put = record {
   len = len ∙ first.len;
@@ -64,5 +65,6 @@ first-more count done watches old new w first at len put = record {
         (eq-eqb (variable_of w.trigger) (variable_of w.trigger) refl)
         ∙ ticks_in-last done (users_of old (variable_of w.trigger))
 
-pub first-all : (count done : ℕ) (watches : List Watch) (users : List (Vec ℕ Global)) → AreFirstUsers count done watches users → length watches ≤ done → AreUsers watches users
+pub first-all : (count done : ℕ) (watches : List Watch) (users : List (Vec ℕ Global)) → AreFirstUsers count done watches users → length watches ≤ done
+    → AreUsers watches users
 first-all count done watches users first all = λ name w e. first.each name w (omega (arith, all, slice_get_within watches name w e)) e

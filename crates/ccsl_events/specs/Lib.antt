@@ -9,3 +9,4 @@ pub mod Binding
 pub mod Binds
 pub mod Links
 pub mod Begun
+pub mod Times

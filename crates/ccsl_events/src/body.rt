@@ -11,12 +11,12 @@ ghost use Rattle.ccsl_events.specs.Meant.{meant};
 
 use crate::codes::Entry;
 use crate::output::FULL;
+use crate::present::{Present, digits_at_front};
 use crate::values::Values;
 use crate::word::{Word, are_letters, is_letter, is_text, word_of};
 use ccsl_base::{MAX_TOKEN_BYTES, Memory};
 use ccsl_vcd::VcdFault;
-use ccsl_vcd_lex::{code_at_front, is_space, run_end};
-use core::dec2flt::read_digits;
+use ccsl_vcd_lex::{code_at_front, run_end};
 use std::alloc::Global;
 
 /// What is done where values are not recorded for a while.
@@ -41,7 +41,7 @@ pub(crate) enum Amid {
 pub struct Body {
     pub(crate) values: Values,
     pub(crate) gaps: Gaps,
-    pub(crate) present: u64,
+    pub(crate) present: Present,
     pub(crate) amid: Amid,
     /// the letters of the vector whose code is the next token
     pub(crate) letters: Vec<u8>,
@@ -68,9 +68,6 @@ impl Drop for Body {
     }
 }
 
-/// A number of digits of which any value fits 64 bits.
-const DIGITS: usize = 19;
-
 impl Body {
     pub(crate) fn new(alloc: Global, values: Values, gaps: Gaps) -> Result<Body, Memory>
         ensures { IfOk result (λ b. (plan : Plan) → Keeps plan begin.views values →
@@ -80,7 +77,7 @@ impl Body {
         Ok(Body {
             values,
             gaps,
-            present: 0,
+            present: Present::new(0),
             amid: Amid::Changes,
             letters,
             is_dumping: false,
@@ -97,34 +94,39 @@ impl Body {
     }
 
     /// The present time is over: its row is appended, if it has one.
+    #[inline(always)]
     pub fn settle(&mut self, out: &mut Vec<u8>) -> Result<(), VcdFault>
-        ensures { (plan : Plan) (p : Place) → Stands plan p self.old → Answers plan p.written (goes (passed plan p)) result self.new out.old.items out.new.items }
+        ensures { (plan : Plan) (p : Place) → Stands plan p self.old →
+            Answers plan p.written (goes (passed plan p))
+            result self.new out.old.items out.new.items }
     {
-        let has_row = self.values.settle(self.present, out)?;
+        let has_row = self.values.settle(&self.present, out)?;
         self.times = self.times.saturating_add(u64::from(has_row));
         Ok(())
     }
 
     #[inline(always)]
-    fn time(&mut self, at: u64, time: u64, out: &mut Vec<u8>) -> Result<(), VcdFault>
-        ensures { (plan : Plan) (p : Place) → Stands plan p self.old → Answers plan p.written (time_says plan p at time) result self.new out.old.items out.new.items }
+    fn time(&mut self, at: u64, next: Present, out: &mut Vec<u8>) -> Result<(), VcdFault>
+        ensures { (plan : Plan) (p : Place) → Stands plan p self.old →
+            Answers plan p.written (time_says plan p at next)
+            result self.new out.old.items out.new.items }
     {
-        if time < self.present {
-            return Err(VcdFault::TimeBack {
-                at,
-                present: self.present,
-                time,
-            });
+        let present = self.present.time();
+        let time = next.time();
+        if time < present {
+            return Err(VcdFault::TimeBack { at, present, time });
         }
-        if time > self.present {
+        if time > present {
             self.settle(out)?;
-            self.present = time;
+            self.present = next;
         }
         Ok(())
     }
 
     fn begin_block(&mut self, at: u64) -> Result<(), VcdFault>
-        ensures { (plan : Plan) (p : Place) → Stands plan p self.old → Answers plan p.written (block_says p at) result self.new [] [] }
+        ensures { (plan : Plan) (p : Place) → Stands plan p self.old →
+            Answers plan p.written (block_says p at)
+            result self.new [] [] }
     {
         if self.is_dumping {
             return Err(VcdFault::UnknownCommand { at });
@@ -134,7 +136,9 @@ impl Body {
     }
 
     fn begin_gap(&mut self, at: u64) -> Result<(), VcdFault>
-        ensures { (plan : Plan) (p : Place) → Stands plan p self.old → Answers plan p.written (gap_says plan p at) result self.new [] [] }
+        ensures { (plan : Plan) (p : Place) → Stands plan p self.old →
+            Answers plan p.written (gap_says plan p at)
+            result self.new [] [] }
     {
         self.begin_block(at)?;
         match self.gaps {
@@ -148,7 +152,9 @@ impl Body {
     }
 
     fn end_block(&mut self, at: u64) -> Result<(), VcdFault>
-        ensures { (plan : Plan) (p : Place) → Stands plan p self.old → Answers plan p.written (end_says p at) result self.new [] [] }
+        ensures { (plan : Plan) (p : Place) → Stands plan p self.old →
+            Answers plan p.written (end_says p at)
+            result self.new [] [] }
     {
         if !self.is_dumping {
             return Err(VcdFault::UnknownCommand { at });
@@ -159,7 +165,9 @@ impl Body {
 
     // A command that begins a block of values: all of it but `$dumpoff`.
     fn block(&mut self, at: u64, text: &[u8]) -> Result<(), VcdFault>
-        ensures { (plan : Plan) (p : Place) → Stands plan p self.old → Answers plan p.written (word_says plan p (token at text.now) dump) result self.new [] [] }
+        ensures { (plan : Plan) (p : Place) → Stands plan p self.old →
+            Answers plan p.written (word_says plan p (token at text.now) dump)
+            result self.new [] [] }
     {
         if is_text(text, b"$dumpon") {
             self.is_on = true;
@@ -170,7 +178,8 @@ impl Body {
     // A vector, whose code is the next token.
     fn vector(&mut self, letters: &[u8]) -> Result<(), VcdFault>
         ensures { (plan : Plan) (p : Place) → Stands plan p self.old →
-            Answers plan p.written (goes (record p { amid = code_of letters.now })) result self.new [] [] }
+            Answers plan p.written (goes (record p { amid = code_of letters.now }))
+            result self.new [] [] }
     {
         self.letters.clear();
         self.letters.extend_from_slice(letters)?;
@@ -180,8 +189,10 @@ impl Body {
 
     // A change to one letter: the letter, and the code behind it.
     fn scalar(&mut self, at: u64, letter: u8, code: &[u8]) -> Result<(), VcdFault>
-        ensures { (plan : Plan) (p : Place) → Stands plan p self.old → self.old.amid ≡ Amid.Changes →
-            Answers plan p.written (changed plan p at code.now (letter ∷ [])) result self.new [] [] }
+        ensures { (plan : Plan) (p : Place) → Stands plan p self.old →
+            self.old.amid ≡ Amid.Changes →
+            Answers plan p.written (changed plan p at code.now (letter ∷ []))
+            result self.new [] [] }
     {
         self.values
             .change(at, code, &[letter], self.is_dumping, self.is_on)
@@ -189,11 +200,13 @@ impl Body {
 
     // A word in a change's place, and its token.
     fn say(&mut self, at: u64, word: Word, text: &[u8], out: &mut Vec<u8>) -> Result<(), VcdFault>
-        ensures { (plan : Plan) (p : Place) → Stands plan p self.old → self.old.amid ≡ Amid.Changes →
-            Answers plan p.written (word_says plan p (token at text.now) (meant word text.now)) result self.new out.old.items out.new.items }
+        ensures { (plan : Plan) (p : Place) → Stands plan p self.old →
+            self.old.amid ≡ Amid.Changes →
+            Answers plan p.written (word_says plan p (token at text.now) (meant word text.now))
+            result self.new out.old.items out.new.items }
     {
         match word {
-            Word::Time(time) => self.time(at, time, out),
+            Word::Time(time) => self.time(at, Present::new(time), out),
             Word::Scalar => match text {
                 [letter, code @ ..] => self.scalar(at, *letter, code),
                 [] => Err(VcdFault::BadChange { at }),
@@ -220,7 +233,9 @@ impl Body {
     }
 
     fn vector_code(&mut self, at: u64, code: &[u8]) -> Result<(), VcdFault>
-        ensures { (plan : Plan) (p : Place) → Stands plan p self.old → Answers plan p.written (changed plan p at code.now self.old.letters.items) result self.new [] [] }
+        ensures { (plan : Plan) (p : Place) → Stands plan p self.old →
+            Answers plan p.written (changed plan p at code.now self.old.letters.items)
+            result self.new [] [] }
     {
         self.amid = Amid::Changes;
         self.values.change(
@@ -233,7 +248,9 @@ impl Body {
     }
 
     fn skipped_code(&mut self, at: u64, code: &[u8]) -> Result<(), VcdFault>
-        ensures { (plan : Plan) (p : Place) → Stands plan p self.old → Answers plan p.written (token_says plan p (token at code.now) code_skipped) result self.new [] [] }
+        ensures { (plan : Plan) (p : Place) → Stands plan p self.old →
+            Answers plan p.written (token_says plan p (token at code.now) code_skipped)
+            result self.new [] [] }
     {
         if self.values.codes.find(code) == Entry::Undeclared {
             return Err(VcdFault::UnknownCode { at });
@@ -243,7 +260,9 @@ impl Body {
     }
 
     fn remark(&mut self, text: &[u8]) -> Result<(), VcdFault>
-        ensures { (at : ℕ) (plan : Plan) (p : Place) → Stands plan p self.old → Answers plan p.written (token_says plan p (token at text.now) remark) result self.new [] [] }
+        ensures { (at : ℕ) (plan : Plan) (p : Place) → Stands plan p self.old →
+            Answers plan p.written (token_says plan p (token at text.now) remark)
+            result self.new [] [] }
     {
         if is_text(text, b"$end") {
             self.amid = Amid::Changes;
@@ -253,7 +272,9 @@ impl Body {
 
     /// Takes a token that ended, at a place.
     pub(crate) fn hear(&mut self, at: u64, text: &[u8], out: &mut Vec<u8>) -> Result<(), VcdFault>
-        ensures { (plan : Plan) (p : Place) → Stands plan p self.old → Answers plan p.written (token_says plan p (token at text.now) p.amid) result self.new out.old.items out.new.items }
+        ensures { (plan : Plan) (p : Place) → Stands plan p self.old →
+            Answers plan p.written (token_says plan p (token at text.now) p.amid)
+            result self.new out.old.items out.new.items }
     {
         match self.amid {
             Amid::Changes => self.say(at, word_of(text), text, out),
@@ -268,23 +289,25 @@ impl Body {
     #[inline(always)]
     fn short_time(&mut self, at: u64, bytes: &[u8], out: &mut Vec<u8>) -> Result<usize, VcdFault>
         ensures within { IfOk result (λ taken. taken ≤ length bytes.now + 1) }
-        ensures takes { (plan : Plan) (p : Place) → Stands plan p self.old → self.old.amid ≡ Amid.Changes →
+        ensures takes { (plan : Plan) (p : Place) → Stands plan p self.old →
+            self.old.amid ≡ Amid.Changes →
             Takes plan p at (35 ∷ bytes.now) result self.new out.old.items out.new.items }
     {
-        let (count, time) = read_digits(bytes, 0, 0);
-        if count == 0 || count > DIGITS || count >= bytes.len() || !is_space(bytes[count]) {
+        let Some(digits) = digits_at_front(bytes) else {
             return Ok(0);
-        }
-        self.time(at, time, out)?;
-        Ok(count + 2)
+        };
+        self.time(at, Present::of_front(digits, bytes), out)?;
+        Ok(digits.count + 2)
     }
 
     // A change to one letter, of a short code.
     #[inline(always)]
     fn short_change(&mut self, letter: u8, bytes: &[u8]) -> Result<usize, Memory>
         ensures within { IfOk result (λ taken. taken ≤ length bytes.now + 1) }
-        ensures runs { IfOk result (λ taken. (at : ℕ) (plan : Plan) (p : Place) (out : List ℕ) → Stands plan p self.old →
-            self.old.amid ≡ Amid.Changes → is_scalar letter ≡ true → Runs plan p at (take taken (letter ∷ bytes.now)) self.new out out) }
+        ensures runs { IfOk result (λ taken. (at : ℕ) (plan : Plan) (p : Place) (out : List ℕ) →
+            Stands plan p self.old →
+            self.old.amid ≡ Amid.Changes → is_scalar letter ≡ true →
+            Runs plan p at (take taken (letter ∷ bytes.now)) self.new out out) }
     {
         let Some(code) = code_at_front(bytes) else {
             return Ok(0);
@@ -303,8 +326,10 @@ impl Body {
     #[inline(never)]
     fn short_vector(&mut self, bytes: &[u8]) -> Result<usize, Memory>
         ensures within { IfOk result (λ taken. taken ≤ length bytes.now + 1) }
-        ensures runs { IfOk result (λ taken. (at : ℕ) (plan : Plan) (p : Place) (out : List ℕ) → Stands plan p self.old →
-            self.old.amid ≡ Amid.Changes → Runs plan p at (take taken (98 ∷ bytes.now)) self.new out out) }
+        ensures runs { IfOk result (λ taken. (at : ℕ) (plan : Plan) (p : Place) (out : List ℕ) →
+            Stands plan p self.old →
+            self.old.amid ≡ Amid.Changes →
+            Runs plan p at (take taken (98 ∷ bytes.now)) self.new out out) }
     {
         let end = run_end(bytes, 0);
         if end == 0 || end >= bytes.len() || end >= MAX_TOKEN_BYTES {
@@ -391,14 +416,15 @@ impl Body {
         ensures takes { (plan : Plan) (p : Place) → Stands plan p self.old →
             at + length piece.now < 2 ^ 64 →
             Takes plan p at piece.now result self.new out.old.items out.new.items }
-        ensures stops { IfOk result (λ taken. IsOpen (drop taken piece.now) ⊎ (FULL ≤ length out.new.items)) }
+        ensures stops { IfOk result (λ taken. IsOpen (drop taken piece.now) ⊎
+            (FULL ≤ length out.new.items)) }
     {
+        let end = at.wrapping_add(piece.len() as u64);
         let mut rest = piece;
         'tokens: while !rest.is_empty() && out.len() < FULL {
-            let from = piece.len() - rest.len();
-            let taken = self.step(at.wrapping_add(from as u64), rest, out)?;
+            let taken = self.step(end.wrapping_sub(rest.len() as u64), rest, out)?;
             if taken == 0 {
-                return Ok(from);
+                return Ok(piece.len() - rest.len());
             }
             rest = &rest[taken..];
         }

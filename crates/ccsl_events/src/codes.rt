@@ -45,13 +45,15 @@ impl Model for Codes {
 
     ghost view = { λ c. record { names = c.names; entries = c.entries.items } };
 
-    ghost invariant = { λ c. IsTable c.short.items (record { names = c.names; entries = c.entries.items }) };
+    ghost invariant = { λ c. IsTable c.short.items
+        (record { names = c.names; entries = c.entries.items }) };
 }
 
 // A table of so many places, where no code is declared.
 fn undeclared(alloc: Global, count: usize) -> Result<Vec<Entry>, Memory>
     ensures len { IfOk result (λ table. length table.items ≡ count) }
-    ensures none { IfOk result (λ table. (i : ℕ) → slice_index_or table.items i Entry.Undeclared ≡ Entry.Undeclared) }
+    ensures none { IfOk result (λ table. (i : ℕ) →
+        slice_index_or table.items i Entry.Undeclared ≡ Entry.Undeclared) }
 {
     Ok(vec![in alloc; Entry::Undeclared; count]?)
 }
@@ -82,7 +84,8 @@ impl Codes {
     /// What is known of the code of a place.
     #[inline(always)]
     pub(crate) fn at(&self, place: usize) -> Entry
-        ensures { (code : List ℕ) → place_of code < SHORT → place ≡ place_of code → result ≡ entry_of self.now code }
+        ensures { (code : List ℕ) → place_of code < SHORT → place ≡ place_of code →
+            result ≡ entry_of self.now code }
     {
         if place < self.short.len() {
             self.short[place]

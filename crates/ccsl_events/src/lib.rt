@@ -8,6 +8,7 @@ pub(crate) mod codes;
 pub mod laws;
 pub(crate) mod links;
 pub mod output;
+pub(crate) mod present;
 pub mod reader;
 pub(crate) mod values;
 pub(crate) mod word;

@@ -44,7 +44,8 @@ impl Links {
         requires coded { source.code < length self.old.entries.items }
         ensures { OnOk result ((codes : ℕ) (sources : List Source) →
             IsLinked codes sources (map held self.old.signals.items) self.old.entries.items →
-            IsLinked codes (sources ++ source ∷ []) (map held self.new.signals.items) self.new.entries.items) }
+            IsLinked codes (sources ++ source ∷ [])
+            (map held self.new.signals.items) self.new.entries.items) }
     {
         let number = self.signals.len();
         if number >= u32::MAX as usize {
@@ -62,7 +63,8 @@ impl Links {
 /// What is kept for some variables, of so many codes.
 pub(crate) fn link(alloc: Global, sources: &[Source], codes: u32) -> Result<Links, Memory>
     requires coded { are_coded codes sources.now ≡ true }
-    ensures { IfOk result (λ l. IsLinked codes sources.now (map held l.signals.items) l.entries.items) }
+    ensures { IfOk result (λ l. IsLinked codes sources.now
+        (map held l.signals.items) l.entries.items) }
 {
     let mut links = Links::new(alloc, codes)?;
     for source in sources {

@@ -1,6 +1,6 @@
 //! The variables that triggers read, by the changes of a dump.
 
-ghost use Rattle.std.specs.Prelude.{◌≡◌, ◌<◌, ◌⊎◌, ℕ, List, IfErr, false, true, if◌then◌else◌, ◌++◌, [], Some, OnOk, IfOk, length, map};
+ghost use Rattle.std.specs.Prelude.{◌≡◌, ◌<◌, ◌-◌, ◌⊎◌, ℕ, List, IfErr, false, true, if◌then◌else◌, ◌++◌, [], Some, OnOk, IfOk, length, map};
 ghost use Rattle.ccsl_triggers.specs.Held.{held, settle_held, forget_held};
 ghost use Rattle.ccsl_triggers.specs.Views.{View, no_view, at_rest};
 ghost use Rattle.ccsl_events.specs.Dump.{Plan, is_declared, heard_in, row_of, has_row};
@@ -8,10 +8,10 @@ ghost use Rattle.ccsl_triggers.specs.Triggers.{view_at};
 ghost use Rattle.ccsl_events.specs.Keeping.{fires, with_names, users_of, with_users, replaced, held_at, settle_each, kept, set_one, set_chain, is_known, SameTables, Knows, Keeps};
 
 use crate::codes::{Codes, Entry};
+use crate::present::Present;
 use ccsl_base::{ClockSet, MAX_CLOCKS, Memory};
 use ccsl_triggers::{Signal, Watch, put_row};
 use ccsl_vcd::VcdFault;
-use itoa::Buffer;
 
 /// What is kept of the dump's values, and what is read of them.
 pub(crate) struct Values {
@@ -89,7 +89,8 @@ fn put_names(
     signals: &[Signal],
     names: &mut ClockSet,
 )
-    ensures { names.new ≡ with_users variables.now users.now watches.now (view_at signals.now) names.old }
+    ensures { names.new ≡ with_users variables.now users.now watches.now
+        (view_at signals.now) names.old }
 {
     for number in variables {
         put_names_of(users_of(users, *number), watches, signals, names);
@@ -106,7 +107,8 @@ fn forget_all(signals: &mut [Signal])
 
 #[inline(always)]
 fn settle_one(number: usize, signals: &mut [Signal]) -> Result<(), Memory>
-    ensures { OnOk result (map held signals.new ≡ replaced number settle_held (map held signals.old)) }
+    ensures { OnOk result (map held signals.new ≡
+        replaced number settle_held (map held signals.old)) }
 {
     if number < signals.len() {
         let signal = &mut signals[number];
@@ -136,8 +138,10 @@ impl Values {
         is_dumped: bool,
     ) -> Result<Option<usize>, Memory>
         requires { number < length self.old.signals.items }
-        ensures kept { OnOk result (kept self.new ≡ set_one number letters.now is_dumped (kept self.old)) }
-        ensures next { IfOk result (λ next. next ≡ (held_at (map held self.old.signals.items) number).next) }
+        ensures kept { OnOk result (kept self.new ≡
+            set_one number letters.now is_dumped (kept self.old)) }
+        ensures next { IfOk result (λ next. next ≡
+            (held_at (map held self.old.signals.items) number).next) }
         ensures same { OnOk result (SameTables self.old self.new) }
     {
         let signal = &mut self.signals[number];
@@ -150,14 +154,16 @@ impl Values {
         Ok(next)
     }
 
-    // A value of a variable, and of those of the same code and another size.
-    #[inline(always)]
-    fn set(&mut self, first: u32, letters: &[u8], is_dumped: bool) -> Result<(), Memory>
-        ensures kept { OnOk result (kept self.new ≡ set_chain (length self.old.signals.items) (Some first) letters.now is_dumped (kept self.old)) }
+    // A value of a variable behind the first of its code, and of those behind it.
+    #[inline(never)]
+    fn set_others(&mut self, second: usize, letters: &[u8], is_dumped: bool) -> Result<(), Memory>
+        ensures kept { OnOk result (kept self.new ≡
+            set_chain (length self.old.signals.items - 1) (Some second) letters.now is_dumped
+            (kept self.old)) }
         ensures same { OnOk result (SameTables self.old self.new) }
     {
-        let mut next = Some(first as usize);
-        'variables: for _count in 0..self.signals.len() {
+        let mut next = Some(second);
+        'variables: for _count in 1..self.signals.len() {
             let Some(number) = next else {
                 return Ok(());
             };
@@ -167,6 +173,24 @@ impl Values {
             next = self.set_one(number, letters, is_dumped)?;
         }
         Ok(())
+    }
+
+    // A value of a variable, and of those of the same code and another size.
+    #[inline(always)]
+    fn set(&mut self, first: u32, letters: &[u8], is_dumped: bool) -> Result<(), Memory>
+        ensures kept { OnOk result (kept self.new ≡
+            set_chain (length self.old.signals.items) (Some first) letters.now is_dumped
+            (kept self.old)) }
+        ensures same { OnOk result (SameTables self.old self.new) }
+    {
+        let number = first as usize;
+        if number >= self.signals.len() {
+            return Ok(());
+        }
+        match self.set_one(number, letters, is_dumped)? {
+            Some(second) => self.set_others(second, letters, is_dumped),
+            None => Ok(()),
+        }
     }
 
     /// A change of the value of a code, of which this is known, to these letters. It answers whether the code is declared.
@@ -179,9 +203,11 @@ impl Values {
         is_kept: bool,
     ) -> Result<bool, Memory>
         ensures declared { IfOk result (λ is_there. is_there ≡ is_known known) }
-        ensures keeps { OnOk result ((plan : Plan) (views : ℕ → View) (code : List ℕ) → Keeps plan views self.old →
+        ensures keeps { OnOk result ((plan : Plan) (views : ℕ → View) (code : List ℕ) →
+            Keeps plan views self.old →
             Knows plan (map held self.old.signals.items) code known → is_known known ≡ true →
-            Keeps plan (if is_kept then heard_in plan code letters.now is_dumped views else views) self.new) }
+            Keeps plan
+            (if is_kept then heard_in plan code letters.now is_dumped views else views) self.new) }
         ensures still { IfOk result (λ is_there. is_there ≡ false → self.new ≡ self.old) }
     {
         match known {
@@ -202,9 +228,13 @@ impl Values {
         is_kept: bool,
     ) -> Result<(), VcdFault>
         ensures kept { OnOk result ((plan : Plan) (views : ℕ → View) → Keeps plan views self.old →
-            (is_declared plan code.now ≡ true) × Keeps plan (if is_kept then heard_in plan code.now letters.now is_dumped views else views) self.new) }
-        ensures refused { IfErr result (λ f. (f ≡ VcdFault.Memory) ⊎ ((f ≡ VcdFault.UnknownCode at) ×
-            ((plan : Plan) (views : ℕ → View) → Keeps plan views self.old → is_declared plan code.now ≡ false))) }
+            (is_declared plan code.now ≡ true) ×
+            Keeps plan
+            (if is_kept then heard_in plan code.now letters.now is_dumped views else views) self.new) }
+        ensures refused { IfErr result (λ f. (f ≡ VcdFault.Memory) ⊎
+            ((f ≡ VcdFault.UnknownCode at) ×
+            ((plan : Plan) (views : ℕ → View) → Keeps plan views self.old →
+            is_declared plan code.now ≡ false))) }
     {
         let known = self.codes.find(code);
         if self.change_known(known, letters, is_dumped, is_kept)? {
@@ -215,10 +245,11 @@ impl Values {
 
     /// The present time is over: its row is appended, if it has one. It answers whether it has.
     #[inline(never)]
-    pub(crate) fn settle(&mut self, time: u64, out: &mut Vec<u8>) -> Result<bool, Memory>
+    pub(crate) fn settle(&mut self, present: &Present, out: &mut Vec<u8>) -> Result<bool, Memory>
         ensures row { OnOk result ((plan : Plan) (views : ℕ → View) → Keeps plan views self.old →
-            out.new.items ≡ out.old.items ++ row_of plan time views) }
-        ensures counts { IfOk result (λ is_row. (plan : Plan) (views : ℕ → View) → Keeps plan views self.old →
+            out.new.items ≡ out.old.items ++ row_of plan present.now views) }
+        ensures counts { IfOk result (λ is_row. (plan : Plan) (views : ℕ → View) →
+            Keeps plan views self.old →
             is_row ≡ has_row plan views) }
         ensures keeps { OnOk result ((plan : Plan) (views : ℕ → View) → Keeps plan views self.old →
             Keeps plan (λ n. at_rest (views n)) self.new) }
@@ -226,9 +257,6 @@ impl Values {
         if self.touched.is_empty() {
             return Ok(false);
         }
-        // They are made before the names are looked for: a copy of bytes that were only just stored has to wait for them.
-        let mut buffer = Buffer::new();
-        let digits = buffer.format(time).as_bytes();
         self.names.copy_from(&self.none);
         put_names(
             self.touched.as_slice(),
@@ -237,15 +265,16 @@ impl Values {
             self.signals.as_slice(),
             &mut self.names,
         );
-        put_row(digits, &self.names, out)?;
+        let is_row = put_row(present.line(), &self.names, out)?;
         settle_all(self.touched.as_slice(), self.signals.as_mut_slice())?;
         self.touched.clear();
-        Ok(!self.names.is_empty())
+        Ok(is_row)
     }
 
     /// Values are not recorded any more.
     pub(crate) fn forget(&mut self)
-        ensures { (plan : Plan) (views : ℕ → View) → Keeps plan views self.old → Keeps plan (λ n. no_view) self.new }
+        ensures { (plan : Plan) (views : ℕ → View) → Keeps plan views self.old →
+            Keeps plan (λ n. no_view) self.new }
     {
         forget_all(self.signals.as_mut_slice());
     }

@@ -2,7 +2,7 @@
 use Rattle.std.specs.Prelude.{◌≡◌, ℕ, List, Bool, false, Option, None}
 use Rattle.ccsl_triggers.specs.declared.signal.Signal.{Signal}
 use Rattle.ccsl_triggers.specs.Views.{View, no_view, with_value, at_rest}
-use Rattle.ccsl_triggers.specs.Triggers.{view_of}
+use Rattle.ccsl_triggers.specs.Triggers.{size_of, view_of}
 
 pub record Held : Type 0 where
   pub size : ℕ
@@ -13,7 +13,7 @@ pub record Held : Type 0 where
   pub next : Option ℕ
 
 abbrev pub held : Signal → Held
-held s = record { size = s.size; view = view_of s; touched = s.touched; next = s.next }
+held s = record { size = size_of s.value; view = view_of s; touched = s.touched; next = s.next }
 
 abbrev pub new_held : ℕ → Held
 new_held size = record { size = size; view = no_view; touched = false; next = None }

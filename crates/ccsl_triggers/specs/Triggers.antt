@@ -4,6 +4,10 @@ use Rattle.std.specs.Prelude.{ℕ, ◌-◌, List, [], ◌∷◌, length, Bool, t
 use Rattle.std.specs.List.{list_all}
 use Rattle.ccsl_scopes.specs.declared.select.Bits.{Bits}
 use Rattle.ccsl_triggers.specs.Views.{View, no_view}
+use Rattle.std.specs.declared.vec.Vec.{Vec}
+use Rattle.std.specs.declared.alloc.Global.{Global}
+use Rattle.ccsl_triggers.specs.declared.signal.Value.{Value}
+use Rattle.ccsl_triggers.specs.declared.signal.Value.TheVariants.{One, Many}
 use Rattle.ccsl_triggers.specs.declared.signal.Signal.{Signal}
 use Rattle.ccsl_triggers.specs.declared.watch.Part.{Part}
 use Rattle.ccsl_triggers.specs.declared.watch.Goal.{Goal}
@@ -11,12 +15,33 @@ use Rattle.ccsl_triggers.specs.declared.watch.Watch.{Watch}
 use Rattle.ccsl_triggers.specs.declared.watch.Trigger.{Trigger}
 use Rattle.ccsl_triggers.specs.declared.watch.Trigger.TheVariants.{Rise, Fall, Change, Becomes, Record}
 
+-- a value of one letter, and one of several, where there is one
+abbrev pub letter_in : Option ℕ → Option (List ℕ)
+letter_in None = None
+letter_in (Some letter) = Some (letter ∷ [])
+
+abbrev pub letters_in : Vec ℕ Global → Bool → Option (List ℕ)
+letters_in letters has_any = if has_any then Some letters.items else None
+
+-- how many letters a value has, and those before a time and after it
+abbrev pub size_of : Value → ℕ
+size_of (One letter) = 1
+size_of (Many letters) = letters.size
+
+abbrev pub before_in : Value → Option (List ℕ)
+before_in (One letter) = letter_in letter.before
+before_in (Many letters) = letters_in letters.before letters.has_before
+
+abbrev pub after_in : Value → Option (List ℕ)
+after_in (One letter) = letter_in letter.after
+after_in (Many letters) = letters_in letters.after letters.has_after
+
 -- the letters of a variable that is kept, before a time and after it
 abbrev pub value_before : Signal → Option (List ℕ)
-value_before s = if s.has_before then Some s.before.items else None
+value_before s = before_in s.value
 
 abbrev pub value_after : Signal → Option (List ℕ)
-value_after s = if s.has_after then Some s.after.items else None
+value_after s = after_in s.value
 
 abbrev pub view_of : Signal → View
 view_of s = record { before = value_before s; after = value_after s; heard = s.heard }

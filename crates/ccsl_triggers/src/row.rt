@@ -1,8 +1,9 @@
 //! What is written of a time.
 
-ghost use Rattle.std.specs.Prelude.{◌≡◌, ◌++◌, OnOk};
+ghost use Rattle.std.specs.Prelude.{◌≡◌, ◌++◌, ℕ, List, length, nat_lt, IfOk, OnOk};
 ghost use Rattle.ccsl_triggers.specs.Output.{code_byte, code_of, time_line, tick_line, tick_lines, row_text};
 
+use crate::time_line::TimeLine;
 use ccsl_base::{ClockSet, Memory};
 
 fn code_byte(i: u32) -> u8
@@ -21,15 +22,6 @@ pub fn put_code(name: u32, out: &mut Vec<u8>) -> Result<(), Memory>
     }
     out.push(code_byte((name - 94) / 94))?;
     out.push(code_byte((name - 94) % 94))?;
-    Ok(())
-}
-
-fn put_time(digits: &[u8], out: &mut Vec<u8>) -> Result<(), Memory>
-    ensures { OnOk result (out.new.items ≡ out.old.items ++ time_line digits.now) }
-{
-    out.push(b'#')?;
-    out.extend_from_slice(digits)?;
-    out.push(b'\n')?;
     Ok(())
 }
 
@@ -55,13 +47,16 @@ fn put_ticks(names: &ClockSet, out: &mut Vec<u8>) -> Result<(), Memory>
     Ok(())
 }
 
-/// Appends the row of a time with these digits: its line, and one for each name that happens, if any does.
-pub fn put_row(digits: &[u8], names: &ClockSet, out: &mut Vec<u8>) -> Result<(), Memory>
-    ensures { OnOk result (out.new.items ≡ out.old.items ++ row_text digits.now names.now) }
+/// Appends the row of a time: its line, and one for each name that happens, if any does. It answers whether any does.
+pub fn put_row(line: &TimeLine, names: &ClockSet, out: &mut Vec<u8>) -> Result<bool, Memory>
+    ensures row { OnOk result ((digits : List ℕ) → line.now ≡ time_line digits →
+        out.new.items ≡ out.old.items ++ row_text digits names.now) }
+    ensures some { IfOk result (λ is_row. is_row ≡ nat_lt 0 (length names.now)) }
 {
     if names.is_empty() {
-        return Ok(());
+        return Ok(false);
     }
-    put_time(digits, out)?;
-    put_ticks(names, out)
+    line.put(out)?;
+    put_ticks(names, out)?;
+    Ok(true)
 }

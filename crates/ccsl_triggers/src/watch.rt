@@ -99,7 +99,8 @@ impl Goal {
     }
 
     fn begins_on(&self, signal: &Signal) -> bool
-        ensures { result ≡ of_values (begins self.now) (value_before signal.now) (value_after signal.now) }
+        ensures { result ≡ of_values (begins self.now) (value_before signal.now)
+            (value_after signal.now) }
     {
         match (signal.before(), signal.after()) {
             (Some(before), Some(after)) => self.begins(before, after),
@@ -122,7 +123,8 @@ impl Goal {
 
 impl Part {
     fn rises(&self, signal: &Signal) -> bool
-        ensures { result ≡ of_values (of_part rises self.now.bits) (value_before signal.now) (value_after signal.now) }
+        ensures { result ≡ of_values (of_part rises self.now.bits) (value_before signal.now)
+            (value_after signal.now) }
     {
         match (signal.before(), signal.after()) {
             (Some(before), Some(after)) => rises(
@@ -134,7 +136,8 @@ impl Part {
     }
 
     fn falls(&self, signal: &Signal) -> bool
-        ensures { result ≡ of_values (of_part falls self.now.bits) (value_before signal.now) (value_after signal.now) }
+        ensures { result ≡ of_values (of_part falls self.now.bits) (value_before signal.now)
+            (value_after signal.now) }
     {
         match (signal.before(), signal.after()) {
             (Some(before), Some(after)) => falls(
@@ -146,7 +149,8 @@ impl Part {
     }
 
     fn differs(&self, signal: &Signal) -> bool
-        ensures { result ≡ of_values (of_part differs self.now.bits) (value_before signal.now) (value_after signal.now) }
+        ensures { result ≡ of_values (of_part differs self.now.bits) (value_before signal.now)
+            (value_after signal.now) }
     {
         match (signal.before(), signal.after()) {
             (Some(before), Some(after)) => differs(

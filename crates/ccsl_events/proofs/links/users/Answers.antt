@@ -15,7 +15,8 @@ loop-watch-preserved c =
       first =
           subst (AreFirstUsers c.args.count (i + 1) c.args.watches.now)
           (sym (with_items_is old new (c.put_user.auto.users ∙ ap length c.as_mut_slice.ensures.value ∙ sym old.ok.0)))
-          (first-more c.args.count i c.args.watches.now old.items new w c.loop-watch.invariant.first (got-watch c.args.watches.now i w c.loop-watch-test.true c.watch-item.is)
+          (first-more c.args.count i c.args.watches.now old.items new w c.loop-watch.invariant.first
+          (got-watch c.args.watches.now i w c.loop-watch-test.true c.watch-item.is)
           (c.put_user.auto.users ∙ ap length c.as_mut_slice.ensures.value)
           (λ n.
           c.in_ok-put_user.ensures n ∙ ap (λ us. with_user c.signal.result c.loop-watch.name us n) c.as_mut_slice.ensures.value

@@ -12,7 +12,8 @@ loop-signal-preserved c =
     let i = c.loop-signal.signal-index in
     let here : i < length ys = omega (arith, c.loop-signal-test.true, c.loop-signal.auto.signal-items) in
     map-set held ys i c.forget.new.self
-    ∙ ap (slice_set (map held ys) i) (c.forget.ensures ∙ ap (λ s. forget_held (held s)) (sym c.signal-item.is) ∙ ap forget_held (sym (held_at-map ys i c.signal-item.result here c.signal-item.is)))
+    ∙ ap (slice_set (map held ys) i) (c.forget.ensures ∙ ap (λ s. forget_held (held s)) (sym c.signal-item.is)
+    ∙ ap forget_held (sym (held_at-map ys i c.signal-item.result here c.signal-item.is)))
     ∙ ap (λ hs. slice_set hs i (forget_held (held_at hs i))) c.loop-signal.invariant
     ∙ forget-more xs i (omega (arith, c.loop-signal-test.true, length-map c.args.signals.now held))
     ∙ ap (λ n. map forget_held (take n xs) ++ drop n xs) (sym (add-one i))

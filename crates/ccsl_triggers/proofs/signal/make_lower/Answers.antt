@@ -3,7 +3,8 @@ use Rattle.ccsl_triggers.specs.Sized.{lower}
 use Rattle.ccsl_triggers.proofs.signal.make_lower.Goals as goal
 
 one_more : (xs : List ℕ) (i : ℕ) → i < length xs
-    → slice_set (map lower (take i xs) ++ drop i xs) i (lower (slice_index_or (map lower (take i xs) ++ drop i xs) i 0)) ≡ map lower (take (suc i) xs) ++ drop (suc i) xs
+    → slice_set (map lower (take i xs) ++ drop i xs) i (lower (slice_index_or (map lower (take i xs) ++ drop i xs) i 0)) ≡ map lower (take (suc i) xs) ++ drop
+    (suc i) xs
 one_more [] i h = absurd (omega (arith, h))
 one_more (x ∷ xs) zero h = refl
 one_more (x ∷ xs) (suc i) h = ap (λ ys. lower x ∷ ys) (one_more xs i (omega (arith, h)))

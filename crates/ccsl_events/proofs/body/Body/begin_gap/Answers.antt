@@ -9,7 +9,8 @@ pub returns-in-Skip : goal.returns-in-Skip
 returns-in-Skip c plan p s =
     let block = c.begin_block.new.self in
     gap-goes plan p c.args.at block _
-    (subst (λ (r : Result (Unit {0}) VcdFault). Answers plan p.written (block_says p c.args.at) r block [] []) c.in_ok-begin_block.was (c.begin_block.ensures plan p s))
+    (subst (λ (r : Result (Unit {0}) VcdFault). Answers plan p.written (block_says p c.args.at) r block [] []) c.in_ok-begin_block.was
+    (c.begin_block.ensures plan p s))
     (ap are_skipped c.in-Skip.is)
     (λ q t. record {
       keeps = c.forget.ensures plan q.views t.keeps;

@@ -30,7 +30,7 @@ tokens-preserved c =
           (runs-more plan p c.args.at taken piece rest c.tokens.self c.step.new.self c.args.out.now.items c.tokens.out.items c.step.new.out.items so
           (c.tokens.invariant.runs plan p s fits)
           (λ q t. subst (λ (i : ℕ). Runs plan q i (take taken rest) c.step.new.self c.tokens.out.items c.step.new.out.items)
-          (place-fits c.args.at piece rest fits) (c.in_ok-taken.ensures.takes plan q t)));
+          (place-fits c.args.at piece rest c.tokens.invariant.rest.fits fits) (c.in_ok-taken.ensures.takes plan q t)));
     }
 
 pub returns-then-taken-eq0-clause-takes : goal.returns-then-taken-eq0-clause-takes
@@ -42,7 +42,7 @@ returns-then-taken-eq0-clause-takes c plan p s fits =
     (runs-more plan p c.args.at c.in_ok-taken.taken piece rest c.tokens.self c.step.new.self c.args.out.now.items c.tokens.out.items c.step.new.out.items
     c.tokens.invariant.rest (c.tokens.invariant.runs plan p s fits)
     (λ q t. subst (λ (i : ℕ). Runs plan q i (take c.in_ok-taken.taken rest) c.step.new.self c.tokens.out.items c.step.new.out.items)
-    (place-fits c.args.at piece rest fits) (c.in_ok-taken.ensures.takes plan q t)))
+    (place-fits c.args.at piece rest c.tokens.invariant.rest.fits fits) (c.in_ok-taken.ensures.takes plan q t)))
 
 pub returns-in_err-taken-clause-takes : goal.returns-in_err-taken-clause-takes
 returns-in_err-taken-clause-takes c plan p s fits =
@@ -53,4 +53,5 @@ returns-in_err-taken-clause-takes c plan p s fits =
     rw (e.1, e.2)
     (rest-breaks plan p c.args.at piece rest c.tokens.self c.args.out.now.items c.tokens.out.items c.step.new.out.items f c.tokens.invariant.rest
     (c.tokens.invariant.runs plan p s fits)
-    (λ q t. subst (λ (i : ℕ). (f ≡ faults.Memory) ⊎ Breaks plan q i rest f q.written c.tokens.out.items c.step.new.out.items) (place-fits c.args.at piece rest fits) (c.in_err-taken.ensures.takes plan q t)))
+    (λ q t. subst (λ (i : ℕ). (f ≡ faults.Memory) ⊎ Breaks plan q i rest f q.written c.tokens.out.items c.step.new.out.items)
+    (place-fits c.args.at piece rest c.tokens.invariant.rest.fits fits) (c.in_err-taken.ensures.takes plan q t)))

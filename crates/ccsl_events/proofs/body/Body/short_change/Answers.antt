@@ -26,5 +26,6 @@ returns-clause-runs c at plan p out s a l =
     let low : place_of code < SHORT = omega (arith, here.at, here.short) in
     let knows = subst (Knows plan hs code) (sym (c.at-known.ensures code low here.at)) (s.keeps.codes code) in
     let is : is_known c.at-known.result ≡ true = sym c.in_ok-change_known.ensures.declared ∙ c.if-not-branch.false in
-    change-runs plan p c.args.self.now c.change_known.new.self at c.in-Some.code.len c.in-Some.code.place c.args.letter c.args.bytes.now out s a (omega (arith, c.ranges.letter.fits)) l here
+    change-runs plan p c.args.self.now c.change_known.new.self at c.in-Some.code.len c.in-Some.code.place c.args.letter c.args.bytes.now out s a
+    (omega (arith, c.ranges.letter.fits)) l here
     (declared plan hs code c.at-known.result knows ∙ is) (c.in_ok-change_known.ensures.keeps plan p.views code s.keeps knows is)

@@ -22,7 +22,8 @@ returns-in_default-clause-runs c at plan p out s a = runs-none plan p at c.args.
 pub returns-then-not-are_letters-clause-runs : goal.returns-then-not-are_letters-clause-runs
 returns-then-not-are_letters-clause-runs c at plan p out s a =
     elim c.then-not-are_letters.branch [
-      | then-not-are_letters-via-then-not-are_letters w ↦ subst (λ (b : Body). Runs plan p at [] b out out) (sym w.self-is) (runs-none plan p at c.args.self.now out s)
+      | then-not-are_letters-via-then-not-are_letters w ↦ subst (λ (b : Body). Runs plan p at [] b out out) (sym w.self-is)
+          (runs-none plan p at c.args.self.now out s)
       | then-not-are_letters-via-else-not-are_letters+in_ok-change_known+then-not-branch w ↦
           let still = w.in_ok-change_known.ensures.still w.if-not-branch.true in
           subst (λ (b : Body). Runs plan p at [] b out out) (sym w.self-is)
@@ -41,6 +42,8 @@ returns-clause-runs c at plan p out s a =
     let low : place_of code < SHORT = omega (arith, here.at, here.short) in
     let knows = subst (Knows plan hs code) (sym (c.at-known.ensures code low here.at)) (s.keeps.codes code) in
     let is : is_known c.at-known.result ≡ true = sym c.in_ok-change_known.ensures.declared ∙ c.if-not-branch.false in
-    vector-runs plan p c.args.self.now c.change_known.new.self at end c.in-Some.code.len c.in-Some.code.place bytes rest out s a (omega (arith, c.if-end-eq0.false)) (omega (arith, c.if-end-bytes.false))
-    (omega (arith, c.if-end-ge-MAX_TOKEN_BYTES.false)) (c.run_end-end.ensures.value ∙ zero-add _) (sym c.are_letters.ensures ∙ c.if-not-are_letters.false) (rest-is (end + 1) bytes) here
+    vector-runs plan p c.args.self.now c.change_known.new.self at end c.in-Some.code.len c.in-Some.code.place bytes rest out s a
+    (omega (arith, c.if-end-eq0.false)) (omega (arith, c.if-end-bytes.false))
+    (omega (arith, c.if-end-ge-MAX_TOKEN_BYTES.false)) (c.run_end-end.ensures.value ∙ zero-add _) (sym c.are_letters.ensures ∙ c.if-not-are_letters.false)
+    (rest-is (end + 1) bytes) here
     (declared plan hs code c.at-known.result knows ∙ is) (c.in_ok-change_known.ensures.keeps plan p.views code s.keeps knows is)

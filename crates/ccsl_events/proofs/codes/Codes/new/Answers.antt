@@ -34,4 +34,5 @@ loop-i-preserved c =
 
 pub invariant_of-result : goal.invariant_of-result
 invariant_of-result c =
-    front-all c.loop-i.i c.loop-i.short.items c.args.names c.args.entries.items c.loop-i.invariant (omega (arith, c.loop-i-test.false, c.loop-i.auto.i-end, c.len-i-end.ensures))
+    front-all c.loop-i.i c.loop-i.short.items c.args.names c.args.entries.items c.loop-i.invariant
+    (omega (arith, c.loop-i-test.false, c.loop-i.auto.i-end, c.len-i-end.ensures))
