@@ -4,12 +4,12 @@ use Rattle.std.specs.List.{list_all, range_with_len}
 use Rattle.std.specs.declared.vec.Vec.{Vec}
 use Rattle.std.specs.declared.alloc.Global.{Global}
 use Rattle.std.proofs.Math.Bool.{or-true, and-false}
-use Rattle.std.proofs.lemmas.Bool.{cases_eq, ne_eqb, and_parts, and_from, ltb-true, ltb-false, both_ways}
+use Rattle.std.proofs.lemmas.Bool.{cases_eq, ne_eqb, and_parts, and_from}
 use Rattle.std.proofs.lemmas.Option.{slice_get_within}
 use Rattle.ccsl_base.specs.declared.limits.TheConstants.{MAX_CLOCKS}
 use Rattle.ccsl_base.specs.Clocks.{ticks_in, with_clock, is_ascending}
 use Rattle.ccsl_base.proofs.Sets.{ticks_in-with_same, ticks_in-with_other, ticks_in-filter}
-use Rattle.ccsl_base.proofs.Ascending.{part-ascends, same-members, all-above, all-with, with_clock-ascends}
+use Rattle.ccsl_base.proofs.Ascending.{part-ascends, same-members, with_clock-ascends}
 use Rattle.ccsl_triggers.specs.declared.watch.Watch.{Watch}
 use Rattle.ccsl_triggers.specs.Views.{View}
 use Rattle.ccsl_triggers.specs.Held.{IsQuiet}

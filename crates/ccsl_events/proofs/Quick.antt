@@ -1,17 +1,17 @@
 -- Tokens that are taken where they lie: a time, and a change of a short code.
-use Rattle.std.proofs.Common.{◌≡◌, ℕ, suc, ◌+◌, ◌<◌, ◌≤◌, ◌⊎◌, List, [], ◌∷◌, length, take, get_or, true, not, ◌&&◌, nat_le, cond, Option, Some, None, Ok, Err, refl, sym, ap, ◌∙◌, subst, arith, length-take-le}
+use Rattle.std.proofs.Common.{◌≡◌, ℕ, suc, ◌+◌, ◌<◌, ◌≤◌, ◌⊎◌, List, [], ◌∷◌, length, take, get_or, not, ◌&&◌, nat_le, cond, Option, Some, None, Ok, Err, refl, sym, ap, ◌∙◌, subst, arith, length-take-le}
 use Rattle.std.specs.List.{list_all, prefix_len}
 use Rattle.std.proofs.lemmas.Bool.{le-leb}
 use Rattle.ccsl_base.specs.Letters.{is_digit}
 use Rattle.ccsl_base.specs.Decimal.{value_behind}
-use Rattle.ccsl_vcd_lex.specs.Tokens.{is_white, token}
+use Rattle.ccsl_vcd_lex.specs.Tokens.{token}
 use Rattle.ccsl_vcd_lex.specs.Lexing.{is_dark}
 use Rattle.ccsl_vcd_lex.specs.Digits.{AreDigits}
 use Rattle.ccsl_vcd_lex.proofs.Digits.{digits-dark}
 use Rattle.ccsl_vcd_lex.proofs.ShortCodes.{run-is}
 use Rattle.ccsl_vcd.specs.declared.fault.VcdFault.{VcdFault}
 use Rattle.ccsl_vcd.specs.declared.fault.VcdFault.TheVariants as faults
-use Rattle.ccsl_vcd.specs.Words.{number, word_of, time, time_of}
+use Rattle.ccsl_vcd.specs.Words.{number, word_of}
 use Rattle.ccsl_events.specs.declared.body.Body.{Body}
 use Rattle.ccsl_events.specs.declared.body.Amid as k
 use Rattle.ccsl_events.specs.declared.body.Amid.TheVariants.{Changes, Remark, Code, CodeSkipped}

@@ -3,7 +3,7 @@ use Rattle.std.proofs.Common.{◌≡◌, ℕ, zero, suc, ◌+◌, ◌-◌, ◌%�
 use Rattle.std.specs.List.{prefix_len, list_all}
 use Rattle.std.proofs.lemmas.Bool.{lt-ltb, le-ltb}
 use Rattle.std.proofs.Math.Bool.{or-true}
-use Rattle.std.proofs.lemmas.List.{append-nil, map-append, take_more, take_all, drop-drop, take-append-drop}
+use Rattle.std.proofs.lemmas.List.{append-nil, map-append, take_more, drop-drop, take-append-drop}
 use Rattle.std.proofs.lemmas.List.Elements.{filter-append}
 use Rattle.std.proofs.Math.Seq.{take-add}
 use Rattle.ccsl_vcd_lex.specs.Tokens.{is_white, Token, token, end_of, is_long, tokens_from, Heard, word, too_long, hear}

@@ -1,4 +1,4 @@
-use Rattle.std.proofs.Common.{◌≡◌, List, ℕ, [], ◌∷◌, ◌++◌, length, map, decimal, nat_lt, refl, sym, ap, ap₂, ◌∙◌, eqb-true}
+use Rattle.std.proofs.Common.{◌≡◌, List, ℕ, [], ◌++◌, length, map, decimal, nat_lt, refl, sym, ap, ap₂, ◌∙◌, eqb-true}
 use Rattle.std.proofs.lemmas.List.{with_items_is, append-nil}
 use Rattle.ccsl_base.proofs.Cases.{no-items}
 use Rattle.ccsl_triggers.specs.Views.{View}
