@@ -1,4 +1,5 @@
 pub mod Dump
+pub mod Written
 pub mod Places
 pub mod Meant
 pub mod Keeping
