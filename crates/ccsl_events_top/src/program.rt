@@ -27,7 +27,9 @@ fn events_of(alloc: Global, keys: HashKeys, text: &[u8]) -> Result<Vec<Event>, S
 }
 
 // The names of events, in their order.
-fn text_of_header(alloc: Global, events: &[Event], header: &Header) -> Result<Vec<u8>, Memory> {
+fn text_of_header(alloc: Global, events: &[Event], header: &Header) -> Result<Vec<u8>, Memory>
+    requires few { length events.now ≤ MAX_CLOCKS }
+{
     let timescale = match &header.timescale {
         Some(scale) => Some(scale.as_slice()),
         None => None,
