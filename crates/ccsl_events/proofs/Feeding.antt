@@ -14,7 +14,7 @@ use Rattle.ccsl_events.specs.declared.reader.Reader.{Reader}
 use Rattle.ccsl_events.specs.Dump.{Plan, Place, begin, goes, passed, may_end, ends_at, token_says}
 use Rattle.ccsl_events.specs.Standing.{Stands, Answers}
 use Rattle.ccsl_events.specs.Run.{IsOpen, settled_from, story_from, Runs, Breaks}
-use Rattle.ccsl_events.specs.Fed.{HasTaken, Reaches, Feeds, Says}
+use Rattle.ccsl_events.specs.Fed.{MayBegin, HasTaken, Reaches, Feeds, Says}
 use Rattle.ccsl_events.proofs.Run.{IsRest, told-on, front-word, front-white, front-breaks, front-long}
 use Rattle.ccsl_base.proofs.Cases.{no-items}
 use Rattle.ccsl_vcd_lex.proofs.Cuts.{fresh-append}
@@ -98,21 +98,21 @@ no-bytes : (carry : List ℕ) → carry ≡ [] → [] ≡ [] ++ carry
 no-bytes carry e = ap (λ (xs : List ℕ). [] ++ xs) (sym e)
 
 -- where no byte of the body was taken
-pub begins : (plan : Plan) (r : Reader) (b : Body) → r.body ≡ Some b → Stands plan begin b → r.carry.items ≡ [] → r.is_header_over ≡ false
-    → HasTaken plan r.taken [] begin r
+pub begins : (plan : Plan) (start : ℕ) (old r : Reader) (b : Body) → r.body ≡ Some b → Stands plan begin b → MayBegin start old
+    → r.taken ≡ old.taken → r.carry.items ≡ old.carry.items → r.is_header_over ≡ old.is_header_over → HasTaken plan start [] begin r
 unfolding tokens_from fresh_after
-begins plan r b has s none over = record {
+begins plan start old r b has s m taken kept over = record {
   body = b;
   has = has;
   stands = s;
   whole = [];
-  parts = no-bytes r.carry.items none;
+  parts = no-bytes r.carry.items (kept ∙ m.clear);
   fresh = refl;
   told = refl;
-  unended = subst IsOpen (sym none) refl;
-  few = let k : length r.carry.items ≡ 0 = ap length none in omega (arith, k);
-  taken = omega arith;
-  in_body = over;
+  unended = subst IsOpen (sym (kept ∙ m.clear)) refl;
+  few = let k : length r.carry.items ≡ 0 = ap length (kept ∙ m.clear) in omega (arith, k);
+  taken = let k : r.taken ≡ start = taken ∙ m.taken in omega (arith, k);
+  in_body = over ∙ m.in_body;
 }
 
 -- The end of a dump.
@@ -143,7 +143,7 @@ says-kept plan p r b at place text carry res x y has e f a = record {
 
 -- A piece goes on with the token that is kept.
 
-one-run : (carry piece : List ℕ) (end : ℕ) → IsOpen carry → end ≡ prefix_len is_dark piece → length carry + end ≡ prefix_len is_dark (carry ++ piece)
+pub one-run : (carry piece : List ℕ) (end : ℕ) → IsOpen carry → end ≡ prefix_len is_dark piece → length carry + end ≡ prefix_len is_dark (carry ++ piece)
 one-run carry piece end o e = ap (λ (k : ℕ). length carry + k) e ∙ sym (run-on carry piece o)
 
 -- it ends inside the piece
@@ -153,7 +153,7 @@ pub record EndsIn (carry piece : List ℕ) (end : ℕ) : Type 0 where
   pub inside : end < length piece
   pub short : length carry + end ≤ 65536
 
-up-to : (carry piece : List ℕ) (end : ℕ) → take (length carry + end + 1) (carry ++ piece) ≡ carry ++ take (end + 1) piece
+pub up-to : (carry piece : List ℕ) (end : ℕ) → take (length carry + end + 1) (carry ++ piece) ≡ carry ++ take (end + 1) piece
 up-to carry piece end =
     let e : length carry + end + 1 ≡ length carry + (end + 1) = omega arith in
     ap (λ (i : ℕ). take i (carry ++ piece)) e ∙ take-append-add carry piece (end + 1)

@@ -13,6 +13,7 @@ mod Changes
 mod Examples
 pub mod Feeding
 pub mod Whole
+pub mod Opening
 mod Sources
 mod Bindings
 mod Linking

@@ -78,7 +78,7 @@ runs-white plan p at w b out h s =
     record { place = p; told = ap (story_from plan p) none; fresh = fresh; follows = follows-still plan p b out s }
 
 -- a token and the white space behind it
-settled-word : (at w : ℕ) (text : List ℕ) → Dark text → 0 < length text → length text ≤ 65536 → is_white w ≡ true
+pub settled-word : (at w : ℕ) (text : List ℕ) → Dark text → 0 < length text → length text ≤ 65536 → is_white w ≡ true
     → settled_from at (text ++ w ∷ []) ≡ word (token at text) ∷ []
 settled-word at w [] d n l h = absurd (omega arith)
 settled-word at w (t ∷ ts) d n l h =
@@ -148,7 +148,7 @@ not-false : (b : Bool) → not b ≡ false → b ≡ true
 not-false true h = refl
 not-false false h = absurd (cc)
 
-dark-front : (xs : List ℕ) → Dark (take (prefix_len is_dark xs) xs)
+pub dark-front : (xs : List ℕ) → Dark (take (prefix_len is_dark xs) xs)
 dark-front [] = tt
 dark-front (x ∷ xs) =
     (elim (is_dark x) as (λ w. is_dark x ≡ w → Dark (take (cond w (1 + prefix_len is_dark xs) 0) (x ∷ xs))) [

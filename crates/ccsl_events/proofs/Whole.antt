@@ -1,7 +1,8 @@
 -- What a whole body says, by the bytes that were taken of it.
 use Rattle.std.proofs.Common.{◌≡◌, ℕ, ◌+◌, ◌≤◌, ◌<◌, ◌⊎◌, inl, inr, List, [], ◌∷◌, ◌++◌, length, take, drop, map, filter, fold, Bool, true, false, not, nat_lt, ◌||◌, ◌&&◌, cond, Some, None, refl, sym, ap, ◌∙◌, append_assoc, arith, length-append}
 use Rattle.std.specs.List.{list_all}
-use Rattle.std.proofs.lemmas.Bool.{cases_lt, le-ltb}
+use Rattle.std.proofs.lemmas.Bool.{cases_lt, le-ltb, lt-ltb}
+use Rattle.std.proofs.Math.Bool.{or-true}
 use Rattle.std.proofs.lemmas.List.{append-nil, map-append, take-append-drop}
 use Rattle.ccsl_vcd_lex.specs.Tokens.{is_white, Token, token, end_of, is_long, run, tokens_from, Heard, too_long, hear}
 use Rattle.ccsl_vcd_lex.specs.Runs.{fresh_after}
@@ -14,7 +15,7 @@ use Rattle.ccsl_events.specs.declared.reader.Reader.{Reader}
 use Rattle.ccsl_events.specs.Dump.{Plan, Place, Story, refused, next, begin, story, ends_at, ended, body_says}
 use Rattle.ccsl_events.specs.Run.{IsOpen, settled_from, story_from, Breaks}
 use Rattle.ccsl_events.specs.Fed.{HasTaken}
-use Rattle.ccsl_events.proofs.Run.{settled-fresh, settled-cut, settled-long, fold-both}
+use Rattle.ccsl_events.proofs.Run.{told-on, settled-fresh, settled-cut, settled-long, fold-both}
 
 -- all tokens of a body
 abbrev all_from : ℕ → List ℕ → List Heard
@@ -116,6 +117,50 @@ settled-first at p more =
           ∙ ap (λ (hs : List Heard). hs ++ k.0) (sym (ap (settled_from at) s.whole ∙ settled-cut at s.before s.text s.fresh)),
     )
 
+-- as much of what bytes settle, whatever they are followed by
+settled-on : (at : ℕ) (text more : List ℕ) → Dark text → (65536 < length text) ⊎ (length text ≤ 65536)
+    → (rest : List Heard) × (settled_from at (text ++ more) ≡ settled_from at text ++ rest)
+settled-on at [] more d (inl l) = absurd (omega arith)
+settled-on at (t ∷ ts) more d (inl l) =
+    let k = one-token-more at t ts more d in
+    let all : List ℕ = (t ∷ ts) ++ run more in
+    let n : ℕ = at + length ((t ∷ ts) ++ more) in
+    let Q : Token → Bool = λ u. nat_lt (end_of u) n || is_long u in
+    let m : 65536 < length all = omega (arith, l, length-append (t ∷ ts) (run more)) in
+    let kept : filter Q (token at all ∷ k.0) ≡ token at all ∷ filter Q k.0 =
+    ap (λ (b : Bool). cond (nat_lt (at + length all) n || b) (token at all ∷ filter Q k.0) (filter Q k.0)) (lt-ltb 65536 (length all) m)
+    ∙ ap (λ (b : Bool). cond b (token at all ∷ filter Q k.0) (filter Q k.0)) (or-true (nat_lt (at + length all) n)) in (
+      map hear (filter Q k.0),
+      ap (λ (us : List Token). map hear (filter Q us)) k.1 ∙ ap (map hear) kept ∙ ap (λ (h : Heard). h ∷ map hear (filter Q k.0)) (long-word at all m)
+          ∙ ap (λ (hs : List Heard). hs ++ map hear (filter Q k.0)) (sym (settled-long at (t ∷ ts) d l)),
+    )
+settled-on at text more d (inr l) =
+    (settled_from at (text ++ more), ap (λ (hs : List Heard). hs ++ settled_from at (text ++ more)) (sym (settled-short at text d l)))
+
+pub settled-more : (at : ℕ) (p more : List ℕ) → (rest : List Heard) × (settled_from at (p ++ more) ≡ settled_from at p ++ rest)
+settled-more at p more =
+    let s = split p in
+    let k = settled-on (at + length s.before) s.text more s.dark (cases_lt 65536 (length s.text)) in (
+      k.0,
+      ap (λ (xs : List ℕ). settled_from at (xs ++ more)) s.whole ∙ ap (settled_from at) (append_assoc s.before s.text more)
+          ∙ settled-cut at s.before (s.text ++ more) s.fresh
+          ∙ ap (λ (hs : List Heard). settled_from at s.before ++ hs) k.1
+          ∙ sym (append_assoc (settled_from at s.before) (settled_from (at + length s.before) s.text) k.0)
+          ∙ ap (λ (hs : List Heard). hs ++ k.0) (sym (ap (settled_from at) s.whole ∙ settled-cut at s.before s.text s.fresh)),
+    )
+
+-- bytes of an open token settle nothing
+open-dark : (xs : List ℕ) → IsOpen xs → Dark xs
+open-dark [] h = tt
+open-dark (x ∷ xs) h =
+    (elim (is_white x) as (λ w. is_white x ≡ w → (not w && list_all is_dark xs) ≡ true → Dark (x ∷ xs)) [
+      | true ↦ λ e k. absurd (cc)
+      | false ↦ λ e k. (e, open-dark xs k)
+    ]) refl h
+
+pub settled-open : (at : ℕ) (xs : List ℕ) → IsOpen xs → length xs ≤ 65536 → settled_from at xs ≡ []
+settled-open at xs h l = settled-short at xs (open-dark xs h) l
+
 -- a fault stays the first
 fault-stays : (plan : Plan) (p : Place) (f : VcdFault) (hs : List Heard)
     → fold (next plan) (record { place = p; fault = Some f }) hs ≡ record { place = p; fault = Some f }
@@ -143,3 +188,26 @@ whole-breaks plan start len bytes more f w x y b = ap (λ (s : Story). ended pla
 pub whole-rows : (plan : Plan) (start : ℕ) (bytes more : List ℕ) (f : VcdFault) (w x y : List ℕ) → (b : Breaks plan begin start bytes f w x y)
     → (story plan (map hear (tokens_from true start (bytes ++ more)))).place ≡ b.place
 whole-rows plan start bytes more f w x y b = ap (λ (s : Story). s.place) (story-breaks plan start bytes more f w x y b)
+
+-- What is read of a body, and not to its end.
+
+-- a fault stays, whatever is read behind it
+pub breaks-more : (plan : Plan) (start : ℕ) (bytes more : List ℕ) (f : VcdFault) (w x y : List ℕ) → (b : Breaks plan begin start bytes f w x y)
+    → story_from plan begin (settled_from start (bytes ++ more)) ≡ record { place = b.place; fault = Some f }
+breaks-more plan start bytes more f w x y b =
+    let part : List ℕ = take b.front bytes in
+    let rest : List ℕ = drop b.front bytes ++ more in
+    let is : part ++ rest ≡ bytes ++ more =
+    sym (append_assoc part (drop b.front bytes) more) ∙ ap (λ (xs : List ℕ). xs ++ more) (take-append-drop b.front bytes) in
+    let k = settled-more start part rest in
+    ap (λ (xs : List ℕ). story_from plan begin (settled_from start xs)) (sym is)
+    ∙ ap (story_from plan begin) k.1 ∙ fold-both plan (record { place = begin; fault = None }) (settled_from start part) k.0
+    ∙ ap (λ (s : Story). fold (next plan) s k.0) b.told ∙ fault-stays plan b.place f k.0
+
+-- the place that a reader has come to is that of the bytes that it has taken
+pub taken-told : (plan : Plan) (start : ℕ) (bytes : List ℕ) (p : Place) (r : Reader) → HasTaken plan start bytes p r
+    → story_from plan begin (settled_from start bytes) ≡ record { place = p; fault = None }
+taken-told plan start bytes p r h =
+    ap (λ (xs : List ℕ). story_from plan begin (settled_from start xs)) h.parts
+    ∙ told-on plan begin p start h.whole r.carry.items h.fresh h.told
+    ∙ ap (story_from plan p) (settled-open (start + length h.whole) r.carry.items h.unended h.few)

@@ -5,6 +5,7 @@ pub mod Meant
 pub mod Keeping
 pub mod Standing
 pub mod Run
+pub mod Opening
 pub mod Fed
 pub mod Binding
 pub mod Binds

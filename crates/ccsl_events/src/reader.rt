@@ -1,9 +1,13 @@
 //! Reading a dump piece by piece.
 
-ghost use Rattle.std.specs.Prelude.{◌≡◌, ◌⊎◌, ◌≤◌, ◌<◌, ◌+◌, ◌-◌, ◌^◌, ℕ, List, [], length, true, false, IfOk, OnOk, IfSome};
+ghost use Rattle.std.specs.Prelude.{◌≡◌, ◌⊎◌, ◌≤◌, ◌<◌, ◌+◌, ◌-◌, ◌^◌, ℕ, List, [], length, true, false, None, IfOk, OnOk, IsSomeAnd};
 ghost use Rattle.ccsl_vcd_lex.specs.Tokens.{token};
 ghost use Rattle.ccsl_events.specs.Dump.{Plan, Place, begin, token_says, ends_at};
 ghost use Rattle.ccsl_events.specs.Standing.{Stands};
+ghost use Rattle.ccsl_vcd.specs.Places.{Among, commands};
+ghost use Rattle.ccsl_scopes.specs.Headings as headings;
+ghost use Rattle.ccsl_scopes.specs.Standing.{IsHeaderOf};
+ghost use Rattle.ccsl_events.specs.Fed.{ReadsHeader, IsInHeader, IsBehindHeader, FeedsHeader, SaysHeader, MayBegin};
 ghost use Rattle.ccsl_events.specs.Fed.{HasTaken, Feeds, Says, IsClear};
 
 use crate::body::Body;
@@ -40,7 +44,7 @@ impl Drop for Reader {
 impl Reader {
     /// A reader before the first byte.
     pub fn open(alloc: Global, keys: HashKeys, limits: Limits) -> Result<Reader, Memory>
-        ensures { IfOk result (λ r. (r.taken ≡ 0) × (r.carry.items ≡ []) × (r.is_header_over ≡ false)) }
+        ensures { IfOk result (λ r. IsInHeader limits [] commands headings.begin r) }
     {
         let carry = Vec::with_capacity(alloc, MAX_TOKEN_BYTES)?;
         Ok(Reader {
@@ -50,11 +54,6 @@ impl Reader {
             carry,
             taken: 0,
         })
-    }
-
-    /// How many bytes were taken.
-    pub fn taken(&self) -> u64 {
-        self.taken
     }
 
     /// How many times have a row so far.
@@ -67,9 +66,12 @@ impl Reader {
 
     /// The header, once its last token was taken.
     pub fn take_header(&mut self) -> Option<Header>
-        ensures over { IfSome result (λ header. self.old.is_header_over ≡ true) }
-        ensures once { self.new.is_header_over ≡ false }
-        ensures same { (self.new.taken ≡ self.old.taken) × (self.new.carry.items ≡ self.old.carry.items) }
+        ensures header { (limits : Limits) (bytes : List ℕ) (h : headings.Heading) →
+            IsBehindHeader limits bytes h self.old →
+            IsSomeAnd result (λ header. IsHeaderOf h header) × MayBegin (length bytes) self.new }
+        ensures goes_on { (limits : Limits) (bytes : List ℕ) (among : Among)
+            (h : headings.Heading) → IsInHeader limits bytes among h self.old →
+            (result ≡ None) × (self.new ≡ self.old) }
     {
         if !self.is_header_over {
             return None;
@@ -83,8 +85,8 @@ impl Reader {
 
     /// The body begins.
     pub fn begin(&mut self, body: Body)
-        ensures { (plan : Plan) → Stands plan begin body → self.old.carry.items ≡ [] →
-            self.old.is_header_over ≡ false → HasTaken plan self.old.taken [] begin self.new }
+        ensures { (plan : Plan) (start : ℕ) → MayBegin start self.old → Stands plan begin body →
+            HasTaken plan start [] begin self.new }
     {
         self.body = Some(body);
     }
@@ -94,6 +96,11 @@ impl Reader {
         ensures says { (plan : Plan) (p : Place) (body : Body) → self.old.body ≡ Some body → Stands plan p body →
             let kept = token (self.old.taken - length self.old.carry.items) self.old.carry.items in
             Says plan p.written (token_says plan p kept p.amid) result self.new out.old.items out.new.items }
+        ensures heads { (limits : Limits) (among : Among) (h : headings.Heading) →
+            ReadsHeader limits among h self.old →
+            let kept = token (self.old.taken - length self.old.carry.items) self.old.carry.items in
+            SaysHeader limits (headings.heading_says limits h kept among) result self.new
+            × (out.new.items ≡ out.old.items) }
         ensures clears { OnOk result (self.new.carry.items ≡ []) }
         ensures place { self.new.taken ≡ self.old.taken }
         ensures header { (body : Body) → self.old.body ≡ Some body → self.new.is_header_over ≡ self.old.is_header_over }
@@ -116,6 +123,10 @@ impl Reader {
         ensures feeds { (plan : Plan) (start : ℕ) (before : List ℕ) (p : Place) →
             HasTaken plan start before p self.old → self.old.taken + length bytes.now < 2 ^ 64 →
             Feeds plan start before p bytes.now result self.new out.old.items out.new.items }
+        ensures heads { (limits : Limits) (before : List ℕ) (among : Among)
+            (h : headings.Heading) → IsInHeader limits before among h self.old →
+            self.old.taken + length bytes.now < 2 ^ 64 →
+            FeedsHeader limits before bytes.now result self.new out.old.items out.new.items }
         ensures counts { IfOk result (λ taken. self.old.taken + length bytes.now < 2 ^ 64 →
             self.new.taken ≡ self.old.taken + taken) }
         ensures clears { OnOk result (self.old.is_header_over ≡ false → IsClear self.new) }
@@ -144,6 +155,10 @@ impl Reader {
         ensures feeds { (plan : Plan) (start : ℕ) (before : List ℕ) (p : Place) →
             HasTaken plan start before p self.old → self.old.taken + length bytes.now < 2 ^ 64 →
             Feeds plan start before p bytes.now result self.new out.old.items out.new.items }
+        ensures heads { (limits : Limits) (before : List ℕ) (among : Among)
+            (h : headings.Heading) → IsInHeader limits before among h self.old →
+            self.old.taken + length bytes.now < 2 ^ 64 →
+            FeedsHeader limits before bytes.now result self.new out.old.items out.new.items }
         ensures counts { IfOk result (λ taken. self.old.taken + length bytes.now < 2 ^ 64 →
             self.new.taken ≡ self.old.taken + taken) }
         ensures clears { OnOk result (self.old.is_header_over ≡ false → IsClear self.new) }
@@ -167,6 +182,10 @@ impl Reader {
         ensures feeds { (plan : Plan) (start : ℕ) (before : List ℕ) (p : Place) →
             HasTaken plan start before p self.old → self.old.taken + length piece.now < 2 ^ 64 →
             Feeds plan start before p piece.now result self.new out.old.items out.new.items }
+        ensures heads { (limits : Limits) (before : List ℕ) (among : Among)
+            (h : headings.Heading) → IsInHeader limits before among h self.old →
+            self.old.taken + length piece.now < 2 ^ 64 →
+            FeedsHeader limits before piece.now result self.new out.old.items out.new.items }
         ensures counts { IfOk result (λ taken. self.old.taken + length piece.now < 2 ^ 64 →
             self.new.taken ≡ self.old.taken + taken) }
         ensures clears { OnOk result (self.old.is_header_over ≡ false → IsClear self.new) }

@@ -3,8 +3,8 @@ use Rattle.std.proofs.lemmas.Grind.{common_steps}
 use Rattle.std.proofs.lemmas.Result.{err_from_is_err_and}
 use Rattle.ccsl_events.specs.declared.reader.Reader.{Reader}
 use Rattle.ccsl_events.specs.Standing.{Stands}
-use Rattle.ccsl_events.specs.Fed.{Reaches}
-use Rattle.ccsl_events.proofs.Feeding.{same-body, fresh-runs, fresh-breaks, closes, still-there, feeds-next, reaches-here}
+use Rattle.ccsl_events.specs.Fed.{IsInHeader, FeedsHeader, Reaches}
+use Rattle.ccsl_events.proofs.Feeding.{same-body, no-body, fresh-runs, fresh-breaks, closes, still-there, feeds-next, reaches-here}
 use Rattle.ccsl_events.proofs.reader.Reader.stride.Goals as goal
 use Rattle.ccsl_events.proofs.reader.Reader.stride.Goals.{then-is_empty+in-Some+in_ok-taken+else-taken-gt0, then-is_empty+in_default, else-is_empty}
 use Rattle.ccsl_base.proofs.Cases.{no-items}
@@ -50,3 +50,21 @@ returns-clause-feeds c plan start before p h fits =
     feeds-next plan start before c.args.bytes.now p c.part.result c.if-is_empty.self c.part.new.self c.args.out.now.items c.if-is_empty.out.items
     c.part.new.out.items a
     (c.part.ensures.feeds plan start before a.place a.taken (omega (arith, fits, h.taken, a.taken.taken)))
+
+pub returns-in_err-taken-clause-heads : goal.returns-in_err-taken-clause-heads
+returns-in_err-taken-clause-heads c limits before among h i fits = absurd (no-body c.in-Some.body c.args.self.now c.in-Some.is i.reads.bodyless)
+
+pub returns-then-taken-gt0-clause-heads : goal.returns-then-taken-gt0-clause-heads
+returns-then-taken-gt0-clause-heads c limits before among h i fits = absurd (no-body c.in-Some.body c.args.self.now c.in-Some.is i.reads.bodyless)
+
+pub returns-clause-heads : goal.returns-clause-heads
+returns-clause-heads c limits before among h i fits =
+    let e : IsInHeader limits before among h c.if-is_empty.self
+    × ((c.if-is_empty.self.taken ≡ c.args.self.now.taken) × (c.if-is_empty.out.items ≡ c.args.out.now.items)) =
+    elim c.if-is_empty.branch [
+      | then-is_empty+in-Some+in_ok-taken+else-taken-gt0 w ↦ absurd (no-body w.in-Some.body c.args.self.now w.in-Some.is i.reads.bodyless)
+      | then-is_empty+in_default w ↦ rw (w.self-is, w.out-is) (i, (refl, refl))
+      | else-is_empty w ↦ rw (w.self-is, w.out-is) (i, (refl, refl))
+    ] in
+    subst (λ xs. FeedsHeader limits before c.args.bytes.now c.part.result c.part.new.self xs c.part.new.out.items) e.1.1
+    (c.part.ensures.heads limits before among h e.0 (omega (arith, fits, e.1.0)))
