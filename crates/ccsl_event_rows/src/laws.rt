@@ -11,8 +11,8 @@ pub fn events_read_back()
     ensures times { RowsAreTimes }
 {}
 
-/// The names, the time scale and the plan that a file of events and a dump's header give are such that what is written of
-/// the dump's body reads back.
+/// The names, the time scale and the plan that a file of events and a dump's header give are such that what is written
+/// of the dump's body reads back.
 pub fn what_is_read_may_be_written()
     ensures { WhatIsReadMayBeWritten }
 {}
