@@ -31,11 +31,11 @@ use Rattle.ccsl_events.specs.Dump as dump
 use Rattle.ccsl_events.specs.Written.{timescale_line, scope_line, event_lines, last_lines, header_text}
 use Rattle.ccsl_event_rows.specs.Times.{heard_from, times_over, times}
 use Rattle.ccsl_event_rows.specs.ReadsBack.{is_timescale, AreEventNames, IsPlanned, named, clocks_from, clocks_named, clock_row, clock_rows, MayBeRead}
-use Rattle.ccsl_event_rows.specs.ReadsBack.{ReadsAs, RowsAreTimes}
+use Rattle.ccsl_event_rows.specs.ReadsBack.{ReadsAs, RowsAreTimes, TimesAreCounted}
 use Rattle.ccsl_event_rows.proofs.Rows.{AreTimes, rows_text, rows_words, rows-text, rows-spelled, rows_changes, time_behind, rows-story, rows-read}
 use Rattle.ccsl_event_rows.proofs.Header.{head_words, head_text, head-text, timescale-story, head-story}
 use Rattle.ccsl_event_rows.proofs.Binding.{bound_from, binds-named, clocks-bound, clocks-tick, own-tick}
-use Rattle.ccsl_event_rows.proofs.Times.{front-written, front-times, whole-written, whole-times}
+use Rattle.ccsl_event_rows.proofs.Times.{front-written, front-times, whole-written, whole-times, whole-counted}
 
 short-names : (names : List (List ℕ)) → list_all is_name names ≡ true → list_all is_short_word names ≡ true
 short-names [] h = refl
@@ -176,3 +176,8 @@ pub rows-are-times : RowsAreTimes
 rows-are-times w plan timescale names i e hs =
     ap (filter has_ticks)
     (same-rows names i.event_names.distinct w e 0 (times plan hs) (subst (λ (k : ℕ). AreTimes k 0 (times plan hs)) i.watches (whole-times plan hs)))
+
+pub times-are-counted : TimesAreCounted
+times-are-counted plan start len bytes p e =
+    let s : dump.Story = story plan (heard_from start bytes) in
+    ap (λ (q : Place). q.times) (end-passed plan len s.place s.fault p e) ∙ whole-counted plan (heard_from start bytes)

@@ -1,9 +1,10 @@
 -- What is written of a body is its times, one after another.
 use Rattle.std.proofs.Common.{◌≡◌, ℕ, zero, suc, ◌+◌, ◌^◌, ◌≤◌, ◌<◌, List, [], ◌∷◌, ◌++◌, length, filter, fold, Bool, true, false, nat_lt, nat_le, ◌&&◌}
-use Rattle.std.proofs.Common.{cond, Option, Some, None, refl, sym, ap, ◌∙◌, arith, append_assoc, append-nil, subst, ◌||◌, ◌==◌, not, codes}
+use Rattle.std.proofs.Common.{cond, Option, Some, None, refl, sym, ap, ◌∙◌, arith, append_assoc, append-nil, length-append, subst, ◌||◌, ◌==◌, not, codes}
 use Rattle.std.specs.List.{list_all, range_with_len}
 use Rattle.std.specs.Str.{bytes_eq}
 use Rattle.ccsl_base.specs.Empty.{is_empty}
+use Rattle.std.proofs.lemmas.List.Elements.{filter-append}
 use Rattle.std.proofs.lemmas.Bool.{and_parts, leb-true, ltb-true, le-ltb}
 use Rattle.ccsl_base.specs.Decimal.{are_digits, decimal_value}
 use Rattle.ccsl_base.specs.declared.rows.Row.{Row}
@@ -11,6 +12,7 @@ use Rattle.ccsl_vcd_lex.specs.Tokens.{Token, Heard, word, too_long}
 use Rattle.ccsl_vcd.specs.declared.fault.VcdFault.{VcdFault}
 use Rattle.ccsl_vcd.specs.declared.fault.VcdFault.TheVariants as faults
 use Rattle.ccsl_vcd.specs.Words as w
+use Rattle.ccsl_vcd.specs.Rows.{has_ticks}
 use Rattle.ccsl_vcd_write.proofs.StepRows.{IsWithin}
 use Rattle.ccsl_events.specs.Dump.{Plan, Amid, changes, remark, code_of, code_skipped, Place, Said, goes, refused, row_of, is_declared, changed}
 use Rattle.ccsl_events.specs.Dump.{passed, time_says, word_says, token_says, says, Story, told, next_from, next, story}
@@ -69,22 +71,34 @@ word-fits (b ∷ rest) =
 
 -- WHERE A TOKEN LEADS: what is written on the way is the time that is over
 
+-- how many of some times have a row
+abbrev pub rows_in : List Row → ℕ
+rows_in ts = length (filter has_ticks ts)
+
 record Leads (plan : Plan) (p q : Place) : Type 0 where
   later : p.now ≤ q.now
   fits : q.now < 2 ^ 64
   written : q.written ≡ p.written ++ rows_text (over plan p q)
+  counted : q.times ≡ p.times + rows_in (over plan p q)
 
 abbrev LeadsBy : Plan → Place → Said → Type 0
 LeadsBy plan p (goes q) = Leads plan p q
 LeadsBy plan p (refused f) = Unit {0}
 
 -- the time stays, and nothing is written
-stays : (plan : Plan) (p q : Place) → p.now < 2 ^ 64 → q.now ≡ p.now → q.written ≡ p.written → Leads plan p q
-stays plan p q k n e = record {
+stays : (plan : Plan) (p q : Place) → p.now < 2 ^ 64 → q.now ≡ p.now → q.written ≡ p.written → q.times ≡ p.times → Leads plan p q
+stays plan p q k n e c = record {
   later = omega arith;
   fits = omega arith;
   written = e ∙ sym (ap (λ b. p.written ++ rows_text (cond b (present plan p ∷ []) [])) (le-ltb p.now q.now (omega arith)) ∙ append-nil p.written);
+  counted =
+      let none : p.times + rows_in (over plan p q) ≡ p.times + 0 =
+      ap (λ b. p.times + rows_in (cond b (present plan p ∷ []) [])) (le-ltb p.now q.now (omega arith)) in
+      omega (arith, none, c);
 }
+
+one-row : (r : Row) → rows_in (r ∷ []) ≡ cond (has_ticks r) 1 0
+one-row r = elim (has_ticks r) as (λ b. length (cond b (r ∷ []) []) ≡ cond b 1 0) [ true ↦ refl | false ↦ refl ]
 
 -- the time is over
 passes : (plan : Plan) (p : Place) (n : ℕ) → n < 2 ^ 64 → nat_lt p.now n ≡ true → Leads plan p (record (passed plan p) { now = n })
@@ -95,6 +109,7 @@ passes plan p n l e =
       fits = l;
       written = sym (ap (λ b. p.written ++ rows_text (cond b (present plan p ∷ []) [])) e
           ∙ ap (λ (t : List ℕ). p.written ++ t) (append-nil (row_of plan p.now p.views)));
+      counted = sym (ap (λ b. p.times + rows_in (cond b (present plan p ∷ []) [])) e ∙ ap (λ n. p.times + n) (one-row (present plan p)));
     }
 
 module _ (plan : Plan) (p : Place) (k : p.now < 2 ^ 64) where
@@ -103,26 +118,26 @@ module _ (plan : Plan) (p : Place) (k : p.now < 2 ^ 64) where
   either false s t f g = g
 
   to-changed : (at : ℕ) (code letters : List ℕ) → LeadsBy plan p (changed plan p at code letters)
-  to-changed at code letters = either (is_declared plan code) _ (refused (faults.UnknownCode at)) (stays plan p _ k refl refl) tt
+  to-changed at code letters = either (is_declared plan code) _ (refused (faults.UnknownCode at)) (stays plan p _ k refl refl refl) tt
 
   to-time : (at n : ℕ) → n < 2 ^ 64 → LeadsBy plan p (time_says plan p at n)
   to-time at n l =
       either (nat_lt n p.now) (refused (faults.TimeBack at p.now n)) _ tt
       ((elim (nat_lt p.now n) as (λ b. nat_lt p.now n ≡ b → LeadsBy plan p (cond b (goes (record (passed plan p) { now = n })) (goes p))) [
         | true ↦ λ e. passes plan p n l e
-        | false ↦ λ e. stays plan p p k refl refl
+        | false ↦ λ e. stays plan p p k refl refl refl
       ]) refl)
 
   to-word : (t : Token) (x : w.Word) → Fits x → LeadsBy plan p (word_says plan p t x)
   to-word t (w.time n) f = to-time t.at n f
   to-word t (w.scalar one code) f = to-changed t.at code _
-  to-word t (w.vector one) f = stays plan p _ k refl refl
-  to-word t w.skipped f = stays plan p _ k refl refl
-  to-word t w.comment f = stays plan p _ k refl refl
-  to-word t w.dump f = either p.dumping (refused (faults.UnknownCommand t.at)) _ tt (stays plan p _ k refl refl)
+  to-word t (w.vector one) f = stays plan p _ k refl refl refl
+  to-word t w.skipped f = stays plan p _ k refl refl refl
+  to-word t w.comment f = stays plan p _ k refl refl refl
+  to-word t w.dump f = either p.dumping (refused (faults.UnknownCommand t.at)) _ tt (stays plan p _ k refl refl refl)
   to-word t w.gap f =
-      either p.dumping (refused (faults.UnknownCommand t.at)) _ tt (either plan.skips _ (refused (faults.Gap t.at)) (stays plan p _ k refl refl) tt)
-  to-word t w.close f = either p.dumping _ (refused (faults.UnknownCommand t.at)) (stays plan p _ k refl refl) tt
+      either p.dumping (refused (faults.UnknownCommand t.at)) _ tt (either plan.skips _ (refused (faults.Gap t.at)) (stays plan p _ k refl refl refl) tt)
+  to-word t w.close f = either p.dumping _ (refused (faults.UnknownCommand t.at)) (stays plan p _ k refl refl refl) tt
   to-word t w.bad_time f = tt
   to-word t w.bad_change f = tt
   to-word t w.unknown f = tt
@@ -131,9 +146,9 @@ module _ (plan : Plan) (p : Place) (k : p.now < 2 ^ 64) where
   to-token t changes = to-word t (w.word_of t.text) (word-fits t.text)
   to-token t remark =
       let q : Place = record p { amid = changes } in
-      either (bytes_eq t.text (codes "$end")) (goes q) (goes p) (stays plan p q k refl refl) (stays plan p p k refl refl)
+      either (bytes_eq t.text (codes "$end")) (goes q) (goes p) (stays plan p q k refl refl refl) (stays plan p p k refl refl refl)
   to-token t (code_of letters) = to-changed t.at t.text letters
-  to-token t code_skipped = either (is_declared plan t.text) _ (refused (faults.UnknownCode t.at)) (stays plan p _ k refl refl) tt
+  to-token t code_skipped = either (is_declared plan t.text) _ (refused (faults.UnknownCode t.at)) (stays plan p _ k refl refl refl) tt
 
   to-heard : (h : Heard) → LeadsBy plan p (says plan p h)
   unfolding says
@@ -142,11 +157,11 @@ module _ (plan : Plan) (p : Place) (k : p.now < 2 ^ 64) where
 
   to-told : (said : Said) → LeadsBy plan p said → Leads plan p (told p said).place
   to-told (goes q) h = h
-  to-told (refused f) h = stays plan p p k refl refl
+  to-told (refused f) h = stays plan p p k refl refl refl
 
   to-next : (fault : Option VcdFault) (h : Heard) → Leads plan p (next_from plan p fault h).place
   to-next None h = to-told (says plan p h) (to-heard h)
-  to-next (Some f) h = stays plan p p k refl refl
+  to-next (Some f) h = stays plan p p k refl refl refl
 
 -- TOKENS, one after another
 
@@ -188,6 +203,18 @@ module _ (plan : Plan) where
       ∙ ap (λ (w : List ℕ). w ++ rows_text there) (leads s h k).written
       ∙ append_assoc s.place.written (rows_text here) (rows_text there)
       ∙ ap (λ (w : List ℕ). s.place.written ++ w) (sym (rows_text-append here there))
+
+  -- as many rows are counted as they have
+  rows-both : (xs ys : List Row) → rows_in (xs ++ ys) ≡ rows_in xs + rows_in ys
+  rows-both xs ys = ap length (filter-append has_ticks xs ys) ∙ length-append (filter has_ticks xs) (filter has_ticks ys)
+
+  counted-behind : (s : Story) (hs : List Heard) → s.place.now < 2 ^ 64 → (behind s hs).times ≡ s.place.times + rows_in (over_behind plan s hs)
+  counted-behind s [] k = omega arith
+  counted-behind s (h ∷ hs) k =
+      let t : Story = next plan s h in
+      let it = leads s h k in
+      let more = counted-behind t hs it.fits in
+      omega (arith, it.counted, more, rows-both (over plan s.place t.place) (over_behind plan t hs))
 
   -- the present time is one, in front of later ones
   pub present-time : (p : Place) (rs : List Row) → p.now < 2 ^ 64 → AreTimes names (p.now + 1) rs → AreTimes names p.now (present plan p ∷ rs)
@@ -232,3 +259,11 @@ module _ (plan : Plan) where
   whole-times hs =
       let p : Place = behind begun hs in
       times-behind begun hs (present plan p ∷ []) (omega arith) (present-time p [] (now-fits begun hs (omega arith)) tt)
+
+  pub whole-counted : (hs : List Heard) → (passed plan (story plan hs).place).times ≡ rows_in (times plan hs)
+  unfolding story
+  whole-counted hs =
+      let p : Place = behind begun hs in
+      let before : p.times ≡ 0 + rows_in (times_over plan hs) = counted-behind begun hs (omega arith) in
+      let last : rows_in (present plan p ∷ []) ≡ cond (has_ticks (present plan p)) 1 0 = one-row (present plan p) in
+      omega (arith, before, last, rows-both (times_over plan hs) (present plan p ∷ []))

@@ -102,3 +102,9 @@ abbrev pub RowsAreTimes : Type 0
 RowsAreTimes =
     (w : Wanted) (plan : Plan) (timescale : Option (List ℕ)) (names : List (List ℕ)) → IsPlanned plan timescale names →
     w.names ≡ names → (hs : List Heard) → clock_rows w names (times plan hs) ≡ filter has_ticks (times plan hs)
+
+-- the number of times that is told of a whole body is that of those at which something happens
+abbrev pub TimesAreCounted : Type 0
+TimesAreCounted =
+    (plan : Plan) (start len : ℕ) (bytes : List ℕ) (p : Place) → body_says plan start len bytes ≡ goes p →
+    p.times ≡ length (filter has_ticks (times plan (heard_from start bytes)))

@@ -1,14 +1,16 @@
 //! What traces of events are worth. The functions do nothing: each has laws as its contract.
 
-ghost use Rattle.ccsl_event_rows.specs.ReadsBack.{EventsReadBack, FrontsReadBack, RowsAreTimes};
+ghost use Rattle.ccsl_event_rows.specs.ReadsBack.{EventsReadBack, FrontsReadBack, RowsAreTimes, TimesAreCounted};
 ghost use Rattle.ccsl_event_rows.specs.Planned.{WhatIsReadMayBeWritten};
 
 /// What is written of a dump's body, or of its front up to a fault, reads back as the times at which the names of a
-/// system's clocks happen. Where its clocks are just these names, that is all times at which something happens.
+/// system's clocks happen. Where its clocks are just these names, that is all times at which something happens, and
+/// there are as many as are told.
 pub fn events_read_back()
     ensures whole { EventsReadBack }
     ensures front { FrontsReadBack }
     ensures times { RowsAreTimes }
+    ensures count { TimesAreCounted }
 {}
 
 /// The names, the time scale and the plan that a file of events and a dump's header give are such that what is written
