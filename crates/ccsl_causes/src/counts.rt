@@ -8,6 +8,9 @@ use ccsl_base::{ClockSet, Memory};
 use std::alloc::Global;
 use std::marker::Model;
 
+/// Where there are no more clocks than so many, a step visits all counts, which costs less than to find those that it raises.
+const FEW: usize = 8;
+
 /// A count of ticks for each clock. Contracts see the list of counts.
 #[derive(Drop)]
 pub struct Counts {
@@ -22,6 +25,14 @@ impl Model for Counts {
     ghost view = { λ c. c.ticks.items };
 
     ghost invariant = { λ c. length c.ticks.items < 2 ^ 32 };
+}
+
+// The count of a clock behind a step in which it ticks, or does not.
+#[inline(always)]
+fn raised(count: u64, ticks: bool) -> u64
+    ensures { result ≡ counted ticks count }
+{
+    count.saturating_add(u64::from(ticks))
 }
 
 impl Counts {
@@ -45,9 +56,37 @@ impl Counts {
         }
     }
 
-    /// A step is made. Only the counts of the clocks that tick in it are visited.
+    // Visits all counts.
+    #[inline]
+    fn count_all(&mut self, step: &ClockSet)
+        ensures clocks { length self.new ≡ length self.old }
+        ensures counts { (x : ℕ) → x < length self.old →
+            slice_index_or self.new x 0 ≡ counted (ticks_in x step.now)
+            (slice_index_or self.old x 0) }
+    {
+        for at in 0..self.ticks.len() {
+            self.ticks[at] = raised(self.ticks[at], step.has(at as u32));
+        }
+    }
+
+    /// A step is made: one more for each clock that ticks in it.
     #[inline]
     pub fn count(&mut self, step: &ClockSet)
+        ensures clocks { length self.new ≡ length self.old }
+        ensures counts { (x : ℕ) → x < length self.old →
+            slice_index_or self.new x 0 ≡ counted (ticks_in x step.now)
+            (slice_index_or self.old x 0) }
+    {
+        if self.ticks.len() <= FEW {
+            self.count_all(step);
+        } else {
+            self.count_members(step);
+        }
+    }
+
+    // Visits the counts of the clocks that tick.
+    #[inline]
+    fn count_members(&mut self, step: &ClockSet)
         ensures clocks { length self.new ≡ length self.old }
         ensures counts { (x : ℕ) → x < length self.old →
             slice_index_or self.new x 0 ≡ counted (ticks_in x step.now)

@@ -1,8 +1,9 @@
 //! How far the left clocks of precedences are ahead.
 
-ghost use Rattle.std.specs.Prelude.{◌≡◌, ◌<◌, ◌-◌, ℕ, [], length, map, slice_index_or};
+ghost use Rattle.std.specs.Prelude.{◌≡◌, ◌<◌, ◌-◌, ℕ, [], IfOk, IfSome, IfNone, length, map, nat_eq, slice_index_or};
+ghost use Rattle.std.specs.List.{range_with_len};
 ghost use Rattle.ccsl_base.specs.Clocks.{ticks_in};
-ghost use Rattle.ccsl_causes.specs.Leading.{ahead, begun, led};
+ghost use Rattle.ccsl_causes.specs.Leading.{ahead, begun, led, is_precedence, lead_by, leads_of};
 
 use crate::counts::Counts;
 use crate::names::clock_name;
@@ -55,6 +56,13 @@ impl Model for Side {
 }
 
 impl Side {
+    // Whether there are none.
+    fn is_empty(&self) -> bool
+        ensures { result ≡ nat_eq (length self.now) 0 }
+    {
+        self.leads.is_empty()
+    }
+
     // The left clock ticks.
     #[inline]
     fn begin(&mut self, left: u32, time: u64, before: &Counts)
@@ -81,7 +89,9 @@ impl Model for Leads {
     ghost view = { λ l. l.sides.items };
 }
 
-fn is_precedence(kind: RelationKind) -> bool {
+fn is_precedence(kind: RelationKind) -> bool
+    ensures { result ≡ is_precedence kind }
+{
     match kind {
         RelationKind::Precedes | RelationKind::PrecedesWeakly | RelationKind::PrecedesWithin(_) =>
             true,
@@ -89,34 +99,52 @@ fn is_precedence(kind: RelationKind) -> bool {
     }
 }
 
-// Whether a constraint is a precedence between clocks that are written in the system.
-fn is_lead(system: &System, constraint: &Constraint) -> bool {
-    is_precedence(constraint.kind)
-        && constraint.left < system.written()
+// The lead of a left clock by a constraint, before the first step. None where that is no precedence of it between clocks that are
+// written in the system.
+fn lead_by(system: &System, left: u32, constraint: &Constraint) -> Option<Lead>
+    ensures { result ≡ lead_by system.now left constraint.now }
+{
+    if constraint.left == left
         && constraint.right < system.written()
+        && is_precedence(constraint.kind)
+    {
+        Some(Lead {
+            right: constraint.right,
+            since: 0,
+        })
+    } else {
+        None
+    }
+}
+
+// The precedences of a left clock, before the first step.
+fn side_of(alloc: Global, system: &System, left: u32) -> Result<Side, Memory>
+    ensures { IfOk result (λ side. side ≡ leads_of system.now left) }
+{
+    let mut leads = Vec::new(alloc);
+    for j in 0..system.constraints() {
+        match lead_by(system, left, system.constraint(j)) {
+            Some(lead) => leads.push(lead)?,
+            None => {}
+        }
+    }
+    Ok(Side { leads })
 }
 
 impl Leads {
     /// Those of a system, before the first step. None where it has no such precedence.
-    pub fn new(alloc: Global, system: &System) -> Result<Option<Leads>, Memory> {
+    pub fn new(alloc: Global, system: &System) -> Result<Option<Leads>, Memory>
+        ensures leads { IfOk result (λ leads. IfSome leads (λ l.
+            l ≡ map (leads_of system.now) (range_with_len 0 system.now.written))) }
+        ensures none { IfOk result (λ leads. IfNone leads ((x : ℕ) → x < system.now.written →
+            length (leads_of system.now x) ≡ 0)) }
+    {
         let mut sides = Vec::new(alloc);
-        for _ in 0..system.written() {
-            sides.push(Side {
-                leads: Vec::new(alloc),
-            })?;
-        }
         let mut is_any = false;
-        for j in 0..system.constraints() {
-            let constraint = system.constraint(j);
-            if is_lead(system, constraint)
-                && let Some(side) = sides.get_mut(constraint.left as usize)
-            {
-                side.leads.push(Lead {
-                    right: constraint.right,
-                    since: 0,
-                })?;
-                is_any = true;
-            }
+        for left in 0..system.written() {
+            let side = side_of(alloc, system, left)?;
+            is_any = is_any || !side.is_empty();
+            sides.push(side)?;
         }
         Ok(if is_any { Some(Leads { sides }) } else { None })
     }

@@ -1,7 +1,6 @@
-use Rattle.std.proofs.Common.{◌≡◌, ◌<◌, true, [], List, get_or, length, map, sym, ap, ◌∙◌, subst, arith}
+use Rattle.std.proofs.Common.{◌≡◌, ◌<◌, true, [], get_or, length, map, sym, ap, ◌∙◌, subst, arith}
 use Rattle.std.specs.Prelude.{slice_set}
 use Rattle.std.proofs.lemmas.List.{get_or_default}
-use Rattle.ccsl_causes.specs.declared.leads.Lead.{Lead}
 use Rattle.ccsl_causes.specs.Leading.{begun, led}
 use Rattle.ccsl_causes.proofs.Visiting.{IsVisiting, visiting-one}
 use Rattle.ccsl_causes.proofs.leads.Leads.hear.Goals as goal

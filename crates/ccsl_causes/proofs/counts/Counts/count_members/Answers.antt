@@ -3,7 +3,7 @@ use Rattle.std.specs.Prelude.{slice_set}
 use Rattle.std.proofs.lemmas.List.{get_or_default}
 use Rattle.ccsl_causes.specs.Counted.{counted}
 use Rattle.ccsl_causes.proofs.Visiting.{IsVisiting, visiting-one}
-use Rattle.ccsl_causes.proofs.counts.Counts.count.Goals as goal
+use Rattle.ccsl_causes.proofs.counts.Counts.count_members.Goals as goal
 
 pub loop-clock-preserved-then-at-len : goal.loop-clock-preserved-then-at-len
 loop-clock-preserved-then-at-len c =
