@@ -1,5 +1,6 @@
 -- What is kept for the variables that are read suits the plan of the events.
-use Rattle.std.proofs.Common.{◌≡◌, ℕ, zero, suc, ◌<◌, ◌≤◌, List, [], ◌∷◌, length, map, true, false, Option, Some, None, nat_lt, bytes_eq, slice_get, slice_index_or, ◌+◌, lt-ltb, refl, sym, ap, subst, ◌∙◌, ⊎_elim, arith, eq-eqb}
+use Rattle.std.proofs.Common.{◌≡◌, ℕ, zero, suc, ◌<◌, ◌≤◌, List, [], ◌∷◌, length, map, true, false, Option, Some, None, nat_lt, bytes_eq, slice_get}
+use Rattle.std.proofs.Common.{slice_index_or, ◌+◌, lt-ltb, refl, sym, ap, subst, ◌∙◌, ⊎_elim, arith, eq-eqb}
 use Rattle.std.specs.Prelude.{◌==◌}
 use Rattle.std.specs.List.{list_any, position_or_len}
 use Rattle.std.specs.declared.vec.Vec.{Vec}
@@ -115,7 +116,8 @@ not-found : (code : List ℕ) (codes : List (List ℕ)) → find_name code codes
 not-found code codes e =
     ⊎_elim
     (λ (l : position_or_len (bytes_eq code) codes < length codes).
-    let some : find_name code codes ≡ Some (position_or_len (bytes_eq code) codes) = rw (lt-ltb (position_or_len (bytes_eq code) codes) (length codes) l) refl in
+    let some : find_name code codes ≡ Some (position_or_len (bytes_eq code) codes) =
+    rw (lt-ltb (position_or_len (bytes_eq code) codes) (length codes) l) refl in
     absurd (cc (some, e)))
     (λ (l : length codes ≤ position_or_len (bytes_eq code) codes). none-among code codes l)
     (cases_lt (position_or_len (bytes_eq code) codes) (length codes))
@@ -132,10 +134,12 @@ module _ (codes : List (List ℕ)) (ss : List Source) (hs : List Held) (es : Lis
       by None e = refl
       by (Some s) e = same-number codes s.code k code distinct (coded-at (length codes) ss n s coded e) found
 
-  knows-number : (code : List ℕ) (k : ℕ) (o : Option Entry) → are_distinct codes ≡ true → are_coded (length codes) ss ≡ true → IsLinked (length codes) ss hs es →
+  knows-number : (code : List ℕ) (k : ℕ) (o : Option Entry) → are_distinct codes ≡ true → are_coded (length codes) ss ≡ true → IsLinked (length codes) ss hs es
+      →
       find_name code codes ≡ Some k → slice_get es k ≡ o → Knows (plan_of codes ss ws gaps) hs code (entry_in o)
   knows-number code k None distinct coded linked found e =
-      absurd (let within : k < length codes = slice_get_within codes k code (find_name-there code codes k found) in no es k (omega (arith, within, linked.len)) e)
+      absurd (let within : k < length codes = slice_get_within codes k code (find_name-there code codes k found) in no es k (omega
+      (arith, within, linked.len)) e)
     where
       no : (ds : List Entry) (i : ℕ) → i < length ds → slice_get ds i ≡ None → ⊥
       no [] i l f = absurd (omega (arith, l))
@@ -144,7 +148,8 @@ module _ (codes : List (List ℕ)) (ss : List Source) (hs : List Held) (es : Lis
   knows-number code k (Some Undeclared) distinct coded linked found e = absurd (linked.declared k e)
   knows-number code k (Some Unused) distinct coded linked found e = (
     there-among codes k code (find_name-there code codes k found),
-    λ n. reads-number code k n distinct coded found ∙ linked.chains k n ∙ ap (λ o. ticks_in n (chain (length hs) (first_in o) hs)) e ∙ ap (ticks_in n) (none (length hs)),
+    λ n. reads-number code k n distinct coded found ∙ linked.chains k n ∙ ap (λ o. ticks_in n (chain (length hs) (first_in o) hs)) e
+        ∙ ap (ticks_in n) (none (length hs)),
   )
     where
       none : (most : ℕ) → chain most None hs ≡ []
@@ -160,7 +165,8 @@ module _ (codes : List (List ℕ)) (ss : List Source) (hs : List Held) (es : Lis
   knows code None distinct coded linked found = not-found code codes found
   knows code (Some k) distinct coded linked found = knows-number code k (slice_get es k) distinct coded linked found refl
 
-  pub keeps-begun : (v : Values) → are_distinct codes ≡ true → are_coded (length codes) ss ≡ true → IsLinked (length codes) ss hs es → map held v.signals.items ≡ hs →
+  pub keeps-begun : (v : Values) → are_distinct codes ≡ true → are_coded (length codes) ss ≡ true → IsLinked (length codes) ss hs es
+      → map held v.signals.items ≡ hs →
       v.watches ≡ ws → length ws.items ≤ MAX_CLOCKS → v.none ≡ [] → AreUsers ws.items v.users.items → v.codes ≡ record { names = codes; entries = es } →
       Keeps (plan_of codes ss ws gaps) (λ n. no_view) v
   keeps-begun v distinct coded linked is watches few none users tables = record {
@@ -170,13 +176,17 @@ module _ (codes : List (List ℕ)) (ss : List Source) (hs : List Held) (es : Lis
     users = users;
     codes = λ code.
         subst (λ c. Knows (plan_of codes ss ws gaps) (map held v.signals.items) code (entry_of c code)) (sym tables)
-        (subst (λ gs. Knows (plan_of codes ss ws gaps) gs code (entry_at es (find_name code codes))) (sym is) (knows code (find_name code codes) distinct coded linked refl));
+        (subst (λ gs. Knows (plan_of codes ss ws gaps) gs code (entry_at es (find_name code codes))) (sym is)
+        (knows code (find_name code codes) distinct coded linked refl));
     sizes = λ n.
         subst (λ o. SizeIn o (held_at (map held v.signals.items) n).size) (sym (variable-at codes ss n))
         (subst (λ size. SizeIn (variable_in codes (slice_get ss n)) size) (sym (ap (λ h. h.size) (at n))) (size-in codes (slice_get ss n)));
     seen = λ n. ap (λ h. h.view) (at n) ∙ view-in (slice_get ss n);
     quiet = λ n e. record { same = refl; unheard = refl };
-    flags = λ n e. absurd (let no : (held_at (map held v.signals.items) n).touched ≡ false = ap (λ h. h.touched) (at n) ∙ touched-in (slice_get ss n) in cc (no, e));
+    flags = λ n e. absurd (let no : (held_at (map held v.signals.items) n).touched ≡ false = ap (λ h. h.touched) (at n) ∙ touched-in (slice_get ss n) in cc (
+      no,
+      e,
+    ));
   }
     where
       at : (n : ℕ) → alone (held_at (map held v.signals.items) n) ≡ new_in (slice_get ss n)

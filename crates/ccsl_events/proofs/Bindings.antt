@@ -1,5 +1,6 @@
 -- What is bound, one after another.
-use Rattle.std.proofs.Common.{◌≡◌, ◌⊎◌, inl, inr, ℕ, suc, ◌+◌, ◌<◌, List, [], ◌∷◌, ◌++◌, length, map, take, drop, get_or, Bool, true, false, Result, Ok, Err, if◌then◌else◌, refl, sym, ap, ap₂, subst, ◌∙◌, arith}
+use Rattle.std.proofs.Common.{◌≡◌, ◌⊎◌, inl, inr, ℕ, suc, ◌+◌, ◌<◌, List, [], ◌∷◌, ◌++◌, length, map, take, drop, get_or, Bool, true, false, Result, Ok, Err}
+use Rattle.std.proofs.Common.{if◌then◌else◌, refl, sym, ap, ap₂, subst, ◌∙◌, arith}
 use Rattle.std.specs.List.{list_any, flat_map}
 use Rattle.std.proofs.lemmas.List.{append-nil, map-append, take_more, take-append-drop}
 use Rattle.std.proofs.Math.Seq.{drop-cons}
@@ -18,7 +19,8 @@ use Rattle.ccsl_events.proofs.Sources.{number-among, number-within, number-new, 
 
 -- ## One variable
 
-pub binds-known : (old new : List Source) (s : Source) (n : ℕ) → n ≡ number_in old s → (n ≡ length old → ⊥) → new ≡ old → Binds n (λ name t. name t) s (s ∷ []) old new
+pub binds-known : (old new : List Source) (s : Source) (n : ℕ) → n ≡ number_in old s → (n ≡ length old → ⊥) → new ≡ old
+    → Binds n (λ name t. name t) s (s ∷ []) old new
 binds-known old new s n e ne same = by (list_any (is_same s) old) refl
   where
     by : (b : Bool) → list_any (is_same s) old ≡ b → Binds n (λ name t. name t) s (s ∷ []) old new
@@ -28,7 +30,8 @@ binds-known old new s n e ne same = by (list_any (is_same s) old) refl
       means = λ more. e ∙ sym (number-among old more s k) ∙ sym (ap (λ xs. number_in (xs ++ more) s) same);
     }
 
-pub binds-new : (old new : List Source) (s : Source) (n : ℕ) → n ≡ number_in old s → n ≡ length old → new ≡ old ++ s ∷ [] → Binds n (λ name t. name t) s (s ∷ []) old new
+pub binds-new : (old new : List Source) (s : Source) (n : ℕ) → n ≡ number_in old s → n ≡ length old → new ≡ old ++ s ∷ []
+    → Binds n (λ name t. name t) s (s ∷ []) old new
 binds-new old new s n e past more = by (list_any (is_same s) old) refl
   where
     by : (b : Bool) → list_any (is_same s) old ≡ b → Binds n (λ name t. name t) s (s ∷ []) old new
@@ -48,7 +51,8 @@ module _ {X M P : Type 0} (seen : X → P) (with_numbers : (Source → ℕ) → 
   pub bound-fault : (f : EventFault) (r : Result M EventFault) → r ≡ Err f → IsBound seen with_numbers read (Err f) r old new
   bound-fault f r e = subst (λ q. IsBound seen with_numbers read (Err f) q old new) (sym e) (inl refl)
 
-  pub bound-ok : (x : X) (m : M) (r : Result M EventFault) → r ≡ Ok m → Binds (seen x) with_numbers m (read m) old new → IsBound seen with_numbers read (Ok x) r old new
+  pub bound-ok : (x : X) (m : M) (r : Result M EventFault) → r ≡ Ok m → Binds (seen x) with_numbers m (read m) old new
+      → IsBound seen with_numbers read (Ok x) r old new
   bound-ok x m r e b = subst (λ q. IsBound seen with_numbers read (Ok x) q old new) (sym e) b
 
 -- ## One after another
@@ -119,11 +123,13 @@ module _ {A X M P : Type 0} (meaning : A → Result M EventFault) (seen : X → 
         };
       }
 
-  pub so-far-fault : (done : List A) (made : List X) (old now new : List Source) (a : A) (rest : List A) (f : EventFault) → BoundSoFar meaning seen with_numbers read done made old now →
+  pub so-far-fault : (done : List A) (made : List X) (old now new : List Source) (a : A) (rest : List A) (f : EventFault)
+      → BoundSoFar meaning seen with_numbers read done made old now →
       IsBound seen with_numbers read (Err f) (meaning a) now new → (f ≡ faults.Memory) ⊎ (each meaning (done ++ a ∷ rest) ≡ Err f)
   so-far-fault done made old now new a rest f s b = by (meaning a) refl b
     where
-      by : (r : Result M EventFault) → meaning a ≡ r → IsBound seen with_numbers read (Err f) r now new → (f ≡ faults.Memory) ⊎ (each meaning (done ++ a ∷ rest) ≡ Err f)
+      by : (r : Result M EventFault) → meaning a ≡ r → IsBound seen with_numbers read (Err f) r now new
+          → (f ≡ faults.Memory) ⊎ (each meaning (done ++ a ∷ rest) ≡ Err f)
       by (Ok m) e memory = inl memory
       by (Err g) e (inl same) = inr (each-fault meaning done a rest s.meanings g s.means e ∙ ap (λ h. Err h) (sym same))
       by (Err g) e (inr memory) = inl memory
@@ -136,7 +142,8 @@ split-at xs i a l e =
 
 module _ {A B X M P V : Type 0} (meaning : B → Result M EventFault) (of : A → B) (items : V → List X) (seen : X → P)
     (with_numbers : (Source → ℕ) → M → P) (read : M → List Source) where
-  pub loop-next : (xs : List A) (i : ℕ) (a : A) (made made' : List X) (x : X) (old now new : List Source) → i < length xs → a ≡ get_or xs i a → made' ≡ made ++ x ∷ [] →
+  pub loop-next : (xs : List A) (i : ℕ) (a : A) (made made' : List X) (x : X) (old now new : List Source) → i < length xs → a ≡ get_or xs i a
+      → made' ≡ made ++ x ∷ [] →
       BoundSoFar (λ b. meaning (of b)) seen with_numbers read (take i xs) made old now → IsBound seen with_numbers read (Ok x) (meaning (of a)) now new →
       BoundSoFar (λ b. meaning (of b)) seen with_numbers read (take (i + 1) xs) made' old new
   loop-next xs i a made made' x old now new l at more s b =
@@ -145,30 +152,36 @@ module _ {A B X M P V : Type 0} (meaning : B → Result M EventFault) (of : A �
       (sym (take_more xs i a l ∙ ap (λ c. take i xs ++ c ∷ []) (sym at)))
       (so-far-more (λ c. meaning (of c)) seen with_numbers read (take i xs) made old now new a x s b))
 
-  pub loop-fault : (xs : List A) (i : ℕ) (a : A) (made : List X) (f g : EventFault) (result : Result V EventFault) (old now new : List Source) → i < length xs → a ≡ get_or xs i a →
-      result ≡ Err g → g ≡ f → BoundSoFar (λ b. meaning (of b)) seen with_numbers read (take i xs) made old now → IsBound seen with_numbers read (Err f) (meaning (of a)) now new →
+  pub loop-fault : (xs : List A) (i : ℕ) (a : A) (made : List X) (f g : EventFault) (result : Result V EventFault) (old now new : List Source) → i < length xs
+      → a ≡ get_or xs i a →
+      result ≡ Err g → g ≡ f → BoundSoFar (λ b. meaning (of b)) seen with_numbers read (take i xs) made old now
+      → IsBound seen with_numbers read (Err f) (meaning (of a)) now new →
       IsBound (λ v. map seen (items v)) (λ name. map (with_numbers name)) (flat_map read) result (each meaning (map of xs)) old new
   loop-fault xs i a made f g result old now new l at is same s b =
-      subst (λ r. IsBound (λ v. map seen (items v)) (λ name. map (with_numbers name)) (flat_map read) r (each meaning (map of xs)) old new) (sym (is ∙ ap (λ h. Err h) same))
+      subst (λ r. IsBound (λ v. map seen (items v)) (λ name. map (with_numbers name)) (flat_map read) r (each meaning (map of xs)) old new)
+      (sym (is ∙ ap (λ h. Err h) same))
       (by (so-far-fault (λ c. meaning (of c)) seen with_numbers read (take i xs) made old now new a (drop (suc i) xs) f s b))
     where
       by : (f ≡ faults.Memory) ⊎ (each (λ c. meaning (of c)) (take i xs ++ a ∷ drop (suc i) xs) ≡ Err f) →
           IsBound (λ v. map seen (items v)) (λ name. map (with_numbers name)) (flat_map read) (Err f) (each meaning (map of xs)) old new
       by (inl memory) =
-          subst (λ h. IsBound (λ v. map seen (items v)) (λ name. map (with_numbers name)) (flat_map read) (Err h) (each meaning (map of xs)) old new) (sym memory)
+          subst (λ h. IsBound (λ v. map seen (items v)) (λ name. map (with_numbers name)) (flat_map read) (Err h) (each meaning (map of xs)) old new)
+          (sym memory)
           (bound-memory (λ v. map seen (items v)) (λ name. map (with_numbers name)) (flat_map read) old new (each meaning (map of xs)))
       by (inr first) =
           bound-fault (λ v. map seen (items v)) (λ name. map (with_numbers name)) (flat_map read) old new f (each meaning (map of xs))
           (each-map meaning of xs ∙ ap (each (λ c. meaning (of c))) (split-at xs i a l at) ∙ first)
 
-  pub loop-done : (xs done : List A) (v : V) (old new : List Source) → done ≡ xs → BoundSoFar (λ b. meaning (of b)) seen with_numbers read done (items v) old new →
+  pub loop-done : (xs done : List A) (v : V) (old new : List Source) → done ≡ xs
+      → BoundSoFar (λ b. meaning (of b)) seen with_numbers read done (items v) old new →
       IsBound (λ w. map seen (items w)) (λ name. map (with_numbers name)) (flat_map read) (Ok v) (each meaning (map of xs)) old new
   loop-done xs done v old new all s =
       bound-ok (λ w. map seen (items w)) (λ name. map (with_numbers name)) (flat_map read) old new v s.meanings (each meaning (map of xs))
       (each-map meaning of xs ∙ ap (each (λ c. meaning (of c))) (sym all) ∙ s.means) s.binds
 
 -- an event: its trigger, and then its conditions
-pub watch-bound : (rt : Result (meaning.Trigger Source) EventFault) (rg : Result (List (meaning.Goal Source)) EventFault) (t : made.Trigger) (gs : Vec goals.Goal Global)
+pub watch-bound : (rt : Result (meaning.Trigger Source) EventFault) (rg : Result (List (meaning.Goal Source)) EventFault) (t : made.Trigger)
+    (gs : Vec goals.Goal Global)
     (old mid new : List Source) → BindsTrigger (Ok t) rt old mid → BindsGoals (Ok gs) rg mid new →
     BindsWatch (Ok (record { trigger = t; conditions = gs })) (meaning.watch_on rt rg) old new
 watch-bound (Err f) rg t gs old mid new bt bg = absurd bt

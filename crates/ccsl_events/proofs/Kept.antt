@@ -1,5 +1,6 @@
 -- What is kept goes on suiting its plan.
-use Rattle.std.proofs.Common.{◌≡◌, ℕ, zero, suc, List, [], ◌∷◌, length, map, Bool, true, false, Option, Some, None, slice_get, slice_set, bytes_eq, nat_lt, if◌then◌else◌, refl, sym, ap, subst, ◌∙◌}
+use Rattle.std.proofs.Common.{◌≡◌, ℕ, zero, suc, List, [], ◌∷◌, length, map, Bool, true, false, Option, Some, None, slice_get, slice_set, bytes_eq, nat_lt}
+use Rattle.std.proofs.Common.{if◌then◌else◌, refl, sym, ap, subst, ◌∙◌}
 use Rattle.std.proofs.lemmas.List.{length-set}
 use Rattle.ccsl_base.specs.Clocks.{ticks_in}
 use Rattle.ccsl_triggers.specs.Views.{View, no_view, with_value, at_rest}
@@ -9,7 +10,8 @@ use Rattle.ccsl_events.specs.declared.codes.Entry.TheVariants.{Undeclared, Unuse
 use Rattle.ccsl_events.specs.declared.values.Values.{Values}
 use Rattle.ccsl_events.specs.Dump.{Variable, Plan, is_declared, heard_by, heard_in}
 use Rattle.ccsl_events.specs.Places.{entry_of}
-use Rattle.ccsl_events.specs.Keeping.{AreUsers, held_at, settle_each, SameTables, Kept, kept, touch_held, set_one, set_chain, chain, is_known, change_kept, forget_kept, has_code, reads, Knows, SizeIn, Keeps}
+use Rattle.ccsl_events.specs.Keeping.{AreUsers, held_at, settle_each, SameTables, Kept, kept, touch_held, set_one, set_chain, chain, is_known, change_kept}
+use Rattle.ccsl_events.specs.Keeping.{forget_kept, has_code, reads, Knows, SizeIn, Keeps}
 use Rattle.ccsl_events.proofs.Settling.{settle_each-at, settle_each-view, settle_each-touched}
 use Rattle.ccsl_events.proofs.Chains.{set_one-length, set_chain-at, set_chain-touched, set_chain-flags}
 

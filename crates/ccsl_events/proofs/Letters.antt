@@ -19,4 +19,5 @@ pub bits-more : (xs : List ℕ) (i b others : ℕ) → i < length xs → b ≡ g
     bit_or others (bit_xor (bit_and b 254) 48) ≡ 0 → list_all is_scalar (take (i + 1) xs) ≡ true
 bits-more xs i b others l e h so none =
     let z = both-zero others (bit_xor (bit_and b 254) 48) none in
-    list_all_more is_scalar xs i 0 l ∙ and_from (list_all is_scalar (take i xs)) (is_scalar (get_or xs i 0)) (so z.0) (ap is_scalar (sym e) ∙ bit-scalar b h z.1)
+    list_all_more is_scalar xs i 0 l ∙ and_from (list_all is_scalar (take i xs)) (is_scalar (get_or xs i 0)) (so z.0)
+    (ap is_scalar (sym e) ∙ bit-scalar b h z.1)

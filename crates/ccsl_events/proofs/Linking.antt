@@ -1,5 +1,6 @@
 -- Variables that are kept, one more after another.
-use Rattle.std.proofs.Common.{◌≡◌, ℕ, zero, suc, ◌+◌, ◌<◌, ◌≤◌, List, [], ◌∷◌, ◌++◌, length, ◌||◌, ◌&&◌, Bool, true, false, Option, Some, None, nat_eq, if◌then◌else◌, slice_get, slice_set, refl, sym, ap, ap₂, ◌∙◌, ⊎_elim, arith, lt-ltb, eq-eqb}
+use Rattle.std.proofs.Common.{◌≡◌, ℕ, zero, suc, ◌+◌, ◌<◌, ◌≤◌, List, [], ◌∷◌, ◌++◌, length, ◌||◌, ◌&&◌, Bool, true, false, Option, Some, None, nat_eq}
+use Rattle.std.proofs.Common.{if◌then◌else◌, slice_get, slice_set, refl, sym, ap, ap₂, ◌∙◌, ⊎_elim, arith, lt-ltb, eq-eqb}
 use Rattle.std.specs.Prelude.{◌==◌}
 use Rattle.std.proofs.Math.ListN.{get_or-append}
 use Rattle.std.proofs.lemmas.List.{map-append, length-map, get_or_past, length-set}

@@ -1,5 +1,6 @@
 -- What holds of each variable that the meaning of events reads.
-use Rattle.std.proofs.Common.{◌≡◌, ℕ, suc, List, [], ◌∷◌, ◌++◌, length, map, ◌&&◌, ◌||◌, Bool, true, false, Result, Ok, Err, nat_lt, if◌then◌else◌, refl, sym, ap, ap₂, subst, ◌∙◌, lt-ltb}
+use Rattle.std.proofs.Common.{◌≡◌, ℕ, suc, List, [], ◌∷◌, ◌++◌, length, map, ◌&&◌, ◌||◌, Bool, true, false, Result, Ok, Err, nat_lt, if◌then◌else◌, refl, sym}
+use Rattle.std.proofs.Common.{ap, ap₂, subst, ◌∙◌, lt-ltb}
 use Rattle.std.specs.Prelude.{◌==◌}
 use Rattle.std.specs.List.{list_any, flat_map}
 use Rattle.std.proofs.lemmas.List.Folds.{list_any-append}
@@ -49,7 +50,8 @@ unfolding Coded
 coded-then count (Ok u) next c more = more u c
 coded-then count (Err f) next c more = tt
 
-coded-made : {M : Type 0} (read : M → List Source) (of : Target → M) (count : ℕ) (r : Result Target EventFault) → ((u : Target) → read (of u) ≡ one_target u) → Coded one_target count r →
+coded-made : {M : Type 0} (read : M → List Source) (of : Target → M) (count : ℕ) (r : Result Target EventFault) → ((u : Target) → read (of u) ≡ one_target u)
+    → Coded one_target count r →
     Coded read count (b.made of r)
 unfolding Coded
 coded-made read of count (Ok u) same c = ap (are_coded count) (same u) ∙ c
@@ -82,13 +84,15 @@ module _ (vs : List Variable) (count : ℕ) (e : are_declared count vs ≡ true)
   recorded-coded p = coded-then count (b.target vs p) (λ u. b.of_event p.at u u.kind) (target-coded p) (λ u c. event-coded p.at u u.kind c)
 
   compared-coded : (k : file.Condition) → Coded one_target count (b.compared vs k)
-  compared-coded k = coded-then count (b.target vs k.path) (b.of_value k) (target-coded k.path) (λ u c. unless-coded u _ c (nat_lt u.bits.width (length k.letters)))
+  compared-coded k = coded-then count (b.target vs k.path) (b.of_value k) (target-coded k.path)
+      (λ u c. unless-coded u _ c (nat_lt u.bits.width (length k.letters)))
 
   goal-coded : (k : file.Condition) → Coded (λ g. b.read_by_goal g ∷ []) count (b.goal vs k)
   unfolding one_target
   goal-coded k = coded-made (λ g. b.read_by_goal g ∷ []) (b.goal_on k) count (b.compared vs k) (λ u. refl) (compared-coded k)
 
-  becomes-coded : (r : Result (b.Goal Source) EventFault) → Coded (λ g. b.read_by_goal g ∷ []) count r → Coded (λ u. b.read_by_trigger u ∷ []) count (b.made b.becomes r)
+  becomes-coded : (r : Result (b.Goal Source) EventFault) → Coded (λ g. b.read_by_goal g ∷ []) count r
+      → Coded (λ u. b.read_by_trigger u ∷ []) count (b.made b.becomes r)
   unfolding Coded
   becomes-coded (Ok g) c = c
   becomes-coded (Err f) c = tt
@@ -99,20 +103,23 @@ module _ (vs : List Variable) (count : ℕ) (e : are_declared count vs ≡ true)
   trigger-coded (file.fall p) = coded-made (λ u. b.read_by_trigger u ∷ []) (λ u. b.fall (b.part_of u)) count (b.bit vs p) (λ u. refl) (bit-coded p)
   trigger-coded (file.change p) = coded-made (λ u. b.read_by_trigger u ∷ []) (λ u. b.change (b.part_of u)) count (b.target vs p) (λ u. refl) (target-coded p)
   trigger-coded (file.becomes k) = becomes-coded (b.goal vs k) (goal-coded k)
-  trigger-coded (file.record_of p) = coded-made (λ u. b.read_by_trigger u ∷ []) (λ u. b.record_of (b.source_of u)) count (b.recorded vs p) (λ u. refl) (recorded-coded p)
+  trigger-coded (file.record_of p) =
+      coded-made (λ u. b.read_by_trigger u ∷ []) (λ u. b.record_of (b.source_of u)) count (b.recorded vs p) (λ u. refl) (recorded-coded p)
 
   all-both : (xs ys : List Source) → are_coded count xs ≡ true → are_coded count ys ≡ true → are_coded count (xs ++ ys) ≡ true
   all-both [] ys cx cy = cy
   all-both (x ∷ xs) ys cx cy = let both = and_parts (nat_lt x.code count) (are_coded count xs) cx in ap₂ (λ p q. p && q) both.0 (all-both xs ys both.1 cy)
 
-  front-coded : {M : Type 0} (read : M → List Source) (r : Result M EventFault) (rs : Result (List M) EventFault) → Coded read count r → Coded (flat_map read) count rs →
+  front-coded : {M : Type 0} (read : M → List Source) (r : Result M EventFault) (rs : Result (List M) EventFault) → Coded read count r
+      → Coded (flat_map read) count rs →
       Coded (flat_map read) count (b.in_front r rs)
   unfolding Coded
   front-coded read (Ok m) (Ok ms) c cs = all-both (read m) (flat_map read ms) c cs
   front-coded read (Ok m) (Err f) c cs = tt
   front-coded read (Err f) rs c cs = tt
 
-  each-coded : {A M : Type 0} (read : M → List Source) (meaning : A → Result M EventFault) (xs : List A) → ((x : A) → Coded read count (meaning x)) → Coded (flat_map read) count (b.each meaning xs)
+  each-coded : {A M : Type 0} (read : M → List Source) (meaning : A → Result M EventFault) (xs : List A) → ((x : A) → Coded read count (meaning x))
+      → Coded (flat_map read) count (b.each meaning xs)
   unfolding Coded
   each-coded read meaning [] c = refl
   each-coded read meaning (x ∷ xs) c = front-coded read (meaning x) (b.each meaning xs) (c x) (each-coded read meaning xs c)
@@ -166,7 +173,8 @@ named-variable name (b.change p) = refl
 named-variable name (b.becomes g) = refl
 named-variable name (b.record_of s) = refl
 
-pub triggers-within : (sources : List Source) (ws : List watches.Watch) (ms : List (b.Watch Source)) → seen_watches ws ≡ map (b.watch_with (b.number_in sources)) ms →
+pub triggers-within : (sources : List Source) (ws : List watches.Watch) (ms : List (b.Watch Source))
+    → seen_watches ws ≡ map (b.watch_with (b.number_in sources)) ms →
     ((s : Source) → list_any (b.is_same s) (flat_map b.read_by ms) ≡ true → list_any (b.is_same s) sources ≡ true) → are_within (length sources) ws ≡ true
 triggers-within sources [] ms e among = refl
 triggers-within sources (w ∷ ws) [] e among = absurd (cc)
@@ -176,10 +184,13 @@ triggers-within sources (w ∷ ws) (m ∷ ms) e among =
     let is : variable_of w.trigger ≡ b.number_in sources (b.read_by_trigger m.trigger) =
     seen-variable w.trigger ∙ ap (λ x. b.read_by_trigger x.trigger) here ∙ named-variable (b.number_in sources) m.trigger in
     let first : list_any (b.is_same (b.read_by_trigger m.trigger)) (flat_map b.read_by (m ∷ ms)) ≡ true =
-    ap (λ p. p || list_any (b.is_same (b.read_by_trigger m.trigger)) (map b.read_by_goal m.conditions ++ flat_map b.read_by ms)) (is_same-refl (b.read_by_trigger m.trigger)) in
+    ap (λ p. p || list_any (b.is_same (b.read_by_trigger m.trigger)) (map b.read_by_goal m.conditions ++ flat_map b.read_by ms))
+    (is_same-refl (b.read_by_trigger m.trigger)) in
     let low = number-within sources (b.read_by_trigger m.trigger) (among (b.read_by_trigger m.trigger) first) in
     ap₂ (λ p q. p && q) (ap (λ n. nat_lt n (length sources)) is ∙ lt-ltb (b.number_in sources (b.read_by_trigger m.trigger)) (length sources) low)
-    (triggers-within sources ws ms rest (λ s k. among s (list_any-append (b.is_same s) (b.read_by m) (flat_map b.read_by ms) ∙ ap (λ q. list_any (b.is_same s) (b.read_by m) || q) k ∙ or-true (list_any (b.is_same s) (b.read_by m)))))
+    (triggers-within sources ws ms rest
+    (λ s k. among s (list_any-append (b.is_same s) (b.read_by m) (flat_map b.read_by ms) ∙ ap (λ q. list_any (b.is_same s) (b.read_by m) || q) k
+    ∙ or-true (list_any (b.is_same s) (b.read_by m)))))
   where
     or-true : (p : Bool) → (p || true) ≡ true
     or-true true = refl

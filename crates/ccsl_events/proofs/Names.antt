@@ -1,5 +1,6 @@
 -- The names that are found by the variables of which something was recorded are those that happen.
-use Rattle.std.proofs.Common.{◌≡◌, ℕ, zero, suc, ◌+◌, ◌<◌, ◌≤◌, List, [], ◌∷◌, length, filter, Bool, true, false, ◌||◌, ◌&&◌, Option, Some, None, slice_get, nat_eq, nat_lt, if◌then◌else◌, refl, sym, ap, subst, ◌∙◌, ⊎_elim, arith, lt-ltb, eq-eqb, eqb-true}
+use Rattle.std.proofs.Common.{◌≡◌, ℕ, zero, suc, ◌+◌, ◌<◌, ◌≤◌, List, [], ◌∷◌, length, filter, Bool, true, false, ◌||◌, ◌&&◌, Option, Some, None, slice_get}
+use Rattle.std.proofs.Common.{nat_eq, nat_lt, if◌then◌else◌, refl, sym, ap, subst, ◌∙◌, ⊎_elim, arith, lt-ltb, eq-eqb, eqb-true}
 use Rattle.std.specs.List.{list_all, range_with_len}
 use Rattle.std.specs.declared.vec.Vec.{Vec}
 use Rattle.std.specs.declared.alloc.Global.{Global}

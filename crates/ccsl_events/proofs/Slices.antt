@@ -1,5 +1,6 @@
 -- What becomes of the variables where one of them is another.
-use Rattle.std.proofs.Common.{◌≡◌, ℕ, zero, suc, ◌<◌, ◌≤◌, List, [], ◌∷◌, ◌++◌, length, map, take, drop, slice_set, get_or, Bool, refl, sym, ap, ap₂, ◌∙◌, arith}
+use Rattle.std.proofs.Common.{◌≡◌, ℕ, zero, suc, ◌<◌, ◌≤◌, List, [], ◌∷◌, ◌++◌, length, map, take, drop, slice_set, get_or, Bool, refl, sym, ap, ap₂, ◌∙◌}
+use Rattle.std.proofs.Common.{arith}
 use Rattle.std.proofs.lemmas.List.{map-set}
 use Rattle.ccsl_triggers.specs.declared.signal.Signal.{Signal}
 use Rattle.ccsl_triggers.specs.Held.{Held, held, forget_held}

@@ -1,5 +1,6 @@
 -- Variables that are read one after another, and their numbers.
-use Rattle.std.proofs.Common.{◌≡◌, ℕ, ◌+◌, ◌<◌, List, [], ◌∷◌, ◌++◌, length, ◌||◌, ◌&&◌, not, Bool, true, false, cond, if◌then◌else◌, filter, refl, sym, ap, ap₂, subst, ◌∙◌, arith, append_assoc, eq-eqb, eqb-true}
+use Rattle.std.proofs.Common.{◌≡◌, ℕ, ◌+◌, ◌<◌, List, [], ◌∷◌, ◌++◌, length, ◌||◌, ◌&&◌, not, Bool, true, false, cond, if◌then◌else◌, filter, refl, sym, ap}
+use Rattle.std.proofs.Common.{ap₂, subst, ◌∙◌, arith, append_assoc, eq-eqb, eqb-true}
 use Rattle.std.specs.Prelude.{◌==◌}
 use Rattle.std.specs.List.{list_any, list_all}
 use Rattle.std.proofs.lemmas.List.{append-nil}
@@ -41,11 +42,17 @@ number-within (x ∷ xs) s e =
 -- and one that is not has the next number
 pub number-new : (xs ys : List Source) (s : Source) → list_any (is_same s) xs ≡ false → number_in ((xs ++ s ∷ []) ++ ys) s ≡ length xs
 number-new [] ys s e = ap (λ b. cond (not b) (1 + number_in ys s) 0) (is_same-refl s)
-number-new (x ∷ xs) ys s e = by_case (is_same s x) _ (λ t. absurd (let yes : true ≡ false = sym (ap (λ b. b || list_any (is_same s) xs) t) ∙ e in cc)) (λ f. ap (λ b. cond (not b) (1 + number_in ((xs ++ s ∷ []) ++ ys) s) 0) f ∙ ap (λ n. 1 + n) (number-new xs ys s (sym (ap (λ b. b || list_any (is_same s) xs) f) ∙ e)) ∙ omega arith)
+number-new (x ∷ xs) ys s e =
+    by_case (is_same s x) _ (λ t. absurd (let yes : true ≡ false = sym (ap (λ b. b || list_any (is_same s) xs) t) ∙ e in cc))
+    (λ f. ap (λ b. cond (not b) (1 + number_in ((xs ++ s ∷ []) ++ ys) s) 0) f
+    ∙ ap (λ n. 1 + n) (number-new xs ys s (sym (ap (λ b. b || list_any (is_same s) xs) f) ∙ e)) ∙ omega arith)
 
 pub number-past : (xs : List Source) (s : Source) → list_any (is_same s) xs ≡ false → number_in xs s ≡ length xs
 number-past [] s e = refl
-number-past (x ∷ xs) s e = by_case (is_same s x) _ (λ t. absurd (let yes : true ≡ false = sym (ap (λ b. b || list_any (is_same s) xs) t) ∙ e in cc)) (λ f. ap (λ b. cond (not b) (1 + number_in xs s) 0) f ∙ ap (λ n. 1 + n) (number-past xs s (sym (ap (λ b. b || list_any (is_same s) xs) f) ∙ e)) ∙ omega arith)
+number-past (x ∷ xs) s e =
+    by_case (is_same s x) _ (λ t. absurd (let yes : true ≡ false = sym (ap (λ b. b || list_any (is_same s) xs) t) ∙ e in cc))
+    (λ f. ap (λ b. cond (not b) (1 + number_in xs s) 0) f ∙ ap (λ n. 1 + n) (number-past xs s (sym (ap (λ b. b || list_any (is_same s) xs) f) ∙ e))
+    ∙ omega arith)
 
 -- ## One after another
 
@@ -58,7 +65,8 @@ among-last (x ∷ xs) s = ap (λ b. is_same s x || b) (among-last xs s) ∙ or-t
     or-true false = refl
 
 -- what holds whatever is read later holds where more was read
-later-one : (P : List Source → Type 0) (xs : List Source) (s : Source) → ((more : List Source) → P (xs ++ more)) → (more : List Source) → P (with_source xs s ++ more)
+later-one : (P : List Source → Type 0) (xs : List Source) (s : Source) → ((more : List Source) → P (xs ++ more)) → (more : List Source)
+    → P (with_source xs s ++ more)
 later-one P xs s h more = by (list_any (is_same s) xs)
   where
     by : (b : Bool) → P ((if b then xs else xs ++ s ∷ []) ++ more)
@@ -162,7 +170,8 @@ pub among-read : (xs ss : List Source) (s : Source) → list_any (is_same s) ss 
 among-read xs [] s e = absurd (cc)
 among-read xs (t ∷ ss) s e =
     by_case (is_same s t) _
-    (λ y. among-later s (with_source xs t) ss (subst (λ u. list_any (is_same u) (with_source xs t) ≡ true) (sym (is_same-true s t y)) (here (list_any (is_same t) xs) refl)))
+    (λ y. among-later s (with_source xs t) ss
+    (subst (λ u. list_any (is_same u) (with_source xs t) ≡ true) (sym (is_same-true s t y)) (here (list_any (is_same t) xs) refl)))
     (λ n. among-read (with_source xs t) ss s (sym (ap (λ b. b || list_any (is_same s) ss) n) ∙ e))
   where
     here : (b : Bool) → list_any (is_same t) xs ≡ b → list_any (is_same t) (if b then xs else xs ++ t ∷ []) ≡ true

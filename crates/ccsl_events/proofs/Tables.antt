@@ -1,5 +1,6 @@
 -- Codes in a table.
-use Rattle.std.proofs.Common.{◌≡◌, ℕ, zero, suc, ◌+◌, ◌<◌, ◌≤◌, List, [], ◌∷◌, length, true, false, nat_lt, bytes_eq, replicate, Option, Some, None, if◌then◌else◌, slice_get, slice_set, slice_index_or, refl, sym, ap, ◌∙◌, arith, lt-ltb, le-ltb, ⊎_elim, ◌⊎◌, inl, inr}
+use Rattle.std.proofs.Common.{◌≡◌, ℕ, zero, suc, ◌+◌, ◌<◌, ◌≤◌, List, [], ◌∷◌, length, true, false, nat_lt, bytes_eq, replicate, Option, Some, None}
+use Rattle.std.proofs.Common.{if◌then◌else◌, slice_get, slice_set, slice_index_or, refl, sym, ap, ◌∙◌, arith, lt-ltb, le-ltb, ⊎_elim, ◌⊎◌, inl, inr}
 use Rattle.std.proofs.lemmas.List.{get_or-set_same, get_or-set_other, length-set}
 use Rattle.std.proofs.lemmas.Bool.{cases_eq, cases_lt}
 use Rattle.std.proofs.lemmas.Option.{slice_get_within, slice_get_past}

@@ -31,7 +31,8 @@ pub record AreMeanings (r : Result (List (Watch Source)) EventFault) (ws : List 
   pub reads : sources ≡ with_sources [] (flat_map read_by meanings)
   pub watches : seen_watches ws ≡ map (watch_with (number_in sources)) meanings
 
-pub found-meanings : (r : Result (List (Watch Source)) EventFault) (ws : Vec made.Watch Global) (sources : List Source) → BindsWatches (Ok ws) r [] sources → AreMeanings r ws.items sources
+pub found-meanings : (r : Result (List (Watch Source)) EventFault) (ws : Vec made.Watch Global) (sources : List Source) → BindsWatches (Ok ws) r [] sources
+    → AreMeanings r ws.items sources
 found-meanings (Ok ms) ws sources binds = record {
   meanings = ms;
   means = refl;

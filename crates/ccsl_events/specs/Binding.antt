@@ -1,6 +1,7 @@
 -- WHAT A FILE OF EVENTS MEANS FOR A HEADER: the variables of the dump that its paths read, and what each of its events waits for.
 -- Each path means bits of a variable; else the first fault is answered, in the order of the file.
-use Rattle.std.specs.Prelude.{ℕ, ◌-◌, List, [], ◌∷◌, ◌++◌, length, map, filter, replicate, Bool, not, Result, Ok, Err, nat_lt, ◌==◌, ◌&&◌, if◌then◌else◌, slice_index_or}
+use Rattle.std.specs.Prelude.{ℕ, ◌-◌, List, [], ◌∷◌, ◌++◌, length, map, filter, replicate, Bool, not, Result, Ok, Err, nat_lt, ◌==◌, ◌&&◌, if◌then◌else◌}
+use Rattle.std.specs.Prelude.{slice_index_or}
 use Rattle.std.specs.List.{flat_map, position_or_len}
 use Rattle.ccsl_scopes.specs.declared.select.Bits.{Bits}
 use Rattle.ccsl_scopes.specs.declared.lookup.Target.{Target}

@@ -12,7 +12,8 @@ use Rattle.ccsl_triggers.specs.declared.watch.Trigger.TheVariants as t
 use Rattle.ccsl_triggers.specs.declared.watch.Watch as watches
 use Rattle.ccsl_events.specs.declared.binder.Source.{Source}
 use Rattle.ccsl_events.specs.Dump.{Plan}
-use Rattle.ccsl_events.specs.Binding.{Bound, Part, Goal, Trigger, rise, fall, change, becomes, record_of, Watch, goal_with, trigger_with, watch_with, read_by_trigger, read_by_goal, read_by, is_same, number_in}
+use Rattle.ccsl_events.specs.Binding.{Bound, Part, Goal, Trigger, rise, fall, change, becomes, record_of, Watch, goal_with, trigger_with, watch_with}
+use Rattle.ccsl_events.specs.Binding.{read_by_trigger, read_by_goal, read_by, is_same, number_in}
 
 -- ## What the code has, as it is said
 

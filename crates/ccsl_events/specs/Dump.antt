@@ -1,7 +1,8 @@
 -- The body of a dump for some events: what its tokens say one after another, and what is written of it. IEEE 1364-2005, clauses
 -- 18.2.1 and 18.2.3. That times do not fall, that a code is declared, that blocks do not hold blocks and what a gap is are
 -- this project's profile.
-use Rattle.std.specs.Prelude.{ℕ, ◌+◌, List, [], ◌++◌, take, drop, length, filter, map, Bool, true, false, not, Option, Some, None, nat_lt, ◌&&◌, if◌then◌else◌, codes, bytes_eq, decimal, slice_get, fold}
+use Rattle.std.specs.Prelude.{ℕ, ◌+◌, List, [], ◌++◌, take, drop, length, filter, map, Bool, true, false, not, Option, Some, None, nat_lt, ◌&&◌, if◌then◌else◌}
+use Rattle.std.specs.Prelude.{codes, bytes_eq, decimal, slice_get, fold}
 use Rattle.std.specs.List.{list_any, range_with_len}
 use Rattle.ccsl_vcd_lex.specs.Tokens.{Token, Heard, word, too_long, hear, tokens_from}
 use Rattle.ccsl_vcd.specs.declared.fault.VcdFault.{VcdFault}

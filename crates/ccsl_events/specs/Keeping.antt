@@ -1,5 +1,6 @@
 -- What the variables that are kept leave on the way through a time, without where they lie in memory.
-use Rattle.std.specs.Prelude.{◌≡◌, ℕ, zero, suc, List, [], ◌∷◌, ◌++◌, length, map, Bool, true, false, Option, Some, None, ◌&&◌, if◌then◌else◌, nat_lt, slice_get, slice_set, slice_index_or, bytes_eq, ◌≤◌}
+use Rattle.std.specs.Prelude.{◌≡◌, ℕ, zero, suc, List, [], ◌∷◌, ◌++◌, length, map, Bool, true, false, Option, Some, None, ◌&&◌, if◌then◌else◌, nat_lt}
+use Rattle.std.specs.Prelude.{slice_get, slice_set, slice_index_or, bytes_eq, ◌≤◌}
 use Rattle.std.specs.declared.vec.Vec.{Vec}
 use Rattle.std.specs.declared.alloc.Global.{Global}
 use Rattle.ccsl_base.specs.declared.limits.TheConstants.{MAX_CLOCKS}

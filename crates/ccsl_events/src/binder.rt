@@ -152,7 +152,8 @@ impl Binder {
     }
 
     fn part(&mut self, target: Target) -> Result<Part, Memory>
-        ensures { IfOk result (λ p. Binds (seen_part p) part_with (part_of target) (source_of target ∷ [])
+        ensures { IfOk result
+            (λ p. Binds (seen_part p) part_with (part_of target) (source_of target ∷ [])
             self.old.sources.items self.new.sources.items) }
     {
         let signal = self.number(source_of(target))?;
@@ -163,7 +164,8 @@ impl Binder {
     }
 
     fn goal_on(&mut self, condition: &Condition, target: Target) -> Result<Goal, Memory>
-        ensures { IfOk result (λ g. Binds (seen_goal g) goal_with (goal_on (condition_in condition.now) target)
+        ensures { IfOk result
+            (λ g. Binds (seen_goal g) goal_with (goal_on (condition_in condition.now) target)
             (source_of target ∷ []) self.old.sources.items self.new.sources.items) }
     {
         let letters = widened(

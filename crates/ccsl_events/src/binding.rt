@@ -113,7 +113,8 @@ fn bound(
 ) -> Result<Body, EventFault>
     requires few { length events.now ≤ MAX_CLOCKS }
     requires coded { are_declared (length codes) variables.now ≡ true }
-    ensures { Begins result (bound (map event_in events.now) variables.now codes (are_skipped gaps)) }
+    ensures { Begins result
+        (bound (map event_in events.now) variables.now codes (are_skipped gaps)) }
 {
     let mut binder = Binder::new(alloc);
     let watches = binder.watches(events, variables)?;
@@ -124,7 +125,8 @@ fn bound(
 /// The body of a dump with this header, for these events, or why a path is refused.
 pub fn bind(alloc: Global, events: &[Event], header: Header, gaps: Gaps) -> Result<Body, Refused>
     requires few { length events.now ≤ MAX_CLOCKS }
-    ensures { IsBegun result (bound (map event_in events.now) header.variables.items header.codes (are_skipped gaps)) }
+    ensures { IsBegun result
+        (bound (map event_in events.now) header.variables.items header.codes (are_skipped gaps)) }
 {
     let Header {
         variables,

@@ -12,7 +12,8 @@ ghost use Rattle.ccsl_events.specs.Fed.{HasTaken};
 /// the rows before the fault are those of the body's tokens.
 pub fn whole_body()
     ensures ends { (plan : Plan) (start len : ℕ) (bytes : List ℕ) (p : Place) (r : Reader) →
-        HasTaken plan start (bytes ++ 10 ∷ []) p r → body_says plan start len bytes ≡ ends_at plan len p }
+        HasTaken plan start (bytes ++ 10 ∷ []) p r →
+        body_says plan start len bytes ≡ ends_at plan len p }
     ensures breaks { (plan : Plan) (start len : ℕ) (bytes more : List ℕ) (f : VcdFault)
         (before old new : List ℕ) → Breaks plan begin start bytes f before old new →
         body_says plan start len (bytes ++ more) ≡ refused f }

@@ -14,7 +14,8 @@ use std::alloc::Global;
 pub const FULL: usize = 65_536;
 
 fn put_timescale(timescale: Option<&[u8]>, out: &mut Vec<u8>) -> Result<(), Memory>
-    ensures { OnOk result (out.new.items ≡ out.old.items ++ timescale_line (option_copied timescale.entry)) }
+    ensures { OnOk result (out.new.items
+        ≡ out.old.items ++ timescale_line (option_copied timescale.entry)) }
 {
     if let Some(scale) = timescale {
         out.extend_from_slice(b"$timescale ")?;
@@ -55,7 +56,8 @@ pub fn header_text(
     events: &[Event],
 ) -> Result<Vec<u8>, Memory>
     requires few { length events.now ≤ MAX_CLOCKS }
-    ensures { IfOk result (λ text. text.items ≡ header_text (option_copied timescale.entry) (names_of events.now)) }
+    ensures { IfOk result (λ text. text.items
+        ≡ header_text (option_copied timescale.entry) (names_of events.now)) }
 {
     let mut out = Vec::new(alloc);
     put_timescale(timescale, &mut out)?;

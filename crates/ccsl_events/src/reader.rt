@@ -93,9 +93,11 @@ impl Reader {
 
     // The token that is kept has ended.
     fn hear(&mut self, out: &mut Vec<u8>) -> Result<(), VcdFault>
-        ensures says { (plan : Plan) (p : Place) (body : Body) → self.old.body ≡ Some body → Stands plan p body →
+        ensures says { (plan : Plan) (p : Place) (body : Body) →
+            self.old.body ≡ Some body → Stands plan p body →
             let kept = token (self.old.taken - length self.old.carry.items) self.old.carry.items in
-            Says plan p.written (token_says plan p kept p.amid) result self.new out.old.items out.new.items }
+            Says plan p.written (token_says plan p kept p.amid) result self.new
+            out.old.items out.new.items }
         ensures heads { (limits : Limits) (among : Among) (h : headings.Heading) →
             ReadsHeader limits among h self.old →
             let kept = token (self.old.taken - length self.old.carry.items) self.old.carry.items in
@@ -103,7 +105,8 @@ impl Reader {
             × (out.new.items ≡ out.old.items) }
         ensures clears { OnOk result (self.new.carry.items ≡ []) }
         ensures place { self.new.taken ≡ self.old.taken }
-        ensures header { (body : Body) → self.old.body ≡ Some body → self.new.is_header_over ≡ self.old.is_header_over }
+        ensures header { (body : Body) → self.old.body ≡ Some body →
+            self.new.is_header_over ≡ self.old.is_header_over }
     {
         let at = self.taken.saturating_sub(self.carry.len() as u64);
         let text = self.carry.as_slice();
@@ -189,7 +192,8 @@ impl Reader {
         ensures counts { IfOk result (λ taken. self.old.taken + length piece.now < 2 ^ 64 →
             self.new.taken ≡ self.old.taken + taken) }
         ensures clears { OnOk result (self.old.is_header_over ≡ false → IsClear self.new) }
-        ensures stops { IfOk result (λ taken. (taken ≡ length piece.now) ⊎ (FULL ≤ length out.new.items) ⊎
+        ensures stops { IfOk result (λ taken. (taken ≡ length piece.now)
+            ⊎ (FULL ≤ length out.new.items) ⊎
             (self.new.is_header_over ≡ true)) }
     {
         let first = self.stride(piece, out)?;
@@ -203,7 +207,8 @@ impl Reader {
 
     /// Ends the dump: the row of the last time is appended, if the dump may end here.
     pub fn finish(&mut self, len: u64, out: &mut Vec<u8>) -> Result<(), VcdFault>
-        ensures { (plan : Plan) (start : ℕ) (bytes : List ℕ) (p : Place) → HasTaken plan start bytes p self.old →
+        ensures { (plan : Plan) (start : ℕ) (bytes : List ℕ) (p : Place) →
+            HasTaken plan start bytes p self.old →
             Says plan p.written (ends_at plan len p) result self.new out.old.items out.new.items }
     {
         match &mut self.body {

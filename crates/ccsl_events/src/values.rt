@@ -230,7 +230,8 @@ impl Values {
         ensures kept { OnOk result ((plan : Plan) (views : ℕ → View) → Keeps plan views self.old →
             (is_declared plan code.now ≡ true) ×
             Keeps plan
-            (if is_kept then heard_in plan code.now letters.now is_dumped views else views) self.new) }
+            (if is_kept then heard_in plan code.now letters.now is_dumped views else views)
+            self.new) }
         ensures refused { IfErr result (λ f. (f ≡ VcdFault.Memory) ⊎
             ((f ≡ VcdFault.UnknownCode at) ×
             ((plan : Plan) (views : ℕ → View) → Keeps plan views self.old →

@@ -1,6 +1,7 @@
 -- When a name happens at a time: by the values that stood before it, settled at the last earlier time with a change, and those
 -- settled at it. A value is a list of letters.
-use Rattle.std.specs.Prelude.{ℕ, ◌-◌, List, [], ◌∷◌, length, Bool, true, false, not, Option, Some, None, ◌&&◌, ◌||◌, if◌then◌else◌, bytes_eq, codes, slice_get, slice_range}
+use Rattle.std.specs.Prelude.{ℕ, ◌-◌, List, [], ◌∷◌, length, Bool, true, false, not, Option, Some, None, ◌&&◌, ◌||◌, if◌then◌else◌, bytes_eq, codes, slice_get}
+use Rattle.std.specs.Prelude.{slice_range}
 use Rattle.std.specs.List.{list_all}
 use Rattle.ccsl_scopes.specs.declared.select.Bits.{Bits}
 use Rattle.ccsl_triggers.specs.Views.{View, no_view}

@@ -1,4 +1,5 @@
-use Rattle.std.proofs.Common.{◌≡◌, ◌<◌, ℕ, zero, suc, List, [], ◌∷◌, ◌++◌, length, map, take, drop, slice_set, slice_index_or, refl, sym, ap, ◌∙◌, add-one, arith}
+use Rattle.std.proofs.Common.{◌≡◌, ◌<◌, ℕ, zero, suc, List, [], ◌∷◌, ◌++◌, length, map, take, drop, slice_set, slice_index_or, refl, sym, ap, ◌∙◌, add-one}
+use Rattle.std.proofs.Common.{arith}
 use Rattle.ccsl_triggers.specs.Sized.{lower}
 use Rattle.ccsl_triggers.proofs.signal.make_lower.Goals as goal
 

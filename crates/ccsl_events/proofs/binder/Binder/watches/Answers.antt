@@ -20,7 +20,8 @@ pub loop-event-preserved : goal.loop-event-preserved
 loop-event-preserved c =
     loop-next (meaning.watch c.args.variables.now) event_in (λ (v : Vec made.Watch Global). v.items) seen_watch watch_with read_by c.args.events.now
     c.loop-event.event-index c.event-item.result c.loop-event.watches.items c.push.new.self.items c.in_ok-watch.watch c.args.self.now.sources.items
-    c.loop-event.self.sources.items c.watch.new.self.sources.items c.loop-event-test.true c.event-item.is c.in_ok-push.ensures.items c.loop-event.invariant c.in_ok-watch.ensures
+    c.loop-event.self.sources.items c.watch.new.self.sources.items c.loop-event-test.true c.event-item.is c.in_ok-push.ensures.items c.loop-event.invariant
+    c.in_ok-watch.ensures
 
 pub returns : goal.returns
 returns c =

@@ -10,7 +10,8 @@ use Rattle.ccsl_events.proofs.Kept.{declared}
 use Rattle.ccsl_events.proofs.Run.{runs-none}
 use Rattle.ccsl_events.proofs.Changes.{vector-runs}
 use Rattle.ccsl_events.proofs.body.Body.short_vector.Goals as goal
-use Rattle.ccsl_events.proofs.body.Body.short_vector.Goals.{then-not-are_letters-via-then-not-are_letters, then-not-are_letters-via-else-not-are_letters+in_ok-change_known+then-not-branch}
+use Rattle.ccsl_events.proofs.body.Body.short_vector.Goals.{then-not-are_letters-via-then-not-are_letters}
+use Rattle.ccsl_events.proofs.body.Body.short_vector.Goals.{then-not-are_letters-via-else-not-are_letters+in_ok-change_known+then-not-branch}
 use Rattle.ccsl_base.proofs.Cases.{rest-is, rest_at}
 
 pub returns-then-end-eq0-clause-runs : goal.returns-then-end-eq0-clause-runs

@@ -5,7 +5,8 @@ use Rattle.ccsl_events.specs.declared.codes.Entry.{Entry}
 use Rattle.ccsl_vcd_lex.specs.ShortCodes.{SHORT}
 use Rattle.ccsl_events.proofs.Tables.{IsFront, front-none, front-more, front-past, front-all, got}
 use Rattle.ccsl_events.proofs.codes.Codes.new.Goals as goal
-use Rattle.ccsl_events.proofs.codes.Codes.new.Goals.{then-place-len+then-i-len, else-place-len, else-place-len-via-then-place-len+else-i-len, else-place-len-via-else-place-len}
+use Rattle.ccsl_events.proofs.codes.Codes.new.Goals.{then-place-len+then-i-len, else-place-len, else-place-len-via-then-place-len+else-i-len}
+use Rattle.ccsl_events.proofs.codes.Codes.new.Goals.{else-place-len-via-else-place-len}
 
 pub loop-i-init : goal.loop-i-init
 loop-i-init c = front-none c.in_ok-short.short.items c.args.names c.args.entries.items c.in_ok-short.ensures.none c.in_ok-short.ensures.len
