@@ -3,7 +3,7 @@
 ghost use Rattle.std.specs.Prelude.{◌≡◌, ◌⊎◌, ◌≤◌, ◌<◌, ◌+◌, ◌-◌, ◌^◌, ℕ, List, [], length, true, false, None, IfOk, OnOk, IsSomeAnd};
 ghost use Rattle.ccsl_vcd_lex.specs.Tokens.{token};
 ghost use Rattle.ccsl_events.specs.Dump.{Plan, Place, begin, token_says, ends_at};
-ghost use Rattle.ccsl_events.specs.Standing.{Stands};
+ghost use Rattle.ccsl_events.specs.Standing.{Stands, counted};
 ghost use Rattle.ccsl_vcd.specs.Places.{Among, commands};
 ghost use Rattle.ccsl_scopes.specs.Headings as headings;
 ghost use Rattle.ccsl_scopes.specs.Standing.{IsHeaderOf};
@@ -57,7 +57,10 @@ impl Reader {
     }
 
     /// How many times have a row so far.
-    pub fn times(&self) -> u64 {
+    pub fn times(&self) -> u64
+        ensures { (plan : Plan) (p : Place) (body : Body) → self.now.body ≡ Some body →
+            Stands plan p body → result ≡ counted p.times }
+    {
         match &self.body {
             Some(body) => body.times(),
             None => 0,
