@@ -7,7 +7,7 @@ use Rattle.std.proofs.lemmas.Bool.{and_parts, not-true, le-ltb}
 use Rattle.std.proofs.lemmas.List.{map-append}
 use Rattle.std.proofs.lemmas.List.Elements.{filter-append}
 use Rattle.ccsl_base.specs.Names.{is_among, are_distinct}
-use Rattle.ccsl_base.proofs.Tables.{bytes_eq-true}
+use Rattle.ccsl_base.proofs.Tables.{bytes_eq-true, bytes_eq-comm}
 use Rattle.ccsl_vcd.specs.declared.fault.VcdFault.{VcdFault}
 use Rattle.ccsl_vcd.specs.Binding.{Declaration, Wanted, Bound, qualifies, candidates, outermost, joined, bind_from, bind_one, bind}
 use Rattle.ccsl_vcd.specs.Places.{Change}
@@ -18,7 +18,8 @@ use Rattle.ccsl_vcd_write.specs.Code.{code_of}
 use Rattle.ccsl_vcd_write.proofs.BodyStory.{step_changes}
 use Rattle.ccsl_vcd_write.proofs.StepRows.{IsWithin, are-below, picked, event-member}
 use Rattle.ccsl_event_rows.specs.ReadsBack.{named, clocks_from}
-use Rattle.ccsl_event_rows.proofs.Numbers.{split, number_of, equal-swap, none-among, some-among, number-told, none-told}
+use Rattle.ccsl_event_rows.proofs.Numbers.{number_of, none-among, some-among, number-told, none-told}
+use Rattle.ccsl_base.proofs.Sets.{by_case}
 
 -- the declaration of a name by its number, where it has one
 abbrev declared_as : List ℕ → Option ℕ → List Declaration
@@ -31,8 +32,8 @@ none-there name first [] d = refl
 none-there name first (n ∷ names) d =
     let parts = and_parts (not (is_among n names)) (are_distinct names) d in
     let rest : List Declaration = filter (qualifies name) (declarations (first + 1) names) in
-    ap (λ w. cond (w && true) (declaration first n ∷ rest) rest) (equal-swap n name)
-    ∙ split (bytes_eq name n)
+    ap (λ w. cond (w && true) (declaration first n ∷ rest) rest) (bytes_eq-comm n name)
+    ∙ by_case (bytes_eq name n) _
     (λ t.
     let same : name ≡ n = bytes_eq-true name n t in
     let away : is_among name names ≡ false = ap (λ (m : List ℕ). is_among m names) same ∙ not-true (is_among n names) parts.0 in

@@ -8,23 +8,12 @@ use Rattle.ccsl_base.specs.Names.{is_among, are_distinct}
 use Rattle.ccsl_base.proofs.Tables.{bytes_eq-true, bytes_eq-refl, bytes_eq-sym}
 use Rattle.ccsl_vcd_write.proofs.BodyStory.{AreBelow}
 use Rattle.ccsl_event_rows.specs.ReadsBack.{named}
-
--- a test and what is known of its answer
-pub split : {A : Type 0} (b : Bool) → (b ≡ true → A) → (b ≡ false → A) → A
-split true t f = t refl
-split false t f = f refl
+use Rattle.ccsl_base.proofs.Sets.{by_case}
 
 -- the number of a name among some, the first of which has a number
 abbrev pub number_of : ℕ → List ℕ → List (List ℕ) → Option ℕ
 number_of first name [] = None
 number_of first name (n ∷ names) = cond (bytes_eq name n) (Some first) (number_of (first + 1) name names)
-
-pub equal-swap : (a b : List ℕ) → bytes_eq a b ≡ bytes_eq b a
-equal-swap a b =
-    (elim (bytes_eq a b) as (λ w. bytes_eq a b ≡ w → w ≡ bytes_eq b a) [
-      | true ↦ λ e. sym (bytes_eq-refl b a (sym (bytes_eq-true a b e)))
-      | false ↦ λ e. sym (bytes_eq-sym a b e)
-    ]) refl
 
 -- a name that has no number is not among the names
 pub none-among : (first : ℕ) (name : List ℕ) (names : List (List ℕ)) → number_of first name names ≡ None → is_among name names ≡ false
@@ -69,7 +58,7 @@ at-number first name (n ∷ names) j zero e d l =
     ]) e
 at-number first name (n ∷ names) j (suc x) e d l =
     let parts = and_parts (not (is_among n names)) (are_distinct names) d in
-    split (bytes_eq name n)
+    by_case (bytes_eq name n) _
     (λ t.
     let same : name ≡ n = bytes_eq-true name n t in
     let first-is : Some first ≡ Some j = sym (ap (λ w. cond w (Some first) (number_of (first + 1) name names)) t) ∙ e in

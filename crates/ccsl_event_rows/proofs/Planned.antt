@@ -19,7 +19,7 @@ use Rattle.ccsl_events.specs.Binds.{seen_watch, seen_plan}
 use Rattle.ccsl_events.specs.Dump.{Plan}
 use Rattle.std.specs.List.{flat_map}
 use Rattle.ccsl_event_rows.specs.ReadsBack.{AreEventNames}
-use Rattle.ccsl_event_rows.proofs.Numbers.{split}
+use Rattle.ccsl_base.proofs.Sets.{by_case}
 
 -- NAMES, in the order in which a file has them
 
@@ -73,12 +73,12 @@ add-name names name n l i a = record {
 
 named-well : (es : List f.Event) (t : Placed) (name : List ℕ) → Named es → Said (f.named es t (word name))
 named-well es t name n =
-    split (f.may_be_named es name)
+    by_case (f.may_be_named es name) _
     (λ e.
     let p = and_parts (is_name name) (nat_lt (length es) 1024) e in
     let few : length (f.names_of es) < 1024 = let l = ltb-true (length es) 1024 p.1 in omega (arith, length-map es (λ e. e.name)) in
     subst (λ b. Said (cond b (cond (is_among name (f.names_of es)) (f.refused (faults.Duplicate t.at)) (f.goes (f.sign es name))) (f.syntax t))) (sym e)
-    (split (is_among name (f.names_of es))
+    (by_case (is_among name (f.names_of es)) _
     (λ a. subst (λ b. Said (cond b (f.refused (faults.Duplicate t.at)) (f.goes (f.sign es name)))) (sym a) tt)
     (λ a. subst (λ b. Said (cond b (f.refused (faults.Duplicate t.at)) (f.goes (f.sign es name)))) (sym a) (add-name (f.names_of es) name n few p.0 a))))
     (λ e. subst (λ b. Said (cond b (cond (is_among name (f.names_of es)) (f.refused (faults.Duplicate t.at)) (f.goes (f.sign es name))) (f.syntax t)))
