@@ -1,9 +1,6 @@
 //! Reading and writing through a world.
 
-ghost use Rattle.std.specs.Prelude.{◌≤◌, ◌<◌, length, IfOk};
-ghost use Rattle.ccsl_edge.specs.declared.slot.Slot.TheVariants.{Spec, Trace};
-ghost use Rattle.ccsl_events_top.specs.declared.sink.Sink.{Sink};
-ghost use Rattle.ccsl_events_top.specs.Writing.{MayWrite};
+ghost use Rattle.ccsl_edge.specs.declared.slot.Slot.TheVariants.{Spec};
 
 use crate::stop::Stop;
 use ccsl_base::MAX_SPEC_BYTES;
@@ -26,13 +23,4 @@ pub(crate) fn read_event_file<W: World>(
         Err(ReadFault::Fault) => Err(Stop::Fault),
         Err(ReadFault::Memory) => Err(Stop::Memory),
     }
-}
-
-/// Reads the next piece of the dump: none only at its end.
-pub(crate) fn next_piece<W: World>(world: &mut W, piece: &mut [u8]) -> Result<usize, Stop>
-    requires room { 0 < length piece.old }
-    ensures within { IfOk result (λ count. count ≤ length piece.new) }
-    ensures open { (sink : Sink) → MayWrite sink (W.state world.old) → MayWrite sink (W.state world.new) }
-{
-    Ok(world.read(Slot::Trace, piece)?)
 }

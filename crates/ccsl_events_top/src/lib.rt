@@ -6,7 +6,6 @@ pub(crate) mod files;
 pub(crate) mod pass;
 pub mod program;
 pub mod sink;
-pub(crate) mod source;
 pub(crate) mod stop;
 pub mod words;
 

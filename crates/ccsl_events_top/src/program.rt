@@ -1,6 +1,13 @@
 //! The program's one call.
 
-ghost use Rattle.std.specs.Prelude.{◌≤◌, ℕ, List, length, IfOk};
+ghost use Rattle.std.specs.Prelude.{◌≡◌, ◌≤◌, ℕ, List, length, map, IfOk};
+ghost use Rattle.ccsl_event_file.specs.Parsing.{event_in};
+ghost use Rattle.ccsl_scopes.specs.Headings.{Heading};
+ghost use Rattle.ccsl_scopes.specs.Standing.{IsHeaderOf};
+ghost use Rattle.ccsl_events.specs.Standing.{are_skipped};
+ghost use Rattle.ccsl_events.specs.Binding.{bound};
+ghost use Rattle.ccsl_events.specs.Begun.{StandsFor};
+ghost use Rattle.ccsl_events.specs.Written.{header_text, names_of};
 ghost use Rattle.ccsl_edge.specs.declared.slot.Slot.{Slot};
 ghost use Rattle.ccsl_edge.specs.declared.slot.Slot.TheVariants.{TraceOut};
 
@@ -29,6 +36,8 @@ fn events_of(alloc: Global, keys: HashKeys, text: &[u8]) -> Result<Vec<Event>, S
 // The names of events, in their order.
 fn text_of_header(alloc: Global, events: &[Event], header: &Header) -> Result<Vec<u8>, Memory>
     requires few { length events.now ≤ MAX_CLOCKS }
+    ensures { IfOk result (λ text. (h : Heading) → IsHeaderOf h header.now →
+        text.items ≡ header_text h.timescale (names_of events.now)) }
 {
     let timescale = match &header.timescale {
         Some(scale) => Some(scale.as_slice()),
@@ -44,6 +53,9 @@ fn body_of(
     header: Header,
 ) -> Result<Body, Stop>
     requires few { length events.now ≤ MAX_CLOCKS }
+    ensures { IfOk result (λ body. StandsFor
+        (bound (map event_in events.now) header.variables.items header.codes
+        (are_skipped command.entry.gaps)) body) }
 {
     match bind(alloc, events, header, command.gaps) {
         Ok(body) => Ok(body),

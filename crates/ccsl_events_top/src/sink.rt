@@ -1,6 +1,8 @@
 //! Where a trace of events goes.
 
-ghost use Rattle.std.specs.Prelude.{OnOk};
+ghost use Rattle.std.specs.Prelude.{◌≡◌, [], OnOk, OnErr};
+ghost use Rattle.ccsl_edge.specs.Calls.{Adds, AddsFront};
+ghost use Rattle.ccsl_events_top.specs.Streams.{slot_of};
 ghost use Rattle.ccsl_events_top.specs.Writing.{MayWrite};
 
 use ccsl_edge::{Failed, Slot, World, write_all};
@@ -19,6 +21,11 @@ pub(crate) fn write_block<W: World>(
     block: &mut Vec<u8>,
 ) -> Result<(), Failed>
     requires open { MayWrite sink (W.state world.old) }
+    ensures ok { OnOk result
+        (Adds W.told (slot_of sink) block.old.items (W.state world.old) (W.state world.new)) }
+    ensures err { OnErr result
+        (AddsFront W.told (slot_of sink) block.old.items (W.state world.old) (W.state world.new)) }
+    ensures empty { OnOk result (block.new.items ≡ []) }
     ensures open { OnOk result (MayWrite sink (W.state world.new)) }
 {
     match sink {

@@ -1,6 +1,8 @@
 //! Why there is no trace of events, or not the whole of it.
 
 ghost use Rattle.std.specs.Prelude.{◌≡◌};
+ghost use Rattle.ccsl_events_top.specs.declared.stop.Stop.TheVariants as stops;
+ghost use Rattle.ccsl_events_top.specs.Stopping.{stop_of};
 
 use crate::words::Usage;
 use ccsl_base::Memory;
@@ -21,30 +23,40 @@ pub(crate) enum Stop {
 }
 
 impl From<Memory> for Stop {
+    ghost from_gives = { λ _ stop. stop ≡ stops.Memory };
+
     fn from(_memory: Memory) -> Stop {
         Stop::Memory
     }
 }
 
 impl From<AllocError> for Stop {
+    ghost from_gives = { λ _ stop. stop ≡ stops.Memory };
+
     fn from(_error: AllocError) -> Stop {
         Stop::Memory
     }
 }
 
 impl<T: Drop> From<AllocFailed<T>> for Stop {
+    ghost from_gives = { λ _ stop. stop ≡ stops.Memory };
+
     fn from(_failed: AllocFailed<T>) -> Stop {
         Stop::Memory
     }
 }
 
 impl From<Failed> for Stop {
+    ghost from_gives = { λ _ stop. stop ≡ stops.Fault };
+
     fn from(_failed: Failed) -> Stop {
         Stop::Fault
     }
 }
 
 impl From<VcdFault> for Stop {
+    ghost from_gives = { λ fault stop. stop ≡ stop_of fault };
+
     fn from(fault: VcdFault) -> Stop {
         match fault {
             VcdFault::Memory => Stop::Memory,

@@ -1,0 +1,5 @@
+mod Streaming
+mod Passing
+mod Bodies
+mod Steps
+mod Headers
