@@ -1,5 +1,5 @@
 -- Files that are read once more: each call leaves what it does not read, and so do calls in a row.
-use Rattle.std.proofs.Common.{◌≡◌, ◌≢◌, ◌≤◌, ℕ, List, Bool, true, false, inl, inr, refl, sym, ap, ◌∙◌, subst, arith}
+use Rattle.std.proofs.Common.{◌≡◌, ◌≤◌, ℕ, List, true, false, inl, inr, refl, sym, ap, ◌∙◌, arith}
 use Rattle.ccsl_edge.specs.declared.slot.Slot.{Slot}
 use Rattle.ccsl_edge.specs.declared.slot.Slot.TheVariants.{Spec, Trace, Cert, Input, Report, TraceOut, CertOut}
 use Rattle.ccsl_edge.specs.declared.whole.ReadFault.{ReadFault}

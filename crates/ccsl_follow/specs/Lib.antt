@@ -2,3 +2,4 @@ pub mod Fed
 pub mod OnlyReads
 pub mod Following
 pub mod Leaving
+pub mod LastSteps

@@ -1,8 +1,12 @@
 //! What is followed of a trace: the full steps, the counts, the leads, and the last steps.
 
-ghost use Rattle.std.specs.Prelude.{OnOk};
+ghost use Rattle.std.specs.Prelude.{◌≡◌, ◌<◌, ◌+◌, ◌-◌, ◌^◌, ℕ, Some, true, false, min, length, OnOk, slice_index_or};
+ghost use Rattle.ccsl_base.specs.Clocks.{ticks_in};
+ghost use Rattle.ccsl_causes.specs.Counted.{counted};
 ghost use Rattle.ccsl_edge.specs.declared.slot.Slot.TheVariants.{Trace};
 ghost use Rattle.ccsl_edge.specs.Counts.{SameCounts};
+ghost use Rattle.ccsl_follow.specs.Leaving.{is_left_at};
+ghost use Rattle.ccsl_follow.specs.LastSteps.{kept_with};
 ghost use Rattle.ccsl_follow.specs.OnlyReads.{OnlyReads};
 
 use crate::feeding::{next_rows, open_feed};
@@ -23,7 +27,7 @@ pub struct Follow<'s> {
     alloc: Global,
     steps: Steps<'s>,
     pub counts: Counts,
-    /// none where the system has no precedence between clocks that are written in it
+    /// none where the trace is left at a step, or the system has no precedence between clocks that are written in it
     pub leads: Option<Leads>,
     made: u64,
     until: Until,
@@ -51,6 +55,14 @@ impl<'s> Drop for Follow<'s> {
     }
 }
 
+// The leads before the first step. What is pending is asked for at the end of a trace alone.
+fn leads_of(alloc: Global, system: &System, until: Until) -> Result<Option<Leads>, Memory> {
+    match until {
+        Until::Step(_) => Ok(None),
+        Until::End(_) => Leads::new(alloc, system),
+    }
+}
+
 impl<'s> Follow<'s> {
     /// Before the first step. Of the defined clocks these are followed, and all that their definitions lead to.
     pub fn open(
@@ -63,7 +75,7 @@ impl<'s> Follow<'s> {
             alloc,
             steps: Steps::open(alloc, system, clocks)?,
             counts: Counts::new(alloc, system.scope().named)?,
-            leads: Leads::new(alloc, system)?,
+            leads: leads_of(alloc, system, until)?,
             made: 0,
             until,
             first_kept: until.first_kept(),
@@ -83,7 +95,13 @@ impl<'s> Follow<'s> {
     }
 
     // The step that was just made.
-    fn column(&self, time: u64) -> Column {
+    fn column(&self, time: u64) -> Column
+        ensures { result ≡ record {
+          step = self.now.made;
+          time = time;
+          ticks = self.now.steps.step;
+        } }
+    {
         Column {
             step: self.made,
             time,
@@ -91,32 +109,76 @@ impl<'s> Follow<'s> {
         }
     }
 
-    // The step that was just made is one of the last. No more are kept than there are of them, however long the trace is.
-    fn keep(&mut self, time: u64) -> Result<(), Memory> {
-        if (self.kept.len() as u64) < KEPT {
+    // The step that was just made is kept where it is one of the last ones: no more of them, however long the trace is.
+    #[inline]
+    fn keep(&mut self, time: u64) -> Result<(), Memory>
+        ensures kept { OnOk result (self.new.kept.items
+            ≡ kept_with self.old.first_kept self.old.kept.items (record {
+              step = self.old.made;
+              time = time;
+              ticks = self.old.steps.step;
+            })) }
+        ensures counts { self.new.counts ≡ self.old.counts }
+        ensures steps { self.new.steps ≡ self.old.steps }
+        ensures made { self.new.made ≡ self.old.made }
+        ensures broken { self.new.broken ≡ self.old.broken }
+    {
+        if self.first_kept <= self.made && (self.kept.len() as u64) < KEPT {
             let column = self.column(time);
             self.kept.push(column)?;
         }
         Ok(())
     }
 
-    /// The next row of the trace.
+    // The step that was just made is counted.
     #[inline]
-    pub fn take(&mut self, row: &Row) -> Result<(), Memory> {
+    fn count(&mut self, time: u64)
+        ensures counts { (x : ℕ) → x < length self.old.counts →
+            slice_index_or self.new.counts x 0 ≡ counted (ticks_in x self.old.steps.step)
+            (slice_index_or self.old.counts x 0) }
+        ensures clocks { length self.new.counts ≡ length self.old.counts }
+        ensures steps { self.new.steps ≡ self.old.steps }
+        ensures made { self.new.made ≡ min (self.old.made + 1) (2 ^ 64 - 1) }
+        ensures kept { self.new.kept.items ≡ self.old.kept.items }
+        ensures broken { self.new.broken ≡ self.old.broken }
+    {
+        let step = self.steps.step();
+        if let Some(leads) = &mut self.leads {
+            leads.hear(step, time, &self.counts);
+        }
+        self.counts.count(step);
+        self.made = self.made.saturating_add(1);
+    }
+
+    // The next row of the trace. Where it is left at that, nothing is counted.
+    #[inline]
+    fn take(&mut self, row: &Row) -> Result<(), Memory>
+        ensures left { OnOk result (is_left_at self.old.until self.old.made ≡ true →
+            (self.new.counts ≡ self.old.counts) × (self.new.broken ≡ Some (record {
+              step = self.old.made;
+              time = row.now.time;
+              ticks = self.new.steps.step;
+            }))) }
+        ensures goes { OnOk result (is_left_at self.old.until self.old.made ≡ false →
+            (self.new.made ≡ min (self.old.made + 1) (2 ^ 64 - 1)) × (self.new.broken ≡ self.old.broken)) }
+        ensures counts { OnOk result (is_left_at self.old.until self.old.made ≡ false →
+            (x : ℕ) → x < length self.old.counts →
+            slice_index_or self.new.counts x 0 ≡ counted (ticks_in x self.new.steps.step)
+            (slice_index_or self.old.counts x 0)) }
+        ensures kept { OnOk result (is_left_at self.old.until self.old.made ≡ false →
+            self.new.kept.items ≡ kept_with self.old.first_kept self.old.kept.items (record {
+              step = self.old.made;
+              time = row.now.time;
+              ticks = self.new.steps.step;
+            })) }
+    {
         self.steps.go_on(&row.ticks);
         if self.until.is_at(self.made) {
             self.broken = Some(self.column(row.time));
             return Ok(());
         }
-        let step = self.steps.step();
-        if let Some(leads) = &mut self.leads {
-            leads.hear(step, row.time, &self.counts);
-        }
-        self.counts.count(step);
-        if self.first_kept <= self.made {
-            self.keep(row.time)?;
-        }
-        self.made = self.made.saturating_add(1);
+        self.keep(row.time)?;
+        self.count(row.time);
         Ok(())
     }
 

@@ -1,4 +1,3 @@
-use Rattle.ccsl_edge.specs.Calls.{Reads}
 use Rattle.ccsl_follow.proofs.Fed.{fed-bound, fed-rows}
 use Rattle.ccsl_follow.proofs.Rereading.{only-on, only-unread, calm-on}
 use Rattle.ccsl_follow.proofs.feeding.next_rows.Goals as goal
