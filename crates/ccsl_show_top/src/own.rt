@@ -1,5 +1,8 @@
 //! The words that are this program's own.
 
+ghost use Rattle.std.specs.Prelude.{◌≡◌};
+ghost use Rattle.ccsl_show_top.specs.Telling.{are_shown};
+
 use ccsl_base::{CommandWord, Memory};
 use ccsl_show::Own;
 use std::alloc::Global;
@@ -20,6 +23,17 @@ impl Colour {
             "never" => Some(Colour::Never),
             "auto" => Some(Colour::Terminal),
             _ => None,
+        }
+    }
+
+    /// Whether colours are shown, where the environment refuses them or not and standard output is a terminal or not.
+    pub fn is_shown(self, is_refused: bool, is_terminal: bool) -> bool
+        ensures { result ≡ are_shown self is_refused is_terminal }
+    {
+        match self {
+            Colour::Always => true,
+            Colour::Never => false,
+            Colour::Terminal => !is_refused && is_terminal,
         }
     }
 }
@@ -62,28 +76,34 @@ impl Asked {
         }
     }
 
-    /// One more word. A key of this program's own is taken once; a second one is left to `ccsl`, which refuses it.
-    pub fn add(&mut self, alloc: Global, word: CommandWord) -> Result<(), Memory> {
+    // A word of this program's own is taken, and it answers whether it was one. Of each key the first is.
+    fn take(&mut self, alloc: Global, word: &str) -> Result<bool, Memory> {
         if self.waves.is_none()
-            && let Some(name) = value_of(word.as_str(), "waves")
+            && let Some(name) = value_of(word, "waves")
         {
             self.waves = Some(copied(alloc, name)?);
-            return Ok(());
+            return Ok(true);
         }
         if self.picture.is_none()
-            && let Some(name) = value_of(word.as_str(), "picture")
+            && let Some(name) = value_of(word, "picture")
         {
             self.picture = Some(copied(alloc, name)?);
-            return Ok(());
+            return Ok(true);
         }
         if self.colour.is_none()
-            && let Some(name) = value_of(word.as_str(), "color")
-            && let Some(colour) = Colour::named(name)
+            && let Some(name) = value_of(word, "color")
         {
-            self.colour = Some(colour);
-            return Ok(());
+            self.colour = Colour::named(name);
+            return Ok(self.colour.is_some());
         }
-        self.words.push(word)?;
+        Ok(false)
+    }
+
+    /// One more word. A key of this program's own is taken once; a second one is left to `ccsl`, which refuses it.
+    pub fn add(&mut self, alloc: Global, word: CommandWord) -> Result<(), Memory> {
+        if !self.take(alloc, word.as_str())? {
+            self.words.push(word)?;
+        }
         Ok(())
     }
 

@@ -1,9 +1,10 @@
 //! The program's one call.
 
-ghost use Rattle.std.specs.Prelude.{◌≡◌, ◌⊎◌, ℕ, List, OnOk};
+ghost use Rattle.std.specs.Prelude.{◌≡◌, ◌⊎◌, ◌↔◌, ℕ, List, Err, IsTrue, OnOk, nat_eq};
 ghost use Rattle.std.specs.Result.{is_ok};
 ghost use Rattle.ccsl_edge.specs.declared.slot.Slot.{Slot};
 ghost use Rattle.ccsl_edge.specs.Counts.{SameCounts};
+ghost use Rattle.ccsl_edge.specs.declared.stop.Stop.TheVariants as stops;
 ghost use Rattle.ccsl_follow.specs.OnlyReads.{OnlyReads};
 ghost use Rattle.ccsl_show_top.specs.Follows.{Follows, Shows};
 
@@ -100,6 +101,29 @@ fn shown_behind<W: World, O: World, L: Listen>(
 pub struct Outcome {
     pub status: u8,
     pub shown: Result<(), Stop>,
+}
+
+impl Outcome {
+    /// Whether a file failed before there was an answer.
+    pub fn is_failed(self) -> bool
+        ensures { result ≡ nat_eq self.status 5 }
+    {
+        self.status == 5
+    }
+
+    /// Whether memory was wanting, for the answer or behind it.
+    pub fn wants_memory(self) -> bool
+        ensures { IsTrue result ↔ ((self.status ≡ 6) ⊎ (self.shown ≡ Err stops.Memory)) }
+    {
+        self.status == 6 || self.shown == Err(Stop::Memory)
+    }
+
+    /// Whether a file failed behind the answer, or was another than before.
+    pub fn is_cut(self) -> bool
+        ensures { IsTrue result ↔ (self.shown ≡ Err stops.Fault) }
+    {
+        self.shown == Err(Stop::Fault)
+    }
 }
 
 /// Does all that `ccsl` does with these words, and then shows what stands behind the answer, where the files can be read again. What
