@@ -1,5 +1,5 @@
 -- What a pass has written of a body, from one step to the next.
-use Rattle.std.proofs.Common.{◌≡◌, ℕ, ◌+◌, ◌≤◌, ◌<◌, ◌⊎◌, inl, inr, List, [], ◌∷◌, ◌++◌, length, take, drop, Bool, true, false, cond, IsTrue, Some}
+use Rattle.std.proofs.Common.{◌≡◌, ℕ, ◌+◌, ◌-◌, ◌≤◌, ◌<◌, ◌⊎◌, inl, inr, List, [], ◌∷◌, ◌++◌, length, take, drop, Bool, true, false, cond, IsTrue, Some}
 use Rattle.std.proofs.Common.{None, Err, refl, sym, ap, ◌∙◌, subst, append_assoc, append-nil, arith, length-append, length-take-le}
 use Rattle.std.proofs.Math.Seq.{drop-append_seam}
 use Rattle.ccsl_base.specs.declared.limits.TheConstants.{MAX_FILE_BYTES}
@@ -16,11 +16,11 @@ use Rattle.ccsl_events.proofs.Whole.{breaks-more, taken-told}
 use Rattle.ccsl_events_top.specs.declared.sink.Sink.{Sink}
 use Rattle.ccsl_events_top.specs.declared.pass.Pass.{Pass}
 use Rattle.ccsl_events_top.specs.Reading.{read_of, body_ends, story_behind}
-use Rattle.ccsl_events_top.specs.Passing.{AreGiven, dump_of, Passes, Leaves, HasAll, IsCut, InBody, IsBroken, IsCutOff, HasHeader, Begins}
-use Rattle.ccsl_events_top.specs.Passing.{BodyOn}
-use Rattle.ccsl_events_top.proofs.Passing.{given-fits, given-first, given-whole, cut-long, taken-on, ended-passes, leaves, read-long}
+use Rattle.ccsl_events_top.specs.Passing.{AreGiven, dump_of, Passes, HasAll, IsCut, InBody, IsBroken, HasHeader, Begins}
+use Rattle.ccsl_events_top.specs.Passing.{BodyOn, left_for}
+use Rattle.ccsl_events_top.proofs.Passing.{given-fits, given-few, given-first, given-whole, cut-long, taken-on, ended-passes, leaves, read-long}
 
-story-front : (plan : Plan) (head all dump : List ℕ) → read_of dump ≡ head ++ all
+pub story-front : (plan : Plan) (head all dump : List ℕ) → read_of dump ≡ head ++ all
     → story_behind plan (length head) dump ≡ story_from plan begin (settled_from (length head) all)
 story-front plan head all dump e =
     ap (λ (xs : List ℕ). story_from plan begin (settled_from (length head) (drop (length head) xs))) e
@@ -135,6 +135,12 @@ module _ (told : Told) (sink : Sink) (start now : State) (plan : Plan) (head tex
   unfed-body-end pass pass' f i a more over read rest (inr b) =
       inr (refused-body-end pass pass' pass'.block.items f i a more over read rest b)
 
+  -- the work that remains
+  pub nearer-body : (pass : Pass) (before : ℕ) → InBody told sink start now plan head text pass → before < pass.reader.taken
+      → left_for pass < MAX_FILE_BYTES + 2 - before
+  nearer-body pass before i more =
+      omega (arith, more, i.taken.taken, given-few told sink start now pass (head ++ i.given) i.written i.passes, length-append head i.given)
+
   one-byte : (n : ℕ) → 0 < n → n ≤ 1 → n ≡ 1
   one-byte n some few = omega arith
 
@@ -149,7 +155,7 @@ module _ (told : Told) (sink : Sink) (start now : State) (plan : Plan) (head tex
       (one-byte n some few) r)
 
   -- all that is read of the dump was given
-  all-told : (given : List ℕ) (pass : Pass) (p : Place) → HasTaken plan (length head) given p pass.reader → read_of (dump_of start) ≡ head ++ given
+  pub all-told : (given : List ℕ) (pass : Pass) (p : Place) → HasTaken plan (length head) given p pass.reader → read_of (dump_of start) ≡ head ++ given
       → story_behind plan (length head) (dump_of start) ≡ record { place = p; fault = None }
   all-told given pass p h e = story-front plan head given (dump_of start) e ∙ taken-told plan (length head) given p pass.reader h
 
@@ -173,16 +179,6 @@ module _ (told : Told) (sink : Sink) (start now : State) (plan : Plan) (head tex
             (cut-long told sink start now (head ++ given) written c tells);
         told_is = λ tells. ap (λ (s : Story). s.place) (story tells);
       }
-
-  -- want of memory
-  pub starved : (pass : Pass) → (i : InBody told sink start now plan head text pass) → IsCutOff told sink start now (Leaves told sink start now) text
-  starved pass i = record {
-    written = i.written;
-    waits = pass.block.items;
-    place = i.place;
-    left = leaves told sink start now pass (head ++ i.given) i.written i.passes;
-    rows = i.rows;
-  }
 
 -- The body begins.
 module _ (told : Told) (sink : Sink) (start now : State) (plan : Plan) where

@@ -1,5 +1,12 @@
 mod Streaming
 mod Passing
 mod Bodies
+mod Fronts
+mod Ending
+mod Effects
+mod Making
+mod Going
+mod Promising
 mod Steps
 mod Headers
+mod Reopening

@@ -10,7 +10,7 @@ use Rattle.ccsl_base.proofs.Cases.{no-items}
 use Rattle.ccsl_edge.specs.declared.slot.Slot.TheVariants.{Trace}
 use Rattle.ccsl_edge.specs.World.{State, Told}
 use Rattle.ccsl_edge.specs.Calls as calls
-use Rattle.ccsl_edge.proofs.Counts.{SameCounts-none, SameCounts-then, Reads-SameCounts}
+use Rattle.ccsl_edge.proofs.Counts.{SameCounts-none, SameCounts-then, Reads-SameCounts, SameCounts-NoCountFalls, NoCountFalls-then, Fails-NoCountFalls}
 use Rattle.ccsl_edge.proofs.Frames.{Rose-after_same}
 use Rattle.ccsl_vcd.specs.declared.fault.VcdFault.{VcdFault}
 use Rattle.ccsl_vcd.specs.declared.fault.VcdFault.TheVariants as faults
@@ -114,7 +114,7 @@ module _ (told : Told) (sink : Sink) (start : State) where
         | false ↦ λ e. e
       ]) refl
 
-  given-few : (now : State) (pass : Pass) (given written : List ℕ) → Passes told sink start now pass given written → length given ≤ MAX_FILE_BYTES + 1
+  pub given-few : (now : State) (pass : Pass) (given written : List ℕ) → Passes told sink start now pass given written → length given ≤ MAX_FILE_BYTES + 1
   given-few now pass given written p =
       (elim pass.has_ended as (λ w. pass.has_ended ≡ w → length given ≤ MAX_FILE_BYTES + 1) [
         | true ↦ λ e.
@@ -195,6 +195,7 @@ module _ (told : Told) (sink : Sink) (start : State) where
     read = p.bytes;
     streams = streams-unread told sink p.bytes written start s t p.streams f;
     rose = inl (Rose-after_same _ _ _ (p.counts.same Trace) f.rose);
+    falls = NoCountFalls-then start s t (SameCounts-NoCountFalls start s p.counts) (Fails-NoCountFalls Trace s t f);
   }
 
   -- What was given comes first in what is read of the dump.

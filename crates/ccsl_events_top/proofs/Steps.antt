@@ -9,10 +9,11 @@ use Rattle.ccsl_events_top.specs.declared.pass.Pass.{Pass}
 use Rattle.ccsl_events_top.specs.declared.stop.Stop.{Stop}
 use Rattle.ccsl_events_top.specs.declared.stop.Stop.TheVariants as stops
 use Rattle.ccsl_events_top.specs.Stopping.{stop_of}
-use Rattle.ccsl_events_top.specs.Passing.{Passes, Leaves, InHeader, IsUnopened, HeadsOn, InBody, IsBroken, IsCutOff, BodyOn}
+use Rattle.ccsl_events_top.specs.Passing.{Passes, Leaves, InHeader, IsUnopened, HeadsOn, InBody, IsBroken, BodyOn}
 use Rattle.ccsl_events_top.specs.Passing.{StepsBody, Refills}
 use Rattle.ccsl_events_top.proofs.Passing.{cut-header}
-use Rattle.ccsl_events_top.proofs.Bodies.{cut-body, starved}
+use Rattle.ccsl_events_top.proofs.Bodies.{cut-body}
+use Rattle.ccsl_events_top.proofs.Fronts.{rows-so-far, starved}
 
 -- it stops at the fault, or at want of memory
 pub stop-cases : (f : VcdFault) → (f ≡ faults.Memory) ⊎ (stop_of f ≡ stops.Trace f)
@@ -81,10 +82,6 @@ module _ (told : Told) (sink : Sink) (start now : State) where
     rows = ap (λ (x : Pass). i.written ++ x.block.items) same ∙ i.rows;
   }
 
-  pub broken-starved : (plan : Plan) (head text : List ℕ) (f : VcdFault) (waits : List ℕ) → IsBroken told sink start now plan head text f waits
-      → IsCutOff told sink start now (Leaves told sink start now) text
-  broken-starved plan head text f waits b = record { written = b.written; waits = waits; place = b.place; left = b.leaves; rows = b.rows }
-
   pub stopped-body : (plan : Plan) (head text : List ℕ) (before : ℕ) (pass pass' : Pass) (f : VcdFault) (stop : Stop)
       → InBody told sink start now plan head text pass → BodyOn told sink start now (Err f) plan head text before pass' → stop ≡ stop_of f
       → StepsBody told sink start now (Err stop) plan head text before pass'
@@ -110,11 +107,13 @@ module _ (told : Told) (sink : Sink) (start now : State) where
       rw r.0
       (cut-body told sink start now plan head text pass' i.given i.written i.place (rw (ap (λ (x : Pass). x.reader) same) i.taken)
       (ap (λ (x : Pass). i.written ++ x.block.items) same ∙ i.rows) r.1)
-  unread-body before plan head text less pass pass' stops.Fault i same r = record {
-    written = i.written;
-    waits = pass.block.items;
-    place = i.place;
-    left = r;
-    rows = i.rows;
-  }
+  unread-body before plan head text less pass pass' stops.Fault i same r =
+      let block : pass'.block.items ≡ pass.block.items = ap (λ (x : Pass). x.block.items) same in
+      record {
+        written = i.written;
+        left = r;
+        front = λ tells.
+            let k = rows-so-far told sink start before plan head text pass i tells in
+            (k.0, ap (λ (xs : List ℕ). (i.written ++ xs) ++ k.0) block ∙ k.1);
+      }
   unread-body before plan head text less pass pass' stops.Memory i same r = absurd r

@@ -5,3 +5,8 @@ pub mod Stopping
 pub mod Streams
 pub mod Reading
 pub mod Passing
+pub mod Effects
+pub mod Made
+pub mod Outcome
+pub mod Headline
+pub mod Stages

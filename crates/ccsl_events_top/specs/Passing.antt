@@ -3,12 +3,13 @@ use Rattle.std.specs.Prelude.{◌≡◌, ◌⊎◌, ℕ, ◌+◌, ◌-◌, ◌�
 use Rattle.ccsl_base.specs.declared.limits.TheConstants.{MAX_FILE_BYTES}
 use Rattle.ccsl_edge.specs.declared.slot.Slot.TheVariants.{Trace}
 use Rattle.ccsl_edge.specs.World.{State, Told}
-use Rattle.ccsl_edge.specs.Counts.{SameCounts}
+use Rattle.ccsl_edge.specs.Counts.{SameCounts, NoCountFalls}
 use Rattle.ccsl_vcd.specs.declared.fault.VcdFault.{VcdFault}
 use Rattle.ccsl_vcd.specs.declared.fault.VcdFault.TheVariants as faults
 use Rattle.ccsl_vcd.specs.Places.{Among}
 use Rattle.ccsl_scopes.specs.Headings.{Heading}
-use Rattle.ccsl_events.specs.Dump.{Plan, Place, refused}
+use Rattle.ccsl_events.specs.Dump.{Plan, Place, Said, goes, refused}
+use Rattle.ccsl_events.specs.Standing.{counted}
 use Rattle.ccsl_events.specs.Opening.{ended}
 use Rattle.ccsl_events.specs.Fed.{IsInHeader, IsBehindHeader, MayBegin, HasTaken}
 use Rattle.ccsl_events_top.specs.declared.sink.Sink.{Sink}
@@ -16,7 +17,7 @@ use Rattle.ccsl_events_top.specs.declared.pass.Pass.{Pass}
 use Rattle.ccsl_events_top.specs.declared.stop.Stop.{Stop}
 use Rattle.ccsl_events_top.specs.declared.stop.Stop.TheVariants as stops
 use Rattle.ccsl_events_top.specs.Streams.{Streams, RoseAt, slot_of}
-use Rattle.ccsl_events_top.specs.Reading.{LIMITS, opened, header_fault, end_fault, story_behind, body_ends}
+use Rattle.ccsl_events_top.specs.Reading.{LIMITS, opened, header_fault, end_fault, story_behind, body_ends, body_said, rows_of}
 
 -- the bytes that the reader was given, of those that were read
 abbrev pub AreGiven : Bool → List ℕ → List ℕ → List ℕ → Type 0
@@ -53,6 +54,7 @@ module _ (told : Told) (sink : Sink) (start now : State) where
     pub read : List ℕ
     pub streams : Streams told sink read written start now
     pub rose : RoseAt Trace start now ⊎ RoseAt (slot_of sink) start now
+    pub falls : NoCountFalls start now
 
   -- ## The next piece
 
@@ -154,13 +156,11 @@ module _ (told : Told) (sink : Sink) (start now : State) where
     pub ended : IsTrue told.left → body_ends plan (dump_of start) place (story_behind plan (length head) (dump_of start)).fault ≡ refused f
     pub told_is : IsTrue told.left → (story_behind plan (length head) (dump_of start)).place ≡ place
 
-  -- a read failed, or no memory was to be had: what was written and what follows is the text and some rows
-  pub record IsCutOff (IsLeft : List ℕ → Type 0) (text : List ℕ) : Type 0 where
+  -- a call failed, or no memory was to be had: what was written, and what waits, comes first in the text and the rows of the dump
+  pub record IsCutOff (IsLeft : List ℕ → Type 0) (plan : Plan) (head text waits : List ℕ) : Type 0 where
     pub written : List ℕ
-    pub waits : List ℕ
-    pub place : Place
     pub left : IsLeft written
-    pub rows : written ++ waits ≡ text ++ place.written
+    pub front : IsTrue told.left → (more : List ℕ) × ((written ++ waits) ++ more ≡ text ++ rows_of plan (length head) (dump_of start))
 
   abbrev pub BodyOn : Result (Unit {0}) VcdFault → Plan → List ℕ → List ℕ → ℕ → Pass → Type 0
   BodyOn (Ok u) plan head text before pass = InBody plan head text pass × (before < pass.reader.taken)
@@ -172,8 +172,35 @@ module _ (told : Told) (sink : Sink) (start now : State) where
   StepsBody (Err (stops.Words fault)) plan head text before pass = ⊥
   StepsBody (Err (stops.Events fault near)) plan head text before pass = ⊥
   StepsBody (Err (stops.Trace f)) plan head text before pass = IsBroken plan head text f pass.block.items
-  StepsBody (Err stops.Fault) plan head text before pass = IsCutOff Breaks text
-  StepsBody (Err stops.Memory) plan head text before pass = IsCutOff Leaves text
+  StepsBody (Err stops.Fault) plan head text before pass = IsCutOff Breaks plan head text pass.block.items
+  StepsBody (Err stops.Memory) plan head text before pass = IsCutOff Leaves plan head text []
+
+  -- ## The end
+
+  -- all that the body says was written: its rows, up to the first fault where it has one
+  pub record IsWritten (plan : Plan) (head text : List ℕ) (said : Said) : Type 0 where
+    pub written : List ℕ
+    pub leaves : Leaves written
+    pub says : IsTrue told.left → body_said plan (length head) (dump_of start) ≡ said
+    pub rows : IsTrue told.left → written ≡ text ++ rows_of plan (length head) (dump_of start)
+
+  -- the whole body was, and so many times have a row
+  pub record IsWhollyWritten (plan : Plan) (head text : List ℕ) (times : ℕ) : Type 0 where
+    pub last : Place
+    pub count : times ≡ counted last.times
+    pub is : IsWritten plan head text (goes last)
+
+  -- why it was not
+  abbrev pub IsStopped : Plan → List ℕ → List ℕ → Stop → Type 0
+  IsStopped plan head text (stops.Words fault) = ⊥
+  IsStopped plan head text (stops.Events fault near) = ⊥
+  IsStopped plan head text (stops.Trace f) = IsWritten plan head text (refused f)
+  IsStopped plan head text stops.Fault = IsCutOff Breaks plan head text []
+  IsStopped plan head text stops.Memory = IsCutOff Leaves plan head text []
+
+  abbrev pub EndsBody : Result ℕ Stop → Plan → List ℕ → List ℕ → Type 0
+  EndsBody (Ok times) plan head text = IsWhollyWritten plan head text times
+  EndsBody (Err stop) plan head text = IsStopped plan head text stop
 
 -- how many bytes, and the line feed behind them, the reader may still be given
 abbrev pub left_for : Pass → ℕ

@@ -4,7 +4,7 @@ use Rattle.ccsl_base.specs.declared.limits.TheConstants.{MAX_FILE_BYTES, MAX_VAR
 use Rattle.ccsl_vcd.specs.declared.fault.VcdFault.{VcdFault}
 use Rattle.ccsl_vcd.specs.declared.fault.VcdFault.TheVariants as faults
 use Rattle.ccsl_vcd.specs.declared.limits.Limits.{Limits}
-use Rattle.ccsl_events.specs.Dump.{Plan, Place, Said, refused, Story, begin, ends_at}
+use Rattle.ccsl_events.specs.Dump.{Plan, Place, Said, goes, refused, Story, begin, ends_at}
 use Rattle.ccsl_events.specs.Run.{settled_from, story_from}
 use Rattle.ccsl_events.specs.Opening.{Opening, open_at, ended, broken, opening}
 
@@ -47,3 +47,15 @@ end_says plan dump p = if is_too_long dump then refused (faults.TooLong MAX_FILE
 abbrev pub body_ends : Plan → List ℕ → Place → Option VcdFault → Said
 body_ends plan dump p None = end_says plan dump p
 body_ends plan dump p (Some f) = refused f
+
+-- what is said where it ends
+abbrev pub body_said : Plan → ℕ → List ℕ → Said
+body_said plan start dump = body_ends plan dump (story_behind plan start dump).place (story_behind plan start dump).fault
+
+-- THE ROWS THAT ARE WRITTEN of a body: all, or those before its first fault
+abbrev pub rows_at : Place → Said → List ℕ
+rows_at p (goes q) = q.written
+rows_at p (refused f) = p.written
+
+abbrev pub rows_of : Plan → ℕ → List ℕ → List ℕ
+rows_of plan start dump = rows_at (story_behind plan start dump).place (body_said plan start dump)

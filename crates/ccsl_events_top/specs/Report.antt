@@ -1,5 +1,5 @@
 -- The exit status, and the line of report.
-use Rattle.std.specs.Prelude.{◌≡◌, ◌⊎◌, ℕ, List, [], ◌∷◌, Result, Ok, Err, codes, decimal}
+use Rattle.std.specs.Prelude.{◌≡◌, ◌≢◌, ◌⊎◌, ℕ, List, [], ◌∷◌, Result, Ok, Err, codes, decimal}
 use Rattle.ccsl_page.specs.Pieces.{line}
 use Rattle.ccsl_vcd.specs.declared.fault.VcdFault.{VcdFault}
 use Rattle.ccsl_vcd.specs.declared.fault.VcdFault.TheVariants as t
@@ -74,7 +74,8 @@ line_of (Err (Trace fault)) = trace_line fault
 line_of (Err Fault) = []
 line_of (Err Memory) = []
 
--- the answer to what was done, or that there is no memory for it
+-- the answer to what was done, or that there is no memory for its line
 abbrev pub IsAnswer : Answer → Result (ℕ × ℕ) Stop → Type 0
 IsAnswer answer done =
-    ((answer.status ≡ status_of done) × (answer.line ≡ line_of done)) ⊎ ((answer.status ≡ 6) × (answer.line ≡ []))
+    ((answer.status ≡ status_of done) × (answer.line ≡ line_of done))
+    ⊎ ((status_of done ≢ 5) × (answer.status ≡ 6) × (answer.line ≡ []))

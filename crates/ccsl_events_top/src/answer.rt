@@ -1,6 +1,6 @@
 //! What is reported.
 
-ghost use Rattle.std.specs.Prelude.{◌≡◌, [], ◌∷◌, ◌++◌, OnOk, decimal};
+ghost use Rattle.std.specs.Prelude.{◌≡◌, ◌≢◌, [], ◌∷◌, ◌++◌, OnOk, OnErr, decimal};
 ghost use Rattle.ccsl_page.specs.Pieces.{line};
 ghost use Rattle.ccsl_events_top.specs.Report.{usage_line, events_line, trace_line, whole_line, status_of, line_of, IsAnswer};
 
@@ -106,7 +106,8 @@ fn put_whole(page: &mut Page, names: usize, times: u64) -> Result<(), Memory>
 }
 
 fn put_line(page: &mut Page, done: &Result<(usize, u64), Stop>) -> Result<(), Memory>
-    ensures { OnOk result (page.new ≡ page.old ++ line_of done.now) }
+    ensures line { OnOk result (page.new ≡ page.old ++ line_of done.now) }
+    ensures fault { OnErr result (status_of done.now ≢ 5) }
 {
     match done {
         Ok((names, times)) => put_whole(page, *names, *times),

@@ -1,6 +1,7 @@
 //! Reading and writing through a world.
 
 ghost use Rattle.ccsl_edge.specs.declared.slot.Slot.TheVariants.{Spec};
+ghost use Rattle.ccsl_events_top.specs.Stages.{ReadsFile};
 
 use crate::stop::Stop;
 use ccsl_base::MAX_SPEC_BYTES;
@@ -15,6 +16,7 @@ pub(crate) fn read_event_file<W: World>(
     name: &str,
 ) -> Result<Vec<u8>, Stop>
     requires allowed { W.allows Spec name.now }
+    ensures { ReadsFile W.told name.now result (W.state world.old) (W.state world.new) }
 {
     world.open_in(Slot::Spec, name)?;
     match read_all(alloc, world, Slot::Spec, MAX_SPEC_BYTES) {

@@ -7,7 +7,7 @@ ghost use Rattle.ccsl_scopes.specs.Standing.{IsHeaderOf};
 ghost use Rattle.ccsl_events.specs.Dump.{Plan, begin};
 ghost use Rattle.ccsl_events.specs.Standing.{Stands};
 ghost use Rattle.ccsl_events_top.specs.Passing.{Passes, HasAll, Refills, InHeader, HasHeader, IsUnopened, HeadsOn, StepsHeader};
-ghost use Rattle.ccsl_events_top.specs.Passing.{Begins, InBody, BodyOn, StepsBody};
+ghost use Rattle.ccsl_events_top.specs.Passing.{Begins, InBody, BodyOn, StepsBody, IsStopped, EndsBody};
 ghost use Rattle.ccsl_events_top.specs.Writing.{MayWrite};
 
 use crate::sink::{Sink, write_block};
@@ -196,35 +196,60 @@ impl Pass {
         Ok(())
     }
 
+    // Writes what waits, and stops. Of what waits behind want of memory nothing is known.
+    fn stop<W: World>(&mut self, world: &mut W, sink: Sink, stop: Stop) -> Stop
+        requires open { MayWrite sink (W.state world.old) }
+        ensures { (start : State) (plan : Plan) (head text : List ℕ) (before : ℕ) →
+            StepsBody W.told sink start (W.state world.old) (Err stop) plan head text before
+            self.old →
+            IsStopped W.told sink start (W.state world.new) plan head text result }
+    {
+        if let Stop::Memory = stop {
+            return Stop::Memory;
+        }
+        match write_block(world, sink, &mut self.block) {
+            Ok(()) => stop,
+            Err(_failed) => Stop::Fault,
+        }
+    }
+
     // Ends the dump.
     fn end<W: World>(&mut self, world: &mut W, sink: Sink) -> Result<u64, Stop>
         requires open { MayWrite sink (W.state world.old) }
+        requires over { self.old.has_ended ≡ true }
+        ensures ends { (start : State) (plan : Plan) (head text : List ℕ) →
+            InBody W.told sink start (W.state world.old) plan head text self.old →
+            EndsBody W.told sink start (W.state world.new) result plan head text }
         ensures open { OnOk result (MayWrite sink (W.state world.new)) }
     {
-        let ended = self.reader.finish(self.read, &mut self.block);
+        match self.reader.finish(self.read, &mut self.block) {
+            Ok(()) => {}
+            Err(fault) => return Err(self.stop(world, sink, Stop::from(fault))),
+        }
         write_block(world, sink, &mut self.block)?;
-        ended?;
         Ok(self.reader.times())
     }
 
-    /// Reads the body and writes its rows. It answers how many they are. Behind a fault of the dump all rows before it are written.
+    /// Reads the body and writes its rows. It answers how many times have one. Behind a fault of the dump all rows before
+    /// it are written.
     pub(crate) fn body<W: World>(&mut self, world: &mut W, sink: Sink) -> Result<u64, Stop>
         requires open { MayWrite sink (W.state world.old) }
+        requires begins { (start : State) × (plan : Plan) × (head : List ℕ) × (text : List ℕ)
+            × InBody W.told sink start (W.state world.old) plan head text self.old }
+        ensures ends { (start : State) (plan : Plan) (head text : List ℕ) →
+            InBody W.told sink start (W.state world.old) plan head text self.old →
+            EndsBody W.told sink start (W.state world.new) result plan head text }
         ensures open { OnOk result (MayWrite sink (W.state world.new)) }
     {
-        'pieces: for _ in 0..u64::MAX {
+        loop {
             match self.step(world) {
                 Ok(true) => {}
-                Ok(false) => break,
-                Err(stop) => {
-                    write_block(world, sink, &mut self.block)?;
-                    return Err(stop);
-                }
+                Ok(false) => return self.end(world, sink),
+                Err(stop) => return Err(self.stop(world, sink, stop)),
             }
             if self.block.len() >= FULL {
                 write_block(world, sink, &mut self.block)?;
             }
         }
-        self.end(world, sink)
     }
 }

@@ -1,15 +1,21 @@
 //! The program's one call.
 
 ghost use Rattle.std.specs.Prelude.{◌≡◌, ◌≤◌, ℕ, List, length, map, IfOk};
+ghost use Rattle.ccsl_edge.specs.World.{State};
 ghost use Rattle.ccsl_event_file.specs.Parsing.{event_in};
 ghost use Rattle.ccsl_scopes.specs.Headings.{Heading};
 ghost use Rattle.ccsl_scopes.specs.Standing.{IsHeaderOf};
 ghost use Rattle.ccsl_events.specs.Standing.{are_skipped};
 ghost use Rattle.ccsl_events.specs.Binding.{bound};
-ghost use Rattle.ccsl_events.specs.Begun.{StandsFor};
+ghost use Rattle.ccsl_events.specs.Dump.{Plan};
 ghost use Rattle.ccsl_events.specs.Written.{header_text, names_of};
 ghost use Rattle.ccsl_edge.specs.declared.slot.Slot.{Slot};
 ghost use Rattle.ccsl_edge.specs.declared.slot.Slot.TheVariants.{TraceOut};
+ghost use Rattle.ccsl_events_top.specs.Words.{named_by};
+ghost use Rattle.ccsl_events_top.specs.Passing.{Begins};
+ghost use Rattle.ccsl_events_top.specs.Stages.{SaysEvents, IsBodyFor, WritesFile};
+ghost use Rattle.ccsl_events_top.specs.Outcome.{IsOutcome};
+ghost use Rattle.ccsl_events_top.specs.Headline.{out_of, IsReported, Headline};
 
 use crate::answer::{Answer, answer_to};
 use crate::files::read_event_file;
@@ -25,6 +31,7 @@ use ccsl_scopes::Header;
 use std::alloc::Global;
 
 fn events_of(alloc: Global, keys: HashKeys, text: &[u8]) -> Result<Vec<Event>, Stop>
+    ensures says { SaysEvents text.now result }
     ensures few { IfOk result (λ es. length es.items ≤ MAX_CLOCKS) }
 {
     match read_events(alloc, keys, text) {
@@ -53,9 +60,8 @@ fn body_of(
     header: Header,
 ) -> Result<Body, Stop>
     requires few { length events.now ≤ MAX_CLOCKS }
-    ensures { IfOk result (λ body. StandsFor
-        (bound (map event_in events.now) header.variables.items header.codes
-        (are_skipped command.entry.gaps)) body) }
+    ensures { IsBodyFor (bound (map event_in events.now) header.variables.items header.codes
+        (are_skipped command.entry.gaps)) result }
 {
     match bind(alloc, events, header, command.gaps) {
         Ok(body) => Ok(body),
@@ -63,9 +69,15 @@ fn body_of(
     }
 }
 
-// The body, written to the file that the words name.
+// The body, written to a file. It answers how many times have a row.
 fn write_file<W: World>(world: &mut W, pass: &mut Pass, name: &str) -> Result<u64, Stop>
     requires allowed { W.allows TraceOut name.now }
+    requires begins { (start : State) × (plan : Plan) × (head : List ℕ) × (text : List ℕ)
+        × Begins W.told Sink.File start (W.state world.old) plan head text pass.old }
+    ensures { (start : State) (plan : Plan) (head text : List ℕ) →
+        Begins W.told Sink.File start (W.state world.old) plan head text pass.old →
+        WritesFile W.told name.now start (W.state world.old) (W.state world.new) plan head text
+        result }
 {
     world.open_out(Slot::TraceOut, name)?;
     let times = pass.body(world, Sink::File)?;
@@ -80,6 +92,8 @@ fn make<W: World>(
     world: &mut W,
 ) -> Result<(usize, u64), Stop>
     requires allowed { (slot : Slot) (name : List ℕ) → W.allows slot name }
+    ensures { IsOutcome W.told (named_by command.entry)
+        (W.state world.old) (W.state world.new) result }
 {
     let text = read_event_file(alloc, world, command.events)?;
     let events = events_of(alloc, keys, text.as_slice())?;
@@ -97,7 +111,10 @@ fn make<W: World>(
 }
 
 // The report goes to standard output where that is no trace.
-fn report<W: World>(world: &mut W, words: &[CommandWord], mut answer: Answer) -> Answer {
+fn report<W: World>(world: &mut W, words: &[CommandWord], mut answer: Answer) -> Answer
+    ensures { IsReported W.told (out_of words.now) answer result
+        (W.state world.old) (W.state world.new) }
+{
     if value_of(Key::Out, words).is_some() {
         if write_all(world, Slot::Report, answer.line.bytes()).is_err() {
             answer.status = 5;
@@ -110,6 +127,8 @@ fn report<W: World>(world: &mut W, words: &[CommandWord], mut answer: Answer) ->
 /// Makes a trace of events of a dump, as the words say. What the answer has is for standard error.
 pub fn run<W: World>(alloc: Global, keys: HashKeys, words: &[CommandWord], world: &mut W) -> Answer
     requires allowed { (slot : Slot) (name : List ℕ) → W.allows slot name }
+    ensures { Headline W.told words.now result.status result.line
+        (W.state world.old) (W.state world.new) }
 {
     let done = match meaning(words) {
         Ok(command) => make(alloc, keys, command, world),
