@@ -1,5 +1,5 @@
 -- What a run leaves of a world, one stage after another.
-use Rattle.std.proofs.Common.{◌≡◌, ◌≢◌, ℕ, List, inl, inr, ap, ◌∙◌}
+use Rattle.std.proofs.Common.{◌≡◌, ◌≢◌, ℕ, List, inl, inr, ap, ◌∙◌, refl}
 use Rattle.ccsl_edge.specs.declared.slot.Slot.{Slot}
 use Rattle.ccsl_edge.specs.declared.slot.Slot.TheVariants as slots
 use Rattle.ccsl_edge.specs.World.{State, SlotState, Told}
@@ -65,6 +65,17 @@ may-out Standard a b e = added-is a b e
 may-out File a b e = ap (λ (x : SlotState). x.left) e
 
 -- ## All slots
+
+pub stays-none : (sink : Sink) (s : State) → Stays sink s s
+stays-none sink s slots.Spec = record { written = refl; name = refl; is_open = refl }
+stays-none sink s slots.Trace = record { written = refl; name = refl; is_open = refl }
+stays-none sink s slots.Cert = refl
+stays-none sink s slots.Input = refl
+stays-none Standard s slots.Report = added-same _ _ refl
+stays-none File s slots.Report = refl
+stays-none Standard s slots.TraceOut = refl
+stays-none File s slots.TraceOut = refl
+stays-none sink s slots.CertOut = refl
 
 pub stays-then : (sink : Sink) (s t u : State) → Stays sink s t → Stays sink t u → Stays sink s u
 stays-then sink s t u p q slot = may-then sink slot (s.slot_of slot) (t.slot_of slot) (u.slot_of slot) (p slot) (q slot)

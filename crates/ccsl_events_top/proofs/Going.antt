@@ -1,17 +1,17 @@
 -- A trace goes to standard output, or to a file.
 use Rattle.std.proofs.Common.{◌≡◌, ℕ, List, [], ◌∷◌, ◌++◌, length, map, refl, sym, ap, ◌∙◌}
-use Rattle.std.proofs.Common.{Some, None, Ok, Err, arith}
+use Rattle.std.proofs.Common.{true, false, Some, None, Result, Ok, Err, arith}
 use Rattle.std.proofs.lemmas.List.{take_all}
 use Rattle.ccsl_edge.specs.declared.slot.Slot.TheVariants as slots
 use Rattle.ccsl_edge.specs.World.{State, SlotState, Told}
 use Rattle.ccsl_edge.specs.Calls.{Fails, OpensOut, Closes}
-use Rattle.ccsl_edge.proofs.Counts.{SameCounts-then, SameCounts-NoCountFalls, NoCountFalls-then, OpensOut-SameCounts, Closes-SameCounts, Fails-NoCountFalls}
+use Rattle.ccsl_edge.proofs.Counts.{SameCounts-none, SameCounts-then, SameCounts-NoCountFalls, NoCountFalls-then, OpensOut-SameCounts, Closes-SameCounts, Fails-NoCountFalls}
 use Rattle.ccsl_edge.proofs.Frames.{Rose-after_same}
 use Rattle.ccsl_event_file.specs.declared.event.Event as code
 use Rattle.ccsl_event_file.specs.File.{Event, names_of}
 use Rattle.ccsl_event_file.specs.Parsing.{event_in}
 use Rattle.ccsl_events.specs.declared.body.Body.{Body}
-use Rattle.ccsl_events.specs.Dump.{Plan, goes}
+use Rattle.ccsl_events.specs.Dump.{Plan, Said, goes, refused}
 use Rattle.ccsl_events.specs.Begun.{StandsFor}
 use Rattle.ccsl_events.specs.Binding.{bound}
 use Rattle.ccsl_events.specs.Standing.{are_skipped}
@@ -28,14 +28,14 @@ use Rattle.ccsl_events_top.specs.declared.sink.Sink.TheVariants.{Standard, File}
 use Rattle.ccsl_events_top.specs.declared.stop.Stop.{Stop}
 use Rattle.ccsl_events_top.specs.declared.stop.Stop.TheVariants as stops
 use Rattle.ccsl_events_top.specs.Words.{Named}
-use Rattle.ccsl_events_top.specs.Passing.{HasHeader, Leaves, IsWhollyWritten, IsStopped}
+use Rattle.ccsl_events_top.specs.Passing.{HasHeader, Leaves, IsWritten, IsWhollyWritten, IsStopped, EndsBody}
 use Rattle.ccsl_events_top.specs.Effects.{IsAddedTo}
 use Rattle.ccsl_events_top.specs.Made.{answered}
-use Rattle.ccsl_events_top.specs.Outcome.{written, Makes, part, by_trace}
+use Rattle.ccsl_events_top.specs.Outcome.{Makes, printed, filed, part, by_trace}
 use Rattle.ccsl_events_top.specs.Outcome.{Fails as Failing, IsOutcome}
-use Rattle.ccsl_events_top.specs.Stages.{WritesFile, unopened, stopped, unclosed, closed}
-use Rattle.ccsl_events_top.proofs.Effects.{added-then, stays-then, stays-streams, stays-open, stays-close, stays-failed}
-use Rattle.ccsl_events_top.proofs.Making.{HasOpened, HasBase, HasPlan, idle-fails, idle-read, makes, makes-rows, body-left}
+use Rattle.ccsl_events_top.specs.Stages.{is_written, WritesFile, unopened, stopped, unclosed, closed}
+use Rattle.ccsl_events_top.proofs.Effects.{added-then, stays-none, stays-then, stays-streams, stays-open, stays-close, stays-failed}
+use Rattle.ccsl_events_top.proofs.Making.{HasOpened, HasBase, HasPlan, idle-fails, idle-read, makes, makes-rows, breaks-off, gives-up}
 
 pub same-names : (es : List code.Event) → code_names.names_of es ≡ names_of (map event_in es)
 same-names [] = refl
@@ -85,15 +85,25 @@ module _ (told : Told) (events trace : List ℕ) (gaps : Gaps) (old : State) (es
   }
 
   module _ (head text : List ℕ) (plan : Plan) (x : HasPlan told n old es start o head text plan) where
+    printed-rows : (now : State) (said : Said) (done : Result (ℕ × ℕ) Stop) → IsWritten told Standard start now plan head text said
+        → done ≡ answered (length es) said → Makes told n old now done
+    printed-rows now said done w is =
+        makes told n old es start o start base-standard head text plan x now now said done w is
+        (printed refl (base-standard.put now w.leaves.read w.written w.leaves.streams) (w.leaves.streams.files ∙ o.files)) (SameCounts-none now)
+        (stays-none Standard now)
+
     pub left-standard : (now : State) (stop : Stop) → IsStopped told Standard start now plan head text stop
         → IsOutcome told n old now (Err stop)
-    left-standard now stop s = body-left told n old es start o start base-standard head text plan x now stop s
+    left-standard now (stops.Words usage) s = s
+    left-standard now (stops.Events f near) s = absurd s
+    left-standard now (stops.Trace f) s = printed-rows now (refused f) (Err (stops.Trace f)) s refl
+    left-standard now stops.Fault s = breaks-off told n old es start o start base-standard head text plan x now s
+    left-standard now stops.Memory s = gives-up told n old es start o start base-standard head text plan x now s
 
     pub whole-standard : (now : State) (times : ℕ) → IsWhollyWritten told Standard start now plan head text times
         → Makes told n old now (Ok (length es, times))
     whole-standard now times w =
-        makes told n old es start o start base-standard head text plan x now (goes w.last) (Ok (length es, times)) w.is
-        (ap (λ (k : ℕ). Ok (length es, k)) w.count) (w.is.leaves.streams.files ∙ o.files)
+        printed-rows now (goes w.last) (Ok (length es, times)) w.is (ap (λ (k : ℕ). Ok (length es, k)) w.count)
 
 module _ (told : Told) (events trace : List ℕ) (gaps : Gaps) (name : List ℕ) (old : State) (es : List Event) (start : State)
     (o : HasOpened told (to_file events trace gaps name) old es start) where
@@ -136,77 +146,89 @@ module _ (told : Told) (events trace : List ℕ) (gaps : Gaps) (name : List ℕ)
       (by_trace (λ tells. (es, o.says tells)) (Rose-after_same _ _ _ (counts.same slots.TraceOut) p.rose))
 
   module _ (head text : List ℕ) (plan : Plan) (x : HasPlan told m old es start o head text plan) where
-    file-unclosed : (begun end now : State) (times : ℕ) → OpensOut told slots.TraceOut name start begun
-        → IsWhollyWritten told File begun end plan head text times → Fails slots.TraceOut end now → Failing told m old now
-    file-unclosed begun end now times opens w p =
+    file-unclosed : (begun end now : State) (said : Said) → OpensOut told slots.TraceOut name start begun
+        → IsWritten told File begun end plan head text said → Fails slots.TraceOut end now → Failing told m old now
+    file-unclosed begun end now said opens w p =
         let b = base-file begun opens in
-        let l = w.is.leaves in
+        let l = w.leaves in
         let counts = SameCounts-then old begun end b.counts l.counts in
         record {
           cause = by_trace (λ tells. (es, o.says tells)) (Rose-after_same _ _ _ (counts.same slots.TraceOut) p.rose);
           falls = NoCountFalls-then old end now (SameCounts-NoCountFalls old end counts) (Fails-NoCountFalls slots.TraceOut end now p);
           front = λ tells _.
-              part (Ok (length es, times)) w.is.written
-              (makes-rows told m old es start o begun b head text plan x now (Ok (length es, times)) w.is.written tells
-              (ap (λ (k : ℕ). Ok (length es, k)) w.count ∙ ap (answered (length es)) (sym (w.is.says tells.1))) (w.is.rows tells.1))
-              (length w.is.written)
+              part (answered (length es) said) w.written
+              (makes-rows told m old es start o begun b head text plan x now (answered (length es) said) w.written tells
+              (ap (answered (length es)) (sym (w.says tells.1))) (w.rows tells.1))
+              (length w.written)
               (λ writes.
-              let put = b.put end l.read w.is.written l.streams writes in (
-                ap (λ (y : SlotState). y.written) p.here ∙ put.0 ∙ sym (take_all (length w.is.written) w.is.written (omega arith)),
+              let put = b.put end l.read w.written l.streams writes in (
+                ap (λ (y : SlotState). y.written) p.here ∙ put.0 ∙ sym (take_all (length w.written) w.written (omega arith)),
                 ap (λ (y : SlotState). y.name) p.here ∙ put.1,
               ));
           files = p.only.files ∙ l.streams.files ∙ b.files;
           stays =
               stays-then File old end now
-              (stays-then File old begun end b.stays (stays-streams told File l.read w.is.written begun end l.streams)) (stays-failed end now p);
+              (stays-then File old begun end b.stays (stays-streams told File l.read w.written begun end l.streams)) (stays-failed end now p);
         }
 
-    file-closed : (begun end now : State) (times : ℕ) → OpensOut told slots.TraceOut name start begun
-        → IsWhollyWritten told File begun end plan head text times → Closes told slots.TraceOut end now
-        → Makes told m old now (Ok (length es, times))
-    file-closed begun end now times opens w p =
+    file-closed : (begun end now : State) (said : Said) (done : Result (ℕ × ℕ) Stop) → OpensOut told slots.TraceOut name start begun
+        → IsWritten told File begun end plan head text said → done ≡ answered (length es) said → Closes told slots.TraceOut end now
+        → Makes told m old now done
+    file-closed begun end now said done opens w is p =
         let b = base-file begun opens in
-        let l = w.is.leaves in
-        record {
-          text = w.is.written;
-          made = λ tells.
-              makes-rows told m old es start o begun b head text plan x now (Ok (length es, times)) w.is.written tells
-              (ap (λ (k : ℕ). Ok (length es, k)) w.count ∙ ap (answered (length es)) (sym (w.is.says tells.1))) (w.is.rows tells.1);
-          writes = written (λ writes.
-              let put = b.put end l.read w.is.written l.streams writes in
-              (ap (λ (y : SlotState). y.written) p.here ∙ put.0, ap (λ (y : SlotState). y.name) p.here ∙ put.1));
-          kept = (
-            ap (λ (y : SlotState). y.is_open) p.here,
-            λ files writes.
-                let put = b.put end l.read w.is.written l.streams writes in
-                rw (sym put.1, sym put.0, sym (l.streams.files ∙ b.files)) (p.file files writes),
-          );
-          counts =
-              SameCounts-then old end now (SameCounts-then old begun end b.counts l.counts)
-              (Closes-SameCounts told slots.TraceOut end now p);
-          stays =
-              stays-then File old end now
-              (stays-then File old begun end b.stays (stays-streams told File l.read w.is.written begun end l.streams)) (stays-close told end now p);
-        }
+        let l = w.leaves in
+        makes told m old es start o begun b head text plan x end now said done w is
+        (filed name refl
+        (λ writes.
+        let put = b.put end l.read w.written l.streams writes in
+        (ap (λ (y : SlotState). y.written) p.here ∙ put.0, ap (λ (y : SlotState). y.name) p.here ∙ put.1))
+        (ap (λ (y : SlotState). y.is_open) p.here)
+        (λ files writes.
+        let put = b.put end l.read w.written l.streams writes in
+        rw (sym put.1, sym put.0, sym (l.streams.files ∙ b.files)) (p.file files writes)))
+        (Closes-SameCounts told slots.TraceOut end now p) (stays-close told end now p)
+
+    file-stopped : (begun now : State) (stop : Stop) → OpensOut told slots.TraceOut name start begun
+        → IsStopped told File begun now plan head text stop → is_written (Err stop) ≡ false → IsOutcome told m old now (Err stop)
+    file-stopped begun now (stops.Words usage) opens s left = s
+    file-stopped begun now (stops.Events f near) opens s left = absurd s
+    file-stopped begun now (stops.Trace f) opens s left = absurd (cc)
+    file-stopped begun now stops.Fault opens s left = breaks-off told m old es start o begun (base-file begun opens) head text plan x now s
+    file-stopped begun now stops.Memory opens s left = gives-up told m old es start o begun (base-file begun opens) head text plan x now s
+
+    file-ended : (begun end now : State) (ended : Result ℕ Stop) → OpensOut told slots.TraceOut name start begun
+        → EndsBody told File begun end ended plan head text → is_written ended ≡ true → Fails slots.TraceOut end now → Failing told m old now
+    file-ended begun end now (Ok times) opens ends is p = file-unclosed begun end now (goes ends.last) opens ends.is p
+    file-ended begun end now (Err (stops.Words usage)) opens ends is p = absurd ends
+    file-ended begun end now (Err (stops.Events f near)) opens ends is p = absurd ends
+    file-ended begun end now (Err (stops.Trace f)) opens ends is p = file-unclosed begun end now (refused f) opens ends p
+    file-ended begun end now (Err stops.Fault) opens ends is p = absurd (cc)
+    file-ended begun end now (Err stops.Memory) opens ends is p = absurd (cc)
+
+    file-refused : (begun end now : State) (stop : Stop) → OpensOut told slots.TraceOut name start begun
+        → IsStopped told File begun end plan head text stop → is_written (Err stop) ≡ true → Closes told slots.TraceOut end now
+        → IsOutcome told m old now (Err stop)
+    file-refused begun end now (stops.Words usage) opens s is p = s
+    file-refused begun end now (stops.Events f near) opens s is p = absurd s
+    file-refused begun end now (stops.Trace f) opens s is p = file-closed begun end now (refused f) (Err (stops.Trace f)) opens s refl p
+    file-refused begun end now stops.Fault opens s is p = absurd (cc)
+    file-refused begun end now stops.Memory opens s is p = absurd (cc)
 
     pub left-file : (s now : State) (stop : Stop) → WritesFile told name start s now plan head text (Err stop)
         → IsOutcome told m old now (Err stop)
     left-file s now stop (unopened l p is) =
         let e : stop ≡ stops.Fault = cc in
         rw e (file-unopened s now l p)
-    left-file s now stop (stopped begun opens other left is) =
-        let e : stop ≡ other = cc in
-        rw e (body-left told m old es start o begun (base-file begun opens) head text plan x now other left)
-    left-file s now stop (unclosed begun opens end times w p is) =
+    left-file s now stop (stopped begun opens ends left) = file-stopped begun now stop opens ends left
+    left-file s now stop (unclosed begun opens end ended ends written p is) =
         let e : stop ≡ stops.Fault = cc in
-        rw e (file-unclosed begun end now times opens w p)
-    left-file s now stop (closed begun opens end times w p is) = absurd (cc)
+        rw e (file-ended begun end now ended opens ends written p)
+    left-file s now stop (closed begun opens end ends written p) = file-refused begun end now stop opens ends written p
 
     pub whole-file : (s now : State) (times : ℕ) → WritesFile told name start s now plan head text (Ok times)
         → Makes told m old now (Ok (length es, times))
     whole-file s now times (unopened l p is) = absurd (cc)
-    whole-file s now times (stopped begun opens other left is) = absurd (cc)
-    whole-file s now times (unclosed begun opens end k w p is) = absurd (cc)
-    whole-file s now times (closed begun opens end k w p is) =
-        let e : times ≡ k = cc in
-        rw e (file-closed begun end now k opens w p)
+    whole-file s now times (stopped begun opens ends left) = absurd (cc)
+    whole-file s now times (unclosed begun opens end ended ends written p is) = absurd (cc)
+    whole-file s now times (closed begun opens end ends written p) =
+        file-closed begun end now (goes ends.last) (Ok (length es, times)) opens ends.is (ap (λ (k : ℕ). Ok (length es, k)) ends.count) p

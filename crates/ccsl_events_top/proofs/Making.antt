@@ -19,7 +19,7 @@ use Rattle.ccsl_event_file.specs.declared.fault.EventFault.TheVariants as faults
 use Rattle.ccsl_event_file.specs.File.{Event, Reading, events, fault, reading, names_of}
 use Rattle.ccsl_event_file.specs.Parsing.{IsFault}
 use Rattle.ccsl_events.specs.Opening.{ended}
-use Rattle.ccsl_events.specs.Dump.{Plan, Said, refused}
+use Rattle.ccsl_events.specs.Dump.{Plan, Said}
 use Rattle.ccsl_events.specs.Written.{header_text}
 use Rattle.ccsl_scopes.specs.Headings.{Heading}
 use Rattle.ccsl_scopes.specs.Standing.{IsHeaderOf}
@@ -32,10 +32,10 @@ use Rattle.ccsl_events_top.specs.declared.stop.Stop.TheVariants as stops
 use Rattle.ccsl_events_top.specs.Words.{Named}
 use Rattle.ccsl_events_top.specs.Streams.{Streams, slot_of, RoseAt}
 use Rattle.ccsl_events_top.specs.Reading.{opened, body_said, rows_of}
-use Rattle.ccsl_events_top.specs.Passing.{dump_of, Leaves, IsUnopened, IsWritten, IsStopped}
+use Rattle.ccsl_events_top.specs.Passing.{dump_of, Leaves, Breaks, IsCutOff, IsUnopened, IsWritten}
 use Rattle.ccsl_events_top.specs.Effects.{IsRead, IsAddedTo, MayBecome, Stays, sink_of}
 use Rattle.ccsl_events_top.specs.Made.{reading_of, IsPlanned, IsUnplanned, answered, no_events, no_header, no_path, rows}
-use Rattle.ccsl_events_top.specs.Outcome.{IsTold, IsPut, IsUnwritten, unwritten, written, AreKept, IsMadeOf, Makes, IsFront, nothing, part}
+use Rattle.ccsl_events_top.specs.Outcome.{IsTold, IsPut, IsUnwritten, IsWrittenTo, unwritten, IsMadeOf, Makes, IsFront, nothing, part}
 use Rattle.ccsl_events_top.specs.Outcome.{HasEvents, IsCause, by_events, by_dump, by_trace, Fails as Failing, Starves, IsOutcome}
 use Rattle.ccsl_events_top.specs.Stages.{HasText, ReadsFile, SaysEvents, IsBodyFor}
 use Rattle.ccsl_events_top.proofs.Effects.{added-same, added-is, stays-then, stays-by, stays-streams}
@@ -80,7 +80,7 @@ module _ (told : Told) (n : Named) (old : State) where
   idle-makes : (now : State) (stop : Stop) → IsIdle now → SameCounts old now → (IsTold told → IsMadeOf told n old now (Err stop) [])
       → Makes told n old now (Err stop)
   idle-makes now stop i counts made =
-      record { text = []; made = made; writes = unwritten refl i.unwritten_yet; kept = i.files; counts = counts; stays = i.stays }
+      record { text = []; made = made; writes = unwritten refl i.unwritten_yet i.files; counts = counts; stays = i.stays }
 
   -- an input alone was touched
   idle-input : (slot : Slot) (now : State) → slot_of (sink_of n.out) ≢ slot → ChangesOnly slot old now
@@ -302,22 +302,21 @@ module _ (told : Told) (n : Named) (old : State) where
       stays-on : (now : State) (read some : List ℕ) → Streams told (sink_of n.out) read some base now → Stays (sink_of n.out) old now
       stays-on now read some p = stays-then (sink_of n.out) old base now b.stays (stays-streams told (sink_of n.out) read some base now p)
 
-      pub makes : (now : State) (said : Said) (done : Result (ℕ × ℕ) Stop) → (w : IsWritten told (sink_of n.out) base now plan head text said)
-          → done ≡ answered (length es) said → AreKept told done n.out w.written old now → Makes told n old now done
-      makes now said done w is kept = record {
+      pub makes : (end now : State) (said : Said) (done : Result (ℕ × ℕ) Stop)
+          → (w : IsWritten told (sink_of n.out) base end plan head text said) → done ≡ answered (length es) said
+          → IsWrittenTo told n.out w.written old now → SameCounts end now → Stays (sink_of n.out) end now → Makes told n old now done
+      makes end now said done w is writes counts stays = record {
         text = w.written;
         made = λ tells. makes-rows now done w.written tells (is ∙ ap (answered (length es)) (sym (w.says tells.1))) (w.rows tells.1);
-        writes = written (b.put now w.leaves.read w.written w.leaves.streams);
-        kept = kept;
-        counts = SameCounts-then old base now b.counts w.leaves.counts;
-        stays = stays-on now w.leaves.read w.written w.leaves.streams;
+        writes = writes;
+        counts = SameCounts-then old end now (SameCounts-then old base end b.counts w.leaves.counts) counts;
+        stays = stays-then (sink_of n.out) old end now (stays-on end w.leaves.read w.written w.leaves.streams) stays;
       }
 
-      pub body-left : (now : State) (stop : Stop) → IsStopped told (sink_of n.out) base now plan head text stop → IsOutcome told n old now (Err stop)
-      body-left now (stops.Words usage) s = s
-      body-left now (stops.Events f near) s = absurd s
-      body-left now (stops.Trace f) s = makes now (refused f) (Err (stops.Trace f)) s refl (s.leaves.streams.files ∙ b.files)
-      body-left now stops.Fault s = record {
+      -- the body was left
+      pub breaks-off : (now : State) → IsCutOff told (sink_of n.out) base now (Breaks told (sink_of n.out) base now) plan head text []
+          → Failing told n old now
+      breaks-off now s = record {
         cause = base-cause s.left.rose;
         falls = NoCountFalls-then old base now (SameCounts-NoCountFalls old base b.counts) s.left.falls;
         front = λ tells _. front now s.left.read s.written s.left.streams s.front tells;
@@ -328,7 +327,10 @@ module _ (told : Told) (n : Named) (old : State) where
           base-cause : RoseAt slots.Trace base now ⊎ RoseAt (slot_of (sink_of n.out)) base now → IsCause told n old now
           base-cause (inl r) = by_dump (λ tells. (es, o.says tells)) (Rose-after_same _ _ _ (b.counts.same slots.Trace) r)
           base-cause (inr r) = by_trace (λ tells. (es, o.says tells)) (Rose-after_same _ _ _ (b.counts.same (slot_of (sink_of n.out))) r)
-      body-left now stops.Memory s = record {
+
+      pub gives-up : (now : State) → IsCutOff told (sink_of n.out) base now (Leaves told (sink_of n.out) base now) plan head text []
+          → Starves told n old now
+      gives-up now s = record {
         counts = SameCounts-then old base now b.counts s.left.counts;
         front = λ tells _. front now s.left.read s.written s.left.streams s.front tells;
         files = s.left.streams.files ∙ b.files;

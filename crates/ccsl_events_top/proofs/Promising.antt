@@ -16,19 +16,17 @@ use Rattle.ccsl_event_file.specs.declared.fault.EventFault.TheVariants as faults
 use Rattle.ccsl_events_top.specs.declared.words.Usage.{Usage}
 use Rattle.ccsl_events_top.specs.declared.words.Key.TheVariants as keys
 use Rattle.ccsl_events_top.specs.declared.answer.Answer.{Answer}
-use Rattle.ccsl_events_top.specs.declared.sink.Sink.{Sink}
-use Rattle.ccsl_events_top.specs.declared.sink.Sink.TheVariants.{Standard, File}
 use Rattle.ccsl_events_top.specs.declared.stop.Stop.{Stop}
 use Rattle.ccsl_events_top.specs.declared.stop.Stop.TheVariants as stops
 use Rattle.ccsl_events_top.specs.Words.{Named, meaning, meaning_at, with_events, with_trace, named, value_of, first_fault}
 use Rattle.ccsl_events_top.specs.Report.{status_of, line_of, IsAnswer}
 use Rattle.ccsl_events_top.specs.Streams.{RoseAt, slot_of}
 use Rattle.ccsl_events_top.specs.Effects.{IsRead, IsAddedTo, Stays, sink_of}
-use Rattle.ccsl_events_top.specs.Outcome.{IsTold, IsPut, IsWrittenTo, unwritten, written, AreKept, IsMadeOf, Makes, IsFront, nothing, part}
+use Rattle.ccsl_events_top.specs.Outcome.{IsTold, IsPut, IsWrittenTo, unwritten, printed, filed, IsMadeOf, Makes, IsFront, nothing, part}
 use Rattle.ccsl_events_top.specs.Outcome.{by_events, by_dump, by_trace, Starves, IsOutcome}
 use Rattle.ccsl_events_top.specs.Headline.{out_of, is_status, IsDone, IsSaid, IsReported, Answers, FaultCause, by_report, by_file, IsKeptOrWhole, kept, whole}
 use Rattle.ccsl_events_top.specs.Headline.{MayChange, Headline}
-use Rattle.ccsl_events_top.proofs.Effects.{added-same, added-then, added-is}
+use Rattle.ccsl_events_top.proofs.Effects.{added-same, added-then, added-is, stays-none}
 use Rattle.ccsl_events_top.proofs.Ending.{rose-on}
 
 text-or-other : (a b : List ℕ) → (a ≡ b) ⊎ (a ≢ b)
@@ -112,7 +110,6 @@ pub record Stage (told : Told) (words : List (List ℕ)) (done : Result (ℕ × 
   pub text : List ℕ
   pub is : IsTold told → status_of done ≢ 5 → status_of done ≢ 6 → IsDone told old mid (meaning words) done text
   pub writes : status_of done ≢ 5 → status_of done ≢ 6 → IsWrittenTo told (out_of words) text old mid
-  pub kept : status_of done ≢ 5 → status_of done ≢ 6 → AreKept told done (out_of words) text old mid
   pub falls : NoCountFalls old mid
   pub counts : status_of done ≢ 5 → SameCounts old mid
   pub cause : status_of done ≡ 5 → FaultCause told words old mid
@@ -121,25 +118,13 @@ pub record Stage (told : Told) (words : List (List ℕ)) (done : Result (ℕ × 
   pub stays : Stays (sink_of (out_of words)) old mid
   pub untouched : (fault : Usage) → meaning words ≡ Err fault → mid ≡ old
 
-stays-none : (sink : Sink) (s : State) → Stays sink s s
-stays-none sink s slots.Spec = record { written = refl; name = refl; is_open = refl }
-stays-none sink s slots.Trace = record { written = refl; name = refl; is_open = refl }
-stays-none sink s slots.Cert = refl
-stays-none sink s slots.Input = refl
-stays-none Standard s slots.Report = added-same _ _ refl
-stays-none File s slots.Report = refl
-stays-none Standard s slots.TraceOut = refl
-stays-none File s slots.TraceOut = refl
-stays-none sink s slots.CertOut = refl
-
 -- the words are at fault
 pub stage-words : (told : Told) (words : List (List ℕ)) (fault : Usage) (s : State) → meaning words ≡ Err fault
     → Stage told words (Err (stops.Words fault)) s s
 stage-words told words fault s e = record {
   text = [];
   is = λ _ _ _. subst (λ (m : Result Named Usage). IsDone told s s m (Err (stops.Words fault)) []) (sym e) (refl, refl);
-  writes = λ _ _. unwritten refl (record { still = added-same _ _ refl; same = λ _. refl });
-  kept = λ _ _. refl;
+  writes = λ _ _. unwritten refl (record { still = added-same _ _ refl; same = λ _. refl }) refl;
   falls = SameCounts-NoCountFalls s s (SameCounts-none s);
   counts = λ _. SameCounts-none s;
   cause = λ k. absurd (cc);
@@ -156,16 +141,16 @@ module _ (told : Told) (words : List (List ℕ)) (n : Named) (old mid : State) (
   front-of : IsFront told n old mid → (m : Named) → meaning words ≡ Ok m → IsFront told m old mid
   front-of f m k = let same : n ≡ m = (let c : Ok n ≡ Ok m = sym e ∙ k in cc) in subst (λ (x : Named). IsFront told x old mid) same f
 
-  -- behind a file that was written whole, each other is as it was
-  whole-files : (done : Result (ℕ × ℕ) Stop) (out : Option (List ℕ)) (text : List ℕ) → n.out ≡ out → IsTold told → IsTrue told.written
-      → IsMadeOf told n old mid done text → AreKept told done out text old mid → (name : List ℕ) → IsKeptOrWhole told words old mid name
-  whole-files (Err stop) out text is tells writes made k name = kept (ap (λ files. file_at files name) k)
-  whole-files (Ok counts) None text is tells writes made k name = kept (ap (λ files. file_at files name) k)
-  whole-files (Ok counts) (Some file) text is tells writes made k name =
-      let stored = k.1 tells.0 writes in
+  -- behind a file that was written, each other is as it was
+  written-files : (done : Result (ℕ × ℕ) Stop) (text : List ℕ) → IsTold told → IsTrue told.written → IsMadeOf told n old mid done text
+      → IsWrittenTo told n.out text old mid → (name : List ℕ) → IsKeptOrWhole told words old mid name
+  written-files done text tells writes made (unwritten none u files) name = kept (ap (λ fs. file_at fs name) files)
+  written-files done text tells writes made (printed standard put files) name = kept (ap (λ fs. file_at fs name) files)
+  written-files done text tells writes made (filed file out put closed stored) name =
+      let s = stored tells.0 writes in
       elim (text-or-other name file) [
-        | inl same ↦ whole n e (is ∙ ap Some (sym same)) counts text made (rw same stored.file)
-        | inr other ↦ kept (stored.others name other)
+        | inl same ↦ whole n e (out ∙ ap Some (sym same)) done text made (rw same s.file)
+        | inr other ↦ kept (s.others name other)
       ]
 
   made : (done : Result (ℕ × ℕ) Stop) → status_of done ≢ 5 → Makes told n old mid done → Stage told words done old mid
@@ -173,29 +158,31 @@ module _ (told : Told) (words : List (List ℕ)) (n : Named) (old mid : State) (
     text = m.text;
     is = λ tells _ _. subst (λ (x : Result Named Usage). IsDone told old mid x done m.text) (sym e) (m.made tells);
     writes = λ _ _. subst (λ out. IsWrittenTo told out m.text old mid) (out-is words n e) m.writes;
-    kept = λ _ _. subst (λ out. AreKept told done out m.text old mid) (out-is words n e) m.kept;
     falls = SameCounts-NoCountFalls old mid m.counts;
     counts = λ _. m.counts;
     cause = λ k. absurd (other k);
     front = λ tells writes.
         front-of (front-made (m.made tells) m.writes writes);
-    files = λ tells writes. whole-files done n.out m.text refl tells writes (m.made tells) m.kept;
+    files = λ tells writes. written-files done m.text tells writes (m.made tells) m.writes;
     stays = subst (λ out. Stays (sink_of out) old mid) (out-is words n e) m.stays;
     untouched = not-at-fault;
   }
     where
-      front-made : IsMadeOf told n old mid done m.text → IsWrittenTo told n.out m.text old mid → IsTrue told.written → IsFront told n old mid
-      front-made is (unwritten none u) writes = nothing (u.same writes)
-      front-made is (written put) writes =
+      put-made : IsMadeOf told n old mid done m.text → IsPut told n.out old mid m.text → IsFront told n old mid
+      put-made is put =
           part done m.text is (length m.text)
           (subst (λ (xs : List ℕ). IsPut told n.out old mid xs) (sym (take_all (length m.text) m.text (omega arith))) put)
+
+      front-made : IsMadeOf told n old mid done m.text → IsWrittenTo told n.out m.text old mid → IsTrue told.written → IsFront told n old mid
+      front-made is (unwritten none u files) writes = nothing (u.same writes)
+      front-made is (printed standard put files) writes = put-made is put
+      front-made is (filed file out put closed stored) writes = put-made is put
 
   starved : (done : Result (ℕ × ℕ) Stop) → status_of done ≡ 6 → Starves told n old mid → Stage told words done old mid
   starved done six s = record {
     text = [];
     is = λ _ _ other. absurd (other six);
     writes = λ _ other. absurd (other six);
-    kept = λ _ other. absurd (other six);
     falls = SameCounts-NoCountFalls old mid s.counts;
     counts = λ _. s.counts;
     cause = λ k. absurd (let c : 6 ≡ 5 = sym six ∙ k in cc);
@@ -216,7 +203,6 @@ module _ (told : Told) (words : List (List ℕ)) (n : Named) (old mid : State) (
     text = [];
     is = λ _ other. absurd (other refl);
     writes = λ other. absurd (other refl);
-    kept = λ other. absurd (other refl);
     falls = f.falls;
     counts = λ other. absurd (other refl);
     cause = λ _. by_file n e f.cause;
@@ -284,14 +270,20 @@ put-on told None text old mid new same put = λ tells. ap (λ (x : SlotState). x
 put-on told (Some name) text old mid new same put = λ tells.
     let p = put tells in (ap (λ (x : SlotState). x.written) same ∙ p.0, ap (λ (x : SlotState). x.name) same ∙ p.1)
 
-written-on : (told : Told) (out : Option (List ℕ)) (text : List ℕ) (old mid new : State)
+written-on : (told : Told) (out : Option (List ℕ)) (text : List ℕ) (old mid new : State) → new.files ≡ mid.files
+    → ((slot : Slot) → slot ≢ slots.Report → new.slot_of slot ≡ mid.slot_of slot)
     → new.slot_of (slot_of (sink_of out)) ≡ mid.slot_of (slot_of (sink_of out)) → IsWrittenTo told out text old mid → IsWrittenTo told out text old new
-written-on told out text old mid new same (unwritten none u) =
+written-on told out text old mid new files others same (unwritten none u still) =
     unwritten none (record {
       still = subst (IsAddedTo (old.slot_of (slot_of (sink_of out)))) (sym same) u.still;
       same = λ tells. ap (λ (x : SlotState). x.written) same ∙ u.same tells;
-    })
-written-on told out text old mid new same (written put) = written (put-on told out text old mid new same put)
+    }) (files ∙ still)
+written-on told out text old mid new files others same (printed standard put still) =
+    printed standard (put-on told out text old mid new same put) (files ∙ still)
+written-on told out text old mid new files others same (filed name file put closed stored) =
+    filed name file (put-on told out text old mid new same put)
+    (ap (λ (x : SlotState). x.is_open) (others slots.TraceOut (λ e. absurd (cc))) ∙ closed)
+    (λ tells writes. subst (Stores name text old.files) (sym files) (stored tells writes))
 
 front-on : (told : Told) (n : Named) (old mid new : State)
     → new.slot_of (slot_of (sink_of n.out)) ≡ mid.slot_of (slot_of (sink_of n.out)) → IsFront told n old mid → IsFront told n old new
@@ -299,21 +291,11 @@ front-on told n old mid new same (nothing still) = nothing (ap (λ (x : SlotStat
 front-on told n old mid new same (part done text made count put) =
     part done text made count (put-on told n.out (take count text) old mid new same put)
 
-kept-on : (told : Told) (done : Result (ℕ × ℕ) Stop) (out : Option (List ℕ)) (text : List ℕ) (old mid new : State) → new.files ≡ mid.files
-    → ((slot : Slot) → slot ≢ slots.Report → new.slot_of slot ≡ mid.slot_of slot) → AreKept told done out text old mid
-    → AreKept told done out text old new
-kept-on told (Ok counts) (Some name) text old mid new files others k = (
-  ap (λ (x : SlotState). x.is_open) (others slots.TraceOut (λ e. absurd (cc))) ∙ k.0,
-  λ tells writes. subst (Stores name text old.files) (sym files) (k.1 tells writes),
-)
-kept-on told (Ok counts) None text old mid new files others k = files ∙ k
-kept-on told (Err stop) out text old mid new files others k = files ∙ k
-
 files-on : (told : Told) (words : List (List ℕ)) (old mid new : State) (name : List ℕ) → new.files ≡ mid.files
     → IsKeptOrWhole told words old mid name → IsKeptOrWhole told words old new name
 files-on told words old mid new name files (kept same) = kept (ap (λ fs. file_at fs name) files ∙ same)
-files-on told words old mid new name files (whole n means out counts text made holds) =
-    whole n means out counts text made (ap (λ fs. file_at fs name) files ∙ holds)
+files-on told words old mid new name files (whole n means out done text made holds) =
+    whole n means out done text made (ap (λ fs. file_at fs name) files ∙ holds)
 
 cause-on : (told : Told) (words : List (List ℕ)) (old mid new : State) → NoCountFalls mid new → FaultCause told words old mid
     → FaultCause told words old new
@@ -403,8 +385,9 @@ module _ (told : Told) (words : List (List ℕ)) (done : Result (ℕ × ℕ) Sto
             says =
                 subst (λ (said : List ℕ). IsSaid told (out_of words) said result.line old new) x.1
                 (said-since told (out_of words) answer.line result.line old mid new s.stays k.2);
-            writes = written-on told (out_of words) s.text old mid new (trace-still told (out_of words) answer result mid new r) (s.writes not_five not_six);
-            kept = kept-on told done (out_of words) s.text old mid new r.files r.others (s.kept not_five not_six);
+            writes =
+                written-on told (out_of words) s.text old mid new r.files r.others (trace-still told (out_of words) answer result mid new r)
+                (s.writes not_five not_six);
           }
 
   counts-stay : result.status ≢ 5 → SameCounts old new

@@ -10,7 +10,11 @@ use Rattle.ccsl_events.specs.Dump.{Plan}
 use Rattle.ccsl_events_top.specs.declared.sink.Sink.TheVariants.{File}
 use Rattle.ccsl_events_top.specs.declared.pass.Pass.{Pass}
 use Rattle.ccsl_events_top.specs.Streams.{Streams}
-use Rattle.ccsl_events_top.specs.Passing.{InBody, Begins}
+use Rattle.ccsl_events_top.specs.Passing.{InBody, Begins, EndsBody}
+use Rattle.ccsl_events_top.specs.Stages.{is_written}
+use Rattle.ccsl_events_top.specs.declared.stop.Stop.{Stop}
+use Rattle.ccsl_events_top.specs.declared.stop.Stop.TheVariants as stops
+use Rattle.std.proofs.Common.{Result, Ok, Err}
 
 -- the slots of one state, but for the file of the trace, which is another's
 abbrev slots_of : State → State → Slot → SlotState
@@ -93,3 +97,16 @@ module _ (told : Told) (name : List ℕ) (start s t : State) (opens : OpensOut t
           rows = ap (λ (xs : List ℕ). xs ++ pass.block.items) (sym b.unwritten) ∙ i.rows;
         },
       )
+
+-- the file is open where all was written that a body says
+pub ended-open : (told : Told) (name : List ℕ) (start begun t : State) (plan : Plan) (head text : List ℕ) (ended : Result ℕ Stop)
+    → OpensOut told TraceOut name start begun → EndsBody told File begun t ended plan head text → is_written ended ≡ true
+    → (t.slot_of TraceOut).is_open ≡ true
+ended-open told name start begun t plan head text (Ok times) opens e is =
+    ap (λ (x : SlotState). x.is_open) e.is.leaves.streams.out ∙ ap (λ (x : SlotState). x.is_open) opens.here
+ended-open told name start begun t plan head text (Err (stops.Words usage)) opens e is = absurd e
+ended-open told name start begun t plan head text (Err (stops.Events f near)) opens e is = absurd e
+ended-open told name start begun t plan head text (Err (stops.Trace f)) opens e is =
+    ap (λ (x : SlotState). x.is_open) e.leaves.streams.out ∙ ap (λ (x : SlotState). x.is_open) opens.here
+ended-open told name start begun t plan head text (Err stops.Fault) opens e is = absurd (cc)
+ended-open told name start begun t plan head text (Err stops.Memory) opens e is = absurd (cc)

@@ -15,7 +15,7 @@ use Rattle.ccsl_events_top.specs.Words.{Named, meaning, value_of}
 use Rattle.ccsl_events_top.specs.Report.{status_of, line_of}
 use Rattle.ccsl_events_top.specs.Streams.{RoseAt}
 use Rattle.ccsl_events_top.specs.Effects.{IsRead, IsAddedTo}
-use Rattle.ccsl_events_top.specs.Outcome.{IsTold, IsWrittenTo, AreKept, IsMadeOf, IsFront, IsCause}
+use Rattle.ccsl_events_top.specs.Outcome.{IsTold, IsWrittenTo, IsMadeOf, IsFront, IsCause}
 
 -- where the words send the trace
 abbrev pub out_of : List (List ℕ) → Option (List ℕ)
@@ -57,18 +57,17 @@ pub record Answers (told : Told) (words : List (List ℕ)) (status : ℕ) (line 
   pub status_is : status ≡ status_of done
   pub says : IsSaid told (out_of words) (line_of done) line old new
   pub writes : IsWrittenTo told (out_of words) text old new
-  pub kept : AreKept told done (out_of words) text old new
 
 -- status 5 comes only where a call failed: on the report, or on a file that the words name
 pub data FaultCause (told : Told) (words : List (List ℕ)) (old new : State) : Type 0 where
   by_report : (rose : RoseAt slots.Report old new) → FaultCause told words old new
   by_file : (n : Named) (means : meaning words ≡ Ok n) (cause : IsCause told n old new) → FaultCause told words old new
 
--- a file is as it was, or is the one that the words send the trace to, and holds the whole trace
+-- a file is as it was, or is the one that the words send the trace to, and holds all that is defined of it
 pub data IsKeptOrWhole (told : Told) (words : List (List ℕ)) (old new : State) (name : List ℕ) : Type 0 where
   kept : (same : file_at new.files name ≡ file_at old.files name) → IsKeptOrWhole told words old new name
-  whole : (n : Named) (means : meaning words ≡ Ok n) (out : n.out ≡ Some name) (counts : ℕ × ℕ) (text : List ℕ)
-      (made : IsMadeOf told n old new (Ok counts) text) (holds : file_at new.files name ≡ Some text) → IsKeptOrWhole told words old new name
+  whole : (n : Named) (means : meaning words ≡ Ok n) (out : n.out ≡ Some name) (done : Result (ℕ × ℕ) Stop) (text : List ℕ)
+      (made : IsMadeOf told n old new done text) (holds : file_at new.files name ≡ Some text) → IsKeptOrWhole told words old new name
 
 -- what may change of a slot: of the file of events and of the dump what was read, of the report and of the trace what was written
 abbrev pub MayChange : Option (List ℕ) → Slot → SlotState → SlotState → Type 0
@@ -92,7 +91,7 @@ pub record Headline (told : Told) (words : List (List ℕ)) (status : ℕ) (line
   pub unreported : (status ≡ 5) ⊎ (status ≡ 6) → (name : List ℕ) → out_of words ≡ Some name → IsTrue told.written →
       ((new.slot_of slots.Report).written ≡ (old.slot_of slots.Report).written) ⊎ RoseAt slots.Report old new
   pub front : IsTold told → IsTrue told.written → (n : Named) → meaning words ≡ Ok n → IsFront told n old new
-  -- WHAT STAYS: every file but the one that the trace goes to, and that one until it holds the whole trace; and the slots
+  -- WHAT STAYS: every file but the one that the trace goes to, and that one until it holds all that is defined of it; and the slots
   pub files : IsTold told → IsTrue told.written → (name : List ℕ) → IsKeptOrWhole told words old new name
   pub stays : (slot : Slot) → MayChange (out_of words) slot (old.slot_of slot) (new.slot_of slot)
   pub untouched : (fault : Usage) → meaning words ≡ Err fault → (slot : Slot) → slot ≢ slots.Report → new.slot_of slot ≡ old.slot_of slot

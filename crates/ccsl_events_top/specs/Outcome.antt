@@ -28,17 +28,12 @@ pub record IsUnwritten (told : Told) (out : Option (List ℕ)) (old new : State)
   pub still : IsAddedTo (old.slot_of (slot_of (sink_of out))) (new.slot_of (slot_of (sink_of out)))
   pub same : IsTrue told.written → (new.slot_of (slot_of (sink_of out))).written ≡ (old.slot_of (slot_of (sink_of out))).written
 
--- a trace was written, or there is none
+-- There is no trace, or it was written, and where it goes to a file, this was closed and holds it. No other file has changed.
 pub data IsWrittenTo (told : Told) (out : Option (List ℕ)) (text : List ℕ) (old new : State) : Type 0 where
-  unwritten : (nothing : text ≡ []) (is : IsUnwritten told out old new) → IsWrittenTo told out text old new
-  written : (put : IsPut told out old new text) → IsWrittenTo told out text old new
-
--- A file that was written whole was closed, and holds its trace. No other file has changed.
-abbrev pub AreKept : Told → Result (ℕ × ℕ) Stop → Option (List ℕ) → List ℕ → State → State → Type 0
-AreKept told (Ok counts) (Some name) text old new =
-    ((new.slot_of TraceOut).is_open ≡ false) × (IsTrue told.files → IsTrue told.written → Stores name text old.files new.files)
-AreKept told (Ok counts) None text old new = new.files ≡ old.files
-AreKept told (Err stop) out text old new = new.files ≡ old.files
+  unwritten : (nothing : text ≡ []) (is : IsUnwritten told out old new) (files : new.files ≡ old.files) → IsWrittenTo told out text old new
+  printed : (standard : out ≡ None) (put : IsPut told out old new text) (files : new.files ≡ old.files) → IsWrittenTo told out text old new
+  filed : (name : List ℕ) (file : out ≡ Some name) (put : IsPut told out old new text) (closed : (new.slot_of TraceOut).is_open ≡ false)
+      (stored : IsTrue told.files → IsTrue told.written → Stores name text old.files new.files) → IsWrittenTo told out text old new
 
 module _ (told : Told) (n : Named) (old new : State) where
   abbrev pub IsMadeOf : Result (ℕ × ℕ) Stop → List ℕ → Type 0
@@ -49,7 +44,6 @@ module _ (told : Told) (n : Named) (old new : State) where
     pub text : List ℕ
     pub made : IsTold told → IsMadeOf done text
     pub writes : IsWrittenTo told n.out text old new
-    pub kept : AreKept told done n.out text old new
     pub counts : SameCounts old new
     pub stays : Stays (sink_of n.out) old new
 

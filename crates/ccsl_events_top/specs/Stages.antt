@@ -1,5 +1,5 @@
 -- What the stages of a run leave of a world, and what they hand on.
-use Rattle.std.specs.Prelude.{◌≡◌, ◌⊎◌, ◌≤◌, ◌<◌, ℕ, List, [], length, map, Result, Ok, Err}
+use Rattle.std.specs.Prelude.{◌≡◌, ◌⊎◌, ◌≤◌, ◌<◌, ℕ, List, [], length, map, Bool, true, false, Result, Ok, Err}
 use Rattle.std.specs.declared.vec.Vec.{Vec}
 use Rattle.std.specs.declared.alloc.Global.{Global}
 use Rattle.ccsl_base.specs.declared.limits.TheConstants.{MAX_SPEC_BYTES}
@@ -23,7 +23,7 @@ use Rattle.ccsl_events_top.specs.declared.stop.Stop.TheVariants as stops
 use Rattle.ccsl_events_top.specs.Streams.{RoseAt}
 use Rattle.ccsl_events_top.specs.Effects.{IsRead}
 use Rattle.ccsl_events_top.specs.Outcome.{IsTold}
-use Rattle.ccsl_events_top.specs.Passing.{Leaves, IsWhollyWritten, IsStopped}
+use Rattle.ccsl_events_top.specs.Passing.{Leaves, EndsBody}
 
 -- ## The file of events
 
@@ -80,19 +80,27 @@ IsBodyFor meaning (Err stops.Memory) = ⊥
 
 -- ## The file that is written
 
+-- all that a body says was written, up to its end or its first fault
+abbrev pub is_written : Result ℕ Stop → Bool
+is_written (Ok times) = true
+is_written (Err (stops.Words fault)) = false
+is_written (Err (stops.Events f near)) = false
+is_written (Err (stops.Trace f)) = true
+is_written (Err stops.Fault) = false
+is_written (Err stops.Memory) = false
+
 -- A pass that had written nothing has written its trace to a file of this name, by the state in which its dump was opened.
 pub data WritesFile (told : Told) (name : List ℕ) (start s t : State) (plan : Plan) (head text : List ℕ) (result : Result ℕ Stop) : Type 0 where
   -- the file could not be opened
   unopened : (leaves : Leaves told File start s []) (fails : Fails TraceOut s t) (is : result ≡ Err stops.Fault)
       → WritesFile told name start s t plan head text result
   -- the body was left
-  stopped : (begun : State) (opens : OpensOut told TraceOut name start begun) (stop : Stop)
-      (left : IsStopped told File begun t plan head text stop) (is : result ≡ Err stop)
-      → WritesFile told name start s t plan head text result
-  -- the file could not be closed
-  unclosed : (begun : State) (opens : OpensOut told TraceOut name start begun) (end : State) (times : ℕ)
-      (whole : IsWhollyWritten told File begun end plan head text times) (fails : Fails TraceOut end t) (is : result ≡ Err stops.Fault)
-      → WritesFile told name start s t plan head text result
-  closed : (begun : State) (opens : OpensOut told TraceOut name start begun) (end : State) (times : ℕ)
-      (whole : IsWhollyWritten told File begun end plan head text times) (closes : Closes told TraceOut end t) (is : result ≡ Ok times)
+  stopped : (begun : State) (opens : OpensOut told TraceOut name start begun) (ends : EndsBody told File begun t result plan head text)
+      (left : is_written result ≡ false) → WritesFile told name start s t plan head text result
+  -- it was written, and the file could not be closed
+  unclosed : (begun : State) (opens : OpensOut told TraceOut name start begun) (end : State) (ended : Result ℕ Stop)
+      (ends : EndsBody told File begun end ended plan head text) (written : is_written ended ≡ true) (fails : Fails TraceOut end t)
+      (is : result ≡ Err stops.Fault) → WritesFile told name start s t plan head text result
+  closed : (begun : State) (opens : OpensOut told TraceOut name start begun) (end : State)
+      (ends : EndsBody told File begun end result plan head text) (written : is_written result ≡ true) (closes : Closes told TraceOut end t)
       → WritesFile told name start s t plan head text result

@@ -217,10 +217,9 @@ impl Pass {
     fn end<W: World>(&mut self, world: &mut W, sink: Sink) -> Result<u64, Stop>
         requires open { MayWrite sink (W.state world.old) }
         requires over { self.old.has_ended ≡ true }
-        ensures ends { (start : State) (plan : Plan) (head text : List ℕ) →
+        ensures { (start : State) (plan : Plan) (head text : List ℕ) →
             InBody W.told sink start (W.state world.old) plan head text self.old →
             EndsBody W.told sink start (W.state world.new) result plan head text }
-        ensures open { OnOk result (MayWrite sink (W.state world.new)) }
     {
         match self.reader.finish(self.read, &mut self.block) {
             Ok(()) => {}
@@ -236,10 +235,9 @@ impl Pass {
         requires open { MayWrite sink (W.state world.old) }
         requires begins { (start : State) × (plan : Plan) × (head : List ℕ) × (text : List ℕ)
             × InBody W.told sink start (W.state world.old) plan head text self.old }
-        ensures ends { (start : State) (plan : Plan) (head text : List ℕ) →
+        ensures { (start : State) (plan : Plan) (head text : List ℕ) →
             InBody W.told sink start (W.state world.old) plan head text self.old →
             EndsBody W.told sink start (W.state world.new) result plan head text }
-        ensures open { OnOk result (MayWrite sink (W.state world.new)) }
     {
         loop {
             match self.step(world) {

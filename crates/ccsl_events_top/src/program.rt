@@ -13,7 +13,7 @@ ghost use Rattle.ccsl_edge.specs.declared.slot.Slot.{Slot};
 ghost use Rattle.ccsl_edge.specs.declared.slot.Slot.TheVariants.{TraceOut};
 ghost use Rattle.ccsl_events_top.specs.Words.{named_by};
 ghost use Rattle.ccsl_events_top.specs.Passing.{Begins};
-ghost use Rattle.ccsl_events_top.specs.Stages.{SaysEvents, IsBodyFor, WritesFile};
+ghost use Rattle.ccsl_events_top.specs.Stages.{SaysEvents, IsBodyFor, is_written, WritesFile};
 ghost use Rattle.ccsl_events_top.specs.Outcome.{IsOutcome};
 ghost use Rattle.ccsl_events_top.specs.Headline.{out_of, IsReported, Headline};
 
@@ -69,7 +69,14 @@ fn body_of(
     }
 }
 
-// The body, written to a file. It answers how many times have a row.
+// Whether all was written that a body says, up to its end or to its first fault.
+fn is_written(ended: &Result<u64, Stop>) -> bool
+    ensures { result ≡ is_written ended.now }
+{
+    matches!(ended, Ok(_) | Err(Stop::Trace(_)))
+}
+
+// The body, written to a file, which is put in place behind a fault of the dump too. It answers how many times have a row.
 fn write_file<W: World>(world: &mut W, pass: &mut Pass, name: &str) -> Result<u64, Stop>
     requires allowed { W.allows TraceOut name.now }
     requires begins { (start : State) × (plan : Plan) × (head : List ℕ) × (text : List ℕ)
@@ -80,9 +87,11 @@ fn write_file<W: World>(world: &mut W, pass: &mut Pass, name: &str) -> Result<u6
         result }
 {
     world.open_out(Slot::TraceOut, name)?;
-    let times = pass.body(world, Sink::File)?;
-    world.close_out(Slot::TraceOut)?;
-    Ok(times)
+    let ended = pass.body(world, Sink::File);
+    if is_written(&ended) {
+        world.close_out(Slot::TraceOut)?;
+    }
+    ended
 }
 
 fn make<W: World>(

@@ -154,7 +154,7 @@ returns-in_err-times-in-None g c =
     }) (g.W.World.state c.args.world.now) (g.W.World.state c.body.new.world) (Err c.in_err-times-in-None.field-0.0)) (sym c.in-None.is)
     (left-standard g.W.World.told c.args.command.events.now c.args.command.trace.now c.args.command.gaps _ (map event_in es) start o x.2.given
     c.in_ok-text-2.text.items b.plan plan _ c.in_err-times-in-None.field-0.0
-    (c.in_err-times-in-None.ensures.ends start b.plan x.2.given c.in_ok-text-2.text.items begins.body)))
+    (c.in_err-times-in-None.ensures start b.plan x.2.given c.in_ok-text-2.text.items begins.body)))
 
 pub returns : goal.returns
 returns g c =
@@ -206,5 +206,5 @@ returns g c =
           (sym w.in-None.is)
           (whole-standard g.W.World.told c.args.command.events.now c.args.command.trace.now c.args.command.gaps _ (map event_in es) start o x.2.given
           c.in_ok-text-2.text.items b.plan plan _ w.in_ok-times-in-None.times
-          (w.in_ok-times-in-None.ensures.ends start b.plan x.2.given c.in_ok-text-2.text.items begins.body)))
+          (w.in_ok-times-in-None.ensures start b.plan x.2.given c.in_ok-text-2.text.items begins.body)))
     ]

@@ -11,13 +11,13 @@ end-requires-clause-over g c =
     let k = rw c.in-Ok-false.field-0-test at (c.in-Ok-false.ensures.body c.args.sink w.0 w.1 w.2 w.3 (c.loop-self.invariant.1 w.0 w.1 w.2 w.3 w.4)) in
     k.1
 
-pub returns-in-Ok-false-clause-ends : goal.returns-in-Ok-false-clause-ends
-returns-in-Ok-false-clause-ends g c start plan head text i =
+pub returns-in-Ok-false : goal.returns-in-Ok-false
+returns-in-Ok-false g c start plan head text i =
     let k = rw c.in-Ok-false.field-0-test at (c.in-Ok-false.ensures.body c.args.sink start plan head text (c.loop-self.invariant.1 start plan head text i)) in
-    c.end.ensures.ends start plan head text k.0
+    c.end.ensures start plan head text k.0
 
-pub returns-in-Err-clause-ends : goal.returns-in-Err-clause-ends
-returns-in-Err-clause-ends g c start plan head text i =
+pub returns-in-Err : goal.returns-in-Err
+returns-in-Err g c start plan head text i =
     c.stop.ensures start plan head text c.loop-self.self.reader.taken
     (c.in-Err.ensures.body c.args.sink start plan head text (c.loop-self.invariant.1 start plan head text i))
 
@@ -36,8 +36,8 @@ loop-self-preserved-in-Continue-1 g c = (
       c.in_ok-write_block.ensures.empty,
 )
 
-pub returns-in_err-write_block-clause-ends : goal.returns-in_err-write_block-clause-ends
-returns-in_err-write_block-clause-ends g c =
+pub returns-in_err-write_block : goal.returns-in_err-write_block
+returns-in_err-write_block g c =
     let q = err_from_is_err_and c.from_residual.result c.from_residual.ensures.1 in
     rw (q.1, q.2) (λ start plan head text i.
     let k = rw c.in-Ok-true.field-0-test at (c.in-Ok-true.ensures.body c.args.sink start plan head text (c.loop-self.invariant.1 start plan head text i)) in
