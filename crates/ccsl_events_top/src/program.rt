@@ -76,7 +76,8 @@ fn is_written(ended: &Result<u64, Stop>) -> bool
     matches!(ended, Ok(_) | Err(Stop::Trace(_)))
 }
 
-// The body, written to a file, which is put in place behind a fault of the dump too. It answers how many times have a row.
+// The body, written to a file, which is put in place behind a fault of the dump too. It answers how many times have
+// a row.
 fn write_file<W: World>(world: &mut W, pass: &mut Pass, name: &str) -> Result<u64, Stop>
     requires allowed { W.allows TraceOut name.now }
     requires begins { (start : State) × (plan : Plan) × (head : List ℕ) × (text : List ℕ)
