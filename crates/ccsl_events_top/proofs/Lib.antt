@@ -10,3 +10,6 @@ mod Promising
 mod Steps
 mod Headers
 mod Reopening
+mod OneHeader
+mod OnePlan
+mod OneOutcome

@@ -10,3 +10,4 @@ pub mod Made
 pub mod Outcome
 pub mod Headline
 pub mod Stages
+pub mod OneOutcome

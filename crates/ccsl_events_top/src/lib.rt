@@ -3,6 +3,7 @@
 
 pub(crate) mod answer;
 pub(crate) mod files;
+pub mod laws;
 pub(crate) mod pass;
 pub mod program;
 pub mod sink;
@@ -10,4 +11,5 @@ pub(crate) mod stop;
 pub mod words;
 
 pub use answer::Answer;
+pub use laws::one_is_made;
 pub use program::run;
