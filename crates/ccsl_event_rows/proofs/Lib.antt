@@ -7,3 +7,4 @@ pub mod ReadBack
 pub mod Timescales
 pub mod Planned
 pub mod Examples
+mod Made

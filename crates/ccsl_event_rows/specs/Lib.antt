@@ -1,3 +1,4 @@
 pub mod Times
 pub mod ReadsBack
 pub mod Planned
+pub mod Made

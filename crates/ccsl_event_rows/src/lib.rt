@@ -6,4 +6,4 @@
 
 pub mod laws;
 
-pub use laws::{events_read_back, what_is_read_may_be_written};
+pub use laws::{events_read_back, what_is_made_reads_back, what_is_read_may_be_written};

@@ -13,3 +13,4 @@ mod Reopening
 mod OneHeader
 mod OnePlan
 mod OneOutcome
+pub mod WholeDump

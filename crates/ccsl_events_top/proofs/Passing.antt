@@ -60,7 +60,7 @@ front-read bytes left =
 short-dump : (bytes : List ℕ) → length bytes ≤ MAX_FILE_BYTES → is_too_long bytes ≡ false
 short-dump bytes l = le-ltb MAX_FILE_BYTES (length bytes) l
 
-read-short : (bytes : List ℕ) → length bytes ≤ MAX_FILE_BYTES → read_of bytes ≡ bytes ++ 10 ∷ []
+pub read-short : (bytes : List ℕ) → length bytes ≤ MAX_FILE_BYTES → read_of bytes ≡ bytes ++ 10 ∷ []
 read-short bytes l = ap (λ (w : Bool). cond w (take MAX_FILE_BYTES bytes) (bytes ++ 10 ∷ [])) (short-dump bytes l)
 
 end-short : (bytes : List ℕ) → length bytes ≤ MAX_FILE_BYTES → end_fault bytes ≡ faults.Truncated (length bytes)

@@ -11,3 +11,4 @@ pub mod Outcome
 pub mod Headline
 pub mod Stages
 pub mod OneOutcome
+pub mod WholeDump

@@ -7,9 +7,10 @@ pub mod laws;
 pub(crate) mod pass;
 pub mod program;
 pub mod sink;
-pub(crate) mod stop;
+pub mod stop;
 pub mod words;
 
 pub use answer::Answer;
-pub use laws::one_is_made;
+pub use laws::{one_is_made, whole_dump_is_read};
 pub use program::run;
+pub use stop::Stop;

@@ -11,14 +11,18 @@ use ccsl_event_file::EventFault;
 use ccsl_vcd::VcdFault;
 use std::alloc::{AllocError, AllocFailed};
 
+/// Why there is no trace of events, or not the whole of it.
 #[derive(Drop)]
-pub(crate) enum Stop {
+pub enum Stop {
+    /// The words are at fault.
     Words(Usage),
-    /// the file of events, and the variables that a path of it may mean
+    /// The file of events is. With the variables that a path of it may mean.
     Events(EventFault, Vec<u8>),
+    /// The dump is.
     Trace(VcdFault),
-    /// a call of the world failed
+    /// A call of the world failed.
     Fault,
+    /// No memory was to be had.
     Memory,
 }
 
