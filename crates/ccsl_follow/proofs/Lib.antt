@@ -1,3 +1,4 @@
 pub mod Declared
 pub mod Fed
 pub mod Rereading
+pub mod Counted

@@ -1,14 +1,18 @@
 //! What is followed of a trace: the full steps, the counts, the leads, and the last steps.
 
-ghost use Rattle.std.specs.Prelude.{◌≡◌, ◌<◌, ◌+◌, ◌-◌, ◌^◌, ℕ, Some, true, false, min, length, OnOk, slice_index_or};
+ghost use Rattle.std.specs.Prelude.{◌≡◌, ◌<◌, ◌+◌, ◌-◌, ◌^◌, ℕ, List, [], ◌∷◌, ◌++◌, Some, true, false, is_some, min, nat_le, length, replicate, IfOk, OnOk, slice_index_or};
 ghost use Rattle.ccsl_base.specs.Clocks.{ticks_in};
+ghost use Rattle.ccsl_base.specs.declared.rows.Row.{Row};
 ghost use Rattle.ccsl_causes.specs.Counted.{counted};
 ghost use Rattle.ccsl_edge.specs.declared.slot.Slot.TheVariants.{Trace};
 ghost use Rattle.ccsl_edge.specs.Counts.{SameCounts};
 ghost use Rattle.ccsl_follow.specs.Leaving.{is_left_at};
+ghost use Rattle.ccsl_follow.specs.Pending.{AreLeads};
+ghost use Rattle.ccsl_follow.specs.Counting.{HasCounted};
 ghost use Rattle.ccsl_follow.specs.LastSteps.{kept_with};
 ghost use Rattle.ccsl_follow.specs.OnlyReads.{OnlyReads};
 
+use crate::counting::{count_rows, count_step};
 use crate::feeding::{next_rows, open_feed};
 use crate::reading::open_file;
 use crate::steps::Steps;
@@ -56,7 +60,9 @@ impl<'s> Drop for Follow<'s> {
 }
 
 // The leads before the first step. What is pending is asked for at the end of a trace alone.
-fn leads_of(alloc: Global, system: &System, until: Until) -> Result<Option<Leads>, Memory> {
+fn leads_of(alloc: Global, system: &System, until: Until) -> Result<Option<Leads>, Memory>
+    ensures { IfOk result (AreLeads system.now until) }
+{
     match until {
         Until::Step(_) => Ok(None),
         Until::End(_) => Leads::new(alloc, system),
@@ -70,7 +76,11 @@ impl<'s> Follow<'s> {
         system: &'s System,
         clocks: &ClockSet,
         until: Until,
-    ) -> Result<Follow<'s>, Memory> {
+    ) -> Result<Follow<'s>, Memory>
+        ensures counts { IfOk result (λ f. f.counts ≡ replicate (length system.now.names) 0) }
+        ensures leads { IfOk result (λ f. AreLeads system.now until f.leads) }
+        ensures counted { IfOk result (λ f. HasCounted f.steps.part f.counts []) }
+    {
         Ok(Follow {
             alloc,
             steps: Steps::open(alloc, system, clocks)?,
@@ -90,7 +100,9 @@ impl<'s> Follow<'s> {
     }
 
     /// Whether the trace is left.
-    pub fn is_over(&self) -> bool {
+    pub fn is_over(&self) -> bool
+        ensures { result ≡ is_some self.now.broken }
+    {
         self.broken.is_some()
     }
 
@@ -142,11 +154,7 @@ impl<'s> Follow<'s> {
         ensures kept { self.new.kept.items ≡ self.old.kept.items }
         ensures broken { self.new.broken ≡ self.old.broken }
     {
-        let step = self.steps.step();
-        if let Some(leads) = &mut self.leads {
-            leads.hear(step, time, &self.counts);
-        }
-        self.counts.count(step);
+        count_step(&mut self.counts, &mut self.leads, self.steps.step(), time);
         self.made = self.made.saturating_add(1);
     }
 
@@ -171,6 +179,10 @@ impl<'s> Follow<'s> {
               time = row.now.time;
               ticks = self.new.steps.step;
             })) }
+        ensures counted { OnOk result (is_left_at self.old.until self.old.made ≡ false →
+            (rows : List Row) → HasCounted self.old.steps.part self.old.counts rows →
+            length rows + 1 < 2 ^ 64 →
+            HasCounted self.new.steps.part self.new.counts (rows ++ row.now ∷ [])) }
     {
         self.steps.go_on(&row.ticks);
         if self.until.is_at(self.made) {
@@ -182,8 +194,68 @@ impl<'s> Follow<'s> {
         Ok(())
     }
 
+    // Whether so many more steps come before the first of the last ones: none is kept, and at none is the trace left.
+    fn is_far(&self, rows: usize) -> bool
+        ensures { result ≡ nat_le (self.now.made + rows) self.now.first_kept }
+    {
+        self.made <= self.first_kept && rows as u64 <= self.first_kept - self.made
+    }
+
+    // The next row, where its step is not kept.
+    #[inline(always)]
+    fn count_next(&mut self, row: &Row)
+        ensures counted { (rows : List Row) → HasCounted self.old.steps.part self.old.counts rows →
+            length rows + 1 < 2 ^ 64 →
+            HasCounted self.new.steps.part self.new.counts (rows ++ row.now ∷ []) }
+        ensures made { self.new.made ≡ self.old.made }
+        ensures broken { self.new.broken ≡ self.old.broken }
+    {
+        self.steps.go_on(&row.ticks);
+        let step = self.steps.step();
+        count_step(&mut self.counts, &mut self.leads, step, row.time);
+    }
+
+    // The rows of a block, where none of their steps is kept.
+    fn count_steps(&mut self, block: &Block)
+        ensures counted { (rows : List Row) → HasCounted self.old.steps.part self.old.counts rows →
+            length rows + length block.now.rows < 2 ^ 64 →
+            HasCounted self.new.steps.part self.new.counts (rows ++ block.now.rows) }
+        ensures made { self.new.made ≡ self.old.made }
+        ensures broken { self.new.broken ≡ self.old.broken }
+    {
+        for i in 0..block.len() {
+            self.count_next(block.row(i));
+        }
+    }
+
+    // The rows of a block, where none of their steps is kept. Where a row is a step, no step is made.
+    fn count_all(&mut self, block: &Block)
+        ensures counted { (rows : List Row) → HasCounted self.old.steps.part self.old.counts rows →
+            length rows + length block.now.rows < 2 ^ 64 →
+            HasCounted self.new.steps.part self.new.counts (rows ++ block.now.rows) }
+        ensures made { self.new.made
+            ≡ min (self.old.made + length block.now.rows) (2 ^ 64 - 1) }
+        ensures broken { self.new.broken ≡ self.old.broken }
+    {
+        if self.steps.are_rows() {
+            count_rows(&mut self.counts, &mut self.leads, block);
+        } else {
+            self.count_steps(block);
+        }
+        self.made = self.made.saturating_add(block.len() as u64);
+    }
+
     /// The rows of a block, up to where the trace is left.
-    pub fn take_all(&mut self, block: &Block) -> Result<(), Memory> {
+    pub fn take_all(&mut self, block: &Block) -> Result<(), Memory>
+        ensures { OnOk result (is_some self.new.broken ≡ false → (rows : List Row) →
+            HasCounted self.old.steps.part self.old.counts rows →
+            length rows + length block.now.rows < 2 ^ 64 →
+            HasCounted self.new.steps.part self.new.counts (rows ++ block.now.rows)) }
+    {
+        if self.is_far(block.len()) {
+            self.count_all(block);
+            return Ok(());
+        }
         for i in 0..block.len() {
             if self.is_over() {
                 return Ok(());

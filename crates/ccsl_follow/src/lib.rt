@@ -1,6 +1,7 @@
 //! The files of an answer, read once more, and a trace, followed over its steps.
 #![tactic(auto)]
 
+mod counting;
 pub mod feeding;
 pub mod follow;
 pub mod heading;

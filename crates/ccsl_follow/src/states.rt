@@ -6,6 +6,7 @@ ghost use Rattle.ccsl_kernel.specs.Lives.{Step};
 ghost use Rattle.ccsl_kernel.specs.Runs.{full_step};
 ghost use Rattle.ccsl_state.specs.Part.{part_of, PartStandsFor};
 ghost use Rattle.ccsl_follow.specs.Following.{held_part, Follows};
+ghost use Rattle.ccsl_follow.specs.Counting.{AreRows};
 
 use ccsl_base::{ClockSet, Memory};
 use ccsl_kernel::System;
@@ -113,6 +114,19 @@ impl<'s> States<'s> {
         match &mut self.part {
             Some(part) => part.go_on(step),
             None => {}
+        }
+    }
+
+    /// Whether nothing is defined: each clock that has a name is declared. Then a row is a step.
+    pub(crate) fn are_rows(&self) -> bool
+        ensures { result ≡ true → AreRows self.now }
+    {
+        match &self.part {
+            Some(_) => false,
+            None => {
+                let scope = self.system.scope();
+                scope.named <= scope.declared
+            }
         }
     }
 

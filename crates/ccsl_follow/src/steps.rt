@@ -7,6 +7,7 @@ ghost use Rattle.ccsl_kernel.specs.Lives.{Step};
 ghost use Rattle.ccsl_kernel.specs.Runs.{full_step, declared_part};
 ghost use Rattle.ccsl_state.specs.Part.{part_of, PartStandsFor};
 ghost use Rattle.ccsl_relate.specs.Watching.{IsUndeclared};
+ghost use Rattle.ccsl_follow.specs.Counting.{AreRows};
 
 use crate::states::States;
 use ccsl_base::{ClockSet, MAX_CLOCKS, Memory};
@@ -98,6 +99,13 @@ impl<'s> Steps<'s> {
     {
         put_declared(&mut self.step, ticks, &self.undeclared);
         self.part.go_on(&mut self.step);
+    }
+
+    /// Whether a row can be counted in place of the step that it completes.
+    pub(crate) fn are_rows(&self) -> bool
+        ensures { result ≡ true → AreRows self.now.part }
+    {
+        self.part.are_rows()
     }
 
     /// The clocks that are followed.

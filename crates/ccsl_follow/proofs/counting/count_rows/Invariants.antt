@@ -1,0 +1,11 @@
+-- The rows so far are counted.
+use Rattle.std.proofs.Common.{◌≡◌, ℕ, ◌<◌, map, take, length, slice_index_or}
+use Rattle.ccsl_follow.specs.Counting.{counted_over}
+use Rattle.ccsl_follow.proofs.counting.count_rows.Given as goal
+
+abbrev pub invariant-loop-i : goal.invariant-loop-i
+invariant-loop-i l = record {
+  clocks : length l.counts ≡ length l.fn.counts;
+  counts : (x : ℕ) → x < length l.fn.counts →
+      slice_index_or l.counts x 0 ≡ counted_over x (map (λ row. row.ticks) (take l.i l.block.rows)) (slice_index_or l.fn.counts x 0);
+}
