@@ -1,5 +1,8 @@
 -- WHEN A PERSON IS TOLD of how far a run is, what of it, and in which colours.
-use Rattle.std.specs.Prelude.{ℕ, ◌+◌, ◌-◌, ◌*◌, ◌^◌, ◌/◌, ◌&&◌, Bool, true, false, min, max, not, nat_le, nat_lt, if◌then◌else◌}
+use Rattle.std.specs.Prelude.{ℕ, ◌+◌, ◌-◌, ◌*◌, ◌^◌, ◌/◌, ◌&&◌, List, [], ◌∷◌, Bool, true, false, min, max, not, nat_eq, nat_le, nat_lt, if◌then◌else◌, codes}
+use Rattle.std.specs.Str.{bytes_eq}
+use Rattle.ccsl_edge.specs.declared.slot.Slot.{Slot}
+use Rattle.ccsl_edge.specs.declared.slot.Slot.TheVariants.{Spec, Trace, Cert, Input, Report, TraceOut, CertOut}
 use Rattle.ccsl_show_top.specs.declared.own.Colour.{Colour}
 use Rattle.ccsl_show_top.specs.declared.own.Colour.TheVariants.{Always, Never, Terminal}
 
@@ -14,6 +17,11 @@ told_at told seconds = if is_time told seconds then seconds else told
 -- the bytes of a trace that are there before the first step: none, where steps are asked for
 abbrev pub size_before : ℕ → ℕ → ℕ
 size_before asked bytes = if nat_lt 0 asked then 0 else bytes
+
+-- what is written of a trace begins a step: its first byte is a '#', as that of each time
+abbrev pub begins_step : List ℕ → Bool
+begins_step [] = false
+begins_step (first ∷ rest) = nat_eq first 35
 
 -- the steps made behind what may begin one
 abbrev pub made_with : Bool → ℕ → ℕ
@@ -37,3 +45,13 @@ abbrev pub are_shown : Colour → Bool → Bool → Bool
 are_shown Always refused terminal = true
 are_shown Never refused terminal = false
 are_shown Terminal refused terminal = not refused && terminal
+
+-- a session reports that it does not know a line
+abbrev pub is_unknown : Slot → List ℕ → Bool
+is_unknown Report bytes = bytes_eq bytes (codes "unknown\n")
+is_unknown Spec bytes = false
+is_unknown Trace bytes = false
+is_unknown Cert bytes = false
+is_unknown Input bytes = false
+is_unknown TraceOut bytes = false
+is_unknown CertOut bytes = false

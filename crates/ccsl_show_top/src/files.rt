@@ -1,7 +1,7 @@
 //! What the words say of files.
 
 ghost use Rattle.std.specs.Prelude.{◌≡◌};
-ghost use Rattle.ccsl_show_top.specs.Files.{is_written, is_read_again};
+ghost use Rattle.ccsl_show_top.specs.Files.{is_written, is_read_again, are_one};
 
 use ccsl_base::CommandWord;
 
@@ -57,6 +57,23 @@ pub fn is_read_again(name: &str, found: Found) -> bool
     match found {
         Found::File | Found::Nothing => name != "/dev/stdin",
         Found::Other => false,
+    }
+}
+
+/// What the system knows a file by: its device, and its number there.
+#[derive(Clone, Copy, Debug, PartialEq, Eq)]
+pub struct Identity {
+    pub device: u64,
+    pub number: u64,
+}
+
+/// Whether two names lead to one file: they are the same, or what they lead to is.
+pub fn are_one(one: &str, other: &str, one_is: Option<Identity>, other_is: Option<Identity>) -> bool
+    ensures { result ≡ are_one one.now other.now one_is other_is }
+{
+    match (one_is, other_is) {
+        (Some(a), Some(b)) => one == other || (a.device == b.device && a.number == b.number),
+        _ => one == other,
     }
 }
 

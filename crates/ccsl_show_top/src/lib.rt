@@ -9,7 +9,7 @@ pub mod program;
 pub mod progress;
 
 pub use heard::{Heard, Listen};
-pub use help::{SESSION, UNKNOWN, told};
+pub use help::{SESSION, UNKNOWN, is_unknown, told};
 pub use own::{Asked, Colour};
 pub use program::{Outcome, run};
-pub use progress::{Gauge, Share};
+pub use progress::{Gauge, Share, begins_step};

@@ -2,7 +2,7 @@
 
 ghost use Rattle.std.specs.Prelude.{◌≡◌, ◌+◌, ◌-◌, ◌^◌, ◌%◌, ◌&&◌, min, max, nat_eq, nat_lt};
 ghost use Rattle.ccsl_show_top.specs.Telling.{is_time, told_at, size_before, made_with};
-ghost use Rattle.ccsl_show_top.specs.Telling.{read_in_pass, percent_of, seconds_left};
+ghost use Rattle.ccsl_show_top.specs.Telling.{begins_step, read_in_pass, percent_of, seconds_left};
 
 /// How many seconds stand between two lines.
 const APART: u64 = 2;
@@ -39,6 +39,16 @@ fn share_of(done: u64, whole: u64, pace: u64, seconds: u64) -> Share
     Share {
         percent: done.saturating_mul(100) / whole,
         left: (whole - done).saturating_mul(seconds) / pace.max(1),
+    }
+}
+
+/// Whether what is written of a trace begins a step: a step is written at once, and begins with its time.
+pub fn begins_step(bytes: &[u8]) -> bool
+    ensures { result ≡ begins_step bytes.now }
+{
+    match bytes {
+        [first, ..] => *first == b'#',
+        [] => false,
     }
 }
 
