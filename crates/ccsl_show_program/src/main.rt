@@ -4,10 +4,16 @@
 use ccsl_base::CommandWord;
 use ccsl_edge::Slot;
 use ccsl_files::{FileWorld, NoAnswer, command_words, random_keys};
-use ccsl_follow::Stop;
 use ccsl_pool::NoGate;
 use ccsl_show::Again;
-use ccsl_show_top::{Asked, Colour, Heard, Listen, Outcome, SESSION, run, told};
+use ccsl_show_top::files::{
+    FILE_KEYS, Found, Identity, are_one, command_of, folder_of, is_read_again, is_session,
+    is_written, steps_of, value_of,
+};
+use ccsl_show_top::{
+    Asked, Colour, Gauge, Heard, Listen, Outcome, SESSION, Share, begins_step, is_unknown, run,
+    told,
+};
 use std::io::{IsTerminal, Read};
 use std::os::unix::fs::MetadataExt;
 use std::process::ExitCode;
@@ -20,52 +26,30 @@ use std::{env, fs};
 struct Progress<'a> {
     rt: &'a HostRuntime,
     start: Option<Instant>,
-    // how many bytes the trace has, and how many were read, once or once more
-    size: u64,
-    read: u64,
-    // how many steps were asked for, and how many were made
-    asked: u64,
-    made: u64,
-    // after how many seconds it spoke last
-    spoke: u64,
+    gauge: Gauge,
     is_session: bool,
 }
-
-/// What a session answers to a line that it does not know.
-const UNKNOWN: &[u8] = b"unknown\n";
-
-/// How many steps are made before the clock is looked at again.
-const STEPS_A_LOOK: u64 = 256;
 
 impl Progress<'_> {
     // How many seconds are gone, where it is time to speak.
     fn due(&mut self) -> Option<u64> {
         let gone = self.start?.elapsed(self.rt).ok()?;
         let seconds = gone.as_secs();
-        if seconds < self.spoke.saturating_add(2) {
-            return None;
-        }
-        self.spoke = seconds;
-        Some(seconds)
+        self.gauge.is_due(seconds).then_some(seconds)
     }
 
     fn say_read(&self, seconds: u64) {
-        let size = self.size.max(1);
-        let (read, again) = if self.read > size {
-            (self.read - size, " once more")
+        let Share { percent, left } = self.gauge.share_read(seconds);
+        let again = if self.gauge.is_again() {
+            " once more"
         } else {
-            (self.read, "")
+            ""
         };
-        let read = read.min(size);
-        let percent = read.saturating_mul(100) / size;
-        let left = (size - read).saturating_mul(seconds) / self.read.max(1);
         let _ = eprintln!(self.rt; "ccsl-show: {percent}% read{again}, about {left} s to go");
     }
 
     fn say_made(&self, seconds: u64) {
-        let made = self.made.min(self.asked);
-        let percent = made.saturating_mul(100) / self.asked.max(1);
-        let left = (self.asked - made).saturating_mul(seconds) / made.max(1);
+        let Share { percent, left } = self.gauge.share_made(seconds);
         let _ = eprintln!(self.rt; "ccsl-show: {percent}% of the steps made, about {left} s to go");
     }
 }
@@ -75,26 +59,18 @@ impl Listen for Progress<'_> {
         if slot != Slot::Trace {
             return;
         }
-        self.read = self.read.saturating_add(count as u64);
+        self.gauge.hear_read(count);
         if let Some(seconds) = self.due() {
             self.say_read(seconds);
         }
     }
 
-    // A step is written at once, and begins with its time. So is an answer of a session.
     fn wrote(&mut self, slot: Slot, bytes: &[u8]) {
-        if self.is_session && slot == Slot::Report && bytes == UNKNOWN {
+        if self.is_session && is_unknown(slot, bytes) {
             put_lines(self.rt);
         }
-        if slot != Slot::TraceOut {
-            return;
-        }
-        self.size = self.size.saturating_add(bytes.len() as u64);
-        if bytes.first() != Some(&b'#') {
-            return;
-        }
-        self.made = self.made.saturating_add(1);
-        if self.made % STEPS_A_LOOK == 0
+        if slot == Slot::TraceOut
+            && self.gauge.hear_written(bytes.len(), begins_step(bytes))
             && let Some(seconds) = self.due()
         {
             self.say_made(seconds);
@@ -113,40 +89,32 @@ fn asked_words(rt: &HostRuntime) -> Result<Asked, NoAnswer> {
     Ok(asked)
 }
 
-// The value of a key.
-fn value_of<'a>(words: &'a [CommandWord], key: &str) -> Option<&'a str> {
-    for word in words {
-        if let Some((name, value)) = word.as_str().split_once('=')
-            && name == key
-        {
-            return Some(value);
-        }
+// What a file's name leads to.
+fn found_of(rt: &HostRuntime, name: &str) -> Found {
+    match fs::metadata(rt, name) {
+        Ok(found) if found.is_file() => Found::File,
+        Ok(_) => Found::Other,
+        Err(_) => Found::Nothing,
     }
-    None
 }
 
-// Whether a file can be read once more: one that lies on a disk, and is not what stands at standard input.
+// Whether the file of a key can be read once more.
 fn is_again(rt: &HostRuntime, words: &[CommandWord], key: &str) -> bool {
     match value_of(words, key) {
-        Some("/dev/stdin") => false,
-        Some(name) => match fs::metadata(rt, name) {
-            Ok(found) => found.is_file(),
-            // it is still to be written
-            Err(_) => true,
-        },
+        Some(name) => is_read_again(name, found_of(rt, name)),
         None => true,
     }
 }
 
 // Says on standard error why not all was done.
 fn complain(rt: &HostRuntime, words: &[CommandWord], outcome: Outcome) {
-    if outcome.status == 5 {
+    if outcome.is_failed() {
         put_failure(rt, words);
     }
-    if outcome.status == 6 || outcome.shown == Err(Stop::Memory) {
+    if outcome.wants_memory() {
         let _ = eprintln!(rt; "ccsl-show: no memory");
     }
-    if outcome.shown == Err(Stop::Fault) {
+    if outcome.is_cut() {
         let _ = eprintln!(rt; "ccsl-show: a file failed, or is another than before");
     }
 }
@@ -162,15 +130,20 @@ fn size_of_file(rt: &HostRuntime, words: &[CommandWord], key: &str) -> u64 {
     }
 }
 
+// What the system knows a file by, where it is there.
+fn identity_of(rt: &HostRuntime, name: &str) -> Option<Identity> {
+    match fs::metadata(rt, name) {
+        Ok(found) => Some(Identity {
+            device: found.dev(),
+            number: found.ino(),
+        }),
+        Err(_) => None,
+    }
+}
+
 // Whether two names lead to one file.
 fn is_one_file(rt: &HostRuntime, one: &str, other: &str) -> bool {
-    if one == other {
-        return true;
-    }
-    match (fs::metadata(rt, one), fs::metadata(rt, other)) {
-        (Ok(a), Ok(b)) => a.dev() == b.dev() && a.ino() == b.ino(),
-        _ => false,
-    }
+    are_one(one, other, identity_of(rt, one), identity_of(rt, other))
 }
 
 // Whether a file that is to be written beside the answer is one of the others.
@@ -178,7 +151,7 @@ fn is_taken(rt: &HostRuntime, words: &[CommandWord], file: Option<&str>) -> bool
     let Some(file) = file else {
         return false;
     };
-    for key in ["spec", "trace", "cert"] {
+    for key in FILE_KEYS {
         if let Some(name) = value_of(words, key)
             && is_one_file(rt, name, file)
         {
@@ -186,15 +159,6 @@ fn is_taken(rt: &HostRuntime, words: &[CommandWord], file: Option<&str>) -> bool
         }
     }
     false
-}
-
-// Whether a command writes the file of a key.
-fn is_written(command: &str, key: &str) -> bool {
-    match command {
-        "simulate" => key != "spec",
-        "explain" => key == "cert",
-        _ => false,
-    }
 }
 
 // Says what the system says of a file that is to be read, if it says something.
@@ -213,15 +177,6 @@ fn put_unread(rt: &HostRuntime, key: &str, name: &str) -> bool {
             let _ = eprintln!(rt; "ccsl-show: {key}={name}: reading failed: {error}");
             true
         }
-    }
-}
-
-// The folder that a file is to lie in.
-fn folder_of(name: &str) -> &str {
-    match name.rsplit_once('/') {
-        Some(("", _)) => "/",
-        Some((folder, _)) => folder,
-        None => ".",
     }
 }
 
@@ -245,12 +200,9 @@ fn put_unwritten(rt: &HostRuntime, key: &str, name: &str) -> bool {
 
 // Says which file failed, where the system still says so.
 fn put_failure(rt: &HostRuntime, words: &[CommandWord]) {
-    let command = match words.first() {
-        Some(word) => word.as_str(),
-        None => "",
-    };
+    let command = command_of(words);
     let mut is_said = false;
-    for key in ["spec", "trace", "cert"] {
+    for key in FILE_KEYS {
         if let Some(name) = value_of(words, key) {
             let says = if is_written(command, key) {
                 put_unwritten(rt, key, name)
@@ -270,13 +222,6 @@ fn put_lines(rt: &HostRuntime) {
     let _ = eprintln!(rt; "{SESSION}");
 }
 
-fn is_session(words: &[CommandWord]) -> bool {
-    match words.first() {
-        Some(first) => first.as_str() == "session",
-        None => false,
-    }
-}
-
 // What is told before an answer: in a session at a terminal what it takes.
 fn greet(rt: &HostRuntime, words: &[CommandWord]) {
     if is_session(words) && rt.stdin().is_terminal() {
@@ -292,50 +237,23 @@ fn again_of(rt: &HostRuntime, words: &[CommandWord]) -> Again {
     }
 }
 
-// How many steps the words ask for.
-fn steps_of(words: &[CommandWord]) -> u64 {
-    match value_of(words, "steps") {
-        Some(text) => text.parse::<u64>().unwrap_or(0),
-        None => 0,
-    }
-}
-
-// How many bytes of a trace are there to be read. What a simulation writes is none yet.
-fn size_of_trace(rt: &HostRuntime, words: &[CommandWord]) -> u64 {
-    if steps_of(words) > 0 {
-        0
-    } else {
-        size_of_file(rt, words, "trace")
-    }
-}
-
 // What says how far the reading of the trace is, or the simulation.
 fn listener<'a>(rt: &'a HostRuntime, words: &[CommandWord]) -> Progress<'a> {
     Progress {
         rt,
         start: Instant::now(rt).ok(),
-        size: size_of_trace(rt, words),
-        read: 0,
-        asked: steps_of(words),
-        made: 0,
-        spoke: 0,
+        gauge: Gauge::new(size_of_file(rt, words, "trace"), steps_of(words)),
         is_session: is_session(words),
     }
 }
 
 // Whether colours are shown: by the words, by NO_COLOR, and where standard output is a terminal.
 fn is_coloured(rt: &HostRuntime, colour: Colour) -> bool {
-    match colour {
-        Colour::Always => true,
-        Colour::Never => false,
-        Colour::Terminal => {
-            let is_refused = match env::var(rt, "NO_COLOR") {
-                Ok(text) => !text.is_empty(),
-                Err(_) => false,
-            };
-            !is_refused && rt.stdout().is_terminal()
-        }
-    }
+    let is_refused = match env::var(rt, "NO_COLOR") {
+        Ok(text) => !text.is_empty(),
+        Err(_) => false,
+    };
+    colour.is_shown(is_refused, rt.stdout().is_terminal())
 }
 
 // The status where the words ask for no answer.
