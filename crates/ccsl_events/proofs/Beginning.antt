@@ -1,5 +1,5 @@
 -- What is kept for the variables that are read suits the plan of the events.
-use Rattle.std.proofs.Common.{◌≡◌, ℕ, zero, suc, ◌<◌, ◌≤◌, List, [], ◌∷◌, length, map, true, false, Option, Some, None, nat_lt, bytes_eq, slice_get}
+use Rattle.std.proofs.Common.{◌≡◌, inl, ℕ, zero, suc, ◌<◌, ◌≤◌, List, [], ◌∷◌, length, map, true, false, Option, Some, None, nat_lt, bytes_eq, slice_get}
 use Rattle.std.proofs.Common.{slice_index_or, ◌+◌, lt-ltb, refl, sym, ap, subst, ◌∙◌, ⊎_elim, arith, eq-eqb}
 use Rattle.std.specs.Prelude.{◌==◌}
 use Rattle.std.specs.List.{list_any, position_or_len}
@@ -22,7 +22,7 @@ use Rattle.ccsl_events.specs.declared.codes.Entry.TheVariants.{Undeclared, Unuse
 use Rattle.ccsl_events.specs.declared.values.Values.{Values}
 use Rattle.ccsl_events.specs.Dump.{Variable}
 use Rattle.ccsl_events.specs.Places.{entry_in, entry_at, entry_of}
-use Rattle.ccsl_events.specs.Keeping.{AreUsers, held_at, chain, has_code, reads, Knows, SizeIn, Keeps}
+use Rattle.ccsl_events.specs.Keeping.{AreUsers, AreSole, held_at, chain, has_code, reads, Knows, SizeIn, Keeps}
 use Rattle.ccsl_events.specs.Binding.{variable_of}
 use Rattle.ccsl_events.specs.Begun.{plan_of}
 use Rattle.ccsl_events.specs.Links.{first_in, has_number, alone, IsLinked, are_coded}
@@ -168,8 +168,8 @@ module _ (codes : List (List ℕ)) (ss : List Source) (hs : List Held) (es : Lis
   pub keeps-begun : (v : Values) → are_distinct codes ≡ true → are_coded (length codes) ss ≡ true → IsLinked (length codes) ss hs es
       → map held v.signals.items ≡ hs →
       v.watches ≡ ws → length ws.items ≤ MAX_CLOCKS → v.none ≡ [] → AreUsers ws.items v.users.items → v.codes ≡ record { names = codes; entries = es } →
-      Keeps (plan_of codes ss ws gaps) (λ n. no_view) v
-  keeps-begun v distinct coded linked is watches few none users tables = record {
+      AreSole ws.items v.users.items v.sole_names.items → v.names ≡ [] → Keeps (plan_of codes ss ws gaps) (λ n. no_view) v
+  keeps-begun v distinct coded linked is watches few none users tables sole unnamed = record {
     watches = ap (λ w. w.items) watches;
     few = few;
     none = none;
@@ -182,7 +182,9 @@ module _ (codes : List (List ℕ)) (ss : List Source) (hs : List Held) (es : Lis
         subst (λ o. SizeIn o (held_at (map held v.signals.items) n).size) (sym (variable-at codes ss n))
         (subst (λ size. SizeIn (variable_in codes (slice_get ss n)) size) (sym (ap (λ h. h.size) (at n))) (size-in codes (slice_get ss n)));
     seen = λ n. ap (λ h. h.view) (at n) ∙ view-in (slice_get ss n);
-    quiet = λ n e. record { same = refl; unheard = refl };
+    quiet = λ n e. inl (record { same = refl; unheard = refl });
+    sole = sole;
+    recorded = λ name e. absurd (let no : ticks_in name v.names ≡ false = ap (ticks_in name) unnamed in cc (no, e));
     flags = λ n e. absurd (let no : (held_at (map held v.signals.items) n).touched ≡ false = ap (λ h. h.touched) (at n) ∙ touched-in (slice_get ss n) in cc (
       no,
       e,

@@ -1,18 +1,20 @@
 -- What is kept goes on suiting its plan.
-use Rattle.std.proofs.Common.{◌≡◌, ℕ, zero, suc, List, [], ◌∷◌, length, map, Bool, true, false, Option, Some, None, slice_get, slice_set, bytes_eq, nat_lt}
-use Rattle.std.proofs.Common.{if◌then◌else◌, refl, sym, ap, subst, ◌∙◌}
+use Rattle.std.proofs.Common.{◌≡◌, ◌⊎◌, inl, inr, ℕ, zero, suc, ◌<◌, List, [], ◌∷◌, length, map, ◌||◌, Bool, true, false, not, Option, Some, None}
+use Rattle.std.proofs.Common.{slice_get, slice_set, bytes_eq, nat_eq, nat_lt, if◌then◌else◌, refl, sym, ap, subst, ◌∙◌, ⊎_elim, arith, eqb-true, eq-eqb, lt-ltb}
 use Rattle.std.proofs.lemmas.List.{length-set}
-use Rattle.ccsl_base.specs.Clocks.{ticks_in}
+use Rattle.std.proofs.lemmas.Bool.{cases_eq, ne_eqb}
+use Rattle.ccsl_base.specs.Clocks.{ticks_in, with_clock}
+use Rattle.ccsl_base.proofs.Sets.{ticks_in-with_same, ticks_in-with_other}
 use Rattle.ccsl_triggers.specs.Views.{View, no_view, with_value, at_rest}
-use Rattle.ccsl_triggers.specs.Held.{Held, held, settle_held, forget_held, IsQuiet}
+use Rattle.ccsl_triggers.specs.Held.{Held, held, set_held, settle_held, forget_held, IsQuiet}
 use Rattle.ccsl_events.specs.declared.codes.Entry.{Entry}
 use Rattle.ccsl_events.specs.declared.codes.Entry.TheVariants.{Undeclared, Unused, Used}
 use Rattle.ccsl_events.specs.declared.values.Values.{Values}
 use Rattle.ccsl_events.specs.Dump.{Variable, Plan, is_declared, heard_by, heard_in}
 use Rattle.ccsl_events.specs.Places.{entry_of}
-use Rattle.ccsl_events.specs.Keeping.{AreUsers, held_at, settle_each, SameTables, Kept, kept, touch_held, set_one, set_chain, chain, is_known, change_kept}
-use Rattle.ccsl_events.specs.Keeping.{forget_kept, has_code, reads, Knows, SizeIn, Keeps}
-use Rattle.ccsl_events.proofs.Settling.{settle_each-at, settle_each-view, settle_each-touched}
+use Rattle.ccsl_events.specs.Keeping.{AreUsers, AreSole, sole_at, IsNamed, IsRecorded, held_at, replaced, settle_each, SameTables, Kept, kept, touch_held, set_one}
+use Rattle.ccsl_events.specs.Keeping.{set_chain, chain, is_known, forget_kept, has_code, reads, Knows, SizeIn, Keeps}
+use Rattle.ccsl_events.proofs.Settling.{held_at-same, held_at-other, settle_each-at, settle_each-view, settle_each-touched}
 use Rattle.ccsl_events.proofs.Chains.{set_one-length, set_chain-at, set_chain-touched, set_chain-flags}
 
 -- variables that are kept as before, but for what is seen of them
@@ -38,9 +40,10 @@ knows-same plan old new same code (Used first) k =
 pub keeps-same : (plan : Plan) (views views' : ℕ → View) (old new : Values) → Keeps plan views old → SameTables old new →
     SameLayout (map held old.signals.items) (map held new.signals.items) →
     ((n : ℕ) → (held_at (map held new.signals.items) n).view ≡ views' n) →
-    ((n : ℕ) → ticks_in n new.touched.items ≡ false → IsQuiet (views' n)) →
+    ((n : ℕ) → ticks_in n new.touched.items ≡ false → IsQuiet (views' n) ⊎ IsNamed new.sole_names.items new.names n) →
+    ((name : ℕ) → ticks_in name new.names ≡ true → IsRecorded new.sole_names.items views' name) →
     ((n : ℕ) → (held_at (map held new.signals.items) n).touched ≡ true → ticks_in n new.touched.items ≡ true) → Keeps plan views' new
-keeps-same plan views views' old new k tables layout seen quiet flags = record {
+keeps-same plan views views' old new k tables layout seen quiet recorded flags = record {
   watches = ap (λ w. w.items) tables.watches ∙ k.watches;
   few = k.few;
   none = tables.none ∙ k.none;
@@ -50,11 +53,44 @@ keeps-same plan views views' old new k tables layout seen quiet flags = record {
   sizes = λ n. subst (λ size. SizeIn (slice_get plan.variables n) size) (sym (layout.sizes n)) (k.sizes n);
   seen = seen;
   quiet = quiet;
+  sole =
+      subst (λ names. AreSole plan.watches new.users.items names.items) (sym tables.sole_names)
+      (subst (λ users. AreSole plan.watches users.items old.sole_names.items) (sym tables.users) k.sole);
+  recorded = recorded;
   flags = flags;
 }
 
 pub tables-both : (a b c : Values) → SameTables a b → SameTables b c → SameTables a c
-tables-both a b c s t = record { codes = t.codes ∙ s.codes; users = t.users ∙ s.users; watches = t.watches ∙ s.watches; none = t.none ∙ s.none }
+tables-both a b c s t = record {
+  codes = t.codes ∙ s.codes;
+  users = t.users ∙ s.users;
+  watches = t.watches ∙ s.watches;
+  none = t.none ∙ s.none;
+  sole_names = t.sole_names ∙ s.sole_names;
+}
+
+-- the name of a variable is among others where it was, and the names stay
+named-too : (old new : Values) (n : ℕ) → SameTables old new → ((name : ℕ) → ticks_in name old.names ≡ true → ticks_in name new.names ≡ true)
+    → IsNamed old.sole_names.items old.names n → IsNamed new.sole_names.items new.names n
+named-too old new n tables more is = record {
+  name = is.name;
+  sole = ap (λ names. sole_at names.items n) tables.sole_names ∙ is.sole;
+  among = more is.name is.among;
+}
+
+quiet-or-named : (old new : Values) (n : ℕ) (v v' : View) → SameTables old new → ((name : ℕ) → ticks_in name old.names ≡ true → ticks_in name new.names ≡ true)
+    → v ≡ v' → IsQuiet v ⊎ IsNamed old.sole_names.items old.names n → IsQuiet v' ⊎ IsNamed new.sole_names.items new.names n
+quiet-or-named old new n v v' tables more e (inl q) = inl (subst IsQuiet e q)
+quiet-or-named old new n v v' tables more e (inr is) = inr (named-too old new n tables more is)
+
+recorded-too : (old new : Values) (views views' : ℕ → View) (name : ℕ) → SameTables old new
+    → ((n : ℕ) → (views n).heard ≡ true → (views' n).heard ≡ true) → IsRecorded old.sole_names.items views name
+    → IsRecorded new.sole_names.items views' name
+recorded-too old new views views' name tables more is = record {
+  variable = is.variable;
+  sole = ap (λ names. sole_at names.items is.variable) tables.sole_names ∙ is.sole;
+  heard = more is.variable is.heard;
+}
 
 -- the end of a time
 
@@ -77,24 +113,25 @@ settle-layout ns hs = record {
     next true h = refl
     next false h = refl
 
-pub keeps-settled : (plan : Plan) (views : ℕ → View) (old new : Values) → Keeps plan views old → SameTables old new →
-    map held new.signals.items ≡ settle_each old.touched.items (map held old.signals.items) → new.touched.items ≡ [] →
+-- Those with some numbers are settled, which are all that changed.
+pub keeps-settled : (plan : Plan) (views : ℕ → View) (old new : Values) (ns : List ℕ) → Keeps plan views old → SameTables old new →
+    map held new.signals.items ≡ settle_each ns (map held old.signals.items) → new.touched.items ≡ [] → new.names ≡ [] →
+    ((n : ℕ) → ticks_in n ns ≡ false → IsQuiet (views n)) →
+    ((n : ℕ) → (held_at (map held old.signals.items) n).touched ≡ true → ticks_in n ns ≡ true) →
     Keeps plan (λ n. at_rest (views n)) new
-keeps-settled plan views old new k tables is none =
+keeps-settled plan views old new ns k tables is none unnamed quiet flags =
     keeps-same plan views (λ n. at_rest (views n)) old new k tables (subst (SameLayout hs) (sym is) (settle-layout ns hs))
     (λ n.
     ap (λ gs. (held_at gs n).view) is
-    ∙ settle_each-view ns hs n (λ e. subst IsQuiet (sym (k.seen n)) (k.quiet n e))
+    ∙ settle_each-view ns hs n (λ e. subst IsQuiet (sym (k.seen n)) (quiet n e))
     ∙ ap at_rest (k.seen n))
-    (λ n e. record { same = refl; unheard = refl })
-    (λ n e. absurd (let no : (held_at (settle_each ns hs) n).touched ≡ false = settle_each-touched ns hs n (k.flags n) in
+    (λ n e. inl (record { same = refl; unheard = refl }))
+    (λ name e. absurd (let no : ticks_in name new.names ≡ false = ap (ticks_in name) unnamed in cc (no, e)))
+    (λ n e. absurd (let no : (held_at (settle_each ns hs) n).touched ≡ false = settle_each-touched ns hs n (flags n) in
     let yes : (held_at (settle_each ns hs) n).touched ≡ true = sym (ap (λ gs. (held_at gs n).touched) is) ∙ e in cc (no, yes)))
   where
     hs : List Held
     hs = map held old.signals.items
-
-    ns : List ℕ
-    ns = old.touched.items
 
 -- a value
 
@@ -141,14 +178,26 @@ unread : (code letters : List ℕ) (dumped : Bool) (o : Option Variable) (v : Vi
 unread code letters dumped None v e = refl
 unread code letters dumped (Some x) v e = rw e refl
 
-keeps-set : (plan : Plan) (views : ℕ → View) (old new : Values) (code letters : List ℕ) (dumped : Bool) (first : ℕ) → Keeps plan views old
-    → SameTables old new →
+-- a record that was heard stays so
+heard-stays : (code letters : List ℕ) (dumped : Bool) (o : Option Variable) (v : View) → v.heard ≡ true → (heard_by code letters dumped o v).heard ≡ true
+heard-stays code letters dumped None v e = e
+heard-stays code letters dumped (Some x) v e = by (bytes_eq x.code code)
+  where
+    by : (b : Bool) → (if b then with_value x.size letters dumped v else v).heard ≡ true
+    by true = ap (λ h. h || not dumped) e
+    by false = e
+
+pub keeps-set : (plan : Plan) (views : ℕ → View) (old new : Values) (code letters : List ℕ) (dumped : Bool) (first : ℕ) → Keeps plan views old
+    → SameTables old new → new.names ≡ old.names →
     kept new ≡ set_chain (length (map held old.signals.items)) (Some first) letters dumped (kept old) →
     ((n : ℕ) → reads plan code n ≡ ticks_in n (chain (length (map held old.signals.items)) (Some first) (map held old.signals.items))) →
     Keeps plan (heard_in plan code letters dumped views) new
-keeps-set plan views old new code letters dumped first k tables is readers =
+keeps-set plan views old new code letters dumped first k tables names is readers =
     keeps-same plan views views' old new k tables (subst (λ s. SameLayout hs s.all) (sym is)
     (set-layout most (Some first) letters dumped (kept old))) seen quiet
+    (λ name e.
+    recorded-too old new views views' name tables (λ n h. heard-stays code letters dumped (slice_get plan.variables n) (views n) h)
+    (k.recorded name (sym (ap (ticks_in name) names) ∙ e)))
     (λ n. subst (λ s. (held_at s.all n).touched ≡ true → ticks_in n s.touched ≡ true) (sym is)
     (set_chain-flags most (Some first) letters dumped (kept old) k.flags n))
   where
@@ -180,7 +229,7 @@ keeps-set plan views old new code letters dumped first k tables is readers =
         (ap (λ h. h.touched) (set_chain-at most (Some first) letters dumped (kept old) n)
         ∙ ap (λ b. (if b then touch_held letters dumped (held_at hs n) else held_at hs n).touched) e)
 
-    quiet : (n : ℕ) → ticks_in n new.touched.items ≡ false → IsQuiet (views' n)
+    quiet : (n : ℕ) → ticks_in n new.touched.items ≡ false → IsQuiet (views' n) ⊎ IsNamed new.sole_names.items new.names n
     quiet n e = by (hears n) refl
       where
         was : (b : Bool) → ticks_in n old.touched.items ≡ b → ticks_in n old.touched.items ≡ false
@@ -188,10 +237,11 @@ keeps-set plan views old new code letters dumped first k tables is readers =
         was true f = absurd (let yes : ticks_in n new.touched.items ≡ true =
             ap (λ s. ticks_in n s.touched) is ∙ set_chain-touched most (Some first) letters dumped (kept old) n f in cc (yes, e))
 
-        by : (b : Bool) → hears n ≡ b → IsQuiet (views' n)
+        by : (b : Bool) → hears n ≡ b → IsQuiet (views' n) ⊎ IsNamed new.sole_names.items new.names n
         by true h = absurd (let yes : ticks_in n new.touched.items ≡ true = touched n h in cc (yes, e))
         by false h =
-            subst IsQuiet (unread code letters dumped (slice_get plan.variables n) (views n) (readers n ∙ h))
+            quiet-or-named old new n (views n) (views' n) tables (λ name f. ap (ticks_in name) names ∙ f)
+            (unread code letters dumped (slice_get plan.variables n) (views n) (readers n ∙ h))
             (k.quiet n (was (ticks_in n old.touched.items) refl))
 
 keeps-alike : (plan : Plan) (views views' : ℕ → View) (v : Values) → Keeps plan views v → ((n : ℕ) → views n ≡ views' n) → Keeps plan views' v
@@ -203,32 +253,151 @@ keeps-alike plan views views' v k same = record {
   codes = k.codes;
   sizes = k.sizes;
   seen = λ n. k.seen n ∙ same n;
-  quiet = λ n e. subst IsQuiet (same n) (k.quiet n e);
+  quiet = λ n e. alike n (k.quiet n e);
+  sole = k.sole;
+  recorded = λ name e. let was = k.recorded name e in record {
+    variable = was.variable;
+    sole = was.sole;
+    heard = sym (ap (λ w. w.heard) (same was.variable)) ∙ was.heard;
+  };
   flags = k.flags;
 }
+  where
+    alike : (n : ℕ) → IsQuiet (views n) ⊎ IsNamed v.sole_names.items v.names n → IsQuiet (views' n) ⊎ IsNamed v.sole_names.items v.names n
+    alike n (inl q) = inl (subst IsQuiet (same n) q)
+    alike n (inr is) = inr is
 
--- where nothing changed, nothing is another value
-keeps-still : (plan : Plan) (views : ℕ → View) (old new : Values) → Keeps plan views old → SameTables old new → kept new ≡ kept old → Keeps plan views new
-keeps-still plan views old new k tables is =
-    keeps-same plan views views old new k tables
-    (subst (λ s. SameLayout (map held old.signals.items) s.all) (sym is) (record { len = refl; sizes = λ n. refl; nexts = λ n. refl }))
-    (λ n. ap (λ s. (held_at s.all n).view) is ∙ k.seen n)
-    (λ n e. k.quiet n (sym (ap (λ s. ticks_in n s.touched) is) ∙ e))
-    (λ n e. ap (λ s. ticks_in n s.touched) is ∙ k.flags n (sym (ap (λ s. (held_at s.all n).touched) is) ∙ e))
+-- a record of a variable for which one name waits
 
--- A CHANGE of a code that is known
-pub keeps-changed : (plan : Plan) (views : ℕ → View) (old new : Values) (known : Entry) (code letters : List ℕ) (dumped recording : Bool) →
-    Keeps plan views old → SameTables old new → kept new ≡ change_kept known letters dumped recording (kept old) →
-    Knows plan (map held old.signals.items) code known → is_known known ≡ true →
-    Keeps plan (if recording then heard_in plan code letters dumped views else views) new
-keeps-changed plan views old new Undeclared code letters dumped recording k tables is knows known = absurd (cc)
-keeps-changed plan views old new Unused code letters dumped true k tables is knows known =
-    keeps-alike plan views (heard_in plan code letters dumped views) new (keeps-still plan views old new k tables is)
-    (λ n. unread code letters dumped (slice_get plan.variables n) (views n) (knows.1 n))
-keeps-changed plan views old new Unused code letters dumped false k tables is knows known = keeps-still plan views old new k tables is
-keeps-changed plan views old new (Used first) code letters dumped true k tables is knows known =
-    keeps-set plan views old new code letters dumped first k tables is knows.1
-keeps-changed plan views old new (Used first) code letters dumped false k tables is knows known = keeps-still plan views old new k tables is
+chain-ends : (most : ℕ) (hs : List Held) (first : Option ℕ) → first ≡ None → chain most first hs ≡ []
+chain-ends zero hs first e = refl
+chain-ends (suc most) hs None e = refl
+chain-ends (suc most) hs (Some n) e = absurd (cc)
+
+-- a variable with no next is the only one of its code
+chain-alone : (len number : ℕ) (hs : List Held) → number < len → len ≡ length hs → (held_at hs number).next ≡ None → chain len (Some number) hs ≡ number ∷ []
+chain-alone zero number hs l e none = absurd (omega (arith, l))
+chain-alone (suc most) number hs l e none =
+    ap (λ b. if b then number ∷ chain most (held_at hs number).next hs else []) (lt-ltb number (length hs) (omega (arith, l, e)))
+    ∙ ap (λ ns. number ∷ ns) (chain-ends most hs (held_at hs number).next none)
+
+replaced-at : (hs : List Held) (number : ℕ) (f : Held → Held) (n : ℕ) → number < length hs →
+    held_at (replaced number f hs) n ≡ (if nat_eq n number then f (held_at hs n) else held_at hs n)
+replaced-at hs number f n l =
+    ⊎_elim
+    (λ (e : n ≡ number).
+    ap (held_at (replaced number f hs)) e ∙ held_at-same hs number f l
+    ∙ sym (ap (λ t. if t then f (held_at hs n) else held_at hs n) (eq-eqb n number e) ∙ ap (λ i. f (held_at hs i)) e))
+    (λ (e : n ≡ number → ⊥).
+    held_at-other hs number n f e ∙ sym (ap (λ t. if t then f (held_at hs n) else held_at hs n) (ne_eqb n number e)))
+    (cases_eq n number)
+
+name-there : (name : ℕ) (set : List ℕ) (x : ℕ) → ticks_in x set ≡ true → ticks_in x (with_clock name set) ≡ true
+name-there name set x h =
+    ⊎_elim
+    (λ (e : x ≡ name). ap (λ y. ticks_in y (with_clock name set)) e ∙ ticks_in-with_same name set)
+    (λ (n : x ≡ name → ⊥). ticks_in-with_other name x set n ∙ h)
+    (cases_eq x name)
+
+pub keeps-record : (plan : Plan) (views : ℕ → View) (old new : Values) (code letters : List ℕ) (number name : ℕ) → Keeps plan views old →
+    SameTables old new → map held new.signals.items ≡ replaced number (set_held letters false) (map held old.signals.items) →
+    new.touched ≡ old.touched → new.names ≡ with_clock name old.names → number < length (map held old.signals.items) →
+    (held_at (map held old.signals.items) number).next ≡ None → sole_at old.sole_names.items number ≡ Some name →
+    ((n : ℕ) → reads plan code n ≡ ticks_in n (chain (length (map held old.signals.items)) (Some number) (map held old.signals.items))) →
+    Keeps plan (heard_in plan code letters false views) new
+keeps-record plan views old new code letters number name k tables is touched names l alone sole readers =
+    keeps-same plan views views' old new k tables layout seen quiet recorded flags
+  where
+    hs : List Held
+    hs = map held old.signals.items
+
+    views' : ℕ → View
+    views' = heard_in plan code letters false views
+
+    at : (n : ℕ) → held_at (map held new.signals.items) n ≡ (if nat_eq n number then set_held letters false (held_at hs n) else held_at hs n)
+    at n = ap (λ gs. held_at gs n) is ∙ replaced-at hs number (set_held letters false) n l
+
+    size : (b : Bool) (h : Held) → (if b then set_held letters false h else h).size ≡ h.size
+    size true h = refl
+    size false h = refl
+
+    next : (b : Bool) (h : Held) → (if b then set_held letters false h else h).next ≡ h.next
+    next true h = refl
+    next false h = refl
+
+    flag : (b : Bool) (h : Held) → (if b then set_held letters false h else h).touched ≡ h.touched
+    flag true h = refl
+    flag false h = refl
+
+    view : (b : Bool) (h : Held) → (if b then set_held letters false h else h).view ≡ (if b then touch_held letters false h else h).view
+    view true h = refl
+    view false h = refl
+
+    layout : SameLayout hs (map held new.signals.items)
+    layout = record {
+      len = ap length is ∙ length-set hs number (set_held letters false (held_at hs number));
+      sizes = λ n. ap (λ h. h.size) (at n) ∙ size (nat_eq n number) (held_at hs n);
+      nexts = λ n. ap (λ h. h.next) (at n) ∙ next (nat_eq n number) (held_at hs n);
+    }
+
+    or-false : (b : Bool) → (b || false) ≡ b
+    or-false true = refl
+    or-false false = refl
+
+    hears : (n : ℕ) → reads plan code n ≡ nat_eq n number
+    hears n = readers n ∙ ap (ticks_in n) (chain-alone (length hs) number hs l refl alone) ∙ or-false (nat_eq n number)
+
+    seen : (n : ℕ) → (held_at (map held new.signals.items) n).view ≡ views' n
+    seen n =
+        ap (λ h. h.view) (at n)
+        ∙ view (nat_eq n number) (held_at hs n)
+        ∙ ap (λ b. (if b then touch_held letters false (held_at hs n) else held_at hs n).view) (sym (hears n))
+        ∙ heard-by code letters false (slice_get plan.variables n) (held_at hs n) (views n) (k.seen n) (k.sizes n)
+
+    sole-too : sole_at new.sole_names.items number ≡ Some name
+    sole-too = ap (λ ns. sole_at ns.items number) tables.sole_names ∙ sole
+
+    there : (x : ℕ) → ticks_in x old.names ≡ true → ticks_in x new.names ≡ true
+    there x h = ap (ticks_in x) names ∙ name-there name old.names x h
+
+    quiet : (n : ℕ) → ticks_in n new.touched.items ≡ false → IsQuiet (views' n) ⊎ IsNamed new.sole_names.items new.names n
+    quiet n e = by (nat_eq n number) refl
+      where
+        by : (b : Bool) → nat_eq n number ≡ b → IsQuiet (views' n) ⊎ IsNamed new.sole_names.items new.names n
+        by true h = inr (record {
+          name = name;
+          sole = ap (sole_at new.sole_names.items) (eqb-true n number h) ∙ sole-too;
+          among = ap (ticks_in name) names ∙ ticks_in-with_same name old.names;
+        })
+        by false h =
+            quiet-or-named old new n (views n) (views' n) tables there
+            (unread code letters false (slice_get plan.variables n) (views n) (hears n ∙ h))
+            (k.quiet n (sym (ap (λ t. ticks_in n t.items) touched) ∙ e))
+
+    or-true : (b : Bool) → (b || true) ≡ true
+    or-true true = refl
+    or-true false = refl
+
+    heard : (views' number).heard ≡ true
+    heard =
+        sym (ap (λ v. v.heard) (seen number))
+        ∙ ap (λ h. h.view.heard) (at number)
+        ∙ ap (λ b. (if b then set_held letters false (held_at hs number) else held_at hs number).view.heard) (eq-eqb number number refl)
+        ∙ or-true (held_at hs number).view.heard
+
+    recorded : (x : ℕ) → ticks_in x new.names ≡ true → IsRecorded new.sole_names.items views' x
+    recorded x e =
+        ⊎_elim
+        (λ (same : x ≡ name). record { variable = number; sole = sole-too ∙ ap (λ y. Some y) (sym same); heard = heard })
+        (λ (other : x ≡ name → ⊥).
+        recorded-too old new views views' x tables (λ n h. heard-stays code letters false (slice_get plan.variables n) (views n) h)
+        (k.recorded x (sym (ap (ticks_in x) names ∙ ticks_in-with_other name x old.names other) ∙ e)))
+        (cases_eq x name)
+
+    flags : (n : ℕ) → (held_at (map held new.signals.items) n).touched ≡ true → ticks_in n new.touched.items ≡ true
+    flags n e =
+        ap (λ t. ticks_in n t.items) touched
+        ∙ k.flags n (sym (ap (λ h. h.touched) (at n) ∙ flag (nat_eq n number) (held_at hs n)) ∙ e)
 
 pub declared : (plan : Plan) (hs : List Held) (code : List ℕ) (known : Entry) → Knows plan hs code known → is_declared plan code ≡ is_known known
 declared plan hs code Undeclared k = k
@@ -247,8 +416,8 @@ forget-length [] = refl
 forget-length (h ∷ hs) = ap suc (forget-length hs)
 
 pub keeps-forgotten : (plan : Plan) (views : ℕ → View) (old new : Values) → Keeps plan views old → SameTables old new → kept new ≡ forget_kept (kept old) →
-    Keeps plan (λ n. no_view) new
-keeps-forgotten plan views old new k tables is =
+    new.names ≡ [] → Keeps plan (λ n. no_view) new
+keeps-forgotten plan views old new k tables is unnamed =
     keeps-same plan views (λ n. no_view) old new k tables
     (subst (λ s. SameLayout hs s.all) (sym is) (record {
       len = forget-length hs;
@@ -257,7 +426,8 @@ keeps-forgotten plan views old new k tables is =
           λ n. ap (λ h. h.next) (forget-at hs n);
     }))
     (λ n. ap (λ s. (held_at s.all n).view) is ∙ ap (λ h. h.view) (forget-at hs n))
-    (λ n e. record { same = refl; unheard = refl })
+    (λ n e. inl (record { same = refl; unheard = refl }))
+    (λ name e. absurd (let no : ticks_in name new.names ≡ false = ap (ticks_in name) unnamed in cc (no, e)))
     (λ n e. ap (λ s. ticks_in n s.touched) is ∙ k.flags n (sym (ap (λ s. (held_at s.all n).touched) is ∙ ap (λ h. h.touched) (forget-at hs n)) ∙ e))
   where
     hs : List Held

@@ -1,15 +1,15 @@
 -- Events that are users of the variables that their triggers read.
-use Rattle.std.proofs.Common.{◌≡◌, ℕ, zero, suc, ◌+◌, ◌<◌, ◌≤◌, List, [], ◌∷◌, ◌++◌, length, Bool, true, false, Some, nat_lt, if◌then◌else◌, slice_get, get_or}
-use Rattle.std.proofs.Common.{refl, sym, ap, ◌∙◌, ⊎_elim, arith, eq-eqb}
+use Rattle.std.proofs.Common.{◌≡◌, ℕ, zero, suc, ◌+◌, ◌<◌, ◌≤◌, List, [], ◌∷◌, ◌++◌, length, Bool, true, false, Option, Some, None, nat_lt, if◌then◌else◌, slice_get, get_or}
+use Rattle.std.proofs.Common.{slice_index_or, refl, sym, ap, subst, ◌∙◌, ⊎_elim, arith, eq-eqb}
 use Rattle.std.specs.Prelude.{◌==◌}
 use Rattle.std.specs.declared.vec.Vec.{Vec}
 use Rattle.std.specs.declared.alloc.Global.{Global}
-use Rattle.std.proofs.lemmas.Bool.{and_parts, cases_lt, ltb-true}
+use Rattle.std.proofs.lemmas.Bool.{and_parts, cases_eq, cases_lt, ltb-true}
 use Rattle.std.proofs.lemmas.Option.{slice_get_within}
 use Rattle.ccsl_base.specs.Clocks.{ticks_in}
 use Rattle.ccsl_triggers.specs.declared.watch.Watch.{Watch}
 use Rattle.ccsl_triggers.specs.Triggers.{variable_of}
-use Rattle.ccsl_events.specs.Keeping.{users_of, AreUsers}
+use Rattle.ccsl_events.specs.Keeping.{users_of, AreUsers, IsSoleOf, sole_at, AreSole}
 use Rattle.ccsl_events.specs.Links.{are_within, with_user}
 use Rattle.ccsl_events.proofs.Chains.{ticks_in-append, ticks_in-last}
 
@@ -69,3 +69,46 @@ first-more count done watches old new w first at len put = record {
 pub first-all : (count done : ℕ) (watches : List Watch) (users : List (Vec ℕ Global)) → AreFirstUsers count done watches users → length watches ≤ done
     → AreUsers watches users
 first-all count done watches users first all = λ name w e. first.each name w (omega (arith, all, slice_get_within watches name w e)) e
+
+-- Names that wait for a record alone.
+
+pub one-name : (names : List ℕ) → 0 < length names → length names < 2 → names ≡ slice_index_or names 0 0 ∷ []
+one-name [] some few = absurd (omega (arith, some))
+one-name (x ∷ []) some few = refl
+one-name (x ∷ y ∷ names) some few = absurd (omega (arith, few))
+
+pub got-users : (users : List (Vec ℕ Global)) (n : ℕ) (v : Vec ℕ Global) → n < length users → v ≡ get_or users n v → users_of users n ≡ v.items
+got-users [] n v l e = absurd (omega (arith, l))
+got-users (u ∷ users) zero v l e = ap (λ (w : Vec ℕ Global). w.items) (sym e)
+got-users (u ∷ users) (suc n) v l e = got-users users n v (omega (arith, l)) e
+
+sole-before : (names : List (Option ℕ)) (last : Option ℕ) (n : ℕ) → n < length names → sole_at (names ++ last ∷ []) n ≡ sole_at names n
+sole-before [] last n l = absurd (omega (arith, l))
+sole-before (x ∷ names) last zero l = refl
+sole-before (x ∷ names) last (suc n) l = sole-before names last n (omega (arith, l))
+
+sole-last : (names : List (Option ℕ)) (last : Option ℕ) (n : ℕ) → n ≡ length names → sole_at (names ++ last ∷ []) n ≡ last
+sole-last [] last zero e = refl
+sole-last [] last (suc n) e = absurd (omega (arith, e))
+sole-last (x ∷ names) last zero e = absurd (omega (arith, e))
+sole-last (x ∷ names) last (suc n) e = sole-last names last n (omega (arith, e))
+
+sole-past : (names : List (Option ℕ)) (last : Option ℕ) (n : ℕ) → length names < n → sole_at (names ++ last ∷ []) n ≡ None
+sole-past [] last zero l = absurd (omega (arith, l))
+sole-past [] last (suc n) l = refl
+sole-past (x ∷ names) last zero l = absurd (omega (arith, l))
+sole-past (x ∷ names) last (suc n) l = sole-past names last n (omega (arith, l))
+
+-- one variable more
+pub sole-more : (watches : List Watch) (users : List (Vec ℕ Global)) (names : List (Option ℕ)) (last : Option ℕ) (n : ℕ) → n ≡ length names →
+    AreSole watches users names → ((name : ℕ) → last ≡ Some name → IsSoleOf watches (users_of users n) n name) → AreSole watches users (names ++ last ∷ [])
+sole-more watches users names last n e sole new m name is =
+    ⊎_elim
+    (λ (before : m < length names). sole m name (sym (sole-before names last m before) ∙ is))
+    (λ (after : length names ≤ m).
+    ⊎_elim
+    (λ (here : m ≡ n).
+    subst (λ i. IsSoleOf watches (users_of users i) i name) (sym here) (new name (sym (sole-last names last m (here ∙ e)) ∙ is)))
+    (λ (past : m ≡ n → ⊥). absurd (let none = sole-past names last m (omega (arith, after, e, past)) in cc (none, is)))
+    (cases_eq m n))
+    (cases_lt m (length names))

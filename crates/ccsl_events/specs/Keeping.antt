@@ -1,5 +1,5 @@
 -- What the variables that are kept leave on the way through a time, without where they lie in memory.
-use Rattle.std.specs.Prelude.{◌≡◌, ℕ, zero, suc, List, [], ◌∷◌, ◌++◌, length, map, Bool, true, false, Option, Some, None, ◌&&◌, if◌then◌else◌, nat_lt}
+use Rattle.std.specs.Prelude.{◌≡◌, ◌⊎◌, ℕ, zero, suc, List, [], ◌∷◌, ◌++◌, length, map, Bool, true, false, Option, Some, None, ◌&&◌, if◌then◌else◌, nat_lt}
 use Rattle.std.specs.Prelude.{slice_get, slice_set, slice_index_or, bytes_eq, ◌≤◌}
 use Rattle.std.specs.declared.vec.Vec.{Vec}
 use Rattle.std.specs.declared.alloc.Global.{Global}
@@ -8,7 +8,7 @@ use Rattle.ccsl_base.specs.Clocks.{ticks_in, with_clock}
 use Rattle.ccsl_triggers.specs.declared.watch.Watch.{Watch}
 use Rattle.ccsl_triggers.specs.Views.{View}
 use Rattle.ccsl_triggers.specs.Held.{Held, held, new_held, set_held, settle_held, forget_held, IsQuiet}
-use Rattle.ccsl_triggers.specs.Triggers.{variable_of}
+use Rattle.ccsl_triggers.specs.Triggers.{variable_of, happens}
 use Rattle.ccsl_events.specs.Dump.{Variable, Plan, is_declared, happens_in}
 use Rattle.ccsl_events.specs.declared.codes.Entry.{Entry}
 use Rattle.ccsl_events.specs.declared.codes.Entry.TheVariants.{Undeclared, Unused, Used}
@@ -43,6 +43,37 @@ with_users [] users watches views set = set
 with_users (number ∷ numbers) users watches views set =
     with_users numbers users watches views (with_names (users_of users number) watches views set)
 
+-- A name waits for a record of a variable alone, and its trigger alone reads the variable, which some names read.
+pub record IsSoleOf (watches : List Watch) (names : List ℕ) (n name : ℕ) : Type 0 where
+  pub watch : Watch
+  pub there : slice_get watches name ≡ Some watch
+  pub reads : variable_of watch.trigger ≡ n
+  pub recorded : (views : ℕ → View) → happens watch views ≡ (views n).heard
+  pub only : names ≡ name ∷ []
+
+-- the name that does so, by the number of a variable
+abbrev pub sole_in : Option (Option ℕ) → Option ℕ
+sole_in None = None
+sole_in (Some name) = name
+
+abbrev pub sole_at : List (Option ℕ) → ℕ → Option ℕ
+sole_at names n = sole_in (slice_get names n)
+
+abbrev pub AreSole : List Watch → List (Vec ℕ Global) → List (Option ℕ) → Type 0
+AreSole watches users names = (n name : ℕ) → sole_at names n ≡ Some name → IsSoleOf watches (users_of users n) n name
+
+-- the name of a variable is among some
+pub record IsNamed (names : List (Option ℕ)) (set : List ℕ) (n : ℕ) : Type 0 where
+  pub name : ℕ
+  pub sole : sole_at names n ≡ Some name
+  pub among : ticks_in name set ≡ true
+
+-- a record of the variable of a name is heard
+pub record IsRecorded (names : List (Option ℕ)) (views : ℕ → View) (name : ℕ) : Type 0 where
+  pub variable : ℕ
+  pub sole : sole_at names variable ≡ Some name
+  pub heard : (views variable).heard ≡ true
+
 -- what is kept under a number; past the last nothing is
 abbrev pub held_at : List Held → ℕ → Held
 held_at hs number = slice_index_or hs number (new_held 0)
@@ -56,12 +87,23 @@ abbrev pub settle_each : List ℕ → List Held → List Held
 settle_each [] hs = hs
 settle_each (number ∷ numbers) hs = settle_each numbers (replaced number settle_held hs)
 
+-- the variable that the trigger of a name reads
+abbrev pub read_by : Option Watch → List ℕ
+read_by None = []
+read_by (Some w) = variable_of w.trigger ∷ []
+
+-- the variables that the triggers of some names read are settled
+abbrev pub settle_read : List ℕ → List Watch → List Held → List Held
+settle_read [] watches hs = hs
+settle_read (name ∷ names) watches hs = settle_read names watches (settle_each (read_by (slice_get watches name)) hs)
+
 -- what else is kept stays
 pub record SameTables (old new : Values) : Type 0 where
   pub codes : new.codes ≡ old.codes
   pub users : new.users ≡ old.users
   pub watches : new.watches ≡ old.watches
   pub none : new.none ≡ old.none
+  pub sole_names : new.sole_names ≡ old.sole_names
 
 -- the variables that are kept, and the numbers of those that changed at the present time
 pub record Kept : Type 0 where
@@ -97,13 +139,6 @@ abbrev pub is_known : Entry → Bool
 is_known Undeclared = false
 is_known Unused = true
 is_known (Used first) = true
-
--- a value of a code of which this is known, where values are recorded
-abbrev pub change_kept : Entry → List ℕ → Bool → Bool → Kept → Kept
-change_kept (Used first) letters dumped true k = set_chain (length k.all) (Some first) letters dumped k
-change_kept (Used first) letters dumped false k = k
-change_kept Unused letters dumped recording k = k
-change_kept Undeclared letters dumped recording k = k
 
 abbrev pub forget_kept : Kept → Kept
 forget_kept k = record k { all = map forget_held k.all }
@@ -143,5 +178,7 @@ pub record Keeps (plan : Plan) (views : ℕ → View) (v : Values) : Type 0 wher
   pub codes : (code : List ℕ) → Knows plan (map held v.signals.items) code (entry_of v.codes code)
   pub sizes : (n : ℕ) → SizeIn (slice_get plan.variables n) (held_at (map held v.signals.items) n).size
   pub seen : (n : ℕ) → (held_at (map held v.signals.items) n).view ≡ views n
-  pub quiet : (n : ℕ) → ticks_in n v.touched.items ≡ false → IsQuiet (views n)
+  pub quiet : (n : ℕ) → ticks_in n v.touched.items ≡ false → IsQuiet (views n) ⊎ IsNamed v.sole_names.items v.names n
+  pub sole : AreSole plan.watches v.users.items v.sole_names.items
+  pub recorded : (name : ℕ) → ticks_in name v.names ≡ true → IsRecorded v.sole_names.items views name
   pub flags : (n : ℕ) → (held_at (map held v.signals.items) n).touched ≡ true → ticks_in n v.touched.items ≡ true

@@ -12,7 +12,7 @@ ghost use Rattle.ccsl_scopes.specs.Codes.{are_declared};
 use crate::binder::{Binder, Source};
 use crate::body::{Body, Gaps};
 use crate::codes::Codes;
-use crate::links::{Links, link, users};
+use crate::links::{Links, link, sole_names, users};
 use crate::values::Values;
 use ccsl_base::{ClockSet, HashKeys, MAX_CLOCKS, Memory, Names};
 use ccsl_event_file::{Condition, Event, EventFault, Located, Trigger as Wanted};
@@ -90,9 +90,11 @@ fn body(
 {
     codes.are_distinct();
     let Links { signals, entries } = link(alloc, sources, codes.len())?;
+    let users = users(alloc, watches.as_slice(), sources.len())?;
     let values = Values {
         codes: Codes::new(alloc, codes, entries)?,
-        users: users(alloc, watches.as_slice(), sources.len())?,
+        sole_names: sole_names(alloc, users.as_slice(), watches.as_slice())?,
+        users,
         signals,
         watches,
         touched: Vec::with_capacity(alloc, sources.len())?,

@@ -1,17 +1,18 @@
 //! The tokens of a dump's body.
 
-ghost use Rattle.std.specs.Prelude.{◌≡◌, ◌⊎◌, ◌≤◌, ◌<◌, ◌+◌, ◌^◌, ℕ, List, [], ◌∷◌, length, take, drop, true, IfOk};
+ghost use Rattle.std.specs.Prelude.{◌≡◌, ◌⊎◌, ◌≤◌, ◌<◌, ◌+◌, ◌^◌, ℕ, List, [], ◌∷◌, length, take, drop, true, false, nat_lt, IfOk, IfErr};
 ghost use Rattle.ccsl_vcd_lex.specs.Tokens.{token};
 ghost use Rattle.ccsl_vcd.specs.Words.{is_scalar, dump};
 ghost use Rattle.ccsl_events.specs.Keeping.{Keeps};
 ghost use Rattle.ccsl_events.specs.Dump.{Plan, Place, begin, remark, code_of, code_skipped, goes, changed, passed, time_says, block_says, gap_says, end_says, word_says, token_says, may_end};
 ghost use Rattle.ccsl_events.specs.Standing.{are_skipped, counted, Stands, Answers};
+ghost use Rattle.ccsl_events.specs.Times.{IsTime};
 ghost use Rattle.ccsl_events.specs.Run.{IsOpen, Runs, Takes};
 ghost use Rattle.ccsl_events.specs.Meant.{meant};
 
 use crate::codes::Entry;
 use crate::output::FULL;
-use crate::present::{Present, digits_at_front};
+use crate::present::{Digits, Present, digits_at_front};
 use crate::values::Values;
 use crate::word::{Word, are_letters, is_letter, is_text, word_of};
 use ccsl_base::{MAX_TOKEN_BYTES, Memory};
@@ -105,20 +106,50 @@ impl Body {
         Ok(())
     }
 
+    // Whether a time is later than the present one. An earlier one is refused.
     #[inline(always)]
-    fn time(&mut self, at: u64, next: Present, out: &mut Vec<u8>) -> Result<(), VcdFault>
-        ensures { (plan : Plan) (p : Place) → Stands plan p self.old →
-            Answers plan p.written (time_says plan p at next)
-            result self.new out.old.items out.new.items }
+    fn is_later(&self, at: u64, time: u64) -> Result<bool, VcdFault>
+        ensures later { IfOk result (λ is_later. (nat_lt time self.now.present ≡ false) ×
+            (is_later ≡ nat_lt self.now.present time)) }
+        ensures back { IfErr result (λ f. (nat_lt time self.now.present ≡ true) ×
+            (f ≡ VcdFault.TimeBack at self.now.present time)) }
     {
         let present = self.present.time();
-        let time = next.time();
         if time < present {
             return Err(VcdFault::TimeBack { at, present, time });
         }
-        if time > present {
+        Ok(time > present)
+    }
+
+    fn time(&mut self, at: u64, time: u64, out: &mut Vec<u8>) -> Result<(), VcdFault>
+        ensures { (plan : Plan) (p : Place) → Stands plan p self.old →
+            Answers plan p.written (time_says plan p at time)
+            result self.new out.old.items out.new.items }
+    {
+        if self.is_later(at, time)? {
             self.settle(out)?;
-            self.present = next;
+            self.present = Present::new(time);
+        }
+        Ok(())
+    }
+
+    // The same for a time whose digits are the first of some bytes.
+    #[inline(always)]
+    fn front_time(
+        &mut self,
+        at: u64,
+        digits: Digits,
+        bytes: &[u8],
+        out: &mut Vec<u8>,
+    ) -> Result<(), VcdFault>
+        requires { IsTime digits.count digits.time bytes.now }
+        ensures { (plan : Plan) (p : Place) → Stands plan p self.old →
+            Answers plan p.written (time_says plan p at digits.time)
+            result self.new out.old.items out.new.items }
+    {
+        if self.is_later(at, digits.time)? {
+            self.settle(out)?;
+            self.present.set_front(digits, bytes);
         }
         Ok(())
     }
@@ -206,7 +237,7 @@ impl Body {
             result self.new out.old.items out.new.items }
     {
         match word {
-            Word::Time(time) => self.time(at, Present::new(time), out),
+            Word::Time(time) => self.time(at, time, out),
             Word::Scalar => match text {
                 [letter, code @ ..] => self.scalar(at, *letter, code),
                 [] => Err(VcdFault::BadChange { at }),
@@ -296,7 +327,7 @@ impl Body {
         let Some(digits) = digits_at_front(bytes) else {
             return Ok(0);
         };
-        self.time(at, Present::of_front(digits, bytes), out)?;
+        self.front_time(at, digits, bytes, out)?;
         Ok(digits.count + 2)
     }
 
@@ -371,7 +402,7 @@ impl Body {
     // Takes whatever stands at the front of some bytes: a byte of white space, or a token and the white space behind it. It
     // answers how many bytes that are, and none where no token ends there.
     #[inline(never)]
-    fn token(&mut self, at: u64, bytes: &[u8], out: &mut Vec<u8>) -> Result<usize, VcdFault>
+    fn whole_token(&mut self, at: u64, bytes: &[u8], out: &mut Vec<u8>) -> Result<usize, VcdFault>
         ensures within { IfOk result (λ taken. taken ≤ length bytes.now) }
         ensures takes { (plan : Plan) (p : Place) → Stands plan p self.old →
             Takes plan p at bytes.now result self.new out.old.items out.new.items }
@@ -388,6 +419,17 @@ impl Body {
             self.hear(at, &bytes[..end], out)?;
         }
         Ok(end + 1)
+    }
+
+    // The same. The place of its answer is made where this is called, and not for each frequent token.
+    #[inline(always)]
+    fn token(&mut self, at: u64, bytes: &[u8], out: &mut Vec<u8>) -> Result<usize, VcdFault>
+        ensures within { IfOk result (λ taken. taken ≤ length bytes.now) }
+        ensures takes { (plan : Plan) (p : Place) → Stands plan p self.old →
+            Takes plan p at bytes.now result self.new out.old.items out.new.items }
+        ensures ends { IfOk result (λ taken. taken ≡ 0 → IsOpen bytes.now) }
+    {
+        self.whole_token(at, bytes, out)
     }
 
     #[inline(always)]

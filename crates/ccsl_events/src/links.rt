@@ -1,9 +1,9 @@
 //! What is kept for the variables that are read.
 
-ghost use Rattle.std.specs.Prelude.{◌≡◌, ◌≤◌, ◌<◌, ℕ, List, [], ◌∷◌, ◌++◌, length, map, true, IfOk, OnOk};
+ghost use Rattle.std.specs.Prelude.{◌≡◌, ◌≤◌, ◌<◌, ℕ, List, [], ◌∷◌, ◌++◌, length, map, true, IfOk, IfSome, OnOk};
 ghost use Rattle.ccsl_triggers.specs.Held.{held};
 ghost use Rattle.ccsl_events.specs.declared.binder.Source.{Source};
-ghost use Rattle.ccsl_events.specs.Keeping.{users_of, AreUsers};
+ghost use Rattle.ccsl_events.specs.Keeping.{users_of, AreUsers, IsSoleOf, AreSole};
 ghost use Rattle.ccsl_events.specs.Links.{first_of, IsLinked, are_coded, are_within, with_user};
 
 use crate::binder::Source;
@@ -91,6 +91,34 @@ fn put_user(users: &mut [Vec<u32>], number: usize, name: u32) -> Result<(), Memo
     let names = &mut users[number];
     names.push(name)?;
     Ok(())
+}
+
+// The name that waits for a record of a variable, of the names whose triggers read it, where it is the only one.
+fn sole_name(names: &[u32], number: usize, watches: &[Watch]) -> Option<u32>
+    ensures { IfSome result (λ name. IsSoleOf watches.now names.now number name) }
+{
+    let [name] = names else {
+        return None;
+    };
+    match watches.get(*name as usize) {
+        Some(watch) if watch.is_record_of(number) => Some(*name),
+        _ => None,
+    }
+}
+
+/// These names by the numbers of the variables.
+pub(crate) fn sole_names(
+    alloc: Global,
+    users: &[Vec<u32>],
+    watches: &[Watch],
+) -> Result<Vec<Option<u32>>, Memory>
+    ensures { IfOk result (λ names. AreSole watches.now users.now names.items) }
+{
+    let mut names = Vec::with_capacity(alloc, users.len())?;
+    for number in 0..users.len() {
+        names.push(sole_name(users[number].as_slice(), number, watches))?;
+    }
+    Ok(names)
 }
 
 /// The names of the events by the variables that their triggers read, of which there are so many.

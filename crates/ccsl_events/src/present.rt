@@ -61,19 +61,26 @@ impl Present {
         Present { time, line }
     }
 
-    /// A time whose digits are the first of some bytes. They are its line's where no zero stands in front.
+    // It is a call, so that a time whose digits are the line's makes no other one.
+    #[inline(never)]
+    fn set(&mut self, time: u64)
+        ensures { self.new ≡ time }
+    {
+        *self = Present::new(time);
+    }
+
+    /// Becomes a time whose digits are the first of some bytes. They are its line's where no zero stands in front.
     #[inline(always)]
-    pub(crate) fn of_front(digits: Digits, bytes: &[u8]) -> Present
+    pub(crate) fn set_front(&mut self, digits: Digits, bytes: &[u8])
         requires { IsTime digits.count digits.time bytes.now }
-        ensures { result ≡ digits.time }
+        ensures { self.new ≡ digits.time }
     {
         if bytes.len() < COPIED || (bytes[0] == b'0' && digits.count != 1) {
-            return Present::new(digits.time);
+            self.set(digits.time);
+            return;
         }
-        Present {
-            time: digits.time,
-            line: TimeLine::of_front(bytes, digits.count),
-        }
+        self.time = digits.time;
+        self.line.set_front(bytes, digits.count);
     }
 
     #[inline(always)]

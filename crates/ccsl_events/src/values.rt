@@ -1,11 +1,11 @@
 //! The variables that triggers read, by the changes of a dump.
 
-ghost use Rattle.std.specs.Prelude.{◌≡◌, ◌<◌, ◌-◌, ◌⊎◌, ℕ, List, IfErr, false, true, if◌then◌else◌, ◌++◌, [], Some, OnOk, IfOk, length, map};
+ghost use Rattle.std.specs.Prelude.{◌≡◌, ◌<◌, ◌-◌, ◌⊎◌, ℕ, List, IfErr, false, true, if◌then◌else◌, ◌++◌, [], Some, OnOk, IfOk, length, map, slice_get};
 ghost use Rattle.ccsl_triggers.specs.Held.{held, settle_held, forget_held};
 ghost use Rattle.ccsl_triggers.specs.Views.{View, no_view, at_rest};
 ghost use Rattle.ccsl_events.specs.Dump.{Plan, is_declared, heard_in, row_of, has_row};
 ghost use Rattle.ccsl_triggers.specs.Triggers.{view_at};
-ghost use Rattle.ccsl_events.specs.Keeping.{fires, with_names, users_of, with_users, replaced, held_at, settle_each, kept, set_one, set_chain, is_known, SameTables, Knows, Keeps};
+ghost use Rattle.ccsl_events.specs.Keeping.{fires, with_names, users_of, with_users, sole_at, read_by, settle_read, replaced, held_at, settle_each, kept, set_one, set_chain, is_known, SameTables, Knows, Keeps};
 
 use crate::codes::{Codes, Entry};
 use crate::present::Present;
@@ -22,7 +22,9 @@ pub(crate) struct Values {
     pub watches: Vec<Watch>,
     /// the variables that changed at the present time
     pub touched: Vec<usize>,
-    /// the names that happened at the last time that is over, and no names
+    /// by a variable's number the name that waits for a record of it alone, where no other trigger reads it
+    pub sole_names: Vec<Option<u32>>,
+    /// of these the names whose records were heard at the present time, and no names
     pub names: ClockSet,
     pub none: ClockSet,
 }
@@ -36,6 +38,7 @@ impl Drop for Values {
             users: _users,
             watches: _watches,
             touched: _touched,
+            sole_names: _sole_names,
             names: _names,
             none: _none,
         } = self;
@@ -66,6 +69,17 @@ fn put_names_of(users: &[u32], watches: &[Watch], signals: &[Signal], names: &mu
         if fires(*name, watches, signals) {
             names.insert(*name);
         }
+    }
+}
+
+// The name that waits for a record of a variable alone.
+#[inline(always)]
+fn sole_at(names: &[Option<u32>], number: usize) -> Option<u32>
+    ensures { result ≡ sole_at names.now number }
+{
+    match names.get(number) {
+        Some(name) => *name,
+        None => None,
     }
 }
 
@@ -128,6 +142,48 @@ fn settle_all(numbers: &[usize], signals: &mut [Signal]) -> Result<(), Memory>
     Ok(())
 }
 
+// Settles the variable that the trigger of a name reads.
+#[inline(always)]
+fn settle_read(name: u32, watches: &[Watch], signals: &mut [Signal]) -> Result<(), Memory>
+    ensures { OnOk result (map held signals.new ≡
+        settle_each (read_by (slice_get watches.now name)) (map held signals.old)) }
+{
+    match watches.get(name as usize) {
+        Some(watch) => settle_one(watch.trigger.signal(), signals),
+        None => Ok(()),
+    }
+}
+
+// Settles the variables that the triggers of these names read.
+#[inline(always)]
+fn settle_read_by(names: &ClockSet, watches: &[Watch], signals: &mut [Signal]) -> Result<(), Memory>
+    ensures { OnOk result (map held signals.new ≡
+        settle_read names.now watches.now (map held signals.old)) }
+{
+    for name in names.members() {
+        settle_read(name, watches, signals)?;
+    }
+    Ok(())
+}
+
+// The same, if any of the names was known before the variables that changed were looked at.
+#[inline(always)]
+fn settle_known(
+    is_any_known: bool,
+    names: &ClockSet,
+    watches: &[Watch],
+    signals: &mut [Signal],
+) -> Result<(), Memory>
+    ensures { OnOk result (map held signals.new ≡
+        (if is_any_known then settle_read names.now watches.now (map held signals.old)
+        else map held signals.old)) }
+{
+    if !is_any_known {
+        return Ok(());
+    }
+    settle_read_by(names, watches, signals)
+}
+
 impl Values {
     // A value of one variable. It answers the next one of the same code.
     #[inline(always)]
@@ -142,6 +198,7 @@ impl Values {
             set_one number letters.now is_dumped (kept self.old)) }
         ensures next { IfOk result (λ next. next ≡
             (held_at (map held self.old.signals.items) number).next) }
+        ensures names { OnOk result (self.new.names ≡ self.old.names) }
         ensures same { OnOk result (SameTables self.old self.new) }
     {
         let signal = &mut self.signals[number];
@@ -160,6 +217,7 @@ impl Values {
         ensures kept { OnOk result (kept self.new ≡
             set_chain (length self.old.signals.items - 1) (Some second) letters.now is_dumped
             (kept self.old)) }
+        ensures names { OnOk result (self.new.names ≡ self.old.names) }
         ensures same { OnOk result (SameTables self.old self.new) }
     {
         let mut next = Some(second);
@@ -181,6 +239,7 @@ impl Values {
         ensures kept { OnOk result (kept self.new ≡
             set_chain (length self.old.signals.items) (Some first) letters.now is_dumped
             (kept self.old)) }
+        ensures names { OnOk result (self.new.names ≡ self.old.names) }
         ensures same { OnOk result (SameTables self.old self.new) }
     {
         let number = first as usize;
@@ -191,6 +250,45 @@ impl Values {
             Some(second) => self.set_others(second, letters, is_dumped),
             None => Ok(()),
         }
+    }
+
+    // A record for which one name waits alone, of a variable that is the only one of its code: its name is known at once. It
+    // answers whether this is one.
+    #[inline(always)]
+    fn record(&mut self, first: u32, letters: &[u8], is_dumped: bool) -> Result<bool, Memory>
+        ensures keeps { IfOk result (λ is_record. is_record ≡ true →
+            (plan : Plan) (views : ℕ → View) (code : List ℕ) → Keeps plan views self.old →
+            Knows plan (map held self.old.signals.items) code (Entry.Used first) →
+            Keeps plan (heard_in plan code letters.now is_dumped views) self.new) }
+        ensures still { IfOk result (λ is_record. is_record ≡ false → self.new ≡ self.old) }
+    {
+        let number = first as usize;
+        let Some(name) = sole_at(self.sole_names.as_slice(), number) else {
+            return Ok(false);
+        };
+        if is_dumped || name >= MAX_CLOCKS || number >= self.signals.len() {
+            return Ok(false);
+        }
+        if self.signals[number].next.is_some() {
+            return Ok(false);
+        }
+        self.signals[number].set(letters, false)?;
+        self.names.insert(name);
+        Ok(true)
+    }
+
+    // A value of the variables of a code, of which this is the first.
+    #[inline(always)]
+    fn hear(&mut self, first: u32, letters: &[u8], is_dumped: bool) -> Result<(), Memory>
+        ensures { OnOk result ((plan : Plan) (views : ℕ → View) (code : List ℕ) →
+            Keeps plan views self.old →
+            Knows plan (map held self.old.signals.items) code (Entry.Used first) →
+            Keeps plan (heard_in plan code letters.now is_dumped views) self.new) }
+    {
+        if self.record(first, letters, is_dumped)? {
+            return Ok(());
+        }
+        self.set(first, letters, is_dumped)
     }
 
     /// A change of the value of a code, of which this is known, to these letters. It answers whether the code is declared.
@@ -212,7 +310,7 @@ impl Values {
     {
         match known {
             Entry::Undeclared => return Ok(false),
-            Entry::Used(first) if is_kept => self.set(first, letters, is_dumped)?,
+            Entry::Used(first) if is_kept => self.hear(first, letters, is_dumped)?,
             Entry::Used(_) | Entry::Unused => {}
         }
         Ok(true)
@@ -244,6 +342,39 @@ impl Values {
         Err(VcdFault::UnknownCode { at })
     }
 
+    // The end of a time at which variables changed whose names are not known yet.
+    #[inline(never)]
+    fn settle_touched(&mut self, present: &Present, out: &mut Vec<u8>) -> Result<bool, Memory>
+        ensures row { OnOk result ((plan : Plan) (views : ℕ → View) → Keeps plan views self.old →
+            out.new.items ≡ out.old.items ++ row_of plan present.now views) }
+        ensures counts { IfOk result (λ is_row. (plan : Plan) (views : ℕ → View) →
+            Keeps plan views self.old →
+            is_row ≡ has_row plan views) }
+        ensures keeps { OnOk result ((plan : Plan) (views : ℕ → View) → Keeps plan views self.old →
+            Keeps plan (λ n. at_rest (views n)) self.new) }
+    {
+        self.names.ascends();
+        let has_names = !self.names.is_empty();
+        put_names(
+            self.touched.as_slice(),
+            self.users.as_slice(),
+            self.watches.as_slice(),
+            self.signals.as_slice(),
+            &mut self.names,
+        );
+        let is_row = put_row(present.line(), &self.names, out)?;
+        settle_known(
+            has_names,
+            &self.names,
+            self.watches.as_slice(),
+            self.signals.as_mut_slice(),
+        )?;
+        settle_all(self.touched.as_slice(), self.signals.as_mut_slice())?;
+        self.touched.clear();
+        self.names.copy_from(&self.none);
+        Ok(is_row)
+    }
+
     /// The present time is over: its row is appended, if it has one. It answers whether it has.
     #[inline(never)]
     pub(crate) fn settle(&mut self, present: &Present, out: &mut Vec<u8>) -> Result<bool, Memory>
@@ -255,20 +386,17 @@ impl Values {
         ensures keeps { OnOk result ((plan : Plan) (views : ℕ → View) → Keeps plan views self.old →
             Keeps plan (λ n. at_rest (views n)) self.new) }
     {
-        if self.touched.is_empty() {
-            return Ok(false);
+        if !self.touched.is_empty() {
+            return self.settle_touched(present, out);
         }
-        self.names.copy_from(&self.none);
-        put_names(
-            self.touched.as_slice(),
-            self.users.as_slice(),
-            self.watches.as_slice(),
-            self.signals.as_slice(),
-            &mut self.names,
-        );
+        self.names.ascends();
         let is_row = put_row(present.line(), &self.names, out)?;
-        settle_all(self.touched.as_slice(), self.signals.as_mut_slice())?;
-        self.touched.clear();
+        settle_read_by(
+            &self.names,
+            self.watches.as_slice(),
+            self.signals.as_mut_slice(),
+        )?;
+        self.names.copy_from(&self.none);
         Ok(is_row)
     }
 
@@ -278,5 +406,6 @@ impl Values {
             Keeps plan (λ n. no_view) self.new }
     {
         forget_all(self.signals.as_mut_slice());
+        self.names.copy_from(&self.none);
     }
 }

@@ -25,6 +25,7 @@ pub fn put_code(name: u32, out: &mut Vec<u8>) -> Result<(), Memory>
     Ok(())
 }
 
+#[inline(always)]
 fn put_tick(name: u32, out: &mut Vec<u8>) -> Result<(), Memory>
     ensures { OnOk result (out.new.items ≡ out.old.items ++ tick_line name) }
 {
@@ -38,6 +39,7 @@ fn put_tick(name: u32, out: &mut Vec<u8>) -> Result<(), Memory>
     Ok(())
 }
 
+#[inline(always)]
 fn put_ticks(names: &ClockSet, out: &mut Vec<u8>) -> Result<(), Memory>
     ensures { OnOk result (out.new.items ≡ out.old.items ++ tick_lines names.now) }
 {
@@ -48,6 +50,7 @@ fn put_ticks(names: &ClockSet, out: &mut Vec<u8>) -> Result<(), Memory>
 }
 
 /// Appends the row of a time: its line, and one for each name that happens, if any does. It answers whether any does.
+#[inline(always)]
 pub fn put_row(line: &TimeLine, names: &ClockSet, out: &mut Vec<u8>) -> Result<bool, Memory>
     ensures row { OnOk result ((digits : List ℕ) → line.now ≡ time_line digits →
         out.new.items ≡ out.old.items ++ row_text digits names.now) }

@@ -45,20 +45,17 @@ impl TimeLine {
         }
     }
 
-    /// The line of a time whose digits are the first of some bytes, so many.
+    /// Becomes the line of a time whose digits are the first of some bytes, so many. Nothing is made anew for it.
     #[inline(always)]
-    pub fn of_front(bytes: &[u8], count: usize) -> TimeLine
+    pub fn set_front(&mut self, bytes: &[u8], count: usize)
         requires few { count ≤ 20 }
         requires enough { COPIED ≤ length bytes.now }
-        ensures { result ≡ time_line (take count bytes.now) }
+        ensures { self.new ≡ time_line (take count bytes.now) }
     {
-        let mut line = [b'#'; ROOM];
-        line[1..].copy_from_slice(&bytes[..COPIED]);
-        line[count + 1] = b'\n';
-        TimeLine {
-            bytes: line,
-            len: count + 2,
-        }
+        self.bytes[0] = b'#';
+        self.bytes[1..].copy_from_slice(&bytes[..COPIED]);
+        self.bytes[count + 1] = b'\n';
+        self.len = count + 2;
     }
 
     /// Appends the line.

@@ -1,7 +1,8 @@
 //! What makes a name happen, over the variables that are kept.
 
-ghost use Rattle.std.specs.Prelude.{◌≡◌};
+ghost use Rattle.std.specs.Prelude.{◌≡◌, ℕ, true};
 ghost use Rattle.std.specs.List.{list_all};
+ghost use Rattle.ccsl_triggers.specs.Views.{View};
 ghost use Rattle.ccsl_triggers.specs.Triggers.{value_before, value_after, part, rises, falls, differs, meets, begins, of_values, of_part, view_at, variable_of, sets_off, held_before, happens};
 
 use crate::signal::Signal;
@@ -215,6 +216,21 @@ fn were_met(conditions: &[Goal], signals: &[Signal]) -> bool
 }
 
 impl Watch {
+    /// Whether the name waits for a record of a variable, and for nothing else.
+    pub fn is_record_of(&self, number: usize) -> bool
+        ensures reads { result ≡ true → variable_of self.now.trigger ≡ number }
+        ensures happens { result ≡ true →
+            (views : ℕ → View) → happens self.now views ≡ (views number).heard }
+    {
+        if !self.conditions.is_empty() {
+            return false;
+        }
+        match &self.trigger {
+            Trigger::Record(signal) => *signal == number,
+            _ => false,
+        }
+    }
+
     /// Whether the name happens at the present time.
     pub fn happens(&self, signals: &[Signal]) -> bool
         ensures { result ≡ happens self.now (view_at signals.now) }

@@ -36,4 +36,5 @@ variables-preserved c =
           ∙ ap (λ o. set_chain left o c.args.letters.now c.args.is_dumped k) (sym c.in-Some.is)
           ∙ c.variables.invariant.goes;
       same = tables-both c.args.self.now c.variables.self c.set_one.new.self c.variables.invariant.same c.in_ok-next.ensures.same;
+      names = c.in_ok-next.ensures.names ∙ c.variables.invariant.names;
     }

@@ -8,4 +8,5 @@ invariant-variables l = record {
       set_chain (l._count-end - l._count) l.next l.letters l.is_dumped (kept l.self)
       ≡ set_chain (length l.fn.self.signals.items - 1) (Some l.fn.second) l.letters l.is_dumped (kept l.fn.self);
   same : SameTables l.fn.self l.self;
+  names : l.self.names ≡ l.fn.self.names;
 }

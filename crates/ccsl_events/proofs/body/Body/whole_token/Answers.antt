@@ -3,8 +3,8 @@ use Rattle.std.proofs.lemmas.Result.{err_from_is_err_and}
 use Rattle.ccsl_events.specs.declared.body.Body.{Body}
 use Rattle.ccsl_events.specs.Run.{Runs}
 use Rattle.ccsl_events.proofs.Run.{runs-none, front-white, front-word, front-breaks, front-long, open-run}
-use Rattle.ccsl_events.proofs.body.Body.token.Goals as goal
-use Rattle.ccsl_events.proofs.body.Body.token.Goals.{then-end-gt0+in_ok-hear, else-end-gt0}
+use Rattle.ccsl_events.proofs.body.Body.whole_token.Goals as goal
+use Rattle.ccsl_events.proofs.body.Body.whole_token.Goals.{then-end-gt0+in_ok-hear, else-end-gt0}
 
 pub returns-then-end-gt-MAX_TOKEN_BYTES-clause-takes : goal.returns-then-end-gt-MAX_TOKEN_BYTES-clause-takes
 returns-then-end-gt-MAX_TOKEN_BYTES-clause-takes c plan p s =
