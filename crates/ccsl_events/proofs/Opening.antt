@@ -20,7 +20,7 @@ use Rattle.ccsl_scopes.specs.Standing as header
 use Rattle.ccsl_events.specs.declared.reader.Reader.{Reader}
 use Rattle.ccsl_events.specs.Run.{IsOpen, settled_from}
 use Rattle.ccsl_events.specs.Opening.{Opening, open_at, ended, broken, behind, next, opening_from, opening}
-use Rattle.ccsl_events.specs.Fed.{ReadsHeader, IsInHeader, IsBehindHeader, Hears, goes_on, ends, BreaksHeader, FeedsHeader, SaysHeader}
+use Rattle.ccsl_events.specs.Fed.{ReadsHeader, IsInHeader, IsBehindHeader, Hears, goes_on, ends, BreaksHeader}
 use Rattle.ccsl_events.proofs.Run.{IsRest, settled-cut, settled-fresh, settled-word, settled-long, dark-front}
 use Rattle.ccsl_events.proofs.Whole.{settled-more, settled-open}
 use Rattle.ccsl_events.proofs.Feeding.{EndsIn, one-run, up-to, as-one, open-both}

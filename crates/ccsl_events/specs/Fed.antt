@@ -1,5 +1,5 @@
 -- What a reader has taken of a dump, whatever pieces the bytes came in: of its header, and of its body, which begins at a place.
-use Rattle.std.specs.Prelude.{◌≡◌, ◌⊎◌, ℕ, ◌+◌, ◌≤◌, List, [], ◌++◌, length, take, Bool, true, false, Some, None, Result, Ok, Err}
+use Rattle.std.specs.Prelude.{◌≡◌, ◌⊎◌, ℕ, ◌+◌, ◌^◌, ◌<◌, ◌≤◌, List, [], ◌++◌, length, take, Bool, true, false, Some, None, Result, Ok, Err}
 use Rattle.ccsl_base.specs.declared.limits.TheConstants.{MAX_TOKEN_BYTES}
 use Rattle.ccsl_vcd_lex.specs.Runs.{fresh_after}
 use Rattle.ccsl_vcd.specs.declared.fault.VcdFault.{VcdFault}
@@ -66,6 +66,12 @@ abbrev pub FeedsHeader : Limits → List ℕ → List ℕ → Result ℕ VcdFaul
 FeedsHeader limits bytes piece (Ok n) r old new = Hears limits (bytes ++ take n piece) r × (new ≡ old)
 FeedsHeader limits bytes piece (Err f) r old new = (f ≡ faults.Memory) ⊎ BreaksHeader limits (bytes ++ piece) f
 
+-- A PIECE IS GIVEN TO A READER: this is what is answered, and left, wherever it stands in a header.
+abbrev pub TakesHeader : List ℕ → Result ℕ VcdFault → Reader → Reader → List ℕ → List ℕ → Type 0
+TakesHeader piece result r s old new =
+    (limits : Limits) (bytes : List ℕ) (among : Among) (h : headings.Heading) → IsInHeader limits bytes among h r →
+    r.taken + length piece < 2 ^ 64 → FeedsHeader limits bytes piece result s old new
+
 -- what is answered of a token: whether it ended the header
 abbrev pub ends_it : Result (Unit {0}) VcdFault → Bool → Result Bool VcdFault
 ends_it (Ok u) has_ended = Ok has_ended
@@ -113,6 +119,12 @@ pub record Reaches (plan : Plan) (start : ℕ) (bytes before : List ℕ) (r : Re
 abbrev pub Feeds : Plan → ℕ → List ℕ → Place → List ℕ → Result ℕ VcdFault → Reader → List ℕ → List ℕ → Type 0
 Feeds plan start bytes p piece (Ok n) r old new = Reaches plan start (bytes ++ take n piece) p.written r old new
 Feeds plan start bytes p piece (Err f) r old new = (f ≡ faults.Memory) ⊎ Breaks plan begin start (bytes ++ piece) f p.written old new
+
+-- and wherever it stands in a body
+abbrev pub TakesBody : List ℕ → Result ℕ VcdFault → Reader → Reader → List ℕ → List ℕ → Type 0
+TakesBody piece result r s old new =
+    (plan : Plan) (start : ℕ) (bytes : List ℕ) (p : Place) → HasTaken plan start bytes p r → r.taken + length piece < 2 ^ 64 →
+    Feeds plan start bytes p piece result s old new
 
 -- what a reader answers, and leaves in its body, is what is said
 pub record Says (plan : Plan) (before : List ℕ) (said : Said) (result : Result (Unit {0}) VcdFault) (r : Reader) (old new : List ℕ) : Type 0 where

@@ -7,8 +7,8 @@ ghost use Rattle.ccsl_events.specs.Standing.{Stands, counted};
 ghost use Rattle.ccsl_vcd.specs.Places.{Among, commands};
 ghost use Rattle.ccsl_scopes.specs.Headings as headings;
 ghost use Rattle.ccsl_scopes.specs.Standing.{IsHeaderOf};
-ghost use Rattle.ccsl_events.specs.Fed.{ReadsHeader, IsInHeader, IsBehindHeader, FeedsHeader, SaysHeader, MayBegin};
-ghost use Rattle.ccsl_events.specs.Fed.{HasTaken, Feeds, Says, IsClear};
+ghost use Rattle.ccsl_events.specs.Fed.{ReadsHeader, IsInHeader, IsBehindHeader, TakesHeader, SaysHeader, MayBegin};
+ghost use Rattle.ccsl_events.specs.Fed.{HasTaken, TakesBody, Says, IsClear};
 
 use crate::body::Body;
 use crate::output::FULL;
@@ -126,13 +126,8 @@ impl Reader {
     fn part(&mut self, bytes: &[u8], out: &mut Vec<u8>) -> Result<usize, VcdFault>
         requires { 0 < length bytes.now }
         ensures within { IfOk result (λ taken. (0 < taken) × (taken ≤ length bytes.now)) }
-        ensures feeds { (plan : Plan) (start : ℕ) (before : List ℕ) (p : Place) →
-            HasTaken plan start before p self.old → self.old.taken + length bytes.now < 2 ^ 64 →
-            Feeds plan start before p bytes.now result self.new out.old.items out.new.items }
-        ensures heads { (limits : Limits) (before : List ℕ) (among : Among)
-            (h : headings.Heading) → IsInHeader limits before among h self.old →
-            self.old.taken + length bytes.now < 2 ^ 64 →
-            FeedsHeader limits before bytes.now result self.new out.old.items out.new.items }
+        ensures feeds { TakesBody bytes.now result self.old self.new out.old.items out.new.items }
+        ensures heads { TakesHeader bytes.now result self.old self.new out.old.items out.new.items }
         ensures counts { IfOk result (λ taken. self.old.taken + length bytes.now < 2 ^ 64 →
             self.new.taken ≡ self.old.taken + taken) }
         ensures clears { OnOk result (self.old.is_header_over ≡ false → IsClear self.new) }
@@ -158,13 +153,8 @@ impl Reader {
     fn stride(&mut self, bytes: &[u8], out: &mut Vec<u8>) -> Result<usize, VcdFault>
         requires { 0 < length bytes.now }
         ensures within { IfOk result (λ taken. (0 < taken) × (taken ≤ length bytes.now)) }
-        ensures feeds { (plan : Plan) (start : ℕ) (before : List ℕ) (p : Place) →
-            HasTaken plan start before p self.old → self.old.taken + length bytes.now < 2 ^ 64 →
-            Feeds plan start before p bytes.now result self.new out.old.items out.new.items }
-        ensures heads { (limits : Limits) (before : List ℕ) (among : Among)
-            (h : headings.Heading) → IsInHeader limits before among h self.old →
-            self.old.taken + length bytes.now < 2 ^ 64 →
-            FeedsHeader limits before bytes.now result self.new out.old.items out.new.items }
+        ensures feeds { TakesBody bytes.now result self.old self.new out.old.items out.new.items }
+        ensures heads { TakesHeader bytes.now result self.old self.new out.old.items out.new.items }
         ensures counts { IfOk result (λ taken. self.old.taken + length bytes.now < 2 ^ 64 →
             self.new.taken ≡ self.old.taken + taken) }
         ensures clears { OnOk result (self.old.is_header_over ≡ false → IsClear self.new) }
@@ -185,13 +175,8 @@ impl Reader {
     pub fn feed(&mut self, piece: &[u8], out: &mut Vec<u8>) -> Result<usize, VcdFault>
         requires { 0 < length piece.now }
         ensures within { IfOk result (λ taken. (0 < taken) × (taken ≤ length piece.now)) }
-        ensures feeds { (plan : Plan) (start : ℕ) (before : List ℕ) (p : Place) →
-            HasTaken plan start before p self.old → self.old.taken + length piece.now < 2 ^ 64 →
-            Feeds plan start before p piece.now result self.new out.old.items out.new.items }
-        ensures heads { (limits : Limits) (before : List ℕ) (among : Among)
-            (h : headings.Heading) → IsInHeader limits before among h self.old →
-            self.old.taken + length piece.now < 2 ^ 64 →
-            FeedsHeader limits before piece.now result self.new out.old.items out.new.items }
+        ensures feeds { TakesBody piece.now result self.old self.new out.old.items out.new.items }
+        ensures heads { TakesHeader piece.now result self.old self.new out.old.items out.new.items }
         ensures counts { IfOk result (λ taken. self.old.taken + length piece.now < 2 ^ 64 →
             self.new.taken ≡ self.old.taken + taken) }
         ensures clears { OnOk result (self.old.is_header_over ≡ false → IsClear self.new) }
