@@ -4,7 +4,7 @@ use Rattle.std.proofs.Common.{refl, sym, ap, ap₂, ◌∙◌, subst, arith, len
 use Rattle.std.proofs.lemmas.List.{map-append, append-nil}
 use Rattle.ccsl_base.specs.Clocks.{ticks_in}
 use Rattle.ccsl_base.specs.declared.rows.Row.{Row}
-use Rattle.ccsl_causes.specs.Counted.{counted}
+use Rattle.ccsl_causes.specs.Counted.{counted, counted_over}
 use Rattle.ccsl_kernel.specs.Syntax.{System}
 use Rattle.ccsl_kernel.specs.Lives.{Step}
 use Rattle.ccsl_kernel.specs.Verdict.{completed_rows}
@@ -12,7 +12,7 @@ use Rattle.ccsl_state.specs.Reach.{is_within}
 use Rattle.ccsl_state.specs.Part.{HeldPart, part_of, PartStandsFor}
 use Rattle.ccsl_relate.proofs.History.{X-more, X-length, next_step}
 use Rattle.ccsl_relate.proofs.Blocks.{take-more}
-use Rattle.ccsl_follow.specs.Counting.{counted_over, followed_steps, HasCounted, AreRows}
+use Rattle.ccsl_follow.specs.Counting.{followed_steps, HasCounted, AreRows}
 
 pub over-snoc : (x : ℕ) (steps : List Step) (s : Step) (n : ℕ) → counted_over x (steps ++ s ∷ []) n ≡ counted (ticks_in x s) (counted_over x steps n)
 over-snoc x [] s n = refl

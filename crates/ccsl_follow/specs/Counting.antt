@@ -1,17 +1,12 @@
 -- HOW OFTEN CLOCKS HAVE TICKED behind rows of a trace, whose steps are followed as far as some clocks lead.
-use Rattle.std.specs.Prelude.{◌≡◌, ◌<◌, ◌^◌, ℕ, List, [], ◌∷◌, map, length, slice_index_or}
+use Rattle.std.specs.Prelude.{◌≡◌, ◌<◌, ◌^◌, ℕ, List, map, length, slice_index_or}
 use Rattle.ccsl_base.specs.Clocks.{ticks_in}
 use Rattle.ccsl_base.specs.declared.rows.Row.{Row}
-use Rattle.ccsl_causes.specs.Counted.{counted}
+use Rattle.ccsl_causes.specs.Counted.{counted_over}
 use Rattle.ccsl_kernel.specs.Lives.{Step}
 use Rattle.ccsl_kernel.specs.Runs.{full_step, declared_part}
 use Rattle.ccsl_kernel.specs.Verdict.{completed_rows}
 use Rattle.ccsl_state.specs.Part.{HeldPart, part_of, PartStandsFor}
-
--- the count of a clock behind some steps, before which it was n
-abbrev pub counted_over : ℕ → List Step → ℕ → ℕ
-counted_over x [] n = n
-counted_over x (s ∷ steps) n = counted_over x steps (counted (ticks_in x s) n)
 
 -- what is followed of the steps that the rows complete
 abbrev pub followed_steps : HeldPart → List Row → List Step

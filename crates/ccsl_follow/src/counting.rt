@@ -2,8 +2,7 @@
 
 ghost use Rattle.std.specs.Prelude.{◌≡◌, ◌<◌, ℕ, length, map, slice_index_or};
 ghost use Rattle.ccsl_base.specs.Clocks.{ticks_in};
-ghost use Rattle.ccsl_causes.specs.Counted.{counted};
-ghost use Rattle.ccsl_follow.specs.Counting.{counted_over};
+ghost use Rattle.ccsl_causes.specs.Counted.{counted, counted_over};
 
 use ccsl_base::{Block, ClockSet};
 use ccsl_causes::{Counts, Leads};
@@ -33,6 +32,10 @@ pub(crate) fn count_rows(counts: &mut Counts, leads: &mut Option<Leads>, block: 
     ensures counts { (x : ℕ) → x < length counts.old → slice_index_or counts.new x 0
         ≡ counted_over x (map (λ row. row.ticks) block.now.rows) (slice_index_or counts.old x 0) }
 {
+    if leads.is_none() {
+        counts.count_rows(block);
+        return;
+    }
     for i in 0..block.len() {
         let row = block.row(i);
         count_step(counts, leads, &row.ticks, row.time);

@@ -1,6 +1,6 @@
 -- The rows so far are counted.
 use Rattle.std.proofs.Common.{◌≡◌, ℕ, ◌<◌, map, take, length, slice_index_or}
-use Rattle.ccsl_follow.specs.Counting.{counted_over}
+use Rattle.ccsl_causes.specs.Counted.{counted_over}
 use Rattle.ccsl_follow.proofs.counting.count_rows.Given as goal
 
 abbrev pub invariant-loop-i : goal.invariant-loop-i
