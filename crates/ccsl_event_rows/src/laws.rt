@@ -20,8 +20,8 @@ pub fn what_is_read_may_be_written()
     ensures { WhatIsReadMayBeWritten }
 {}
 
-/// So the whole trace that `ccsl-events` makes of a file of events and a dump reads back as the times of the dump's body
-/// at which these events happen, as many as are told.
+/// So the whole trace that `ccsl-events` makes of a file of events and a dump reads back as the times of the dump's
+/// body at which these events happen, as many as are told.
 pub fn what_is_made_reads_back()
     ensures { WhatIsMadeReadsBack }
 {}

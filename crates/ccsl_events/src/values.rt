@@ -252,8 +252,8 @@ impl Values {
         }
     }
 
-    // A record for which one name waits alone, of a variable that is the only one of its code: its name is known at once. It
-    // answers whether this is one.
+    // A record for which one name waits alone, of a variable that is the only one of its code: its name is known at once.
+    // It answers whether this is one.
     #[inline(always)]
     fn record(&mut self, first: u32, letters: &[u8], is_dumped: bool) -> Result<bool, Memory>
         ensures keeps { IfOk result (λ is_record. is_record ≡ true →

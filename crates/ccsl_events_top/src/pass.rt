@@ -229,8 +229,8 @@ impl Pass {
         Ok(self.reader.times())
     }
 
-    /// Reads the body and writes its rows, of which behind a fault of the dump there are those before it. It answers how
-    /// many times have one.
+    /// Reads the body and writes its rows, of which behind a fault of the dump there are those before it. It answers
+    /// how many times have one.
     pub(crate) fn body<W: World>(&mut self, world: &mut W, sink: Sink) -> Result<u64, Stop>
         requires open { MayWrite sink (W.state world.old) }
         requires begins { (start : State) × (plan : Plan) × (head : List ℕ) × (text : List ℕ)

@@ -55,7 +55,8 @@ returns-clause-keeps c plan views k =
     (c.settle_known.auto.signals ∙ ap length c.as_mut_slice.ensures.value ∙ sym v.signals.ok.0) in
     let items = with_items_is mid c.settle_all.new.signals (c.settle_all.auto.signals ∙ ap length c.as_mut_slice-2.ensures.value ∙ sym mid.ok.0) in
     keeps-rested plan views v c.put_names.new.names k _ (not c.is_empty-has_names.result)
-    (record { codes = refl; users = refl; watches = refl; none = refl; sole_names = refl }) found (λ e. c.is_empty-has_names.ensures.0 (is-so c.is_empty-has_names.result e))
+    (record { codes = refl; users = refl; watches = refl; none = refl; sole_names = refl }) found
+    (λ e. c.is_empty-has_names.ensures.0 (is-so c.is_empty-has_names.result e))
     (ap (map held) items
     ∙ c.in_ok-settle_all.ensures
     ∙ ap₂ settle_each c.as_slice-6.ensures.value
