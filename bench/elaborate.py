@@ -1,18 +1,19 @@
-"""Measures how long the fault of a file and its elaboration take beside reading its text.
+"""Measures how long elaboration takes in the built program, beside lexing and parsing the same text.
 
-    (cd crates/ccsl_elaborate_bench && rt run)   builds the program
-    python3 bench/elaborate.py
+    python3 bench/elaborate.py [PROGRAM]
 
-All times are processor times of the other process. A ratio is that of looking for the fault once, or of elaborating once, to
-lexing and parsing once.
+`check` of a text does both. Of the same text with one parenthesis behind it, which is a fault of syntax at its end, it does the
+second alone. All times are processor times of whole processes, the best of several.
 """
+import sys
 import tempfile
 
 from figures import note
-from measured import built, filled, measured
+from measured import PROGRAM, best, filled
 
-PROGRAM = built("ccsl_elaborate_bench")
-MEBIBYTE = 1 << 20
+# a mebibyte, but for the parenthesis
+SIZE = (1 << 20) - 1
+ROUNDS = 7
 
 
 def expressions(system):
@@ -20,7 +21,7 @@ def expressions(system):
     return filled("ccsl 1;\n",
                   lambda i: f"expression e{i}(clock c, number n) = "
                   + (f"e{i - 1}(c, n)" if i % 8 else "c delay n") + ";\n",
-                  system)
+                  system, SIZE)
 
 
 def relations(calls):
@@ -53,7 +54,7 @@ def large(leaves, calls):
 def nest():
     """A nest of relations of eight levels, each of which calls the one before it as often as fits."""
     line = lambda level: f"  r{level - 1}(a, b);\n" if level else "  a precedes b;\n"
-    room = MEBIBYTE // 8 - 60
+    room = SIZE // 8 - 60
     bodies = []
     for level in range(8):
         bodies.append(f"relation r{level}(clock a, clock b) {{\n" + line(level) * (room // len(line(level))) + "}\n")
@@ -64,72 +65,52 @@ def clocks():
     """A system of clocks, each defined over the one before it."""
     return filled("ccsl 1;\nsystem {\n  clock x0;\n",
                   lambda i: f"  define x{i + 1} = x{i} delay 1;\n",
-                  "}\n")
+                  "}\n", SIZE)
 
 
 def nested():
     """A system of expressions that nest as deep as an expression may."""
     deep = "(" * 127 + "a" + " union b)" * 127
-    return filled("ccsl 1;\nsystem {\n  clock a, b;\n", lambda i: f"  define y{i} = {deep};\n", "}\n")
+    return filled("ccsl 1;\nsystem {\n  clock a, b;\n", lambda i: f"  define y{i} = {deep};\n", "}\n", SIZE)
 
 
 def repeated():
     """A system that declares one clock over and over."""
-    return filled("ccsl 1;\nsystem {\n", lambda i: "  clock a;\n", "}\n")
+    return filled("ccsl 1;\nsystem {\n", lambda i: "  clock a;\n", "}\n", SIZE)
 
 
-# texts that are searched for a fault, and texts that are elaborated
-FAULTS = [
-    ("expressions", expressions("system { }\n")),
-    ("relations", nest()),
-    ("clocks", clocks()),
-    ("nested", nested()),
-    ("repeated", repeated()),
-]
 TEXTS = [
     ("a mebibyte of expressions", expressions("system { clock a; }\n")),
+    ("a nest of relations as long as a text may be, refused", nest()),
     ("a nest of relations that is refused", relations(8000)),
     ("a nest of relations that is expanded", relations(2)),
+    ("a mebibyte of clocks, refused", clocks()),
+    ("a mebibyte of deep expressions, refused", nested()),
+    ("one clock declared over and over, refused", repeated()),
     ("a thousand hidden clocks", expanded()),
-    ("a thousand hidden clocks of 8,000 leaves each", large(8000, 1000)),
-    ("a thousand hidden clocks of 60,000 leaves each", large(60000, 1000)),
+    ("a thousand hidden clocks of 8,000 leaves each, refused", large(8000, 1000)),
+    ("a thousand hidden clocks of 60,000 leaves each, refused", large(60000, 1000)),
 ]
 
 
-def seconds(part, text, times):
-    """A run of a part of the program, so many times on one text."""
+def checked(program, text):
+    """The best of some runs of `check` on a text."""
     with tempfile.NamedTemporaryFile("w", suffix=".ccsl") as file:
         file.write(text)
         file.flush()
-        return measured([PROGRAM, part, file.name, times])
-
-
-def look_for_faults():
-    for name, text in FAULTS:
-        times, start = 20, seconds("parse", text, 0).processor
-        read, looked = seconds("parse", text, times), seconds("faults", text, times)
-        parse = (read.processor - start) / times
-        fault = (looked.processor - parse - start) / times
-        print(f"{name}: {len(text)} bytes, read {read.said}, {looked.said}; parser {parse * 1000:.1f} ms, "
-              f"fault {fault * 1000:.1f} ms, ratio {fault / parse:.2f}", flush=True)
-        note("ccsl_faults", name, "parsing them", processor=parse / fault)
-
-
-def elaborate():
-    for name, text in TEXTS:
-        once = seconds("elaborate", text, 1).processor
-        times = max(1, int(1 / max(once, 0.01)))
-        both = seconds("elaborate", text, times)
-        parse = seconds("parse", text, times).processor / times
-        alone = (both.processor - parse) / times
-        print(f"{name}: {len(text)} bytes, answer {both.said}, parse {parse:.4f} s, "
-              f"elaborate {alone:.4f} s, ratio {alone / parse:.2f}, at most {both.memory:.0f} MB")
-        note("ccsl_elaborate", name, "parsing it", processor=parse / alone)
+        return best([program, "check", f"spec={file.name}"], ROUNDS)
 
 
 def main():
-    look_for_faults()
-    elaborate()
+    program = sys.argv[1] if len(sys.argv) > 1 else PROGRAM
+    start = checked(program, "ccsl 1; system { clock a; }\n").processor
+    for name, text in TEXTS:
+        whole, parsed = checked(program, text), checked(program, text + ")")
+        parse = max(parsed.processor - start, 0.001)
+        alone = max(whole.processor - parsed.processor, 0.001)
+        print(f"{name}: {len(text)} bytes, {whole.said}; parse {parse * 1000:.0f} ms, elaborate {alone * 1000:.0f} ms, "
+              f"ratio {alone / parse:.2f}, at most {whole.memory:.0f} MB")
+        note("ccsl_elaborate", name, "parsing it", processor=parse / alone)
 
 
 if __name__ == "__main__":

@@ -1,6 +1,5 @@
-"""Measures how fast traces are read, beside vcd2fst and wc.
+"""Measures how fast the built program reads traces, beside vcd2fst and wc: it judges by one constraint that always holds.
 
-    (cd crates/ccsl_vcd_bench && rt run -- data/small.vcd a b)     builds the program
     python3 bench/reader.py FOLDER [PROGRAM]
 
 vcd2fst is of Debian's package gtkwave, and iverilog makes the last trace. The traces are made in the folder where it has none, of
@@ -14,10 +13,9 @@ import subprocess
 import sys
 
 from figures import note
-from measured import built, measured
+from measured import PROGRAM, measured
 from traces import HEAD, TAIL, code, events, made, wire, wires, write
 
-PROGRAM = built("ccsl_vcd_bench")
 SIZE = 50_000_000
 ROUNDS = 5
 
@@ -97,15 +95,23 @@ TRACES = [
 ]
 
 
+def specification(path, clocks):
+    """Declares the clocks, and asks nothing of them that could fail."""
+    with open(path, "w") as out:
+        out.write(f"ccsl 1; system {{ clock {', '.join(clocks)}; {clocks[0]} subclock {clocks[0]}; }}\n")
+    return path
+
+
 def main():
     folder = sys.argv[1]
     program = sys.argv[2] if len(sys.argv) > 2 else PROGRAM
     os.makedirs(folder, exist_ok=True)
     for name, make, clocks, wanted in TRACES:
         path = made(folder, name, make, SIZE)
+        spec = specification(f"{folder}/{name}.ccsl", clocks)
         best = [float("inf")] * 3
         for _ in range(ROUNDS):
-            for k, command in enumerate([[program, path, *clocks], ["vcd2fst", path, path + ".fst"], ["wc", "-w", path]]):
+            for k, command in enumerate([[program, "judge", f"spec={spec}", f"trace={path}"], ["vcd2fst", path, path + ".fst"], ["wc", "-w", path]]):
                 run = measured(command)
                 best[k] = min(best[k], run.processor)
                 said = run.said if k == 0 else said

@@ -1,12 +1,11 @@
 #!/bin/sh
-# Shows that written traces convert by vcd2fst without a warning and open in gtkwave. bench/writer.py times the writing.
+# Shows that the traces of simulations convert by vcd2fst without a warning and open in gtkwave.
 #
-#     (cd crates/ccsl_write_bench && rt run -- 2 3)     builds the program
-#     sh bench/written.sh
+#     sh bench/written.sh [PROGRAM]
 #
 # vcd2fst and gtkwave are Debian's package gtkwave. For gtkwave a display or xvfb-run is needed; without one it is not tried.
 set -eu
-program="$(dirname "$0")/../crates/ccsl_write_bench/out/ccsl_write_bench"
+program="${1:-$(dirname "$0")/../crates/ccsl/out/ccsl}"
 folder="$(mktemp -d)"
 trap 'rm -rf "$folder"' EXIT
 
@@ -17,7 +16,8 @@ END
 
 for clocks in 1 2 94 95 1024; do
     trace="$folder/trace$clocks.vcd"
-    "$program" "$clocks" 3000 > "$trace"
+    echo "ccsl 1; system { clock $(seq -s ', ' -f 'c%.0f' "$clocks"); }" > "$folder/spec.ccsl"
+    "$program" simulate spec="$folder/spec.ccsl" policy=max seed=1 steps=3000 trace="$trace" cert="$folder/cert" > "$folder/said"
     said="$(vcd2fst "$trace" "$folder/trace.fst" 2>&1)"
     if [ -n "$said" ]; then
         echo "$clocks clocks: vcd2fst says: $said"

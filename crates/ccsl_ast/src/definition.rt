@@ -6,7 +6,7 @@ use crate::tree::Tree;
 use ccsl_base::seq::Seq;
 
 /// What a parameter stands for.
-#[derive(Clone, Copy, Debug, PartialEq, Eq)]
+#[derive(Clone, Copy)]
 pub enum Kind {
     Clock,
     Number,

@@ -6,7 +6,7 @@ use crate::tree::Tree;
 use ccsl_base::seq::Seq;
 
 /// A relation of the language between two clocks.
-#[derive(Clone, Copy, Debug, PartialEq, Eq)]
+#[derive(Clone, Copy)]
 pub enum Relation {
     Subclock,
     Coincides,

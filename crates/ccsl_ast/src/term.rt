@@ -5,7 +5,7 @@ use ccsl_base::seq::Seq;
 use ccsl_base::text::Text;
 
 /// The sign before a primary of a sum.
-#[derive(Clone, Copy, Debug, PartialEq, Eq)]
+#[derive(Clone, Copy)]
 pub enum Sign {
     Plus,
     Minus,

@@ -8,7 +8,7 @@ use ccsl_base::seq::Seq;
 
 /// An operator between two operands; `UptoWeakly` is `upto weakly`, `Sampled` is `sampled on`, `SampledWeakly` is
 /// `sampled weakly on`.
-#[derive(Clone, Copy, Debug, PartialEq, Eq)]
+#[derive(Clone, Copy)]
 pub enum BinaryOp {
     Union,
     Inter,

@@ -5,7 +5,7 @@ ghost use Rattle.ccsl_bind.specs.Candidates.{noted};
 
 /// The candidates of a clock so far: how many scopes they stand in, the number of the first one's code and whether it is an
 /// event, and whether all have its code.
-#[derive(Clone, Copy, Debug, PartialEq, Eq)]
+#[derive(Clone, Copy)]
 pub struct Candidates {
     pub depth: u32,
     pub code: u32,

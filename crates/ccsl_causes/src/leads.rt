@@ -14,7 +14,7 @@ use std::alloc::Global;
 use std::marker::Model;
 
 /// A precedence of a left clock: its right clock, and since when the left one is ahead, where it is.
-#[derive(Clone, Copy, Debug, PartialEq, Eq)]
+#[derive(Clone, Copy)]
 pub struct Lead {
     pub right: u32,
     pub since: u64,

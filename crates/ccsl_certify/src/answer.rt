@@ -31,7 +31,7 @@ pub enum CertVerdict {
 }
 
 /// Why a certificate was not checked.
-#[derive(Clone, Copy, Debug, PartialEq, Eq)]
+#[derive(Clone, Copy)]
 pub enum CertifyFault {
     /// A read of the world failed: the count of the trace's slot or of the certificate's has risen, or stands at its last value.
     Fault,

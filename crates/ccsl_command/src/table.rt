@@ -4,7 +4,7 @@ ghost use Rattle.std.specs.Prelude.{◌≡◌};
 ghost use Rattle.ccsl_command.specs.Table.{command_text, key_text, required_keys, keys_of, relation_text};
 
 /// A command.
-#[derive(Clone, Copy, Debug, PartialEq, Eq)]
+#[derive(Clone, Copy)]
 pub enum CommandName {
     Check,
     Simulate,
@@ -17,7 +17,7 @@ pub enum CommandName {
 }
 
 /// The key of a word `key=value`.
-#[derive(Clone, Copy, Debug, PartialEq, Eq)]
+#[derive(Clone, Copy)]
 pub enum Key {
     Spec,
     Policy,
@@ -33,7 +33,7 @@ pub enum Key {
 }
 
 /// The name of a policy: how a step is chosen among those that are admissible.
-#[derive(Clone, Copy, Debug, PartialEq, Eq)]
+#[derive(Clone, Copy)]
 pub enum PolicyName {
     Min,
     Max,
@@ -41,7 +41,7 @@ pub enum PolicyName {
 }
 
 /// What is asked of two words: whether a relation holds between the filters, or which word the one on the other is.
-#[derive(Clone, Copy, Debug, PartialEq, Eq)]
+#[derive(Clone, Copy)]
 pub enum RelationName {
     Precedes,
     Subclock,

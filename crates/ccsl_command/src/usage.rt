@@ -4,7 +4,7 @@ use crate::Key;
 use ccsl_base::Memory;
 
 /// What is wrong with a list of words. A word is named by its number, the command's being 0.
-#[derive(Clone, Copy, Debug, PartialEq, Eq)]
+#[derive(Clone, Copy)]
 pub enum Usage {
     /// There is no word.
     NoCommand,

@@ -6,7 +6,7 @@ ghost use Rattle.ccsl_edge.specs.Memory.{kind_index, IsListed, counted};
 use std::marker::Model;
 
 /// The kinds of calls of a world.
-#[derive(Clone, Copy, Debug, PartialEq, Eq)]
+#[derive(Clone, Copy, PartialEq, Eq)]
 pub enum CallKind {
     OpenIn,
     OpenOut,

@@ -4,7 +4,7 @@ ghost use Rattle.std.specs.Prelude.{◌≡◌};
 ghost use Rattle.ccsl_edge.specs.Order.{index_of};
 
 /// A place at which the program reads or writes: four are read, three are written.
-#[derive(Clone, Copy, Debug, PartialEq, Eq)]
+#[derive(Clone, Copy)]
 pub enum Slot {
     /// The specification's file.
     Spec,

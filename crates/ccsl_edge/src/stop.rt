@@ -8,7 +8,7 @@ use ccsl_base::Memory;
 use std::alloc::{AllocError, AllocFailed};
 
 /// Why there is no answer.
-#[derive(Clone, Copy, Debug, PartialEq, Eq)]
+#[derive(Clone, Copy, PartialEq, Eq)]
 pub enum Stop {
     /// A call of the world failed: the count of its slot has risen, or stands at its last value.
     Fault,

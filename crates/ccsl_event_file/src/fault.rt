@@ -5,7 +5,7 @@ use std::alloc::{AllocError, AllocFailed};
 use thiserror::Error;
 
 /// The first fault of a file of events, or want of memory. A place is counted in bytes, from 0.
-#[derive(Clone, Copy, Debug, PartialEq, Eq, Error)]
+#[derive(Clone, Copy, Debug, Error)]
 pub enum EventFault {
     #[error("syntax at byte {at}")]
     Syntax { at: u64 },

@@ -12,7 +12,7 @@ use ccsl_base::{HashKeys, MAX_CLOCKS, Names, is_name};
 use std::alloc::Global;
 
 /// What happens to the variable that a path means.
-#[derive(Clone, Copy, Debug, PartialEq, Eq)]
+#[derive(Clone, Copy)]
 pub(crate) enum Moment {
     Rise,
     Fall,
@@ -21,7 +21,7 @@ pub(crate) enum Moment {
 }
 
 /// What a trigger is: something that happens to a variable, or a condition that begins to hold.
-#[derive(Clone, Copy, Debug, PartialEq, Eq)]
+#[derive(Clone, Copy)]
 pub(crate) enum Kind {
     Of(Moment),
     Becomes,

@@ -7,7 +7,7 @@ ghost use Rattle.ccsl_event_file.specs.Fronts.{seen, IsFront, IsBehindBlank};
 use ccsl_base::is_inner;
 
 /// What stands at the front of some text.
-#[derive(Clone, Copy, Debug, PartialEq, Eq)]
+#[derive(Clone, Copy)]
 pub(crate) enum Token<'a> {
     /// letters, digits, `_` and `$`
     Word(&'a [u8]),

@@ -13,7 +13,7 @@ use ccsl_triggers::{Goal, Part, Trigger, Watch};
 use std::alloc::Global;
 
 /// A variable that is read: the number of its code, and its size.
-#[derive(Clone, Copy, Debug)]
+#[derive(Clone, Copy)]
 pub(crate) struct Source {
     pub code: u32,
     pub size: u32,

@@ -21,14 +21,14 @@ use ccsl_vcd_lex::{code_at_front, run_end};
 use std::alloc::Global;
 
 /// What is done where values are not recorded for a while.
-#[derive(Clone, Copy, Debug, PartialEq, Eq)]
+#[derive(Clone, Copy)]
 pub enum Gaps {
     Refuse,
     Skip,
 }
 
 /// What the next token is.
-#[derive(Clone, Copy, Debug, PartialEq, Eq)]
+#[derive(Clone, Copy, PartialEq, Eq)]
 pub(crate) enum Amid {
     Changes,
     Remark,

@@ -14,7 +14,7 @@ use std::marker::Model;
 const DIGITS: usize = 19;
 
 /// How many digits a time has, and the time.
-#[derive(Clone, Copy, Debug)]
+#[derive(Clone, Copy)]
 pub(crate) struct Digits {
     pub count: usize,
     pub time: u64,

@@ -8,7 +8,7 @@ ghost use Rattle.ccsl_events.specs.Meant.{meant};
 use ccsl_base::decimal;
 
 /// A time, a change, a command, or a fault. Letters and codes are those of the token.
-#[derive(Clone, Copy, Debug, PartialEq, Eq)]
+#[derive(Clone, Copy)]
 pub(crate) enum Word {
     Time(u64),
     Scalar,

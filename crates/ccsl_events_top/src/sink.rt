@@ -8,7 +8,7 @@ ghost use Rattle.ccsl_events_top.specs.Writing.{MayWrite};
 use ccsl_edge::{Failed, Slot, World, write_all};
 
 /// Standard output, or a file.
-#[derive(Clone, Copy, Debug, PartialEq, Eq)]
+#[derive(Clone, Copy)]
 pub enum Sink {
     Standard,
     File,

@@ -17,7 +17,7 @@ pub struct Command<'a> {
 }
 
 /// What a word may be a value of.
-#[derive(Clone, Copy, Debug, PartialEq, Eq)]
+#[derive(Clone, Copy)]
 pub enum Key {
     Events,
     Trace,
@@ -26,7 +26,7 @@ pub enum Key {
 }
 
 /// What is wrong with the words. A word is named by its number, from 1.
-#[derive(Clone, Copy, Debug, PartialEq, Eq)]
+#[derive(Clone, Copy)]
 pub enum Usage {
     NotPair(usize),
     UnknownKey(usize),

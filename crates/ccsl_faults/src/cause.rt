@@ -2,7 +2,7 @@
 
 /// What is wrong at a place. Of two causes at one place the first in this order is answered; `Refusal` of ccsl_rules says
 /// what each means.
-#[derive(Clone, Copy, Debug, PartialEq, Eq)]
+#[derive(Clone, Copy)]
 pub enum Cause {
     Duplicate,
     Unknown,

@@ -11,7 +11,7 @@ use ccsl_rules::Refusal;
 use std::marker::Model;
 
 /// A cause at a place, which counts bytes from 0 in the file's text.
-#[derive(Clone, Copy, Debug, PartialEq, Eq)]
+#[derive(Clone, Copy)]
 pub struct Fault {
     pub cause: Cause,
     pub at: usize,

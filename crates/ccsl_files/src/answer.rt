@@ -7,7 +7,7 @@ use std::random::RandomSource;
 use std::{env, io};
 
 /// Why a program gives no answer.
-#[derive(Clone, Copy, Debug, PartialEq, Eq)]
+#[derive(Clone, Copy)]
 pub enum NoAnswer {
     WordNotUtf8,
     NoRandomNumbers,

@@ -32,7 +32,7 @@ pub fn read_text<W: World>(alloc: Global, world: &mut W, name: &str) -> Result<V
 }
 
 /// What refuses a text: what it says, and where.
-#[derive(Clone, Copy, Debug, PartialEq, Eq)]
+#[derive(Clone, Copy)]
 pub enum TextFault {
     Token(LexFault),
     Syntax(ParseFault),

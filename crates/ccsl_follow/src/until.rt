@@ -4,7 +4,7 @@ ghost use Rattle.std.specs.Prelude.{◌≡◌};
 ghost use Rattle.ccsl_follow.specs.Leaving.{is_left_at, first_of_last};
 
 /// Where a trace is left.
-#[derive(Clone, Copy, Debug, PartialEq, Eq)]
+#[derive(Clone, Copy)]
 pub enum Until {
     /// At this step, which is not counted.
     Step(u64),

@@ -4,7 +4,7 @@ ghost use Rattle.std.specs.Prelude.{◌≡◌};
 ghost use Rattle.ccsl_formula.specs.Truth.{known_as, not3, and3, or3, iff3};
 
 /// A truth value of strong Kleene logic.
-#[derive(Clone, Copy, Debug, PartialEq, Eq)]
+#[derive(Clone, Copy)]
 pub enum Truth3 {
     Yes,
     No,

@@ -14,7 +14,7 @@ use crate::expr::{ExprTest, NumPrim, NumSign, NumTerm, Place, Value, WordPlace};
 use ccsl_words::Word;
 
 /// A clock, a number, or a word of the system's table with an offset.
-#[derive(Clone, Copy, Debug, PartialEq, Eq)]
+#[derive(Clone, Copy)]
 pub enum Actual {
     Clock(u32),
     Number(u32),
@@ -22,7 +22,7 @@ pub enum Actual {
 }
 
 /// A word of the table from an offset on.
-#[derive(Clone, Copy, Debug, PartialEq, Eq)]
+#[derive(Clone, Copy)]
 pub struct Suffix {
     pub word: u32,
     pub offset: u64,

@@ -3,21 +3,21 @@
 use ccsl_base::Seq;
 
 /// A clock, or a clock parameter.
-#[derive(Clone, Copy, Debug, PartialEq, Eq)]
+#[derive(Clone, Copy)]
 pub enum Place {
     Clock(u32),
     Param(u32),
 }
 
 /// A number, or a number parameter.
-#[derive(Clone, Copy, Debug, PartialEq, Eq)]
+#[derive(Clone, Copy)]
 pub enum NumPrim {
     Num(u32),
     Param(u32),
 }
 
 /// How a number of a sum is taken.
-#[derive(Clone, Copy, Debug, PartialEq, Eq)]
+#[derive(Clone, Copy)]
 pub enum NumSign {
     Plus,
     Minus,
@@ -31,7 +31,7 @@ pub struct NumTerm {
 }
 
 /// A word of the system's table with an offset, a word parameter, or the tail of one.
-#[derive(Clone, Copy, Debug, PartialEq, Eq)]
+#[derive(Clone, Copy)]
 pub enum WordPlace {
     Word(u32, u64),
     Param(u32),
@@ -57,7 +57,7 @@ pub enum ExprTest {
 }
 
 /// An operator between two expressions.
-#[derive(Clone, Copy, Debug, PartialEq, Eq)]
+#[derive(Clone, Copy)]
 pub enum ExprOp {
     Union,
     Inter,

@@ -4,7 +4,7 @@ use crate::expr::Expr;
 use ccsl_base::Seq;
 
 /// What a parameter stands for.
-#[derive(Clone, Copy, Debug, PartialEq, Eq)]
+#[derive(Clone, Copy)]
 pub enum ParamKind {
     Clock,
     Number,

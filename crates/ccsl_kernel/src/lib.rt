@@ -8,7 +8,7 @@
 //!     system.definitions()                   // how many; definition i defines clock `declared + i`
 //!     system.constraint(0).kind              // RelationKind::Precedes
 //!
-//! ccsl_state computes it step by step, and ccsl_plain as it is written.
+//! ccsl_state computes it step by step, and `tests/plain_meaning.py`, apart from this code, as it is written.
 #![tactic(auto)]
 
 mod accepted;

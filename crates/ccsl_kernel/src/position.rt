@@ -8,7 +8,7 @@ use crate::expr::ExprOp;
 
 /// A place in the body of a group's member: inside an operator, in tail position, or in tail position and within the
 /// right operand of a `then` in tail position.
-#[derive(Clone, Copy, Debug, PartialEq, Eq)]
+#[derive(Clone, Copy)]
 pub enum Position {
     Inner,
     Tail,

@@ -7,7 +7,7 @@ use std::alloc::{AllocError, AllocFailed};
 use thiserror::Error;
 
 /// The first lexical fault of a text, with its offset, or want of memory.
-#[derive(Clone, Copy, Debug, PartialEq, Eq, Error)]
+#[derive(Clone, Copy, Debug, Error)]
 pub enum LexFault {
     /// A byte that begins no token, a single `/` among them.
     #[error("bad byte at byte {0}")]

@@ -6,14 +6,14 @@ use ccsl_base::Memory;
 use std::alloc::Global;
 
 /// Which text a line stands in.
-#[derive(Clone, Copy, Debug, PartialEq, Eq)]
+#[derive(Clone, Copy)]
 pub enum Home {
     Specification,
     Library,
 }
 
 /// A line, by the offset of its first name in its text.
-#[derive(Clone, Copy, Debug, PartialEq, Eq)]
+#[derive(Clone, Copy)]
 pub struct Origin {
     pub home: Home,
     pub at: usize,
@@ -21,7 +21,7 @@ pub struct Origin {
 
 /// An item, by how many of its kind come before it in the order of the expansion: a clock that the system's lines define, one that
 /// a relation hides, or a constraint.
-#[derive(Clone, Copy, Debug, PartialEq, Eq)]
+#[derive(Clone, Copy)]
 pub enum Wanted {
     Written(u32),
     Hidden(u32),

@@ -1,7 +1,7 @@
 //! Colours of a terminal.
 
 /// What a part of a page is, where it has a colour.
-#[derive(Clone, Copy, Debug, PartialEq, Eq)]
+#[derive(Clone, Copy)]
 pub enum Paint {
     /// The place of a file.
     Place,

@@ -6,7 +6,7 @@ use crate::page::Piece;
 const UNITS: usize = 6;
 
 /// A unit of time.
-#[derive(Clone, Copy, Debug, PartialEq, Eq)]
+#[derive(Clone, Copy)]
 pub enum TimeUnit {
     Second,
     Millisecond,
@@ -18,7 +18,7 @@ pub enum TimeUnit {
 
 /// How long a trace's unit of time is, 1, 10 or 100 of a unit, and the unit in which times are shown, which is so many thousands of
 /// thousands of that one. Without a unit, times are numbers alone.
-#[derive(Clone, Copy, Debug, PartialEq, Eq)]
+#[derive(Clone, Copy)]
 pub struct Scale {
     pub times: u64,
     pub thousands: u32,

@@ -5,7 +5,7 @@ use thiserror::Error;
 /// The first fault of the tokens, with its offset in the text, or want of memory.
 ///
 /// The offset is that of the first byte of the token at fault, or of the byte behind the last token where one is missing.
-#[derive(Clone, Copy, Debug, PartialEq, Eq, Error)]
+#[derive(Clone, Copy, Debug, Error)]
 pub enum ParseFault {
     /// What stands before can go on to a file, and not with this token; or no file ends with the last token. The offset is
     /// 0 where there is no token.

@@ -1,7 +1,7 @@
 //! The relations that are decided.
 
 /// A relation of CCSL between two clocks.
-#[derive(Clone, Copy, Debug, PartialEq, Eq)]
+#[derive(Clone, Copy)]
 pub enum Between {
     Precedes,
     Subclock,

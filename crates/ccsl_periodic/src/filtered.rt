@@ -17,7 +17,7 @@ use std::alloc::Global;
 use thiserror::Error;
 
 /// Why a filter of a filter has no word.
-#[derive(Clone, Copy, Debug, PartialEq, Eq, Error)]
+#[derive(Clone, Copy, Debug, Error)]
 pub enum OnFault {
     /// Its prefix and period, read off the two words, have so many letters, more than 4,096.
     #[error("{0} letters, at most 4,096")]

@@ -1,7 +1,7 @@
 //! The end of a line so far, which tells whether a blank comes before the next token.
 
 /// What a line ends with so far.
-#[derive(Clone, Copy, Debug, PartialEq, Eq)]
+#[derive(Clone, Copy)]
 pub enum Edge {
     /// No token.
     Start,

@@ -3,7 +3,7 @@
 use ccsl_base::Seq;
 
 /// A literal: that a clock ticks, or that it does not.
-#[derive(Clone, Copy, Debug, PartialEq, Eq)]
+#[derive(Clone, Copy)]
 pub struct Lit {
     pub clock: u32,
     pub positive: bool,

@@ -5,7 +5,7 @@ use ccsl_base::Memory;
 /// What is wrong with a file. A place counts bytes from 0 in the file's text; a total above 4,294,967,295 is given as that
 /// number. Of several causes the one with the least place is answered, and at one place the first in this order; the three
 /// totals come after all places.
-#[derive(Clone, Copy, Debug, PartialEq, Eq)]
+#[derive(Clone, Copy)]
 pub enum Refusal {
     /// A name is declared that its space already has.
     Duplicate(usize),

@@ -8,7 +8,7 @@ use crate::select::{Bits, Select, bits_of};
 use crate::variable::{Kind, Variable};
 
 /// Bits of a variable: the number of its code, its size and what its values are, and which of its bits.
-#[derive(Clone, Copy, Debug, PartialEq, Eq)]
+#[derive(Clone, Copy)]
 pub struct Target {
     pub code: u32,
     pub size: u32,
@@ -17,7 +17,7 @@ pub struct Target {
 }
 
 /// What a path means.
-#[derive(Clone, Copy, Debug, PartialEq, Eq)]
+#[derive(Clone, Copy)]
 pub enum Resolution {
     Found(Target),
     Unknown,
@@ -25,7 +25,7 @@ pub enum Resolution {
 }
 
 /// What variables have in common.
-#[derive(Clone, Copy, Debug, PartialEq, Eq)]
+#[derive(Clone, Copy)]
 pub(crate) enum Agreed {
     Nothing,
     One(Target),

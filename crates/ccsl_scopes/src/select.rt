@@ -7,7 +7,7 @@ ghost use Rattle.ccsl_scopes.specs.Selects.{place, counted, bits_of};
 use ccsl_base::decimal;
 
 /// Nothing, one number, or a left and a right one.
-#[derive(Clone, Copy, Debug, PartialEq, Eq)]
+#[derive(Clone, Copy)]
 pub enum Select {
     Whole,
     Bit(u32),
@@ -15,7 +15,7 @@ pub enum Select {
 }
 
 /// Bits beside one another: how many stand to the right of them, and how many they are.
-#[derive(Clone, Copy, Debug, PartialEq, Eq)]
+#[derive(Clone, Copy)]
 pub struct Bits {
     pub low: u32,
     pub width: u32,

@@ -1,7 +1,7 @@
 //! How a session ends.
 
 /// How a session ended.
-#[derive(Clone, Copy, Debug, PartialEq, Eq)]
+#[derive(Clone, Copy)]
 pub enum Ended {
     /// By a line `quit`.
     Quit,

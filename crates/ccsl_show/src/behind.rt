@@ -21,7 +21,7 @@ use ccsl_page::{Page, Piece};
 use std::alloc::Global;
 
 /// Which of the files may be read once more. A pipe may not.
-#[derive(Clone, Copy, Debug, PartialEq, Eq)]
+#[derive(Clone, Copy)]
 pub struct Again {
     pub spec: bool,
     pub trace: bool,

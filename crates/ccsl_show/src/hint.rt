@@ -8,7 +8,7 @@ use ccsl_parse::ParseFault;
 use ccsl_rules::Refusal;
 
 /// A kind of token that a hint turns on.
-#[derive(Clone, Copy, Debug, PartialEq, Eq)]
+#[derive(Clone, Copy)]
 enum Met {
     Nothing,
     Name,
@@ -132,7 +132,7 @@ fn put_reserved(page: &mut Page, word: Reserved) -> Result<(), Memory> {
 fn is_first_version(tokens: &[Token]) -> bool {
     match tokens {
         [first, second, ..] => {
-            kind_of(Some(first)) == Met::Word(Reserved::Ccsl)
+            matches!(first.kind, TokenKind::Word(Reserved::Ccsl))
                 && matches!(second.kind, TokenKind::Num(1))
         }
         _ => false,

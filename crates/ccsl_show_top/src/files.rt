@@ -6,7 +6,7 @@ ghost use Rattle.ccsl_show_top.specs.Files.{is_written, is_read_again, are_one};
 use ccsl_base::CommandWord;
 
 /// What a file's name leads to.
-#[derive(Clone, Copy, Debug, PartialEq, Eq)]
+#[derive(Clone, Copy)]
 pub enum Found {
     /// a file on a disk
     File,
@@ -61,7 +61,7 @@ pub fn is_read_again(name: &str, found: Found) -> bool
 }
 
 /// What the system knows a file by: its device, and its number there.
-#[derive(Clone, Copy, Debug, PartialEq, Eq)]
+#[derive(Clone, Copy)]
 pub struct Identity {
     pub device: u64,
     pub number: u64,

@@ -8,7 +8,7 @@ use ccsl_show::Own;
 use std::alloc::Global;
 
 /// When colours are shown.
-#[derive(Clone, Copy, Debug, PartialEq, Eq)]
+#[derive(Clone, Copy)]
 pub enum Colour {
     Always,
     Never,

@@ -97,7 +97,7 @@ fn shown_behind<W: World, O: World, L: Listen>(
 }
 
 /// What a run has come to: the exit status of `ccsl`, and whether all was shown that there is.
-#[derive(Clone, Copy, Debug, PartialEq, Eq)]
+#[derive(Clone, Copy)]
 pub struct Outcome {
     pub status: u8,
     pub shown: Result<(), Stop>,

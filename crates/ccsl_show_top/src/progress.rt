@@ -11,7 +11,7 @@ const APART: u64 = 2;
 const STEPS_A_LOOK: u64 = 256;
 
 /// What is read of a trace, once or once more, and made of a simulation, and behind how many seconds that was told.
-#[derive(Clone, Copy, Debug, PartialEq, Eq)]
+#[derive(Clone, Copy)]
 pub struct Gauge {
     /// how many bytes the trace has, and how many were read
     pub size: u64,
@@ -23,7 +23,7 @@ pub struct Gauge {
 }
 
 /// How much of a hundred is done, and how many seconds the rest will take at the pace so far.
-#[derive(Clone, Copy, Debug, PartialEq, Eq)]
+#[derive(Clone, Copy)]
 pub struct Share {
     pub percent: u64,
     pub left: u64,

@@ -1,7 +1,7 @@
 //! What a simulation answers.
 
 /// How a simulation ended.
-#[derive(Clone, Copy, Debug, PartialEq, Eq)]
+#[derive(Clone, Copy)]
 pub enum Done {
     /// With all its steps.
     Full,

@@ -3,7 +3,7 @@
 use ccsl_ast::Param;
 
 /// What a called name stands for: a relation, or a member of a group by the group's number and its own.
-#[derive(Clone, Copy, Debug, PartialEq, Eq)]
+#[derive(Clone, Copy)]
 pub enum Role {
     Relation,
     Member { group: usize, number: usize },

@@ -7,7 +7,7 @@ ghost use Rattle.ccsl_top.specs.Stopping.{stop_code};
 use ccsl_edge::Stop;
 
 /// How an answer ends.
-#[derive(Clone, Copy, Debug, PartialEq, Eq)]
+#[derive(Clone, Copy)]
 pub enum Status {
     /// The specification is accepted; the trace is a run; the certificate is valid; all steps were simulated.
     Done,

@@ -6,7 +6,7 @@ ghost use Rattle.ccsl_trace.specs.Traces.{unread};
 use ccsl_vcd::VcdFault;
 
 /// Why a trace was not read to its end.
-#[derive(Clone, Copy, Debug, PartialEq, Eq)]
+#[derive(Clone, Copy)]
 pub enum TraceFault {
     /// A read of the world failed: the count of the trace's slot has risen, or stands at its last value.
     Fault,

@@ -3,7 +3,7 @@
 use ccsl_vcd_read::Counts;
 
 /// What is to be had of a feed now.
-#[derive(Clone, Copy, Debug, PartialEq, Eq)]
+#[derive(Clone, Copy)]
 pub enum Next {
     /// The header has ended: the bound clocks are known. No rows come with it.
     Bound,

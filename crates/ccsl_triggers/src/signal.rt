@@ -11,7 +11,7 @@ use std::alloc::Global;
 use std::slice::from_ref;
 
 /// The values of one letter before the present time and after it, in lower case.
-#[derive(Clone, Copy, Debug)]
+#[derive(Clone, Copy)]
 pub struct Letter {
     pub before: Option<u8>,
     pub after: Option<u8>,

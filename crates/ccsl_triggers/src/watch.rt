@@ -9,7 +9,7 @@ use crate::signal::Signal;
 use ccsl_scopes::Bits;
 
 /// Bits of a variable, which is named by its number.
-#[derive(Clone, Copy, Debug)]
+#[derive(Clone, Copy)]
 pub struct Part {
     pub signal: usize,
     pub bits: Bits,

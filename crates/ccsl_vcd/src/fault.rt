@@ -5,7 +5,7 @@ use std::alloc::{AllocError, AllocFailed};
 use thiserror::Error;
 
 /// The fault of a trace that is decided first, or want of memory. A place is counted in bytes, from 0.
-#[derive(Clone, Copy, Debug, PartialEq, Eq, Error)]
+#[derive(Clone, Copy, Debug, Error)]
 pub enum VcdFault {
     /// A token of more than 65,536 bytes, at its first byte.
     #[error("token too long at byte {at}")]

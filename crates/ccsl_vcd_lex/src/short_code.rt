@@ -73,7 +73,7 @@ pub fn place_of(code: &[u8]) -> usize
 }
 
 /// How many bytes a code at the front of some bytes has, and its place in a table.
-#[derive(Clone, Copy, Debug)]
+#[derive(Clone, Copy)]
 pub struct ShortCode {
     pub len: usize,
     pub place: usize,

@@ -4,7 +4,7 @@ ghost use Rattle.std.specs.Prelude.{◌≡◌};
 ghost use Rattle.ccsl_vcd.specs.Reading.{is_changes};
 
 /// In a change's place, in a comment, at the code of a value that is 1 or not, or at the code of a value that is skipped.
-#[derive(Clone, Copy, Debug, PartialEq, Eq)]
+#[derive(Clone, Copy)]
 pub enum Amid {
     Changes,
     Remark,

@@ -7,7 +7,7 @@ ghost use Rattle.ccsl_vcd_read.specs.Meant.{header_meant};
 use crate::word::is_text;
 
 /// What stands in a header: in a command's place, or inside a command; in a declaration, which of its words comes next.
-#[derive(Clone, Copy, Debug, PartialEq, Eq)]
+#[derive(Clone, Copy)]
 pub enum Command {
     Between,
     Kind,
@@ -23,7 +23,7 @@ pub enum Command {
 }
 
 /// What a token of a header is.
-#[derive(Clone, Copy, Debug, PartialEq, Eq)]
+#[derive(Clone, Copy)]
 pub enum HeaderWord {
     Var,
     Scope,

@@ -12,7 +12,7 @@ use std::marker::Model;
 
 /// A bound clock, the number of its code, and its values now and at the last earlier time with a change. An event's value
 /// now is whether it ticks.
-#[derive(Clone, Copy, Debug)]
+#[derive(Clone, Copy)]
 pub struct Mark {
     pub clock: u32,
     pub code: u32,

@@ -26,14 +26,14 @@ use std::alloc::Global;
 use std::marker::Model;
 
 /// How many bytes of a piece were taken, and whether the last of them ended the header.
-#[derive(Clone, Copy, Debug, PartialEq, Eq)]
+#[derive(Clone, Copy)]
 pub struct Taken {
     pub bytes: usize,
     pub header_ended: bool,
 }
 
 /// How many rows and bytes a trace has.
-#[derive(Clone, Copy, Debug, PartialEq, Eq)]
+#[derive(Clone, Copy)]
 pub struct Counts {
     pub rows: u64,
     pub bytes: u64,

@@ -60,7 +60,7 @@ pub(crate) fn bits_at_front(bytes: &[u8]) -> usize
 const DIGITS: usize = 19;
 
 /// How many digits stand at the front of some bytes, and their value.
-#[derive(Clone, Copy, Debug)]
+#[derive(Clone, Copy)]
 pub(crate) struct Digits {
     pub count: usize,
     pub value: u64,

@@ -8,7 +8,7 @@ use std::alloc::Global;
 use std::marker::Model;
 
 /// A bound clock, the number of its code, and whether it is an event.
-#[derive(Clone, Copy, Debug)]
+#[derive(Clone, Copy)]
 pub struct Slot {
     pub clock: u32,
     pub code: u32,
@@ -16,7 +16,7 @@ pub struct Slot {
 }
 
 /// No clock that has a code, the one that has it, or several.
-#[derive(Clone, Copy, Debug)]
+#[derive(Clone, Copy)]
 pub enum User {
     Nobody,
     One(Slot),

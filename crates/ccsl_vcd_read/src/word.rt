@@ -9,7 +9,7 @@ use crate::number::number;
 use crate::scan::are_bits;
 
 /// A time, a change, a command, or a fault. A scalar's code is the rest of its token.
-#[derive(Clone, Copy, Debug, PartialEq, Eq)]
+#[derive(Clone, Copy)]
 pub enum Word {
     Time(u64),
     Scalar(bool),

@@ -3,7 +3,7 @@
 use thiserror::Error;
 
 /// The first fault of a text, in reading order.
-#[derive(Clone, Copy, Debug, PartialEq, Eq, Error)]
+#[derive(Clone, Copy, Debug, Error)]
 pub enum WordFault {
     /// There is no letter: the text is empty, or the parentheses of its period are.
     #[error("no letter")]
