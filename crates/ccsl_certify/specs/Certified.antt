@@ -28,7 +28,7 @@ use Rattle.ccsl_certify.specs.Replaying.{IsTrace}
 abbrev pub Answers : System → List ℕ → List Row → List Line → CertVerdict → Type 0
 Answers K bound rows lines (Yes steps) =
     (verdict K bound rows ≡ verdicts.Run steps) × (is_certificate (scope_of K) (item_formulas K (completed_rows K rows)) lines ≡ true)
-Answers K bound rows lines (NotRun step time item) = verdict K bound rows ≡ verdicts.Violated step time item
+Answers K bound rows lines (NotRun v) = verdict K bound rows ≡ verdicts.Violated v.step v.time v.item
 Answers K bound rows lines (BadLine j) =
     ((steps : ℕ) × (verdict K bound rows ≡ verdicts.Run steps)) × (first_bad_line (scope_of K) (item_formulas K (completed_rows K rows)) lines ≡ Some j)
 

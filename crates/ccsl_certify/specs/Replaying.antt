@@ -23,7 +23,7 @@ pub record AreAfter (K : System) (rows : List Row) (h : states.Held) : Type 0 wh
 -- the answer on a trace with these bound clocks and these rows
 abbrev pub Answers : System → List ℕ → List Row → Replayed → Type 0
 Answers K bound rows (Run steps h) = (verdict K bound rows ≡ verdicts.Run steps) × AreAfter K rows h
-Answers K bound rows (NotRun step time item) = verdict K bound rows ≡ verdicts.Violated step time item
+Answers K bound rows (NotRun v) = verdict K bound rows ≡ verdicts.Violated v.step v.time v.item
 
 module _ (told : Told) (K : System) (limits : Limits) (old new : State) where
   -- the trace was read to its end, which has these bound clocks and these rows

@@ -5,6 +5,7 @@ ghost use Rattle.ccsl_certify.specs.Causes.{of_trace, of_reading, of_text};
 
 use ccsl_edge::ReadFault;
 use ccsl_refute::CertFault;
+use ccsl_relate::Violation;
 use ccsl_state::States;
 use ccsl_trace::TraceFault;
 use ccsl_vcd::VcdFault;
@@ -14,9 +15,8 @@ use ccsl_vcd::VcdFault;
 pub enum Replayed<'s> {
     /// A run of so many steps, and the states after it.
     Run { steps: u64, states: States<'s> },
-    /// No run: the least step at which an item is violated, with its row's time in the trace's own unit, and the least
-    /// item there.
-    NotRun { step: u64, time: u64, item: u32 },
+    /// No run: the least step at which an item is violated, and the least item there.
+    NotRun(Violation),
 }
 
 /// What a trace and a certificate are.
@@ -25,7 +25,7 @@ pub enum CertVerdict {
     /// A run of so many steps after which no set is admissible, as the certificate shows.
     Yes(u64),
     /// The trace is no run.
-    NotRun { step: u64, time: u64, item: u32 },
+    NotRun(Violation),
     /// The trace is a run, and this line of the certificate, counted from 1, is not valid, or the last clause is not empty.
     BadLine(u64),
 }

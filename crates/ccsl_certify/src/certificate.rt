@@ -64,7 +64,7 @@ pub fn certify<W: World>(
     let text = read_all(alloc, world, Slot::Cert, limits.bytes)?;
     let lines = read(alloc, &text, system.names())?;
     match replayed {
-        Replayed::NotRun { step, time, item } => Ok(CertVerdict::NotRun { step, time, item }),
+        Replayed::NotRun(violation) => Ok(CertVerdict::NotRun(violation)),
         Replayed::Run { steps, states } => { check_lines(alloc, system, steps, &states, &lines) }
     }
 }

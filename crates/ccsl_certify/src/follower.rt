@@ -10,7 +10,7 @@ use crate::answer::Replayed;
 use crate::both::both;
 use ccsl_base::{Block, ClockSet, Memory, Row};
 use ccsl_kernel::System;
-use ccsl_relate::{Monitor, Violation};
+use ccsl_relate::Monitor;
 use ccsl_state::States;
 use std::alloc::Global;
 
@@ -84,7 +84,7 @@ impl<'s> Follower<'s> {
             Answers K bound rows result }
     {
         match self.monitor.first() {
-            Some(Violation { step, time, item }) => Replayed::NotRun { step, time, item },
+            Some(violation) => Replayed::NotRun(violation),
             None => Replayed::Run {
                 steps: count,
                 states: self.states,

@@ -4,7 +4,7 @@
 //!     match certify(alloc, keys, world, &system, &limits)? {
 //!         CertVerdict::Yes(steps) => ..,         // no step is left after so many
 //!         CertVerdict::BadLine(line) => ..,      // from 1
-//!         CertVerdict::NotRun { step, .. } => ..,
+//!         CertVerdict::NotRun(violation) => ..,
 //!     }
 //!
 //! Trace and certificate are open in the world. The trace is judged first, and the certificate is read only where it

@@ -16,7 +16,7 @@ use Rattle.ccsl_judge.specs.declared.verdict.Verdict.TheVariants.{Run, Violated}
 -- the verdict of the kernel that a verdict is
 abbrev pub plain : Verdict → kernel.Verdict
 plain (Run rows) = kernel.Run rows
-plain (Violated step time item) = kernel.Violated step time item
+plain (Violated v) = kernel.Violated v.step v.time v.item
 
 -- the verdict on the rows of a whole trace
 abbrev pub verdict_on : System → Limits → List ℕ → kernel.Verdict
@@ -33,4 +33,4 @@ pub record IsJudged (told : Told) (K : System) (limits : Limits) (old new : Stat
 -- the item of a verdict is one of the system's
 abbrev pub HasItem : System → Verdict → Type 0
 HasItem K (Run rows) = Unit {0}
-HasItem K (Violated step time item) = item < item_count K
+HasItem K (Violated v) = v.item < item_count K

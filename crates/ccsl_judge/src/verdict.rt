@@ -14,8 +14,8 @@ use ccsl_relate::Violation;
 pub enum Verdict {
     /// So many rows, none of which violates an item.
     Run(u64),
-    /// The first row that violates an item, from 0, its time in the trace's own unit, and the first item that it violates.
-    Violated { step: u64, time: u64, item: u32 },
+    /// The first row that violates an item, and the first item that it violates.
+    Violated(Violation),
 }
 
 /// The verdict on so many rows whose first violation among all items is given.
@@ -27,10 +27,6 @@ pub(crate) fn verdict_on(first: Option<Violation>, rows: u64) -> Verdict
 {
     match first {
         None => Verdict::Run(rows),
-        Some(violation) => Verdict::Violated {
-            step: violation.step,
-            time: violation.time,
-            item: violation.item,
-        },
+        Some(violation) => Verdict::Violated(violation),
     }
 }

@@ -91,7 +91,7 @@ module _ (none-bad : NoBadLine) (K : System) (trace cert : List ℕ) where
         of-answer : (v : CertVerdict) → Answers K bound rows lines v → verdict_outcome K v ≡ rows_outcome K rows lines (verdict K bound rows)
         of-answer (Yes steps) a = sym (ap (rows_outcome K rows lines) a.0
             ∙ ap (lines_outcome steps) (none-bad (scope_of K) (item_formulas K (kernel.completed_rows K rows)) lines a.1))
-        of-answer (NotRun step time item) a = sym (ap (rows_outcome K rows lines) a)
+        of-answer (NotRun v) a = sym (ap (rows_outcome K rows lines) a)
         of-answer (BadLine j) a = sym (ap (rows_outcome K rows lines) a.0.1 ∙ ap (lines_outcome a.0.0) a.1)
 
 -- READING both files
@@ -240,7 +240,7 @@ module _ (none-bad : NoBadLine) (told : Told) (K : System) (trace cert : List �
 
         verdict-status : (v : CertVerdict) → IsReadStatus (verdict_outcome K v).status
         verdict-status (Yes steps) = (λ e. omega (arith, e), λ e. omega (arith, e), λ e. omega (arith, e))
-        verdict-status (NotRun step time item) = (λ e. omega (arith, e), λ e. omega (arith, e), λ e. omega (arith, e))
+        verdict-status (NotRun v) = (λ e. omega (arith, e), λ e. omega (arith, e), λ e. omega (arith, e))
         verdict-status (BadLine j) = (λ e. omega (arith, e), λ e. omega (arith, e), λ e. omega (arith, e))
 
         four : IsReadStatus 4
@@ -281,7 +281,7 @@ module _ (none-bad : NoBadLine) (told : Told) (K : System) (trace cert : List �
 module _ (told : Told) (K : System) (old new : State) where
   pub certified-item : (r : Result CertVerdict CertifyFault) → IfOk r (λ v. IsCertified told K LIMITS old new v) → IfOk r (λ v. HasItem K v)
   certified-item (Ok (Yes steps)) is = record {}
-  certified-item (Ok (NotRun step time item)) is = violated-item K is.bound is.rows step time item is.answers
+  certified-item (Ok (NotRun v)) is = violated-item K is.bound is.rows v.step v.time v.item is.answers
   certified-item (Ok (BadLine j)) is = record {}
   certified-item (Err f) is = is
 

@@ -14,6 +14,7 @@ use Rattle.ccsl_bind.specs.Collected.{wanted_of}
 use Rattle.ccsl_simulate.specs.declared.answer.Done.{Done}
 use Rattle.ccsl_trace.specs.Traces.{IsRefused}
 use Rattle.ccsl_judge.specs.declared.verdict.Verdict.{Verdict}
+use Rattle.ccsl_relate.specs.declared.violation.Violation.{Violation}
 use Rattle.ccsl_judge.specs.declared.verdict.Verdict.TheVariants.{Run, Violated}
 use Rattle.ccsl_judge.specs.Judged.{IsJudged, plain, verdict_on}
 use Rattle.ccsl_roundtrip.specs.RoundTrip.{SimulatedTracesAreRuns}
@@ -48,8 +49,8 @@ module _ (K : System) (law : SimulatedTracesAreRuns K) (seed steps : ℕ) (few :
       run-same : (a b : ℕ) → kernel.Run a ≡ kernel.Run b → a ≡ b
       run-same a b e = cc
 
-  pub never-violated : (step time item : ℕ) → IsJudged tells_all K LIMITS (shown before) now (Violated step time item) → ⊥
-  never-violated step time item is = apart step time item (length (drawn_run K seed steps)) (judged (Violated step time item) is)
+  pub never-violated : (v : Violation) → IsJudged tells_all K LIMITS (shown before) now (Violated v) → ⊥
+  never-violated v is = apart v.step v.time v.item (length (drawn_run K seed steps)) (judged (Violated v) is)
     where
       apart : (s t i n : ℕ) → kernel.Violated s t i ≡ kernel.Run n → ⊥
       apart s t i n e = absurd (cc)

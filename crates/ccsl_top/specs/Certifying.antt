@@ -22,13 +22,13 @@ use Rattle.ccsl_top.specs.Answered.{plain_reply, IsReadStatus}
 -- the item of a verdict is one of the system's
 abbrev pub HasItem : System → CertVerdict → Type 0
 HasItem K (Yes steps) = Unit {0}
-HasItem K (NotRun step time item) = item < item_count K
+HasItem K (NotRun v) = v.item < item_count K
 HasItem K (BadLine number) = Unit {0}
 
 -- what a verdict is answered by
 abbrev pub verdict_outcome : System → CertVerdict → Outcome
 verdict_outcome K (Yes steps) = outcome 0 (cert_valid_text steps)
-verdict_outcome K (NotRun step time item) = outcome 1 (broken_text (codes "certificate: ") step time item K)
+verdict_outcome K (NotRun v) = outcome 1 (broken_text (codes "certificate: ") v.step v.time v.item K)
 verdict_outcome K (BadLine number) = outcome 1 (cert_no_line_text number)
 
 -- this is answered, or no memory is to be had for its line

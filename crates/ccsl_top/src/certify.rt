@@ -27,9 +27,10 @@ fn reply_on(
 {
     let (status, line) = match certified {
         Ok(CertVerdict::Yes(steps)) => (Status::Done, cert_valid(alloc, steps)?),
-        Ok(CertVerdict::NotRun { step, time, item }) => {
-            (Status::No, cert_no_run(alloc, step, time, item, system)?)
-        }
+        Ok(CertVerdict::NotRun(broken)) => (
+            Status::No,
+            cert_no_run(alloc, broken.step, broken.time, broken.item, system)?,
+        ),
         Ok(CertVerdict::BadLine(number)) => (Status::No, cert_no_line(alloc, number)?),
         Err(CertifyFault::Refused(fault)) => {
             (Status::FileRefused, trace_refused(alloc, &fault, system)?)

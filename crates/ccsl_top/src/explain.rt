@@ -235,9 +235,9 @@ pub(crate) fn explain<W: World>(
         Ok(Replayed::Run { steps, states }) => {
             explain_run(alloc, world, system, cert, steps, &states)
         }
-        Ok(Replayed::NotRun { step, time, item }) => Ok(Reply {
+        Ok(Replayed::NotRun(broken)) => Ok(Reply {
             status: Status::No,
-            line: explain_no_run(alloc, step, time, item, system)?,
+            line: explain_no_run(alloc, broken.step, broken.time, broken.item, system)?,
         }),
         Err(ReplayFault::Refused(fault)) => Ok(Reply {
             status: Status::FileRefused,

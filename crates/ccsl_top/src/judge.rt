@@ -48,8 +48,8 @@ fn reply_on(
             put_run(steps, &mut line);
             Status::Done
         }
-        Ok(Verdict::Violated { step, time, item }) => {
-            put_no_run(step, time, item, system, &mut line);
+        Ok(Verdict::Violated(broken)) => {
+            put_no_run(broken.step, broken.time, broken.item, system, &mut line);
             Status::No
         }
         Err(JudgeFault::Refused(fault)) => {

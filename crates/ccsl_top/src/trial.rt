@@ -96,7 +96,7 @@ fn judged_steps<R: Threads + Sync, G: Gate>(
         &LIMITS,
     ) {
         Ok(Verdict::Run(steps)) => Ok(steps),
-        Ok(Verdict::Violated { .. }) => unreachable!(),
+        Ok(Verdict::Violated(_)) => unreachable!(),
         Err(JudgeFault::Refused(_)) => unreachable!(),
         Err(JudgeFault::Fault) => Err(Memory),
         Err(JudgeFault::Memory) => Err(Memory),

@@ -7,7 +7,7 @@ use Rattle.ccsl_top.proofs.explain.explain.Goals as goal
 pub explain_no_run-requires : goal.explain_no_run-requires
 explain_no_run-requires g c =
     let r = rw c.in-Ok-NotRun.field-0-is at c.in-Ok-NotRun.ensures.replayed in
-    violated-item c.args.system.now r.bound r.rows c.in-Ok-NotRun.step c.in-Ok-NotRun.time c.in-Ok-NotRun.item r.answers
+    violated-item c.args.system.now r.bound r.rows c.in-Ok-NotRun.broken.step c.in-Ok-NotRun.broken.time c.in-Ok-NotRun.broken.item r.answers
 
 pub returns-in-Ok-Run-clause-answers : goal.returns-in-Ok-Run-clause-answers
 returns-in-Ok-Run-clause-answers g c =
@@ -28,6 +28,6 @@ pub returns-in_ok-explain_no_run-in-Ok-NotRun-clause-answers : goal.returns-in_o
 returns-in_ok-explain_no_run-in-Ok-NotRun-clause-answers g c =
     let r = rw c.in-Ok-NotRun.field-0-is at c.in-Ok-NotRun.ensures.replayed in
     trace-no-run g.W.World.told c.args.system.now c.args.cert.now c.args.trace.now (g.W.World.state c.args.world.now) (g.W.World.state c.open_in.new.self)
-    c.in_ok-open_in.ensures.ok (g.W.World.state c.replay.new.world) r.bound r.rows r.trace c.in-Ok-NotRun.step c.in-Ok-NotRun.time c.in-Ok-NotRun.item r.answers
+    c.in_ok-open_in.ensures.ok (g.W.World.state c.replay.new.world) r.bound r.rows r.trace c.in-Ok-NotRun.broken.step c.in-Ok-NotRun.broken.time c.in-Ok-NotRun.broken.item r.answers
     _
     (ap (outcome 1) c.in_ok-explain_no_run-in-Ok-NotRun.ensures)

@@ -9,7 +9,7 @@ pub returns-in-Some : goal.returns-in-Some
 returns-in-Some c = λ K bound rows f count.
     let m = c.args.self.monitor in
     let all = finds-all K m.system bound rows m.start (length m.kept) c.first.result f.system f.start f.count (c.first.ensures.first bound rows f.stands) in
-    first-violated K bound rows c.in-Some.field-0 (subst (λ o. Finds K bound rows 0 (item_count K) o) c.in-Some.is all)
+    first-violated K bound rows c.in-Some.violation (subst (λ o. Finds K bound rows 0 (item_count K) o) c.in-Some.is all)
 
 pub returns : goal.returns
 returns c = λ K bound rows f count.
