@@ -11,9 +11,9 @@ def cases(otherwise):
     return int(WORDS[1]) if len(WORDS) > 1 else otherwise
 
 
-def answer(*words, given=None):
-    """The status, and what is written."""
-    done = subprocess.run([PROGRAM, *words], input=given, capture_output=True, timeout=120)
+def answer(*words, given=None, folder=None):
+    """The status, and what is written, in a folder where one is named."""
+    done = subprocess.run([PROGRAM, *words], input=given, capture_output=True, timeout=120, cwd=folder)
     return done.returncode, done.stdout.decode()
 
 
