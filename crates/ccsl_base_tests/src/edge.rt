@@ -1,5 +1,4 @@
-//! The worlds at work: files in memory, real files, and reads and writes that fall short or fail.
+//! The world of the real files, over a system that fails.
 
 mod failures;
 mod fake;
-mod worlds;

@@ -1,19 +1,7 @@
-//! The small crates below all others: sets and blocks, worlds, lines, formulas, words, command lines, pieces in a pool, certificates.
+//! What needs calls that fail and threads that meet: the world of the real files, and pieces in a pool.
 #![tactic(auto)]
 
 #[cfg(test)]
-mod base;
-#[cfg(test)]
-mod command;
-#[cfg(test)]
 mod edge;
 #[cfg(test)]
-mod formula;
-#[cfg(test)]
-mod lines;
-#[cfg(test)]
 mod pool;
-#[cfg(test)]
-mod refute;
-#[cfg(test)]
-mod words;

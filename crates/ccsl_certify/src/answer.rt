@@ -20,7 +20,7 @@ pub enum Replayed<'s> {
 }
 
 /// What a trace and a certificate are.
-#[derive(Clone, Copy, Debug, PartialEq, Eq)]
+#[derive(Clone, Copy)]
 pub enum CertVerdict {
     /// A run of so many steps after which no set is admissible, as the certificate shows.
     Yes(u64),

@@ -10,7 +10,7 @@ ghost use Rattle.ccsl_judge.specs.Judged.{plain, HasItem};
 use ccsl_relate::Violation;
 
 /// The verdict on the rows of a trace.
-#[derive(Clone, Copy, Debug, PartialEq, Eq)]
+#[derive(Clone, Copy)]
 pub enum Verdict {
     /// So many rows, none of which violates an item.
     Run(u64),

@@ -4,10 +4,9 @@ ghost use Rattle.std.specs.Prelude.{◌≤◌};
 
 use ccsl_base::{CommandWord, HashKeys};
 use ccsl_edge::{CallKind, HeldFile, MemoryWorld, Slot};
-use ccsl_pool::{Gate, NoGate};
+use ccsl_pool::Gate;
 use ccsl_top::run;
 use std::alloc::Global;
-use std::process::Abort;
 use std::test::*;
 use std::thread::Threads;
 
@@ -120,99 +119,4 @@ pub(crate) fn answer_in<R: Threads + Sync, G: Gate>(
     let mut world = world_of(alloc, texts, failing, piece)?;
     let status = run(rt, alloc, KEYS, words.as_slice(), &mut world, gate);
     seen(alloc, status, &world, looked)
-}
-
-/// The program's status, and what is looked at behind a run in which no call fails.
-pub(crate) fn answer_over<R: Threads + Sync>(
-    rt: &R,
-    alloc: Global,
-    line: &str,
-    texts: [&str; 4],
-    piece: usize,
-    looked: Looked<'_>,
-) -> Result<Answer, Fail>
-    requires { 1 ≤ piece }
-{
-    answer_in(rt, alloc, line, texts, NO_CALL, piece, looked, &NoGate)
-}
-
-/// Asserts the program's status and report, with reads and writes of one byte and of many.
-pub(crate) fn answers<R: Threads + Sync + Abort>(
-    rt: &R,
-    alloc: Global,
-    line: &str,
-    texts: [&str; 4],
-    answer: (u8, &str),
-) -> Result<(), Fail> {
-    for piece in [1, 4096] {
-        let found = answer_over(rt, alloc, line, texts, piece, Looked::Written(Slot::Report))?;
-        assert_eq!(rt; (found.status, found.text.as_str()), answer);
-    }
-    Ok(())
-}
-
-/// A specification of version 1 with these lines in its system.
-pub(crate) fn spec_of(alloc: Global, lines: &str) -> Result<String, Fail> {
-    Ok(format!(in alloc; "ccsl 1; system {{ {lines} }}")?)
-}
-
-/// A trace that declares event variables of these names, which have the codes `!`, `"`, `#` and so on.
-pub(crate) fn trace_of(alloc: Global, names: &str, body: &str) -> Result<String, Fail> {
-    let mut text = String::new(alloc);
-    let mut code = b'!';
-    for name in names.split(' ') {
-        let code_text = code as char;
-        let line = format!(in alloc; "$var event 1 {code_text} {name} $end\n")?;
-        text.push_str(line.as_str())?;
-        code = code.saturating_add(1);
-    }
-    text.push_str("$enddefinitions $end\n")?;
-    text.push_str(body)?;
-    text.push_str("\n")?;
-    Ok(text)
-}
-
-/// Asserts what `judge` reports of a trace, with one worker, two and sixteen.
-pub(crate) fn judges<R: Threads + Sync + Abort>(
-    rt: &R,
-    alloc: Global,
-    spec: &str,
-    trace: &str,
-    answer: (u8, &str),
-) -> Result<(), Fail> {
-    for line in [
-        "judge spec=s trace=t",
-        "judge workers=2 spec=s trace=t",
-        "judge spec=s trace=t workers=16",
-    ] {
-        answers(rt, alloc, line, [spec, trace, "", ""], answer)?;
-    }
-    Ok(())
-}
-
-/// The same of a system with these lines, and a trace of event variables.
-pub(crate) fn judges_events<R: Threads + Sync + Abort>(
-    rt: &R,
-    alloc: Global,
-    lines: &str,
-    names: &str,
-    body: &str,
-    answer: (u8, &str),
-) -> Result<(), Fail> {
-    let spec = spec_of(alloc, lines)?;
-    let trace = trace_of(alloc, names, body)?;
-    judges(rt, alloc, spec.as_str(), trace.as_str(), answer)
-}
-
-/// Asserts what `check` reports of a text.
-pub(crate) fn checks<R: Threads + Sync + Abort>(
-    rt: &R,
-    alloc: Global,
-    text: &str,
-    answer: (u8, &str),
-) -> Result<(), Fail> {
-    let report = Looked::Written(Slot::Report);
-    let found = answer_over(rt, alloc, "check spec=s", [text, "", "", ""], 4096, report)?;
-    assert_eq!(rt; (found.status, found.text.as_str()), answer);
-    Ok(())
 }

@@ -1,8 +1,8 @@
-//! Calls of the world that fail, one at a time, and files that are not there.
+//! Calls of the world that fail, one at a time.
 
 ghost use Rattle.std.specs.Prelude.{◌≤◌};
 
-use crate::answered::{Looked, answer_in, answers};
+use crate::answered::{Looked, answer_in};
 use ccsl_edge::{CallKind, Slot};
 use ccsl_pool::NoGate;
 use std::alloc::Global;
@@ -97,27 +97,6 @@ fn each_call_that_fails_is_told(rt: HostRuntime) -> Result<(), Fail> {
         ),
     ] {
         each_call(&rt, rt.alloc(), line, texts, report)?;
-    }
-    Ok(())
-}
-
-// A refused specification comes before a missing trace.
-#[test]
-fn missing_files(rt: HostRuntime) -> Result<(), Fail> {
-    for (line, spec, answer) in [
-        ("judge spec=s trace=u", TWO_CLOCKS, (5, "")),
-        (
-            "judge spec=s trace=u",
-            "ccsl 3;",
-            (3, "spec: syntax at byte 5\n"),
-        ),
-        (
-            "certify spec=s trace=t cert=nowhere",
-            "ccsl 1; system { }",
-            (5, ""),
-        ),
-    ] {
-        answers(&rt, rt.alloc(), line, [spec, "x", "", ""], answer)?;
     }
     Ok(())
 }

@@ -139,20 +139,3 @@ fn each_call_that_fails_is_told(rt: HostRuntime) -> Result<(), Fail> {
     }
     Ok(())
 }
-
-#[test]
-fn the_third_write_fails(rt: HostRuntime) -> Result<(), Fail> {
-    let line = "simulate spec=s trace=x cert=y policy=min seed=42 steps=4";
-    for (looked, text) in [
-        (Looked::Written(Slot::Report), ""),
-        (
-            Looked::Written(Slot::TraceOut),
-            "$version ccsl $end\n$timescale 1 ns $end\n$scope module ccsl $end\n$var event 1 ! a $end\n$var event 1 \" b $end\n$upscope $end\n$enddefinitions $end\n#0\n1!\n",
-        ),
-    ] {
-        let failing = (CallKind::Write, 3);
-        let found = answer_in(&rt, rt.alloc(), line, TEXTS, failing, 4096, looked, &NoGate)?;
-        assert_eq!(rt; (found.status, found.text.as_str()), (5, text));
-    }
-    Ok(())
-}

@@ -1,3 +1,0 @@
-//! Command lines: every kind of fault, and the ranges of values.
-
-mod lines;

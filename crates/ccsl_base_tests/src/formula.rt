@@ -1,3 +1,0 @@
-//! Formulas and partial assignments against tables.
-
-mod tables;

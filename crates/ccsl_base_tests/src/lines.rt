@@ -1,3 +1,0 @@
-//! Lines pulled from inputs in memory.
-
-mod lines;

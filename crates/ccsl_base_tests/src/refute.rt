@@ -1,3 +1,0 @@
-//! Certificates: checked, read and written.
-
-mod certificates;

@@ -1,3 +1,0 @@
-//! Binary words and their texts.
-
-mod words;

@@ -1,4 +1,0 @@
-//! What is possible after some steps of small systems.
-
-mod answers;
-mod asked;
