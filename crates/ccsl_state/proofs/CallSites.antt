@@ -1,62 +1,39 @@
 -- A call of an earlier group, seen from outside of its region.
-use Rattle.std.proofs.Common.{◌≡◌, ℕ, ◌+◌, ◌<◌, ◌≤◌, List, length, take, slice_index, Some, if◌then◌else◌, sym, ap, ap₂, subst, ◌∙◌, arith}
+use Rattle.std.proofs.Common.{◌≡◌, ℕ, ◌+◌, ◌<◌, ◌≤◌, List, false, length, take, slice_index, Some, if◌then◌else◌, sym, ap, ap₂, subst, ◌∙◌, arith}
 use Rattle.std.proofs.lemmas.Bool.{lt-ltb}
 use Rattle.std.proofs.lemmas.List.{length-take-le}
+use Rattle.ccsl_base.specs.declared.limits.TheConstants.{MAX_CELLS}
 use Rattle.ccsl_kernel.specs.declared.actual.Actual.{Actual}
+use Rattle.ccsl_kernel.specs.declared.expr.Expr.{Expr}
 use Rattle.ccsl_kernel.specs.declared.expr.Value.{Value}
+use Rattle.ccsl_kernel.specs.Plain.{plain_expr}
 use Rattle.ccsl_kernel.specs.Syntax.{Body, ECall, System, body_of}
 use Rattle.ccsl_kernel.specs.Cells.{cells_in}
 use Rattle.ccsl_kernel.specs.Fit.{ActualsFit}
-use Rattle.ccsl_kernel.specs.Fitting.{ValuesFit}
-use Rattle.ccsl_state.specs.Tree.{TNever}
+use Rattle.ccsl_kernel.specs.Fitting.{ValuesFit, ExprFits}
+use Rattle.ccsl_state.specs.declared.lay.Lay.{Lay}
+use Rattle.ccsl_state.specs.Tree.{TNever, opening}
 use Rattle.ccsl_state.specs.Layout.{read, read_call, region_of}
-use Rattle.ccsl_state.specs.Standing.{IsCall, IsEnough}
+use Rattle.ccsl_state.specs.Standing.{IsCall, Stands, IsEnough}
+use Rattle.ccsl_state.specs.Regions.{tree, call_tree, size, newborn, HasRoom, IsBefore}
+use Rattle.ccsl_state.specs.Ready.{IsReady, IsCallReady, IsBirthReady}
 use Rattle.ccsl_state.proofs.Frame.{enough_before, read_call_is, call_room}
 
--- what opening a call owes, in n cells
-abbrev pub CallOwes : System → List ℕ → ℕ → ℕ → List Value → List Actual → ℕ → Type 0
-CallOwes K earlier group member args ρ n =
-    IsEnough K earlier × (length earlier ≡ group) × (group < length K.groups) × IsCall K group member args × ValuesFit K.words args × ActualsFit K.words ρ
-    × ((b : Body) → body_of K.groups group member ≡ Some b → 1 + length b.params + cells_in earlier b.root ≤ n) × (n ≤ 32768)
-
 module _ (K : System) (earlier : List ℕ) (group : ℕ) where
-  pub call_owes : (member : ℕ) (args : List Value) (ρ : List Actual) (n : ℕ) → IsEnough K earlier → length earlier ≤ length K.groups → group < length earlier
-      → IsCall K group member args →
-      ValuesFit K.words args → ActualsFit K.words ρ → slice_index earlier group ≤ n → n ≤ 32768 → CallOwes K (take group earlier) group member args ρ n
-  call_owes member args ρ n enough groups below is fits actuals room few =
-      let len : length (take group earlier) ≡ group = length-take-le group earlier (omega (arith, below)) in (
-        enough_before K earlier group (omega (arith, below)) enough,
-        len,
-        omega (arith, groups, below),
-        is,
-        fits,
-        actuals,
-        (λ b at. let r = call_room K earlier group member b enough below (omega (arith, room, few))
-            (subst (λ k. body_of K.groups k member ≡ Some b) (sym len) at) in omega (arith, r, room)),
-        few,
-      )
-
-  pub call_read : (member : ℕ) (args : List Value) (ρ : List Actual) (row : List ℕ) → group < length earlier
+  call_read : (member : ℕ) (args : List Value) (ρ : List Actual) (row : List ℕ) → group < length earlier
       → read K earlier (ECall group member args) ρ row ≡ region_of K (take group earlier) row
   call_read member args ρ row below =
       ap (λ t. if t then read_call K earlier (length earlier) group row else TNever) (lt-ltb group (length earlier) below)
       ∙ read_call_is K earlier (length earlier) group row below (omega arith)
 
   -- seen from its region
-  pub region_read : (K' : System) (earlier' : List ℕ) (member : ℕ) (args : List Value) (ρ : List Actual) (row : List ℕ) → K' ≡ K → earlier' ≡ take group earlier
+  region_read : (K' : System) (earlier' : List ℕ) (member : ℕ) (args : List Value) (ρ : List Actual) (row : List ℕ) → K' ≡ K → earlier' ≡ take group earlier
       → group < length earlier →
       region_of K' earlier' row ≡ read K earlier (ECall group member args) ρ row
   region_read K' earlier' member args ρ row k ns below = ap₂ (λ K ns. region_of K ns row) k ns ∙ sym (call_read member args ρ row below)
 
--- what a call's region owes in a step
-abbrev pub SiteOwes : System → List ℕ → ℕ → ℕ → Type 0
-SiteOwes K earlier group n =
-    IsEnough K earlier × (length earlier ≡ group) × (group < length K.groups) × (1 ≤ n)
-    × ((m : ℕ) (b : Body) → body_of K.groups group m ≡ Some b → 1 + length b.params + cells_in earlier b.root ≤ n) × (n ≤ 32768)
-
-module _ (K : System) (earlier : List ℕ) (group : ℕ) where
   -- its cells are enough
-  pub site_room : IsEnough K earlier → group < length earlier → slice_index earlier group ≤ 32768 →
+  site_room : IsEnough K earlier → group < length earlier → slice_index earlier group ≤ MAX_CELLS →
       (1 ≤ slice_index earlier group) × ((m : ℕ) (b : Body) → body_of K.groups group m ≡ Some b
       → 1 + length b.params + cells_in (take group earlier) b.root ≤ slice_index earlier group)
   site_room enough below few = (
@@ -67,20 +44,63 @@ module _ (K : System) (earlier : List ℕ) (group : ℕ) where
         b) (sym len) is),
   )
 
-  pub site_owes : (n : ℕ) → IsEnough K earlier → length earlier ≤ length K.groups → group < length earlier → slice_index earlier group ≤ n → n ≤ 32768
-      → SiteOwes K (take group earlier) group n
-  site_owes n enough groups below room few =
-      let r = site_room enough below (omega (arith, room, few)) in (
-        enough_before K earlier group (omega (arith, below)) enough,
-        length-take-le group earlier (omega (arith, below)),
-        omega (arith, groups, below),
-        (let p = r.0 in omega (arith, p, room)),
-        (λ m b is. let p = r.1 m b is in omega (arith, p, room)),
-        few,
-      )
+-- THE REGION OF A CALL, seen from the expression and from the place of its group
+pub record IsSite (lay before : Lay) (e : Expr) (ρ : List Actual) (group : ℕ) (row : List ℕ) : Type 0 where
+  pub ready : IsCallReady before group row
+  pub same : (row : List ℕ) → call_tree before row ≡ tree lay e ρ row
+  pub room : HasRoom before group (size lay e)
 
-  pub site_owes_inside : (K' : System) (earlier' : List ℕ) (n : ℕ) → K' ≡ K → earlier' ≡ take group earlier → IsEnough K earlier
-      → length earlier ≤ length K.groups → group < length earlier → slice_index earlier group ≤ n → n ≤ 32768 →
-      SiteOwes K' earlier' group n
-  site_owes_inside K' earlier' n k ns enough groups below room few =
-      subst (λ K. SiteOwes K earlier' group n) (sym k) (subst (λ ns. SiteOwes K ns group n) (sym ns) (site_owes n enough groups below room few))
+pub site : {lay before : Lay} {e : Expr} {group member : ℕ} {args : List Value} {ρ : List Actual} {row : List ℕ} → IsReady lay false 0 e ρ row
+    → plain_expr e ≡ ECall group member args → group < length lay.earlier.now → IsBefore lay group before → IsSite lay before e ρ group row
+site {lay} {before} {e} {group} {member} {args} {ρ} {row} ready is below at =
+    let K = lay.system.now in
+    let E = lay.earlier.now in
+    let few = ready.few in
+    let room = ready.room in
+    let groups = ready.groups in
+    let size_is : size lay e ≡ slice_index E group = ap (cells_in E) is in
+    let r = site_room K E group ready.table below (omega (arith, size_is, room, few)) in
+    let fits : HasRoom before group (size lay e) = λ m b is.
+    subst (λ ns. 1 + length b.params + cells_in ns b.root ≤ size lay e) (sym at.earlier)
+    (let p = r.1 m b (subst (λ K. body_of K.groups group m ≡ Some b) at.system is) in omega (arith, p, size_is)) in
+    record {
+      ready = record {
+        table = subst (IsEnough before.system.now) (sym at.earlier)
+            (subst (λ K. IsEnough K (take group E)) (sym at.system) (enough_before K E group (omega (arith, below)) ready.table));
+        group = ap length at.earlier ∙ length-take-le group E (omega (arith, below));
+        groups = subst (λ K. group < length K.groups) (sym at.system) (omega (arith, groups, below));
+        some = (let p = r.0 in omega (arith, p, size_is, room));
+        room = λ m b is. let p = fits m b is in omega (arith, p, room);
+        few = few;
+      };
+      same = λ row. region_read K E group before.system.now before.earlier.now member args ρ row at.system at.earlier below
+          ∙ ap (λ x. read K E x ρ row) (sym is);
+      room = fits;
+    }
+
+-- at its birth, with the values of its arguments
+pub record IsBirthSite (lay before : Lay) (e : Expr) (ρ : List Actual) (group member : ℕ) (args : List Value) (row : List ℕ) : Type 0 where
+  pub ready : IsBirthReady before group member args ρ row
+  pub born : opening before.system.now (ECall group member args) ρ ≡ newborn lay e ρ
+
+pub birth_site : {lay before : Lay} {e : Expr} {group member : ℕ} {args values : List Value} {ρ : List Actual} {row : List ℕ}
+    → IsReady lay false 0 e ρ row → plain_expr e ≡ ECall group member args → group < length lay.earlier.now → IsBefore lay group before → values ≡ args
+    → IsBirthSite lay before e ρ group member values row
+birth_site {lay} {before} {e} {group} {member} {args} {values} {ρ} {row} ready is below at same =
+    let K = lay.system.now in
+    let s = site ready is below at in
+    let call = subst (Stands K (length lay.earlier.now) false) is ready.stands in
+    let fits = subst (ExprFits K.words) is ready.offsets in
+    record {
+      ready = record {
+        table = s.ready.table;
+        group = s.ready.group;
+        groups = s.ready.groups;
+        is = subst (IsCall before.system.now group member) (sym same) (subst (λ K. IsCall K group member args) (sym at.system) call.1);
+        fits = subst (ValuesFit before.system.now.words) (sym same) (subst (λ (K : System). ValuesFit K.words args) (sym at.system) fits);
+        actuals = subst (λ (K : System). ActualsFit K.words ρ) (sym at.system) ready.actuals;
+        room = s.ready.room member;
+        few = s.ready.few;
+      };
+      born = ap₂ (λ K vs. opening K (ECall group member vs) ρ) at.system same ∙ ap (λ x. opening K x ρ) (sym is);
+    }

@@ -10,11 +10,11 @@ use Rattle.ccsl_state.specs.Layout.{actual_of, read, read_body, read_call, regio
 use Rattle.ccsl_state.proofs.Opening.{opening_call}
 use Rattle.ccsl_state.proofs.Regions.{behind_head, front_head}
 
-first_cell : (head rest : List ℕ) → length head ≡ 1 → slice_index (head ++ rest) 0 ≡ slice_index head 0
+pub first_cell : (head rest : List ℕ) → length head ≡ 1 → slice_index (head ++ rest) 0 ≡ slice_index head 0
 first_cell [] rest l = absurd (omega (arith, l))
 first_cell (x ∷ head) rest l = refl
 
-small_mod : (n : ℕ) → n < 2 ^ 32 → n % 2 ^ 32 ≡ n
+pub small_mod : (n : ℕ) → n < 2 ^ 32 → n % 2 ^ 32 ≡ n
 small_mod n l = omega (arith, l)
 
 -- a call opens its member's body
@@ -37,15 +37,3 @@ module _ (K : System) (earlier : List ℕ) where
       (behind_head 1 head (cells ++ region) l)
       ∙ ap₂ (λ params rest. read K earlier b.root (map (actual_of K.words) params) rest) (front_head (length b.params) cells region few)
       (behind_head (length b.params) cells region few)
-
-  -- A CALL AT ITS BIRTH
-  pub call_born : AreGuarded K → (head cells region : List ℕ) (member g : ℕ) (b : Body) (args : List Value) (ρ vals : List Actual) → length head ≡ 1
-      → slice_index head 0 ≡ member → member < 2 ^ 32 →
-      length earlier ≡ g → g < length K.groups → body_of K.groups g member ≡ Some b → length cells ≡ length b.params → map (actual_of K.words) cells ≡ vals
-      → vals ≡ map (value_of K.words ρ) args →
-      read K earlier b.root vals region ≡ opening K b.root vals → region_of K earlier (head ++ (cells ++ region)) ≡ opening K (ECall g member args) ρ
-  call_born guarded head cells region member g b args ρ vals l at small is_g below is few params values opens =
-      call_at head cells region (head ++ (cells ++ region)) member g b refl l (ap (λ n. n % 2 ^ 32) at ∙ small_mod member small) is_g is few
-      ∙ ap (λ vs. read K earlier b.root vs region) params
-      ∙ opens
-      ∙ call_opens K guarded b member g args ρ vals below is values

@@ -3,6 +3,7 @@ use Rattle.std.proofs.Common.{◌≡◌, ℕ, zero, suc, ◌+◌, ◌<◌, ◌�
 use Rattle.std.proofs.Common.{None, nat_lt, nat_eq, if◌then◌else◌, refl, sym, ap, ap₂, subst, ◌∙◌, arith, ltb-true, ◌%◌, ◌^◌, ⊎_elim}
 use Rattle.std.proofs.lemmas.Bool.{eqb-true, eqb-false, cases_lt}
 use Rattle.std.proofs.lemmas.List.{length-take-le, take-take}
+use Rattle.ccsl_base.specs.declared.limits.TheConstants.{MAX_CELLS}
 use Rattle.ccsl_kernel.specs.declared.expr.ExprOp.{ExprOp}
 use Rattle.ccsl_kernel.specs.declared.expr.ExprOp.TheVariants as op
 use Rattle.ccsl_kernel.specs.declared.actual.Actual.{Actual}
@@ -15,6 +16,7 @@ use Rattle.ccsl_state.specs.Layout.{count_of, offset_of, flag_of, flag_at, bits_
 use Rattle.ccsl_state.specs.Layout.{read_body, read_call, read, region_of}
 use Rattle.ccsl_state.specs.Standing.{is_then, IsEnough}
 use Rattle.ccsl_state.specs.Nodes.{pair_at}
+use Rattle.ccsl_state.specs.Regions.{lag_node}
 use Rattle.ccsl_state.proofs.Pairs.{binary_pair}
 use Rattle.ccsl_state.proofs.Regions.{fewer, within, first_same, second_same, take_own}
 
@@ -51,19 +53,26 @@ lag_front m head rest l =
     ap₂ (λ k bits. Lagging m (rotated k (take m (bits_of bits)))) (first_same own (head ++ rest) head e (omega arith))
     (within own 2 (words_of m) (head ++ rest) head e (omega arith))
 
+-- the nodes that they hold
+pub two_front : (o : ExprOp) (head rest : List ℕ) → length head ≡ own_cells o → two_at o (head ++ rest) ≡ two_at o head
+two_front o head rest l = sym (two_same o head (head ++ rest) (take_own (own_cells o) head rest l))
+
+pub lag_node_front : (m : ℕ) (head rest : List ℕ) → length head ≡ 2 + words_of m → lag_node m (head ++ rest) ≡ lag_node m head
+lag_node_front m head rest l = ap Some (lag_front m head rest l)
+
 module _ (K : System) (earlier : List ℕ) (calls : ℕ → List ℕ → Tree)
-    (calls_same : (group : ℕ) (xs ys : List ℕ) → group < length earlier → slice_index earlier group ≤ 32768
+    (calls_same : (group : ℕ) (xs ys : List ℕ) → group < length earlier → slice_index earlier group ≤ MAX_CELLS
     → take (slice_index earlier group) xs ≡ take (slice_index earlier group) ys → calls group xs ≡ calls group ys)
   where
     -- the region of an expression under some actual parameters
     abbrev Same : Expression → List Actual → Type 0
-    Same e ρ = (xs ys : List ℕ) → cells_in earlier e ≤ 32768 → take (cells_in earlier e) xs ≡ take (cells_in earlier e) ys
+    Same e ρ = (xs ys : List ℕ) → cells_in earlier e ≤ MAX_CELLS → take (cells_in earlier e) xs ≡ take (cells_in earlier e) ys
         → read_in K earlier calls e ρ xs ≡ read_in K earlier calls e ρ ys
 
     binary_same : (o : ExprOp) (a d : Expression) (ρ : List Actual) → Same a ρ → Same d ρ → Same (EBinary o a d) ρ
     binary_same o a d ρ same_a same_d xs ys l e = on (is_then o) refl
       where
-        then_same : (o : ExprOp) → is_then o ≡ true → cells_in earlier (EBinary o a d) ≤ 32768
+        then_same : (o : ExprOp) → is_then o ≡ true → cells_in earlier (EBinary o a d) ≤ MAX_CELLS
             → take (cells_in earlier (EBinary o a d)) xs ≡ take (cells_in earlier (EBinary o a d)) ys →
             read_in K earlier calls (EBinary o a d) ρ xs ≡ read_in K earlier calls (EBinary o a d) ρ ys
         then_same op.Then is l e =
@@ -92,7 +101,7 @@ module _ (K : System) (earlier : List ℕ) (calls : ℕ → List ℕ → Tree)
             let c = cells_pair o m n is in
             let total = own_cells o + m + n in
             let e' : take total xs ≡ take total ys = subst (λ k. take k xs ≡ take k ys) c e in
-            let l' : total ≤ 32768 = subst (λ k. k ≤ 32768) c l in
+            let l' : total ≤ MAX_CELLS = subst (λ k. k ≤ MAX_CELLS) c l in
             let A = λ (zs : List ℕ). read_in K earlier calls a ρ (drop (own_cells o) zs) in
             let D = λ (zs : List ℕ). read_in K earlier calls d ρ (drop (own_cells o + m) zs) in
             let X = λ (zs : List ℕ). then_at (flag_at zs) (read_in K earlier calls a ρ (drop 1 zs)) (read_in K earlier calls d ρ (drop 1 zs)) d ρ in
@@ -116,7 +125,7 @@ module _ (K : System) (earlier : List ℕ) (calls : ℕ → List ℕ → Tree)
         (same_a (drop (2 + w) xs) (drop (2 + w) ys) (omega arith) (within total (2 + w) p xs ys e (omega arith)))
         (same_d (drop (2 + w + p) xs) (drop (2 + w + p) ys) (omega arith) (within total (2 + w + p) q xs ys e (omega arith)))
 
-    pub read_in_same : (e : Expression) (ρ : List Actual) (xs ys : List ℕ) → cells_in earlier e ≤ 32768
+    pub read_in_same : (e : Expression) (ρ : List Actual) (xs ys : List ℕ) → cells_in earlier e ≤ MAX_CELLS
         → take (cells_in earlier e) xs ≡ take (cells_in earlier e) ys →
         read_in K earlier calls e ρ xs ≡ read_in K earlier calls e ρ ys
     read_in_same (EName x) ρ xs ys l e = refl
@@ -196,9 +205,9 @@ module _ (K : System) where
 
   -- the region of a call depends on its own cells alone
   region_step : (earlier : List ℕ) (n : ℕ) (xs ys : List ℕ) → IsEnough K earlier → 1 ≤ n →
-      ((m : ℕ) (b : Body) → body_of K.groups (length earlier) m ≡ Some b → 1 + length b.params + cells_in earlier b.root ≤ n) → n ≤ 32768
+      ((m : ℕ) (b : Body) → body_of K.groups (length earlier) m ≡ Some b → 1 + length b.params + cells_in earlier b.root ≤ n) → n ≤ MAX_CELLS
       → take n xs ≡ take n ys →
-      ((b : Body) (ρ : List Actual) (xs ys : List ℕ) → cells_in earlier b.root ≤ 32768 → take (cells_in earlier b.root) xs ≡ take (cells_in earlier b.root) ys
+      ((b : Body) (ρ : List Actual) (xs ys : List ℕ) → cells_in earlier b.root ≤ MAX_CELLS → take (cells_in earlier b.root) xs ≡ take (cells_in earlier b.root) ys
       → read K earlier b.root ρ xs ≡ read K earlier b.root ρ ys) →
       region_of K earlier xs ≡ region_of K earlier ys
   region_step earlier n xs ys enough pos room few e same =
@@ -219,19 +228,19 @@ module _ (K : System) where
 
   -- the tree in the region of a body, for all bodies of a group
   abbrev SameBodies : List ℕ → Type 0
-  SameBodies earlier = (b : Body) (ρ : List Actual) (xs ys : List ℕ) → cells_in earlier b.root ≤ 32768
+  SameBodies earlier = (b : Body) (ρ : List Actual) (xs ys : List ℕ) → cells_in earlier b.root ≤ MAX_CELLS
       → take (cells_in earlier b.root) xs ≡ take (cells_in earlier b.root) ys →
       read K earlier b.root ρ xs ≡ read K earlier b.root ρ ys
 
   -- the cells of a call before a body, where they are no more than there are
-  pub call_room : (earlier : List ℕ) (group m : ℕ) (b : Body) → IsEnough K earlier → group < length earlier → slice_index earlier group ≤ 32768 →
+  pub call_room : (earlier : List ℕ) (group m : ℕ) (b : Body) → IsEnough K earlier → group < length earlier → slice_index earlier group ≤ MAX_CELLS →
       body_of K.groups (length (take group earlier)) m ≡ Some b → 1 + length b.params + cells_in (take group earlier) b.root ≤ slice_index earlier group
   call_room earlier group m b enough below few is =
       let len : length (take group earlier) ≡ group = length-take-le group earlier (omega (arith, below)) in
       let h = (enough group below).1 m b (subst (λ k. body_of K.groups k m ≡ Some b) len is) in
       omega (arith, h, few)
 
-  call_same : (earlier : List ℕ) (group : ℕ) (xs ys : List ℕ) → IsEnough K earlier → group < length earlier → slice_index earlier group ≤ 32768 →
+  call_same : (earlier : List ℕ) (group : ℕ) (xs ys : List ℕ) → IsEnough K earlier → group < length earlier → slice_index earlier group ≤ MAX_CELLS →
       take (slice_index earlier group) xs ≡ take (slice_index earlier group) ys → SameBodies (take group earlier) →
       read_call K earlier (length earlier) group xs ≡ read_call K earlier (length earlier) group ys
   call_same earlier group xs ys enough below few e same =
@@ -242,7 +251,7 @@ module _ (K : System) where
 
   -- for each group in turn
   pub read_same_to : (bound : ℕ) (earlier : List ℕ) (e : Expression) (ρ : List Actual) (xs ys : List ℕ) → length earlier < bound → IsEnough K earlier
-      → cells_in earlier e ≤ 32768 →
+      → cells_in earlier e ≤ MAX_CELLS →
       take (cells_in earlier e) xs ≡ take (cells_in earlier e) ys → read K earlier e ρ xs ≡ read K earlier e ρ ys
   read_same_to zero earlier e ρ xs ys l enough few same = absurd (omega (arith, l))
   read_same_to (suc bound) earlier e ρ xs ys l enough few same =
@@ -254,6 +263,6 @@ module _ (K : System) where
       e ρ xs ys few same
 
   -- THE FRAME
-  pub read_same : (earlier : List ℕ) (e : Expression) (ρ : List Actual) (xs ys : List ℕ) → IsEnough K earlier → cells_in earlier e ≤ 32768 →
+  pub read_same : (earlier : List ℕ) (e : Expression) (ρ : List Actual) (xs ys : List ℕ) → IsEnough K earlier → cells_in earlier e ≤ MAX_CELLS →
       take (cells_in earlier e) xs ≡ take (cells_in earlier e) ys → read K earlier e ρ xs ≡ read K earlier e ρ ys
   read_same earlier e ρ xs ys enough few same = read_same_to (suc (length earlier)) earlier e ρ xs ys (omega arith) enough few same

@@ -6,9 +6,7 @@ pub mod Frame
 pub mod Calls
 pub mod CallSites
 pub mod CallBodies
-pub mod Moving
-pub mod TwoOperands
-pub mod Settling
+pub mod Operands
 pub mod Evals
 pub mod Bits
 pub mod Keeping

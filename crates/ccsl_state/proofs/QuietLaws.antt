@@ -1,5 +1,5 @@
 -- A tree that hears nothing tells nothing and stays, for each operator.
-use Rattle.std.proofs.Common.{◌≡◌, ℕ, ◌+◌, ◌-◌, List, [], ◌∷◌, length, Bool, true, false, not, ◌&&◌, ◌||◌, Some, slice_get, slice_index_or, nat_eq, nat_le}
+use Rattle.std.proofs.Common.{◌≡◌, ℕ, ◌+◌, ◌-◌, List, [], ◌∷◌, length, Bool, true, false, not, ◌&&◌, Some, slice_get, slice_index_or, nat_eq, nat_le}
 use Rattle.std.proofs.Common.{nat_lt, if◌then◌else◌, refl, sym, ap, ap₂, ◌∙◌}
 use Rattle.std.proofs.lemmas.Bool.{and_parts, and_from, not-true}
 use Rattle.std.proofs.Math.Bool.{and-false, or-false, and-true}

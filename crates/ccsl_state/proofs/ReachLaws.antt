@@ -1,6 +1,6 @@
 -- What a pass over the definitions, from the last one down, has reached.
-use Rattle.std.proofs.Common.{◌≡◌, ℕ, ◌+◌, ◌-◌, ◌<◌, ◌≤◌, List, Bool, true, false, ◌||◌, Some, None, slice_get, nat_lt, if◌then◌else◌, refl, sym, ap, ◌∙◌}
-use Rattle.std.proofs.Common.{arith, ⊎_elim, ltb-false}
+use Rattle.std.proofs.Common.{◌≡◌, ℕ, ◌+◌, ◌<◌, ◌≤◌, List, true, false, ◌||◌, Some, slice_get, sym, ap, ◌∙◌}
+use Rattle.std.proofs.Common.{arith, ⊎_elim}
 use Rattle.std.proofs.lemmas.Bool.{or_cases, cases_eq, or_left, or_right}
 use Rattle.std.proofs.lemmas.Option.{slice_get_within}
 use Rattle.ccsl_base.specs.Clocks.{ticks_in}
@@ -11,7 +11,6 @@ use Rattle.ccsl_kernel.proofs.Definitions.{definitions-are}
 use Rattle.ccsl_state.specs.Within.{NamesWithin}
 use Rattle.ccsl_state.specs.Reach.{names_clock, Includes, IsClosed}
 use Rattle.ccsl_state.proofs.WithinLaws.{named_below, names_within}
-use Rattle.ccsl_kernel.proofs.Completion.{past_declared}
 
 module _ (K : System) (ok : IsAccepted K) where
   -- a definition names lower clocks, so few as there are

@@ -1,11 +1,10 @@
 -- A STEP THAT VISITS ONLY WHAT HEARS SOMETHING: a definition that waits for its visit is untouched, and one that does not is done.
-use Rattle.std.proofs.Common.{◌≡◌, ℕ, zero, suc, ◌+◌, ◌<◌, ◌≤◌, ◌⊎◌, inl, inr, ⊎_elim, List, [], ◌∷◌, length, Bool, true, false, not, ◌&&◌, ◌||◌, Option, Some}
-use Rattle.std.proofs.Common.{None, slice_get, slice_set, slice_index_or, nat_eq, nat_lt, if◌then◌else◌, eq-eqb, lt-ltb, ltb-false, refl, sym, ap, ap₂, subst}
+use Rattle.std.proofs.Common.{◌≡◌, ℕ, zero, suc, ◌+◌, ◌<◌, ◌≤◌, ⊎_elim, List, [], ◌∷◌, length, Bool, true, false, not, ◌&&◌, ◌||◌, Option, Some}
+use Rattle.std.proofs.Common.{None, slice_get, slice_set, slice_index_or, nat_eq, eq-eqb, refl, sym, ap, ap₂, subst}
 use Rattle.std.proofs.Common.{◌∙◌, arith}
-use Rattle.std.specs.List.{list_all}
-use Rattle.std.proofs.lemmas.Bool.{cases_eq, ne_eqb, and_parts, and_from, or_cases, ltb-true, cases_Bool, or_parts, not-false, both_ways}
+use Rattle.std.proofs.lemmas.Bool.{cases_eq, ne_eqb, and_parts, or_cases, cases_Bool, or_parts, not-false, both_ways}
 use Rattle.std.proofs.lemmas.Option.{slice_get_within}
-use Rattle.ccsl_base.specs.Clocks.{ticks_in, with_clock, is_ascending, are_below}
+use Rattle.ccsl_base.specs.Clocks.{ticks_in, is_ascending, are_below}
 use Rattle.ccsl_base.specs.Changes.{put_clock}
 use Rattle.ccsl_base.proofs.Sets.{ticks_in-put_same, ticks_in-put_other, ticks_in-with_same, ticks_in-with_other}
 use Rattle.ccsl_formula.specs.Formula.{eval}

@@ -3,6 +3,7 @@ use Rattle.std.proofs.Common.{◌≡◌, ℕ, suc, ◌+◌, ◌-◌, ◌*◌, �
 use Rattle.std.proofs.Common.{ap₂, subst, ◌∙◌, arith, length-append}
 use Rattle.std.proofs.lemmas.Bool.{ne_eqb}
 use Rattle.std.proofs.Math.Seq.{take-length}
+use Rattle.ccsl_base.specs.declared.limits.TheConstants.{MAX_CELLS}
 use Rattle.ccsl_base.specs.Clocks.{ticks_in}
 use Rattle.ccsl_formula.specs.Formula.{eval}
 use Rattle.ccsl_kernel.specs.Syntax.{Expression, System, definition_of}
@@ -17,6 +18,9 @@ use Rattle.ccsl_state.specs.Moves.{gone_in}
 use Rattle.ccsl_state.specs.Standing.{IsEnough}
 use Rattle.ccsl_state.specs.States.{put, cells_from, next_all, deaths_from, derived_in, passed_all, trees_in, opened_all}
 use Rattle.ccsl_state.specs.Below.{TreesBelow}
+use Rattle.ccsl_state.specs.declared.lay.Lay.{Lay}
+use Rattle.ccsl_state.specs.Whole.{IsWhole}
+use Rattle.ccsl_state.specs.Ready.{HasRegions}
 use Rattle.ccsl_state.specs.Held.{calls_of, trees_of, deaths_of, counts_of, derived_by, CellsCount, Advances}
 use Rattle.ccsl_state.proofs.TableLaws.{table_len, table_enough, table_room}
 use Rattle.ccsl_state.proofs.WithinLaws.{below_within, opening_within, next_within, next_same}
@@ -24,7 +28,7 @@ use Rattle.ccsl_state.proofs.Frame.{read_same}
 use Rattle.ccsl_state.proofs.Regions.{behind_head, front_head, within, fewer}
 
 -- the trees don't depend on what lies behind their regions
-pub trees_same : (K : System) (earlier : List ℕ) (es : List Expression) (n : ℕ) (xs ys : List ℕ) → IsEnough K earlier → cells_from earlier es ≤ n → n ≤ 32768
+pub trees_same : (K : System) (earlier : List ℕ) (es : List Expression) (n : ℕ) (xs ys : List ℕ) → IsEnough K earlier → cells_from earlier es ≤ n → n ≤ MAX_CELLS
     → take n xs ≡ take n ys →
     trees_in K earlier es xs ≡ trees_in K earlier es ys
 trees_same K earlier [] n xs ys enough room few same = refl
@@ -129,14 +133,24 @@ module _ (K : System) (ok : IsAccepted K) where
       }
 
 -- WHAT THE TABLE OF CALLS OWES, where it is the system's
-pub record IsReady (K : System) (C : List ℕ) : Type 0 where
+pub record HasCells (K : System) (C : List ℕ) : Type 0 where
   pub table : IsEnough K C
   pub groups : length C ≡ length K.groups
   pub room : cells_from C K.definitions + 2 * length K.constraints ≤ cells K
-  pub few : cells K ≤ 32768
+  pub few : cells K ≤ MAX_CELLS
 
-pub ready_table : (K : System) (C : List ℕ) → IsAccepted K → C ≡ calls_of K → IsReady K C
-ready_table K C ok is = subst (IsReady K) (sym is) (record { table = table_enough K; groups = table_len K.groups; room = table_room K ok; few = ok.few_cells })
+pub ready_table : (K : System) (C : List ℕ) → IsAccepted K → C ≡ calls_of K → HasCells K C
+ready_table K C ok is = subst (HasCells K) (sym is) (record { table = table_enough K; groups = table_len K.groups; room = table_room K ok; few = ok.few_cells })
+
+-- THE REGIONS lie before the constraints' cells
+pub whole_regions : (lay : Lay) (row front : List ℕ) → IsAccepted lay.system.now → IsWhole lay row → length front ≤ length row
+    → length row ≤ length front + 2 * length lay.system.now.constraints → HasRegions lay 0 front
+whole_regions lay row front ok whole most least =
+    let ready = ready_table lay.system.now lay.earlier.now ok whole.calls in
+    let room = ready.room in
+    let few = ready.few in
+    let size = whole.size in
+    record { table = ready.table; groups = ready.groups; within = omega arith; room = omega arith; few = omega arith }
 
 module _ (K : System) (ok : IsAccepted K) (C : List ℕ) (is : C ≡ calls_of K) (x : ℕ) (at : x ≡ K.declared) where
   pub row_goes_on : (declared step gone front counts front' counts' row row' : List ℕ) → row ≡ front ++ counts → row' ≡ front' ++ counts' →

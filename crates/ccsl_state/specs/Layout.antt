@@ -2,7 +2,7 @@
 --     earlier      the cells of a call to each group before that of the body; a call to a later group is one of the own group
 --     read_in K earlier calls e ρ row      the tree in the region of e, where `calls group row` is that in the region of a call
 --     read_call, read      the tree in the region of a call to a group; in that of an expression
-use Rattle.std.specs.Prelude.{ℕ, zero, suc, ◌+◌, ◌/◌, ◌%◌, ◌^◌, List, [], ◌∷◌, ◌++◌, Bool, true, false, not, Option, Some, None, length, map, min, take, drop}
+use Rattle.std.specs.Prelude.{ℕ, zero, suc, ◌+◌, ◌*◌, ◌/◌, ◌%◌, ◌^◌, List, [], ◌∷◌, ◌++◌, Bool, true, false, not, Option, Some, None, length, map, min, take, drop}
 use Rattle.std.specs.Prelude.{slice_index, nat_eq, nat_lt, if◌then◌else◌}
 use Rattle.ccsl_words.specs.Word.{BinaryWord, is_finite, word_len}
 use Rattle.ccsl_kernel.specs.declared.expr.ExprOp.{ExprOp}
@@ -12,6 +12,7 @@ use Rattle.ccsl_kernel.specs.declared.actual.Actual.TheVariants as actual
 use Rattle.ccsl_kernel.specs.Syntax.{Expression, EName, ECall, ENever, EBinary, EDelay, EAwait, EFilter, EDelayed, EIf, Body, System, body_of}
 use Rattle.ccsl_kernel.specs.Actuals.{place_of, number_of, suffix_of, test_of, word_of}
 use Rattle.ccsl_kernel.specs.Cells.{cells_in}
+use Rattle.ccsl_state.specs.declared.params.TheConstants.{KINDS, OFFSETS}
 use Rattle.ccsl_state.specs.Tree.{most, Delaying, Awaiting, Filtering, Two, Uniting, Meeting, Lessening, Leading, Trailing, Ending, EndingWeakly, Sampling}
 use Rattle.ccsl_state.specs.Tree.{SamplingWeakly, Lagging, Tree, TNever, TOne, TTwo, TThen, leaf}
 
@@ -33,15 +34,24 @@ is_offset w o = nat_lt o (word_len w + (if is_finite w then 1 else 0))
 abbrev pub offset_of : BinaryWord → ℕ → ℕ
 offset_of w n = if is_offset w n then n else 0
 
--- a parameter's cell: 0 and a clock, 1 and a number, or 2, a word and an offset in 13 bits
+-- a parameter's cell: 0 and a clock, 1 and a number, or 2, an offset and a word
 abbrev pub word_or_none : Bool → ℕ → ℕ → Actual
 word_or_none fits w o = if fits then actual.Word w o else actual.Number 0
 
+abbrev pub low_of : ℕ → ℕ
+low_of n = n / KINDS % 2 ^ 32
+
+abbrev pub word_at : ℕ → ℕ
+word_at n = n / (KINDS * OFFSETS) % 2 ^ 32
+
+abbrev pub offset_at : ℕ → ℕ
+offset_at n = n / KINDS % OFFSETS
+
 abbrev pub actual_of : List BinaryWord → ℕ → Actual
 actual_of words n =
-    if nat_eq (n % 4) 0 then actual.Clock (n / 4 % 2 ^ 32)
-    else if nat_eq (n % 4) 1 then actual.Number (n / 4 % 2 ^ 32)
-    else word_or_none (is_offset (word_of words (n / 32768 % 2 ^ 32)) (n / 4 % 8192)) (n / 32768 % 2 ^ 32) (n / 4 % 8192)
+    if nat_eq (n % KINDS) 0 then actual.Clock (low_of n)
+    else if nat_eq (n % KINDS) 1 then actual.Number (low_of n)
+    else word_or_none (is_offset (word_of words (word_at n)) (offset_at n)) (word_at n) (offset_at n)
 
 -- the cells of an operator before its operands' regions, and what they hold
 abbrev pub own_cells : ExprOp → ℕ

@@ -17,5 +17,7 @@ pub mod Laid
 pub mod Part
 pub mod PartLaid
 pub mod Regions
+pub mod Ready
+pub mod Walks
 pub mod Passing
 pub mod Visits

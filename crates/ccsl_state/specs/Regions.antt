@@ -2,7 +2,8 @@
 --     tree, call_tree      the tree in the region of an expression; in that of a call to the group behind the place
 --     size, size_from      the cells of an expression; of the definitions from number i on
 --     newborn, after, ticks      the tree at a birth; after a step; whether it ticks in a step
-use Rattle.std.specs.Prelude.{◌≡◌, ℕ, ◌+◌, ◌≤◌, List, Bool, true, Some, length, drop}
+--     one_tree, pair_tree, then_tree      the tree of an operator, from those of its operands
+use Rattle.std.specs.Prelude.{◌≡◌, ℕ, ◌+◌, ◌≤◌, List, Bool, Option, Some, length, drop, take, max, slice_index}
 use Rattle.ccsl_formula.specs.Formula.{eval}
 use Rattle.ccsl_kernel.specs.declared.actual.Actual.{Actual}
 use Rattle.ccsl_kernel.specs.declared.expr.Expr.{Expr}
@@ -13,11 +14,12 @@ use Rattle.ccsl_kernel.specs.Cells.{cells_in}
 use Rattle.ccsl_kernel.specs.Fit.{ActualsFit}
 use Rattle.ccsl_kernel.specs.Fitting.{ExprFits}
 use Rattle.ccsl_state.specs.declared.lay.Lay.{Lay}
-use Rattle.ccsl_state.specs.Tree.{Tree, opening, next, formula_of}
-use Rattle.ccsl_state.specs.Layout.{flag_at, then_at, read, region_of}
+use Rattle.ccsl_state.specs.declared.node.Unary.{Unary}
+use Rattle.ccsl_state.specs.Tree.{Tree, Two, TOne, opening, next, formula_of}
+use Rattle.ccsl_state.specs.Layout.{flag_at, lag_at, then_at, read, region_of}
+use Rattle.ccsl_state.specs.Nodes.{one_at, pair_at}
 use Rattle.ccsl_state.specs.Standing.{Stands, IsEnough}
 use Rattle.ccsl_state.specs.Moves.{gone_in}
-use Rattle.ccsl_state.specs.Quiet.{is_settled}
 use Rattle.ccsl_state.specs.States.{cells_from, trees_in}
 
 abbrev pub tree : Lay → Expr → List Actual → List ℕ → Tree
@@ -44,6 +46,11 @@ trees_from lay i row = trees_in lay.system.now lay.earlier.now (drop i lay.syste
 
 abbrev pub size_from : Lay → ℕ → ℕ
 size_from lay i = cells_from lay.earlier.now (drop i lay.system.now.definitions)
+
+-- the place of the bodies of a group
+pub record IsBefore (lay : Lay) (group : ℕ) (before : Lay) : Type 0 where
+  pub system : before.system.now ≡ lay.system.now
+  pub earlier : before.earlier.now ≡ take group lay.earlier.now
 
 -- what is owed: a table that is enough, an expression that may stand there, and words' offsets that fit
 abbrev pub HasTable : Lay → Type 0
@@ -75,8 +82,22 @@ HasRoom lay group n = (m : ℕ) (b : Body) → body_of lay.system.now.groups gro
 abbrev pub then_tree : Lay → Expr → Expr → List Actual → List ℕ → Tree
 then_tree lay a d ρ row = then_at (flag_at row) (left_tree lay a ρ 1 row) (left_tree lay d ρ 1 row) (plain_expr d) ρ
 
--- both are settled after a step
-abbrev pub AreSettled : Lay → Expr → Expr → List Actual → ℕ → Step → List ℕ → List ℕ → Type 0
-AreSettled lay a d ρ own s gone row =
-    (is_settled (gone_in gone) (after lay s gone (left_tree lay a ρ own row)) ≡ true)
-    × (is_settled (gone_in gone) (after lay s gone (right_tree lay a d ρ own row)) ≡ true)
+-- an operator of one operand; of two, whose node the own cells hold
+abbrev pub one_tree : Lay → Unary → Expr → List Actual → List ℕ → Tree
+one_tree lay unary a ρ row = TOne (one_at lay.system.now.words unary (slice_index row 0)) (left_tree lay a ρ 1 row)
+
+abbrev pub pair_tree : Lay → (List ℕ → Option Two) → ℕ → Expr → Expr → List Actual → List ℕ → Tree
+pair_tree lay at own a d ρ row = pair_at (at row) (left_tree lay a ρ own row) (right_tree lay a d ρ own row)
+
+abbrev pub newborn_pair : Lay → Option Two → Expr → Expr → List Actual → Tree
+newborn_pair lay o a d ρ = pair_at o (newborn lay a ρ) (newborn lay d ρ)
+
+abbrev pub lag_node : ℕ → List ℕ → Option Two
+lag_node m row = Some (lag_at m row)
+
+-- the cells of two operands one behind the other, and of two that share theirs
+abbrev pub pair_size : Lay → ℕ → Expr → Expr → ℕ
+pair_size lay own a d = own + size lay a + size lay d
+
+abbrev pub choice_size : Lay → Expr → Expr → ℕ
+choice_size lay a d = 1 + max (size lay a) (size lay d)

@@ -1,22 +1,13 @@
 //! The region of an expression after a step. One pass tells the tick in the step, rewrites the cells, and tells the death
 //! after it.
 
-ghost use Rattle.std.specs.Prelude.{suc, ◌≡◌, ◌<◌, ◌≤◌, ◌+◌, ◌*◌, ◌^◌, ◌%◌, ℕ, false, true, not, drop, length, max, option_map, slice_index, Option, Some, None, IfSome};
-ghost use Rattle.ccsl_formula.specs.Formula.{eval};
-ghost use Rattle.ccsl_kernel.specs.Syntax.{Body, ECall, body_of};
-ghost use Rattle.ccsl_kernel.specs.Plain.{plain_expr};
-ghost use Rattle.ccsl_kernel.specs.Deep.{deep};
-ghost use Rattle.ccsl_kernel.specs.Cells.{cells_in};
-ghost use Rattle.ccsl_kernel.specs.Fit.{ActualFits, ActualsFit, TestFits};
-ghost use Rattle.ccsl_kernel.specs.Fitting.{ValuesFit, ExprFits};
-ghost use Rattle.ccsl_state.specs.Tree.{leaf, opening, formula_of, dead_of, one_ticks, one_next, one_dead, two_ticks, two_dead, two_next, next};
-ghost use Rattle.ccsl_state.specs.Layout.{words_of, lag_at, own_cells, two_at, then_at, flag_at, read, region_of};
-ghost use Rattle.ccsl_state.specs.Standing.{is_then, IsCall, Stands, is_own, IsEnough};
-ghost use Rattle.ccsl_state.specs.Nodes.{one_at, node_ticks, node_dead};
-ghost use Rattle.ccsl_state.specs.Moves.{gone_in, IsTail, Outcome};
-ghost use Rattle.ccsl_state.specs.Quiet.{is_settled};
-ghost use Rattle.ccsl_state.specs.Regions.{tree, call_tree, size, newborn, after, ticks, HasTable, MayStand, WordsFit, ParamsFit, left_tree, right_tree, then_tree, AreSettled, HasRoom};
+ghost use Rattle.std.specs.Prelude.{◌≡◌, ◌≤◌, ◌+◌, ℕ, false, true, drop, None};
+ghost use Rattle.ccsl_state.specs.Layout.{words_of, own_cells, two_at};
+ghost use Rattle.ccsl_state.specs.Regions.{tree, call_tree, one_tree, pair_tree, then_tree, lag_node, size, pair_size, choice_size, MayStand, HasRoom};
+ghost use Rattle.ccsl_state.specs.Ready.{IsReady, AreReady, IsCallReady};
+ghost use Rattle.ccsl_state.specs.Walks.{IsAdvanced, IsRewritten};
 
+use crate::call::call_body;
 use crate::cells::{is_then, own_cells, size_of};
 use crate::lag::{lag_cells, lag_dead, lag_moved, lag_ticks};
 use crate::lay::Lay;
@@ -24,15 +15,14 @@ use crate::moved::{Moved, Visited};
 use crate::name::{is_gone, name_ticks};
 use crate::node::{Unary, filter_from, two_dead, two_moved, two_ticks};
 use crate::open::{call_opened, opened};
-use crate::params::actuals_at;
 use crate::tail::own_call;
-use ccsl_base::{ClockSet, MAX_CELLS, MAX_DELAY, MAX_LEVELS};
+use ccsl_base::{ClockSet, MAX_DELAY};
 use ccsl_kernel::{Actual, Expr, ExprOp};
 
 /// Rewrites the region of an expression by a step: whether it ticks in it, whether it is dead behind it, and how many
 /// cells the region has. It takes no memory.
 #[cycle(advance)]
-#[tactic(auto, using(crate::proofs::Places::inner_stands, crate::proofs::Evals::one_eval, crate::proofs::Evals::two_eval, crate::proofs::Evals::pair_eval))]
+#[tactic(auto, using(crate::proofs::Places::inner_stands))]
 pub fn advanced<'s>(
     lay: &Lay<'s>,
     e: &'s Expr,
@@ -41,22 +31,9 @@ pub fn advanced<'s>(
     step: &ClockSet,
     gone: &ClockSet,
 ) -> Moved<'s>
-    requires table { HasTable lay.now }
-    requires groups { length lay.now.earlier.now ≤ length lay.now.system.now.groups }
-    requires shallow { deep (plain_expr e.now) ≤ suc MAX_LEVELS }
-    requires offsets { WordsFit lay.now e.now }
-    requires stands { MayStand lay.now false e.now }
-    requires actuals { ParamsFit lay.now actuals.now }
-    requires room { size lay.now e.now ≤ length row.old }
-    requires few { length row.old ≤ MAX_CELLS }
-    ensures tick { result.tick ≡ ticks (tree lay.now e.now actuals.now row.old) step.now }
-    ensures next { Outcome lay.now.system.now step.now (gone_in gone.now)
-        (length lay.now.earlier.now) actuals.now (tree lay.now e.now actuals.now row.old)
-        (tree lay.now e.now actuals.now row.new) result.dead result.tail }
-    ensures settled { result.settled ≡ true → is_settled (gone_in gone.now)
-        (after lay.now step.now gone.now (tree lay.now e.now actuals.now row.old)) ≡ true }
-    ensures rest { drop (size lay.now e.now) row.new ≡ drop (size lay.now e.now) row.old }
-    ensures size { result.size ≡ size lay.now e.now }
+    requires { IsReady lay.now false 0 e.now actuals.now row.old }
+    ensures moved { IsAdvanced lay.now actuals.now (tree lay.now e.now actuals.now)
+        (size lay.now e.now) step.now gone.now row.old row.new result }
     ensures inner { MayStand lay.now true e.now → result.tail ≡ None }
 {
     match e {
@@ -123,22 +100,12 @@ pub fn advanced<'s>(
             let (_, rest) = row.split_at_mut(1);
             if test.holds(lay.system.words(), actuals) {
                 let moved = advanced(lay, a, actuals, rest, step, gone);
-                Moved {
-                    tick: moved.tick,
-                    dead: moved.dead,
-                    settled: moved.settled,
-                    size: 1 + moved.size.max(size_of(d, lay.earlier)),
-                    tail: moved.tail,
-                }
+                let size = 1 + moved.size.max(size_of(d, lay.earlier));
+                Moved { size, ..moved }
             } else {
                 let moved = advanced(lay, d, actuals, rest, step, gone);
-                Moved {
-                    tick: moved.tick,
-                    dead: moved.dead,
-                    settled: moved.settled,
-                    size: 1 + moved.size.max(size_of(a, lay.earlier)),
-                    tail: moved.tail,
-                }
+                let size = 1 + moved.size.max(size_of(a, lay.earlier));
+                Moved { size, ..moved }
             }
         }
     }
@@ -156,28 +123,9 @@ fn one_advanced<'s>(
     step: &ClockSet,
     gone: &ClockSet,
 ) -> Moved<'s>
-    requires table { HasTable lay.now }
-    requires groups { length lay.now.earlier.now ≤ length lay.now.system.now.groups }
-    requires shallow { deep (plain_expr a.now) ≤ MAX_LEVELS }
-    requires offsets { WordsFit lay.now a.now }
-    requires stands { MayStand lay.now true a.now }
-    requires actuals { ParamsFit lay.now actuals.now }
-    requires room { 1 + size lay.now a.now ≤ length row.old }
-    requires few { length row.old ≤ MAX_CELLS }
-    ensures tick { result.tick ≡ one_ticks (one_at lay.now.system.now.words unary
-        (slice_index row.old 0)) (ticks (left_tree lay.now a.now actuals.now 1 row.old) step.now) }
-    ensures node { one_at lay.now.system.now.words unary (slice_index row.new 0) ≡
-        one_next (one_at lay.now.system.now.words unary (slice_index row.old 0))
-        (ticks (left_tree lay.now a.now actuals.now 1 row.old) step.now) }
-    ensures tree { left_tree lay.now a.now actuals.now 1 row.new ≡
-        after lay.now step.now gone.now (left_tree lay.now a.now actuals.now 1 row.old) }
-    ensures dead { result.dead ≡ one_dead
-        (one_at lay.now.system.now.words unary (slice_index row.new 0))
-        (dead_of (gone_in gone.now) (left_tree lay.now a.now actuals.now 1 row.new)) }
-    ensures settled { result.settled ≡ true → is_settled (gone_in gone.now)
-        (after lay.now step.now gone.now (left_tree lay.now a.now actuals.now 1 row.old)) ≡ true }
-    ensures rest { drop (1 + size lay.now a.now) row.new ≡ drop (1 + size lay.now a.now) row.old }
-    ensures size { result.size ≡ 1 + size lay.now a.now }
+    requires { IsReady lay.now true 1 a.now actuals.now row.old }
+    ensures moved { IsAdvanced lay.now actuals.now (one_tree lay.now unary a.now actuals.now)
+        (1 + size lay.now a.now) step.now gone.now row.old row.new result }
     ensures tail { result.tail ≡ None }
 {
     let (head, rest) = row.split_at_mut(1);
@@ -205,40 +153,11 @@ fn two_advanced<'s>(
     step: &ClockSet,
     gone: &ClockSet,
 ) -> Moved<'s>
-    requires table { HasTable lay.now }
-    requires groups { length lay.now.earlier.now ≤ length lay.now.system.now.groups }
-    requires shallow_left { deep (plain_expr a.now) ≤ MAX_LEVELS }
-    requires shallow_right { deep (plain_expr d.now) ≤ MAX_LEVELS }
-    requires offsets_left { WordsFit lay.now a.now }
-    requires offsets_right { WordsFit lay.now d.now }
-    requires stands_left { MayStand lay.now true a.now }
-    requires stands_right { MayStand lay.now true d.now }
-    requires actuals { ParamsFit lay.now actuals.now }
-    requires room { own_cells op + size lay.now a.now + size lay.now d.now ≤ length row.old }
-    requires few { length row.old ≤ MAX_CELLS }
-    ensures tick { result.tick ≡ node_ticks (two_at op row.old)
-        (ticks (left_tree lay.now a.now actuals.now (own_cells op) row.old) step.now)
-        (ticks (right_tree lay.now a.now d.now actuals.now (own_cells op) row.old) step.now) }
-    ensures node { two_at op row.new ≡ option_map (λ o. two_next o
-        (ticks (left_tree lay.now a.now actuals.now (own_cells op) row.old) step.now)
-        (ticks (right_tree lay.now a.now d.now actuals.now (own_cells op) row.old) step.now))
-        (two_at op row.old) }
-    ensures left { left_tree lay.now a.now actuals.now (own_cells op) row.new ≡
-        after lay.now step.now gone.now
-        (left_tree lay.now a.now actuals.now (own_cells op) row.old) }
-    ensures right { right_tree lay.now a.now d.now actuals.now (own_cells op) row.new ≡
-        after lay.now step.now gone.now (right_tree lay.now a.now d.now actuals.now
-        (own_cells op) row.old) }
-    ensures dead { result.dead ≡ node_dead (two_at op row.new)
-        (dead_of (gone_in gone.now) (left_tree lay.now a.now actuals.now (own_cells op) row.new))
-        (dead_of (gone_in gone.now)
-        (right_tree lay.now a.now d.now actuals.now (own_cells op) row.new)) }
-    ensures settled { result.settled ≡ true →
-        AreSettled lay.now a.now d.now actuals.now (own_cells op) step.now gone.now row.old }
-    ensures rest { let n = own_cells op + size lay.now a.now + size lay.now d.now in
-        drop n row.new ≡
-        drop n row.old }
-    ensures size { result.size ≡ own_cells op + size lay.now a.now + size lay.now d.now }
+    requires { AreReady lay.now (own_cells op) a.now d.now actuals.now row.old }
+    ensures moved { IsAdvanced lay.now actuals.now
+        (pair_tree lay.now (two_at op) (own_cells op) a.now d.now actuals.now)
+        (pair_size lay.now (own_cells op) a.now d.now)
+        step.now gone.now row.old row.new result }
     ensures tail { result.tail ≡ None }
 {
     let (head, rest) = row.split_at_mut(own_cells(op));
@@ -268,42 +187,17 @@ fn then_advanced<'s>(
     step: &ClockSet,
     gone: &ClockSet,
 ) -> Moved<'s>
-    requires table { HasTable lay.now }
-    requires groups { length lay.now.earlier.now ≤ length lay.now.system.now.groups }
-    requires shallow_left { deep (plain_expr a.now) ≤ MAX_LEVELS }
-    requires shallow_right { deep (plain_expr d.now) ≤ MAX_LEVELS }
-    requires offsets_left { WordsFit lay.now a.now }
-    requires offsets_right { WordsFit lay.now d.now }
-    requires stands_left { MayStand lay.now true a.now }
-    requires stands_right { MayStand lay.now false d.now }
-    requires actuals { ParamsFit lay.now actuals.now }
-    requires room { 1 + max (size lay.now a.now) (size lay.now d.now) ≤ length row.old }
-    requires few { length row.old ≤ MAX_CELLS }
-    ensures tick { result.tick
-        ≡ ticks (then_tree lay.now a.now d.now actuals.now row.old) step.now }
-    ensures next { Outcome lay.now.system.now step.now (gone_in gone.now)
-        (length lay.now.earlier.now) actuals.now
-        (then_tree lay.now a.now d.now actuals.now row.old)
-        (then_tree lay.now a.now d.now actuals.now row.new)
-        result.dead result.tail }
-    ensures settled { result.settled ≡ true → is_settled (gone_in gone.now)
-        (after lay.now step.now gone.now (then_tree lay.now a.now d.now actuals.now row.old))
-        ≡ true }
-    ensures rest { let n = 1 + max (size lay.now a.now) (size lay.now d.now) in drop n row.new ≡
-        drop n row.old }
-    ensures size { result.size ≡ 1 + max (size lay.now a.now) (size lay.now d.now) }
+    requires left { IsReady lay.now true 1 a.now actuals.now row.old }
+    requires right { IsReady lay.now false 1 d.now actuals.now row.old }
+    ensures moved { IsAdvanced lay.now actuals.now (then_tree lay.now a.now d.now actuals.now)
+        (choice_size lay.now a.now d.now) step.now gone.now row.old row.new result }
     ensures inner { MayStand lay.now true d.now → result.tail ≡ None }
 {
     let (head, rest) = row.split_at_mut(1);
     if head[0] != 0 {
         let right = advanced(lay, d, actuals, rest, step, gone);
-        return Moved {
-            tick: right.tick,
-            dead: right.dead,
-            settled: right.settled,
-            size: 1 + right.size.max(size_of(a, lay.earlier)),
-            tail: right.tail,
-        };
+        let size = 1 + right.size.max(size_of(a, lay.earlier));
+        return Moved { size, ..right };
     }
     let left = advanced(lay, a, actuals, rest, step, gone);
     let size = 1 + left.size.max(size_of(d, lay.earlier));
@@ -348,29 +242,16 @@ fn call_advanced(
     step: &ClockSet,
     gone: &ClockSet,
 ) -> Visited
-    requires table { HasTable lay.now }
-    requires group { length lay.now.earlier.now ≡ group }
-    requires groups { group < length lay.now.system.now.groups }
-    requires some { 1 ≤ length row.old }
-    requires room { HasRoom lay.now group (length row.old) }
-    requires few { length row.old ≤ MAX_CELLS }
-    ensures tick { result.tick ≡ ticks (call_tree lay.now row.old) step.now }
-    ensures tree { call_tree lay.now row.new
-        ≡ after lay.now step.now gone.now (call_tree lay.now row.old) }
-    ensures dead { result.dead ≡ dead_of (gone_in gone.now) (call_tree lay.now row.new) }
-    ensures settled { result.settled ≡ true → is_settled (gone_in gone.now)
-        (after lay.now step.now gone.now (call_tree lay.now row.old)) ≡ true }
-    ensures rest { (n : ℕ) → 1 ≤ n → HasRoom lay.now group n → drop n row.new ≡ drop n row.old }
+    requires { IsCallReady lay.now group row.old }
+    ensures moved { IsRewritten lay.now (call_tree lay.now) step.now gone.now row.old row.new result }
+    ensures rest { (n : ℕ) → HasRoom lay.now group n → drop n row.new ≡ drop n row.old }
 {
-    let (first, rest) = row.split_at_mut(1);
-    match lay.system.body(group, (first[0] % (1 << 32)) as u32) {
+    let mut array = [Actual::Number(0); 8];
+    match call_body(lay, group, row, &mut array) {
         Some(body) => {
-            let mut array = [Actual::Number(0); 8];
-            let count = body.params.members().len();
-            let actuals = &mut array[..count];
-            let (cells, region) = rest.split_at_mut(count);
-            actuals_at(lay.system.words(), cells, actuals);
-            let moved = advanced(lay, &body.root, actuals, region, step, gone);
+            let actuals = &array[..body.count];
+            let (_, region) = row.split_at_mut(1 + body.count);
+            let moved = advanced(lay, body.root, actuals, region, step, gone);
             match moved.tail {
                 None => Visited {
                     tick: moved.tick,
@@ -405,41 +286,13 @@ fn lag_advanced<'s>(
     step: &ClockSet,
     gone: &ClockSet,
 ) -> Moved<'s>
-    requires table { HasTable lay.now }
-    requires groups { length lay.now.earlier.now ≤ length lay.now.system.now.groups }
     requires some { 1 ≤ m }
     requires short { m ≤ MAX_DELAY }
-    requires shallow_left { deep (plain_expr a.now) ≤ MAX_LEVELS }
-    requires shallow_right { deep (plain_expr d.now) ≤ MAX_LEVELS }
-    requires offsets_left { WordsFit lay.now a.now }
-    requires offsets_right { WordsFit lay.now d.now }
-    requires stands_left { MayStand lay.now true a.now }
-    requires stands_right { MayStand lay.now true d.now }
-    requires actuals { ParamsFit lay.now actuals.now }
-    requires room { 2 + words_of m + size lay.now a.now + size lay.now d.now ≤ length row.old }
-    requires few { length row.old ≤ MAX_CELLS }
-    ensures tick { result.tick ≡ two_ticks (lag_at m row.old)
-        (ticks (left_tree lay.now a.now actuals.now (2 + words_of m) row.old) step.now)
-        (ticks (right_tree lay.now a.now d.now actuals.now (2 + words_of m) row.old) step.now) }
-    ensures node { lag_at m row.new ≡ two_next (lag_at m row.old)
-        (ticks (left_tree lay.now a.now actuals.now (2 + words_of m) row.old) step.now)
-        (ticks (right_tree lay.now a.now d.now actuals.now (2 + words_of m) row.old) step.now) }
-    ensures left { left_tree lay.now a.now actuals.now (2 + words_of m) row.new ≡
-        after lay.now step.now gone.now
-        (left_tree lay.now a.now actuals.now (2 + words_of m) row.old) }
-    ensures right { right_tree lay.now a.now d.now actuals.now (2 + words_of m) row.new ≡
-        after lay.now step.now gone.now (right_tree lay.now a.now d.now actuals.now
-        (2 + words_of m) row.old) }
-    ensures dead { result.dead ≡ two_dead (lag_at m row.new)
-        (dead_of (gone_in gone.now) (left_tree lay.now a.now actuals.now (2 + words_of m) row.new))
-        (dead_of (gone_in gone.now)
-        (right_tree lay.now a.now d.now actuals.now (2 + words_of m) row.new)) }
-    ensures settled { result.settled ≡ true →
-        AreSettled lay.now a.now d.now actuals.now (2 + words_of m) step.now gone.now row.old }
-    ensures rest { let n = 2 + words_of m + size lay.now a.now + size lay.now d.now in
-        drop n row.new ≡
-        drop n row.old }
-    ensures size { result.size ≡ 2 + words_of m + size lay.now a.now + size lay.now d.now }
+    requires ready { AreReady lay.now (2 + words_of m) a.now d.now actuals.now row.old }
+    ensures moved { IsAdvanced lay.now actuals.now
+        (pair_tree lay.now (lag_node m) (2 + words_of m) a.now d.now actuals.now)
+        (pair_size lay.now (2 + words_of m) a.now d.now)
+        step.now gone.now row.old row.new result }
     ensures tail { result.tail ≡ None }
 {
     let (head, rest) = row.split_at_mut(lag_cells(m));

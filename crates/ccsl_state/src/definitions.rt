@@ -1,16 +1,15 @@
 //! The regions of all definitions, one behind the other, in the order of their clocks.
 
-ghost use Rattle.std.specs.Prelude.{◌≡◌, ◌≤◌, ◌<◌, ◌+◌, drop, length};
-ghost use Rattle.ccsl_kernel.specs.Accepted.{IsAccepted};
-ghost use Rattle.ccsl_state.specs.Standing.{IsEnough};
-ghost use Rattle.ccsl_state.specs.States.{put, cells_from, passed_all, deaths_from, derived_in, trees_in, opened_all};
-ghost use Rattle.ccsl_state.specs.Regions.{trees_from, size_from, HasTable};
+ghost use Rattle.std.specs.Prelude.{◌≡◌, ◌<◌, ◌+◌, drop};
+ghost use Rattle.ccsl_state.specs.States.{put, passed_all, deaths_from, derived_in, opened_all};
+ghost use Rattle.ccsl_state.specs.Regions.{trees_from};
+ghost use Rattle.ccsl_state.specs.Ready.{HasRegions};
 
 use crate::advance::advanced;
 use crate::heard::heard;
 use crate::lay::Lay;
 use crate::open::opened;
-use ccsl_base::{ClockSet, MAX_CELLS, MAX_CLOCKS};
+use ccsl_base::{ClockSet, MAX_CLOCKS};
 
 /// Makes a clock a member of a set, or leaves the set as it is.
 pub fn put(set: &mut ClockSet, clock: u32, member: bool)
@@ -24,11 +23,7 @@ pub fn put(set: &mut ClockSet, clock: u32, member: bool)
 
 /// Writes the regions of the definitions from number `i` on at the birth. `gone` has the dead clocks before, and then all.
 pub fn open_from(lay: &Lay<'_>, i: u32, row: &mut [u64], gone: &mut ClockSet)
-    requires table { HasTable lay.now }
-    requires groups { length lay.now.earlier.now ≡ length lay.now.system.now.groups }
-    requires within { i ≤ length lay.now.system.now.definitions }
-    requires room { size_from lay.now i ≤ length row.old }
-    requires few { length row.old ≤ MAX_CELLS }
+    requires { HasRegions lay.now i row.old }
     ensures trees { trees_from lay.now i row.new ≡
         opened_all lay.now.system.now (drop i lay.now.system.now.definitions) }
     ensures gone { gone.new ≡ deaths_from gone.old (lay.now.system.now.declared + i)
@@ -51,11 +46,7 @@ pub fn advance_from(
     step: &mut ClockSet,
     gone: &mut ClockSet,
 )
-    requires table { HasTable lay.now }
-    requires groups { length lay.now.earlier.now ≡ length lay.now.system.now.groups }
-    requires within { i ≤ length lay.now.system.now.definitions }
-    requires room { size_from lay.now i ≤ length row.old }
-    requires few { length row.old ≤ MAX_CELLS }
+    requires { HasRegions lay.now i row.old }
     ensures trees { trees_from lay.now i row.new ≡
         passed_all lay.now.system.now step.old gone.old (lay.now.system.now.declared + i)
         (trees_from lay.now i row.old) }
@@ -76,11 +67,7 @@ pub fn advance_from(
 
 /// Adds to a step the ticks of the definitions from number `i` on, each under those before it.
 pub fn derive_from(lay: &Lay<'_>, i: u32, row: &[u64], step: &mut ClockSet)
-    requires table { HasTable lay.now }
-    requires groups { length lay.now.earlier.now ≡ length lay.now.system.now.groups }
-    requires within { i ≤ length lay.now.system.now.definitions }
-    requires room { size_from lay.now i ≤ length row.now }
-    requires few { length row.now ≤ MAX_CELLS }
+    requires { HasRegions lay.now i row.now }
     ensures { step.new ≡ derived_in (trees_from lay.now i row.now)
         (lay.now.system.now.declared + i) step.old }
 {

@@ -1,7 +1,7 @@
 //! Definitions of one operator over clocks. There is no region of an operand to go through, so a step of theirs is a few loads and
 //! stores.
 
-ghost use Rattle.std.specs.Prelude.{◌≡◌, ◌≤◌, ◌+◌, drop, length, option_map, slice_index, true, IfSome};
+ghost use Rattle.std.specs.Prelude.{◌≡◌, ◌≤◌, ◌+◌, [], drop, length, option_map, slice_index, true, IfSome};
 ghost use Rattle.ccsl_base.specs.Clocks.{ticks_in};
 ghost use Rattle.ccsl_kernel.specs.declared.expr.Place.TheVariants as place;
 ghost use Rattle.ccsl_kernel.specs.Syntax.{EName};
@@ -9,7 +9,9 @@ ghost use Rattle.ccsl_kernel.specs.Plain.{plain_expr};
 ghost use Rattle.ccsl_state.specs.Tree.{one_ticks, one_next, one_dead, two_ticks, two_dead, two_next};
 ghost use Rattle.ccsl_state.specs.Layout.{own_cells, two_at, words_of, lag_at};
 ghost use Rattle.ccsl_state.specs.Nodes.{one_at, node_ticks, node_dead};
-ghost use Rattle.ccsl_state.specs.Visits.{IsReady, IsRewritten};
+ghost use Rattle.ccsl_state.specs.Regions.{tree, size};
+ghost use Rattle.ccsl_state.specs.Ready.{IsReady};
+ghost use Rattle.ccsl_state.specs.Walks.{IsRewritten};
 
 use crate::advance::advanced;
 use crate::cells::{is_then, own_cells};
@@ -125,8 +127,9 @@ fn any_advanced(
     step: &ClockSet,
     gone: &ClockSet,
 ) -> Visited
-    requires { IsReady lay.now e.now row.old }
-    ensures { IsRewritten lay.now e.now row.old row.new step.now gone.now result }
+    requires { IsReady lay.now true 0 e.now [] row.old }
+    ensures moved { IsRewritten lay.now (tree lay.now e.now []) step.now gone.now row.old row.new result }
+    ensures rest { drop (size lay.now e.now) row.new ≡ drop (size lay.now e.now) row.old }
 {
     let moved = advanced(lay, e, &[], row, step, gone);
     Visited {
@@ -145,8 +148,9 @@ pub fn definition_advanced(
     step: &ClockSet,
     gone: &ClockSet,
 ) -> Visited
-    requires { IsReady lay.now e.now row.old }
-    ensures { IsRewritten lay.now e.now row.old row.new step.now gone.now result }
+    requires { IsReady lay.now true 0 e.now [] row.old }
+    ensures moved { IsRewritten lay.now (tree lay.now e.now []) step.now gone.now row.old row.new result }
+    ensures rest { drop (size lay.now e.now) row.new ≡ drop (size lay.now e.now) row.old }
 {
     match e {
         Expr::Binary(op, a, d) if !is_then(*op) => match (clock_of(a), clock_of(d)) {

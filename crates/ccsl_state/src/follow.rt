@@ -1,10 +1,11 @@
 //! The regions of some definitions in a step: those that hear something, each at its place.
 
-ghost use Rattle.std.specs.Prelude.{◌≡◌, ◌≤◌, ◌<◌, ℕ, [], ◌||◌, ◌&&◌, true, false, length, slice_get, slice_index_or, Some, IfSome, IfNone};
+ghost use Rattle.std.specs.Prelude.{◌≡◌, ◌≤◌, ◌<◌, ℕ, ◌||◌, ◌&&◌, true, false, length, IfSome, IfNone};
 ghost use Rattle.ccsl_base.specs.Clocks.{ticks_in, are_below, is_ascending};
 ghost use Rattle.ccsl_kernel.specs.Accepted.{IsAccepted};
-ghost use Rattle.ccsl_state.specs.States.{cells_from, places_from};
-ghost use Rattle.ccsl_state.specs.Regions.{trees_from, HasTable};
+ghost use Rattle.ccsl_state.specs.States.{places_from};
+ghost use Rattle.ccsl_state.specs.Regions.{trees_from};
+ghost use Rattle.ccsl_state.specs.Ready.{HasRegions, BeginsAt};
 ghost use Rattle.ccsl_state.specs.Whole.{IsWhole};
 ghost use Rattle.ccsl_state.specs.Passing.{AreReaders, AreKept, IsPassed};
 ghost use Rattle.ccsl_state.specs.Visits.{IsVisited, IsEntered, is_waiting};
@@ -14,7 +15,7 @@ use crate::flat::definition_advanced;
 use crate::lay::Lay;
 use crate::moved::Visited;
 use crate::readers::Readers;
-use ccsl_base::{ClockSet, MAX_CELLS, MAX_CLOCKS};
+use ccsl_base::{ClockSet, MAX_CLOCKS};
 
 /// What is found of a step on its way: the clocks that tick in it, those that are dead after it, the numbers of the definitions that
 /// wait for their visit, and of those that are to be visited at the next step, whatever ticks.
@@ -36,14 +37,9 @@ fn visit(
     step: &ClockSet,
     gone: &ClockSet,
 ) -> Visited
-    requires table { HasTable lay.now }
-    requires groups { length lay.now.earlier.now ≡ length lay.now.system.now.groups }
+    requires regions { HasRegions lay.now 0 row.old }
     requires within { i < length lay.now.system.now.definitions }
-    requires place { slice_get (places_from lay.now.earlier.now 0 lay.now.system.now.definitions) i
-        ≡
-        Some place }
-    requires room { cells_from lay.now.earlier.now lay.now.system.now.definitions ≤ length row.old }
-    requires few { length row.old ≤ MAX_CELLS }
+    requires place { BeginsAt lay.now i place }
     ensures { IsVisited lay.now i row.old row.new step.now gone.now result }
 {
     let e = lay.system.definition(i);

@@ -1,43 +1,27 @@
 //! Whether an expression ticks in a step, from its region.
 
-ghost use Rattle.std.specs.Prelude.{suc, ◌≡◌, ◌<◌, ◌≤◌, ◌+◌, ◌*◌, ◌^◌, ◌%◌, ℕ, false, true, drop, length, max, slice_index, Some};
-ghost use Rattle.ccsl_formula.specs.Formula.{eval};
-ghost use Rattle.ccsl_kernel.specs.Syntax.{Body, body_of};
-ghost use Rattle.ccsl_kernel.specs.Plain.{plain_expr};
-ghost use Rattle.ccsl_kernel.specs.Deep.{deep};
-ghost use Rattle.ccsl_kernel.specs.Cells.{cells_in};
-ghost use Rattle.ccsl_kernel.specs.Fit.{ActualsFit, TestFits};
-ghost use Rattle.ccsl_kernel.specs.Fitting.{ExprFits};
-ghost use Rattle.ccsl_state.specs.Tree.{formula_of, one_ticks, two_ticks};
-ghost use Rattle.ccsl_state.specs.Layout.{words_of, lag_at, own_cells, two_at, read, region_of};
-ghost use Rattle.ccsl_state.specs.Standing.{is_then, Stands, IsEnough};
-ghost use Rattle.ccsl_state.specs.Nodes.{one_at, node_ticks};
-ghost use Rattle.ccsl_state.specs.Regions.{tree, call_tree, left_tree, right_tree, size, ticks, HasTable, MayStand, WordsFit, ParamsFit, HasRoom};
+ghost use Rattle.std.specs.Prelude.{◌≡◌, ◌≤◌, ◌+◌, false, true};
+ghost use Rattle.ccsl_state.specs.Layout.{words_of, own_cells, two_at};
+ghost use Rattle.ccsl_state.specs.Regions.{tree, call_tree, left_tree, one_tree, pair_tree, lag_node, size, pair_size, choice_size, ticks};
+ghost use Rattle.ccsl_state.specs.Ready.{IsReady, AreReady, IsCallReady};
+ghost use Rattle.ccsl_state.specs.Walks.{IsHeard};
 
+use crate::call::call_body;
 use crate::cells::{is_then, own_cells, size_of};
 use crate::lag::{lag_cells, lag_ticks};
 use crate::lay::Lay;
 use crate::moved::Heard;
 use crate::name::name_ticks;
 use crate::node::{Unary, filter_from, two_ticks};
-use crate::params::actuals_at;
-use ccsl_base::{ClockSet, MAX_CELLS, MAX_DELAY, MAX_LEVELS};
+use ccsl_base::{ClockSet, MAX_DELAY};
 use ccsl_kernel::{Actual, Expr, ExprOp};
 
 /// Whether an expression ticks, and how many cells its region has.
 #[cycle(hear)]
-#[tactic(auto, using(crate::proofs::Places::inner_stands, crate::proofs::Evals::one_eval, crate::proofs::Evals::two_eval, crate::proofs::Evals::pair_eval))]
+#[tactic(auto, using(crate::proofs::Places::inner_stands))]
 pub fn heard(lay: &Lay<'_>, e: &Expr, actuals: &[Actual], row: &[u64], step: &ClockSet) -> Heard
-    requires table { HasTable lay.now }
-    requires groups { length lay.now.earlier.now ≤ length lay.now.system.now.groups }
-    requires shallow { deep (plain_expr e.now) ≤ suc MAX_LEVELS }
-    requires offsets { WordsFit lay.now e.now }
-    requires stands { MayStand lay.now false e.now }
-    requires actuals { ParamsFit lay.now actuals.now }
-    requires room { size lay.now e.now ≤ length row.now }
-    requires few { length row.now ≤ MAX_CELLS }
-    ensures tick { result.tick ≡ ticks (tree lay.now e.now actuals.now row.now) step.now }
-    ensures size { result.size ≡ size lay.now e.now }
+    requires { IsReady lay.now false 0 e.now actuals.now row.now }
+    ensures { IsHeard (tree lay.now e.now actuals.now row.now) (size lay.now e.now) step.now result }
 {
     match e {
         Expr::Name(place) => Heard {
@@ -106,17 +90,9 @@ fn one_heard(
     row: &[u64],
     step: &ClockSet,
 ) -> Heard
-    requires table { HasTable lay.now }
-    requires groups { length lay.now.earlier.now ≤ length lay.now.system.now.groups }
-    requires shallow { deep (plain_expr a.now) ≤ MAX_LEVELS }
-    requires offsets { WordsFit lay.now a.now }
-    requires stands { MayStand lay.now true a.now }
-    requires actuals { ParamsFit lay.now actuals.now }
-    requires room { 1 + size lay.now a.now ≤ length row.now }
-    requires few { length row.now ≤ MAX_CELLS }
-    ensures tick { result.tick ≡ one_ticks (one_at lay.now.system.now.words unary
-        (slice_index row.now 0)) (ticks (left_tree lay.now a.now actuals.now 1 row.now) step.now) }
-    ensures size { result.size ≡ 1 + size lay.now a.now }
+    requires { IsReady lay.now true 1 a.now actuals.now row.now }
+    ensures { IsHeard (one_tree lay.now unary a.now actuals.now row.now) (1 + size lay.now a.now)
+        step.now result }
 {
     let inner = heard(lay, a, actuals, &row[1..], step);
     Heard {
@@ -137,21 +113,9 @@ fn two_heard(
     row: &[u64],
     step: &ClockSet,
 ) -> Heard
-    requires table { HasTable lay.now }
-    requires groups { length lay.now.earlier.now ≤ length lay.now.system.now.groups }
-    requires shallow_left { deep (plain_expr a.now) ≤ MAX_LEVELS }
-    requires shallow_right { deep (plain_expr d.now) ≤ MAX_LEVELS }
-    requires offsets_left { WordsFit lay.now a.now }
-    requires offsets_right { WordsFit lay.now d.now }
-    requires stands_left { MayStand lay.now true a.now }
-    requires stands_right { MayStand lay.now true d.now }
-    requires actuals { ParamsFit lay.now actuals.now }
-    requires room { own_cells op + size lay.now a.now + size lay.now d.now ≤ length row.now }
-    requires few { length row.now ≤ MAX_CELLS }
-    ensures tick { result.tick ≡ node_ticks (two_at op row.now)
-        (ticks (left_tree lay.now a.now actuals.now (own_cells op) row.now) step.now)
-        (ticks (right_tree lay.now a.now d.now actuals.now (own_cells op) row.now) step.now) }
-    ensures size { result.size ≡ own_cells op + size lay.now a.now + size lay.now d.now }
+    requires { AreReady lay.now (own_cells op) a.now d.now actuals.now row.now }
+    ensures { IsHeard (pair_tree lay.now (two_at op) (own_cells op) a.now d.now actuals.now row.now)
+        (pair_size lay.now (own_cells op) a.now d.now) step.now result }
 {
     let own = own_cells(op);
     let left = heard(lay, a, actuals, &row[own..], step);
@@ -174,20 +138,11 @@ fn lag_heard(
     row: &[u64],
     step: &ClockSet,
 ) -> Heard
-    requires table { HasTable lay.now }
-    requires groups { length lay.now.earlier.now ≤ length lay.now.system.now.groups }
     requires some { 1 ≤ m }
     requires short { m ≤ MAX_DELAY }
-    requires shallow { deep (plain_expr d.now) ≤ MAX_LEVELS }
-    requires offsets { WordsFit lay.now d.now }
-    requires stands { MayStand lay.now true d.now }
-    requires actuals { ParamsFit lay.now actuals.now }
-    requires room { 2 + words_of m + size lay.now a.now + size lay.now d.now ≤ length row.now }
-    requires few { length row.now ≤ MAX_CELLS }
-    ensures tick { result.tick ≡ two_ticks (lag_at m row.now)
-        (ticks (left_tree lay.now a.now actuals.now (2 + words_of m) row.now) step.now)
-        (ticks (right_tree lay.now a.now d.now actuals.now (2 + words_of m) row.now) step.now) }
-    ensures size { result.size ≡ 2 + words_of m + size lay.now a.now + size lay.now d.now }
+    requires ready { AreReady lay.now (2 + words_of m) a.now d.now actuals.now row.now }
+    ensures { IsHeard (pair_tree lay.now (lag_node m) (2 + words_of m) a.now d.now actuals.now row.now)
+        (pair_size lay.now (2 + words_of m) a.now d.now) step.now result }
 {
     let own = lag_cells(m) + size_of(a, lay.earlier);
     let right = heard(lay, d, actuals, &row[own..], step);
@@ -208,16 +163,10 @@ fn one_of_heard(
     row: &[u64],
     step: &ClockSet,
 ) -> Heard
-    requires table { HasTable lay.now }
-    requires groups { length lay.now.earlier.now ≤ length lay.now.system.now.groups }
-    requires shallow { deep (plain_expr e.now) ≤ MAX_LEVELS }
-    requires offsets { WordsFit lay.now e.now }
-    requires stands { MayStand lay.now false e.now }
-    requires actuals { ParamsFit lay.now actuals.now }
-    requires room { 1 + max (size lay.now e.now) (size lay.now other.now) ≤ length row.now }
-    requires few { length row.now ≤ MAX_CELLS }
-    ensures tick { result.tick ≡ ticks (left_tree lay.now e.now actuals.now 1 row.now) step.now }
-    ensures size { result.size ≡ 1 + max (size lay.now e.now) (size lay.now other.now) }
+    requires ready { IsReady lay.now false 1 e.now actuals.now row.now }
+    requires other { IsReady lay.now false 1 other.now actuals.now row.now }
+    ensures { IsHeard (left_tree lay.now e.now actuals.now 1 row.now)
+        (choice_size lay.now e.now other.now) step.now result }
 {
     let part = heard(lay, e, actuals, &row[1..], step);
     Heard {
@@ -229,23 +178,14 @@ fn one_of_heard(
 /// Whether a call to the group behind all that `lay` has ticks.
 #[cycle(hear)]
 fn call_heard(lay: &Lay<'_>, group: u32, row: &[u64], step: &ClockSet) -> bool
-    requires table { HasTable lay.now }
-    requires group { length lay.now.earlier.now ≡ group }
-    requires groups { group < length lay.now.system.now.groups }
-    requires some { 1 ≤ length row.now }
-    requires room { HasRoom lay.now group (length row.now) }
-    requires few { length row.now ≤ MAX_CELLS }
+    requires { IsCallReady lay.now group row.now }
     ensures { result ≡ ticks (call_tree lay.now row.now) step.now }
 {
-    let (first, rest) = row.split_at(1);
-    match lay.system.body(group, (first[0] % (1 << 32)) as u32) {
+    let mut actuals = [Actual::Number(0); 8];
+    match call_body(lay, group, row, &mut actuals) {
         Some(body) => {
-            let mut array = [Actual::Number(0); 8];
-            let count = body.params.members().len();
-            let actuals = &mut array[..count];
-            let (cells, region) = rest.split_at(count);
-            actuals_at(lay.system.words(), cells, actuals);
-            heard(lay, &body.root, actuals, region, step).tick
+            let region = &row[1 + body.count..];
+            heard(lay, body.root, &actuals[..body.count], region, step).tick
         }
         None => false,
     }

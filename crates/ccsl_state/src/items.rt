@@ -1,15 +1,15 @@
 //! The formulas of items, from the row.
 
-ghost use Rattle.std.specs.Prelude.{◌≡◌, ◌≤◌, ◌<◌, ◌+◌, ◌*◌, drop, length, slice_get, slice_index, Some, IfOk, option_map};
+ghost use Rattle.std.specs.Prelude.{◌≡◌, ◌≤◌, ◌<◌, ◌+◌, length, slice_get, Some, IfOk, option_map};
 ghost use Rattle.ccsl_formula.specs.Plain.{plain};
 ghost use Rattle.ccsl_kernel.specs.Accepted.{IsAccepted};
 ghost use Rattle.ccsl_kernel.specs.Syntax.{item_count};
 ghost use Rattle.ccsl_state.specs.Tree.{formula_of};
-ghost use Rattle.ccsl_state.specs.Standing.{IsEnough};
-ghost use Rattle.ccsl_state.specs.States.{cells_from, places_from, trees_in};
+ghost use Rattle.ccsl_state.specs.States.{cells_from, places_from};
 ghost use Rattle.ccsl_state.specs.Held.{formula_in};
 ghost use Rattle.ccsl_state.specs.Whole.{held_at, IsWhole};
-ghost use Rattle.ccsl_state.specs.Regions.{trees_from, HasTable};
+ghost use Rattle.ccsl_state.specs.Regions.{trees_from};
+ghost use Rattle.ccsl_state.specs.Ready.{HasRegions, BeginsAt};
 
 use crate::cells::{count_at, size_of};
 use crate::connective::iff;
@@ -45,14 +45,9 @@ pub fn definition_formula(
     place: u32,
     row: &[u64],
 ) -> Result<Formula, Memory>
-    requires table { HasTable lay.now }
-    requires groups { length lay.now.earlier.now ≡ length lay.now.system.now.groups }
+    requires regions { HasRegions lay.now 0 row.now }
     requires within { i < length lay.now.system.now.definitions }
-    requires place { slice_get (places_from lay.now.earlier.now 0 lay.now.system.now.definitions) i
-        ≡
-        Some place }
-    requires room { cells_from lay.now.earlier.now lay.now.system.now.definitions ≤ length row.now }
-    requires few { length row.now ≤ MAX_CELLS }
+    requires place { BeginsAt lay.now i place }
     ensures { IfOk result (λ f. Some (plain f) ≡
         option_map formula_of (slice_get (trees_from lay.now 0 row.now) i)) }
 {
@@ -73,9 +68,7 @@ fn definition_item(
     requires accepted { IsAccepted lay.now.system.now }
     requires whole { IsWhole lay.now row.now }
     requires within { i < length lay.now.system.now.definitions }
-    requires place { slice_get (places_from lay.now.earlier.now 0 lay.now.system.now.definitions) i
-        ≡
-        Some place }
+    requires place { BeginsAt lay.now i place }
     ensures { IfOk result (λ f. plain f ≡ formula_in (held_at lay.now row.now) i) }
 {
     let asked = definition_formula(alloc, lay, i, place, row)?;

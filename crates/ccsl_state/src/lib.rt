@@ -12,6 +12,7 @@
 #![tactic(auto)]
 
 mod advance;
+mod call;
 mod cells;
 mod connective;
 mod counts;

@@ -1,19 +1,16 @@
 //! The region of an expression at its birth.
 
-ghost use Rattle.std.specs.Prelude.{suc, ◌≡◌, ◌<◌, ◌≤◌, ◌+◌, ◌*◌, ℕ, false, true, drop, length, max, replicate, option_map, slice_index, Some};
-ghost use Rattle.ccsl_kernel.specs.Syntax.{Body, ECall, body_of};
+ghost use Rattle.std.specs.Prelude.{◌≡◌, ◌≤◌, ◌+◌, ℕ, false, true, drop, length, replicate, Some};
+ghost use Rattle.ccsl_kernel.specs.Syntax.{ECall};
 ghost use Rattle.ccsl_kernel.specs.Plain.{plain_expr};
-ghost use Rattle.ccsl_kernel.specs.Deep.{deep};
-ghost use Rattle.ccsl_kernel.specs.Cells.{cells_in};
-ghost use Rattle.ccsl_kernel.specs.Actuals.{test_of};
-ghost use Rattle.ccsl_kernel.specs.Fit.{SuffixFits, ActualFits, ActualsFit, TestFits};
-ghost use Rattle.ccsl_kernel.specs.Fitting.{ValuesFit, ExprFits};
-ghost use Rattle.ccsl_state.specs.Tree.{TOne, Lagging, two_dead, leaf, over, two_opened, opening, dead_of};
-ghost use Rattle.ccsl_state.specs.Layout.{words_of, lag_at, own_cells, two_at, then_at, flag_at, read, region_of};
-ghost use Rattle.ccsl_state.specs.Standing.{is_then, IsCall, Stands, is_own, IsEnough};
-ghost use Rattle.ccsl_state.specs.Nodes.{one_at, pair_at};
+ghost use Rattle.ccsl_state.specs.Tree.{TOne, TThen, Lagging, two_opened, opening, dead_of};
+ghost use Rattle.ccsl_state.specs.Layout.{words_of, own_cells, two_at};
+ghost use Rattle.ccsl_state.specs.Standing.{is_own};
+ghost use Rattle.ccsl_state.specs.Nodes.{one_at};
 ghost use Rattle.ccsl_state.specs.Moves.{gone_in};
-ghost use Rattle.ccsl_state.specs.Regions.{tree, call_tree, size, newborn, HasTable, MayStand, WordsFit, ParamsFit, left_tree, right_tree, HasRoomFor};
+ghost use Rattle.ccsl_state.specs.Regions.{tree, call_tree, one_tree, pair_tree, then_tree, lag_node, size, pair_size, choice_size, newborn, newborn_pair, HasRoomFor};
+ghost use Rattle.ccsl_state.specs.Ready.{IsReady, AreReady, IsBirthReady};
+ghost use Rattle.ccsl_state.specs.Walks.{IsOpened};
 
 use crate::cells::{is_then, own_cells, size_of};
 use crate::lag::{lag_born, lag_cells, lag_dead};
@@ -22,27 +19,18 @@ use crate::moved::Born;
 use crate::name::is_gone;
 use crate::node::{Unary, filter_from, two_born, two_dead};
 use crate::params::{store, values};
-use ccsl_base::{ClockSet, MAX_CELLS, MAX_DELAY, MAX_LEVELS};
+use ccsl_base::{ClockSet, MAX_DELAY};
 use ccsl_kernel::{Actual, Expr, ExprOp, Value};
 
 /// Writes the region of an expression at its birth, and tells whether it is dead there.
 #[cycle(open)]
 #[tactic(auto, using(crate::proofs::Places::inner_stands, crate::proofs::Places::inner_not_own))]
 pub fn opened(lay: &Lay<'_>, e: &Expr, actuals: &[Actual], row: &mut [u64], gone: &ClockSet) -> Born
-    requires table { HasTable lay.now }
-    requires groups { length lay.now.earlier.now ≤ length lay.now.system.now.groups }
-    requires shallow { deep (plain_expr e.now) ≤ suc MAX_LEVELS }
-    requires offsets { WordsFit lay.now e.now }
-    requires stands { MayStand lay.now false e.now }
+    requires ready { IsReady lay.now false 0 e.now actuals.now row.old }
     requires placed { is_own lay.now.system.now.words (length lay.now.earlier.now)
         (plain_expr e.now) actuals.now ≡ false }
-    requires actuals { ParamsFit lay.now actuals.now }
-    requires room { size lay.now e.now ≤ length row.old }
-    requires few { length row.old ≤ MAX_CELLS }
-    ensures tree { tree lay.now e.now actuals.now row.new ≡ newborn lay.now e.now actuals.now }
-    ensures rest { drop (size lay.now e.now) row.new ≡ drop (size lay.now e.now) row.old }
-    ensures dead { result.dead ≡ dead_of (gone_in gone.now) (newborn lay.now e.now actuals.now) }
-    ensures size { result.size ≡ size lay.now e.now }
+    ensures { IsOpened (tree lay.now e.now actuals.now) (size lay.now e.now)
+        (newborn lay.now e.now actuals.now) gone.now row.old row.new result }
 {
     match e {
         Expr::Name(place) => Born {
@@ -90,16 +78,12 @@ pub fn opened(lay: &Lay<'_>, e: &Expr, actuals: &[Actual], row: &mut [u64], gone
             let (_, rest) = row.split_at_mut(1);
             if test.holds(lay.system.words(), actuals) {
                 let born = opened(lay, a, actuals, rest, gone);
-                Born {
-                    dead: born.dead,
-                    size: 1 + born.size.max(size_of(d, lay.earlier)),
-                }
+                let size = 1 + born.size.max(size_of(d, lay.earlier));
+                Born { size, ..born }
             } else {
                 let born = opened(lay, d, actuals, rest, gone);
-                Born {
-                    dead: born.dead,
-                    size: 1 + born.size.max(size_of(a, lay.earlier)),
-                }
+                let size = 1 + born.size.max(size_of(a, lay.earlier));
+                Born { size, ..born }
             }
         }
     }
@@ -117,22 +101,10 @@ fn one_opened(
     row: &mut [u64],
     gone: &ClockSet,
 ) -> Born
-    requires table { HasTable lay.now }
-    requires groups { length lay.now.earlier.now ≤ length lay.now.system.now.groups }
-    requires shallow { deep (plain_expr a.now) ≤ MAX_LEVELS }
-    requires offsets { WordsFit lay.now a.now }
-    requires stands { MayStand lay.now true a.now }
-    requires actuals { ParamsFit lay.now actuals.now }
-    requires room { 1 + size lay.now a.now ≤ length row.old }
-    requires few { length row.old ≤ MAX_CELLS }
-    ensures node { one_at lay.now.system.now.words unary (slice_index row.new 0) ≡
-        one_at lay.now.system.now.words unary first }
-    ensures tree { left_tree lay.now a.now actuals.now 1 row.new
-        ≡ newborn lay.now a.now actuals.now }
-    ensures rest { drop (1 + size lay.now a.now) row.new ≡ drop (1 + size lay.now a.now) row.old }
-    ensures dead { result.dead ≡ dead_of (gone_in gone.now)
-        (TOne (one_at lay.now.system.now.words unary first) (newborn lay.now a.now actuals.now)) }
-    ensures size { result.size ≡ 1 + size lay.now a.now }
+    requires { IsReady lay.now true 1 a.now actuals.now row.old }
+    ensures { IsOpened (one_tree lay.now unary a.now actuals.now) (1 + size lay.now a.now)
+        (TOne (one_at lay.now.system.now.words unary first) (newborn lay.now a.now actuals.now))
+        gone.now row.old row.new result }
 {
     let (head, rest) = row.split_at_mut(1);
     head[0] = first;
@@ -155,29 +127,11 @@ fn two_opened(
     row: &mut [u64],
     gone: &ClockSet,
 ) -> Born
-    requires table { HasTable lay.now }
-    requires groups { length lay.now.earlier.now ≤ length lay.now.system.now.groups }
-    requires shallow_left { deep (plain_expr a.now) ≤ MAX_LEVELS }
-    requires shallow_right { deep (plain_expr d.now) ≤ MAX_LEVELS }
-    requires offsets_left { WordsFit lay.now a.now }
-    requires offsets_right { WordsFit lay.now d.now }
-    requires stands_left { MayStand lay.now true a.now }
-    requires stands_right { MayStand lay.now true d.now }
-    requires actuals { ParamsFit lay.now actuals.now }
-    requires room { own_cells op + size lay.now a.now + size lay.now d.now ≤ length row.old }
-    requires few { length row.old ≤ MAX_CELLS }
-    ensures node { two_at op row.new ≡ two_opened op }
-    ensures left { left_tree lay.now a.now actuals.now (own_cells op) row.new ≡
-        newborn lay.now a.now actuals.now }
-    ensures right { right_tree lay.now a.now d.now actuals.now (own_cells op) row.new ≡
-        newborn lay.now d.now actuals.now }
-    ensures rest { let n = own_cells op + size lay.now a.now + size lay.now d.now in
-        drop n row.new ≡
-        drop n row.old }
-    ensures dead { result.dead ≡ dead_of (gone_in gone.now)
-        (pair_at (two_opened op) (newborn lay.now a.now actuals.now)
-        (newborn lay.now d.now actuals.now)) }
-    ensures size { result.size ≡ own_cells op + size lay.now a.now + size lay.now d.now }
+    requires { AreReady lay.now (own_cells op) a.now d.now actuals.now row.old }
+    ensures { IsOpened (pair_tree lay.now (two_at op) (own_cells op) a.now d.now actuals.now)
+        (pair_size lay.now (own_cells op) a.now d.now)
+        (newborn_pair lay.now (two_opened op) a.now d.now actuals.now)
+        gone.now row.old row.new result }
 {
     let (head, rest) = row.split_at_mut(own_cells(op));
     two_born(op, head);
@@ -201,21 +155,12 @@ fn then_opened(
     row: &mut [u64],
     gone: &ClockSet,
 ) -> Born
-    requires table { HasTable lay.now }
-    requires groups { length lay.now.earlier.now ≤ length lay.now.system.now.groups }
-    requires shallow { deep (plain_expr a.now) ≤ MAX_LEVELS }
-    requires offsets { WordsFit lay.now a.now }
-    requires stands { MayStand lay.now true a.now }
-    requires actuals { ParamsFit lay.now actuals.now }
-    requires room { 1 + max (size lay.now a.now) (size lay.now d.now) ≤ length row.old }
-    requires few { length row.old ≤ MAX_CELLS }
-    ensures flag { flag_at row.new ≡ false }
-    ensures tree { left_tree lay.now a.now actuals.now 1 row.new
-        ≡ newborn lay.now a.now actuals.now }
-    ensures rest { let n = 1 + max (size lay.now a.now) (size lay.now d.now) in drop n row.new ≡
-        drop n row.old }
-    ensures dead { result.dead ≡ false }
-    ensures size { result.size ≡ 1 + max (size lay.now a.now) (size lay.now d.now) }
+    requires left { IsReady lay.now true 1 a.now actuals.now row.old }
+    requires right { IsReady lay.now false 1 d.now actuals.now row.old }
+    ensures { IsOpened (then_tree lay.now a.now d.now actuals.now)
+        (choice_size lay.now a.now d.now)
+        (TThen (newborn lay.now a.now actuals.now) (plain_expr d.now) actuals.now)
+        gone.now row.old row.new result }
 {
     let (head, rest) = row.split_at_mut(1);
     head[0] = 0;
@@ -238,19 +183,10 @@ pub fn call_opened(
     row: &mut [u64],
     gone: &ClockSet,
 ) -> bool
-    requires table { HasTable lay.now }
-    requires group { length lay.now.earlier.now ≡ group }
-    requires groups { group < length lay.now.system.now.groups }
-    requires is { IsCall lay.now.system.now group member args.now }
-    requires fits { ValuesFit lay.now.system.now.words args.now }
-    requires actuals { ParamsFit lay.now actuals.now }
-    requires room { HasRoomFor lay.now group member (length row.old) }
-    requires few { length row.old ≤ MAX_CELLS }
+    requires { IsBirthReady lay.now group member args.now actuals.now row.old }
     ensures tree { call_tree lay.now row.new ≡
         opening lay.now.system.now (ECall group member args.now) actuals.now }
-    ensures rest { (b : Body) (n : ℕ) → body_of lay.now.system.now.groups group member ≡
-        Some b → 1 + length b.params + cells_in lay.now.earlier.now b.root ≤ n → drop n row.new ≡
-        drop n row.old }
+    ensures rest { (n : ℕ) → HasRoomFor lay.now group member n → drop n row.new ≡ drop n row.old }
     ensures dead { result ≡ dead_of (gone_in gone.now)
         (opening lay.now.system.now (ECall group member args.now) actuals.now) }
 {
@@ -282,31 +218,13 @@ fn lag_opened(
     row: &mut [u64],
     gone: &ClockSet,
 ) -> Born
-    requires table { HasTable lay.now }
-    requires groups { length lay.now.earlier.now ≤ length lay.now.system.now.groups }
     requires some { 1 ≤ m }
     requires short { m ≤ MAX_DELAY }
-    requires shallow_left { deep (plain_expr a.now) ≤ MAX_LEVELS }
-    requires shallow_right { deep (plain_expr d.now) ≤ MAX_LEVELS }
-    requires offsets_left { WordsFit lay.now a.now }
-    requires offsets_right { WordsFit lay.now d.now }
-    requires stands_left { MayStand lay.now true a.now }
-    requires stands_right { MayStand lay.now true d.now }
-    requires actuals { ParamsFit lay.now actuals.now }
-    requires room { 2 + words_of m + size lay.now a.now + size lay.now d.now ≤ length row.old }
-    requires few { length row.old ≤ MAX_CELLS }
-    ensures node { lag_at m row.new ≡ Lagging m (replicate m false) }
-    ensures left { left_tree lay.now a.now actuals.now (2 + words_of m) row.new ≡
-        newborn lay.now a.now actuals.now }
-    ensures right { right_tree lay.now a.now d.now actuals.now (2 + words_of m) row.new ≡
-        newborn lay.now d.now actuals.now }
-    ensures rest { let n = 2 + words_of m + size lay.now a.now + size lay.now d.now in
-        drop n row.new ≡
-        drop n row.old }
-    ensures dead { result.dead ≡ two_dead (Lagging m (replicate m false))
-        (dead_of (gone_in gone.now) (newborn lay.now a.now actuals.now))
-        (dead_of (gone_in gone.now) (newborn lay.now d.now actuals.now)) }
-    ensures size { result.size ≡ 2 + words_of m + size lay.now a.now + size lay.now d.now }
+    requires ready { AreReady lay.now (2 + words_of m) a.now d.now actuals.now row.old }
+    ensures { IsOpened (pair_tree lay.now (lag_node m) (2 + words_of m) a.now d.now actuals.now)
+        (pair_size lay.now (2 + words_of m) a.now d.now)
+        (newborn_pair lay.now (Some (Lagging m (replicate m false))) a.now d.now actuals.now)
+        gone.now row.old row.new result }
 {
     let (head, rest) = row.split_at_mut(lag_cells(m));
     lag_born(m, head);

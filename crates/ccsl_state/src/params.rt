@@ -10,15 +10,21 @@ use crate::cells::is_offset;
 use ccsl_kernel::{Actual, Value};
 use ccsl_words::Word;
 
+/// The kinds of parameters: a cell has the kind in its lowest bits.
+pub const KINDS: u64 = 4;
+
+/// The offsets in a word that a cell has room for.
+pub const OFFSETS: u64 = 8192;
+
 /// What a parameter's cell stands for.
 fn actual_at(words: &[Word], cell: u64) -> Actual
     ensures actual { result ≡ actual_of words.now cell }
     ensures fits { ActualFits words.now result }
 {
-    let low = (cell / 4 % (1 << 32)) as u32;
-    let word = (cell / 32768 % (1 << 32)) as u32;
-    let offset = cell / 4 % 8192;
-    match cell % 4 {
+    let low = (cell / KINDS % (1 << 32)) as u32;
+    let word = (cell / (KINDS * OFFSETS) % (1 << 32)) as u32;
+    let offset = cell / KINDS % OFFSETS;
+    match cell % KINDS {
         0 => Actual::Clock(low),
         1 => Actual::Number(low),
         _ => {
@@ -31,11 +37,11 @@ fn actual_at(words: &[Word], cell: u64) -> Actual
     }
 }
 
-/// An offset at which a word stands, below 8,192.
+/// An offset at which a word stands.
 fn short_offset(words: &[Word], word: u32, offset: u64) -> u64
     requires { SuffixFits words.now (record { word = word; offset = offset }) }
     ensures same { result ≡ offset }
-    ensures short { result < 8192 }
+    ensures short { result < OFFSETS }
 {
     match words.get(word as usize) {
         Some(word) => offset.min(word.len()),
@@ -49,10 +55,10 @@ fn cell_of(words: &[Word], actual: Actual) -> u64
     ensures { actual_of words.now result ≡ actual }
 {
     match actual {
-        Actual::Clock(x) => u64::from(x) * 4,
-        Actual::Number(n) => u64::from(n) * 4 + 1,
+        Actual::Clock(x) => u64::from(x) * KINDS,
+        Actual::Number(n) => u64::from(n) * KINDS + 1,
         Actual::Word(word, offset) => {
-            u64::from(word) * 32768 + short_offset(words, word, offset) * 4 + 2
+            (u64::from(word) * OFFSETS + short_offset(words, word, offset)) * KINDS + 2
         }
     }
 }

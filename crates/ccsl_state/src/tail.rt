@@ -1,11 +1,8 @@
 //! Tail calls.
 
-ghost use Rattle.std.specs.Prelude.{◌≡◌, ◌<◌, ◌≤◌, false, true, length, IfSome, None};
+ghost use Rattle.std.specs.Prelude.{◌≡◌, ◌<◌, false, true, length, IfSome, None};
 ghost use Rattle.ccsl_kernel.specs.Plain.{plain_expr};
-ghost use Rattle.ccsl_kernel.specs.Fit.{TestFits};
-ghost use Rattle.ccsl_kernel.specs.Fitting.{ValuesFit};
-ghost use Rattle.ccsl_state.specs.Tree.{opening};
-ghost use Rattle.ccsl_state.specs.Standing.{IsCall, is_own};
+ghost use Rattle.ccsl_state.specs.Standing.{is_own};
 ghost use Rattle.ccsl_state.specs.Moves.{IsTail};
 ghost use Rattle.ccsl_state.specs.Regions.{newborn, MayStand, WordsFit, ParamsFit};
 

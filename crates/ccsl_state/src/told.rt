@@ -1,27 +1,22 @@
 //! The formula of an expression, from its region.
 
-ghost use Rattle.std.specs.Prelude.{suc, ◌≡◌, ◌<◌, ◌≤◌, ◌+◌, ◌*◌, ◌^◌, ◌%◌, ℕ, false, true, drop, length, max, slice_index, Some, IfOk, if◌then◌else◌};
-ghost use Rattle.ccsl_formula.specs.Formula.{Formula as Plain, FFalse, FNot, FAnd};
+ghost use Rattle.std.specs.Prelude.{◌≡◌, ◌≤◌, ◌+◌, false, true, length, IfOk, if◌then◌else◌};
+ghost use Rattle.ccsl_formula.specs.Formula.{Formula as Plain, FFalse};
 ghost use Rattle.ccsl_formula.specs.Plain.{plain};
-ghost use Rattle.ccsl_kernel.specs.Syntax.{Body, body_of};
-ghost use Rattle.ccsl_kernel.specs.Plain.{plain_expr};
-ghost use Rattle.ccsl_kernel.specs.Deep.{deep};
-ghost use Rattle.ccsl_kernel.specs.Cells.{cells_in};
-ghost use Rattle.ccsl_kernel.specs.Fit.{ActualsFit, TestFits};
-ghost use Rattle.ccsl_kernel.specs.Fitting.{ExprFits};
-ghost use Rattle.ccsl_state.specs.Tree.{leaf, formula_of, one_formula, two_formula};
-ghost use Rattle.ccsl_state.specs.Layout.{words_of, lag_at, own_cells, two_at, read, region_of};
-ghost use Rattle.ccsl_state.specs.Standing.{is_then, Stands, IsEnough};
+ghost use Rattle.ccsl_state.specs.Tree.{leaf, formula_of, one_formula};
+ghost use Rattle.ccsl_state.specs.Layout.{words_of, own_cells, two_at};
 ghost use Rattle.ccsl_state.specs.Nodes.{one_at, node_formula};
-ghost use Rattle.ccsl_state.specs.Regions.{tree, call_tree, left_tree, right_tree, size, HasTable, MayStand, WordsFit, ParamsFit, HasRoom};
+ghost use Rattle.ccsl_state.specs.Regions.{tree, call_tree, left_tree, one_tree, pair_tree, lag_node, size, pair_size, choice_size};
+ghost use Rattle.ccsl_state.specs.Ready.{IsReady, AreReady, IsCallReady};
+ghost use Rattle.ccsl_state.specs.Walks.{IsTold};
 
+use crate::call::call_body;
 use crate::cells::{count_at, is_then, own_cells, size_of};
 use crate::connective::{and, not, or};
 use crate::lag::{lag_cells, lag_ticks};
 use crate::lay::Lay;
 use crate::node::{Unary, filter_from};
-use crate::params::actuals_at;
-use ccsl_base::{MAX_CELLS, MAX_DELAY, MAX_LEVELS, Memory};
+use ccsl_base::{MAX_DELAY, Memory};
 use ccsl_formula::Formula;
 use ccsl_kernel::{Actual, Expr, ExprOp};
 use ccsl_words::Word;
@@ -129,17 +124,9 @@ pub fn told(
     actuals: &[Actual],
     row: &[u64],
 ) -> Result<Part, Memory>
-    requires table { HasTable lay.now }
-    requires groups { length lay.now.earlier.now ≤ length lay.now.system.now.groups }
-    requires shallow { deep (plain_expr e.now) ≤ suc MAX_LEVELS }
-    requires offsets { WordsFit lay.now e.now }
-    requires stands { MayStand lay.now false e.now }
-    requires actuals { ParamsFit lay.now actuals.now }
-    requires room { size lay.now e.now ≤ length row.now }
-    requires few { length row.now ≤ MAX_CELLS }
-    ensures formula { IfOk result (λ t. plain t.formula ≡
-        formula_of (tree lay.now e.now actuals.now row.now)) }
-    ensures size { IfOk result (λ t. t.size ≡ size lay.now e.now) }
+    requires { IsReady lay.now false 0 e.now actuals.now row.now }
+    ensures { IfOk result
+        (IsTold (tree lay.now e.now actuals.now row.now) (size lay.now e.now)) }
 {
     match e {
         Expr::Name(place) => Ok(Part {
@@ -208,18 +195,9 @@ fn one_told(
     actuals: &[Actual],
     row: &[u64],
 ) -> Result<Part, Memory>
-    requires table { HasTable lay.now }
-    requires groups { length lay.now.earlier.now ≤ length lay.now.system.now.groups }
-    requires shallow { deep (plain_expr a.now) ≤ MAX_LEVELS }
-    requires offsets { WordsFit lay.now a.now }
-    requires stands { MayStand lay.now true a.now }
-    requires actuals { ParamsFit lay.now actuals.now }
-    requires room { 1 + size lay.now a.now ≤ length row.now }
-    requires few { length row.now ≤ MAX_CELLS }
-    ensures formula { IfOk result (λ t. plain t.formula ≡
-        one_formula (one_at lay.now.system.now.words unary (slice_index row.now 0))
-        (formula_of (left_tree lay.now a.now actuals.now 1 row.now))) }
-    ensures size { IfOk result (λ t. t.size ≡ 1 + size lay.now a.now) }
+    requires { IsReady lay.now true 1 a.now actuals.now row.now }
+    ensures { IfOk result
+        (IsTold (one_tree lay.now unary a.now actuals.now row.now) (1 + size lay.now a.now)) }
 {
     let inner = told(alloc, lay, a, actuals, &row[1..])?;
     Ok(Part {
@@ -230,7 +208,7 @@ fn one_told(
 
 /// An operator of two operands.
 #[cycle(tell)]
-#[tactic(auto, using(crate::proofs::Places::inner_stands))]
+#[tactic(auto, using(crate::proofs::Places::inner_stands, crate::proofs::Evals::pair_formula))]
 fn two_told(
     alloc: Global,
     lay: &Lay<'_>,
@@ -240,22 +218,10 @@ fn two_told(
     actuals: &[Actual],
     row: &[u64],
 ) -> Result<Part, Memory>
-    requires table { HasTable lay.now }
-    requires groups { length lay.now.earlier.now ≤ length lay.now.system.now.groups }
-    requires shallow_left { deep (plain_expr a.now) ≤ MAX_LEVELS }
-    requires shallow_right { deep (plain_expr d.now) ≤ MAX_LEVELS }
-    requires offsets_left { WordsFit lay.now a.now }
-    requires offsets_right { WordsFit lay.now d.now }
-    requires stands_left { MayStand lay.now true a.now }
-    requires stands_right { MayStand lay.now true d.now }
-    requires actuals { ParamsFit lay.now actuals.now }
-    requires room { own_cells op + size lay.now a.now + size lay.now d.now ≤ length row.now }
-    requires few { length row.now ≤ MAX_CELLS }
-    ensures formula { IfOk result (λ t. plain t.formula ≡ node_formula (two_at op row.now)
-        (formula_of (left_tree lay.now a.now actuals.now (own_cells op) row.now))
-        (formula_of (right_tree lay.now a.now d.now actuals.now (own_cells op) row.now))) }
-    ensures size { IfOk result (λ t. t.size
-        ≡ own_cells op + size lay.now a.now + size lay.now d.now) }
+    requires { AreReady lay.now (own_cells op) a.now d.now actuals.now row.now }
+    ensures { IfOk result
+        (IsTold (pair_tree lay.now (two_at op) (own_cells op) a.now d.now actuals.now row.now)
+        (pair_size lay.now (own_cells op) a.now d.now)) }
 {
     let own = own_cells(op);
     let left = told(alloc, lay, a, actuals, &row[own..])?;
@@ -279,21 +245,12 @@ fn lag_told(
     actuals: &[Actual],
     row: &[u64],
 ) -> Result<Part, Memory>
-    requires table { HasTable lay.now }
-    requires groups { length lay.now.earlier.now ≤ length lay.now.system.now.groups }
     requires some { 1 ≤ m }
     requires short { m ≤ MAX_DELAY }
-    requires shallow { deep (plain_expr d.now) ≤ MAX_LEVELS }
-    requires offsets { WordsFit lay.now d.now }
-    requires stands { MayStand lay.now true d.now }
-    requires actuals { ParamsFit lay.now actuals.now }
-    requires room { 2 + words_of m + size lay.now a.now + size lay.now d.now ≤ length row.now }
-    requires few { length row.now ≤ MAX_CELLS }
-    ensures formula { IfOk result (λ t. plain t.formula ≡ two_formula (lag_at m row.now)
-        (formula_of (left_tree lay.now a.now actuals.now (2 + words_of m) row.now))
-        (formula_of (right_tree lay.now a.now d.now actuals.now (2 + words_of m) row.now))) }
-    ensures size { IfOk result (λ t. t.size
-        ≡ 2 + words_of m + size lay.now a.now + size lay.now d.now) }
+    requires ready { AreReady lay.now (2 + words_of m) a.now d.now actuals.now row.now }
+    ensures { IfOk result
+        (IsTold (pair_tree lay.now (lag_node m) (2 + words_of m) a.now d.now actuals.now row.now)
+        (pair_size lay.now (2 + words_of m) a.now d.now)) }
 {
     let own = lag_cells(m) + size_of(a, lay.earlier);
     let right = told(alloc, lay, d, actuals, &row[own..])?;
@@ -314,18 +271,10 @@ fn one_of_told(
     actuals: &[Actual],
     row: &[u64],
 ) -> Result<Part, Memory>
-    requires table { HasTable lay.now }
-    requires groups { length lay.now.earlier.now ≤ length lay.now.system.now.groups }
-    requires shallow { deep (plain_expr e.now) ≤ MAX_LEVELS }
-    requires offsets { WordsFit lay.now e.now }
-    requires stands { MayStand lay.now false e.now }
-    requires actuals { ParamsFit lay.now actuals.now }
-    requires room { 1 + max (size lay.now e.now) (size lay.now other.now) ≤ length row.now }
-    requires few { length row.now ≤ MAX_CELLS }
-    ensures formula { IfOk result (λ t. plain t.formula ≡
-        formula_of (left_tree lay.now e.now actuals.now 1 row.now)) }
-    ensures size { IfOk result (λ t. t.size
-        ≡ 1 + max (size lay.now e.now) (size lay.now other.now)) }
+    requires ready { IsReady lay.now false 1 e.now actuals.now row.now }
+    requires other { IsReady lay.now false 1 other.now actuals.now row.now }
+    ensures { IfOk result (IsTold (left_tree lay.now e.now actuals.now 1 row.now)
+        (choice_size lay.now e.now other.now)) }
 {
     let part = told(alloc, lay, e, actuals, &row[1..])?;
     Ok(Part {
@@ -337,23 +286,14 @@ fn one_of_told(
 /// The formula of a call to the group behind all that `lay` has.
 #[cycle(tell)]
 fn call_told(alloc: Global, lay: &Lay<'_>, group: u32, row: &[u64]) -> Result<Formula, Memory>
-    requires table { HasTable lay.now }
-    requires group { length lay.now.earlier.now ≡ group }
-    requires groups { group < length lay.now.system.now.groups }
-    requires some { 1 ≤ length row.now }
-    requires room { HasRoom lay.now group (length row.now) }
-    requires few { length row.now ≤ MAX_CELLS }
+    requires { IsCallReady lay.now group row.now }
     ensures { IfOk result (λ f. plain f ≡ formula_of (call_tree lay.now row.now)) }
 {
-    let (first, rest) = row.split_at(1);
-    match lay.system.body(group, (first[0] % (1 << 32)) as u32) {
+    let mut actuals = [Actual::Number(0); 8];
+    match call_body(lay, group, row, &mut actuals) {
         Some(body) => {
-            let mut array = [Actual::Number(0); 8];
-            let count = body.params.members().len();
-            let actuals = &mut array[..count];
-            let (cells, region) = rest.split_at(count);
-            actuals_at(lay.system.words(), cells, actuals);
-            let inner = told(alloc, lay, &body.root, actuals, region)?;
+            let region = &row[1 + body.count..];
+            let inner = told(alloc, lay, body.root, &actuals[..body.count], region)?;
             Ok(inner.formula)
         }
         None => Ok(Formula::False),

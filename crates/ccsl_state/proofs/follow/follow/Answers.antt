@@ -6,7 +6,7 @@ use Rattle.ccsl_state.specs.Regions.{trees_from}
 use Rattle.ccsl_state.specs.Passing.{IsFollowed}
 use Rattle.ccsl_state.specs.Visits.{IsEntered}
 use Rattle.ccsl_state.proofs.PlaceLaws.{places_len}
-use Rattle.ccsl_state.proofs.WholeLaws.{ready_table}
+use Rattle.ccsl_state.proofs.WholeLaws.{whole_regions}
 use Rattle.ccsl_state.proofs.StandLaws.{trees_len}
 use Rattle.ccsl_state.proofs.Visiting.{begins, ends, passes, one_more, later, reader}
 use Rattle.ccsl_state.proofs.Entering.{visit_is, lowest_below, lowest_above, lowest_most, unsettled_wait, readers_wait, followed_wait}
@@ -35,21 +35,14 @@ pub visit-visited-requires : goal.visit-visited-requires
 visit-visited-requires c =
     let K = c.args.lay.now.system.now in
     let i = c.in-Some.i in
-    let ready = ready_table K c.args.lay.now.earlier.now c.requires.accepted c.requires.whole.calls in
     let within = (c.visits.invariant.followed i c.in-Some.ensures.member).0 in
     let len = ap length c.requires.places ∙ places_len c.args.lay.now.earlier.now 0 K.definitions in
     let below : i < length c.args.places.now = omega (arith, within, len) in
-    let size = c.requires.whole.size in
     let same = c.visits.auto.row in
-    let room = ready.room in
-    let few = ready.few in
     record {
-      table = ready.table;
-      groups = ready.groups;
+      regions = whole_regions _ _ _ c.requires.accepted c.requires.whole (omega arith) (omega arith);
       within = within;
       place = ap (λ places. slice_get places i) (sym c.requires.places) ∙ slice_get-get_or c.args.places.now i 0 below;
-      room = omega arith;
-      few = omega arith;
     }
 
 pub enter-requires-clause-clock : goal.enter-requires-clause-clock

@@ -1,22 +1,13 @@
 -- The table of calls is the system's, and there is room for the regions.
 use Rattle.std.proofs.Common.{◌≡◌, ◌+◌, ◌*◌, ◌++◌, length, refl, arith}
-use Rattle.ccsl_state.proofs.WholeLaws.{ready_table, row_goes_on}
+use Rattle.ccsl_state.proofs.WholeLaws.{whole_regions, row_goes_on}
 use Rattle.ccsl_state.proofs.whole.row_advanced.Goals as goal
 
-pub advance_from-requires-clause-table : goal.advance_from-requires-clause-table
-advance_from-requires-clause-table c = (ready_table c.args.lay.now.system.now c.args.lay.now.earlier.now c.requires.accepted c.requires.whole.calls).table
-
-pub advance_from-requires-clause-groups : goal.advance_from-requires-clause-groups
-advance_from-requires-clause-groups c = (ready_table c.args.lay.now.system.now c.args.lay.now.earlier.now c.requires.accepted c.requires.whole.calls).groups
-
-pub advance_from-requires-clause-room : goal.advance_from-requires-clause-room
-advance_from-requires-clause-room c =
-    let ready = ready_table c.args.lay.now.system.now c.args.lay.now.earlier.now c.requires.accepted c.requires.whole.calls in
-    let room = ready.room in
-    let size = c.requires.whole.size in
+pub advance_from-requires : goal.advance_from-requires
+advance_from-requires c =
     let front = c.split_at_mut-front.ensures.front_len in
     let end = c.before_counts-end.ensures in
-    omega arith
+    whole_regions _ _ _ c.requires.accepted c.requires.whole (omega arith) (omega arith)
 
 pub returns : goal.returns
 returns c =
