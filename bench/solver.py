@@ -1,9 +1,10 @@
-"""Measures the solver and the choice of steps beside z3 and picosat, in one run.
+"""Measures the solver and the choice of steps in the built program beside z3 and picosat, in one run.
 
-    (cd crates/ccsl_bench && rt run)        builds the program
-    python3 bench/solver.py [CLOCKS STEPS]  24 clocks and 1,000 steps, if nothing else is said
+    python3 bench/solver.py [CLOCKS STEPS [PROGRAM]]  24 clocks and 1,000 steps, if nothing else is said
 
-Needs Debian's z3 and picosat. All times are processor times of the other process, so a loaded machine counts little.
+A chain is simulated, states and trace with it. Pigeons in fewer holes are a system that has no step: `simulate` refutes its first one
+and writes the certificate, which `certify` checks. Needs Debian's z3 and picosat. All times are processor times of whole processes, so
+a loaded machine counts little.
 """
 import os
 import subprocess
@@ -11,18 +12,58 @@ import sys
 import tempfile
 
 from figures import note
-from measured import TOP, built, measured
+from measured import PROGRAM, TOP, best as least, measured
 
 sys.path.append(f"{TOP}/tests")
 from seeded_words import seeded_words
 
-PROGRAM = built("ccsl_bench")
+ROUNDS = 10
 
 
-def run(words, times=1):
-    """What a process writes, and the seconds of processor time of one of so many runs."""
-    runs = [measured(words) for _ in range(times)]
-    return runs[-1].said, sum(one.processor for one in runs) / times
+class Specification:
+    """A specification in a folder of its own, with the files of its runs."""
+
+    def __init__(self, program, text):
+        self.program, self.folder = program, tempfile.TemporaryDirectory()
+        with open(f"{self.folder.name}/spec", "w") as file:
+            file.write(text)
+        self.files = [f"{key}={self.folder.name}/{key}" for key in ("spec", "trace", "cert")]
+
+    def simulate(self, steps, policy="min", rounds=1):
+        """The best of so many simulations."""
+        return least([self.program, "simulate", *self.files, f"policy={policy}", "seed=42", f"steps={steps}"], rounds)
+
+    def certify(self, rounds):
+        return least([self.program, "certify", *self.files], rounds)
+
+    def lines(self, name):
+        with open(f"{self.folder.name}/{name}") as file:
+            return file.read().splitlines()
+
+    def ticks(self):
+        """How many clocks ticked in the steps of the trace."""
+        return sum(line.startswith("1") for line in self.lines("trace"))
+
+
+def chain(clocks):
+    """Clocks of which each alternates with the next one."""
+    names = [f"c{number}" for number in range(clocks)]
+    pairs = " ".join(f"alternates({one}, {other});" for one, other in zip(names, names[1:]))
+    return f"ccsl 1; system {{ clock {', '.join(names)}; {pairs} }}\n"
+
+
+def union(names):
+    return names[0] if len(names) == 1 else f"({union(names[:-1])}) union {names[-1]}"
+
+
+def crowd(holes):
+    """Where one pigeon sits all sit, each alone in a hole, and they are one more than there are holes: so no clock can tick."""
+    sits = [[f"p{pigeon}_{hole}" for hole in range(holes)] for pigeon in range(holes + 1)]
+    lines = [f"define u{pigeon} = {union(places)};" for pigeon, places in enumerate(sits)]
+    lines += [f"u{pigeon} coincides u{pigeon + 1};" for pigeon in range(holes)]
+    for pigeon, places in enumerate(sits):
+        lines += [f"{sits[other][hole]} excludes {place};" for other in range(pigeon) for hole, place in enumerate(places)]
+    return f"ccsl 1; system {{ clock {', '.join(sum(sits, []))}; {' '.join(lines)} }}\n"
 
 
 class Z3:
@@ -102,7 +143,7 @@ def z3_chain(clocks, steps, policy, ask_all):
         model = best(z3, clocks, policy, [next(words) for _ in range(clocks)], ask_all)
         z3.tell("(pop 1)")
         counts = [count + tick for count, tick in zip(counts, model)]
-    return sum(counts), z3.close()
+    return sum(counts[:clocks]), z3.close()
 
 
 def pigeons(holes):
@@ -116,46 +157,43 @@ def pigeons(holes):
     return "\n".join(lines + [" ".join(map(str, clause + [0])) for clause in clauses]) + "\n"
 
 
-def chains(clocks, steps):
+def chains(program, clocks, steps):
+    spec = Specification(program, chain(clocks))
     for policy in ("min", "max", "seeded"):
-        ticks, ours = run([PROGRAM, "chain", clocks, 10 * steps, policy])
-        ticks, _ = run([PROGRAM, "chain", clocks, steps, policy])
-        ours /= 10
+        start = spec.simulate(0, policy, ROUNDS).processor
+        ours = (spec.simulate(10 * steps, policy, 3).processor - start) / 10
+        spec.simulate(steps, policy)
+        ticks = spec.ticks()
         few_ticks, few = z3_chain(clocks, steps, policy, False)
         all_ticks, each = z3_chain(clocks, steps, policy, True)
-        assert int(ticks) == few_ticks == all_ticks
+        assert ticks == few_ticks == all_ticks
         print(f"{steps} steps of {clocks} clocks under {policy}: {1000 * ours:.1f} ms; z3 {1000 * each:.0f} ms with a question for each clock"
               f" ({each / ours:.0f} times as long), {1000 * few:.0f} ms with as few as can be ({few / ours:.0f} times)")
         note("ccsl_policy", f"a chain of {clocks} clocks, {policy}", "z3, a question a clock", processor=each / ours)
         note("ccsl_policy", f"a chain of {clocks} clocks, {policy}", "z3, few questions", processor=few / ours)
 
 
-def long_chains():
-    for clocks in (64, 128, 256, 512):
-        _, ours = run([PROGRAM, "chain", clocks, 1000, "seeded"])
-        print(f"a step of {clocks} clocks, {2 * clocks - 1} named, {3 * clocks - 3} formulas: {ours:.3f} ms")
-
-
-def holes():
+def holes(program):
     for number in (6, 7, 8):
         with tempfile.NamedTemporaryFile("w", suffix=".cnf") as file:
             file.write(pigeons(number))
             file.flush()
-            _, theirs = run(["picosat", file.name], 20)
-        _, start = run([PROGRAM, "pigeons", number, 0], 20)
-        lines, ours = run([PROGRAM, "pigeons", number, 20])
-        _, checked = run([PROGRAM, "check", number, 101])
-        ours = (ours - start) / 20
-        checked = (checked - start - ours) / 100
-        print(f"{number + 1} pigeons in {number} holes: {1000 * ours:.2f} ms, {lines} lines, checked in {1000 * checked:.2f} ms; picosat {1000 * theirs:.2f} ms")
+            theirs = least(["picosat", file.name], ROUNDS).processor
+        spec = Specification(program, crowd(number))
+        start = spec.simulate(0, rounds=ROUNDS).processor
+        refuted = spec.simulate(1, rounds=ROUNDS)
+        assert refuted.status == 8
+        ours, checked = max(refuted.processor - start, 0.001), max(spec.certify(ROUNDS).processor - start, 0.001)
+        print(f"{number + 1} pigeons in {number} holes: {1000 * ours:.0f} ms, {len(spec.lines('cert'))} lines, checked in {1000 * checked:.0f} ms; "
+              f"picosat {1000 * theirs:.0f} ms")
         note("ccsl_solve", f"{number + 1} pigeons in {number} holes", "picosat", processor=theirs / ours)
 
 
 def main():
     clocks, steps = (int(word) for word in sys.argv[1:3]) if len(sys.argv) > 2 else (24, 1000)
-    chains(clocks, steps)
-    long_chains()
-    holes()
+    program = sys.argv[3] if len(sys.argv) > 3 else PROGRAM
+    chains(program, clocks, steps)
+    holes(program)
 
 
 main()
