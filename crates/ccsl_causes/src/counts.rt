@@ -27,19 +27,6 @@ impl Model for Counts {
     ghost invariant = { λ c. length c.ticks.items < 2 ^ 32 };
 }
 
-// The count of a clock behind the rows of a block, each of which is a step.
-#[inline(always)]
-fn count_over(count: u64, clock: u32, block: &Block) -> u64
-    ensures { result ≡ counted_over clock (map (λ row. row.ticks) block.now.rows) count }
-{
-    let mut behind = count;
-    for i in 0..block.len() {
-        let row = block.row(i);
-        behind = raised(behind, row.ticks.has(clock));
-    }
-    behind
-}
-
 // The count of a clock behind a step in which it ticks, or does not.
 #[inline(always)]
 fn raised(count: u64, ticks: bool) -> u64
@@ -113,39 +100,15 @@ impl Counts {
         }
     }
 
-    // Visits all counts, each for all rows.
-    fn count_all_rows(&mut self, block: &Block)
-        ensures clocks { length self.new ≡ length self.old }
-        ensures counts { (x : ℕ) → x < length self.old → slice_index_or self.new x 0
-            ≡ counted_over x (map (λ row. row.ticks) block.now.rows) (slice_index_or self.old x 0) }
-    {
-        for at in 0..self.ticks.len() {
-            self.ticks[at] = count_over(self.ticks[at], at as u32, block);
-        }
-    }
-
-    // Visits the counts of the clocks that tick, row by row.
-    fn count_each_row(&mut self, block: &Block)
-        ensures clocks { length self.new ≡ length self.old }
-        ensures counts { (x : ℕ) → x < length self.old → slice_index_or self.new x 0
-            ≡ counted_over x (map (λ row. row.ticks) block.now.rows) (slice_index_or self.old x 0) }
-    {
-        for i in 0..block.len() {
-            let row = block.row(i);
-            self.count_members(&row.ticks);
-        }
-    }
-
     /// The rows of a block are made, each of which is a step.
     pub fn count_rows(&mut self, block: &Block)
         ensures clocks { length self.new ≡ length self.old }
         ensures counts { (x : ℕ) → x < length self.old → slice_index_or self.new x 0
             ≡ counted_over x (map (λ row. row.ticks) block.now.rows) (slice_index_or self.old x 0) }
     {
-        if self.ticks.len() <= FEW {
-            self.count_all_rows(block);
-        } else {
-            self.count_each_row(block);
+        for i in 0..block.len() {
+            let row = block.row(i);
+            self.count(&row.ticks);
         }
     }
 }

@@ -4,16 +4,16 @@ use Rattle.ccsl_base.specs.Clocks.{ticks_in}
 use Rattle.ccsl_base.specs.declared.rows.Row.{Row}
 use Rattle.ccsl_causes.specs.Counted.{counted, counted_over}
 use Rattle.ccsl_causes.proofs.Over.{over-row}
-use Rattle.ccsl_causes.proofs.counts.Counts.count_each_row.Goals as goal
+use Rattle.ccsl_causes.proofs.counts.Counts.count_rows.Goals as goal
 
 pub loop-i-preserved : goal.loop-i-preserved
 loop-i-preserved c =
     let at = c.loop-i in
     let row = c.row-row.result.now in
     record {
-      clocks = c.count_members.ensures.clocks ∙ at.invariant.clocks;
+      clocks = c.count.ensures.clocks ∙ at.invariant.clocks;
       counts = λ x within.
-          c.count_members.ensures.counts x (omega (arith, within, at.invariant.clocks))
+          c.count.ensures.counts x (omega (arith, within, at.invariant.clocks))
           ∙ ap (counted (ticks_in x row.ticks)) (at.invariant.counts x within)
           ∙ sym (over-row x c.args.block.now.rows at.i row _ c.row-row.ensures);
     }

@@ -1,7 +1,7 @@
 -- The rows so far are counted.
 use Rattle.std.proofs.Common.{◌≡◌, ℕ, ◌<◌, map, take, length, slice_index_or}
 use Rattle.ccsl_causes.specs.Counted.{counted_over}
-use Rattle.ccsl_causes.proofs.counts.Counts.count_each_row.Given as goal
+use Rattle.ccsl_causes.proofs.counts.Counts.count_rows.Given as goal
 
 abbrev pub invariant-loop-i : goal.invariant-loop-i
 invariant-loop-i l = record {
