@@ -1,6 +1,6 @@
 -- The next token of a text at whose front no white space stands.
-use Rattle.std.proofs.Common.{◌≡◌, ◌<◌, ℕ, ◌-◌, ◌||◌, List, [], ◌∷◌, length, drop, Bool, true, false, Option, Some, refl, sym, ap, ◌∙◌, arith}
-use Rattle.std.proofs.lemmas.Bool.{false≢true, or_parts}
+use Rattle.std.proofs.Common.{◌≡◌, ◌<◌, ℕ, ◌-◌, List, [], ◌∷◌, length, drop, false, Option, Some, sym, ap, ◌∙◌, arith}
+use Rattle.std.proofs.lemmas.Bool.{or_parts}
 use Rattle.ccsl_event_file.specs.Tokens.{Token, placed, tokens_in, piece_at, begins_remark, is_white}
 use Rattle.ccsl_event_file.specs.Fronts.{is_blank, IsFrontOf, IsBehindBlank}
 use Rattle.ccsl_event_file.specs.Parsing.{ahead, place_of, next_token, behind_next}

@@ -4,3 +4,4 @@ pub mod Bits
 pub mod Story
 pub mod Paths
 pub mod Statements
+pub mod Steps

@@ -3,8 +3,10 @@
 ghost use Rattle.std.specs.Prelude.{◌≡◌, ◌≤◌, ◌++◌, ◌==◌, [], ℕ, List, IfOk, OnOk, true, false, not, filter, length, is_some, option_map};
 ghost use Rattle.std.specs.Option.{unwrap_or};
 ghost use Rattle.ccsl_event_file.specs.Fronts.{seen};
-ghost use Rattle.ccsl_event_file.specs.File.{Draft, first_part, behind_part, behind_left, bracket, behind_path, behind, path, with_condition, is_mark, index_of, comparison_of};
-ghost use Rattle.ccsl_event_file.specs.Parsing.{ahead, next_is, next_token, part_seen, value_seen, path_in, condition_in, is_condition, IsPart, Reads, ReadsValue};
+ghost use Rattle.ccsl_event_file.specs.File.{Draft, first_part, behind_part, behind_left, bracket, behind_path, behind, path, with_condition, is_mark};
+ghost use Rattle.ccsl_event_file.specs.File.{index_of, comparison_of};
+ghost use Rattle.ccsl_event_file.specs.Parsing.{ahead, next_is, next_token, part_seen, value_seen, path_in, condition_in, is_condition, IsPart, Reads};
+ghost use Rattle.ccsl_event_file.specs.Parsing.{ReadsValue};
 ghost use Rattle.ccsl_event_file.specs.Values.{value_of};
 
 use crate::event::{Condition, Located};

@@ -2,7 +2,8 @@
 
 ghost use Rattle.std.specs.Prelude.{◌≡◌, ◌≤◌, ◌<◌, ◌++◌, [], ◌∷◌, IfOk, IfErr, OnOk, false, map, length, option_map};
 ghost use Rattle.ccsl_event_file.specs.File.{is_word, joint, use_of_word, use_of_token, events, reading};
-ghost use Rattle.ccsl_event_file.specs.Parsing.{ahead, next_is, path_in, trigger_in, conditions_in, event_in, use_of_kind, made_of, IsFault, ReadsValue, ReadsTrigger, ReadsConditions, ReadsName, ReadsStatement, ReadsHead};
+ghost use Rattle.ccsl_event_file.specs.Parsing.{ahead, next_is, path_in, trigger_in, conditions_in, event_in, use_of_kind, made_of, IsFault, ReadsValue};
+ghost use Rattle.ccsl_event_file.specs.Parsing.{ReadsTrigger, ReadsConditions, ReadsName, ReadsStatement, ReadsHead};
 
 use crate::event::{Condition, Event, Located, Trigger};
 use crate::fault::EventFault;

@@ -1,5 +1,5 @@
 -- What happens depends on the views of the variables alone.
-use Rattle.std.proofs.Common.{◌≡◌, ℕ, List, [], ◌∷◌, Bool, ◌&&◌, refl, ap, ap₂}
+use Rattle.std.proofs.Common.{◌≡◌, ℕ, List, [], ◌∷◌, ◌&&◌, refl, ap, ap₂}
 use Rattle.std.specs.List.{list_all}
 use Rattle.ccsl_triggers.specs.declared.watch.Goal.{Goal}
 use Rattle.ccsl_triggers.specs.declared.watch.Watch.{Watch}

@@ -1,6 +1,6 @@
 -- When a name happens at a time: by the values that stood before it, settled at the last earlier time with a change, and those
 -- settled at it. A value is a list of letters.
-use Rattle.std.specs.Prelude.{ℕ, ◌-◌, List, [], ◌∷◌, length, Bool, true, false, not, Option, Some, None, ◌&&◌, ◌||◌, if◌then◌else◌, bytes_eq, codes, slice_get}
+use Rattle.std.specs.Prelude.{ℕ, ◌-◌, List, [], ◌∷◌, length, Bool, false, not, Option, Some, None, ◌&&◌, if◌then◌else◌, bytes_eq, codes, slice_get}
 use Rattle.std.specs.Prelude.{slice_range}
 use Rattle.std.specs.List.{list_all}
 use Rattle.ccsl_scopes.specs.declared.select.Bits.{Bits}
@@ -10,7 +10,6 @@ use Rattle.std.specs.declared.alloc.Global.{Global}
 use Rattle.ccsl_triggers.specs.declared.signal.Value.{Value}
 use Rattle.ccsl_triggers.specs.declared.signal.Value.TheVariants.{One, Many}
 use Rattle.ccsl_triggers.specs.declared.signal.Signal.{Signal}
-use Rattle.ccsl_triggers.specs.declared.watch.Part.{Part}
 use Rattle.ccsl_triggers.specs.declared.watch.Goal.{Goal}
 use Rattle.ccsl_triggers.specs.declared.watch.Watch.{Watch}
 use Rattle.ccsl_triggers.specs.declared.watch.Trigger.{Trigger}

@@ -3,7 +3,8 @@
 ghost use Rattle.std.specs.Prelude.{◌≡◌, ℕ, true};
 ghost use Rattle.std.specs.List.{list_all};
 ghost use Rattle.ccsl_triggers.specs.Views.{View};
-ghost use Rattle.ccsl_triggers.specs.Triggers.{value_before, value_after, part, rises, falls, differs, meets, begins, of_values, of_part, view_at, variable_of, sets_off, held_before, happens};
+ghost use Rattle.ccsl_triggers.specs.Triggers.{value_before, value_after, part, rises, falls, differs, meets, begins, of_values, of_part, view_at, variable_of};
+ghost use Rattle.ccsl_triggers.specs.Triggers.{sets_off, held_before, happens};
 
 use crate::signal::Signal;
 use ccsl_scopes::Bits;
