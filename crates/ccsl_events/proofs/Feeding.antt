@@ -387,7 +387,3 @@ rest-fits plan start bytes piece rest w p r r' x y h so a fits =
     let n : ℕ = length piece - length rest in
     let l : n ≤ length piece = omega arith in
     omega (arith, h.taken, a.taken.taken, so.fits, fits, length-append bytes (take n piece), length-take-le n piece l)
-
-pub reaches-here : (plan : Plan) (start : ℕ) (bytes : List ℕ) (p : Place) (r : Reader) (x : List ℕ) → HasTaken plan start bytes p r
-    → Reaches plan start bytes p.written r x x
-reaches-here plan start bytes p r x h = record { place = p; taken = h; more = []; out = sym (append-nil x); written = sym (append-nil p.written) }

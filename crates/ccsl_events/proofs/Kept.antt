@@ -12,7 +12,8 @@ use Rattle.ccsl_events.specs.declared.codes.Entry.TheVariants.{Undeclared, Unuse
 use Rattle.ccsl_events.specs.declared.values.Values.{Values}
 use Rattle.ccsl_events.specs.Dump.{Variable, Plan, is_declared, heard_by, heard_in}
 use Rattle.ccsl_events.specs.Places.{entry_of}
-use Rattle.ccsl_events.specs.Keeping.{AreUsers, AreSole, sole_at, IsNamed, IsRecorded, held_at, replaced, settle_each, SameTables, Kept, kept, touch_held, set_one}
+use Rattle.ccsl_events.specs.Keeping.{AreUsers, AreSole, sole_at, IsNamed, IsRecorded, held_at, replaced, settle_each, SameTables, Kept, kept, touch_held}
+use Rattle.ccsl_events.specs.Keeping.{set_one}
 use Rattle.ccsl_events.specs.Keeping.{set_chain, chain, is_known, forget_kept, has_code, reads, Knows, SizeIn, Keeps}
 use Rattle.ccsl_events.proofs.Settling.{held_at-same, held_at-other, settle_each-at, settle_each-view, settle_each-touched}
 use Rattle.ccsl_events.proofs.Chains.{set_one-length, set_chain-at, set_chain-touched, set_chain-flags}

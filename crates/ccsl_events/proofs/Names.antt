@@ -1,6 +1,7 @@
 -- The names that are known, and those that are found by the variables that changed, are those that happen; and what the end of a
 -- time makes of the variables.
-use Rattle.std.proofs.Common.{◌≡◌, ◌⊎◌, inl, inr, ℕ, zero, suc, ◌+◌, ◌<◌, ◌≤◌, List, [], ◌∷◌, ◌++◌, length, map, filter, Bool, true, false, ◌||◌, ◌&&◌, Option, Some, None, slice_get}
+use Rattle.std.proofs.Common.{◌≡◌, ◌⊎◌, inl, inr, ℕ, zero, suc, ◌+◌, ◌<◌, ◌≤◌, List, [], ◌∷◌, ◌++◌, length, map, filter, Bool, true, false, ◌||◌, ◌&&◌, Option}
+use Rattle.std.proofs.Common.{Some, None, slice_get}
 use Rattle.std.proofs.Common.{nat_eq, nat_lt, if◌then◌else◌, refl, sym, ap, subst, ◌∙◌, ⊎_elim, arith, lt-ltb, eq-eqb, eqb-true}
 use Rattle.std.specs.List.{list_all, range_with_len}
 use Rattle.std.specs.declared.vec.Vec.{Vec}
@@ -20,7 +21,8 @@ use Rattle.ccsl_triggers.proofs.Quiet.{sets_off-quiet}
 use Rattle.ccsl_triggers.proofs.Alike.{happens-alike}
 use Rattle.ccsl_events.specs.declared.values.Values.{Values}
 use Rattle.ccsl_events.specs.Dump.{Plan, happens_in, names_at}
-use Rattle.ccsl_events.specs.Keeping.{AreUsers, IsNamed, fires, with_names, users_of, with_users, replaced, settle_each, read_by, settle_read, SameTables, Keeps}
+use Rattle.ccsl_events.specs.Keeping.{AreUsers, IsNamed, fires, with_names, users_of, with_users, replaced, settle_each, read_by, settle_read, SameTables}
+use Rattle.ccsl_events.specs.Keeping.{Keeps}
 use Rattle.ccsl_events.proofs.Settling.{view_at-held}
 use Rattle.ccsl_events.proofs.Kept.{keeps-settled}
 

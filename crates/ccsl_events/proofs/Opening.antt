@@ -91,6 +91,17 @@ opening-on limits xs ys among h f e =
     ∙ ap (λ (o : Opening). fold (next limits) o (settled_from (0 + length xs) ys)) e
     ∙ ap (λ (i : ℕ). opening_from limits (open_at among h) (settled_from i ys)) at
 
+-- a reader of the same header is inside it
+pub reads-still : (limits : Limits) (among : Among) (h : Heading) (r r' : Reader) → ReadsHeader limits among h r → r'.heading ≡ r.heading → r'.body ≡ r.body
+    → r'.is_header_over ≡ r.is_header_over → ReadsHeader limits among h r'
+reads-still limits among h r r' is heading body end = record {
+  reader = is.reader;
+  has = heading ∙ is.has;
+  stands = is.stands;
+  bodyless = body ∙ is.bodyless;
+  goes_on = end ∙ is.goes_on;
+}
+
 module _ (limits : Limits) (bytes piece : List ℕ) (among : Among) (h : Heading) (r : Reader) (i : IsInHeader limits bytes among h r) where
   -- what is kept and a part of the piece, behind the whole tokens
   behind-whole : (part : List ℕ) → i.whole ++ (r.carry.items ++ part) ≡ bytes ++ part

@@ -1,12 +1,13 @@
 -- Bytes of a body that are taken one part after another.
 use Rattle.std.proofs.Common.{◌≡◌, ℕ, zero, suc, ◌+◌, ◌-◌, ◌%◌, ◌≤◌, ◌<◌, ◌⊎◌, inl, inr, List, [], ◌∷◌, ◌++◌, length, take, drop, get_or, map, filter, fold}
-use Rattle.std.proofs.Common.{Bool, true, false, not, nat_lt, ◌||◌, ◌&&◌, cond, Some, None, Result, Ok, Err, refl, sym, ap, ◌∙◌, subst, append_assoc, arith}
+use Rattle.std.proofs.Common.{Bool, true, false, nat_lt, ◌||◌, ◌&&◌, cond, Some, None, Result, Ok, Err, refl, sym, ap, ◌∙◌, subst, append_assoc, arith}
 use Rattle.std.proofs.Common.{length-append, length-take-le, length-drop}
 use Rattle.std.specs.List.{prefix_len, list_all}
-use Rattle.std.proofs.lemmas.Bool.{lt-ltb, le-ltb}
+use Rattle.std.proofs.lemmas.Bool.{lt-ltb, le-ltb, not-true}
 use Rattle.std.proofs.Math.Bool.{or-true}
 use Rattle.std.proofs.lemmas.List.{append-nil, map-append, take_more, drop-drop, take-append-drop}
 use Rattle.std.proofs.lemmas.List.Elements.{filter-append}
+use Rattle.std.proofs.lemmas.List.Sums.{fold-append}
 use Rattle.std.proofs.Math.Seq.{take-add}
 use Rattle.ccsl_vcd_lex.specs.Tokens.{is_white, Token, token, end_of, is_long, tokens_from, Heard, word, too_long, hear}
 use Rattle.ccsl_vcd_lex.specs.Runs.{fresh_after}
@@ -39,16 +40,12 @@ settled-cut at p q h =
     ∙ ap (λ (hs : List Heard). hs ++ map hear (filter Q qs)) (sym (settled-fresh at p h))
     ∙ ap (λ (k : ℕ). settled_from at p ++ map hear (filter (λ t. nat_lt (end_of t) k || is_long t) qs)) m
 
-pub fold-both : (plan : Plan) (s : Story) (xs ys : List Heard) → fold (next plan) s (xs ++ ys) ≡ fold (next plan) (fold (next plan) s xs) ys
-fold-both plan s [] ys = refl
-fold-both plan s (x ∷ xs) ys = fold-both plan (next plan s x) xs ys
-
 -- the story goes on behind a part
 pub told-on : (plan : Plan) (p q : Place) (at : ℕ) (xs ys : List ℕ) → fresh_after true xs ≡ true
     → story_from plan p (settled_from at xs) ≡ record { place = q; fault = None }
     → story_from plan p (settled_from at (xs ++ ys)) ≡ story_from plan q (settled_from (at + length xs) ys)
 told-on plan p q at xs ys h e =
-    ap (story_from plan p) (settled-cut at xs ys h) ∙ fold-both plan (record { place = p; fault = None }) (settled_from at xs)
+    ap (story_from plan p) (settled-cut at xs ys h) ∙ fold-append (next plan) (record { place = p; fault = None }) (settled_from at xs)
     (settled_from (at + length xs) ys)
     ∙ ap (λ (s : Story). fold (next plan) s (settled_from (at + length xs) ys)) e
 
@@ -141,14 +138,6 @@ unfolding says
 long-told plan p at = refl
 
 -- The front of some bytes.
-
-not-true : (b : Bool) → not b ≡ true → b ≡ false
-not-true true h = absurd (cc)
-not-true false h = refl
-
-not-false : (b : Bool) → not b ≡ false → b ≡ true
-not-false true h = refl
-not-false false h = absurd (cc)
 
 pub dark-front : (xs : List ℕ) → Dark (take (prefix_len is_dark xs) xs)
 dark-front [] = tt

@@ -5,6 +5,7 @@ use Rattle.std.specs.List.{list_all}
 use Rattle.std.proofs.lemmas.Bool.{cases_lt, le-ltb, lt-ltb}
 use Rattle.std.proofs.Math.Bool.{or-true}
 use Rattle.std.proofs.lemmas.List.{append-nil, map-append, take-append-drop}
+use Rattle.std.proofs.lemmas.List.Sums.{fold-append}
 use Rattle.ccsl_vcd_lex.specs.Tokens.{is_white, Token, token, end_of, is_long, run, tokens_from, Heard, too_long, hear}
 use Rattle.ccsl_vcd_lex.specs.Runs.{fresh_after}
 use Rattle.ccsl_vcd_lex.specs.Lexing.{Dark, is_dark}
@@ -16,7 +17,7 @@ use Rattle.ccsl_events.specs.declared.reader.Reader.{Reader}
 use Rattle.ccsl_events.specs.Dump.{Plan, Place, Story, refused, next, begin, story, ends_at, ended, body_says}
 use Rattle.ccsl_events.specs.Run.{IsOpen, settled_from, story_from, Breaks}
 use Rattle.ccsl_events.specs.Fed.{HasTaken}
-use Rattle.ccsl_events.proofs.Run.{told-on, settled-fresh, settled-cut, settled-long, fold-both}
+use Rattle.ccsl_events.proofs.Run.{told-on, settled-fresh, settled-cut, settled-long}
 
 -- all tokens of a body
 abbrev all_from : ℕ → List ℕ → List Heard
@@ -178,7 +179,7 @@ story-breaks plan start bytes more f w x y b =
     sym (append_assoc part (drop b.front bytes) more) ∙ ap (λ (xs : List ℕ). xs ++ more) (take-append-drop b.front bytes) in
     let k = settled-first start part rest in
     story-is plan (all_from start (bytes ++ more)) ∙ ap (λ (xs : List ℕ). story_from plan begin (all_from start xs)) (sym is)
-    ∙ ap (story_from plan begin) k.1 ∙ fold-both plan (record { place = begin; fault = None }) (settled_from start part) k.0
+    ∙ ap (story_from plan begin) k.1 ∙ fold-append (next plan) (record { place = begin; fault = None }) (settled_from start part) k.0
     ∙ ap (λ (s : Story). fold (next plan) s k.0) b.told ∙ fault-stays plan b.place f k.0
 
 pub whole-breaks : (plan : Plan) (start len : ℕ) (bytes more : List ℕ) (f : VcdFault) (w x y : List ℕ) → Breaks plan begin start bytes f w x y
@@ -202,7 +203,7 @@ breaks-more plan start bytes more f w x y b =
     sym (append_assoc part (drop b.front bytes) more) ∙ ap (λ (xs : List ℕ). xs ++ more) (take-append-drop b.front bytes) in
     let k = settled-more start part rest in
     ap (λ (xs : List ℕ). story_from plan begin (settled_from start xs)) (sym is)
-    ∙ ap (story_from plan begin) k.1 ∙ fold-both plan (record { place = begin; fault = None }) (settled_from start part) k.0
+    ∙ ap (story_from plan begin) k.1 ∙ fold-append (next plan) (record { place = begin; fault = None }) (settled_from start part) k.0
     ∙ ap (λ (s : Story). fold (next plan) s k.0) b.told ∙ fault-stays plan b.place f k.0
 
 -- the place that a reader has come to is that of the bytes that it has taken

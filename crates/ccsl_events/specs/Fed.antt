@@ -1,5 +1,5 @@
 -- What a reader has taken of a dump, whatever pieces the bytes came in: of its header, and of its body, which begins at a place.
-use Rattle.std.specs.Prelude.{◌≡◌, ◌⊎◌, ℕ, ◌+◌, ◌^◌, ◌<◌, ◌≤◌, List, [], ◌++◌, length, take, Bool, true, false, Some, None, Result, Ok, Err}
+use Rattle.std.specs.Prelude.{◌≡◌, ◌⊎◌, ℕ, ◌+◌, ◌^◌, ◌<◌, ◌≤◌, List, [], ◌++◌, length, take, Bool, true, false, Some, None, Result, Ok, Err, IfOk, OnOk}
 use Rattle.ccsl_base.specs.declared.limits.TheConstants.{MAX_TOKEN_BYTES}
 use Rattle.ccsl_vcd_lex.specs.Runs.{fresh_after}
 use Rattle.ccsl_vcd.specs.declared.fault.VcdFault.{VcdFault}
@@ -135,3 +135,11 @@ pub record Says (plan : Plan) (before : List ℕ) (said : Said) (result : Result
 -- behind the last token of a header nothing is kept
 abbrev pub IsClear : Reader → Type 0
 IsClear r = r.is_header_over ≡ true → r.carry.items ≡ []
+
+-- WHAT A CALL THAT TAKES A PIECE ANSWERS, AND LEAVES: it takes so many of the bytes, one at least, wherever the reader stands.
+pub record TakesPiece (piece : List ℕ) (result : Result ℕ VcdFault) (r s : Reader) (old new : List ℕ) : Type 0 where
+  pub within : IfOk result (λ n. (0 < n) × (n ≤ length piece))
+  pub feeds : TakesBody piece result r s old new
+  pub heads : TakesHeader piece result r s old new
+  pub counts : IfOk result (λ n. r.taken + length piece < 2 ^ 64 → s.taken ≡ r.taken + n)
+  pub clears : OnOk result (r.is_header_over ≡ false → IsClear s)

@@ -6,10 +6,10 @@ use Rattle.std.specs.declared.alloc.Global.{Global}
 use Rattle.ccsl_base.specs.declared.limits.TheConstants.{MAX_CLOCKS}
 use Rattle.ccsl_base.specs.Clocks.{ticks_in, with_clock}
 use Rattle.ccsl_triggers.specs.declared.watch.Watch.{Watch}
-use Rattle.ccsl_triggers.specs.Views.{View}
+use Rattle.ccsl_triggers.specs.Views.{View, at_rest}
 use Rattle.ccsl_triggers.specs.Held.{Held, held, new_held, set_held, settle_held, forget_held, IsQuiet}
 use Rattle.ccsl_triggers.specs.Triggers.{variable_of, happens}
-use Rattle.ccsl_events.specs.Dump.{Variable, Plan, is_declared, happens_in}
+use Rattle.ccsl_events.specs.Dump.{Variable, Plan, is_declared, happens_in, row_of, has_row}
 use Rattle.ccsl_events.specs.declared.codes.Entry.{Entry}
 use Rattle.ccsl_events.specs.declared.codes.Entry.TheVariants.{Undeclared, Unused, Used}
 use Rattle.ccsl_events.specs.Places.{entry_of}
@@ -182,3 +182,9 @@ pub record Keeps (plan : Plan) (views : ℕ → View) (v : Values) : Type 0 wher
   pub sole : AreSole plan.watches v.users.items v.sole_names.items
   pub recorded : (name : ℕ) → ticks_in name v.names ≡ true → IsRecorded v.sole_names.items views name
   pub flags : (n : ℕ) → (held_at (map held v.signals.items) n).touched ≡ true → ticks_in n v.touched.items ≡ true
+
+-- WHAT THE END OF A TIME LEAVES: its row is written, if it has one, and the variables are at rest.
+pub record Settles (plan : Plan) (now : ℕ) (views : ℕ → View) (is_row : Bool) (v : Values) (old new : List ℕ) : Type 0 where
+  pub row : new ≡ old ++ row_of plan now views
+  pub is_one : is_row ≡ has_row plan views
+  pub keeps : Keeps plan (λ n. at_rest (views n)) v

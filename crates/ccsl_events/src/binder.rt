@@ -3,7 +3,8 @@
 ghost use Rattle.std.specs.Prelude.{◌≡◌, [], ◌∷◌, map, IfOk};
 ghost use Rattle.ccsl_triggers.specs.Sized.{filler};
 ghost use Rattle.ccsl_event_file.specs.Parsing.{path_in, condition_in, trigger_in, conditions_in, event_in};
-ghost use Rattle.ccsl_events.specs.Binding.{target, bit, recorded, compared, source_of, part_of, part_with, widened, goal_on, goal_with, goal, trigger, watch, each, is_same, number_in};
+ghost use Rattle.ccsl_events.specs.Binding.{target, bit, recorded, compared, source_of, part_of, part_with, widened, goal_on, goal_with, goal, trigger, watch};
+ghost use Rattle.ccsl_events.specs.Binding.{each, is_same, number_in};
 ghost use Rattle.ccsl_events.specs.Binds.{seen_part, seen_goal, Binds, BindsGoal, BindsTrigger, BindsGoals, BindsWatch, BindsWatches};
 
 use ccsl_base::Memory;

@@ -4,7 +4,8 @@ ghost use Rattle.std.specs.Prelude.{◌≡◌, ◌⊎◌, ◌≤◌, ◌<◌, �
 ghost use Rattle.ccsl_vcd_lex.specs.Tokens.{token};
 ghost use Rattle.ccsl_vcd.specs.Words.{is_scalar, dump};
 ghost use Rattle.ccsl_events.specs.Keeping.{Keeps};
-ghost use Rattle.ccsl_events.specs.Dump.{Plan, Place, begin, remark, code_of, code_skipped, goes, changed, passed, time_says, block_says, gap_says, end_says, word_says, token_says, may_end};
+ghost use Rattle.ccsl_events.specs.Dump.{Plan, Place, begin, remark, code_of, code_skipped, goes, changed, passed, time_says, block_says, gap_says, end_says};
+ghost use Rattle.ccsl_events.specs.Dump.{word_says, token_says, may_end};
 ghost use Rattle.ccsl_events.specs.Standing.{are_skipped, counted, Stands, Answers};
 ghost use Rattle.ccsl_events.specs.Times.{IsTime};
 ghost use Rattle.ccsl_events.specs.Run.{IsOpen, Runs, Takes};

@@ -7,8 +7,8 @@ ghost use Rattle.ccsl_events.specs.Standing.{Stands, counted};
 ghost use Rattle.ccsl_vcd.specs.Places.{Among, commands};
 ghost use Rattle.ccsl_scopes.specs.Headings as headings;
 ghost use Rattle.ccsl_scopes.specs.Standing.{IsHeaderOf};
-ghost use Rattle.ccsl_events.specs.Fed.{ReadsHeader, IsInHeader, IsBehindHeader, TakesHeader, SaysHeader, MayBegin};
-ghost use Rattle.ccsl_events.specs.Fed.{HasTaken, TakesBody, Says, IsClear};
+ghost use Rattle.ccsl_events.specs.Fed.{ReadsHeader, IsInHeader, IsBehindHeader, SaysHeader, MayBegin};
+ghost use Rattle.ccsl_events.specs.Fed.{HasTaken, Says, TakesPiece};
 
 use crate::body::Body;
 use crate::output::FULL;
@@ -125,12 +125,7 @@ impl Reader {
     // Takes the bytes up to the end of the token that is open.
     fn part(&mut self, bytes: &[u8], out: &mut Vec<u8>) -> Result<usize, VcdFault>
         requires { 0 < length bytes.now }
-        ensures within { IfOk result (λ taken. (0 < taken) × (taken ≤ length bytes.now)) }
-        ensures feeds { TakesBody bytes.now result self.old self.new out.old.items out.new.items }
-        ensures heads { TakesHeader bytes.now result self.old self.new out.old.items out.new.items }
-        ensures counts { IfOk result (λ taken. self.old.taken + length bytes.now < 2 ^ 64 →
-            self.new.taken ≡ self.old.taken + taken) }
-        ensures clears { OnOk result (self.old.is_header_over ≡ false → IsClear self.new) }
+        ensures { TakesPiece bytes.now result self.old self.new out.old.items out.new.items }
     {
         let end = run_end(bytes, 0);
         if end > MAX_TOKEN_BYTES - self.carry.len().min(MAX_TOKEN_BYTES) {
@@ -152,12 +147,7 @@ impl Reader {
     // Takes the tokens that lie whole in some bytes, or a part of one.
     fn stride(&mut self, bytes: &[u8], out: &mut Vec<u8>) -> Result<usize, VcdFault>
         requires { 0 < length bytes.now }
-        ensures within { IfOk result (λ taken. (0 < taken) × (taken ≤ length bytes.now)) }
-        ensures feeds { TakesBody bytes.now result self.old self.new out.old.items out.new.items }
-        ensures heads { TakesHeader bytes.now result self.old self.new out.old.items out.new.items }
-        ensures counts { IfOk result (λ taken. self.old.taken + length bytes.now < 2 ^ 64 →
-            self.new.taken ≡ self.old.taken + taken) }
-        ensures clears { OnOk result (self.old.is_header_over ≡ false → IsClear self.new) }
+        ensures { TakesPiece bytes.now result self.old self.new out.old.items out.new.items }
     {
         if self.carry.is_empty() {
             if let Some(body) = &mut self.body {
@@ -174,12 +164,7 @@ impl Reader {
     /// Takes bytes of a piece, one at least, up to the header's end or to where the output is full. It answers how many.
     pub fn feed(&mut self, piece: &[u8], out: &mut Vec<u8>) -> Result<usize, VcdFault>
         requires { 0 < length piece.now }
-        ensures within { IfOk result (λ taken. (0 < taken) × (taken ≤ length piece.now)) }
-        ensures feeds { TakesBody piece.now result self.old self.new out.old.items out.new.items }
-        ensures heads { TakesHeader piece.now result self.old self.new out.old.items out.new.items }
-        ensures counts { IfOk result (λ taken. self.old.taken + length piece.now < 2 ^ 64 →
-            self.new.taken ≡ self.old.taken + taken) }
-        ensures clears { OnOk result (self.old.is_header_over ≡ false → IsClear self.new) }
+        ensures takes { TakesPiece piece.now result self.old self.new out.old.items out.new.items }
         ensures stops { IfOk result (λ taken. (taken ≡ length piece.now)
             ⊎ (FULL ≤ length out.new.items) ⊎
             (self.new.is_header_over ≡ true)) }

@@ -2,10 +2,11 @@
 
 ghost use Rattle.std.specs.Prelude.{◌≡◌, ◌<◌, ◌-◌, ◌⊎◌, ℕ, List, IfErr, false, true, if◌then◌else◌, ◌++◌, [], Some, OnOk, IfOk, length, map, slice_get};
 ghost use Rattle.ccsl_triggers.specs.Held.{held, settle_held, forget_held};
-ghost use Rattle.ccsl_triggers.specs.Views.{View, no_view, at_rest};
-ghost use Rattle.ccsl_events.specs.Dump.{Plan, is_declared, heard_in, row_of, has_row};
+ghost use Rattle.ccsl_triggers.specs.Views.{View, no_view};
+ghost use Rattle.ccsl_events.specs.Dump.{Plan, is_declared, heard_in};
 ghost use Rattle.ccsl_triggers.specs.Triggers.{view_at};
-ghost use Rattle.ccsl_events.specs.Keeping.{fires, with_names, users_of, with_users, sole_at, read_by, settle_read, replaced, held_at, settle_each, kept, set_one, set_chain, is_known, SameTables, Knows, Keeps};
+ghost use Rattle.ccsl_events.specs.Keeping.{fires, with_names, users_of, with_users, sole_at, read_by, settle_read, replaced, held_at, settle_each, kept};
+ghost use Rattle.ccsl_events.specs.Keeping.{set_one, set_chain, is_known, SameTables, Knows, Keeps, Settles};
 
 use crate::codes::{Codes, Entry};
 use crate::present::Present;
@@ -345,13 +346,9 @@ impl Values {
     // The end of a time at which variables changed whose names are not known yet.
     #[inline(never)]
     fn settle_touched(&mut self, present: &Present, out: &mut Vec<u8>) -> Result<bool, Memory>
-        ensures row { OnOk result ((plan : Plan) (views : ℕ → View) → Keeps plan views self.old →
-            out.new.items ≡ out.old.items ++ row_of plan present.now views) }
-        ensures counts { IfOk result (λ is_row. (plan : Plan) (views : ℕ → View) →
+        ensures { IfOk result (λ is_row. (plan : Plan) (views : ℕ → View) →
             Keeps plan views self.old →
-            is_row ≡ has_row plan views) }
-        ensures keeps { OnOk result ((plan : Plan) (views : ℕ → View) → Keeps plan views self.old →
-            Keeps plan (λ n. at_rest (views n)) self.new) }
+            Settles plan present.now views is_row self.new out.old.items out.new.items) }
     {
         self.names.ascends();
         let has_names = !self.names.is_empty();
@@ -378,13 +375,9 @@ impl Values {
     /// The present time is over: its row is appended, if it has one. It answers whether it has.
     #[inline(never)]
     pub(crate) fn settle(&mut self, present: &Present, out: &mut Vec<u8>) -> Result<bool, Memory>
-        ensures row { OnOk result ((plan : Plan) (views : ℕ → View) → Keeps plan views self.old →
-            out.new.items ≡ out.old.items ++ row_of plan present.now views) }
-        ensures counts { IfOk result (λ is_row. (plan : Plan) (views : ℕ → View) →
+        ensures { IfOk result (λ is_row. (plan : Plan) (views : ℕ → View) →
             Keeps plan views self.old →
-            is_row ≡ has_row plan views) }
-        ensures keeps { OnOk result ((plan : Plan) (views : ℕ → View) → Keeps plan views self.old →
-            Keeps plan (λ n. at_rest (views n)) self.new) }
+            Settles plan present.now views is_row self.new out.old.items out.new.items) }
     {
         if !self.touched.is_empty() {
             return self.settle_touched(present, out);

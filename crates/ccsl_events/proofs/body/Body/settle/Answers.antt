@@ -11,7 +11,7 @@ one-or-none false = refl
 pub returns : goal.returns
 returns c plan p s = record {
   stands = record {
-    keeps = c.in_ok-has_row.ensures.keeps plan p.views s.keeps;
+    keeps = (c.in_ok-has_row.ensures plan p.views s.keeps).keeps;
     amid = s.amid;
     dumping = s.dumping;
     recording = s.recording;
@@ -20,10 +20,10 @@ returns c plan p s = record {
     times =
         c.saturating_add-self.ensures
         ∙ ap₂ (λ (n more : ℕ). min (n + more) (2 ^ 64 - 1)) s.times
-        (c.from.ensures ∙ ap from_bool (c.in_ok-has_row.ensures.counts plan p.views s.keeps) ∙ one-or-none (has_row plan p.views))
+        (c.from.ensures ∙ ap from_bool ((c.in_ok-has_row.ensures plan p.views s.keeps).is_one) ∙ one-or-none (has_row plan p.views))
         ∙ counted-more p.times (if has_row plan p.views then 1 else 0);
   };
   more = row_of plan p.now p.views;
-  out = c.in_ok-has_row.ensures.row plan p.views s.keeps ∙ ap (λ t. c.args.out.now.items ++ row_of plan t p.views) s.now;
+  out = (c.in_ok-has_row.ensures plan p.views s.keeps).row ∙ ap (λ t. c.args.out.now.items ++ row_of plan t p.views) s.now;
   written = refl;
 }

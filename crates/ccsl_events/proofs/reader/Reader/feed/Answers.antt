@@ -63,33 +63,31 @@ strides-preserved c =
           (rest-fits plan start before piece rest p.written p c.args.self.now c.strides.self c.args.out.now.items c.strides.out.items h so a fits)));
     }
 
-pub returns-in_err-taken-clause-feeds : goal.returns-in_err-taken-clause-feeds
-returns-in_err-taken-clause-feeds c plan start before p h fits =
+pub returns-in_err-taken-clause-takes : goal.returns-in_err-taken-clause-takes
+returns-in_err-taken-clause-takes c =
     let q = err_from_is_err_and c.from_residual-in_err-taken.result c.from_residual-in_err-taken.ensures.1 in
     let piece = c.args.piece.now in
     let rest = c.strides.rest.now in
     let so = c.strides.invariant.rest in
-    let a = c.strides.invariant.reaches plan start before p h fits in
-    rw (q.1, q.2)
-    (feed-breaks plan start before piece rest p.written c.strides.self c.in_err-taken.field-0.0
-    c.args.out.now.items c.strides.out.items c.stride-in-strides.new.out.items so a
-    (c.in_err-taken.ensures.feeds plan start (before ++ take (length piece - length rest) piece) a.place a.taken
-    (rest-fits plan start before piece rest p.written p c.args.self.now c.strides.self c.args.out.now.items c.strides.out.items h so a fits)))
+    rw (q.1, q.2) (record {
+      within = tt;
+      feeds = λ plan start before p h fits.
+          let a = c.strides.invariant.reaches plan start before p h fits in
+          feed-breaks plan start before piece rest p.written c.strides.self c.in_err-taken.field-0.0
+          c.args.out.now.items c.strides.out.items c.stride-in-strides.new.out.items so a
+          (c.in_err-taken.ensures.feeds plan start (before ++ take (length piece - length rest) piece) a.place a.taken
+          (rest-fits plan start before piece rest p.written p c.args.self.now c.strides.self c.args.out.now.items c.strides.out.items h so a fits));
+      heads = λ limits before among h i fits.
+          let a = c.strides.invariant.hears limits before among h i fits in
+          let s = still-inside limits (before ++ take (length piece - length rest) piece) c.strides.self c.if-not-self.true a.0 in
+          header-rest limits before piece rest c.in_err-taken.field-0.0 so
+          (c.in_err-taken.ensures.heads limits (before ++ take (length piece - length rest) piece) s.among s.heading s.inside
+          (inside-fits limits before piece rest among h s.among s.heading c.args.self.now c.strides.self so i s.inside fits));
+      counts = tt;
+      clears = tt;
+    })
 
-pub returns-in_err-taken-clause-heads : goal.returns-in_err-taken-clause-heads
-returns-in_err-taken-clause-heads c limits before among h i fits =
-    let q = err_from_is_err_and c.from_residual-in_err-taken.result c.from_residual-in_err-taken.ensures.1 in
-    let piece = c.args.piece.now in
-    let rest = c.strides.rest.now in
-    let so = c.strides.invariant.rest in
-    let a = c.strides.invariant.hears limits before among h i fits in
-    let s = still-inside limits (before ++ take (length piece - length rest) piece) c.strides.self c.if-not-self.true a.0 in
-    rw (q.1, q.2)
-    (header-rest limits before piece rest c.in_err-taken.field-0.0 so
-    (c.in_err-taken.ensures.heads limits (before ++ take (length piece - length rest) piece) s.among s.heading s.inside
-    (inside-fits limits before piece rest among h s.among s.heading c.args.self.now c.strides.self so i s.inside fits)))
-
-pub returns-in_err-first-clause-heads : goal.returns-in_err-first-clause-heads
-returns-in_err-first-clause-heads c limits before among h i fits =
+pub returns-in_err-first-clause-takes : goal.returns-in_err-first-clause-takes
+returns-in_err-first-clause-takes c =
     let q = err_from_is_err_and c.from_residual.result c.from_residual.ensures.1 in
-    rw (q.1, q.2) (c.in_err-first.ensures.heads limits before among h i fits)
+    rw (q.1, q.2) c.in_err-first.ensures

@@ -1,15 +1,11 @@
-use Rattle.std.specs.Prelude.{is_some}
-use Rattle.std.proofs.Common.{◌≡◌, ◌<◌, ℕ, Option, None, Some, length, false, refl, sym, ap, ◌∙◌, arith}
+use Rattle.std.proofs.Common.{◌<◌, length, false, refl, sym, ap, ◌∙◌, arith}
 use Rattle.std.proofs.lemmas.List.{length-map}
+use Rattle.ccsl_base.proofs.Cases.{none-of}
 use Rattle.ccsl_triggers.specs.Held.{held, set_held}
 use Rattle.ccsl_events.specs.Keeping.{sole_at}
 use Rattle.ccsl_events.proofs.Kept.{keeps-record}
 use Rattle.ccsl_events.proofs.Slices.{held_at-map, replaced-map}
 use Rattle.ccsl_events.proofs.values.Values.record.Goals as goal
-
-none-of : (o : Option ℕ) → is_some o ≡ false → o ≡ None
-none-of None e = refl
-none-of (Some n) e = absurd (cc)
 
 pub returns-clause-keeps : goal.returns-clause-keeps
 returns-clause-keeps c sure plan views code k knows =

@@ -13,29 +13,24 @@ use Rattle.ccsl_events.proofs.values.Values.settle.Goals as goal
 known-all : (v : Values) → v.touched.items ≡ [] → v.names ≡ with_users v.touched.items v.users.items v.watches.items (view_at v.signals.items) v.names
 known-all v none = sym (ap (λ ns. with_users ns v.users.items v.watches.items (view_at v.signals.items) v.names) none)
 
-pub returns-clause-row : goal.returns-clause-row
-returns-clause-row c plan views k =
+pub returns : goal.returns
+returns c plan views k =
     let v = c.args.self.now in
     let none = no-items v.touched.items (sym v.touched.ok.0 ∙ eqb-true _ 0 (sym c.is_empty.ensures ∙ c.if-not-is_empty.false)) in
-    c.in_ok-is_row.ensures.row (decimal c.args.present.now) c.line.ensures
-    ∙ ap (λ ns. c.args.out.now.items ++ row_text (decimal c.args.present.now) ns) (known-all v none ∙ names-kept plan views v k c.ascends.ensures.ascending)
-
-pub returns-clause-counts : goal.returns-clause-counts
-returns-clause-counts c plan views k =
-    let v = c.args.self.now in
-    let none = no-items v.touched.items (sym v.touched.ok.0 ∙ eqb-true _ 0 (sym c.is_empty.ensures ∙ c.if-not-is_empty.false)) in
-    c.in_ok-is_row.ensures.some ∙ ap (λ (ns : List ℕ). nat_lt 0 (length ns)) (known-all v none ∙ names-kept plan views v k c.ascends.ensures.ascending)
-
-pub returns-clause-keeps : goal.returns-clause-keeps
-returns-clause-keeps c plan views k =
-    let v = c.args.self.now in
-    let none = no-items v.touched.items (sym v.touched.ok.0 ∙ eqb-true _ 0 (sym c.is_empty.ensures ∙ c.if-not-is_empty.false)) in
+    let names = known-all v none ∙ names-kept plan views v k c.ascends.ensures.ascending in
     let items = with_items_is v.signals c.settle_read_by.new.signals
     (c.settle_read_by.auto.signals ∙ ap length c.as_mut_slice.ensures.value ∙ sym v.signals.ok.0) in
-    keeps-rested plan views v v.names k _ true (record { codes = refl; users = refl; watches = refl; none = refl; sole_names = refl })
-    (known-all v none) (λ e. absurd (cc))
-    (ap (map held) items
-    ∙ c.in_ok-settle_read_by.ensures
-    ∙ ap₂ (settle_read v.names) c.as_slice.ensures.value (ap (map held) c.as_mut_slice.ensures.value)
-    ∙ sym (ap (λ ns. settle_each ns (settle_read v.names v.watches.items (map held v.signals.items))) none))
-    none (c.copy_from.ensures ∙ k.none)
+    record {
+      row =
+          c.in_ok-is_row.ensures.row (decimal c.args.present.now) c.line.ensures
+          ∙ ap (λ ns. c.args.out.now.items ++ row_text (decimal c.args.present.now) ns) names;
+      is_one = c.in_ok-is_row.ensures.some ∙ ap (λ (ns : List ℕ). nat_lt 0 (length ns)) names;
+      keeps =
+          keeps-rested plan views v v.names k _ true (record { codes = refl; users = refl; watches = refl; none = refl; sole_names = refl })
+          (known-all v none) (λ e. absurd (cc))
+          (ap (map held) items
+          ∙ c.in_ok-settle_read_by.ensures
+          ∙ ap₂ (settle_read v.names) c.as_slice.ensures.value (ap (map held) c.as_mut_slice.ensures.value)
+          ∙ sym (ap (λ ns. settle_each ns (settle_read v.names v.watches.items (map held v.signals.items))) none))
+          none (c.copy_from.ensures ∙ k.none);
+    }
