@@ -18,7 +18,7 @@ use Rattle.ccsl_events_top.specs.declared.pass.Pass.{Pass}
 use Rattle.ccsl_events_top.specs.Reading.{read_of, body_ends, story_behind}
 use Rattle.ccsl_events_top.specs.Passing.{AreGiven, dump_of, Passes, HasAll, IsCut, InBody, IsBroken, HasHeader, Begins}
 use Rattle.ccsl_events_top.specs.Passing.{BodyOn, left_for}
-use Rattle.ccsl_events_top.proofs.Passing.{given-fits, given-few, given-first, given-whole, cut-long, taken-on, ended-passes, leaves, read-long}
+use Rattle.ccsl_events_top.proofs.Passing.{given-fits, given-few, given-first, given-whole, cut-long, passes-on, taken-on, ended-passes, leaves, read-long}
 
 pub story-front : (plan : Plan) (head all dump : List ℕ) → read_of dump ≡ head ++ all
     → story_behind plan (length head) dump ≡ story_from plan begin (settled_from (length head) all)
@@ -192,18 +192,12 @@ module _ (told : Told) (sink : Sink) (start now : State) (plan : Plan) where
           given = [];
           written = [];
           place = begin;
-          passes = record {
-            bytes = p.bytes;
-            streams = p.streams;
-            counts = p.counts;
-            read = read ∙ p.read;
-            within = p.within;
-            given_are =
-                subst (λ w. AreGiven w p.bytes (x.given ++ []) pass'.pending) (sym over)
-                (subst (λ xs. AreGiven pass.has_ended p.bytes (x.given ++ []) xs) (sym rest)
-                (subst (λ xs. AreGiven pass.has_ended p.bytes xs pass.pending) (sym (append-nil x.given)) p.given_are));
-            ended = λ e. p.ended (sym over ∙ e);
-          };
+          passes =
+              passes-on told sink start now pass pass' x.given (x.given ++ []) [] p read
+              (subst (λ w. AreGiven w p.bytes (x.given ++ []) pass'.pending) (sym over)
+              (subst (λ xs. AreGiven pass.has_ended p.bytes (x.given ++ []) xs) (sym rest)
+              (subst (λ xs. AreGiven pass.has_ended p.bytes xs pass.pending) (sym (append-nil x.given)) p.given_are)))
+              (λ e. p.ended (sym over ∙ e));
           taken = taken;
           rows = block ∙ ap (λ (xs : List ℕ). xs ++ text) x.blank ∙ sym (append-nil text);
         };

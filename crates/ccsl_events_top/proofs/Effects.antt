@@ -12,31 +12,33 @@ use Rattle.ccsl_events_top.specs.Effects.{IsRead, IsAddedTo, MayBecome, Stays}
 
 -- ## One slot
 
-pub read-same : (a b : SlotState) → b ≡ a → IsRead a b
-read-same a b e = record {
+-- no more than the bytes left and the faults are others
+pub read-is : (a b : SlotState) (left : List ℕ) (faults : ℕ) → b ≡ record a { left = left; faults = faults } → IsRead a b
+read-is a b left faults e = record {
   written = ap (λ (x : SlotState). x.written) e;
   name = ap (λ (x : SlotState). x.name) e;
   is_open = ap (λ (x : SlotState). x.is_open) e;
 }
 
+pub read-same : (a b : SlotState) → b ≡ a → IsRead a b
+read-same a b e = read-is a b a.left a.faults e
+
 pub read-then : (a b c : SlotState) → IsRead a b → IsRead b c → IsRead a c
 read-then a b c p q = record { written = q.written ∙ p.written; name = q.name ∙ p.name; is_open = q.is_open ∙ p.is_open }
 
-pub read-is : (a b : SlotState) → b ≡ record a { left = b.left; faults = b.faults } → IsRead a b
-read-is a b e = record {
-  written = ap (λ (x : SlotState). x.written) e;
+-- no more than what was written and the faults are others
+pub added-is : (a b : SlotState) (written : List ℕ) (faults : ℕ) → b ≡ record a { written = written; faults = faults } → IsAddedTo a b
+added-is a b written faults e = record {
+  left = ap (λ (x : SlotState). x.left) e;
   name = ap (λ (x : SlotState). x.name) e;
   is_open = ap (λ (x : SlotState). x.is_open) e;
 }
 
 pub added-same : (a b : SlotState) → b ≡ a → IsAddedTo a b
-added-same a b e = record { left = ap (λ (x : SlotState). x.left) e; name = ap (λ (x : SlotState). x.name) e; is_open = ap (λ (x : SlotState). x.is_open) e }
+added-same a b e = added-is a b a.written a.faults e
 
 pub added-then : (a b c : SlotState) → IsAddedTo a b → IsAddedTo b c → IsAddedTo a c
 added-then a b c p q = record { left = q.left ∙ p.left; name = q.name ∙ p.name; is_open = q.is_open ∙ p.is_open }
-
-pub added-is : (a b : SlotState) → b ≡ record a { written = b.written; faults = b.faults } → IsAddedTo a b
-added-is a b e = record { left = ap (λ (x : SlotState). x.left) e; name = ap (λ (x : SlotState). x.name) e; is_open = ap (λ (x : SlotState). x.is_open) e }
 
 may-same : (sink : Sink) (slot : Slot) (a b : SlotState) → b ≡ a → MayBecome sink slot a b
 may-same sink slots.Spec a b e = read-same a b e
@@ -61,7 +63,7 @@ may-then File slots.TraceOut a b c p q = q ∙ p
 may-then sink slots.CertOut a b c p q = q ∙ p
 
 may-out : (sink : Sink) (a b : SlotState) → b ≡ record a { written = b.written; faults = b.faults } → MayBecome sink (slot_of sink) a b
-may-out Standard a b e = added-is a b e
+may-out Standard a b e = added-is a b _ _ e
 may-out File a b e = ap (λ (x : SlotState). x.left) e
 
 -- ## All slots
@@ -92,7 +94,7 @@ stays-by sink slot s t others here any =
 pub stays-streams : (told : Told) (sink : Sink) (read written : List ℕ) (s t : State) → Streams told sink read written s t → Stays sink s t
 stays-streams told sink read written s t p any =
     elim (slot_cases any slots.Trace) [
-      | inl same ↦ rw same (read-is (s.slot_of slots.Trace) (t.slot_of slots.Trace) p.trace)
+      | inl same ↦ rw same (read-is (s.slot_of slots.Trace) (t.slot_of slots.Trace) _ _ p.trace)
       | inr apart ↦ elim (slot_cases any (slot_of sink)) [
         | inl same ↦ rw same (may-out sink (s.slot_of (slot_of sink)) (t.slot_of (slot_of sink)) p.out)
         | inr other ↦ may-same sink any (s.slot_of any) (t.slot_of any) (p.others any apart other)

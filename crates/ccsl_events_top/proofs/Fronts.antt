@@ -8,7 +8,8 @@ use Rattle.ccsl_vcd.specs.declared.fault.VcdFault.{VcdFault}
 use Rattle.ccsl_vcd.specs.Words as w
 use Rattle.ccsl_vcd.specs.Words.{Word, word_of}
 use Rattle.ccsl_events.specs.Dump.{Plan, Place, Amid, changes, remark, code_of, code_skipped, Said, goes, refused, Story, says, told, next, next_from}
-use Rattle.ccsl_events.specs.Dump.{begin, token_says, word_says, time_says, changed, passed, may_end, ends_at, row_of, is_declared, heard_in, block_says, gap_says}
+use Rattle.ccsl_events.specs.Dump.{begin, token_says, word_says, time_says, changed, passed, may_end, ends_at, row_of, is_declared, heard_in, block_says}
+use Rattle.ccsl_events.specs.Dump.{gap_says}
 use Rattle.ccsl_events.specs.Dump as dump
 use Rattle.ccsl_triggers.specs.Views.{no_view}
 use Rattle.ccsl_vcd.specs.declared.fault.VcdFault.TheVariants as faults

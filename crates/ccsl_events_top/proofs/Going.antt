@@ -5,7 +5,8 @@ use Rattle.std.proofs.lemmas.List.{take_all}
 use Rattle.ccsl_edge.specs.declared.slot.Slot.TheVariants as slots
 use Rattle.ccsl_edge.specs.World.{State, SlotState, Told}
 use Rattle.ccsl_edge.specs.Calls.{Fails, OpensOut, Closes}
-use Rattle.ccsl_edge.proofs.Counts.{SameCounts-none, SameCounts-then, SameCounts-NoCountFalls, NoCountFalls-then, OpensOut-SameCounts, Closes-SameCounts, Fails-NoCountFalls}
+use Rattle.ccsl_edge.proofs.Counts.{SameCounts-none, SameCounts-then, SameCounts-NoCountFalls, NoCountFalls-then, OpensOut-SameCounts, Closes-SameCounts}
+use Rattle.ccsl_edge.proofs.Counts.{Fails-NoCountFalls}
 use Rattle.ccsl_edge.proofs.Frames.{Rose-after_same}
 use Rattle.ccsl_event_file.specs.declared.event.Event as code
 use Rattle.ccsl_event_file.specs.File.{Event, names_of}
@@ -34,7 +35,7 @@ use Rattle.ccsl_events_top.specs.Made.{answered}
 use Rattle.ccsl_events_top.specs.Outcome.{Makes, printed, filed, part, by_trace}
 use Rattle.ccsl_events_top.specs.Outcome.{Fails as Failing, IsOutcome}
 use Rattle.ccsl_events_top.specs.Stages.{is_written, WritesFile, unopened, stopped, unclosed, closed}
-use Rattle.ccsl_events_top.proofs.Effects.{added-then, stays-none, stays-then, stays-streams, stays-open, stays-close, stays-failed}
+use Rattle.ccsl_events_top.proofs.Effects.{added-is, added-then, stays-none, stays-then, stays-streams, stays-open, stays-close, stays-failed}
 use Rattle.ccsl_events_top.proofs.Making.{HasOpened, HasBase, HasPlan, idle-fails, idle-read, makes, makes-rows, breaks-off, gives-up}
 
 pub same-names : (es : List code.Event) → code_names.names_of es ≡ names_of (map event_in es)
@@ -123,11 +124,7 @@ module _ (told : Told) (events trace : List ℕ) (gaps : Gaps) (name : List ℕ)
   }
 
   failed-still : (s now : State) → Fails slots.TraceOut s now → IsAddedTo (s.slot_of slots.TraceOut) (now.slot_of slots.TraceOut)
-  failed-still s now p = record {
-    left = ap (λ (y : SlotState). y.left) p.here;
-    name = ap (λ (y : SlotState). y.name) p.here;
-    is_open = ap (λ (y : SlotState). y.is_open) p.here;
-  }
+  failed-still s now p = added-is (s.slot_of slots.TraceOut) (now.slot_of slots.TraceOut) _ _ p.here
 
   file-unopened : (s now : State) → Leaves told File start s [] → Fails slots.TraceOut s now → Failing told m old now
   file-unopened s now l p =

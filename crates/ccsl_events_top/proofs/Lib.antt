@@ -6,6 +6,7 @@ mod Ending
 mod Effects
 mod Making
 mod Going
+mod Headed
 mod Promising
 mod Steps
 mod Headers

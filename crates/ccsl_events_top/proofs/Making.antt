@@ -38,7 +38,7 @@ use Rattle.ccsl_events_top.specs.Made.{reading_of, IsPlanned, IsUnplanned, answe
 use Rattle.ccsl_events_top.specs.Outcome.{IsTold, IsPut, IsUnwritten, IsWrittenTo, unwritten, IsMadeOf, Makes, IsFront, nothing, part}
 use Rattle.ccsl_events_top.specs.Outcome.{HasEvents, IsCause, by_events, by_dump, by_trace, Fails as Failing, Starves, IsOutcome}
 use Rattle.ccsl_events_top.specs.Stages.{HasText, ReadsFile, SaysEvents, IsBodyFor}
-use Rattle.ccsl_events_top.proofs.Effects.{added-same, added-is, stays-then, stays-by, stays-streams}
+use Rattle.ccsl_events_top.proofs.Effects.{read-is, added-same, added-is, stays-then, stays-by, stays-streams}
 
 apart-spec : (out : Option (List ℕ)) → slot_of (sink_of out) ≢ slots.Spec
 apart-spec None e = absurd (cc)
@@ -156,23 +156,13 @@ module _ (told : Told) (n : Named) (old : State) where
     others = λ slot spec trace. p.only.others slot trace ∙ h.reads.only.others slot spec;
     stays = λ sink.
         stays-then sink old s start (stays-by sink slots.Spec old s h.reads.only.others h.reads.read)
-        (stays-by sink slots.Trace s start p.only.others
-        (record {
-          written = ap (λ (x : SlotState). x.written) p.here;
-          name = ap (λ (x : SlotState). x.name) p.here;
-          is_open = ap (λ (x : SlotState). x.is_open) p.here;
-        }));
+        (stays-by sink slots.Trace s start p.only.others (read-is (s.slot_of slots.Trace) (start.slot_of slots.Trace) _ _ p.here));
   }
 
   pub dump-unopened : (text : List ℕ) (es : List Event) (s now : State) → HasText told n.events text old s → reading text ≡ events es
       → Fails slots.Trace s now → Failing told n old now
   dump-unopened text es s now h e p =
-      let here : IsRead (s.slot_of slots.Trace) (now.slot_of slots.Trace) =
-      record {
-        written = ap (λ (x : SlotState). x.written) p.here;
-        name = ap (λ (x : SlotState). x.name) p.here;
-        is_open = ap (λ (x : SlotState). x.is_open) p.here;
-      } in
+      let here : IsRead (s.slot_of slots.Trace) (now.slot_of slots.Trace) = read-is (s.slot_of slots.Trace) (now.slot_of slots.Trace) _ _ p.here in
       let same : now.slot_of (slot_of (sink_of n.out)) ≡ old.slot_of (slot_of (sink_of n.out)) =
       p.only.others (slot_of (sink_of n.out)) (apart-trace n.out) ∙ h.reads.only.others (slot_of (sink_of n.out)) (apart-spec n.out) in
       idle-fails now
@@ -201,7 +191,7 @@ module _ (told : Told) (n : Named) (old : State) where
               stays-then (sink_of n.out) old start now (o.stays (sink_of n.out))
               (stays-streams told (sink_of n.out) read [] start now p);
           unwritten_yet = record {
-            still = subst (λ (x : SlotState). IsAddedTo x (now.slot_of (slot_of (sink_of n.out)))) same (added-is _ _ p.out);
+            still = subst (λ (x : SlotState). IsAddedTo x (now.slot_of (slot_of (sink_of n.out)))) same (added-is _ _ _ _ p.out);
             same = λ tells.
                 p.grown tells ∙ append-nil (start.slot_of (slot_of (sink_of n.out))).written
                 ∙ ap (λ (x : SlotState). x.written) same;

@@ -1,5 +1,6 @@
 -- The rows of a body are one, however the letters of its plan lie in memory.
-use Rattle.std.proofs.Common.{◌≡◌, ℕ, ◌+◌, List, [], ◌∷◌, ◌++◌, length, drop, filter, fold, Bool, true, false, not, ◌&&◌, cond, nat_lt, Option, Some, None, slice_get}
+use Rattle.std.proofs.Common.{◌≡◌, ℕ, ◌+◌, List, [], ◌∷◌, ◌++◌, length, drop, filter, fold, Bool, true, false, not, ◌&&◌, cond, nat_lt, Option, Some, None}
+use Rattle.std.proofs.Common.{slice_get}
 use Rattle.std.proofs.Common.{refl, sym, ap, ◌∙◌, bytes_eq, decimal}
 use Rattle.std.specs.List.{list_all, range_with_len}
 use Rattle.std.proofs.lemmas.List.{length-map}
@@ -20,7 +21,8 @@ use Rattle.ccsl_triggers.specs.Triggers.{part, rises, falls, differs, of_view, o
 use Rattle.ccsl_triggers.specs.Output.{row_text}
 use Rattle.ccsl_events.specs.Binding as seen
 use Rattle.ccsl_events.specs.Binds.{seen_goal, seen_goals, seen_trigger, seen_watch, seen_watches, seen_plan}
-use Rattle.ccsl_events.specs.Dump.{Plan, Variable, Place, Amid, changes, remark, code_of, code_skipped, goes, refused, Story, says, told, next, next_from, begin}
+use Rattle.ccsl_events.specs.Dump.{Plan, Variable, Place, Amid, changes, remark, code_of, code_skipped, goes, refused, Story, says, told, next, next_from}
+use Rattle.ccsl_events.specs.Dump.{begin}
 use Rattle.ccsl_events.specs.Dump.{happens_in, names_at, passed, token_says, word_says, may_end}
 use Rattle.ccsl_events.specs.Run.{settled_from}
 use Rattle.ccsl_events_top.specs.Reading.{read_of, is_too_long, body_ends, story_behind, body_said, rows_at, rows_of}

@@ -26,7 +26,7 @@ use Rattle.ccsl_events_top.specs.declared.sink.Sink.{Sink}
 use Rattle.ccsl_events_top.specs.declared.pass.Pass.{Pass}
 use Rattle.ccsl_events_top.specs.declared.stop.Stop.TheVariants as stops
 use Rattle.ccsl_events_top.specs.Reading.{LIMITS, is_too_long, read_of, end_fault, opened, header_fault}
-use Rattle.ccsl_events_top.specs.Passing.{AreGiven, dump_of, Passes, Leaves, Breaks, HasAll, IsCut, InHeader, BehindHeader, HasHeader, IsUnopened}
+use Rattle.ccsl_events_top.specs.Passing.{AreGiven, dump_of, IsWhole, Passes, Leaves, Breaks, HasAll, IsCut, InHeader, BehindHeader, HasHeader, IsUnopened}
 use Rattle.ccsl_events_top.specs.Passing.{GoesOn, HeadsOn, left_for}
 use Rattle.ccsl_events_top.proofs.Streaming.{streams-none, streams-read, streams-unread}
 
@@ -255,23 +255,31 @@ module _ (told : Told) (sink : Sink) (start : State) where
         broken-is f (ap (λ (xs : List ℕ). opening LIMITS (settled_from 0 xs)) k.1 ∙ broken-more LIMITS (given ++ pass.pending) k.0 f b),
   )
 
-  -- the reader took so many of the bytes that wait
-  pub taken-on : (now : State) (pass pass' : Pass) (given written : List ℕ) (n : ℕ) → (p : Passes told sink start now pass given written)
-      → pass.has_ended ≡ false
-      → pass'.has_ended ≡ false → pass'.read ≡ pass.read → pass'.pending ≡ drop n pass.pending
-      → Passes told sink start now pass' (given ++ take n pass.pending) written
-  taken-on now pass pass' given written n p more on read rest = record {
+  -- what was read is the same, with more of it given
+  pub passes-on : (now : State) (pass pass' : Pass) (given more written : List ℕ) → (p : Passes told sink start now pass given written)
+      → pass'.read ≡ pass.read → AreGiven pass'.has_ended p.bytes more pass'.pending
+      → (pass'.has_ended ≡ true → IsWhole told sink start now p.bytes) → Passes told sink start now pass' more written
+  passes-on now pass pass' given more written p read are whole = record {
     bytes = p.bytes;
     streams = p.streams;
     counts = p.counts;
     read = read ∙ p.read;
     within = p.within;
-    given_are =
-        subst (λ w. AreGiven w p.bytes (given ++ take n pass.pending) pass'.pending) (sym on)
-        (given-on now pass given written p more ∙ ap (λ (xs : List ℕ). given ++ xs) (sym (take-append-drop n pass.pending))
-        ∙ sym (append_assoc given (take n pass.pending) (drop n pass.pending)) ∙ ap (λ (xs : List ℕ). (given ++ take n pass.pending) ++ xs) (sym rest));
-    ended = λ e. absurd (let g : true ≡ false = sym e ∙ on in cc);
+    given_are = are;
+    ended = whole;
   }
+
+  -- the reader took so many of the bytes that wait
+  pub taken-on : (now : State) (pass pass' : Pass) (given written : List ℕ) (n : ℕ) → (p : Passes told sink start now pass given written)
+      → pass.has_ended ≡ false
+      → pass'.has_ended ≡ false → pass'.read ≡ pass.read → pass'.pending ≡ drop n pass.pending
+      → Passes told sink start now pass' (given ++ take n pass.pending) written
+  taken-on now pass pass' given written n p more on read rest =
+      passes-on now pass pass' given (given ++ take n pass.pending) written p read
+      (subst (λ w. AreGiven w p.bytes (given ++ take n pass.pending) pass'.pending) (sym on)
+      (given-on now pass given written p more ∙ ap (λ (xs : List ℕ). given ++ xs) (sym (take-append-drop n pass.pending))
+      ∙ sym (append_assoc given (take n pass.pending) (drop n pass.pending)) ∙ ap (λ (xs : List ℕ). (given ++ take n pass.pending) ++ xs) (sym rest)))
+      (λ e. absurd (let g : true ≡ false = sym e ∙ on in cc))
 
   -- the width of places has room for what waits
   pub given-fits : (now : State) (pass : Pass) (given written : List ℕ) → (p : Passes told sink start now pass given written) → pass.has_ended ≡ false
@@ -308,19 +316,12 @@ module _ (told : Told) (sink : Sink) (start : State) where
   ended-passes now pass pass' given written a more over read rest =
       let p = a.passes in
       let all = given-all now pass given written p more a.none a.few in
-      record {
-        bytes = p.bytes;
-        streams = p.streams;
-        counts = p.counts;
-        read = read ∙ p.read;
-        within = p.within;
-        given_are =
-            subst (λ w. AreGiven w p.bytes (given ++ 10 ∷ []) pass'.pending) (sym over) (ap (λ (xs : List ℕ). xs ++ 10 ∷ []) (sym all), rest ∙ a.none);
-        ended = λ _. record {
-          few = omega (arith, a.few, p.read);
-          whole = λ tells. p.streams.taken tells ∙ ap (λ (xs : List ℕ). p.bytes ++ xs) (a.left tells) ∙ append-nil p.bytes;
-        };
-      }
+      passes-on now pass pass' given (given ++ 10 ∷ []) written p read
+      (subst (λ w. AreGiven w p.bytes (given ++ 10 ∷ []) pass'.pending) (sym over) (ap (λ (xs : List ℕ). xs ++ 10 ∷ []) (sym all), rest ∙ a.none))
+      (λ _. record {
+        few = omega (arith, a.few, p.read);
+        whole = λ tells. p.streams.taken tells ∙ ap (λ (xs : List ℕ). p.bytes ++ xs) (a.left tells) ∙ append-nil p.bytes;
+      })
 
   pub ended-header : (now : State) (before : ℕ) (pass : Pass) (given : List ℕ) → Passes told sink start now pass (given ++ 10 ∷ []) [] → pass.block.items ≡ []
       → before ≡ length given → Hears LIMITS (given ++ 10 ∷ []) pass.reader → GoesOn told sink start now before pass

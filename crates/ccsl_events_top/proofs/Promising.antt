@@ -249,7 +249,7 @@ reports told (Some name) answer result mid new (inl s) = record {
 }
 reports told (Some name) answer result mid new (inr s) = record {
   others = s.adds.only.others;
-  report = added-is _ _ s.adds.here;
+  report = added-is _ _ _ _ s.adds.here;
   files = s.adds.only.files;
   falls = AddsFront-NoCountFalls told slots.Report answer.line mid new s.adds;
   none = λ e. absurd (cc);

@@ -1,5 +1,6 @@
 -- What the words of a command line mean, or what is wrong with them.
-use Rattle.std.specs.Prelude.{ℕ, ◌+◌, List, [], ◌∷◌, ◌++◌, length, Bool, true, false, not, ◌==◌, ◌&&◌, ◌||◌, Option, Some, None, Result, Ok, Err, is_some, position, codes, if◌then◌else◌}
+use Rattle.std.specs.Prelude.{ℕ, ◌+◌, List, [], ◌∷◌, ◌++◌, length, Bool, true, false, not, ◌==◌, ◌&&◌, ◌||◌, Option, Some, None, Result, Ok, Err, is_some}
+use Rattle.std.specs.Prelude.{position, codes, if◌then◌else◌}
 use Rattle.std.specs.List.{find, before_first, after_first}
 use Rattle.std.specs.Str.{bytes_eq}
 use Rattle.ccsl_events.specs.declared.body.Gaps.{Gaps}

@@ -2,7 +2,8 @@
 
 ghost use Rattle.std.specs.Prelude.{◌≡◌, ◌+◌, [], Option, Ok, Err, IfOk, IfErr, MatchOption, true, false, length};
 ghost use Rattle.std.specs.Option.{option_copied};
-ghost use Rattle.ccsl_events_top.specs.Words.{key_text, is_pair, key_part, value_part, key_named, allows, has_key, value_of, word_fault, first_fault, meaning, named_by};
+ghost use Rattle.ccsl_events_top.specs.Words.{key_text, is_pair, key_part, value_part, key_named, allows, has_key, value_of, word_fault, first_fault, meaning};
+ghost use Rattle.ccsl_events_top.specs.Words.{named_by};
 
 use ccsl_base::CommandWord;
 use ccsl_events::Gaps;

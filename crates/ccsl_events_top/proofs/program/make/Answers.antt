@@ -14,8 +14,9 @@ use Rattle.ccsl_events.specs.Standing.{are_skipped}
 use Rattle.ccsl_events_top.specs.Stages.{SaysEvents, IsBodyFor}
 use Rattle.ccsl_events_top.specs.Effects.{sink_of}
 use Rattle.ccsl_events_top.specs.Outcome.{IsOutcome, Makes}
-use Rattle.ccsl_events_top.proofs.Making.{unread, unsaid, dump-opened, dump-unopened, unheaded, starves, unmade}
-use Rattle.ccsl_events_top.proofs.Going.{planned-for, header-leaves, to_standard, to_file, left-standard, whole-standard, left-file, whole-file}
+use Rattle.ccsl_events_top.proofs.Making.{unread, unsaid, dump-opened, dump-unopened, unheaded}
+use Rattle.ccsl_events_top.proofs.Headed.{headed-starves, headed-unmade}
+use Rattle.ccsl_events_top.proofs.Going.{planned-for, to_standard, to_file, left-standard, whole-standard, left-file, whole-file}
 use Rattle.ccsl_events_top.proofs.program.make.Goals as goal
 use Rattle.ccsl_events_top.proofs.program.make.Goals.{in-Some+in_ok-times-in-Some, in-None+in_ok-times-in-None}
 
@@ -56,39 +57,32 @@ returns-in_err-header g c =
 pub returns-in_err-text-2 : goal.returns-in_err-text-2
 returns-in_err-text-2 g c =
     let q = err_from_is_err_and c.from_residual-in_err-text-2.result c.from_residual-in_err-text-2.ensures.1 in
-    let es = c.in_ok-events.events.items in
     let start = g.W.World.state c.open_in.new.self in
-    let o = dump-opened g.W.World.told (named_by c.args.command) (g.W.World.state c.args.world.now) c.in_ok-text.text.items (map event_in es) _ start
-    c.in_ok-text.ensures (ap reading (sym c.as_slice.ensures.value) ∙ c.in_ok-events.ensures.says) c.in_ok-open_in.ensures.ok in
     let sink : Sink = sink_of (option_copied c.args.command.out) in
-    let x = c.in_ok-header.ensures.ok sink start (c.in_ok-pass.ensures g.W.World.told sink start) in
-    let l = header-leaves g.W.World.told sink start _ x.0 _ x.2 in
-    rw (q.1, q.2) (starves g.W.World.told (named_by c.args.command) _ (map event_in es) start o _ l)
+    rw (q.1, q.2)
+    (headed-starves g.W.World.told (named_by c.args.command) _ _ start _ c.in_ok-text.text.items (map event_in c.in_ok-events.events.items)
+    c.in_ok-text.ensures (ap reading (sym c.as_slice.ensures.value) ∙ c.in_ok-events.ensures.says) c.in_ok-open_in.ensures.ok
+    _ c.in_ok-header.header (c.in_ok-header.ensures.ok sink start (c.in_ok-pass.ensures g.W.World.told sink start)))
 
 pub returns-in_err-begin : goal.returns-in_err-begin
 returns-in_err-begin g c =
     let q = err_from_is_err_and c.from_residual-in_err-begin.result c.from_residual-in_err-begin.ensures.1 in
-    let es = c.in_ok-events.events.items in
     let start = g.W.World.state c.open_in.new.self in
-    let o = dump-opened g.W.World.told (named_by c.args.command) (g.W.World.state c.args.world.now) c.in_ok-text.text.items (map event_in es) _ start
-    c.in_ok-text.ensures (ap reading (sym c.as_slice.ensures.value) ∙ c.in_ok-events.ensures.says) c.in_ok-open_in.ensures.ok in
     let sink : Sink = sink_of (option_copied c.args.command.out) in
-    let x = c.in_ok-header.ensures.ok sink start (c.in_ok-pass.ensures g.W.World.told sink start) in
-    let l = header-leaves g.W.World.told sink start _ x.0 _ x.2 in
-    rw (q.1, q.2) (starves g.W.World.told (named_by c.args.command) _ (map event_in es) start o _ l)
+    rw (q.1, q.2)
+    (headed-starves g.W.World.told (named_by c.args.command) _ _ start _ c.in_ok-text.text.items (map event_in c.in_ok-events.events.items)
+    c.in_ok-text.ensures (ap reading (sym c.as_slice.ensures.value) ∙ c.in_ok-events.ensures.says) c.in_ok-open_in.ensures.ok
+    _ c.in_ok-header.header (c.in_ok-header.ensures.ok sink start (c.in_ok-pass.ensures g.W.World.told sink start)))
 
 pub returns-in_err-body : goal.returns-in_err-body
 returns-in_err-body g c =
     let q = err_from_is_err_and c.from_residual-in_err-body.result c.from_residual-in_err-body.ensures.1 in
-    let es = c.in_ok-events.events.items in
     let start = g.W.World.state c.open_in.new.self in
-    let o = dump-opened g.W.World.told (named_by c.args.command) (g.W.World.state c.args.world.now) c.in_ok-text.text.items (map event_in es) _ start
-    c.in_ok-text.ensures (ap reading (sym c.as_slice.ensures.value) ∙ c.in_ok-events.ensures.says) c.in_ok-open_in.ensures.ok in
     let sink : Sink = sink_of (option_copied c.args.command.out) in
-    let x = c.in_ok-header.ensures.ok sink start (c.in_ok-pass.ensures g.W.World.told sink start) in
-    let l = header-leaves g.W.World.told sink start _ x.0 _ x.2 in
     rw (q.1, q.2)
-    (unmade g.W.World.told (named_by c.args.command) _ (map event_in es) start o _ c.in_err-body.field-0.0 x.0 x.2.at c.in_ok-header.header l x.2.header x.1
+    (headed-unmade g.W.World.told (named_by c.args.command) _ _ start _ c.in_ok-text.text.items (map event_in c.in_ok-events.events.items)
+    c.in_ok-text.ensures (ap reading (sym c.as_slice.ensures.value) ∙ c.in_ok-events.ensures.says) c.in_ok-open_in.ensures.ok
+    _ c.in_ok-header.header (c.in_ok-header.ensures.ok sink start (c.in_ok-pass.ensures g.W.World.told sink start)) c.in_err-body.field-0.0
     (subst (λ (xs : List Event). IsBodyFor (bound (map event_in xs) c.in_ok-header.header.variables.items c.in_ok-header.header.codes
     (are_skipped c.args.command.gaps)) (Err c.in_err-body.field-0.0)) c.as_slice-3.ensures.value c.in_err-body.ensures))
 

@@ -13,7 +13,7 @@ returns-in_err-feed-clause-header c told sink start now i a =
     (unfed-end told sink start now c.args.self.now
     (record c.args.self.now { has_ended = true; reader = c.feed.new.self; block = c.feed.new.out }) c.in_err-feed.field-0.0 i a c.requires.goes_on refl refl
     refl
-    (c.in_err-feed.ensures.heads LIMITS i.given i.among i.heading i.inside (omega (arith, fits, i.inside.taken))))
+    (c.in_err-feed.ensures.takes.heads LIMITS i.given i.among i.heading i.inside (omega (arith, fits, i.inside.taken))))
 
 pub returns-in_err-feed-clause-body : goal.returns-in_err-feed-clause-body
 returns-in_err-feed-clause-body c told sink start now plan head text i a =
@@ -23,18 +23,18 @@ returns-in_err-feed-clause-body c told sink start now plan head text i a =
     (unfed-body-end told sink start now plan head text c.args.self.now
     (record c.args.self.now { has_ended = true; reader = c.feed.new.self; block = c.feed.new.out }) c.in_err-feed.field-0.0 i a c.requires.goes_on refl refl
     refl
-    (c.in_err-feed.ensures.feeds plan (length head) i.given i.place i.taken (omega (arith, fits))))
+    (c.in_err-feed.ensures.takes.feeds plan (length head) i.given i.place i.taken (omega (arith, fits))))
 
 pub returns-clause-header : goal.returns-clause-header
 returns-clause-header c told sink start now i a =
     let fits = given-fits told sink start now c.args.self.now i.given _ i.passes c.requires.goes_on in
-    let fed = c.in_ok-feed.ensures.heads LIMITS i.given i.among i.heading i.inside (omega (arith, fits, i.inside.taken)) in
+    let fed = c.in_ok-feed.ensures.takes.heads LIMITS i.given i.among i.heading i.inside (omega (arith, fits, i.inside.taken)) in
     fed-end told sink start now c.args.self.now _ c.in_ok-feed.field-0 i a c.requires.goes_on refl refl refl fed.1
-    c.in_ok-feed.ensures.within.0 c.in_ok-feed.ensures.within.1 fed.0
+    c.in_ok-feed.ensures.takes.within.0 c.in_ok-feed.ensures.takes.within.1 fed.0
 
 pub returns-clause-body : goal.returns-clause-body
 returns-clause-body c told sink start now plan head text i a =
     let fits = body-fits told sink start now plan head text c.args.self.now i c.requires.goes_on in
     fed-body-end told sink start now plan head text c.args.self.now _ c.in_ok-feed.field-0 i a c.requires.goes_on refl refl refl
-    c.in_ok-feed.ensures.within.0 c.in_ok-feed.ensures.within.1
-    (c.in_ok-feed.ensures.feeds plan (length head) i.given i.place i.taken (omega (arith, fits)))
+    c.in_ok-feed.ensures.takes.within.0 c.in_ok-feed.ensures.takes.within.1
+    (c.in_ok-feed.ensures.takes.feeds plan (length head) i.given i.place i.taken (omega (arith, fits)))

@@ -12,7 +12,7 @@ returns-in_err-taken-clause-header c told sink start now i =
     let fits = given-fits told sink start now c.args.self.now i.given _ i.passes more in
     rw (q.1, q.2)
     (unfed-header told sink start now c.args.self.now c.args.self.now i more c.in_err-taken.field-0.0
-    (rw c.bytes.ensures.same at (c.in_err-taken.ensures.heads LIMITS i.given i.among i.heading i.inside
+    (rw c.bytes.ensures.same at (c.in_err-taken.ensures.takes.heads LIMITS i.given i.among i.heading i.inside
     (omega (arith, fits, i.inside.taken, ap length c.bytes.ensures.same)))))
 
 pub returns-in_err-taken-clause-body : goal.returns-in_err-taken-clause-body
@@ -23,15 +23,15 @@ returns-in_err-taken-clause-body c told sink start now plan head text i =
     rw (q.1, q.2)
     (unfed-body told sink start now plan head text c.args.self.now (record c.args.self.now { reader = c.feed.new.self; block = c.feed.new.out })
     c.in_err-taken.field-0.0 i more
-    (rw c.bytes.ensures.same at (c.in_err-taken.ensures.feeds plan (length head) i.given i.place i.taken
+    (rw c.bytes.ensures.same at (c.in_err-taken.ensures.takes.feeds plan (length head) i.given i.place i.taken
     (omega (arith, fits, ap length c.bytes.ensures.same)))))
 
 pub returns-clause-header : goal.returns-clause-header
 returns-clause-header c told sink start now i =
     let more = has-more told sink start now c.args.self.now i.given _ i.passes c.requires in
     let fits = given-fits told sink start now c.args.self.now i.given _ i.passes more in
-    let within = rw c.bytes.ensures.same at c.in_ok-taken.ensures.within in
-    let fed = rw c.bytes.ensures.same at (c.in_ok-taken.ensures.heads LIMITS i.given i.among i.heading i.inside
+    let within = rw c.bytes.ensures.same at c.in_ok-taken.ensures.takes.within in
+    let fed = rw c.bytes.ensures.same at (c.in_ok-taken.ensures.takes.heads LIMITS i.given i.among i.heading i.inside
     (omega (arith, fits, i.inside.taken, ap length c.bytes.ensures.same))) in
     fed-header told sink start now c.args.self.now _ c.in_ok-taken.taken i more more refl c.take.ensures fed.1
     within.0 within.1 fed.0
@@ -40,8 +40,8 @@ pub returns-clause-body : goal.returns-clause-body
 returns-clause-body c told sink start now plan head text i =
     let more = has-more told sink start now c.args.self.now (head ++ i.given) i.written i.passes c.requires in
     let fits = body-fits told sink start now plan head text c.args.self.now i more in
-    let within = rw c.bytes.ensures.same at c.in_ok-taken.ensures.within in
+    let within = rw c.bytes.ensures.same at c.in_ok-taken.ensures.takes.within in
     fed-body told sink start now plan head text c.args.self.now _ c.in_ok-taken.taken i more more refl c.take.ensures
     within.0 within.1
-    (rw c.bytes.ensures.same at (c.in_ok-taken.ensures.feeds plan (length head) i.given i.place i.taken
+    (rw c.bytes.ensures.same at (c.in_ok-taken.ensures.takes.feeds plan (length head) i.given i.place i.taken
     (omega (arith, fits, ap length c.bytes.ensures.same))))
