@@ -1,6 +1,7 @@
 //! What is followed of a trace: the full steps, the counts, the leads, and the last steps.
 
-ghost use Rattle.std.specs.Prelude.{◌≡◌, ◌<◌, ◌+◌, ◌-◌, ◌^◌, ℕ, List, [], ◌∷◌, ◌++◌, Some, true, false, is_some, min, nat_le, length, replicate, IfOk, OnOk, slice_index_or};
+ghost use Rattle.std.specs.Prelude.{◌≡◌, ◌<◌, ◌+◌, ◌-◌, ◌^◌, ℕ, List, [], ◌∷◌, ◌++◌, Some, true, false, is_some, min, nat_le, length, replicate, IfOk, OnOk};
+ghost use Rattle.std.specs.Prelude.{slice_index_or};
 ghost use Rattle.ccsl_base.specs.Clocks.{ticks_in};
 ghost use Rattle.ccsl_base.specs.declared.rows.Row.{Row};
 ghost use Rattle.ccsl_causes.specs.Counted.{counted};

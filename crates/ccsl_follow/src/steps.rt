@@ -66,9 +66,9 @@ fn undeclared(system: &System) -> ClockSet
 fn put_declared(declared: &mut ClockSet, ticks: &ClockSet, undeclared: &ClockSet)
     ensures { (K : System) → IsUndeclared K undeclared.now → declared.new ≡ declared_part K ticks.now }
 {
-    ticks.members();
+    ticks.ascends();
     declared.copy_difference(ticks, undeclared);
-    declared.members();
+    declared.ascends();
 }
 
 impl<'s> Steps<'s> {

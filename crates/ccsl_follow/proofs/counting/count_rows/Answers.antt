@@ -21,4 +21,5 @@ loop-i-preserved c =
 pub returns-clause-counts : goal.returns-clause-counts
 returns-clause-counts c = λ x within.
     c.loop-i.invariant.counts x within
-    ∙ ap (λ (rs : List Row). counted_over x (map (λ row. row.ticks) rs) (slice_index_or c.args.counts.now x 0)) (take_all c.loop-i.i c.args.block.now.rows (omega arith))
+    ∙ ap (λ (rs : List Row). counted_over x (map (λ row. row.ticks) rs) (slice_index_or c.args.counts.now x 0))
+    (take_all c.loop-i.i c.args.block.now.rows (omega arith))

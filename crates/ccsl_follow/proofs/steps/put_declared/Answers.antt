@@ -9,5 +9,5 @@ returns c = λ K u.
     let ticks = c.args.ticks.now in
     let away = c.args.undeclared.now in
     let members = λ (x : ℕ). ap (ticks_in x) c.copy_difference.ensures ∙ ticks_in-difference ticks away x in
-    let set = c.members.ensures in
-    declared-are K away ticks c.copy_difference.new.self u set.ascending set.below c.members-2.ensures.ascending members
+    let set = c.ascends.ensures in
+    declared-are K away ticks c.copy_difference.new.self u set.ascending set.below c.ascends-2.ensures.ascending members

@@ -46,5 +46,6 @@ returns-clause-stands c = λ T stands few.
       | in-None w ↦
           let all : are_below K.declared clocks ≡ true = subst (Follows K clocks) w.in-None.is c.self.invariant in
           rw w.self-inside-is
-          (subst (λ (o : Option HeldPart). PartStandsFor (held_part K clocks o) (T ++ step ∷ [])) (sym w.in-None.is) (stands-declared K clocks all (T ++ step ∷ []) fits))
+          (subst (λ (o : Option HeldPart). PartStandsFor (held_part K clocks o) (T ++ step ∷ [])) (sym w.in-None.is)
+          (stands-declared K clocks all (T ++ step ∷ []) fits))
     ]
