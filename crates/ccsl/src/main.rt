@@ -1,4 +1,17 @@
-//! The program: it hands the real words and the real files to `run`, and says on standard error why there is no answer.
+//! The program `ccsl`: it hands the real words and the real files to `run`, and says on standard error why there is no
+//! answer.
+//!
+//!     $ ccsl judge spec=handshake.ccsl trace=held.vcd
+//!     run: no, step 2, time 35, constraint 0 of alternates@1
+//!     $ echo $?
+//!     1
+//!
+//! In go the words behind the program's name and the files that they name; out come the report on standard output, the
+//! files that `simulate` and `explain` write, and the status. Where there is no answer a line on standard error says
+//! so: a word is not UTF-8 (status 2), a file failed or no random numbers were to be had (5), no memory (6).
+//!
+//! Nothing is proved of `main`. What it calls is: `run` of ccsl_top keeps `Headline` over every world. The world here
+//! is `FileWorld` of ccsl_files, which is trusted. Stored runs try the built program.
 #![tactic(auto)]
 
 use ccsl_base::{CommandWord, HashKeys};

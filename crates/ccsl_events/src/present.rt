@@ -13,7 +13,7 @@ use std::marker::Model;
 /// A number of digits of which any value fits 64 bits.
 const DIGITS: usize = 19;
 
-/// How many digits a time has, and the time.
+/// How many digits a time has, and the time, in the dump's own unit.
 #[derive(Clone, Copy)]
 pub(crate) struct Digits {
     pub count: usize,

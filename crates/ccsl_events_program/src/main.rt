@@ -1,4 +1,16 @@
-//! The program: it hands the real words and the real files to `run`, and says on standard error why there is no answer.
+//! The program `ccsl-events`: it hands the real words and the real files to `run`, and says on standard error why there
+//! is no answer.
+//!
+//!     $ ccsl-events events=bus.events trace=both.vcd out=bus.vcd
+//!     events: 8 names, 502 times
+//!     $ ccsl-events events=bus.events trace=both.vcd | ccsl judge spec=bus.ccsl trace=/dev/stdin
+//!
+//! In go a file of events and a dump. Out come a trace, in the file `out` or else on standard output, and one line, on
+//! standard error where the trace is on standard output. Behind a path that is refused, a line on standard error lists
+//! the variables that it may mean. The status is 0, or 2 to 6, as the manual page says.
+//!
+//! Nothing is proved of `main`. What it calls is: `run` of ccsl_events_top keeps `Headline` over every world, and
+//! `FileWorld` of ccsl_files is trusted. `tests/random_events` tries the built program beside a plain model.
 #![tactic(auto)]
 
 use ccsl_events_top::{Answer, run};

@@ -38,6 +38,7 @@ pub enum Usage {
 }
 
 impl Key {
+    /// The key as it stands in a word in front of `=`.
     pub fn text(self) -> &'static str
         ensures { result.now ≡ key_text self }
     {

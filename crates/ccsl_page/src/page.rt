@@ -65,6 +65,7 @@ impl Page {
         }
     }
 
+    /// The text so far, with the codes of the colours, if the page has some.
     pub fn bytes(&self) -> &[u8]
         ensures { result.now ≡ self.now }
     {

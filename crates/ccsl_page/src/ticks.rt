@@ -6,7 +6,7 @@ use crate::time::Scale;
 use ccsl_base::{ClockSet, Memory, Names};
 use itoa::Buffer;
 
-/// A step as it is shown: its number, its time and the clocks that tick in it.
+/// A step as it is shown: its number, from 0, its time in the trace's own unit, and the clocks that tick in it.
 #[derive(Drop)]
 pub struct Column {
     pub step: u64,

@@ -14,7 +14,7 @@ pub enum Named<'a> {
 pub enum Said<'a> {
     /// a run of so many steps
     Run(u64),
-    /// no run: the first step at which an item is violated, its time and the item
+    /// no run: the first step at which an item is violated, from 0, its time in the trace's own unit, and the item
     Broken {
         step: u64,
         time: u64,

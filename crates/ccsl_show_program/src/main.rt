@@ -1,4 +1,18 @@
-//! The program: it hands the real words and the real files to `run`, which reports and shows.
+//! The program `ccsl-show`: it hands the real words and the real files to `run`, which reports and shows.
+//!
+//!     $ ccsl-show judge spec=handshake.ccsl trace=held.vcd
+//!     run: no, step 2, time 35, constraint 0 of alternates@1
+//!     handshake.ccsl:5:3
+//!       5 |   alternates(req, ack);
+//!         |   ^^^^^^^^^^^^^^^^^^^^
+//!
+//! The words are those of `ccsl`, and `waves`, `picture` and `color` of its own. What only the system knows is asked
+//! here: whether a file can be read twice, whether two names are one file, whether standard output is a terminal, what
+//! time it is. On standard error it says how far it is, from two seconds on, and which file failed. The status is that
+//! of `ccsl`.
+//!
+//! Nothing is proved of `main`. `run` of ccsl_show_top is proved, and so are the choices that stand there: in which
+//! colours, when and what is told, which files are read again. `FileWorld` of ccsl_files is trusted.
 #![tactic(auto)]
 
 use ccsl_base::CommandWord;

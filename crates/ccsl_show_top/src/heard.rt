@@ -24,6 +24,7 @@ pub struct Heard<W, L> {
 }
 
 impl<W, L> Heard<W, L> {
+    /// The world of which nothing was reported yet.
     pub fn new(alloc: Global, world: W, listener: L) -> Heard<W, L>
         ensures { result.world ≡ world }
     {

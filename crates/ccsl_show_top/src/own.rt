@@ -67,6 +67,7 @@ fn value_of<'a>(word: &'a str, key: &str) -> Option<&'a str> {
 }
 
 impl Asked {
+    /// Of no words.
     pub fn new(alloc: Global) -> Asked {
         Asked {
             words: Vec::new(alloc),

@@ -222,6 +222,7 @@ impl Signal {
         })
     }
 
+    /// The letters that it had when the present time began, in lower case; none where it had no value.
     #[inline(always)]
     pub fn before(&self) -> Option<&[u8]>
         ensures { option_copied result ≡ value_before self.now }
@@ -232,6 +233,7 @@ impl Signal {
         }
     }
 
+    /// The letters that it has by now; none where it has no value.
     #[inline(always)]
     pub fn after(&self) -> Option<&[u8]>
         ensures { option_copied result ≡ value_after self.now }

@@ -34,15 +34,19 @@ impl Drop for Goal {
     }
 }
 
+/// What sets a name off, by the values before the present time and after it. A part of `Rise` and `Fall` is one bit.
 #[derive(Drop)]
 pub enum Trigger {
     Rise(Part),
     Fall(Part),
     Change(Part),
+    /// the goal is met after the time, and was not before
     Becomes(Goal),
+    /// an event was recorded of the variable with this number, outside a dump block
     Record(usize),
 }
 
+/// A name that is waited for: what sets it off, and what has to be met before the present time.
 pub struct Watch {
     pub trigger: Trigger,
     pub conditions: Vec<Goal>,
