@@ -1,12 +1,17 @@
 //! The trees of a specification's text: what its parser makes, and its printer and elaborator read.
 //!
-//! A `File` has a version, definitions of expressions and relations, and the lines of its system. A name stands in a
-//! `Spot`, with the offset of its first byte in the text, so that a fault found later still has its place. `a union
-//! (b delay 2)` is
-//!
 //!     Tree::Binary(BinaryOp::Union, a, Box(Tree::Delay(b, 2)))
 //!
-//! with `a` and `b` as `Tree::Name`. Nothing here says what a name means; that is ccsl_rules.
+//! This is `a union (b delay 2)`, with `a` and `b` as `Tree::Name`. A `File` has a version, definitions of expressions
+//! and relations, and the lines of its system. A name stands in a `Spot`, with the offset of its first byte in the
+//! text, from 0, so that a fault found later still has its place.
+//!
+//! Whoever makes a `File` shows, by contract, that it has a text: only version 2 has `upto weakly` and `precedes
+//! within`, names, numbers and quoted texts are within their limits, and no expression is deeper than level 128.
+//! `every_file_is_kept` gives this back to who has one.
+//!
+//! Nothing here says what a name means; that is ccsl_rules. ccsl_parse makes the trees; ccsl_print, ccsl_elaborate and
+//! the crates that this calls read them.
 #![tactic(auto)]
 
 pub mod definition;

@@ -65,6 +65,7 @@ fn assembled(alloc: Global, library: &File, file: &File, count: u32) -> Result<S
     Ok(System::assemble(parts, count))
 }
 
+// The answer to a file. Want of memory stands apart from it: so `?` hands that on alone, and `elaborate` joins the two.
 fn judged(alloc: Global, library: &File, file: &File) -> Result<Result<System, Refusal>, Memory>
     requires { refusal empty (plain_file library.now) ≡ None }
     ensures { IfOk result

@@ -1,10 +1,16 @@
-//! The fault for which a file is refused: of all faults of its uses and declarations the one with the least place,
-//! and at one place the first in the order of causes.
+//! The fault for which a file is refused: of all faults of its uses and declarations the one with the least place, and
+//! at one place the first in the order of causes.
 //!
-//!     first_fault(alloc, &file, &library)?   // Some(Fault { cause: Cause::Unknown, at: 37 })
+//!     first_fault(alloc, &file, &library)?        // Some(Fault { cause: Cause::Unknown, at: 37 })
 //!
-//! It goes once through the text and once through each name space, and makes nothing of what the file stands for. The
-//! library is taken as it is: what may be wrong in it is not answered.
+//! In go the trees of a file and of the library; a place counts bytes from 0 in the file's text. It goes once through
+//! the text and once through each name space, and makes nothing of what the file stands for. The library is taken as it
+//! is: what may be wrong in it is not answered.
+//!
+//! Proved: the answer is exactly the fault that ccsl_rules defines, or `None` exactly where there is none. The only
+//! error is want of memory. Not proved: how long it takes.
+//!
+//! ccsl_elaborate asks this first, and counts clocks, constraints and cells only where there is no fault.
 #![tactic(auto)]
 
 mod arguments;

@@ -2,7 +2,7 @@
 //!
 //!     match judge(rt, alloc, keys, world, &system, workers, &NoGate, &limits)? {
 //!         Verdict::Run(steps) => ..,
-//!         Verdict::Violated { step, time, item } => ..,
+//!         Verdict::Violated(violation) => ..,   // its step, time and item
 //!     }
 //!
 //! The trace is open in the world. All of it is read, also behind a violation: a fault of the trace comes first

@@ -11,7 +11,8 @@ use ccsl_pool::Piece;
 use ccsl_relate::Monitor;
 use std::alloc::Global;
 
-/// Neighbouring items, which are followed together.
+/// Neighbouring items, which are followed together. A type of its own, since neither ccsl_pool, which has `Piece`, nor
+/// ccsl_relate, which has `Monitor`, uses the other.
 #[derive(Drop)]
 pub(crate) struct Share<'s> {
     pub(crate) monitor: Monitor<'s>,

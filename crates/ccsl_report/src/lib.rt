@@ -1,9 +1,17 @@
 //! Every line that the program reports: its text, and the calls that make it.
 //!
-//!     run_yes(alloc, 12)?                    // "run: yes, 12 steps\n"
+//!     run_yes(alloc, 12)?                         // "run: yes, 12 steps\n"
+//!     trace_refused(alloc, &fault, &system)?      // "trace: gap at byte 212\n"
+//!     put_run(12, &mut out)                       // the same as the first, into room that was taken before
 //!
-//! Each text is defined in `specs/Texts.antt`, word for word, and each call makes exactly that. Numbers are decimal,
-//! offsets are counted in bytes from 0, lines of a certificate from 1. The only error is want of memory.
+//! Each text is defined in `specs/Texts.antt`, word for word, and each call makes exactly that; this is proved. Numbers
+//! are decimal, offsets are counted in bytes from 0, steps and constraints from 0, lines of a certificate from 1, and
+//! times are in the trace's own unit. The only error is want of memory.
+//!
+//! The three `put` calls, for the answers of `judge`, take no memory: `judge_room` says how many bytes they may need,
+//! and the caller takes these before it reads the trace.
+//!
+//! ccsl_spec takes from here the lines that refuse a text, ccsl_top all others.
 #![tactic(auto)]
 
 pub mod answer;

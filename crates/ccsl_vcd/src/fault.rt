@@ -40,7 +40,7 @@ pub enum VcdFault {
     /// The file has more bytes than the limit, at the limit.
     #[error("too long at byte {at}")]
     TooLong { at: u64 },
-    /// A time that is less than the present one.
+    /// A time that is less than the present one, both in the trace's own unit.
     #[error("time back at byte {at}, from {present} to {time}")]
     TimeBack { at: u64, present: u64, time: u64 },
     /// A declared clock of which no declaration has the name.
