@@ -47,7 +47,7 @@ def divided(name, trace, spec):
     one, four, runs = sorted(one)[2], sorted(four)[2], sorted(runs)[2]
     print(f"{name}: four workers {four:.2f} s, one {one:.2f} s, so {one / four:.1f} times as fast; four runs at once {runs:.2f} s, "
           f"so the machine does {4 * one / runs:.1f} times the work of one (medians of five)")
-    note("ccsl_judge", f"{name}, four workers", "one worker", clock=one / four, wanted=2.5)
+    note("ccsl_judge", f"{name}, four workers", "one worker", clock=one / four)
     note("ccsl_judge", f"{name}, four runs at once", "one run", clock=4 * one / runs)
 
 
