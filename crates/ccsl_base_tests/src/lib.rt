@@ -9,7 +9,7 @@
 //!
 //! `pool` gives `check_all` of ccsl_pool pieces and gates that count and wait. It looks at how many parts there are, at
 //! the numbers by which they enter, and whether each one enters before it works. That two parts run side by side is no
-//! clause of ccsl_pool: it is seen here alone.
+//! clause: it is seen here, and in ccsl_top_tests.
 #![tactic(auto)]
 
 #[cfg(test)]

@@ -9,11 +9,11 @@
 //! least one. `MemoryWorld` holds its files itself and fails where a plan says so; `SteadyWorld` never fails; the real
 //! files are `ccsl_files::FileWorld`. A `Pending` has the next bytes of a slot, for what reads in pieces.
 //!
-//! An error is `Failed`, where a call failed: the count of its slot has risen then, and nothing else has changed; or
-//! want of memory; or, of `read_all`, that there are more bytes than the limit.
+//! An error is `Failed`, where a call failed: the count of its slot has risen then, or stands at its last value, and
+//! nothing else has changed; or want of memory; or, of `read_all`, that there are more bytes than the limit.
 //!
 //! Proved: all that was left is read, all is appended or a front of it, over every world. A contract speaks of a file's
-//! content only where the world tells it. All crates that reach files go by this trait.
+//! content only where the world tells it. `run` of each program reaches files by this trait alone.
 #![tactic(auto)]
 
 pub mod held;

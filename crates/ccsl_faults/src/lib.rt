@@ -2,6 +2,7 @@
 //! at one place the first in the order of causes.
 //!
 //!     first_fault(alloc, &file, &library)?        // Some(Fault { cause: Cause::Unknown, at: 37 })
+//!     fault.refusal()                             // Refusal::Unknown(37)
 //!
 //! In go the trees of a file and of the library; a place counts bytes from 0 in the file's text. It goes once through
 //! the text and once through each name space, and makes nothing of what the file stands for. The library is taken as it

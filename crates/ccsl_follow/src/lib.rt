@@ -3,15 +3,15 @@
 //!     let text = read_text(alloc, world, spec)?;
 //!     let found = understand(alloc, text.as_slice())?;   // tree, library and system, or what refuses the text
 //!     let follow = followed(alloc, keys, world, &system, &clocks, trace, Until::Step(12))?;
-//!     let columns = follow.window(&clocks, 8)?;          // eight steps before it in which one ticks, and step 12
+//!     let columns = follow.window(&clocks, 8)?;          // at most eight steps before it, and step 12
 //!
 //! `Follow` keeps the last 256 steps before the one at which the trace is left, the counts of all clocks and, at the
 //! end of a trace, since when one is ahead. Of the defined clocks those are followed that are asked for, and what their
 //! definitions lead to. Steps count from 0, times are in the trace's own unit.
 //!
 //! Proved: the clocks of each step, as far as they are declared or followed; the counts; and that reading once more
-//! only reads. Not: which of the kept steps are shown. A `Stop` comes where a call of the world fails, where a trace is
-//! refused that was not before, and for want of memory. ccsl_show shows what is found.
+//! only reads. Only tested: which of the kept steps are shown. A `Stop` comes where a call of the world fails, where a
+//! trace is refused that was not before, and for want of memory. ccsl_show shows what is found.
 #![tactic(auto)]
 
 mod counting;

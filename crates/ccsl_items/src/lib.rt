@@ -1,5 +1,6 @@
 //! The formulas of all items of a system after some steps, and what the sets that satisfy them are to its runs.
 //!
+//!     let mut formulas = Vec::new(alloc);
 //!     put_formulas(alloc, &system, &states, &mut formulas)?;
 //!
 //! In go a system and states after some steps; out comes a formula for each item, the definitions first and then the

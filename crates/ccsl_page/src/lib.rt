@@ -6,12 +6,12 @@
 //!     page.bytes()                                // "typo.ccsl:4:20\n  4 |   request precedes garnt;\n" and so on
 //!
 //! A place in a text is a byte's number, from 0, and is shown as a line and a column, both from 1; a column counts
-//! bytes. Times go in in the trace's own unit. A `Scale` is read from the words of `$timescale` and says in which unit
-//! they are shown, the longest one in which all of them are whole, if `fitted` is asked.
+//! bytes. Times are given in the trace's own unit. A `Scale` is read from the words of `$timescale` and says in which
+//! unit they are shown; `fitted` takes the longest one in which all of them are whole.
 //!
 //! Proved: `place_of` gives exactly the line and the column, and a page grows by exactly the text of its pieces. Only
-//! tested: marks under a line, rows of ticks, times with their unit. The only error is want of memory. ccsl_causes,
-//! ccsl_follow and ccsl_show put pages, and ccsl_events_top its line.
+//! tested: marks under a line, rows of ticks, times with their unit. The only error is want of memory. ccsl_causes and
+//! ccsl_show put pages, ccsl_follow makes the columns, and ccsl_events_top puts its line.
 #![tactic(auto)]
 
 pub mod excerpt;

@@ -10,8 +10,7 @@
 //! asks after some steps.
 //!
 //! `accepted` puts parts together by hand, which no text gives: `Parts::accepted` of ccsl_kernel refuses a definition
-//! that names its own clock. What is compared here is proved as well, of all systems; the tests show that the
-//! definitions say what is meant.
+//! that names its own clock. What is compared here is proved as well, of all systems: the tests try what was built.
 #![tactic(auto)]
 
 #[cfg(test)]

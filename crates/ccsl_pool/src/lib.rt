@@ -1,6 +1,7 @@
 //! One block of rows, taken by many pieces, by one thread or many: the answer is that of one thread.
 //!
-//!     check_all(rt, pieces, &block, workers, &NoGate);
+//!     impl<'s> Piece for Share<'s> { .. }            // in ccsl_judge: its `work` takes the rows of a block
+//!     check_all(rt, shares, &block, 4, &NoGate);     // all shares, by four threads at most
 //!
 //! A `Piece` takes a block and is as its own `work` leaves it. `check_all` divides the pieces among so many workers, no
 //! more than there are pieces, and waits for all of them. Where no thread can be started the caller's does that part

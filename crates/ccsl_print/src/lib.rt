@@ -1,5 +1,6 @@
 //! The printer of specifications: the canonical text of a file.
 //!
+//!     let file = parse(alloc, tokens.as_slice())?;
 //!     print(alloc, &file)?                        // "ccsl 1;\nsystem {\n  clock a, b;\n}\n"
 //!
 //! Each declaration has a line, what stands inside a system or a relation begins with two blanks, and there is no

@@ -1,7 +1,7 @@
 //! The header of a value change dump with its scopes and variables, and paths that are looked up in it.
 //!
 //!     let mut reader = HeaderReader::new(alloc, keys, limits);
-//!     reader.hear(at, b"$scope")?                  // whether this token ends the header
+//!     reader.hear(at, b"$scope")?                 // whether this token ends the header
 //!     let header = reader.into_header();
 //!     resolve(&path, header.variables.as_slice()) // Found(target), Unknown or Ambiguous
 //!

@@ -6,9 +6,9 @@
 //!     fire req ack      step      allowed      back 2      trace      quit
 //!
 //! A line is answered by one call of `write_all`, before more is read. A session ends at `quit`, at the end of the
-//! input, and where that has more than `limit` bytes; its run has at most 100,000 steps, counted from 0. A step that is
-//! left to the policy takes the words of its own number, also behind steps that were taken back. `trace` answers with
-//! the run so far as a value change dump and a line `end`.
+//! input, and where that has more than `limit` bytes; its run has at most 100,000 steps. A step that is left to the
+//! policy takes the words of its own number, also behind steps that were taken back. `trace` answers with the run so
+//! far as a value change dump and a line `end`.
 //!
 //! Proved: where the world tells input and output, the report grows by exactly the answers that a stack of declared
 //! sets defines, and what such a stack completes to is a run. An error is a failed read or write, or want of memory;

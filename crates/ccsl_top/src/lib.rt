@@ -1,6 +1,7 @@
 //! The program as one call: from the words of its command line and a world of files to a report and a status.
 //!
-//!     let status = run(rt, alloc, keys, words, &mut world, &NoGate);
+//!     let mut world = FileWorld::new(&rt, rt.alloc());
+//!     let status = run(&rt, rt.alloc(), keys, words.as_slice(), &mut world, &NoGate);
 //!
 //! `Headline` says what holds behind it in every world: the report and the files are those that are defined for these
 //! words and files, or, where a call of the world failed or memory was wanting, a front of them; which status comes

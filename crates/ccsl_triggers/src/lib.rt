@@ -1,6 +1,6 @@
 //! The values of variables before a time and after it, what they set off, and what is written of the time.
 //!
-//!     signal.set(b"1", false)?;                    // a value at the present time, outside a dump block
+//!     signal.set(b"1", false)?;                   // a value at the present time, outside a dump block
 //!     watch.happens(signals)                      // whether its name happens at this time
 //!     put_row(&line, &names, &mut out)?;          // "#35\n1!\n", and whether there is a row
 //!     signal.settle()?;                           // the time is over

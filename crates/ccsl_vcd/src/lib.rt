@@ -1,7 +1,7 @@
 //! What a value change dump says, as definitions over the whole file, and their laws. Its only code is `is_code`.
 //!
 //!     is_code(b"!a")                              // whether these bytes can be a variable's code: visible, 32 at most
-//!     VcdFault::TimeBack { at: 212, present: 35, time: 30 }
+//!     VcdFault::TimeBack { at: 212, present: 35, time: 30 }    // "time back at byte 212, from 35 to 30"
 //!
 //! `Header` and `Body` say what each token does at its place, `Binding` which variable a clock's name means, `Rows` at
 //! which times some clock ticks, and `Reading` puts them together: from all bytes of a file to its rows, or to its

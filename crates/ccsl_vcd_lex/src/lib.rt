@@ -8,10 +8,10 @@
 //! error is `TokenTooLong`, with the offset of the token's first byte, from 0, as soon as it has one byte too many.
 //!
 //! `code_at_front` is the quick way past it: a code of one to three bytes that stands whole in the piece, with its
-//! place in a table of 839,514 that no other code has.
+//! place in a table of 839,514 places, which no other code has.
 //!
 //! Proved: the tokens are the longest runs of bytes that are not white space, and what is settled stays so whatever
-//! follows. ccsl_vcd_read reads with all of it, ccsl_events with `run_end` and `code_at_front` alone.
+//! follows. ccsl_vcd_read reads with all of it, ccsl_events without the `Tokenizer`.
 #![tactic(auto)]
 
 pub mod laws;

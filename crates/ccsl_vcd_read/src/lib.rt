@@ -9,8 +9,8 @@
 //! the bytes decide it, and by every call from then on.
 //!
 //! Proved: exactly the rows that the bytes complete, by the definitions of ccsl_vcd, or the decided fault; behind the
-//! header no fault is a want of memory. Not proved: any time. `docs/READER.md` says how it is fast. ccsl_trace feeds it
-//! from a file.
+//! header no fault is a want of memory. Not proved: how long it takes; `docs/READER.md` says how it is fast. ccsl_trace
+//! feeds it from a file.
 #![tactic(auto)]
 
 mod amid;
