@@ -76,8 +76,8 @@ fn earlier(first: Option<Violation>, second: Option<Violation>) -> Option<Violat
     }
 }
 
-/// Lets all shares take the rows of a block. A function of its own, since `check_all` speaks of each share alone: here that
-/// becomes what all of them follow, and the loop over the blocks is spared the proof.
+/// Lets all shares take the rows of a block. A function of its own, since `check_all` speaks of each share alone: here
+/// that becomes what all of them follow, and the loop over the blocks is spared the proof.
 pub(crate) fn check_rows<R: Threads + Sync, G: Gate>(
     rt: &R,
     shares: &mut [Share<'_>],

@@ -7,8 +7,10 @@ use std::alloc::Global;
 
 /// What is told of bytes as they are read and written.
 pub trait Listen {
+    /// So many bytes of a slot were read.
     fn read(&mut self, slot: Slot, count: usize);
 
+    /// These bytes were written to a slot.
     fn wrote(&mut self, slot: Slot, bytes: &[u8]);
 }
 

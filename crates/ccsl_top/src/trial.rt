@@ -118,8 +118,8 @@ fn ticks_of(alloc: Global, world: &MemoryWorld, system: &System, made: u64) -> R
     }
 }
 
-// How many steps and ticks the trace of a world has, whatever seed and steps it is of. By itself, since one function carries
-// only so much proof.
+// How many steps and ticks the trace of a world has, whatever seed and steps it is of. By itself, since one function
+// carries only so much proof.
 fn counted<R: Threads + Sync, G: Gate>(
     machine: &Machine<'_, R, G>,
     world: &mut MemoryWorld,
@@ -138,8 +138,8 @@ fn counted<R: Threads + Sync, G: Gate>(
     Ok((made, ticks))
 }
 
-// How many steps and ticks a run of a system has that is simulated by drawn words and judged. By itself, since it is of any
-// system: nothing that is known of a chain burdens its proof.
+// How many steps and ticks a run of a system has that is simulated by drawn words and judged. By itself, since it is of
+// any system: nothing that is known of a chain burdens its proof.
 fn tried<R: Threads + Sync, G: Gate>(
     machine: &Machine<'_, R, G>,
     system: &System,
@@ -155,8 +155,8 @@ fn tried<R: Threads + Sync, G: Gate>(
     counted(machine, &mut world, system, workers)
 }
 
-// The same of a chain of so many clocks. By itself, since here alone the run of a chain becomes that of the trial; `trial`
-// only reports it.
+// The same of a chain of so many clocks. By itself, since here alone the run of a chain becomes that of the trial;
+// `trial` only reports it.
 fn tried_chain<R: Threads + Sync, G: Gate>(
     machine: &Machine<'_, R, G>,
     clocks: u32,
