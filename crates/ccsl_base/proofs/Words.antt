@@ -271,6 +271,42 @@ joined-next op i words old other word joined l bits = record {
   later = λ j m. get_or-set_other words i j word 0 (λ q. omega (arith, m, q)) ∙ joined.later j (omega (arith, m));
 }
 
+pub joined-none : (op : Bool → Bool → Bool) (old other : List ℕ) → Joined op 0 old old other
+joined-none op old other = record { size = refl; done = λ j k m n. let z : ⊥ = omega (arith, m) in absurd z; later = λ j m. refl }
+
+pub joined-first : (op : Bool → Bool → Bool) (old other : List ℕ) (word : ℕ) → 0 < length old →
+    ((k : ℕ) → k < 64 → is_set word k ≡ op (is_set (get_or old 0 0) k) (is_set (get_or other 0 0) k)) → Joined op 1 (slice_set old 0 word) old other
+joined-first op old other word = joined-next op 0 old old other word (joined-none op old other)
+
+-- to join the same words once more changes nothing
+or-again : (a b : Bool) → ((a || b) || b) ≡ (a || b)
+or-again true b = refl
+or-again false true = refl
+or-again false false = refl
+
+pub joined-begun : (mid old other : List ℕ) → Joined (λ a b. a || b) 1 mid old other → Joined (λ a b. a || b) 1 mid mid other
+joined-begun mid old other first = record {
+  size = refl;
+  done = λ j k m n.
+      first.done j k m n
+      ∙ sym (or-again (is_set (get_or old j 0) k) (is_set (get_or other j 0) k))
+      ∙ ap (λ a. a || is_set (get_or other j 0) k) (sym (first.done j k m n));
+  later = λ j m. refl;
+}
+
+pub joined-again : (i : ℕ) (words mid old other : List ℕ) → Joined (λ a b. a || b) 1 mid old other → Joined (λ a b. a || b) i words mid other → 1 ≤ i
+    → Joined (λ a b. a || b) i words old other
+joined-again i words mid old other first joined begun = record {
+  size = joined.size ∙ first.size;
+  done = λ j k m n.
+      joined.done j k m n
+      ∙ ⊎_elim
+      (λ l. ap (λ a. a || is_set (get_or other j 0) k) (first.done j k l n) ∙ or-again (is_set (get_or old j 0) k) (is_set (get_or other j 0) k))
+      (λ l. ap (λ w. is_set w k || is_set (get_or other j 0) k) (first.later j l))
+      (cases_lt j 1);
+  later = λ j m. joined.later j m ∙ first.later j (omega (arith, m, begun));
+}
+
 pub joined-all : (op : Bool → Bool → Bool) (i : ℕ) (words old other : List ℕ) → Joined op i words old other →
     ((j k : ℕ) → i ≤ j → op (is_set (get_or old j 0) k) (is_set (get_or other j 0) k) ≡ is_set (get_or old j 0) k) →
     (x : ℕ) → ticks_in x (members_of words) ≡ op (ticks_in x (members_of old)) (ticks_in x (members_of other))

@@ -114,11 +114,15 @@ impl ClockSet {
     }
 
     /// Makes the members of another set members.
-    #[inline]
+    #[inline(always)]
     pub fn insert_all(&mut self, other: &ClockSet)
         ensures { (x : ℕ) → ticks_in x self.new ≡ (ticks_in x self.old || ticks_in x other.now) }
     {
-        for i in 0..other.used {
+        if other.used == 0 {
+            return;
+        }
+        self.words[0] = either_word(self.words[0], other.words[0]);
+        for i in 1..other.used {
             self.words[i] = either_word(self.words[i], other.words[i]);
         }
         self.used = self.used.max(other.used);

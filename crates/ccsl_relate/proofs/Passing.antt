@@ -38,6 +38,7 @@ module _ (recorded : List ℕ) (v : Watching) (rows : List Row) (row : Row) (s :
   pub next-resting : (x : Violation) → v.first ≡ Some x → IsNext recorded v v rows row v.first
   next-resting x e = record {
     same = refl;
+    none_before = λ n. n;
     count = refl;
     sets = sets-snoc rows row s.sets sorted;
     first_is = subst (Finds K recorded more v.start (length v.kept)) (sym e)
@@ -80,6 +81,7 @@ module _ (recorded : List ℕ) (v : Watching) (rows : List Row) (row : Row) (s :
           → IsNext recorded v w rows row (Some (record { step = v.steps; time = row.time; item = v.start + place }))
       next-violated place f = record {
         same = same;
+        none_before = λ n. absurd (cc n);
         count = count;
         sets = sets-snoc rows row s.sets sorted;
         first_is = subst (λ n. Finds K recorded more v.start (length v.kept) (Some (record { step = n; time = row.time; item = v.start + place })))
@@ -95,6 +97,7 @@ module _ (recorded : List ℕ) (v : Watching) (rows : List Row) (row : Row) (s :
           → ((x : ℕ) → is_known K w.states x ≡ is_known K v.states x) → AreAfter K w.states (T ++ whole ∷ []) → IsNext recorded v w rows row None
       next-obeyed obeys next known after = record {
         same = same;
+        none_before = λ n. none;
         count = count;
         sets = sets-snoc rows row s.sets sorted;
         first_is = obeyed-on K s.accepted recorded rows row s.sets sorted v.start (length v.kept) obeyed

@@ -2,12 +2,16 @@
 use Rattle.std.proofs.Common.{◌≡◌, ◌≢◌, ℕ, ◌+◌, ◌*◌, ◌<◌, ◌≤◌, List, [], ◌∷◌, ◌++◌, Bool, true, false, ◌||◌, ◌&&◌, nat_eq, nat_lt, map, length, get_or}
 use Rattle.std.proofs.Common.{slice_set, refl, sym, ap, ap₂, ◌∙◌, subst, arith, eq-eqb, lt-ltb, le-ltb, length-append, ◌⊎◌, inl, inr, ⊎_elim}
 use Rattle.std.specs.List.{list_any}
+use Rattle.std.proofs.Common.{not}
 use Rattle.std.proofs.Math.Seq.{get_or-append_seam}
+use Rattle.std.proofs.Math.Bool.{or_comm, or_assoc}
+use Rattle.std.proofs.lemmas.List.Folds.{list_any-append}
 use Rattle.std.proofs.lemmas.Bool.{cases_eq, ne_eqb, ltb-true, ltb-false}
 use Rattle.std.proofs.lemmas.List.{get_or_default, get_or_past, get_or_append_left, get_or-map, get_or-set_same, get_or-set_other, length-map}
 use Rattle.ccsl_base.specs.declared.limits.TheConstants.{MAX_CLOCKS}
 use Rattle.ccsl_base.specs.Clocks.{ticks_in, with_clock}
-use Rattle.ccsl_base.proofs.Sets.{ticks_in-with_same, ticks_in-with_other}
+use Rattle.ccsl_base.specs.Changes.{difference}
+use Rattle.ccsl_base.proofs.Sets.{ticks_in-with_same, ticks_in-with_other, ticks_in-difference}
 use Rattle.ccsl_kernel.specs.Lives.{Step}
 use Rattle.ccsl_relate.specs.declared.watched.Watched.{Watched}
 use Rattle.ccsl_relate.specs.declared.watched.Watched.TheVariants.{Nothing}
@@ -247,3 +251,28 @@ touches-told ticks s clocks start group touched kept all t h = record {
         let past : get_or read (start + p) [] ≡ [] = get_or_past read (start + p) [] (omega (arith, high, length-map kept clocks_of)) in
         let z : true ≡ false = sym e ∙ met p l ∙ ap (meet clocks) past ∙ meet-none clocks in
         absurd (cc)
+
+-- what ticks in the row ticks in the step, so that the step's clocks are all
+within : (a b : Bool) → (a && not b) ≡ false → b ≡ (a || b)
+within true true h = refl
+within true false h = absurd (cc h)
+within false b h = refl
+
+pub touches-alike : (ticks : List ℕ) (s : Step) (start : ℕ) (group : List (List ℕ)) (touched : List ℕ) (kept : List Watched) → difference ticks s ≡ []
+    → TellsFrom start group (map clocks_of kept) → ((p : ℕ) → ticks_in p touched ≡ told_at group s p) → Touches ticks s touched start kept
+touches-alike ticks s start group touched kept alike =
+    touches-told ticks s s start group touched kept
+    (λ x. within (ticks_in x ticks) (ticks_in x s) (sym (ticks_in-difference ticks s x) ∙ ap (ticks_in x) alike))
+
+-- or both are gone through, one behind the other
+ticks-append : (x : ℕ) (xs ys : List ℕ) → ticks_in x (xs ++ ys) ≡ (ticks_in x xs || ticks_in x ys)
+ticks-append x [] ys = refl
+ticks-append x (z ∷ xs) ys = ap (λ b. nat_eq x z || b) (ticks-append x xs ys) ∙ sym (or_assoc (nat_eq x z) (ticks_in x xs) (ticks_in x ys))
+
+pub touches-both : (ticks : List ℕ) (s : Step) (start : ℕ) (group : List (List ℕ)) (mid touched : List ℕ) (kept : List Watched)
+    → TellsFrom start group (map clocks_of kept) → ((p : ℕ) → ticks_in p mid ≡ told_at group s p)
+    → ((p : ℕ) → ticks_in p touched ≡ (ticks_in p mid || told_at group ticks p)) → Touches ticks s touched start kept
+touches-both ticks s start group mid touched kept tells first second =
+    touches-told ticks s (s ++ ticks) start group touched kept
+    (λ x. ticks-append x s ticks ∙ or_comm (ticks_in x s) (ticks_in x ticks)) tells
+    (λ p. second p ∙ ap (λ b. b || told_at group ticks p) (first p) ∙ sym (list_any-append (λ c. told group c p) s ticks))

@@ -141,6 +141,7 @@ pub record StandsFor (recorded : List ℕ) (v : Watching) (rows : List Row) : Ty
 -- the first violation with a row more, and until there is one the items go on by the row
 pub record IsNext (recorded : List ℕ) (old new : Watching) (rows : List Row) (row : Row) (first : Option Violation) : Type 0 where
   pub same : new ≡ record old { kept = new.kept; states = new.states }
+  pub none_before : first ≡ None → old.first ≡ None
   pub count : length new.kept ≡ length old.kept
   pub sets : are_sets (rows ++ row ∷ []) ≡ true
   pub first_is : Finds old.system recorded (rows ++ row ∷ []) old.start (length old.kept) first

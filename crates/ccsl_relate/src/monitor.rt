@@ -79,6 +79,17 @@ impl<'s> Model for Monitor<'s> {
     ghost invariant = { λ m. IsUndeclared m.system.now m.undeclared × Fit m.readers m.kept.items };
 }
 
+// Keeps what was found, where there was nothing before it: most rows write nothing.
+#[inline(always)]
+fn keep(first: &mut Option<Violation>, found: Option<Violation>)
+    requires { found ≡ None → first.old ≡ None }
+    ensures { first.new ≡ found }
+{
+    if found.is_some() {
+        *first = found;
+    }
+}
+
 impl<'s> Monitor<'s> {
     /// Follows `count` items from number `start` on, where these clocks are bound. It takes the states of the definitions that the
     /// items reach, where one of them reads a defined clock.
@@ -154,7 +165,8 @@ impl<'s> Monitor<'s> {
             length rows + 1 < 2 ^ 64 →
             StandsFor recorded self.new (rows ++ row.now ∷ []) }
     {
-        self.first = self.first_with(row);
+        let found = self.first_with(row);
+        keep(&mut self.first, found);
         self.steps += 1;
     }
 

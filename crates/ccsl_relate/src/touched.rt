@@ -1,12 +1,13 @@
 //! The items that read a clock that ticks, and no others: only these can fail or change in a step.
 
-ghost use Rattle.std.specs.Prelude.{◌≡◌, ℕ, ◌+◌, ◌<◌, ◌≤◌, ◌^◌, false, length, map, slice_index_or, All, IfOk, IfSome, IfNone};
+ghost use Rattle.std.specs.Prelude.{◌≡◌, ℕ, ◌+◌, ◌<◌, ◌≤◌, ◌^◌, List, [], false, length, map, slice_index_or, All, IfOk, IfSome, IfNone};
 ghost use Rattle.ccsl_base.specs.declared.limits.TheConstants.{MAX_CLOCKS};
 ghost use Rattle.ccsl_relate.specs.Few.{HasRoom, EachHasRoom};
 ghost use Rattle.ccsl_relate.specs.Watching.{fails_in, next_in, FailsFirst};
-ghost use Rattle.ccsl_relate.specs.Reading.{clocks_of, AreReaders, Fit, Touches, FailsFrom, GoesOn};
+ghost use Rattle.ccsl_relate.specs.declared.watched.Watched.{Watched};
+ghost use Rattle.ccsl_relate.specs.Reading.{clocks_of, TellsFrom, AreReaders, Fit, Touches, FailsFrom, GoesOn};
 
-use crate::readers::{GROUP, Readers};
+use crate::readers::{GROUP, Group, Readers};
 use crate::watched::{Watched, first_failing};
 use ccsl_base::{ClockSet, Memory};
 use std::alloc::Global;
@@ -14,8 +15,22 @@ use std::alloc::Global;
 /// Fewer items are sooner looked at one by one.
 const FEWEST: usize = 32;
 
-/// So many items are looked at in the time that it takes to gather the places of one clock.
-const ITEMS_A_CLOCK: usize = 4;
+/// So many items are looked at in the time that it takes to gather the places of a clock that ticks, and of those that it makes tick.
+const ITEMS_A_CLOCK: usize = 8;
+
+// Puts into a set without members the places of the items of a group that read a clock which ticks. A row seldom has a tick that its
+// step lacks.
+#[inline(always)]
+fn touch(group: &Group, ticks: &ClockSet, step: &ClockSet, touched: &mut ClockSet)
+    requires { touched.old ≡ [] }
+    ensures { (start : ℕ) (kept : List Watched) → TellsFrom start group.now (map clocks_of kept) →
+        Touches ticks.now step.now touched.new start kept }
+{
+    group.gather(step, touched);
+    if !ticks.is_subset(step) {
+        group.gather(ticks, touched);
+    }
+}
 
 // The first item that fails, of those at some places behind `start`. The others of the group neither fail nor change.
 #[inline(always)]
@@ -60,13 +75,10 @@ fn first_touched(
     ensures none { IfNone result (All (λ w. fails_in ticks.now step.now w ≡ false) kept.old) }
     ensures next { IfNone result (kept.new ≡ map (next_in step.now) kept.old) }
 {
-    let mut clocks = ClockSet::empty();
-    clocks.insert_all(ticks);
-    clocks.insert_all(step);
     let groups = readers.groups();
     for i in 0..groups.len() {
         let mut touched = ClockSet::empty();
-        groups[i].gather(&clocks, &mut touched);
+        touch(&groups[i], ticks, step, &mut touched);
         let place = first_at(kept, i * GROUP, &touched, ticks, step);
         if place.is_some() {
             return place;
@@ -105,7 +117,7 @@ pub(crate) fn first_read(
     ensures next { IfNone result (kept.new ≡ map (next_in step.now) kept.old) }
 {
     match readers {
-        Some(readers) if (step.len() as usize) < kept.len() / ITEMS_A_CLOCK => {
+        Some(readers) if (ticks.len() as usize) < kept.len() / ITEMS_A_CLOCK => {
             first_touched(kept, readers, ticks, step)
         }
         _ => first_failing(kept, ticks, step),

@@ -270,20 +270,28 @@ read_all K F sets n all count before = record {
     neither true = refl
     neither false = refl
 
+-- what is as it is to be stays so
+pub put_already : (number : ℕ) (member : Bool) (set : List ℕ) → ticks_in number set ≡ member → (x : ℕ)
+    → ticks_in x set ≡ ticks_in x (put_clock number member set)
+put_already number member set is x = ⊎_elim
+    (λ (e : x ≡ number). ap (λ k. ticks_in k set) e ∙ is ∙ sym (ap (λ k. ticks_in k (put_clock number member set)) e ∙ ticks_in-put_same number member set))
+    (λ (ne : x ≡ number → ⊥). sym (ticks_in-put_other number member x set ne))
+    (cases_eq x number)
+
 -- A VISIT, as the program makes it and enters it
-pub visit_is : (lay : Lay) (i clock : ℕ) (sets : List (List ℕ)) (row row' : List ℕ) (v : Visited) (old new : Passage) → clock ≡ lay.system.now.declared + i
-    → IsVisited lay i row row' old.step old.gone v →
-    (e : IsEntered sets i clock v old new)
-    → IsVisit lay.system.now sets (trees_from lay 0 row) (trees_from lay 0 row') old.step new.step old.gone new.gone old.waiting new.waiting old.unsettled
+pub visit_is : (lay : Lay) (i clock : ℕ) (sets : List (List ℕ)) (row row' : List ℕ) (v : Visited) (s s' : Step) (old new : Passage) → clock ≡ lay.system.now.declared + i
+    → IsVisited lay i row row' s old.gone v →
+    (e : IsEntered sets i clock v s s' old new)
+    → IsVisit lay.system.now sets (trees_from lay 0 row) (trees_from lay 0 row') s s' old.gone new.gone old.waiting new.waiting old.unsettled
     new.unsettled i v.tick v.dead v.settled e.news
-visit_is lay i clock sets row row' v old new at is e = record {
+visit_is lay i clock sets row row' v s s' old new at is e = record {
   trees_are = is.trees;
   tick_is = is.tick;
   dead_is = is.dead;
   settled_is = is.settled;
   told_is = λ h. let n = e.none h in (n.0, n.1 ∙ ap (λ k. ticks_in k old.gone) at);
-  step_is = e.step ∙ ap (λ k. put v.tick k old.step) at;
-  gone_is = e.gone ∙ ap (λ k. put_clock k v.dead old.gone) at;
+  step_is = e.step ∙ ap (λ k. put v.tick k s) at;
+  gone_is = λ x. e.gone x ∙ ap (λ k. ticks_in x (put_clock k v.dead old.gone)) at;
   unsettled_is = e.unsettled;
   waiting_is = λ p. e.waiting p ∙ ap (λ k. (ticks_in p old.waiting && not (nat_eq i p)) || (e.news && ticks_in p (slice_index_or sets k []))) at;
 }

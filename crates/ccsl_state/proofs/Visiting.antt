@@ -90,8 +90,8 @@ pub record IsVisit (K : System) (readers : List (List ℕ)) (trees trees' : List
   pub settled_is : settled ≡ true → is_settled (gone_in gone) (next K step (gone_in gone) (tree_number trees j)) ≡ true
   pub told_is : told ≡ false → (tick ≡ false) × (dead ≡ ticks_in (K.declared + j) gone)
   pub step_is : step' ≡ put tick (K.declared + j) step
-  pub gone_is : gone' ≡ put_clock (K.declared + j) dead gone
-  pub unsettled_is : unsettled' ≡ put_clock j (not settled) unsettled
+  pub gone_is : (x : ℕ) → ticks_in x gone' ≡ ticks_in x (put_clock (K.declared + j) dead gone)
+  pub unsettled_is : (p : ℕ) → ticks_in p unsettled' ≡ ticks_in p (put_clock j (not settled) unsettled)
   pub waiting_is : (p : ℕ)
       → ticks_in p waiting' ≡ ((ticks_in p waiting && not (nat_eq j p)) || (told && ticks_in p (slice_index_or readers (K.declared + j) [])))
 
@@ -134,13 +134,13 @@ module _ (K : System) (ok : IsAccepted K) (F : List ℕ) where
           step_other y ne = ap (ticks_in y) v.step_is ∙ put_other tick (K.declared + j) y step ne
 
           gone_other : (y : ℕ) → (y ≡ K.declared + j → ⊥) → ticks_in y gone' ≡ ticks_in y gone
-          gone_other y ne = ap (ticks_in y) v.gone_is ∙ ticks_in-put_other (K.declared + j) dead y gone ne
+          gone_other y ne = v.gone_is y ∙ ticks_in-put_other (K.declared + j) dead y gone ne
 
           step_here : ticks_in (K.declared + j) step' ≡ tick
           step_here = ap (ticks_in (K.declared + j)) v.step_is ∙ put_same tick (K.declared + j) step here.tick
 
           gone_here : ticks_in (K.declared + j) gone' ≡ dead
-          gone_here = ap (ticks_in (K.declared + j)) v.gone_is ∙ ticks_in-put_same (K.declared + j) dead gone
+          gone_here = v.gone_is (K.declared + j) ∙ ticks_in-put_same (K.declared + j) dead gone
 
           -- what does not wait hears nothing of it
           unheard : (i : ℕ) → IsFollowed K F i → ticks_in i waiting' ≡ false → (y : ℕ) → reads K i y ≡ true
@@ -194,7 +194,7 @@ module _ (K : System) (ok : IsAccepted K) (F : List ℕ) where
                 dead = gone_here ∙ same.2 ∙ ap (dead_of (gone_in gone')) (sym the_tree);
                 settled = λ h.
                     let so : settled ≡ true =
-                    not-false settled (sym (ticks_in-put_same j (not settled) unsettled) ∙ ap (ticks_in j) (sym v.unsettled_is) ∙ h) in
+                    not-false settled (sym (ticks_in-put_same j (not settled) unsettled) ∙ sym (v.unsettled_is j) ∙ h) in
                     ap (is_settled (gone_in gone')) the_tree ∙ sym same.3 ∙ ap (λ t. is_settled (gone_in gone) (next K step (gone_in gone) t)) (sym here.tree)
                     ∙ v.settled_is so;
               }
@@ -214,7 +214,7 @@ module _ (K : System) (ok : IsAccepted K) (F : List ℕ) where
                 dead = gone_other (K.declared + i) apart ∙ same.2 ∙ ap (dead_of (gone_in gone')) (sym kept);
                 settled = λ h.
                     ap (is_settled (gone_in gone')) kept ∙ sym same.3 ∙ was.settled
-                    (sym (ticks_in-put_other j (not settled) i unsettled ne) ∙ ap (ticks_in i) (sym v.unsettled_is) ∙ h);
+                    (sym (ticks_in-put_other j (not settled) i unsettled ne) ∙ sym (v.unsettled_is i) ∙ h);
               }
 
           -- what waits now has waited, or reads the clock
@@ -270,7 +270,7 @@ module _ (K : System) (ok : IsAccepted K) (F : List ℕ) where
             followed = λ m h. (waits m h).0;
             few = λ m h. ⊎_elim
                 (λ (e : m ≡ j). subst (IsFollowed K F) (sym e) mine)
-                (λ (ne : m ≡ j → ⊥). g.few m (sym (ticks_in-put_other j (not settled) m unsettled ne) ∙ ap (ticks_in m) (sym v.unsettled_is) ∙ h))
+                (λ (ne : m ≡ j → ⊥). g.few m (sym (ticks_in-put_other j (not settled) m unsettled ne) ∙ sym (v.unsettled_is m) ∙ h))
                 (cases_eq m j);
             declared = λ y l. step_other y (λ e. omega (arith, e, l)) ∙ g.declared y l;
             outside = λ i none. step_other (K.declared + i) (λ e. none (subst (IsFollowed K F) (let z : j ≡ i = omega (arith, e) in z) mine))

@@ -1,6 +1,7 @@
 -- A VISIT of a definition in a step, and what is found of the step on its way.
 --     IsVisited      the region of definition number i before and after a visit, and what is answered
---     IsEntered      what is found before the visit is entered, and after it: those that read the clock wait, where there is news of it
+--     IsEntered      the ticks and what is found before the visit is entered, and after it: those that read the clock wait, where there
+--       is news of it
 --     is_waiting sets p i      whether definition number i is unsettled, or reads a clock that ticks
 use Rattle.std.specs.Prelude.{◌≡◌, ℕ, List, [], Bool, true, false, not, ◌&&◌, ◌||◌, slice_set, slice_index_or, nat_eq}
 use Rattle.std.specs.List.{list_any}
@@ -28,12 +29,12 @@ pub record IsVisited (lay : Lay) (i : ℕ) (row row' : List ℕ) (s : Step) (gon
   pub settled : v.settled ≡ true → is_settled (gone_in gone) (after lay s gone (tree_at lay i row)) ≡ true
   pub trees : trees_from lay 0 row' ≡ slice_set (trees_from lay 0 row) i (after lay s gone (tree_at lay i row))
 
-pub record IsEntered (sets : List (List ℕ)) (i clock : ℕ) (v : Visited) (old new : Passage) : Type 0 where
+pub record IsEntered (sets : List (List ℕ)) (i clock : ℕ) (v : Visited) (s s' : Step) (old new : Passage) : Type 0 where
   pub news : Bool
   pub none : news ≡ false → (v.tick ≡ false) × (v.dead ≡ ticks_in clock old.gone)
-  pub step : new.step ≡ put v.tick clock old.step
-  pub gone : new.gone ≡ put_clock clock v.dead old.gone
-  pub unsettled : new.unsettled ≡ put_clock i (not v.settled) old.unsettled
+  pub step : s' ≡ put v.tick clock s
+  pub gone : (x : ℕ) → ticks_in x new.gone ≡ ticks_in x (put_clock clock v.dead old.gone)
+  pub unsettled : (p : ℕ) → ticks_in p new.unsettled ≡ ticks_in p (put_clock i (not v.settled) old.unsettled)
   pub waiting : (p : ℕ) → ticks_in p new.waiting ≡ ((ticks_in p old.waiting && not (nat_eq i p)) || (news && ticks_in p (slice_index_or sets clock [])))
 
 abbrev pub is_waiting : List (List ℕ) → List ℕ → Step → ℕ → Bool

@@ -2,6 +2,7 @@
 
 ghost use Rattle.std.specs.Prelude.{◌≡◌, ◌≤◌, ◌<◌, ℕ, ◌||◌, ◌&&◌, true, false, length, IfSome, IfNone};
 ghost use Rattle.ccsl_base.specs.Clocks.{ticks_in, are_below, is_ascending};
+ghost use Rattle.ccsl_base.specs.Changes.{put_clock};
 ghost use Rattle.ccsl_kernel.specs.Accepted.{IsAccepted};
 ghost use Rattle.ccsl_state.specs.States.{places_from};
 ghost use Rattle.ccsl_state.specs.Regions.{trees_from};
@@ -17,11 +18,10 @@ use crate::moved::Visited;
 use crate::readers::Readers;
 use ccsl_base::{ClockSet, MAX_CLOCKS};
 
-/// What is found of a step on its way: the clocks that tick in it, those that are dead after it, the numbers of the definitions that
-/// wait for their visit, and of those that are to be visited at the next step, whatever ticks.
+/// What is found of a step on its way: the clocks that are dead after it, the numbers of the definitions that wait for their visit,
+/// and of those that are to be visited at the next step, whatever ticks.
 #[derive(Drop)]
 pub struct Passage {
-    pub step: ClockSet,
     pub gone: ClockSet,
     pub waiting: ClockSet,
     pub unsettled: ClockSet,
@@ -66,20 +66,38 @@ fn wait(waiting: &mut ClockSet, news: bool, readers: &ClockSet)
     }
 }
 
-/// Enters what came of the visit of definition number `i`, that of a clock.
+/// Makes a number a member of a set, or takes it out. It seldom is not yet as it is to be.
 #[inline(always)]
-fn enter(passage: &mut Passage, sets: &[ClockSet], i: u32, clock: u32, visited: Visited)
+fn change(set: &mut ClockSet, number: u32, member: bool)
+    requires { number < MAX_CLOCKS }
+    ensures { (x : ℕ) → ticks_in x set.new ≡ ticks_in x (put_clock number member set.old) }
+{
+    if set.has(number) != member {
+        set.put(number, member);
+    }
+}
+
+/// Enters what came of the visit of definition number `i`, that of a clock. `step` has the ticks that are known.
+#[inline(always)]
+fn enter(
+    passage: &mut Passage,
+    step: &mut ClockSet,
+    sets: &[ClockSet],
+    i: u32,
+    clock: u32,
+    visited: Visited,
+)
     requires clock { clock < MAX_CLOCKS }
     requires number { i < MAX_CLOCKS }
     requires inside { clock < length sets.now }
-    ensures { IsEntered sets.now i clock visited passage.old passage.new }
+    ensures { IsEntered sets.now i clock visited step.old step.new passage.old passage.new }
 {
     let news = has_news(visited, passage.gone.has(clock));
     passage.waiting.remove(i);
     wait(&mut passage.waiting, news, &sets[clock as usize]);
-    put(&mut passage.step, clock, visited.tick);
-    passage.gone.put(clock, visited.dead);
-    passage.unsettled.put(i, !visited.settled);
+    put(step, clock, visited.tick);
+    change(&mut passage.gone, clock, visited.dead);
+    change(&mut passage.unsettled, i, !visited.settled);
 }
 
 /// The first member of a set.
@@ -92,13 +110,14 @@ fn first(set: &ClockSet) -> Option<u32>
     set.members().next()
 }
 
-/// Goes on by the full step that declared ticks give: visits the definitions that wait, in ascending order, with those that begin to
+/// Goes on by the full step that the declared ticks in `step` give, which has all ticks behind it: visits the definitions that wait, in ascending order, with those that begin to
 /// wait meanwhile.
 pub fn follow(
     lay: &Lay<'_>,
     readers: &Readers,
     places: &[u32],
     row: &mut [u64],
+    step: &mut ClockSet,
     passage: &mut Passage,
 )
     requires accepted { IsAccepted lay.now.system.now }
@@ -108,26 +127,19 @@ pub fn follow(
     requires readers { AreReaders lay.now.system.now readers.now.followed readers.now.sets.items }
     requires kept { AreKept lay.now.system.now readers.now.followed
         (trees_from lay.now 0 row.old) passage.old.gone passage.old.unsettled }
-    requires low { are_below lay.now.system.now.declared passage.old.step ≡ true }
-    requires ascends { is_ascending passage.old.step ≡ true }
+    requires low { are_below lay.now.system.now.declared step.old ≡ true }
+    requires ascends { is_ascending step.old ≡ true }
     requires waiting { (p : ℕ) → ticks_in p passage.old.waiting ≡
-        is_waiting readers.now.sets.items passage.old.unsettled passage.old.step p }
+        is_waiting readers.now.sets.items passage.old.unsettled step.old p }
     ensures passed { IsPassed lay.now.system.now readers.now.followed (trees_from lay.now 0 row.old)
-        passage.old.step (trees_from lay.now 0 row.new) passage.new.step passage.new.gone }
+        step.old (trees_from lay.now 0 row.new) step.new passage.new.gone }
     ensures kept { AreKept lay.now.system.now readers.now.followed
         (trees_from lay.now 0 row.new) passage.new.gone passage.new.unsettled }
-    ensures ascends { is_ascending passage.new.step ≡ true }
+    ensures ascends { is_ascending step.new ≡ true }
 {
     'visits: while let Some(i) = first(&passage.waiting) {
         let clock = lay.system.scope().declared + i;
-        let visited = visit(
-            lay,
-            i,
-            places[i as usize],
-            row,
-            &passage.step,
-            &passage.gone,
-        );
-        enter(passage, readers.sets.as_slice(), i, clock, visited);
+        let visited = visit(lay, i, places[i as usize], row, step, &passage.gone);
+        enter(passage, step, readers.sets.as_slice(), i, clock, visited);
     }
 }

@@ -31,7 +31,7 @@ pub struct Part<'s> {
     places: Vec<u32>,
     readers: Readers,
     row: Vec<u64>,
-    // the last step and what has come of it
+    // what has come of the last step
     passage: Passage,
 }
 
@@ -74,7 +74,6 @@ impl<'s> Part<'s> {
         row_opened(&lay, row.as_mut_slice());
         let readers = Readers::open(alloc, system, reached(system, clocks))?;
         let passage = Passage {
-            step: ClockSet::empty(),
             gone: ClockSet::empty(),
             waiting: ClockSet::empty(),
             unsettled: readers.numbers(system),
@@ -113,17 +112,16 @@ impl<'s> Part<'s> {
             earlier: self.calls.as_slice(),
         };
         let passage = &mut self.passage;
-        passage.step.copy_from(step);
         self.readers
-            .hear(&passage.step, &passage.unsettled, &mut passage.waiting);
+            .hear(step, &passage.unsettled, &mut passage.waiting);
         let places = self.places.as_slice();
         follow(
             &lay,
             &self.readers,
             places,
             self.row.as_mut_slice(),
+            step,
             passage,
         );
-        step.copy_from(&self.passage.step);
     }
 }

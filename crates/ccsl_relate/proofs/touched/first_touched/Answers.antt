@@ -13,17 +13,10 @@ use Rattle.ccsl_base.proofs.Cases.{none-of}
 pub first_at-place-requires-clause-touched : goal.first_at-place-requires-clause-touched
 first_at-place-requires-clause-touched c =
     let i = c.loop-i.i in
-    let ticks = c.args.ticks.now in
-    let step = c.args.step.now in
-    let clocks = c.insert_all-2.new.self in
-    let group = c.index-groups-i.result in
-    touches-told ticks step clocks (i * MAX_CLOCKS) group c.gather.new.touched c.loop-i.kept
-    (λ x. c.insert_all-2.ensures x ∙ ap (λ b. b || ticks_in x step)
-    (c.insert_all.ensures x ∙ ap (λ ys. ticks_in x ys || ticks_in x ticks) c.empty-clocks.ensures))
-    (tell-of c.groups-groups.result.now group (map clocks_of c.args.kept.now) (map clocks_of c.loop-i.kept) i
+    c.touch.ensures (i * MAX_CLOCKS) c.loop-i.kept
+    (tell-of c.groups-groups.result.now c.index-groups-i.result (map clocks_of c.args.kept.now) (map clocks_of c.loop-i.kept) i
     (subst (λ gs. AreReaders gs (map clocks_of c.args.kept.now)) (sym c.groups-groups.ensures) c.requires.readers)
     c.loop-i-test.true c.index-groups-i.is c.loop-i.invariant.clocks)
-    (λ p. c.gather.ensures p ∙ ap (λ ys. ticks_in p ys || told_at group clocks p) c.empty-touched.ensures)
 
 pub returns-then-is_some-clause-fails : goal.returns-then-is_some-clause-fails
 returns-then-is_some-clause-fails c =

@@ -10,8 +10,8 @@ returns c = record {
   news = c.has_news-news.result;
   none = λ h. let n = c.has_news-news.ensures h in (n.0, n.1 ∙ c.has.ensures.member);
   step = c.put.ensures;
-  gone = c.put-2.ensures;
-  unsettled = c.put-3.ensures;
+  gone = c.change.ensures;
+  unsettled = c.change-2.ensures;
   waiting = λ p. c.wait.ensures p
       ∙ ap (λ ys. ticks_in p c.remove.new.self || (c.has_news-news.result && ticks_in p ys))
       (c.index-sets-clock.is ∙ get_or_default c.args.sets.now c.args.clock c.index-sets-clock.result [] c.requires.inside)

@@ -18,11 +18,11 @@ visits-init c =
     let F = c.args.readers.now.followed in
     let sets = c.args.readers.now.sets.items in
     let p = c.args.passage.now in
-    begins K c.requires.accepted F sets c.requires.readers p.step p.gone (trees_from c.args.lay.now 0 c.args.row.now) c.requires.kept.within p.unsettled
+    begins K c.requires.accepted F sets c.requires.readers c.args.step.now p.gone (trees_from c.args.lay.now 0 c.args.row.now) c.requires.kept.within p.unsettled
     p.waiting (trees_len K c.args.lay.now.earlier.now K.definitions c.args.row.now) c.requires.low c.requires.ascends c.requires.kept
-    (unsettled_wait sets p.unsettled p.step p.waiting c.requires.waiting)
-    (readers_wait sets p.unsettled p.step p.waiting c.requires.waiting)
-    (followed_wait sets p.unsettled p.step p.waiting c.requires.waiting (IsFollowed K F) c.requires.kept.few
+    (unsettled_wait sets p.unsettled c.args.step.now p.waiting c.requires.waiting)
+    (readers_wait sets p.unsettled c.args.step.now p.waiting c.requires.waiting)
+    (followed_wait sets p.unsettled c.args.step.now p.waiting c.requires.waiting (IsFollowed K F) c.requires.kept.few
     (λ q y h. (reader K c.requires.accepted F sets c.requires.readers q y h).0))
 
 pub bounds-places-i : goal.bounds-places-i
@@ -58,11 +58,11 @@ visits-preserved c =
     let K = c.args.lay.now.system.now in
     let i = c.in-Some.i in
     let clock : c.scope.result.declared + i ≡ K.declared + i = ap (λ (s : Scope). s.declared + i) c.scope.ensures.scope in
-    let v = visit_is c.args.lay.now i _ c.args.readers.now.sets.items c.visits.row c.visit-visited.new.row c.visit-visited.result c.visits.passage
+    let v = visit_is c.args.lay.now i _ c.args.readers.now.sets.items c.visits.row c.visit-visited.new.row c.visit-visited.result c.visits.step c.enter.new.step c.visits.passage
     c.enter.new.passage clock c.visit-visited.ensures
-    (subst (λ sets. IsEntered sets i (c.scope.result.declared + i) c.visit-visited.result c.visits.passage c.enter.new.passage) c.as_slice.ensures.value
+    (subst (λ sets. IsEntered sets i (c.scope.result.declared + i) c.visit-visited.result c.visits.step c.enter.new.step c.visits.passage c.enter.new.passage) c.as_slice.ensures.value
     c.enter.ensures) in
-    one_more K c.requires.accepted c.args.readers.now.followed c.args.readers.now.sets.items c.requires.readers c.args.passage.now.step c.args.passage.now.gone
+    one_more K c.requires.accepted c.args.readers.now.followed c.args.readers.now.sets.items c.requires.readers c.args.step.now c.args.passage.now.gone
     (trees_from c.args.lay.now 0 c.args.row.now) c.requires.kept.within
     _ _ _ _ _ _ _ _ _ _ i _ _ _ _ c.visits.invariant v c.in-Some.ensures.member c.in-Some.ensures.least
 
@@ -72,15 +72,15 @@ visits-smaller c =
     let n = length K.definitions in
     let i = c.in-Some.i in
     let clock : c.scope.result.declared + i ≡ K.declared + i = ap (λ (s : Scope). s.declared + i) c.scope.ensures.scope in
-    let v = visit_is c.args.lay.now i _ c.args.readers.now.sets.items c.visits.row c.visit-visited.new.row c.visit-visited.result c.visits.passage
+    let v = visit_is c.args.lay.now i _ c.args.readers.now.sets.items c.visits.row c.visit-visited.new.row c.visit-visited.result c.visits.step c.enter.new.step c.visits.passage
     c.enter.new.passage clock c.visit-visited.ensures
-    (subst (λ sets. IsEntered sets i (c.scope.result.declared + i) c.visit-visited.result c.visits.passage c.enter.new.passage) c.as_slice.ensures.value
+    (subst (λ sets. IsEntered sets i (c.scope.result.declared + i) c.visit-visited.result c.visits.step c.enter.new.step c.visits.passage c.enter.new.passage) c.as_slice.ensures.value
     c.enter.ensures) in
     let within = (c.visits.invariant.followed i c.in-Some.ensures.member).0 in
     let before = lowest_below n c.visits.passage.waiting i c.in-Some.ensures.member in
     let most = lowest_most n c.enter.new.passage.waiting in
     let after = lowest_above n i c.enter.new.passage.waiting within
-    (later K c.requires.accepted c.args.readers.now.followed c.args.readers.now.sets.items c.requires.readers c.args.passage.now.step c.args.passage.now.gone
+    (later K c.requires.accepted c.args.readers.now.followed c.args.readers.now.sets.items c.requires.readers c.args.step.now c.args.passage.now.gone
     (trees_from c.args.lay.now 0 c.args.row.now) c.requires.kept.within
     _ _ _ _ _ _ _ _ _ _ i _ _ _ _ c.visits.invariant v c.in-Some.ensures.member c.in-Some.ensures.least) in
     omega (arith, before, most, after)
@@ -92,14 +92,14 @@ pub returns-clause-kept : goal.returns-clause-kept
 returns-clause-kept c =
     let p = c.args.passage.now in
     let q = c.visits.passage in
-    ends c.args.lay.now.system.now c.requires.accepted c.args.readers.now.followed c.args.readers.now.sets.items c.requires.readers p.step p.gone
+    ends c.args.lay.now.system.now c.requires.accepted c.args.readers.now.followed c.args.readers.now.sets.items c.requires.readers c.args.step.now p.gone
     (trees_from c.args.lay.now 0 c.args.row.now) c.requires.kept.within
-    (trees_from c.args.lay.now 0 c.visits.row) q.step q.gone q.waiting q.unsettled c.visits.invariant c.in_default.ensures.none
+    (trees_from c.args.lay.now 0 c.visits.row) c.visits.step q.gone q.waiting q.unsettled c.visits.invariant c.in_default.ensures.none
 
 pub returns-clause-passed : goal.returns-clause-passed
 returns-clause-passed c =
     let p = c.args.passage.now in
     let q = c.visits.passage in
-    passes c.args.lay.now.system.now c.requires.accepted c.args.readers.now.followed c.args.readers.now.sets.items c.requires.readers p.step p.gone
+    passes c.args.lay.now.system.now c.requires.accepted c.args.readers.now.followed c.args.readers.now.sets.items c.requires.readers c.args.step.now p.gone
     (trees_from c.args.lay.now 0 c.args.row.now) c.requires.kept.within
-    (trees_from c.args.lay.now 0 c.visits.row) q.step q.gone q.waiting q.unsettled c.visits.invariant c.in_default.ensures.none
+    (trees_from c.args.lay.now 0 c.visits.row) c.visits.step q.gone q.waiting q.unsettled c.visits.invariant c.in_default.ensures.none

@@ -6,8 +6,8 @@ use Rattle.ccsl_state.proofs.Entering.{lowest}
 use Rattle.ccsl_state.proofs.follow.follow.Given as goal
 
 abbrev pub invariant-visits : goal.invariant-visits
-invariant-visits l = IsGoing l.lay.system.now l.readers.followed l.initial.passage.step l.initial.passage.gone (trees_from l.lay 0 l.initial.row)
-    (trees_from l.lay 0 l.row) l.passage.step l.passage.gone l.passage.waiting l.passage.unsettled
+invariant-visits l = IsGoing l.lay.system.now l.readers.followed l.initial.step l.initial.passage.gone (trees_from l.lay 0 l.initial.row)
+    (trees_from l.lay 0 l.row) l.step l.passage.gone l.passage.waiting l.passage.unsettled
 
 abbrev pub decreases-visits : goal.decreases-visits
 decreases-visits l = length l.lay.system.now.definitions - lowest (length l.lay.system.now.definitions) l.passage.waiting

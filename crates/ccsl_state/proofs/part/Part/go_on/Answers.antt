@@ -20,8 +20,7 @@ follow-requires-clause-kept c =
 
 pub follow-requires-clause-low : goal.follow-requires-clause-low
 follow-requires-clause-low c =
-    ap (are_below c.self.inside.system.now.declared) c.copy_from.ensures
-    ∙ subst (λ (p : HeldPart). are_below p.system.declared c.args.step.now ≡ true) (sym c.self.view_is) c.requires
+    subst (λ (p : HeldPart). are_below p.system.declared c.args.step.now ≡ true) (sym c.self.view_is) c.requires
 
 pub returns-clause-step : goal.returns-clause-step
 returns-clause-step c = λ T stands.
@@ -31,12 +30,12 @@ returns-clause-step c = λ T stands.
     let new = c.follow.new.passage in
     let trees = trees_in h.system c.as_slice.result.now h.system.definitions c.follow.new.row in
     let low : are_below h.system.declared s ≡ true = subst (λ (p : HeldPart). are_below p.system.declared s ≡ true) (sym c.self.view_is) c.requires in
-    let ascends : is_ascending s ≡ true = ap is_ascending (sym c.copy_from.ensures) ∙ c.hear.ensures.ascends in
-    let passed = passed_by h s c.copy_from.new.self c.as_slice.result.now c.as_mut_slice.result.now trees new.step new.gone
-    (c.as_slice.ensures.value ∙ c.self.invariant.calls) c.as_mut_slice.ensures.value c.copy_from.ensures c.follow.ensures.passed in
-    subst (λ (p : HeldPart). PartStandsFor p T → c.copy_from-2.new.self ≡ part_of p (full_step p.system T s)) c.self.view_is
-    (λ st. c.copy_from-2.ensures ∙ part_step h T s c.self.invariant.accepted c.self.invariant.closed low ascends old.gone old.unsettled c.self.invariant.kept
-    trees new.step new.gone new.unsettled passed c.follow.ensures.kept st c.follow.ensures.ascends) stands
+    let ascends : is_ascending s ≡ true = c.hear.ensures.ascends in
+    let passed = passed_by h s s c.as_slice.result.now c.as_mut_slice.result.now trees c.follow.new.step new.gone
+    (c.as_slice.ensures.value ∙ c.self.invariant.calls) c.as_mut_slice.ensures.value refl c.follow.ensures.passed in
+    subst (λ (p : HeldPart). PartStandsFor p T → c.follow.new.step ≡ part_of p (full_step p.system T s)) c.self.view_is
+    (λ st. part_step h T s c.self.invariant.accepted c.self.invariant.closed low ascends old.gone old.unsettled c.self.invariant.kept
+    trees c.follow.new.step new.gone new.unsettled passed c.follow.ensures.kept st c.follow.ensures.ascends) stands
 
 pub returns-clause-stands : goal.returns-clause-stands
 returns-clause-stands c = λ T stands short.
@@ -47,10 +46,10 @@ returns-clause-stands c = λ T stands short.
     let row' = c.follow.new.row in
     let trees = trees_in h.system c.as_slice.result.now h.system.definitions row' in
     let low : are_below h.system.declared s ≡ true = subst (λ (p : HeldPart). are_below p.system.declared s ≡ true) (sym c.self.view_is) c.requires in
-    let ascends : is_ascending s ≡ true = ap is_ascending (sym c.copy_from.ensures) ∙ c.hear.ensures.ascends in
+    let ascends : is_ascending s ≡ true = c.hear.ensures.ascends in
     let calls_are = c.as_slice.ensures.value ∙ c.self.invariant.calls in
-    let passed = passed_by h s c.copy_from.new.self c.as_slice.result.now c.as_mut_slice.result.now trees new.step new.gone calls_are
-    c.as_mut_slice.ensures.value c.copy_from.ensures c.follow.ensures.passed in
+    let passed = passed_by h s s c.as_slice.result.now c.as_mut_slice.result.now trees c.follow.new.step new.gone calls_are
+    c.as_mut_slice.ensures.value refl c.follow.ensures.passed in
     let written = with_items c.self.inside.row row' in
     let next : HeldPart = record { system = h.system; followed = h.followed; row = written.items } in
     let is : written.items ≡ row' =
@@ -58,5 +57,5 @@ returns-clause-stands c = λ T stands short.
     let same : (i : ℕ) → followed_tree next i ≡ slice_get trees i =
     λ i. ap₂ (λ C row. slice_get (trees_in h.system C h.system.definitions row) i) (sym calls_are) is in
     subst (λ (p : HeldPart). PartStandsFor p T → PartStandsFor next (T ++ full_step p.system T s ∷ [])) c.self.view_is
-    (λ st. part_stands h T s c.self.invariant.accepted c.self.invariant.closed low ascends old.gone old.unsettled c.self.invariant.kept trees new.step new.gone
+    (λ st. part_stands h T s c.self.invariant.accepted c.self.invariant.closed low ascends old.gone old.unsettled c.self.invariant.kept trees c.follow.new.step new.gone
     new.unsettled passed c.follow.ensures.kept st next short refl refl same) stands

@@ -45,6 +45,6 @@ invariant_of-result c =
       readers = subst (λ F. AreReaders K F r.sets.items) (sym c.in_ok-readers.ensures.followed) c.in_ok-readers.ensures.readers;
       row = search rules;
       closed = subst (IsClosed K) (sym c.in_ok-readers.ensures.followed) c.reached.ensures.closed;
-      kept = subst (λ gone. AreKept K r.followed trees gone c.numbers.result) (sym c.empty-2.ensures)
+      kept = subst (λ gone. AreKept K r.followed trees gone c.numbers.result) (sym c.empty.ensures)
           (kept_opened K c.in_ok-calls.ensures.accepted r.followed trees c.numbers.result opened c.numbers.ensures);
     }
