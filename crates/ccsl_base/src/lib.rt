@@ -32,7 +32,7 @@ pub use keys::HashKeys;
 pub use limits::{
     BLOCK_ROWS, MAX_CALL_LEVELS, MAX_CELLS, MAX_CLOCKS, MAX_CODE_BYTES, MAX_CONSTRAINTS, MAX_DELAY,
     MAX_DIGITS, MAX_FILE_BYTES, MAX_FILE_NAME, MAX_LETTERS, MAX_LEVELS, MAX_LINE_BYTES,
-    MAX_NAME_BYTES, MAX_NUMBER, MAX_PARAMS, MAX_SCOPES, MAX_SPEC_BYTES, MAX_STEPS, MAX_TOKEN_BYTES,
+    MAX_NAME_BYTES, MAX_NUMBER, MAX_PARAMS, MAX_SCOPES, MAX_SESSION_STEPS, MAX_SPEC_BYTES, MAX_STEPS, MAX_TOKEN_BYTES,
     MAX_TRIAL_CLOCKS, MAX_TRIAL_STEPS, MAX_VARS, MAX_WORKERS, MIN_TRIAL_CLOCKS, PIECE,
 };
 pub use members::Members;
@@ -43,4 +43,4 @@ pub use numeral::decimal;
 pub use reserved::Reserved;
 pub use rows::{Block, Row};
 pub use seq::Seq;
-pub use text::Text;
+pub use text::{Text, is_text};

@@ -66,6 +66,9 @@ pub const MIN_TRIAL_CLOCKS: u64 = 2;
 /// The most clocks of a trial.
 pub const MAX_TRIAL_CLOCKS: u64 = 512;
 
+/// The most steps of a session.
+pub const MAX_SESSION_STEPS: u64 = 100_000;
+
 /// The most bytes of a line of a session, its line feed not counted, a carriage return before it counted.
 pub const MAX_LINE_BYTES: usize = 65_536;
 

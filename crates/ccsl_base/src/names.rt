@@ -26,7 +26,8 @@ impl<S: BuildHasher> Model for Names<S> {
 
     ghost view = { λ n. map (λ t. t.items) n.texts.keys };
 
-    ghost invariant = { λ n. (length n.texts.keys < 2 ^ 32) × IsTrue (are_distinct (map (λ t. t.items) n.texts.keys)) };
+    ghost invariant = { λ n. (length n.texts.keys < 2 ^ 32)
+        × IsTrue (are_distinct (map (λ t. t.items) n.texts.keys)) };
 }
 
 impl Names {

@@ -1,6 +1,6 @@
 //! The declarations of a trace's header, as far as they bind clocks.
 
-ghost use Rattle.std.specs.Prelude.{◌≡◌, ◌<◌, ◌≤◌, ℕ, List, [], ◌∷◌, ◌++◌, IfOk, IfErr, length, Ok, OnOk, Some, None, slice_get, slice_set, slice_index_or, bytes_eq};
+ghost use Rattle.std.specs.Prelude.{◌≡◌, ◌<◌, ◌≤◌, ℕ, List, [], ◌∷◌, ◌++◌, IfOk, IfErr, length, Ok, OnOk, Some, None, slice_get, slice_set, slice_index_or};
 ghost use Rattle.ccsl_vcd.specs.Binding.{Declaration, Wanted, bind};
 ghost use Rattle.ccsl_bind.specs.Codes.{codes_of, put_code, number_of};
 ghost use Rattle.ccsl_bind.specs.Collected.{wanted_of};
@@ -11,7 +11,7 @@ ghost use Rattle.ccsl_bind.specs.Slots.{clocks_from};
 use crate::binding::Binding;
 use crate::candidate::{Candidates, noted};
 use crate::fault::BindFault;
-use ccsl_base::{ClockSet, HashKeys, MAX_CLOCKS, Memory, Names};
+use ccsl_base::{ClockSet, HashKeys, MAX_CLOCKS, Memory, Names, is_text};
 use ccsl_kernel::System;
 use std::alloc::Global;
 use std::marker::Model;
@@ -31,12 +31,6 @@ impl Model for Binder {
     ghost Value = { Collected };
 
     ghost view = { λ b. record { wanted = record { names = b.names; declared = b.declared }; codes = b.codes; found = b.found.items } };
-}
-
-fn is_text(text: &[u8], word: &[u8]) -> bool
-    ensures { result ≡ bytes_eq text.now word.now }
-{
-    text == word
 }
 
 // An event of any size, or a net of one bit.

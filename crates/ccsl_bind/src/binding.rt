@@ -30,7 +30,8 @@ impl Model for Binding {
 
     ghost view = { λ b. record { codes = b.codes; bound = bound_from 0 b.codes b.slots.items } };
 
-    ghost invariant = { λ b. (b.bound ≡ map (λ c. c.clock) (bound_from 0 b.codes b.slots.items)) × IsTrue (are_numbered b.codes b.slots.items) };
+    ghost invariant = { λ b. (b.bound ≡ map (λ c. c.clock) (bound_from 0 b.codes b.slots.items))
+        × IsTrue (are_numbered b.codes b.slots.items) };
 }
 
 // What a clock is bound to, if it is one of them and is bound.

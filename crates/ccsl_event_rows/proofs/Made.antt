@@ -18,7 +18,8 @@ use Rattle.ccsl_events.specs.Opening.{opening, ended}
 use Rattle.ccsl_events.specs.Standing.{are_skipped, counted}
 use Rattle.ccsl_events.specs.Written.{header_text}
 use Rattle.ccsl_events_top.specs.Made.{reading_of, IsMade, answered, no_events, no_header, no_path, rows}
-use Rattle.ccsl_events_top.specs.Reading.{LIMITS, opened, body_ends, story_behind, body_said, rows_at, rows_of}
+use Rattle.ccsl_vcd.specs.declared.limits.TheConstants.{LIMITS}
+use Rattle.ccsl_events_top.specs.Reading.{opened, body_ends, story_behind, body_said, rows_at, rows_of}
 use Rattle.ccsl_events_top.proofs.WholeDump.{header-is-read, body-is-read}
 use Rattle.ccsl_event_rows.specs.ReadsBack.{IsPlanned, MayBeRead, ReadsAs}
 use Rattle.ccsl_event_rows.specs.Times.{heard_from, times}

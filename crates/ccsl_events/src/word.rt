@@ -1,11 +1,11 @@
 //! What a token says where a change may stand.
 
-ghost use Rattle.std.specs.Prelude.{◌≡◌, ◌∷◌, bytes_eq, true};
+ghost use Rattle.std.specs.Prelude.{◌≡◌, ◌∷◌, true};
 ghost use Rattle.std.specs.List.{list_all};
 ghost use Rattle.ccsl_vcd.specs.Words.{is_scalar, command_of, change_of, word_of, time_of, number};
 ghost use Rattle.ccsl_events.specs.Meant.{meant};
 
-use ccsl_base::decimal;
+use ccsl_base::{decimal, is_text};
 
 /// A time, a change, a command, or a fault. Letters and codes are those of the token.
 #[derive(Clone, Copy)]
@@ -46,12 +46,6 @@ pub(crate) fn are_letters(text: &[u8]) -> bool
     ensures { result ≡ list_all is_scalar text.now }
 {
     are_bits(text) || text.iter().all(|b| is_letter(*b))
-}
-
-pub(crate) fn is_text(text: &[u8], word: &[u8]) -> bool
-    ensures { result ≡ bytes_eq text.now word.now }
-{
-    text == word
 }
 
 fn command_of(text: &[u8]) -> Word

@@ -10,7 +10,7 @@ use Rattle.ccsl_events.specs.declared.reader.Reader.{Reader}
 use Rattle.ccsl_events.specs.Fed.{IsInHeader, IsBehindHeader, MayBegin}
 use Rattle.ccsl_events_top.specs.declared.sink.Sink.{Sink}
 use Rattle.ccsl_events_top.specs.declared.pass.Pass.{Pass}
-use Rattle.ccsl_events_top.specs.Reading.{LIMITS}
+use Rattle.ccsl_vcd.specs.declared.limits.TheConstants.{LIMITS}
 use Rattle.ccsl_events_top.specs.Passing.{InHeader, HasHeader, GoesOn}
 use Rattle.ccsl_events_top.proofs.Passing.{takes-header}
 

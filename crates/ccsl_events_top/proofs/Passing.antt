@@ -25,7 +25,8 @@ use Rattle.ccsl_events.proofs.Opening.{broken-more, ended-more, inside-told}
 use Rattle.ccsl_events_top.specs.declared.sink.Sink.{Sink}
 use Rattle.ccsl_events_top.specs.declared.pass.Pass.{Pass}
 use Rattle.ccsl_events_top.specs.declared.stop.Stop.TheVariants as stops
-use Rattle.ccsl_events_top.specs.Reading.{LIMITS, is_too_long, read_of, end_fault, opened, header_fault}
+use Rattle.ccsl_vcd.specs.declared.limits.TheConstants.{LIMITS}
+use Rattle.ccsl_events_top.specs.Reading.{is_too_long, read_of, end_fault, opened, header_fault}
 use Rattle.ccsl_events_top.specs.Passing.{AreGiven, dump_of, IsWhole, Passes, Leaves, Breaks, HasAll, IsCut, InHeader, BehindHeader, HasHeader, IsUnopened}
 use Rattle.ccsl_events_top.specs.Passing.{GoesOn, HeadsOn, left_for}
 use Rattle.ccsl_events_top.proofs.Streaming.{streams-none, streams-read, streams-unread}

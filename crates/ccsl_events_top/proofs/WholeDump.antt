@@ -12,7 +12,8 @@ use Rattle.ccsl_vcd_lex.proofs.Cuts.{all-kept, ends-before, fresh-behind, from-b
 use Rattle.ccsl_events.specs.Dump.{Plan, Place, Story, begin, refused, ends_at, ended, story}
 use Rattle.ccsl_events.specs.Run.{settled_from, story_from}
 use Rattle.ccsl_events.specs.Opening.{opening}
-use Rattle.ccsl_events_top.specs.Reading.{LIMITS, body_ends, story_behind}
+use Rattle.ccsl_vcd.specs.declared.limits.TheConstants.{LIMITS}
+use Rattle.ccsl_events_top.specs.Reading.{body_ends, story_behind}
 use Rattle.ccsl_events_top.proofs.Passing.{read-short}
 use Rattle.ccsl_events_top.specs.WholeDump.{HeaderIsRead, BodyIsRead}
 use Rattle.std.proofs.Common.{Option, Some, None}

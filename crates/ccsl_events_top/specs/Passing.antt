@@ -17,7 +17,8 @@ use Rattle.ccsl_events_top.specs.declared.pass.Pass.{Pass}
 use Rattle.ccsl_events_top.specs.declared.stop.Stop.{Stop}
 use Rattle.ccsl_events_top.specs.declared.stop.Stop.TheVariants as stops
 use Rattle.ccsl_events_top.specs.Streams.{Streams, RoseAt, slot_of}
-use Rattle.ccsl_events_top.specs.Reading.{LIMITS, opened, header_fault, end_fault, story_behind, body_ends, body_said, rows_of}
+use Rattle.ccsl_vcd.specs.declared.limits.TheConstants.{LIMITS}
+use Rattle.ccsl_events_top.specs.Reading.{opened, header_fault, end_fault, story_behind, body_ends, body_said, rows_of}
 
 -- the bytes that the reader was given, of those that were read
 abbrev pub AreGiven : Bool → List ℕ → List ℕ → List ℕ → Type 0

@@ -1,16 +1,12 @@
 -- What is read of a dump within the limits, and what its header and its body say of it.
 use Rattle.std.specs.Prelude.{ℕ, List, [], ◌∷◌, ◌++◌, length, take, drop, Bool, Option, Some, None, nat_lt, if◌then◌else◌}
-use Rattle.ccsl_base.specs.declared.limits.TheConstants.{MAX_FILE_BYTES, MAX_VARS, MAX_SCOPES}
+use Rattle.ccsl_base.specs.declared.limits.TheConstants.{MAX_FILE_BYTES}
 use Rattle.ccsl_vcd.specs.declared.fault.VcdFault.{VcdFault}
 use Rattle.ccsl_vcd.specs.declared.fault.VcdFault.TheVariants as faults
-use Rattle.ccsl_vcd.specs.declared.limits.Limits.{Limits}
+use Rattle.ccsl_vcd.specs.declared.limits.TheConstants.{LIMITS}
 use Rattle.ccsl_events.specs.Dump.{Plan, Place, Said, goes, refused, Story, begin, ends_at}
 use Rattle.ccsl_events.specs.Run.{settled_from, story_from}
 use Rattle.ccsl_events.specs.Opening.{Opening, open_at, ended, broken, opening}
-
--- the limits on a dump
-abbrev pub LIMITS : Limits
-LIMITS = record { bytes = MAX_FILE_BYTES; vars = MAX_VARS; scopes = MAX_SCOPES }
 
 abbrev pub is_too_long : List ℕ → Bool
 is_too_long dump = nat_lt MAX_FILE_BYTES (length dump)

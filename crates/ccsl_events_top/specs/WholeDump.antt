@@ -4,7 +4,8 @@ use Rattle.ccsl_base.specs.declared.limits.TheConstants.{MAX_FILE_BYTES}
 use Rattle.ccsl_vcd_lex.specs.Tokens.{heard}
 use Rattle.ccsl_events.specs.Dump.{Plan, body_says}
 use Rattle.ccsl_events.specs.Opening.{opening}
-use Rattle.ccsl_events_top.specs.Reading.{LIMITS, opened, body_said}
+use Rattle.ccsl_vcd.specs.declared.limits.TheConstants.{LIMITS}
+use Rattle.ccsl_events_top.specs.Reading.{opened, body_said}
 
 abbrev pub HeaderIsRead : Type 0
 HeaderIsRead = (dump : List ℕ) → length dump ≤ MAX_FILE_BYTES → opened dump ≡ opening LIMITS (heard dump)

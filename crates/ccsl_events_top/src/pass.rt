@@ -12,19 +12,12 @@ ghost use Rattle.ccsl_events_top.specs.Writing.{MayWrite};
 
 use crate::sink::{Sink, write_block};
 use crate::stop::Stop;
-use ccsl_base::{HashKeys, MAX_FILE_BYTES, MAX_SCOPES, MAX_VARS, Memory};
+use ccsl_base::{HashKeys, MAX_FILE_BYTES, Memory};
 use ccsl_edge::{Pending, Slot, World};
 use ccsl_events::{Body, FULL, Reader};
 use ccsl_scopes::Header;
-use ccsl_vcd::{Limits, VcdFault};
+use ccsl_vcd::{LIMITS, VcdFault};
 use std::alloc::Global;
-
-/// The limits on a dump.
-const LIMITS: Limits = Limits {
-    bytes: MAX_FILE_BYTES,
-    vars: MAX_VARS,
-    scopes: MAX_SCOPES,
-};
 
 /// The room of a block: behind a full one there is some for a row.
 const ROOM: usize = FULL + 8_192;

@@ -78,7 +78,8 @@ struct Pair<'a> {
 
 fn split(word: &CommandWord) -> Option<Pair<'_>>
     ensures { MatchOption result (is_pair word.now ≡ false) (λ pair.
-        (is_pair word.now ≡ true) × (pair.key.now ≡ key_part word.now) × (pair.value.now ≡ value_part word.now)) }
+        (is_pair word.now ≡ true) × (pair.key.now ≡ key_part word.now)
+        × (pair.value.now ≡ value_part word.now)) }
 {
     match word.as_str().split_once('=') {
         Some((key, value)) => Some(Pair { key, value }),

@@ -6,19 +6,12 @@ ghost use Rattle.ccsl_follow.specs.Fed.{IsFed};
 ghost use Rattle.ccsl_follow.specs.OnlyReads.{OnlyReads};
 
 use crate::stop::{Stop, stop_of_trace};
-use ccsl_base::{HashKeys, MAX_FILE_BYTES, MAX_SCOPES, MAX_VARS, Memory};
+use ccsl_base::{HashKeys, Memory};
 use ccsl_edge::World;
 use ccsl_kernel::System;
 use ccsl_trace::{Feed, Next};
-use ccsl_vcd::Limits;
+use ccsl_vcd::LIMITS;
 use std::alloc::Global;
-
-/// The limits on a trace.
-pub(crate) const LIMITS: Limits = Limits {
-    bytes: MAX_FILE_BYTES,
-    vars: MAX_VARS,
-    scopes: MAX_SCOPES,
-};
 
 /// A feed before the first byte of the trace.
 pub fn open_feed<W: World>(

@@ -169,7 +169,8 @@ impl<'s> Follow<'s> {
               ticks = self.new.steps.step;
             }))) }
         ensures goes { OnOk result (is_left_at self.old.until self.old.made ≡ false →
-            (self.new.made ≡ min (self.old.made + 1) (2 ^ 64 - 1)) × (self.new.broken ≡ self.old.broken)) }
+            (self.new.made ≡ min (self.old.made + 1) (2 ^ 64 - 1))
+            × (self.new.broken ≡ self.old.broken)) }
         ensures counts { OnOk result (is_left_at self.old.until self.old.made ≡ false →
             (x : ℕ) → x < length self.old.counts →
             slice_index_or self.new.counts x 0 ≡ counted (ticks_in x self.new.steps.step)

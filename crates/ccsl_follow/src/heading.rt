@@ -5,13 +5,13 @@ ghost use Rattle.ccsl_edge.specs.declared.slot.Slot.TheVariants.{Trace};
 ghost use Rattle.ccsl_edge.specs.Counts.{SameCounts};
 ghost use Rattle.ccsl_follow.specs.OnlyReads.{OnlyReads};
 
-use crate::feeding::LIMITS;
 use crate::reading::{open_file, read_on};
 use crate::stop::{Stop, stop_of_header};
 use ccsl_base::{HashKeys, MAX_TOKEN_BYTES, PIECE};
 use ccsl_edge::{Slot, World};
 use ccsl_page::Scale;
 use ccsl_scopes::{Header, HeaderReader};
+use ccsl_vcd::LIMITS;
 use ccsl_vcd_lex::is_space;
 use std::alloc::Global;
 

@@ -70,7 +70,8 @@ fn states_of<'s>(
 ) -> Result<Option<Part<'s>>, Memory>
     ensures follows { IfOk result (λ part. Follows system.now clocks.now part) }
     ensures has { IfOk result (λ part. (x : ℕ) →
-        ticks_in x clocks.now ≡ true → ticks_in x (held_part system.now clocks.now part).followed ≡ true) }
+        ticks_in x clocks.now ≡ true →
+        ticks_in x (held_part system.now clocks.now part).followed ≡ true) }
     ensures stands { IfOk result (λ part. PartStandsFor (held_part system.now clocks.now part) []) }
 {
     if are_declared(system, clocks) {

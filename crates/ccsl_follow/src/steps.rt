@@ -64,7 +64,8 @@ fn undeclared(system: &System) -> ClockSet
 // Puts the declared clocks among some into a set.
 #[inline(always)]
 fn put_declared(declared: &mut ClockSet, ticks: &ClockSet, undeclared: &ClockSet)
-    ensures { (K : System) → IsUndeclared K undeclared.now → declared.new ≡ declared_part K ticks.now }
+    ensures { (K : System) → IsUndeclared K undeclared.now →
+        declared.new ≡ declared_part K ticks.now }
 {
     ticks.ascends();
     declared.copy_difference(ticks, undeclared);
@@ -92,10 +93,10 @@ impl<'s> Steps<'s> {
     pub fn go_on(&mut self, ticks: &ClockSet)
         ensures system { self.new.part.system ≡ self.old.part.system }
         ensures followed { self.new.part.followed ≡ self.old.part.followed }
-        ensures step { (T : List Step) → PartStandsFor self.old.part T → let K = self.old.part.system in
-            self.new.step ≡ part_of self.old.part (full_step K T (declared_part K ticks.now)) }
-        ensures stands { (T : List Step) → PartStandsFor self.old.part T → length T + 1 < 2 ^ 64 → let K = self.old.part.system in
-            PartStandsFor self.new.part (T ++ full_step K T (declared_part K ticks.now) ∷ []) }
+        ensures step { (T : List Step) → PartStandsFor self.old.part T →
+            let K = self.old.part.system in self.new.step ≡ part_of self.old.part (full_step K T (declared_part K ticks.now)) }
+        ensures stands { (T : List Step) → PartStandsFor self.old.part T → length T + 1 < 2 ^ 64 →
+            let K = self.old.part.system in PartStandsFor self.new.part (T ++ full_step K T (declared_part K ticks.now) ∷ []) }
     {
         put_declared(&mut self.step, ticks, &self.undeclared);
         self.part.go_on(&mut self.step);

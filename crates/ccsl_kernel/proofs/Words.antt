@@ -4,15 +4,7 @@ use Rattle.std.proofs.Common.{nat_le, nat_eq, le-leb, eq-eqb}
 use Rattle.std.proofs.lemmas.Bool.{cases_Bool, cases_lt, cases_eq, lt-leb, ne_eqb, le-ltb}
 use Rattle.std.proofs.Math.Nat.{add-mod_left}
 use Rattle.ccsl_words.specs.Word.{BinaryWord, letter, rest, is_finite}
-use Rattle.ccsl_words.proofs.Letters.{past_infinite, past_finite}
-
-rest_cases : (w : BinaryWord) (o : ℕ) (fin past wrap : Bool) → is_finite w ≡ fin → nat_le (length w.prefix) o ≡ past
-    → nat_eq (o + 1) (length w.prefix + length w.period) ≡ wrap →
-    rest w o ≡ cond fin (cond past (length w.prefix) (o + 1)) (cond wrap (length w.prefix) (o + 1))
-rest_cases w o fin past wrap e e' e'' =
-    ap (λ c. cond c (cond (nat_le (length w.prefix) o) (length w.prefix) (o + 1))
-    (cond (nat_eq (o + 1) (length w.prefix + length w.period)) (length w.prefix) (o + 1))) e
-    ∙ ap₂ (λ c d. cond fin (cond c (length w.prefix) (o + 1)) (cond d (length w.prefix) (o + 1))) e' e''
+use Rattle.ccsl_words.proofs.Letters.{past_infinite, past_finite, rest_cases}
 
 -- the offset after o, as far as letters and the end go: o + 1
 pub letter-rest : (w : BinaryWord) (o k : ℕ) → letter w (rest w o + k) ≡ letter w (o + suc k)

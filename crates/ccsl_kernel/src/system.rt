@@ -49,7 +49,8 @@ impl Model for System {
 
     ghost view = { λ s. plain_system s.parts };
 
-    ghost invariant = { λ s. IsAccepted (plain_system s.parts) × (s.count ≡ cells (plain_system s.parts)) };
+    ghost invariant = { λ s. IsAccepted (plain_system s.parts)
+        × (s.count ≡ cells (plain_system s.parts)) };
 }
 
 impl System {

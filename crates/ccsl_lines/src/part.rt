@@ -25,7 +25,8 @@ impl Model for Part {
 
     ghost view = { λ p. kept p.is_long (take p.len p.buf.items) };
 
-    ghost invariant = { λ p. (length p.buf.items ≡ 65536) × (p.len ≤ 65536) × (p.is_long ≡ true → p.len ≡ 0) };
+    ghost invariant = { λ p. (length p.buf.items ≡ 65536) × (p.len ≤ 65536)
+        × (p.is_long ≡ true → p.len ≡ 0) };
 }
 
 impl Part {

@@ -5,7 +5,8 @@ ghost use Rattle.ccsl_ast.specs.Trees.{EIf};
 ghost use Rattle.ccsl_ast.specs.Plain.{plain};
 ghost use Rattle.ccsl_grammar.specs.Terminals.{terminals};
 ghost use Rattle.ccsl_grammar.specs.Reader.{took, begins};
-ghost use Rattle.ccsl_grammar.specs.Parser.{named_at, parens_at, operand_at, second_at, delayed_at, delay_at, await_at, filter_at, rest_at, branches_at, choice_at, expr_with, is_expr, no_room, expr_at};
+ghost use Rattle.ccsl_grammar.specs.Parser.{named_at, parens_at, operand_at, second_at, delayed_at, delay_at, await_at, filter_at, rest_at, branches_at};
+ghost use Rattle.ccsl_grammar.specs.Parser.{choice_at, expr_with, is_expr, no_room, expr_at};
 ghost use Rattle.ccsl_parse.specs.Reads.{ReadsAs};
 
 use crate::leaf::{

@@ -5,7 +5,8 @@ ghost use Rattle.std.specs.List.{position_or_len};
 ghost use Rattle.ccsl_base.specs.Decimal.{number_up_to};
 ghost use Rattle.ccsl_refute.specs.Text.{is_line_feed, tokens};
 ghost use Rattle.ccsl_refute.specs.FirstLine.{line_before};
-ghost use Rattle.ccsl_refute.specs.Reading.{literal, read_literals, read_numbers, before_from, after_from, read_nonempty, read_item, read_derived, read_tokens, read_line, reading};
+ghost use Rattle.ccsl_refute.specs.Reading.{literal, read_literals, read_numbers, before_from, after_from, read_nonempty, read_item, read_derived};
+ghost use Rattle.ccsl_refute.specs.Reading.{read_tokens, read_line, reading};
 ghost use Rattle.ccsl_refute.specs.Read.{Reads, members};
 
 use crate::fault::CertFault;

@@ -2,7 +2,8 @@
 
 ghost use Rattle.std.specs.Prelude.{◌≡◌, ◌<◌, IfOk, codes};
 ghost use Rattle.ccsl_kernel.specs.Syntax.{item_count};
-ghost use Rattle.ccsl_report.specs.Texts.{checked_text, run_yes_text, broken_text, simulated_text, deadlocked_text, cert_valid_text, cert_no_line_text, trial_text, session_too_long_text};
+ghost use Rattle.ccsl_report.specs.Texts.{checked_text, run_yes_text, broken_text, simulated_text, deadlocked_text, cert_valid_text, cert_no_line_text};
+ghost use Rattle.ccsl_report.specs.Texts.{trial_text, session_too_long_text};
 
 use crate::item::broken_parts;
 use crate::line::Part::{Number, Text};

@@ -1,7 +1,8 @@
 //! What is refused: words, specifications, traces and certificates. A want of memory has no text of its own.
 
 ghost use Rattle.std.specs.Prelude.{◌≡◌, IfOk};
-ghost use Rattle.ccsl_report.specs.Texts.{usage_text, fault_at, above_limit, spec_too_long_text, lex_text, parse_text, refusal_text, trace_text, cert_text, cert_too_long_text};
+ghost use Rattle.ccsl_report.specs.Texts.{usage_text, fault_at, above_limit, spec_too_long_text, lex_text, parse_text, refusal_text, trace_text, cert_text};
+ghost use Rattle.ccsl_report.specs.Texts.{cert_too_long_text};
 
 use crate::fault::trace_parts;
 use crate::line::Part::{Number, Text};

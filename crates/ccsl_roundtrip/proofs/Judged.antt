@@ -17,7 +17,8 @@ use Rattle.ccsl_vcd.specs.Rows.{IsRead, bound_at, recorded}
 use Rattle.ccsl_bind.specs.Collected.{wanted_of}
 use Rattle.ccsl_vcd_write.specs.Text.{vcd_text}
 use Rattle.ccsl_vcd_write.specs.ReadsBack.{IsReadable, rows_of_steps}
-use Rattle.ccsl_roundtrip.specs.RoundTrip.{LIMITS, IsJudgedRun, SimulatedTracesAreRuns}
+use Rattle.ccsl_vcd.specs.declared.limits.TheConstants.{LIMITS}
+use Rattle.ccsl_roundtrip.specs.RoundTrip.{IsJudgedRun, SimulatedTracesAreRuns}
 use Rattle.ccsl_roundtrip.proofs.Rows.{verdict-run, completed-steps}
 use Rattle.ccsl_roundtrip.proofs.Steps.{shows, ascends}
 

@@ -1,19 +1,15 @@
 -- WHAT A SIMULATED TRACE IS WORTH: it reads back, and it is judged to be a run.
 use Rattle.std.specs.Prelude.{◌≡◌, ℕ, ◌≤◌, List, length}
-use Rattle.ccsl_base.specs.declared.limits.TheConstants.{MAX_FILE_BYTES, MAX_VARS, MAX_SCOPES, MAX_STEPS}
+use Rattle.ccsl_base.specs.declared.limits.TheConstants.{MAX_STEPS}
 use Rattle.ccsl_kernel.specs.Syntax.{System}
 use Rattle.ccsl_kernel.specs.Verdict.{Run, completed_rows}
 use Rattle.ccsl_policy.specs.declared.policies.Policy.{Policy}
-use Rattle.ccsl_vcd.specs.declared.limits.Limits.{Limits}
+use Rattle.ccsl_vcd.specs.declared.limits.TheConstants.{LIMITS}
 use Rattle.ccsl_vcd.specs.Rows.{IsRead, recorded}
 use Rattle.ccsl_bind.specs.Collected.{wanted_of}
 use Rattle.ccsl_vcd_write.specs.Text.{vcd_text}
 use Rattle.ccsl_simulate.specs.Simulation.{simulation}
 use Rattle.ccsl_judge.specs.Judged.{verdict_on}
-
--- the limits on a trace
-abbrev pub LIMITS : Limits
-LIMITS = record { bytes = MAX_FILE_BYTES; vars = MAX_VARS; scopes = MAX_SCOPES }
 
 module _ (K : System) (policy : Policy) (seed steps : ℕ) where
   abbrev pub written : List ℕ

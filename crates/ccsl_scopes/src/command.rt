@@ -1,7 +1,9 @@
 //! The words of a header's commands.
 
-ghost use Rattle.std.specs.Prelude.{◌≡◌, bytes_eq};
+ghost use Rattle.std.specs.Prelude.{◌≡◌};
 ghost use Rattle.ccsl_scopes.specs.Headings.{header_word};
+
+use ccsl_base::is_text;
 
 /// What a token of a header is in a command's place.
 #[derive(Clone, Copy)]
@@ -36,10 +38,4 @@ pub(crate) fn header_word(text: &[u8]) -> HeaderWord
     } else {
         HeaderWord::Plain
     }
-}
-
-pub(crate) fn is_text(text: &[u8], word: &[u8]) -> bool
-    ensures { result ≡ bytes_eq text.now word.now }
-{
-    text == word
 }

@@ -1,18 +1,21 @@
 //! Reading a header.
 
-ghost use Rattle.std.specs.Prelude.{◌≡◌, ◌⊎◌, ◌<◌, ◌≤◌, ◌++◌, ◌+◌, ◌∷◌, [], ℕ, List, length, nat_le, nat_lt, if◌then◌else◌, true, false, Option, Some, None, OnOk, IfOk, IfErr};
+ghost use Rattle.std.specs.Prelude.{◌≡◌, ◌⊎◌, ◌<◌, ◌≤◌, ◌++◌, ◌+◌, ◌∷◌, [], ℕ, List, length, nat_le, nat_lt, if◌then◌else◌, true, false, Option, Some, None};
+ghost use Rattle.std.specs.Prelude.{OnOk, IfOk, IfErr};
 ghost use Rattle.ccsl_base.specs.Names.{find_name};
 ghost use Rattle.ccsl_vcd_lex.specs.Tokens.{Token, token};
 ghost use Rattle.ccsl_vcd.specs.Places.{Among, commands};
 ghost use Rattle.ccsl_vcd.specs.Header.{is_code};
-ghost use Rattle.ccsl_scopes.specs.Headings.{Heading, kind_named, size_of, with_code, header_word, put_spaced, word_fits, declares, starts, ends, heading_says, outer, begin};
-ghost use Rattle.ccsl_scopes.specs.Standing.{Holds, StandsIn, StandsBetween, Counts, Stands, Answers, Extends, Fits, Declares, Opens, IsOver, IsHeaderOf, text_in};
+ghost use Rattle.ccsl_scopes.specs.Headings.{Heading, kind_named, size_of, with_code, header_word, put_spaced, word_fits, declares, starts, ends};
+ghost use Rattle.ccsl_scopes.specs.Headings.{heading_says, outer, begin};
+ghost use Rattle.ccsl_scopes.specs.Standing.{Holds, StandsIn, StandsBetween, Counts, Stands, Answers, Extends, Fits, Declares, Opens, IsOver, IsHeaderOf};
+ghost use Rattle.ccsl_scopes.specs.Standing.{text_in};
 
-use crate::command::{HeaderWord, header_word, is_text};
+use crate::command::{HeaderWord, header_word};
 use crate::header::Header;
 use crate::reference::split;
 use crate::variable::{Kind, Variable};
-use ccsl_base::{HashKeys, Memory, decimal};
+use ccsl_base::{HashKeys, Memory, decimal, is_text};
 use ccsl_vcd::{Limits, VcdFault, is_code};
 use std::alloc::Global;
 

@@ -7,7 +7,7 @@ use Rattle.ccsl_kernel.specs.Runs.{completed}
 use Rattle.ccsl_policy.specs.declared.policies.Policy.{Policy}
 use Rattle.ccsl_vcd_write.specs.Text.{vcd_text}
 use Rattle.ccsl_simulate.specs.Simulation.{next_chosen}
-use Rattle.ccsl_session.specs.declared.TheConstants.{MAX_SESSION_STEPS}
+use Rattle.ccsl_base.specs.declared.limits.TheConstants.{MAX_SESSION_STEPS}
 use Rattle.ccsl_session.specs.Asked.{Asked, Nothing, Fire, Next, Back, Allowed, Trace, Quit, Long, Unknown, asked, is_quit}
 use Rattle.ccsl_possible.specs.Possible.{first_failing, allowed_clocks}
 use Rattle.ccsl_lines.specs.Lines as lines

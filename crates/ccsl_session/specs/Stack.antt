@@ -5,7 +5,7 @@ use Rattle.ccsl_kernel.specs.Lives.{Step}
 use Rattle.ccsl_kernel.specs.Accepted.{IsAccepted}
 use Rattle.ccsl_kernel.specs.Runs.{completed}
 use Rattle.ccsl_state.specs.Held.{Held, StandsFor}
-use Rattle.ccsl_session.specs.declared.TheConstants.{MAX_SESSION_STEPS}
+use Rattle.ccsl_base.specs.declared.limits.TheConstants.{MAX_SESSION_STEPS}
 use Rattle.ccsl_session.specs.declared.stack.TheConstants.{STRIDE}
 use Rattle.ccsl_session.specs.declared.stack.Stack.{Stack}
 

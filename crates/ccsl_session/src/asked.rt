@@ -1,14 +1,13 @@
 //! What a line asks.
 
 ghost use Rattle.std.specs.Prelude.{◌≡◌, ◌<◌, [], ◌∷◌, IfSome};
-ghost use Rattle.std.specs.Str.{bytes_eq};
 ghost use Rattle.ccsl_base.specs.Names.{find_name};
 ghost use Rattle.ccsl_lines.specs.Lines.{Whole};
 ghost use Rattle.ccsl_session.specs.Asked.{declared_names, asked_alone, asked_with, asked};
 ghost use Rattle.ccsl_session.specs.Reading.{plain, read_clocks};
 
 use crate::token::Tokens;
-use ccsl_base::{ClockSet, MAX_CLOCKS};
+use ccsl_base::{ClockSet, MAX_CLOCKS, is_text};
 use ccsl_kernel::System;
 
 /// What a line asks of a session.
@@ -36,12 +35,6 @@ impl Asked {
     {
         matches!(self, Asked::Quit)
     }
-}
-
-fn is_text(word: &[u8], text: &[u8]) -> bool
-    ensures { result ≡ bytes_eq word.now text.now }
-{
-    word == text
 }
 
 /// What a line of one token asks.

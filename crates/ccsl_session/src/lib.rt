@@ -27,6 +27,3 @@ pub mod world;
 
 pub use answer::Ended;
 pub use world::session;
-
-/// The most steps of a session's run.
-pub const MAX_SESSION_STEPS: u64 = 100_000;

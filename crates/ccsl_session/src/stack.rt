@@ -6,8 +6,7 @@ ghost use Rattle.ccsl_kernel.specs.Runs.{completed_after};
 ghost use Rattle.ccsl_state.specs.Held.{StandsFor};
 ghost use Rattle.ccsl_session.specs.Stack.{AreBehind, AreCopies, Stands};
 
-use crate::MAX_SESSION_STEPS;
-use ccsl_base::{ClockSet, Memory};
+use ccsl_base::{ClockSet, MAX_SESSION_STEPS, Memory};
 use ccsl_kernel::System;
 use ccsl_state::States;
 use std::alloc::Global;

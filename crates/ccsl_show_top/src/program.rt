@@ -141,7 +141,8 @@ pub fn run<R: Threads + Sync, W: World, O: World, L: Listen, G: Gate>(
 ) -> Outcome
     requires allowed { (slot : Slot) (name : List ℕ) → W.allows slot name }
     requires all { (slot : Slot) (name : List ℕ) → O.allows slot name }
-    ensures { Shows W.told words.now result.status (is_ok result.shown) (W.state world.old.world) (W.state world.new.world) }
+    ensures { Shows W.told words.now result.status (is_ok result.shown)
+        (W.state world.old.world) (W.state world.new.world) }
 {
     let status = ccsl_top::run(rt, alloc, keys, words, world, gate);
     let asking = Asking {

@@ -36,7 +36,8 @@ use Rattle.ccsl_vcd.specs.Rows.{recorded}
 use Rattle.ccsl_bind.specs.Collected.{wanted_of}
 use Rattle.ccsl_report.specs.Texts.{cert_valid_text}
 use Rattle.ccsl_top.specs.Outcome.{Output, Outcome, outcome}
-use Rattle.ccsl_top.specs.Judge.{LIMITS, judged}
+use Rattle.ccsl_vcd.specs.declared.limits.TheConstants.{LIMITS}
+use Rattle.ccsl_top.specs.Judge.{judged}
 use Rattle.ccsl_top.specs.Certify.{certify_outcome}
 use Rattle.ccsl_top.specs.Explain.{cert_output, IsRunExplained, possible, blocked, IsVerdictExplained, IsReadExplained}
 use Rattle.ccsl_top.specs.Laws.{ExplanationsCertify}

@@ -39,7 +39,8 @@ use Rattle.ccsl_edge.specs.declared.stop.Stop.TheVariants as stop
 use Rattle.ccsl_top.specs.declared.reply.Reply.{Reply}
 use Rattle.ccsl_top.specs.Outcome.{Outcome, outcome}
 use Rattle.ccsl_top.specs.Opening.{is_slot, is_output, opens}
-use Rattle.ccsl_top.specs.Judge.{LIMITS, behind_fault}
+use Rattle.ccsl_vcd.specs.declared.limits.TheConstants.{LIMITS}
+use Rattle.ccsl_top.specs.Judge.{behind_fault}
 use Rattle.ccsl_top.specs.Certify.{lines_outcome, rows_outcome, text_outcome, cert_outcome, certify_outcome}
 use Rattle.ccsl_top.specs.Changes.{Uses, Reads}
 use Rattle.ccsl_top.specs.Reading.{only, Breaks}

@@ -19,7 +19,8 @@ use Rattle.ccsl_items.specs.Formulas.{item_formulas, scope_of}
 use Rattle.ccsl_kernel.specs.Verdict as kernel
 use Rattle.ccsl_report.specs.Texts.{cert_valid_text, cert_too_long_text}
 use Rattle.ccsl_top.specs.Outcome.{Outcome, outcome}
-use Rattle.ccsl_top.specs.Judge.{LIMITS, clocks_in, judged, behind_fault}
+use Rattle.ccsl_vcd.specs.declared.limits.TheConstants.{LIMITS}
+use Rattle.ccsl_top.specs.Judge.{clocks_in, judged, behind_fault}
 use Rattle.ccsl_top.specs.Certify.{bad_line, lines_outcome, rows_outcome, text_outcome, cert_outcome, certify_outcome}
 use Rattle.ccsl_top.specs.Laws.{IsCertifiedEnd, CertifiedRunsEnd}
 

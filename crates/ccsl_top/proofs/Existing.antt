@@ -40,7 +40,8 @@ use Rattle.ccsl_report.specs.Texts.{broken_text}
 use Rattle.std.specs.Prelude.{codes}
 use Rattle.ccsl_top.specs.Outcome.{Outcome, outcome}
 use Rattle.ccsl_top.specs.Check.{check_outcome}
-use Rattle.ccsl_top.specs.Judge.{LIMITS, judged, judge_outcome}
+use Rattle.ccsl_vcd.specs.declared.limits.TheConstants.{LIMITS}
+use Rattle.ccsl_top.specs.Judge.{judged, judge_outcome}
 use Rattle.ccsl_top.specs.Simulate.{named_policy, IsCertificate, none, lines, simulate_outcome, IsSimulated}
 use Rattle.ccsl_top.specs.Certify.{certify_outcome}
 use Rattle.ccsl_top.specs.Explain.{blocked_outcome, IsRunExplained, possible, blocked, IsVerdictExplained, IsReadExplained, IsExplainOutcome}

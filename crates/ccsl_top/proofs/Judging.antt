@@ -17,7 +17,8 @@ use Rattle.ccsl_judge.specs.declared.verdict.Verdict.{Verdict}
 use Rattle.ccsl_judge.specs.Judged.{IsJudged, plain}
 use Rattle.ccsl_report.specs.Texts.{trace_text}
 use Rattle.ccsl_top.specs.Outcome.{Outcome, outcome}
-use Rattle.ccsl_top.specs.Judge.{LIMITS, judged, judge_outcome, verdict_outcome, behind_fault}
+use Rattle.ccsl_vcd.specs.declared.limits.TheConstants.{LIMITS}
+use Rattle.ccsl_top.specs.Judge.{judged, judge_outcome, verdict_outcome, behind_fault}
 use Rattle.ccsl_top.specs.Changes.{Reads}
 use Rattle.ccsl_top.specs.Reading.{only, Breaks}
 use Rattle.ccsl_edge.specs.declared.stop.Stop.{Stop}

@@ -15,7 +15,8 @@ use Rattle.ccsl_vcd.specs.Rows.{recorded}
 use Rattle.ccsl_bind.specs.Collected.{wanted_of}
 use Rattle.ccsl_report.specs.Texts.{explain_blocked_text}
 use Rattle.ccsl_top.specs.Outcome.{Outcome, outcome}
-use Rattle.ccsl_top.specs.Judge.{LIMITS, judged}
+use Rattle.ccsl_vcd.specs.declared.limits.TheConstants.{LIMITS}
+use Rattle.ccsl_top.specs.Judge.{judged}
 use Rattle.ccsl_top.specs.OneOutcome.{but_certificate}
 use Rattle.ccsl_top.specs.Explain.{member_lines, blocked_outcome, IsRunExplained, possible, blocked, IsVerdictExplained, IsReadExplained, IsExplainOutcome}
 

@@ -27,7 +27,7 @@ use Rattle.ccsl_edge.specs.declared.stop.Stop.{Stop}
 use Rattle.ccsl_edge.specs.declared.stop.Stop.TheVariants as stop
 use Rattle.ccsl_top.specs.declared.reply.Reply.{Reply}
 use Rattle.ccsl_top.specs.Outcome.{Outcome, outcome}
-use Rattle.ccsl_top.specs.Judge.{LIMITS}
+use Rattle.ccsl_vcd.specs.declared.limits.TheConstants.{LIMITS}
 use Rattle.ccsl_top.specs.Explain.{member_lines, cert_output, blocked_outcome, IsRunExplained, IsVerdictExplained, IsReadExplained, IsExplainOutcome}
 use Rattle.ccsl_top.specs.Explain as explain
 use Rattle.ccsl_top.specs.Changes.{Reads}

@@ -18,7 +18,7 @@ use Rattle.ccsl_relate.specs.declared.violation.Violation.{Violation}
 use Rattle.ccsl_judge.specs.declared.verdict.Verdict.TheVariants.{Run, Violated}
 use Rattle.ccsl_judge.specs.Judged.{IsJudged, plain, verdict_on}
 use Rattle.ccsl_roundtrip.specs.RoundTrip.{SimulatedTracesAreRuns}
-use Rattle.ccsl_top.specs.Judge.{LIMITS}
+use Rattle.ccsl_vcd.specs.declared.limits.TheConstants.{LIMITS}
 use Rattle.ccsl_top.specs.Simulating.{WritesBoth}
 use Rattle.ccsl_top.specs.Trying.{drawn_run, HoldsTrace}
 

@@ -14,7 +14,8 @@ use Rattle.ccsl_vcd.specs.Rows.{recorded}
 use Rattle.ccsl_bind.specs.Collected.{wanted_of}
 use Rattle.ccsl_report.specs.Texts.{cert_text, cert_too_long_text, cert_valid_text, broken_text, cert_no_line_text}
 use Rattle.ccsl_top.specs.Outcome.{Outcome, outcome}
-use Rattle.ccsl_top.specs.Judge.{LIMITS, judged, behind_fault}
+use Rattle.ccsl_vcd.specs.declared.limits.TheConstants.{LIMITS}
+use Rattle.ccsl_top.specs.Judge.{judged, behind_fault}
 
 -- the first line of a certificate that is bad, after these rows
 abbrev pub bad_line : System → List Row → List Line → Option ℕ

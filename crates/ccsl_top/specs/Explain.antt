@@ -17,7 +17,8 @@ use Rattle.ccsl_vcd.specs.Rows.{recorded}
 use Rattle.ccsl_bind.specs.Collected.{wanted_of}
 use Rattle.ccsl_report.specs.Texts.{trace_text, broken_text, explain_open_text, explain_blocked_text, explain_member_text}
 use Rattle.ccsl_top.specs.Outcome.{Output, Outcome, outcome}
-use Rattle.ccsl_top.specs.Judge.{LIMITS, judged}
+use Rattle.ccsl_vcd.specs.declared.limits.TheConstants.{LIMITS}
+use Rattle.ccsl_top.specs.Judge.{judged}
 
 -- a line for each member of a core: its item, and the clocks of its set
 abbrev pub member_lines : System → List ℕ → List (List ℕ) → List ℕ

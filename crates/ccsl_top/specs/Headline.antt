@@ -18,7 +18,7 @@ use Rattle.ccsl_top.specs.Simulate.{named_policy, IsOutput}
 use Rattle.ccsl_top.specs.Explain.{IsExplainOutcome}
 use Rattle.ccsl_bind.specs.Collected.{wanted_of}
 use Rattle.ccsl_trace.specs.HeaderEnd.{ends_header}
-use Rattle.ccsl_top.specs.Judge.{LIMITS}
+use Rattle.ccsl_vcd.specs.declared.limits.TheConstants.{LIMITS}
 use Rattle.ccsl_top.specs.Program.{IsOutcome}
 use Rattle.ccsl_top.specs.Statuses.{IsStatusOf}
 use Rattle.ccsl_top.specs.Opening.{opens, writes, is_output, is_session, may_change}

@@ -1,19 +1,14 @@
 -- WHAT `judge` ANSWERS on an accepted specification and the bytes of a trace. The number of workers is no part of it.
 use Rattle.std.specs.Prelude.{ℕ, List, map, Option, Some, None, codes}
-use Rattle.ccsl_base.specs.declared.limits.TheConstants.{MAX_FILE_BYTES, MAX_VARS, MAX_SCOPES}
 use Rattle.ccsl_kernel.specs.Syntax.{System}
 use Rattle.ccsl_kernel.specs.Verdict.{Verdict, Run, Violated, verdict}
-use Rattle.ccsl_vcd.specs.declared.limits.Limits.{Limits}
+use Rattle.ccsl_vcd.specs.declared.limits.TheConstants.{LIMITS}
 use Rattle.ccsl_vcd.specs.declared.fault.VcdFault.{VcdFault}
 use Rattle.ccsl_vcd.specs.Reading.{reading}
 use Rattle.ccsl_vcd.specs.Rows.{bound_at, recorded}
 use Rattle.ccsl_bind.specs.Collected.{wanted_of}
 use Rattle.ccsl_report.specs.Texts.{run_yes_text, broken_text, trace_text}
 use Rattle.ccsl_top.specs.Outcome.{Outcome, outcome}
-
--- the limits on a trace
-abbrev pub LIMITS : Limits
-LIMITS = record { bytes = MAX_FILE_BYTES; vars = MAX_VARS; scopes = MAX_SCOPES }
 
 -- the clocks that a trace records
 abbrev pub clocks_in : System → List ℕ → List ℕ

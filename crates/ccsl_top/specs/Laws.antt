@@ -9,7 +9,7 @@ use Rattle.ccsl_vcd_write.specs.Text.{vcd_text}
 use Rattle.ccsl_certify.specs.Laws.{IsDeadlocked}
 use Rattle.ccsl_report.specs.Texts.{cert_valid_text}
 use Rattle.ccsl_top.specs.Outcome.{Output, Outcome, outcome}
-use Rattle.ccsl_top.specs.Judge.{LIMITS}
+use Rattle.ccsl_vcd.specs.declared.limits.TheConstants.{LIMITS}
 use Rattle.ccsl_top.specs.Simulate.{run, IsCertificate}
 use Rattle.ccsl_top.specs.Certify.{certify_outcome}
 use Rattle.ccsl_top.specs.Explain.{IsExplainOutcome}

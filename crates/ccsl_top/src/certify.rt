@@ -4,7 +4,6 @@ ghost use Rattle.std.specs.Prelude.{IfOk, IfErr};
 ghost use Rattle.ccsl_edge.specs.declared.slot.Slot.TheVariants.{Trace, Cert};
 ghost use Rattle.ccsl_top.specs.Certifying.{HasItem, IsReplyOn, CertifyAnswers, IsBothStop};
 
-use crate::files::LIMITS;
 use crate::reply::{Reply, Status};
 use ccsl_base::HashKeys;
 use ccsl_certify::{CertVerdict, CertifyFault};
@@ -14,6 +13,7 @@ use ccsl_refute::laws::first_bad_line_is_first;
 use ccsl_report::{
     cert_no_line, cert_no_run, cert_refused, cert_too_long, cert_valid, trace_refused,
 };
+use ccsl_vcd::LIMITS;
 use std::alloc::Global;
 
 // The reply on what checking a certificate has come to.

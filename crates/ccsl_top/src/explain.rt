@@ -17,9 +17,9 @@ ghost use Rattle.ccsl_items.specs.Formulas.{item_formulas, scope_of};
 ghost use Rattle.ccsl_explain.specs.Explains.{Explains};
 ghost use Rattle.ccsl_report.specs.Texts.{explain_blocked_text, explain_member_text};
 ghost use Rattle.ccsl_top.specs.Explain.{member_lines, cert_output};
-ghost use Rattle.ccsl_top.specs.Explaining.{AreMembers, file_of, WritesWhole, WritesBreak, IsWriteStop, BlockedAnswers, RunAnswers, IsRunStop, TraceAnswers, IsTraceStop};
+ghost use Rattle.ccsl_top.specs.Explaining.{AreMembers, file_of, WritesWhole, WritesBreak, IsWriteStop, BlockedAnswers, RunAnswers, IsRunStop, TraceAnswers};
+ghost use Rattle.ccsl_top.specs.Explaining.{IsTraceStop};
 
-use crate::files::LIMITS;
 use crate::reply::{Reply, Status};
 use ccsl_base::{ClockSet, HashKeys, Memory};
 use ccsl_certify::{ReplayFault, Replayed, replay};
@@ -32,6 +32,7 @@ use ccsl_refute::laws::valid_lines_name_clocks;
 use ccsl_refute::{Line, write};
 use ccsl_report::{explain_blocked, explain_member, explain_no_run, explain_open, trace_refused};
 use ccsl_state::States;
+use ccsl_vcd::LIMITS;
 use std::alloc::Global;
 
 // Puts the line for an item that blocks, with the least set without it.

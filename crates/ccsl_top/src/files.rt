@@ -5,17 +5,8 @@ ghost use Rattle.ccsl_edge.specs.Slots.{IsInputFile};
 ghost use Rattle.ccsl_top.specs.Changes.{Reads};
 ghost use Rattle.ccsl_top.specs.Reading.{only, IsFile, IsStop};
 
-use ccsl_base::{MAX_FILE_BYTES, MAX_SCOPES, MAX_VARS};
 use ccsl_edge::{ReadFault, Slot, Stop, World, read_all};
-use ccsl_vcd::Limits;
 use std::alloc::Global;
-
-/// The limits on a trace, and on the bytes of a certificate.
-pub(crate) const LIMITS: Limits = Limits {
-    bytes: MAX_FILE_BYTES,
-    vars: MAX_VARS,
-    scopes: MAX_SCOPES,
-};
 
 /// Reads the whole file of a name through a slot. It answers `None` where the file has more than `limit` bytes.
 pub(crate) fn read_file<W: World>(

@@ -11,7 +11,6 @@ ghost use Rattle.ccsl_top.specs.Reading.{only};
 ghost use Rattle.ccsl_top.specs.Judging.{IsReplyOn, IsTraceStop};
 ghost use Rattle.ccsl_top.specs.Answered.{plain_reply, IsReadStatus};
 
-use crate::files::LIMITS;
 use crate::machine::Machine;
 use crate::reply::{Reply, Status};
 use ccsl_base::Memory;
@@ -20,6 +19,7 @@ use ccsl_judge::{JudgeFault, Verdict};
 use ccsl_kernel::System;
 use ccsl_pool::Gate;
 use ccsl_report::{judge_room, put_no_run, put_run, put_trace_fault};
+use ccsl_vcd::LIMITS;
 use std::alloc::Global;
 use std::thread::Threads;
 

@@ -10,7 +10,6 @@ ghost use Rattle.ccsl_top.specs.Trying.{drawn_run, HoldsTrace, KeepsTrace};
 ghost use Rattle.ccsl_edge.specs.declared.stop.Stop.TheVariants as stop;
 ghost use Rattle.ccsl_top.specs.Answered.{plain_reply};
 
-use crate::files::LIMITS;
 use crate::machine::Machine;
 use crate::reply::{Reply, Status};
 use crate::simulate::write_run;
@@ -24,6 +23,7 @@ use ccsl_pool::Gate;
 use ccsl_report::trial_done;
 use ccsl_roundtrip::laws::simulated_traces_are_runs;
 use ccsl_roundtrip::ticks_in_text;
+use ccsl_vcd::LIMITS;
 use std::alloc::Global;
 use std::thread::Threads;
 

@@ -21,4 +21,4 @@ pub mod limits;
 
 pub use code::is_code;
 pub use fault::VcdFault;
-pub use limits::Limits;
+pub use limits::{LIMITS, Limits};

@@ -1,6 +1,7 @@
 //! The tokenizer, fed byte by byte or piece by piece.
 
-ghost use Rattle.std.specs.Prelude.{◌≡◌, ℕ, List, [], ◌∷◌, ◌++◌, length, take, ◌+◌, ◌-◌, ◌<◌, ◌≤◌, ◌^◌, IsSome, OnSome, IfNone, IfOk, IfErr, MatchResult, slice_range, Some, None, true, vec_len};
+ghost use Rattle.std.specs.Prelude.{◌≡◌, ℕ, List, [], ◌∷◌, ◌++◌, length, take, ◌+◌, ◌-◌, ◌<◌, ◌≤◌, ◌^◌, IsSome, OnSome, IfNone, IfOk, IfErr, MatchResult};
+ghost use Rattle.std.specs.Prelude.{slice_range, Some, None, true, vec_len};
 ghost use Rattle.std.specs.List.{prefix_len};
 ghost use Rattle.ccsl_vcd_lex.specs.Tokens.{is_white, tokens, heard, settled, too_long};
 ghost use Rattle.ccsl_vcd_lex.specs.LongTokens.{first_long};
@@ -41,7 +42,8 @@ impl Model for Tokenizer {
     } };
 
     ghost invariant = { λ t.
-        (vec_len t.current ≡ 65552) × (t.current_len ≤ MAX_TOKEN_BYTES) × (vec_len t.last ≡ 65552) × (t.last_len ≤ MAX_TOKEN_BYTES) };
+        (vec_len t.current ≡ 65552) × (t.current_len ≤ MAX_TOKEN_BYTES)
+        × (vec_len t.last ≡ 65552) × (t.last_len ≤ MAX_TOKEN_BYTES) };
 }
 
 // A buffer with room for the longest token, and for one vector behind it.

@@ -11,8 +11,8 @@ use crate::amid::Amid;
 use crate::codes::Codes;
 use crate::marks::Marks;
 use crate::scan::{bits_at_front, digits_at_front, is_bit};
-use crate::word::{Word, is_text, last_of, word_of};
-use ccsl_base::{Block, MAX_TOKEN_BYTES};
+use crate::word::{Word, last_of, word_of};
+use ccsl_base::{Block, MAX_TOKEN_BYTES, is_text};
 use ccsl_vcd::VcdFault;
 use ccsl_vcd_lex::{code_at_front, is_space, run_end};
 

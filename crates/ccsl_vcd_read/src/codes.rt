@@ -29,7 +29,8 @@ impl Model for Codes {
 
     ghost view = { λ c. c.binding };
 
-    ghost invariant = { λ c. (vec_len c.table ≤ SHORT) × (SHORT ≤ vec_capacity c.table) × AreFound c.table.items c.binding.codes };
+    ghost invariant = { λ c. (vec_len c.table ≤ SHORT) × (SHORT ≤ vec_capacity c.table)
+        × AreFound c.table.items c.binding.codes };
 }
 
 // Makes a table reach a place, within its room.

@@ -4,7 +4,7 @@ ghost use Rattle.std.specs.Prelude.{◌≡◌};
 ghost use Rattle.ccsl_vcd.specs.Header.{header_word};
 ghost use Rattle.ccsl_vcd_read.specs.Meant.{header_meant};
 
-use crate::word::is_text;
+use ccsl_base::is_text;
 
 /// What stands in a header: in a command's place, or inside a command; in a declaration, which of its words comes next.
 #[derive(Clone, Copy)]

@@ -9,12 +9,13 @@ ghost use Rattle.ccsl_vcd.specs.Binding.{Wanted, Declaration};
 ghost use Rattle.ccsl_vcd.specs.Reading.{Story, next};
 ghost use Rattle.ccsl_bind.specs.Gathered.{StandsFor};
 ghost use Rattle.ccsl_vcd_read.specs.Meant.{header_meant};
-ghost use Rattle.ccsl_vcd_read.specs.Heading.{start_of, size_in, code_in, word_in, end_in, reference_in, Becomes, HeadShows, HeadGoes, Refuses, Caused, declared_in};
+ghost use Rattle.ccsl_vcd_read.specs.Heading.{start_of, size_in, code_in, word_in, end_in, reference_in, Becomes, HeadShows, HeadGoes, Refuses, Caused};
+ghost use Rattle.ccsl_vcd_read.specs.Heading.{declared_in};
 
 use crate::buffer::Buffer;
 use crate::command::{Command, HeaderWord, header_word};
 use crate::number::number;
-use crate::word::is_text;
+use ccsl_base::is_text;
 use ccsl_bind::Binder;
 use ccsl_vcd::{Limits, VcdFault, is_code};
 use std::alloc::Global;

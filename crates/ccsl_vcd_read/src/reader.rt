@@ -1,6 +1,7 @@
 //! A reader that is fed pieces of a trace.
 
-ghost use Rattle.std.specs.Prelude.{◌≡◌, ℕ, List, [], ◌++◌, length, take, ◌<◌, ◌≤◌, ◌⊎◌, true, false, IfOk, IfErr, OnOk, OnErr, IfSome, IfNone, None, Some, Err, ◌+◌, ◌-◌, ◌^◌};
+ghost use Rattle.std.specs.Prelude.{◌≡◌, ℕ, List, [], ◌++◌, length, take, ◌<◌, ◌≤◌, ◌⊎◌, true, false, IfOk, IfErr, OnOk, OnErr, IfSome, IfNone, None, Some};
+ghost use Rattle.std.specs.Prelude.{Err, ◌+◌, ◌-◌, ◌^◌};
 ghost use Rattle.ccsl_vcd.specs.Binding.{Wanted};
 ghost use Rattle.std.specs.Option.{option_copied};
 ghost use Rattle.ccsl_vcd_lex.specs.Tokens.{token, word};
@@ -10,7 +11,8 @@ ghost use Rattle.ccsl_vcd.specs.Completed.{complete, done};
 ghost use Rattle.ccsl_bind.specs.Collected.{wanted_of};
 ghost use Rattle.ccsl_vcd_read.specs.Heading.{Caused, IsMemory, NotMemory, Refuses};
 ghost use Rattle.ccsl_vcd_read.specs.Staging.{Pictures, Heard, is_body, row_left, shown, shown_at};
-ghost use Rattle.ccsl_vcd_read.specs.Reading.{StandsFor, Pushes, Decides, HeaderSo, IsCalm, CanTake, Takes, Stops, shows, AtEnd, Refused, AreCounts, FilledByLast};
+ghost use Rattle.ccsl_vcd_read.specs.Reading.{StandsFor, Pushes, Decides, HeaderSo, IsCalm, CanTake, Takes, Stops, shows, AtEnd, Refused, AreCounts};
+ghost use Rattle.ccsl_vcd_read.specs.Reading.{FilledByLast};
 
 use crate::buffer::Buffer;
 use crate::command::Command;

@@ -1,12 +1,13 @@
 //! What a token says where a change may stand.
 
-ghost use Rattle.std.specs.Prelude.{◌≡◌, bytes_eq, []};
+ghost use Rattle.std.specs.Prelude.{◌≡◌, []};
 ghost use Rattle.std.specs.List.{list_all};
 ghost use Rattle.ccsl_vcd.specs.Words.{is_scalar, last_of, command_of, change_of, word_of, time_of, number};
 ghost use Rattle.ccsl_vcd_read.specs.Meant.{meant, rest_of};
 
 use crate::number::number;
 use crate::scan::are_bits;
+use ccsl_base::is_text;
 
 /// A time, a change, a command, or a fault. A scalar's code is the rest of its token.
 #[derive(Clone, Copy)]
@@ -36,12 +37,6 @@ fn all_scalar(text: &[u8]) -> bool
     ensures { result ≡ list_all is_scalar text.now }
 {
     are_bits(text) || text.iter().all(|b| is_scalar(*b))
-}
-
-pub(crate) fn is_text(text: &[u8], word: &[u8]) -> bool
-    ensures { result ≡ bytes_eq text.now word.now }
-{
-    text == word
 }
 
 fn command_of(text: &[u8]) -> Word

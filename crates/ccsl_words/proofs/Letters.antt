@@ -42,7 +42,7 @@ infinite_len w fin = some w.period fin
     some [] e = absurd (cc)
     some (x ∷ xs) e = omega arith
 
-rest_cases : (w : BinaryWord) (o : ℕ) (fin past wrap : Bool) → is_finite w ≡ fin → nat_le (length w.prefix) o ≡ past
+pub rest_cases : (w : BinaryWord) (o : ℕ) (fin past wrap : Bool) → is_finite w ≡ fin → nat_le (length w.prefix) o ≡ past
     → nat_eq (o + 1) (length w.prefix + length w.period) ≡ wrap →
     rest w o ≡ cond fin (cond past (length w.prefix) (o + 1)) (cond wrap (length w.prefix) (o + 1))
 rest_cases w o fin past wrap e e' e'' =

@@ -28,7 +28,8 @@ impl Model for Word {
 
     ghost view = { λ w. record { prefix = w.prefix; period = w.period } };
 
-    ghost invariant = { λ w. (0 < length w.prefix + length w.period) × (length w.prefix + length w.period ≤ MAX_LETTERS) };
+    ghost invariant = { λ w. (0 < length w.prefix + length w.period)
+        × (length w.prefix + length w.period ≤ MAX_LETTERS) };
 }
 
 impl Word {

@@ -28,6 +28,6 @@ pub returns-in_ok-explain_no_run-in-Ok-NotRun-clause-answers : goal.returns-in_o
 returns-in_ok-explain_no_run-in-Ok-NotRun-clause-answers g c =
     let r = rw c.in-Ok-NotRun.field-0-is at c.in-Ok-NotRun.ensures.replayed in
     trace-no-run g.W.World.told c.args.system.now c.args.cert.now c.args.trace.now (g.W.World.state c.args.world.now) (g.W.World.state c.open_in.new.self)
-    c.in_ok-open_in.ensures.ok (g.W.World.state c.replay.new.world) r.bound r.rows r.trace c.in-Ok-NotRun.broken.step c.in-Ok-NotRun.broken.time c.in-Ok-NotRun.broken.item r.answers
-    _
+    c.in_ok-open_in.ensures.ok (g.W.World.state c.replay.new.world) r.bound r.rows r.trace
+    c.in-Ok-NotRun.broken.step c.in-Ok-NotRun.broken.time c.in-Ok-NotRun.broken.item r.answers _
     (ap (outcome 1) c.in_ok-explain_no_run-in-Ok-NotRun.ensures)

@@ -1,6 +1,6 @@
 use Rattle.std.proofs.Common.{true, length, refl, arith}
 use Rattle.std.proofs.lemmas.Result.{err_from_is_err_and}
-use Rattle.ccsl_events_top.specs.Reading.{LIMITS}
+use Rattle.ccsl_vcd.specs.declared.limits.TheConstants.{LIMITS}
 use Rattle.ccsl_events_top.proofs.Passing.{given-fits, fed-end, unfed-end}
 use Rattle.ccsl_events_top.proofs.Bodies.{body-fits, fed-body-end, unfed-body-end}
 use Rattle.ccsl_events_top.proofs.pass.Pass.end_token.Goals as goal

@@ -1,6 +1,6 @@
 use Rattle.std.proofs.Common.{◌++◌, length, ap, refl, arith}
 use Rattle.std.proofs.lemmas.Result.{err_from_is_err_and}
-use Rattle.ccsl_events_top.specs.Reading.{LIMITS}
+use Rattle.ccsl_vcd.specs.declared.limits.TheConstants.{LIMITS}
 use Rattle.ccsl_events_top.proofs.Passing.{has-more, given-fits, fed-header, unfed-header}
 use Rattle.ccsl_events_top.proofs.Bodies.{body-fits, fed-body, unfed-body}
 use Rattle.ccsl_events_top.proofs.pass.Pass.feed.Goals as goal
