@@ -1,7 +1,6 @@
 pub mod Making
 pub mod Lookups
 pub mod Examples
-pub mod Refusals
 pub mod TheLibrary
 pub mod Counting
 pub mod Least

@@ -1,5 +1,5 @@
 -- Short forms for the examples.
-use Rattle.std.specs.Prelude.{ℕ, List, [], ◌∷◌, Bool}
+use Rattle.std.specs.Prelude.{ℕ, List, [], ◌∷◌, Bool, codes}
 use Rattle.ccsl_ast.specs.declared.definition.Kind.TheVariants as kind
 use Rattle.ccsl_ast.specs.declared.term.Primary.TheVariants as prim
 use Rattle.ccsl_ast.specs.declared.term.Test.TheVariants as test
@@ -10,7 +10,6 @@ use Rattle.ccsl_ast.specs.Trees.{Expression, EName, ECall, ENever, EBinary, EDel
 use Rattle.ccsl_ast.specs.Trees.{DRelation, DGroup, PlainFile}
 use Rattle.ccsl_kernel.specs.Syntax as kernel
 use Rattle.ccsl_kernel.specs.Syntax.{System}
-use Rattle.ccsl_rules.specs.Faults.{Fault}
 use Rattle.ccsl_ast.specs.declared.spot.Spot.{Spot}
 use Rattle.ccsl_ast.specs.declared.definition.Kind.{Kind}
 use Rattle.ccsl_ast.specs.declared.term.Sign.{Sign}
@@ -25,7 +24,6 @@ use Rattle.ccsl_kernel.specs.declared.constraint.RelationKind.{RelationKind}
 use Rattle.ccsl_kernel.specs.declared.constraint.Constraint.{Constraint}
 use Rattle.ccsl_kernel.specs.Syntax.{Body}
 use Rattle.ccsl_words.specs.Word.{BinaryWord}
-use Rattle.ccsl_rules.specs.Faults.{Cause}
 
 abbrev pub at_ : ℕ → List ℕ → Spot
 at_ at name = record { at = at; name = name }
@@ -58,32 +56,25 @@ abbrev pub system_ : List (List ℕ) → ℕ → ℕ → List BinaryWord → Lis
 system_ names declared written words groups definitions constraints =
     record { names = names; declared = declared; written = written; words = words; groups = groups; definitions = definitions; constraints = constraints }
 
-abbrev pub fault_ : Cause → ℕ → Fault
-fault_ cause at = record { cause = cause; at = at }
-
 -- the library's tree
 abbrev pub the_library : PlainFile
-the_library = (sheet_ ((DRelation (at_ 17 (97 ∷ 108 ∷ 116 ∷ 101 ∷ 114 ∷ 110 ∷ 97 ∷ 116 ∷ 101 ∷ 115 ∷ []))
-    ((param_ kind.Clock (at_ 34 (97 ∷ []))) ∷ (param_ kind.Clock (at_ 43 (98 ∷ []))) ∷ [])
-    ((LDefine (at_ 57 (110 ∷ 101 ∷ 120 ∷ 116 ∷ [])) (EDelay (EName (at_ 64 (97 ∷ []))) (term_ (prim.Num 72 1) []))) ∷ (LConstraint (at_ 77 (97 ∷ []))
-    rel.Precedes (at_ 88 (98 ∷ []))) ∷ (LConstraint (at_ 93 (98 ∷ [])) rel.Precedes (at_ 104 (110 ∷ 101 ∷ 120 ∷ 116 ∷ []))) ∷ [])) ∷ (DGroup
-    ((part_ (at_ 123 (112 ∷ 101 ∷ 114 ∷ 105 ∷ 111 ∷ 100 ∷ 105 ∷ 99 ∷ []))
-    ((param_ kind.Clock (at_ 138 (99 ∷ []))) ∷ (param_ kind.Number (at_ 148 (110 ∷ []))) ∷ [])
-    (EBinary op.Then (EAwait (EName (at_ 154 (99 ∷ []))) (term_ (prim.Name (at_ 162 (110 ∷ []))) []))
-    (ECall (at_ 170 (112 ∷ 101 ∷ 114 ∷ 105 ∷ 111 ∷ 100 ∷ 105 ∷ 99 ∷ []))
-    ((arg.Term (term_ (prim.Name (at_ 179 (99 ∷ []))) [])) ∷ (arg.Term
-    (term_ (prim.Name (at_ 182 (110 ∷ []))) [])) ∷ [])))) ∷ [])) ∷ (DGroup
-    ((part_ (at_ 197 (115 ∷ 107 ∷ 105 ∷ 112 ∷ []))
-    ((param_ kind.Clock (at_ 208 (99 ∷ []))) ∷ (param_ kind.Number (at_ 218 (110 ∷ []))) ∷ [])
-    (EIf (test.Equal (term_ (prim.Name (at_ 228 (110 ∷ []))) []) (term_ (prim.Num 232 0) []))
-    (EName (at_ 238 (99 ∷ [])))
-    (EBinary op.Then (EBinary op.Upto ENever
-    (EAwait (EName (at_ 258 (99 ∷ []))) (term_ (prim.Name (at_ 266 (110 ∷ []))) [])))
-    (EName (at_ 275 (99 ∷ [])))))) ∷ [])) ∷ (DGroup
-    ((part_ (at_ 289 (102 ∷ 105 ∷ 108 ∷ 116 ∷ 101 ∷ 114 ∷ 95 ∷ 98 ∷ 121 ∷ []))
-    ((param_ kind.Clock (at_ 305 (99 ∷ []))) ∷ (param_ kind.Word (at_ 313 (119 ∷ []))) ∷ [])
-    (EIf (test.Ended (at_ 329 (119 ∷ []))) ENever
-    (EIf (test.Head (at_ 356 (119 ∷ [])))
-    (EBinary op.Then (EAwait (EName (at_ 363 (99 ∷ [])))
-    (term_ (prim.Num 371 1) []))
-    (ECall (at_ 379 (102 ∷ 105 ∷ 108 ∷ 116 ∷ 101 ∷ 114 ∷ 95 ∷ 98 ∷ 121 ∷ [])) ((arg.Term (term_ (prim.Name (at_ 389 (99 ∷ []))) [])) ∷ (arg.Tail (at_ 397 (119 ∷ []))) ∷ []))) (EBinary op.Then (EBinary op.Upto ENever (EName (at_ 419 (99 ∷ [])))) (ECall (at_ 427 (102 ∷ 105 ∷ 108 ∷ 116 ∷ 101 ∷ 114 ∷ 95 ∷ 98 ∷ 121 ∷ [])) ((arg.Term (term_ (prim.Name (at_ 437 (99 ∷ []))) [])) ∷ (arg.Tail (at_ 445 (119 ∷ []))) ∷ [])))))) ∷ [])) ∷ []) [])
+the_library = sheet_ (
+    (DRelation (at_ 17 (codes "alternates")) ((param_ kind.Clock (at_ 34 (codes "a"))) ∷ (param_ kind.Clock (at_ 43 (codes "b"))) ∷ [])
+    ((LDefine (at_ 57 (codes "next")) (EDelay (EName (at_ 64 (codes "a"))) (term_ (prim.Num 72 1) []))) ∷
+    (LConstraint (at_ 77 (codes "a")) rel.Precedes (at_ 88 (codes "b"))) ∷
+    (LConstraint (at_ 93 (codes "b")) rel.Precedes (at_ 104 (codes "next"))) ∷ []))
+    ∷ (DGroup ((part_ (at_ 123 (codes "periodic")) ((param_ kind.Clock (at_ 138 (codes "c"))) ∷ (param_ kind.Number (at_ 148 (codes "n"))) ∷ [])
+    (EBinary op.Then (EAwait (EName (at_ 154 (codes "c"))) (term_ (prim.Name (at_ 162 (codes "n"))) []))
+    (ECall (at_ 170 (codes "periodic"))
+    ((arg.Term (term_ (prim.Name (at_ 179 (codes "c"))) [])) ∷ (arg.Term (term_ (prim.Name (at_ 182 (codes "n"))) [])) ∷ [])))) ∷ []))
+    ∷ (DGroup ((part_ (at_ 197 (codes "skip")) ((param_ kind.Clock (at_ 208 (codes "c"))) ∷ (param_ kind.Number (at_ 218 (codes "n"))) ∷ [])
+    (EIf (test.Equal (term_ (prim.Name (at_ 228 (codes "n"))) []) (term_ (prim.Num 232 0) [])) (EName (at_ 238 (codes "c")))
+    (EBinary op.Then (EBinary op.Upto ENever (EAwait (EName (at_ 258 (codes "c"))) (term_ (prim.Name (at_ 266 (codes "n"))) [])))
+    (EName (at_ 275 (codes "c")))))) ∷ []))
+    ∷ (DGroup ((part_ (at_ 289 (codes "filter_by")) ((param_ kind.Clock (at_ 305 (codes "c"))) ∷ (param_ kind.Word (at_ 313 (codes "w"))) ∷ [])
+    (EIf (test.Ended (at_ 329 (codes "w"))) ENever (EIf (test.Head (at_ 356 (codes "w")))
+    (EBinary op.Then (EAwait (EName (at_ 363 (codes "c"))) (term_ (prim.Num 371 1) []))
+    (ECall (at_ 379 (codes "filter_by")) ((arg.Term (term_ (prim.Name (at_ 389 (codes "c"))) [])) ∷ (arg.Tail (at_ 397 (codes "w"))) ∷ [])))
+    (EBinary op.Then (EBinary op.Upto ENever (EName (at_ 419 (codes "c"))))
+    (ECall (at_ 427 (codes "filter_by"))
+    ((arg.Term (term_ (prim.Name (at_ 437 (codes "c"))) [])) ∷ (arg.Tail (at_ 445 (codes "w"))) ∷ [])))))) ∷ [])) ∷ []) []
