@@ -1,6 +1,9 @@
 -- Truth values, options and short lists, case by case.
 use Rattle.std.proofs.Common.{◌≡◌, ℕ, suc, ◌+◌, ◌-◌, ◌<◌, ◌≤◌, List, [], ◌∷◌, ◌++◌, length, take, drop, take_all, length-drop, Bool, true, false, nat_lt}
 use Rattle.std.proofs.Common.{nat_le, Option, Some, None, is_some, slice_get, refl, arith}
+use Rattle.std.proofs.Common.{Ok, Err}
+use Rattle.std.specs.declared.result.Result.{Result}
+use Rattle.std.specs.Result.{IfOk, IfErr}
 use Rattle.std.proofs.lemmas.Grind.{common_steps}
 
 pub some-same : {A : Type 0} (x y : A) → Some x ≡ Some y → x ≡ y
@@ -39,3 +42,12 @@ one_more n = omega arith
 
 pub more_one : (n : ℕ) → suc n ≡ n + 1
 more_one n = omega arith
+
+-- a fact of each result of a kind is one of the result
+pub if_ok_each : {T E : Type 0} (r : Result T E) (P : T → Type 0) → ((x : T) → r ≡ Ok x → P x) → IfOk r P
+if_ok_each (Ok x) P h = h x refl
+if_ok_each (Err e) P h = tt
+
+pub if_err_each : {T E : Type 0} (r : Result T E) (P : E → Type 0) → ((x : E) → r ≡ Err x → P x) → IfErr r P
+if_err_each (Ok x) P h = tt
+if_err_each (Err e) P h = h e refl

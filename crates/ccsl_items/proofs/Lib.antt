@@ -3,3 +3,7 @@ pub mod Satisfied
 pub mod Going
 pub mod Solutions
 pub mod Named
+pub mod Among
+pub mod Numbers
+pub mod SetsBelow
+pub mod Admissible

@@ -21,10 +21,10 @@ use Rattle.ccsl_items.specs.Formulas.{item_formulas, scope_of}
 use Rattle.ccsl_items.specs.Laws.{IsNamedRun, IsSolution}
 use Rattle.ccsl_items.proofs.Sets.{below-members}
 use Rattle.ccsl_items.proofs.Solutions.{admissible_solution, solution_admissible}
-use Rattle.ccsl_simulate.specs.Chosen.{admissible_sets}
-use Rattle.ccsl_simulate.proofs.Among.{Among}
-use Rattle.ccsl_simulate.proofs.Admissible.{is-admissible, admissible-is}
-use Rattle.ccsl_simulate.proofs.Asking.{all-below}
+use Rattle.ccsl_items.specs.Admissible.{admissible_sets}
+use Rattle.ccsl_items.proofs.Among.{Among}
+use Rattle.ccsl_items.proofs.Admissible.{is-admissible, admissible-is}
+use Rattle.ccsl_solve.proofs.PosedLaws.{all-below}
 use Rattle.ccsl_possible.specs.Possible.{is_allowed, allowed_clocks}
 use Rattle.ccsl_possible.specs.Ticking.{CanBeAsked, MayTick, AreThoseBelow}
 

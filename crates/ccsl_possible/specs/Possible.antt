@@ -7,7 +7,7 @@ use Rattle.ccsl_kernel.specs.Syntax.{System}
 use Rattle.ccsl_kernel.specs.Lives.{Step, steps}
 use Rattle.ccsl_kernel.specs.Items.{item_formula}
 use Rattle.ccsl_kernel.specs.Runs.{full_step}
-use Rattle.ccsl_simulate.specs.Chosen.{admissible_sets}
+use Rattle.ccsl_items.specs.Admissible.{admissible_sets}
 
 -- whether constraint j fails where the steps T go on by the declared clocks s and the defined clocks that these give
 abbrev pub fails : System → List Step → Step → ℕ → Bool

@@ -24,7 +24,7 @@ use Rattle.ccsl_policy.specs.declared.choice.Choice.{Choice}
 use Rattle.ccsl_policy.specs.Chosen.{IsChosen, IsDeadlock, Chooses}
 use Rattle.ccsl_policy.specs.Words.{words_from}
 use Rattle.ccsl_simulate.specs.Simulation.{words_of_step}
-use Rattle.ccsl_simulate.proofs.Numbers.{all_below}
+use Rattle.ccsl_items.proofs.Numbers.{all_below}
 use Rattle.ccsl_simulate.proofs.Choosing.{choice-chosen, deadlock-chosen, chosen-best}
 use Rattle.ccsl_possible.specs.Possible.{is_allowed, allowed_clocks}
 use Rattle.ccsl_session.specs.Answers.{next_set}

@@ -9,7 +9,7 @@ use Rattle.ccsl_policy.specs.Priority.{word_of, comes_before, preferred}
 use Rattle.ccsl_policy.specs.Better.{IsBetter}
 use Rattle.ccsl_policy.proofs.Order.{is-before, before-trans}
 use Rattle.ccsl_simulate.specs.Chosen.{is_better}
-use Rattle.ccsl_simulate.proofs.Among.{Among}
+use Rattle.ccsl_items.proofs.Among.{Among}
 use Rattle.ccsl_simulate.proofs.Better.{better-is, is-better}
 
 -- of two clocks one comes first

@@ -10,7 +10,7 @@ use Rattle.ccsl_policy.specs.declared.policies.Policy.{Policy}
 use Rattle.ccsl_policy.specs.Priority.{word_of, comes_before, preferred}
 use Rattle.ccsl_policy.specs.Better.{IsBetter}
 use Rattle.ccsl_simulate.specs.Chosen.{decides, is_better}
-use Rattle.ccsl_simulate.proofs.Numbers.{each_below, all_below, any_below, some_below}
+use Rattle.ccsl_items.proofs.Numbers.{each_below, all_below, any_below, some_below}
 use Rattle.ccsl_formula.proofs.Same.{same-if, same-values}
 
 differ-is : (a b : Bool) → not (same a b) ≡ true → a ≡ not b

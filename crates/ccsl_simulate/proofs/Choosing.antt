@@ -16,13 +16,14 @@ use Rattle.ccsl_policy.specs.Priority.{word_of, preferred}
 use Rattle.ccsl_policy.specs.Better.{IsBetter}
 use Rattle.ccsl_policy.specs.Chosen.{IsChosen, IsDeadlock}
 use Rattle.ccsl_policy.proofs.First.{IsFirst, first-or-same}
-use Rattle.ccsl_simulate.specs.Chosen.{admissible_sets, is_better, is_best, chosen}
+use Rattle.ccsl_items.specs.Admissible.{admissible_sets}
+use Rattle.ccsl_simulate.specs.Chosen.{is_better, is_best, chosen}
 use Rattle.ccsl_simulate.specs.Laws.{IsBest}
-use Rattle.ccsl_simulate.proofs.Among.{Among, found-among, none-found, only-found, none-passes, each-of, all-of}
-use Rattle.ccsl_simulate.proofs.SetsBelow.{one_set}
+use Rattle.ccsl_items.proofs.Among.{Among, found-among, none-found, only-found, none-passes, each-of, all-of}
+use Rattle.ccsl_items.proofs.SetsBelow.{one_set}
 use Rattle.ccsl_simulate.proofs.Better.{better-is, is-better, better-same}
 use Rattle.ccsl_simulate.proofs.Best.{BestOf, best_of}
-use Rattle.ccsl_simulate.proofs.Admissible.{is-admissible, admissible-set, admissible-is}
+use Rattle.ccsl_items.proofs.Admissible.{is-admissible, admissible-set, admissible-is}
 
 not-true : (b : Bool) → not b ≡ true → b ≡ true → ⊥
 not-true true h e = cc

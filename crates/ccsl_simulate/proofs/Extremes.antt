@@ -17,7 +17,7 @@ use Rattle.ccsl_simulate.specs.Laws.{IsBest, IsSimulation}
 use Rattle.ccsl_simulate.specs.Ends.{IsPart, declared_at, IsMinimalStep, IsMaximalStep}
 use Rattle.ccsl_simulate.proofs.OneSimulation.{is-simulation}
 use Rattle.ccsl_simulate.proofs.Runs.{named_run, front}
-use Rattle.ccsl_simulate.proofs.SetsBelow.{IsSetBelow, one_set}
+use Rattle.ccsl_items.proofs.SetsBelow.{IsSetBelow, one_set}
 
 set-below : (K : System) (T : List Step) (s : Step) → IsAdmissible K T s → IsSetBelow K.declared s
 set-below K T s a = let d = and_parts (is_ascending s) (are_below K.declared s) a.declared in record { ascending = d.0; below = d.1 }

@@ -1,9 +1,5 @@
-pub mod Among
-pub mod Numbers
-pub mod SetsBelow
 pub mod Better
 pub mod Best
-pub mod Admissible
 pub mod Choosing
 pub mod Runs
 pub mod OneSimulation

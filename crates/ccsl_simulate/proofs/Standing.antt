@@ -1,8 +1,6 @@
 -- What a simulator stands for after a turn, and what the turn has written.
 use Rattle.std.proofs.Common.{◌≡◌, inl, inr, ℕ, suc, ◌+◌, ◌*◌, ◌<◌, ◌^◌, List, [], ◌∷◌, ◌++◌, length, true, All, Ok, Err, refl, sym, ap, ap₂, ◌∙◌, subst, arith}
 use Rattle.std.proofs.Common.{length-append, suc-mul}
-use Rattle.std.specs.declared.result.Result.{Result}
-use Rattle.std.specs.Result.{IfOk, IfErr}
 use Rattle.std.proofs.lemmas.Bool.{and_parts}
 use Rattle.ccsl_base.specs.Clocks.{is_ascending}
 use Rattle.ccsl_edge.specs.declared.slot.Slot.TheVariants.{TraceOut, CertOut}
@@ -33,14 +31,6 @@ use Rattle.ccsl_simulate.specs.Going.{run_of, Stands, SameTask, WriteFails, Turn
 use Rattle.ccsl_simulate.proofs.Turns.{next-step, stopped-there}
 
 -- a fact of each value is a fact of the one that there is
-pub if_ok_each : {T E : Type 0} (r : Result T E) (P : T → Type 0) → ((x : T) → r ≡ Ok x → P x) → IfOk r P
-if_ok_each (Ok x) P h = h x refl
-if_ok_each (Err e) P h = tt
-
-pub if_err_each : {T E : Type 0} (r : Result T E) (P : E → Type 0) → ((x : E) → r ≡ Err x → P x) → IfErr r P
-if_err_each (Ok x) P h = tt
-if_err_each (Err e) P h = h e refl
-
 pub same-task : (a b c : Simulator) → SameTask a b → SameTask b c → SameTask a c
 same-task a b c p q = record { system = q.system ∙ p.system; policy = q.policy ∙ p.policy }
 

@@ -9,3 +9,4 @@ pub mod Best
 pub mod Answering
 pub mod Denials
 pub mod Searching
+pub mod PosedLaws

@@ -5,7 +5,7 @@ use Rattle.ccsl_formula.specs.declared.scope.Scope.{Scope}
 use Rattle.ccsl_formula.specs.Formula.{Formula}
 use Rattle.ccsl_formula.specs.Plain.{plain}
 use Rattle.ccsl_items.specs.Formulas.{item_formulas, scope_of}
-use Rattle.ccsl_simulate.proofs.Standing.{if_ok_each}
+use Rattle.ccsl_base.proofs.Cases.{if_ok_each}
 use Rattle.ccsl_possible.specs.Ticking.{CanBeAsked, AreThoseBelow}
 use Rattle.ccsl_possible.proofs.Choosing.{asked, those-allowed}
 use Rattle.ccsl_possible.proofs.clocks.allowed.Goals as goal

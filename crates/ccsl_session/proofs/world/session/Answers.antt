@@ -1,6 +1,6 @@
 use Rattle.std.proofs.Common.{[], sym, subst}
 use Rattle.std.proofs.lemmas.Result.{IfOk-at_ok, IfErr-at_err, err_from_is_err_and}
-use Rattle.ccsl_simulate.proofs.Standing.{if_ok_each, if_err_each}
+use Rattle.ccsl_base.proofs.Cases.{if_ok_each, if_err_each}
 use Rattle.ccsl_session.specs.Leaving.{HasEnded, IsCut}
 use Rattle.ccsl_session.specs.Laws.{IsStack, empty}
 use Rattle.ccsl_session.specs.Answering.{system_of, sets_of}

@@ -3,7 +3,7 @@ use Rattle.std.proofs.lemmas.Result.{IfOk-at_ok, IfErr-at_err, err_from_is_err_a
 use Rattle.ccsl_edge.specs.declared.slot.Slot.TheVariants.{Report}
 use Rattle.ccsl_edge.specs.Calls.{Adds}
 use Rattle.ccsl_kernel.specs.Syntax.{System}
-use Rattle.ccsl_simulate.proofs.Standing.{if_ok_each, if_err_each}
+use Rattle.ccsl_base.proofs.Cases.{if_ok_each, if_err_each}
 use Rattle.ccsl_session.specs.declared.world.Heard.{Heard}
 use Rattle.ccsl_session.specs.declared.answer.Ended.TheVariants.{Quit}
 use Rattle.ccsl_session.specs.Asked.{Asked, is_quit}

@@ -6,7 +6,8 @@ use Rattle.ccsl_kernel.specs.Runs.{completed}
 use Rattle.ccsl_solve.specs.Posed.{AllBelow}
 use Rattle.ccsl_items.specs.Formulas.{item_formulas, scope_of}
 use Rattle.ccsl_simulate.specs.Simulation.{words_of_step}
-use Rattle.ccsl_simulate.proofs.Asking.{all-below, words-length}
+use Rattle.ccsl_solve.proofs.PosedLaws.{all-below}
+use Rattle.ccsl_simulate.proofs.Asking.{words-length}
 use Rattle.ccsl_session.proofs.Choices.{chooses-at, step-words}
 use Rattle.ccsl_session.proofs.answers.Session.choice.Goals as goal
 

@@ -3,7 +3,8 @@ use Rattle.ccsl_formula.specs.declared.formula.Formula.{Formula as Boxed}
 use Rattle.ccsl_formula.specs.declared.scope.Scope.{Scope}
 use Rattle.ccsl_formula.specs.Plain.{plain}
 use Rattle.ccsl_solve.specs.Posed.{AllBelow}
-use Rattle.ccsl_simulate.proofs.Asking.{all-below, words-length}
+use Rattle.ccsl_solve.proofs.PosedLaws.{all-below}
+use Rattle.ccsl_simulate.proofs.Asking.{words-length}
 use Rattle.ccsl_simulate.proofs.simulator.Simulator.choice.Goals as goal
 
 pub choose-requires-clause-reads : goal.choose-requires-clause-reads

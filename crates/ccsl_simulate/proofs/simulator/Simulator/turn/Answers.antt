@@ -6,7 +6,8 @@ use Rattle.ccsl_items.specs.Formulas.{item_formulas, scope_of}
 use Rattle.ccsl_simulate.specs.Simulation.{words_of_step}
 use Rattle.ccsl_simulate.specs.declared.simulator.Turn.{Turn}
 use Rattle.ccsl_simulate.specs.Going.{run_of, TurnDoes}
-use Rattle.ccsl_simulate.proofs.Standing.{if_ok_each, if_err_each, stands-next, turn-goes, step-fails, lines-named, turn-ends, lines-fail}
+use Rattle.ccsl_base.proofs.Cases.{if_ok_each, if_err_each}
+use Rattle.ccsl_simulate.proofs.Standing.{stands-next, turn-goes, step-fails, lines-named, turn-ends, lines-fail}
 use Rattle.ccsl_simulate.proofs.simulator.Simulator.turn.Goals as goal
 
 pub write_lines-requires-clause-below : goal.write_lines-requires-clause-below

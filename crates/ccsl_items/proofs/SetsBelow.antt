@@ -5,8 +5,8 @@ use Rattle.ccsl_base.specs.Clocks.{ticks_in, with_clock, is_ascending, are_below
 use Rattle.ccsl_kernel.specs.Lives.{Step}
 use Rattle.ccsl_base.proofs.Ascending.{with_clock-last}
 use Rattle.ccsl_kernel.proofs.Sets.{below, below-all, below-suc, below-below, ascending-last, are_below-last, are_below-more}
-use Rattle.ccsl_simulate.specs.Chosen.{sets_below}
-use Rattle.ccsl_simulate.proofs.Among.{Among, among-left, among-right, among-parts, among-map, map-among}
+use Rattle.ccsl_items.specs.Admissible.{sets_below}
+use Rattle.ccsl_items.proofs.Among.{Among, among-left, among-right, among-parts, among-map, map-among}
 
 -- a set of clocks below m
 pub record IsSetBelow (m : ℕ) (s : Step) : Type 0 where

@@ -6,11 +6,11 @@ use Rattle.ccsl_base.specs.Clocks.{is_ascending, are_below}
 use Rattle.ccsl_kernel.specs.Syntax.{System, item_count}
 use Rattle.ccsl_kernel.specs.Lives.{Step, steps}
 use Rattle.ccsl_kernel.specs.Runs.{holds_at, IsRun, IsAdmissible, completed, declared_part}
-use Rattle.ccsl_simulate.specs.Chosen.{sets_below, is_run, is_admissible, admissible_sets}
+use Rattle.ccsl_items.specs.Admissible.{sets_below, is_run, is_admissible, admissible_sets}
 use Rattle.ccsl_base.specs.Empty.{is_empty}
-use Rattle.ccsl_simulate.proofs.Among.{Among, among-filter, filter-among}
-use Rattle.ccsl_simulate.proofs.Numbers.{each_below, all_below}
-use Rattle.ccsl_simulate.proofs.SetsBelow.{IsSetBelow, set-among, among-set}
+use Rattle.ccsl_items.proofs.Among.{Among, among-filter, filter-among}
+use Rattle.ccsl_items.proofs.Numbers.{each_below, all_below}
+use Rattle.ccsl_items.proofs.SetsBelow.{IsSetBelow, set-among, among-set}
 
 run-is : (K : System) (T : List Step) → is_run K T ≡ true → IsRun K T
 run-is K T h n i l j =
