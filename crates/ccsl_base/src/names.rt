@@ -12,7 +12,6 @@ use std::marker::Model;
 
 /// A list of distinct byte texts, each with its number in the order of addition. A look-up takes constant expected time: where a
 /// stranger chooses the texts, by a hasher that he does not know.
-#[derive(Drop)]
 pub struct Names<S: BuildHasher = BuildHasherDefault<FoldHasher>> {
     alloc: Global,
     texts: IndexSet<Vec<u8>, S>,
@@ -28,6 +27,16 @@ impl<S: BuildHasher> Model for Names<S> {
 
     ghost invariant = { λ n. (length n.texts.keys < 2 ^ 32)
         × IsTrue (are_distinct (map (λ t. t.items) n.texts.keys)) };
+}
+
+// By hand and not derived: to the prover, an early return then drops one by a single call.
+impl<S: BuildHasher + Drop> Drop for Names<S> {
+    fn drop(self) {
+        let Names {
+            alloc: _,
+            texts: _texts,
+        } = self;
+    }
 }
 
 impl Names {

@@ -12,11 +12,21 @@ use std::alloc::Global;
 use std::marker::Model;
 
 /// A piece of an input slot, from whose front bytes are taken. Contracts see the bytes that are left.
-#[derive(Drop)]
 pub struct Pending {
     buf: Vec<u8>,
     from: usize,
     to: usize,
+}
+
+// By hand and not derived: to the prover, an early return then drops one by a single call.
+impl Drop for Pending {
+    fn drop(self) {
+        let Pending {
+            buf: _buf,
+            from: _,
+            to: _,
+        } = self;
+    }
 }
 
 impl Model for Pending {
