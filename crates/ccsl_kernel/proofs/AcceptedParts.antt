@@ -1,5 +1,5 @@
 -- What the parts of an accepted system obey: guarded calls, scopes, offsets that fit, and bounded depth.
-use Rattle.std.proofs.Common.{◌≡◌, ℕ, zero, suc, ◌+◌, ◌-◌, ◌≤◌, List, [], ◌∷◌, All, Bool, true, false, Option, Some, None, slice_get, nat_lt, if◌then◌else◌}
+use Rattle.std.proofs.Common.{◌≡◌, ℕ, zero, suc, ◌+◌, ◌-◌, ◌<◌, ◌≤◌, List, [], ◌∷◌, All, Bool, true, false, Option, Some, None, slice_get, nat_lt, if◌then◌else◌}
 use Rattle.std.proofs.Common.{refl, sym, ap, subst, arith, ltb-false}
 use Rattle.std.proofs.lemmas.List.Elements.{All-nil, All-cons}
 use Rattle.std.proofs.lemmas.Option.{slice_get_within, get_or_from_slice_get}
@@ -24,7 +24,8 @@ use Rattle.ccsl_kernel.specs.Accepted.{IsAccepted}
 use Rattle.ccsl_kernel.specs.Fit.{PlaceFits, TestFits, ValueFits}
 use Rattle.ccsl_kernel.specs.Fitting.{ValuesFit, ExprFits}
 use Rattle.ccsl_kernel.specs.Deep.{deep}
-use Rattle.ccsl_kernel.proofs.Scoped.{PlaceBelow, ArgsBelow, NamesBelow, IsScoped}
+use Rattle.ccsl_kernel.proofs.Scoped.{NamesBelow, IsScoped}
+use Rattle.ccsl_kernel.specs.Within.{PlaceWithin, ArgsWithin}
 use Rattle.ccsl_kernel.proofs.GuardedCalls.{AreAllowed, IsGuarded}
 
 Each-at : {A : Type 0} (P : ℕ → A → Type 0) (i : ℕ) (xs : List A) (j : ℕ) (x : A) → Each P i xs → slice_get xs j ≡ Some x → P (i + j) x
@@ -76,11 +77,11 @@ accepted_guarded K ok = record {
 }
 
 module _ (groups : List (List Body)) (words : List BinaryWord) (clocks : ℕ) (params : List ParamKind) where
-  place_below : (x : Place) → IsClock groups words clocks params x → PlaceBelow clocks x
+  place_below : (x : Place) → IsClock groups words clocks params x → PlaceWithin (λ y. y < clocks) x
   place_below (place.Clock x) h = h
   place_below (place.Param i) h = tt
 
-  args_below : (ks : List ParamKind) (vs : List Value) → AreArguments groups words clocks params ks vs → ArgsBelow clocks vs
+  args_below : (ks : List ParamKind) (vs : List Value) → AreArguments groups words clocks params ks vs → ArgsWithin (λ y. y < clocks) vs
   args_below [] [] h = tt
   args_below [] (v ∷ vs) h = absurd h
   args_below (k ∷ ks) [] h = absurd h

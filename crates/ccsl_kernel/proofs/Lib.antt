@@ -1,5 +1,6 @@
 pub mod GuardedCalls
 pub mod Scoped
+pub mod WithinLaws
 pub mod Steps
 pub mod Induction
 pub mod Agree

@@ -22,7 +22,9 @@ use Rattle.ccsl_kernel.specs.Table.{sampled_weakly_row}
 use Rattle.ccsl_kernel.specs.Ticks.{count, ever, waits, waits_weakly, waits_since}
 use Rattle.ccsl_kernel.specs.Meaning.{named, life_given}
 use Rattle.ccsl_kernel.specs.Guarded.{IsAllowed}
-use Rattle.ccsl_kernel.proofs.Scoped.{PlaceBelow, ArgsBelow, NamesBelow, ActualsBelow}
+use Rattle.ccsl_kernel.specs.Within.{ActualsWithin}
+use Rattle.ccsl_kernel.proofs.Scoped.{NamesBelow}
+use Rattle.ccsl_kernel.proofs.WithinLaws.{ActualWithin, names_more, place_within, args_within}
 use Rattle.ccsl_kernel.proofs.GuardedCalls.{AreGuarded}
 use Rattle.ccsl_kernel.proofs.Steps.{find-within}
 use Rattle.ccsl_kernel.proofs.Induction.{IsClosed, induct}
@@ -58,57 +60,8 @@ eval_same X (FAnd f g) s s' r h = ap₂ (λ x y. x && y) (eval_same X f s s' r.0
 eval_same X (FOr f g) s s' r h = ap₂ (λ x y. x || y) (eval_same X f s s' r.0 h) (eval_same X g s s' r.1 h)
 eval_same X (FIff f g) s s' r h = ap₂ same (eval_same X f s s' r.0 h) (eval_same X g s s' r.1 h)
 
--- none below 0 is none below X
-none_place : (X : ℕ) (x : Place) → PlaceBelow 0 x → PlaceBelow X x
-none_place X (place.Clock x) h = let z : ⊥ = omega arith in absurd z
-none_place X (place.Param i) h = tt
-
-none_args : (X : ℕ) (args : List Value) → ArgsBelow 0 args → ArgsBelow X args
-none_args X [] h = tt
-none_args X (value.Clock x ∷ args) h = (none_place X x h.0, none_args X args h.1)
-none_args X (value.Number t ∷ args) h = none_args X args h
-none_args X (value.Word w ∷ args) h = none_args X args h
-
-none_names : (X : ℕ) (e : Expression) → NamesBelow 0 e → NamesBelow X e
-none_names X (EName x) h = none_place X x h
-none_names X (ECall group member args) h = none_args X args h
-none_names X ENever h = tt
-none_names X (EBinary op a d) h = (none_names X a h.0, none_names X d h.1)
-none_names X (EDelay a m) h = none_names X a h
-none_names X (EAwait a m) h = none_names X a h
-none_names X (EFilter a w) h = none_names X a h
-none_names X (EDelayed a m d) h = (none_names X a h.0, none_names X d h.1)
-none_names X (EIf q a d) h = (none_names X a h.0, none_names X d h.1)
-
 module _ (X : ℕ) where
-  abbrev ActualBelow : Actual → Type 0
-  ActualBelow v = ActualsBelow X (v ∷ [])
-
-  val_in : (ρ : List Actual) (i : ℕ) → ActualsBelow X ρ → ActualBelow (get_or ρ i (actual.Number 0))
-  val_in [] i h = tt
-  val_in (actual.Clock x ∷ ρ) zero h = (h.0, tt)
-  val_in (actual.Number n ∷ ρ) zero h = tt
-  val_in (actual.Word w o ∷ ρ) zero h = tt
-  val_in (actual.Clock x ∷ ρ) (suc i) h = val_in ρ i h.1
-  val_in (actual.Number n ∷ ρ) (suc i) h = val_in ρ i h
-  val_in (actual.Word w o ∷ ρ) (suc i) h = val_in ρ i h
-
-  place_in : (x : Place) (ρ : List Actual) → PlaceBelow X x → ActualsBelow X ρ → ActualBelow (place_of x ρ)
-  place_in (place.Clock x) ρ h v = (h, tt)
-  place_in (place.Param i) ρ h v = val_in ρ i v
-
-  val_cons : (v : Actual) (ρ : List Actual) → ActualBelow v → ActualsBelow X ρ → ActualsBelow X (v ∷ ρ)
-  val_cons (actual.Clock x) ρ h r = (h.0, r)
-  val_cons (actual.Number n) ρ h r = r
-  val_cons (actual.Word w o) ρ h r = r
-
-  args_in : (words : List BinaryWord) (args : List Value) (ρ : List Actual) → ArgsBelow X args → ActualsBelow X ρ → ActualsBelow X (map (value_of words ρ) args)
-  args_in words [] ρ h v = tt
-  args_in words (value.Clock x ∷ args) ρ h v = val_cons (place_of x ρ) _ (place_in x ρ h.0 v) (args_in words args ρ h.1 v)
-  args_in words (value.Number t ∷ args) ρ h v = args_in words args ρ h v
-  args_in words (value.Word w ∷ args) ρ h v = args_in words args ρ h v
-
-  chosen : (c : Bool) (f g : Formula) → ReadsOnly X f → ReadsOnly X g → ReadsOnly X (if c then f else g)
+  pub chosen : (c : Bool) (f g : Formula) → ReadsOnly X f → ReadsOnly X g → ReadsOnly X (if c then f else g)
   chosen true f g r r' = r
   chosen false f g r r' = r'
 
@@ -150,9 +103,9 @@ module _ (X : ℕ) where
   module _ (K : System) (T : List Step) (gone : ℕ → ℕ → Bool) (ok : AreGuarded K) (closed : (g m : ℕ) → NamesBelow 0 (root_of K g m)) where
     -- what is shown of an expression that is born at b
     abbrev Reads : ℕ → Expression → List Actual → Type 0
-    Reads b e ρ = NamesBelow X e → ActualsBelow X ρ → (n : ℕ) → b ≤ n → n ≤ length T → ReadsOnly X (life_given K T gone e ρ b n).formula
+    Reads b e ρ = NamesBelow X e → ActualsWithin (λ x. x < X) ρ → (n : ℕ) → b ≤ n → n ≤ length T → ReadsOnly X (life_given K T gone e ρ b n).formula
 
-    name_reads : (v : Actual) → ActualBelow v → (b n : ℕ) → ReadsOnly X (named K T gone v b n).formula
+    name_reads : (v : Actual) → ActualWithin (λ x. x < X) v → (b n : ℕ) → ReadsOnly X (named K T gone v b n).formula
     name_reads (actual.Clock x) h b n = h.0
     name_reads (actual.Number k) h b n = tt
     name_reads (actual.Word w o) h b n = tt
@@ -183,7 +136,7 @@ module _ (X : ℕ) where
 
     reads_closed : IsClosed K (length T) Reads
     reads_closed = record {
-      name = λ x ρ b u h v n l u'. name_reads (place_of x ρ) (place_in x ρ h v) b n;
+      name = λ x ρ b u h v n l u'. name_reads (place_of x ρ) (place_within (λ x. x < X) x ρ h v) b n;
       never = λ ρ b u h v n l u'. tt;
       binary = λ o a d ρ b u ra rd h v n l u'. joined_reads o (life_given K T gone a ρ) (life_given K T gone d ρ) b n (λ i l u. ra h.0 v i l u)
           (λ k i l s l' u. rd k l (omega arith) s h.1 v i l' u) l u';
@@ -203,5 +156,6 @@ module _ (X : ℕ) where
         induct K (length T) Reads reads_closed ok
         (λ group m args v b g u h names vals n l u'.
         subst (λ (now : Now). ReadsOnly X now.formula) (sym (meaning_calls K T gone ok group m args v g b n l u'))
-        (h (none_names X (root_of K group m) (closed group m)) (args_in K.words args v names vals) n l u'))
+        (h (names_more (λ x. x < 0) (λ x. x < X) (λ y l. absurd (omega (arith, l))) (root_of K group m) (closed group m))
+        (args_within (λ x. x < X) K.words args v names vals) n l u'))
         e ρ b ok_e u

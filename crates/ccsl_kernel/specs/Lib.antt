@@ -1,6 +1,7 @@
 pub mod Syntax
 pub mod Plain
 pub mod Actuals
+pub mod Within
 pub mod Ticks
 pub mod Table
 pub mod Lives

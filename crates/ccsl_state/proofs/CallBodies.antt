@@ -25,7 +25,7 @@ use Rattle.ccsl_state.specs.Ready.{IsReady, IsCallReady, IsCallBody}
 use Rattle.ccsl_state.specs.Walks.{IsAdvanced, IsRewritten}
 use Rattle.ccsl_state.proofs.Operands.{inside}
 use Rattle.ccsl_state.proofs.Places.{ready_body, few_params}
-use Rattle.ccsl_state.proofs.Regions.{behind_head, first_same, front_kept, rest_one, within}
+use Rattle.ccsl_state.proofs.Regions.{behind_head, cell_same, front_kept, rest_one, within}
 
 -- what is owed for the region of the body of a member
 pub body_ready : (lay : Lay) (g m own : ℕ) (b : Body) (e : Expr) (ρ : List Actual) (row : List ℕ) → HasTable lay → length lay.earlier.now ≡ g
@@ -58,7 +58,7 @@ call_body_is lay g m count b e ρ row call ok is root params member stand fit =
     let room = call.room m b is in
     let all = call.few in
     let same : (row' : List ℕ) → take (1 + count) row' ≡ take (1 + count) row → call_tree lay row' ≡ tree lay e ρ (drop (1 + count) row') = λ row' kept.
-    let first = first_same (1 + count) row' row kept (omega arith) in
+    let first = cell_same (1 + count) 0 row' row kept (omega arith) in
     let params' = within (1 + count) 1 count row' row kept (omega arith) in
     ap (λ o. read_body K E (read_call K E (length E)) o (drop 1 row'))
     (ap₂ (body_of K.groups) call.group (ap (λ n. n % 2 ^ 32) first ∙ sym member) ∙ is)

@@ -1,5 +1,6 @@
 -- The region of a call in its parts: the member, the parameters' cells, and the body's region.
 use Rattle.std.proofs.Common.{◌≡◌, ℕ, ◌<◌, ◌%◌, ◌^◌, List, [], ◌∷◌, ◌++◌, length, map, slice_index, Some, refl, sym, ap, ap₂, ◌∙◌, arith}
+use Rattle.std.proofs.lemmas.List.{get_or_append_left}
 use Rattle.ccsl_kernel.specs.declared.actual.Actual.{Actual}
 use Rattle.ccsl_kernel.specs.declared.expr.Value.{Value}
 use Rattle.ccsl_kernel.specs.Syntax.{Body, ECall, System, body_of, root_or_never}
@@ -11,8 +12,7 @@ use Rattle.ccsl_state.proofs.Opening.{opening_call}
 use Rattle.ccsl_state.proofs.Regions.{behind_head, front_head}
 
 pub first_cell : (head rest : List ℕ) → length head ≡ 1 → slice_index (head ++ rest) 0 ≡ slice_index head 0
-first_cell [] rest l = absurd (omega (arith, l))
-first_cell (x ∷ head) rest l = refl
+first_cell head rest l = get_or_append_left head rest 0 0 (omega (arith, l))
 
 pub small_mod : (n : ℕ) → n < 2 ^ 32 → n % 2 ^ 32 ≡ n
 small_mod n l = omega (arith, l)

@@ -5,7 +5,8 @@ use Rattle.std.specs.Prelude.{MatchOption, IfSome}
 use Rattle.std.specs.List.{list_any, list_all}
 use Rattle.std.proofs.lemmas.List.{length-set, get_or_default, get_or-set_same, get_or-set_other}
 use Rattle.std.proofs.lemmas.Bool.{cases_eq, cases_lt, ne_eqb, and_parts, or_cases, or_left, or_right}
-use Rattle.std.proofs.Math.Bool.{or_assoc}
+use Rattle.std.proofs.Math.Bool.{or_assoc, or-false, and-true, and-false}
+use Rattle.std.proofs.lemmas.Option.{slice_get_past}
 use Rattle.ccsl_base.specs.Clocks.{ticks_in, with_clock, is_ascending}
 use Rattle.ccsl_base.specs.Changes.{put_clock}
 use Rattle.ccsl_base.proofs.Ascending.{above}
@@ -44,21 +45,13 @@ placed_more old i clock was now l at is y p = ⊎_elim
     (λ (e : y ≡ clock).
     ap (λ k. ticks_in p (slice_index_or (slice_set old clock now) k [])) e
     ∙ ap (ticks_in p) (get_or-set_same old clock now [] l ∙ is) ∙ ticks_in-with_clock p i was
-    ∙ ap₂ (λ a b. a || b) (and_yes (nat_eq p i) ∙ sym (ap (λ b. nat_eq p i && b) (eq-eqb y clock e)))
+    ∙ ap₂ (λ a b. a || b) (sym (ap (λ b. nat_eq p i && b) (eq-eqb y clock e) ∙ and-true (nat_eq p i)))
     (ap (ticks_in p) (at ∙ get_or_default old clock was [] l ∙ ap (λ k. slice_index_or old k []) (sym e))))
     (λ (ne : y ≡ clock → ⊥).
     ap (ticks_in p) (get_or-set_other old clock y now [] ne)
     ∙ sym (ap (λ b. (nat_eq p i && b) || ticks_in p (slice_index_or old y [])) (ne_eqb y clock ne)
-    ∙ ap (λ b. b || ticks_in p (slice_index_or old y [])) (and_no (nat_eq p i))))
+    ∙ ap (λ b. b || ticks_in p (slice_index_or old y [])) (and-false (nat_eq p i))))
     (cases_eq y clock)
-  where
-    and_yes : (b : Bool) → b ≡ (b && true)
-    and_yes true = refl
-    and_yes false = refl
-
-    and_no : (b : Bool) → (b && false) ≡ false
-    and_no true = refl
-    and_no false = refl
 
 -- the least member, or a bound where there is none
 abbrev pub lowest : ℕ → List ℕ → ℕ
@@ -125,11 +118,7 @@ hear_more sets unsettled s y left waiting waiting' h more p =
 
 pub hear_all : (sets : List (List ℕ)) (unsettled : List ℕ) (s : Step) (waiting : List ℕ) → IsHearing sets unsettled s [] waiting → (p : ℕ)
     → ticks_in p waiting ≡ is_waiting sets unsettled s p
-hear_all sets unsettled s waiting h p = none (ticks_in p waiting) ∙ h p
-  where
-    none : (a : Bool) → a ≡ (a || false)
-    none true = refl
-    none false = refl
+hear_all sets unsettled s waiting h p = sym (or-false (ticks_in p waiting)) ∙ h p
 
 -- ONE EMPTY SET more
 pub empty_more : (sets : List (List ℕ)) (one : List ℕ) → one ≡ [] → ((y : ℕ) → slice_index_or sets y [] ≡ []) → (y : ℕ)
@@ -153,11 +142,7 @@ adding_none i clocks left old is below = record {
 }
 
 regroup : (a e u w : Bool) → ((a && u) || ((a && e) || w)) ≡ ((a && (e || u)) || w)
-regroup true true true w = refl
-regroup true true false w = refl
-regroup true false true w = refl
-regroup true false false w = refl
-regroup false e u w = refl
+regroup a e u w = grind arith
 
 pub adding_within : (i clock : ℕ) (clocks left left' : List ℕ) (old sets : List (List ℕ)) → left ≡ clock ∷ left' → IsAdding i clocks old left sets
     → clock < length sets
@@ -181,20 +166,12 @@ adding_more i clock clocks left left' old sets was now is so at new = record {
 
 pub adding_all : (i : ℕ) (clocks : List ℕ) (old sets : List (List ℕ)) → IsAdding i clocks old [] sets → (y p : ℕ) →
     ticks_in p (slice_index_or sets y []) ≡ ((nat_eq p i && ticks_in y clocks) || ticks_in p (slice_index_or old y []))
-adding_all i clocks old sets so y p = none (nat_eq p i) (ticks_in p (slice_index_or sets y [])) ∙ so.added y p
-  where
-    none : (a t : Bool) → t ≡ ((a && false) || t)
-    none true t = refl
-    none false t = refl
+adding_all i clocks old sets so y p = sym (ap (λ a. a || ticks_in p (slice_index_or sets y [])) (and-false (nat_eq p i))) ∙ so.added y p
 
 -- the clocks that an expression names, as a set that had none
 pub named_alone : (e : Expression) (empty named : List ℕ) → empty ≡ [] → ((y : ℕ) → ticks_in y named ≡ (names_clock e y || ticks_in y empty)) → (y : ℕ)
     → ticks_in y named ≡ names_clock e y
-named_alone e empty named is added y = added y ∙ ap (λ s. names_clock e y || ticks_in y s) is ∙ none (names_clock e y)
-  where
-    none : (a : Bool) → (a || false) ≡ a
-    none true = refl
-    none false = refl
+named_alone e empty named is added y = added y ∙ ap (λ s. names_clock e y || ticks_in y s) is ∙ or-false (names_clock e y)
 
 -- THE TABLE OF READERS, of the definitions before number i
 abbrev pub ReadBefore : System → List ℕ → ℕ → List (List ℕ) → Type 0
@@ -232,28 +209,19 @@ module _ (K : System) (F : List ℕ) (i : ℕ) (sets : List (List ℕ)) (before 
       added y p ∙ ap (λ t. (nat_eq p i && names_clock e y) || t) (before y p) ∙ ⊎_elim
       (λ (same : p ≡ i).
       ap₂ (λ a b. (a && names_clock e y) || (b && (ticks_in (K.declared + p) F && reads K p y))) (eq-eqb p i same) (le-ltb p i (omega (arith, same)))
-      ∙ or_none (names_clock e y)
+      ∙ or-false (names_clock e y)
       ∙ sym (ap₂ (λ a b. a && b) (lt-ltb p (i + 1) (omega (arith, same)))
       (ap₂ (λ a b. a && b) (ap (λ k. ticks_in (K.declared + k) F) same ∙ followed) (ap (λ k. reads K k y) same ∙ ap (λ o. named_by o y) is))))
       (λ (ne : p ≡ i → ⊥).
       ap (λ a. (a && names_clock e y) || (nat_lt p i && (ticks_in (K.declared + p) F && reads K p y))) (ne_eqb p i ne)
       ∙ sym (ap (λ t. t && (ticks_in (K.declared + p) F && reads K p y)) (lt_more p i ∙ ap (λ t. t || nat_lt p i) (ne_eqb p i ne))))
       (cases_eq p i)
-    where
-      or_none : (a : Bool) → (a || false) ≡ a
-      or_none true = refl
-      or_none false = refl
 
 pub read_none : (K : System) (F : List ℕ) (sets : List (List ℕ)) → ((y : ℕ) → slice_index_or sets y [] ≡ []) → ReadBefore K F 0 sets
 read_none K F sets empty y p = ap (ticks_in p) (empty y) ∙ sym (ap (λ t. t && (ticks_in (K.declared + p) F && reads K p y)) (le-ltb p 0 (omega arith)))
 
 no_number : (K : System) (p y : ℕ) → length K.definitions ≤ p → reads K p y ≡ false
-no_number K p y l = ap (λ o. named_by o y) (past K.definitions p l)
-  where
-    past : (es : List Expression) (i : ℕ) → length es ≤ i → slice_get es i ≡ None
-    past [] i l = refl
-    past (e ∷ es) zero l = absurd (omega (arith, l))
-    past (e ∷ es) (suc i) l = past es i (omega (arith, l))
+no_number K p y l = ap (λ o. named_by o y) (slice_get_past K.definitions p l)
 
 pub read_all : (K : System) (F : List ℕ) (sets : List (List ℕ)) (n : ℕ) → n ≡ length K.definitions → length sets ≡ K.declared + length K.definitions
     → ReadBefore K F n sets → AreReaders K F sets
@@ -262,13 +230,9 @@ read_all K F sets n all count before = record {
   tell = λ y p. before y p ∙ ⊎_elim
       (λ (l : p < n). ap (λ t. t && (ticks_in (K.declared + p) F && reads K p y)) (lt-ltb p n l))
       (λ (l : n ≤ p). ap (λ t. t && (ticks_in (K.declared + p) F && reads K p y)) (le-ltb p n l)
-      ∙ sym (ap (λ t. ticks_in (K.declared + p) F && t) (no_number K p y (omega (arith, l, all))) ∙ neither (ticks_in (K.declared + p) F)))
+      ∙ sym (ap (λ t. ticks_in (K.declared + p) F && t) (no_number K p y (omega (arith, l, all))) ∙ and-false (ticks_in (K.declared + p) F)))
       (cases_lt p n);
 }
-  where
-    neither : (a : Bool) → (a && false) ≡ false
-    neither true = refl
-    neither false = refl
 
 -- what is as it is to be stays so
 pub put_already : (number : ℕ) (member : Bool) (set : List ℕ) → ticks_in number set ≡ member → (x : ℕ)

@@ -2,7 +2,7 @@
 use Rattle.std.proofs.Common.{◌≡◌, ℕ, zero, suc, ◌+◌, ◌<◌, ◌≤◌, List, [], ◌∷◌, ◌++◌, length, map, take, drop, slice_index, max, Bool, true, false, Option, Some}
 use Rattle.std.proofs.Common.{None, nat_lt, nat_eq, if◌then◌else◌, refl, sym, ap, ap₂, subst, ◌∙◌, arith, ltb-true, ◌%◌, ◌^◌, ⊎_elim}
 use Rattle.std.proofs.lemmas.Bool.{eqb-true, eqb-false, cases_lt}
-use Rattle.std.proofs.lemmas.List.{length-take-le, take-take}
+use Rattle.std.proofs.lemmas.List.{length-take-le, take-take, get_or-take}
 use Rattle.ccsl_base.specs.declared.limits.TheConstants.{MAX_CELLS}
 use Rattle.ccsl_kernel.specs.declared.expr.ExprOp.{ExprOp}
 use Rattle.ccsl_kernel.specs.declared.expr.ExprOp.TheVariants as op
@@ -12,45 +12,38 @@ use Rattle.ccsl_kernel.specs.Actuals.{number_of, suffix_of, test_of, word_of}
 use Rattle.ccsl_kernel.specs.Cells.{saturated, cells_in, cells_of_two}
 use Rattle.ccsl_state.specs.Tree.{Tree, TNever, TOne, TTwo, Delaying, Awaiting, Filtering, Leading, Trailing, Ending, EndingWeakly, Sampling, SamplingWeakly}
 use Rattle.ccsl_state.specs.Tree.{Lagging}
-use Rattle.ccsl_state.specs.Layout.{count_of, offset_of, flag_of, flag_at, bits_of, rotated, own_cells, two_at, then_at, words_of, lag_at, actual_of, read_in}
+use Rattle.ccsl_state.specs.Layout.{binary_at, count_of, offset_of, flag_of, flag_at, bits_of, rotated, own_cells, two_at, then_at, words_of, lag_at, actual_of, read_in}
 use Rattle.ccsl_state.specs.Layout.{read_body, read_call, read, region_of}
 use Rattle.ccsl_state.specs.Standing.{is_then, IsEnough}
 use Rattle.ccsl_state.specs.Nodes.{pair_at}
 use Rattle.ccsl_state.specs.Regions.{lag_node}
-use Rattle.ccsl_state.proofs.Pairs.{binary_pair}
-use Rattle.ccsl_state.proofs.Regions.{fewer, within, first_same, second_same, take_own}
+use Rattle.ccsl_state.proofs.Regions.{fewer, within, cell_same, take_own}
 
 -- AN OPERATOR'S OWN CELLS, and those of both operands
 pub cells_pair : (o : ExprOp) (m n : ℕ) → is_then o ≡ false → cells_of_two o m n ≡ own_cells o + m + n
-cells_pair op.Union m n e = refl
-cells_pair op.Inter m n e = refl
-cells_pair op.Minus m n e = refl
-cells_pair op.Inf m n e = refl
-cells_pair op.Sup m n e = refl
-cells_pair op.Upto m n e = refl
-cells_pair op.UptoWeakly m n e = refl
 cells_pair op.Then m n e = let z : ⊥ = cc in absurd z
-cells_pair op.Sampled m n e = refl
-cells_pair op.SampledWeakly m n e = refl
+cells_pair o m n e = refl
+
+-- an operator that is no then: its node over its operands
+binary_pair : (o : ExprOp) (row : List ℕ) → is_then o ≡ false → (a d t : Tree) → binary_at (two_at o row) a d t ≡ pair_at (two_at o row) a d
+binary_pair op.Then row e a d t = let z : ⊥ = cc in absurd z
+binary_pair o row e a d t = refl
 
 pub two_same : (o : ExprOp) (xs ys : List ℕ) → take (own_cells o) xs ≡ take (own_cells o) ys → two_at o xs ≡ two_at o ys
-two_same op.Union xs ys e = refl
-two_same op.Inter xs ys e = refl
-two_same op.Minus xs ys e = refl
-two_same op.Inf xs ys e = ap₂ (λ a d. Some (Leading (count_of a) (count_of d))) (first_same 2 xs ys e (omega arith)) (second_same 2 xs ys e (omega arith))
-two_same op.Sup xs ys e = ap₂ (λ a d. Some (Trailing (count_of a) (count_of d))) (first_same 2 xs ys e (omega arith)) (second_same 2 xs ys e (omega arith))
-two_same op.Upto xs ys e = ap (λ n. Some (Ending (flag_of n))) (first_same 1 xs ys e (omega arith))
-two_same op.UptoWeakly xs ys e = ap (λ n. Some (EndingWeakly (flag_of n))) (first_same 1 xs ys e (omega arith))
-two_same op.Then xs ys e = refl
-two_same op.Sampled xs ys e = ap (λ n. Some (Sampling (flag_of n))) (first_same 1 xs ys e (omega arith))
-two_same op.SampledWeakly xs ys e = ap (λ n. Some (SamplingWeakly (flag_of n))) (first_same 1 xs ys e (omega arith))
+two_same op.Inf xs ys e = ap₂ (λ a d. Some (Leading (count_of a) (count_of d))) (cell_same 2 0 xs ys e (omega arith)) (cell_same 2 1 xs ys e (omega arith))
+two_same op.Sup xs ys e = ap₂ (λ a d. Some (Trailing (count_of a) (count_of d))) (cell_same 2 0 xs ys e (omega arith)) (cell_same 2 1 xs ys e (omega arith))
+two_same op.Upto xs ys e = ap (λ n. Some (Ending (flag_of n))) (cell_same 1 0 xs ys e (omega arith))
+two_same op.UptoWeakly xs ys e = ap (λ n. Some (EndingWeakly (flag_of n))) (cell_same 1 0 xs ys e (omega arith))
+two_same op.Sampled xs ys e = ap (λ n. Some (Sampling (flag_of n))) (cell_same 1 0 xs ys e (omega arith))
+two_same op.SampledWeakly xs ys e = ap (λ n. Some (SamplingWeakly (flag_of n))) (cell_same 1 0 xs ys e (omega arith))
+two_same o xs ys e = refl
 
 -- a delayed's own cells
 pub lag_front : (m : ℕ) (head rest : List ℕ) → length head ≡ 2 + words_of m → lag_at m (head ++ rest) ≡ lag_at m head
 lag_front m head rest l =
     let own = 2 + words_of m in
     let e : take own (head ++ rest) ≡ take own head = sym (take_own own head rest l) in
-    ap₂ (λ k bits. Lagging m (rotated k (take m (bits_of bits)))) (first_same own (head ++ rest) head e (omega arith))
+    ap₂ (λ k bits. Lagging m (rotated k (take m (bits_of bits)))) (cell_same own 0 (head ++ rest) head e (omega arith))
     (within own 2 (words_of m) (head ++ rest) head e (omega arith))
 
 -- the nodes that they hold
@@ -79,19 +72,11 @@ module _ (K : System) (earlier : List ℕ) (calls : ℕ → List ℕ → Tree)
             let m = cells_in earlier a in
             let n = cells_in earlier d in
             ap₂ (λ late t. then_at late t (read_in K earlier calls d ρ (drop 1 xs)) d ρ)
-            (ap flag_of (first_same (1 + max m n) xs ys e (omega arith)))
+            (ap flag_of (cell_same (1 + max m n) 0 xs ys e (omega arith)))
             (same_a (drop 1 xs) (drop 1 ys) (omega arith) (within (1 + max m n) 1 m xs ys e (omega arith)))
             ∙ ap (λ t. then_at (flag_at ys) (read_in K earlier calls a ρ (drop 1 ys)) t d ρ)
             (same_d (drop 1 xs) (drop 1 ys) (omega arith) (within (1 + max m n) 1 n xs ys e (omega arith)))
-        then_same op.Union is l e = let z : ⊥ = cc in absurd z
-        then_same op.Inter is l e = let z : ⊥ = cc in absurd z
-        then_same op.Minus is l e = let z : ⊥ = cc in absurd z
-        then_same op.Inf is l e = let z : ⊥ = cc in absurd z
-        then_same op.Sup is l e = let z : ⊥ = cc in absurd z
-        then_same op.Upto is l e = let z : ⊥ = cc in absurd z
-        then_same op.UptoWeakly is l e = let z : ⊥ = cc in absurd z
-        then_same op.Sampled is l e = let z : ⊥ = cc in absurd z
-        then_same op.SampledWeakly is l e = let z : ⊥ = cc in absurd z
+        then_same o is l e = let z : ⊥ = cc in absurd z
 
         on : (t : Bool) → is_then o ≡ t → read_in K earlier calls (EBinary o a d) ρ xs ≡ read_in K earlier calls (EBinary o a d) ρ ys
         on true is = then_same o is l e
@@ -120,7 +105,7 @@ module _ (K : System) (earlier : List ℕ) (calls : ℕ → List ℕ → Tree)
         let q = cells_in earlier d in
         ap₂ (λ k bits. TTwo (Lagging m (rotated k (take m (bits_of bits)))) (read_in K earlier calls a ρ (drop (2 + w) xs))
         (read_in K earlier calls d ρ (drop (2 + w + p) xs)))
-        (first_same total xs ys e (omega arith)) (within total 2 w xs ys e (omega arith))
+        (cell_same total 0 xs ys e (omega arith)) (within total 2 w xs ys e (omega arith))
         ∙ ap₂ (TTwo (lag_at m ys))
         (same_a (drop (2 + w) xs) (drop (2 + w) ys) (omega arith) (within total (2 + w) p xs ys e (omega arith)))
         (same_d (drop (2 + w + p) xs) (drop (2 + w + p) ys) (omega arith) (within total (2 + w + p) q xs ys e (omega arith)))
@@ -137,14 +122,14 @@ module _ (K : System) (earlier : List ℕ) (calls : ℕ → List ℕ → Tree)
     read_in_same ENever ρ xs ys l e = refl
     read_in_same (EBinary o a d) ρ xs ys l e = binary_same o a d ρ (λ xs ys l e. read_in_same a ρ xs ys l e) (λ xs ys l e. read_in_same d ρ xs ys l e) xs ys l e
     read_in_same (EDelay a m) ρ xs ys l e =
-        ap₂ (λ n t. TOne (Delaying (number_of m ρ) (count_of n)) t) (first_same (1 + cells_in earlier a) xs ys e (omega arith))
+        ap₂ (λ n t. TOne (Delaying (number_of m ρ) (count_of n)) t) (cell_same (1 + cells_in earlier a) 0 xs ys e (omega arith))
         (read_in_same a ρ (drop 1 xs) (drop 1 ys) (omega arith) (within (1 + cells_in earlier a) 1 (cells_in earlier a) xs ys e (omega arith)))
     read_in_same (EAwait a m) ρ xs ys l e =
-        ap₂ (λ n t. TOne (Awaiting (number_of m ρ) (count_of n)) t) (first_same (1 + cells_in earlier a) xs ys e (omega arith))
+        ap₂ (λ n t. TOne (Awaiting (number_of m ρ) (count_of n)) t) (cell_same (1 + cells_in earlier a) 0 xs ys e (omega arith))
         (read_in_same a ρ (drop 1 xs) (drop 1 ys) (omega arith) (within (1 + cells_in earlier a) 1 (cells_in earlier a) xs ys e (omega arith)))
     read_in_same (EFilter a w) ρ xs ys l e =
         let v = word_of K.words (suffix_of K.words w ρ).word in
-        ap₂ (λ n t. TOne (Filtering v (offset_of v n)) t) (first_same (1 + cells_in earlier a) xs ys e (omega arith))
+        ap₂ (λ n t. TOne (Filtering v (offset_of v n)) t) (cell_same (1 + cells_in earlier a) 0 xs ys e (omega arith))
         (read_in_same a ρ (drop 1 xs) (drop 1 ys) (omega arith) (within (1 + cells_in earlier a) 1 (cells_in earlier a) xs ys e (omega arith)))
     read_in_same (EDelayed a m d) ρ xs ys l e = lag_same a m d ρ (λ xs ys l e. read_in_same a ρ xs ys l e) (λ xs ys l e. read_in_same d ρ xs ys l e) xs ys l e
     read_in_same (EIf q a d) ρ xs ys l e =
@@ -153,28 +138,17 @@ module _ (K : System) (earlier : List ℕ) (calls : ℕ → List ℕ → Tree)
         (read_in_same a ρ (drop 1 xs) (drop 1 ys) (omega arith) (within total 1 (cells_in earlier a) xs ys e (omega arith)))
         (read_in_same d ρ (drop 1 xs) (drop 1 ys) (omega arith) (within total 1 (cells_in earlier d) xs ys e (omega arith)))
 
--- of the table before a group
-pub taken : (earlier : List ℕ) (g k : ℕ) → k ≤ g → take k (take g earlier) ≡ take k earlier
-taken earlier g k l = take-take k g earlier l
-
-pub taken_at : (earlier : List ℕ) (g k : ℕ) → k < g → slice_index (take g earlier) k ≡ slice_index earlier k
-taken_at [] zero k l = absurd (omega (arith, l))
-taken_at [] (suc g) k l = refl
-taken_at (n ∷ earlier) zero k l = absurd (omega (arith, l))
-taken_at (n ∷ earlier) (suc g) zero l = refl
-taken_at (n ∷ earlier) (suc g) (suc k) l = taken_at earlier g k (omega (arith, l))
-
 module _ (K : System) where
   pub enough_before : (earlier : List ℕ) (g : ℕ) → g ≤ length earlier → IsEnough K earlier → IsEnough K (take g earlier)
   enough_before earlier g l enough g' l' =
       let len : length (take g earlier) ≡ g = length-take-le g earlier l in
       let below : g' < g = omega (arith, l', len) in
       let h = enough g' (omega (arith, below, l)) in
-      let at = taken_at earlier g g' below in (
+      let at = get_or-take g earlier g' 0 below in (
         subst (λ n. 1 ≤ n) (sym at) h.0,
         λ m b is.
             subst (λ ns. saturated (1 + length b.params + cells_in ns b.root) ≤ slice_index (take g earlier) g')
-            (sym (taken earlier g g' (omega (arith, below))))
+            (sym (take-take g' g earlier (omega (arith, below))))
             (subst (λ n. saturated (1 + length b.params + cells_in (take g' earlier) b.root) ≤ n) (sym at) (h.1 m b is)),
       )
 
@@ -212,7 +186,7 @@ module _ (K : System) where
       region_of K earlier xs ≡ region_of K earlier ys
   region_step earlier n xs ys enough pos room few e same =
       ap (λ k. read_body K earlier (read_call K earlier (length earlier)) (body_of K.groups (length earlier) (k % 2 ^ 32)) (drop 1 xs))
-      (first_same n xs ys e pos)
+      (cell_same n 0 xs ys e pos)
       ∙ on (body_of K.groups (length earlier) (slice_index ys 0 % 2 ^ 32)) refl
     where
       on : (o : Option Body) → body_of K.groups (length earlier) (slice_index ys 0 % 2 ^ 32) ≡ o →

@@ -1,7 +1,6 @@
 pub mod Opening
 pub mod Places
 pub mod Regions
-pub mod Pairs
 pub mod Frame
 pub mod Calls
 pub mod CallSites
@@ -12,7 +11,6 @@ pub mod Bits
 pub mod Keeping
 pub mod TreeFollows
 pub mod Rings
-pub mod Ones
 pub mod Each
 pub mod TableLaws
 pub mod StateLaws

@@ -1,12 +1,14 @@
 -- What has gone on by its own ticks has gone on by the full step: by induction over the clocks, since a definition reads lower ones.
 use Rattle.std.proofs.Common.{◌≡◌, ℕ, zero, suc, ◌+◌, ◌-◌, ◌<◌, ◌≤◌, ◌^◌, ⊎_elim, List, [], ◌∷◌, ◌++◌, length, filter, Bool, true, false, ◌&&◌, ◌||◌, Option}
-use Rattle.std.proofs.Common.{Some, None, slice_get, nat_eq, nat_lt, if◌then◌else◌, refl, sym, ap, ap₂, subst, ◌∙◌, arith, length-append, lt-ltb, eq-eqb}
+use Rattle.std.proofs.Common.{Some, None, option_map, slice_get, slice_index_or, nat_eq, nat_lt, if◌then◌else◌, refl, sym, ap, ap₂, subst, ◌∙◌, arith, length-append, lt-ltb, eq-eqb}
 use Rattle.std.proofs.lemmas.Bool.{cases_lt, cases_eq, ne_eqb, and_parts, and_from, or_cases, ltb-true, or_left, or_right}
-use Rattle.std.proofs.lemmas.Option.{get_or_from_slice_get}
+use Rattle.std.proofs.lemmas.Option.{get_or_from_slice_get, slice_get-get_or, slice_get_past}
 use Rattle.ccsl_base.specs.Clocks.{ticks_in, is_ascending, are_below}
+use Rattle.std.proofs.Math.Bool.{and-true, and_comm}
+use Rattle.ccsl_base.proofs.Sets.{ticks_in-filter}
 use Rattle.ccsl_base.proofs.Ascending.{part-ascends, same-members}
 use Rattle.ccsl_formula.specs.Formula.{eval}
-use Rattle.ccsl_kernel.specs.Syntax.{Expression, System, definition_of}
+use Rattle.ccsl_kernel.specs.Syntax.{Expression, ENever, System, definition_of}
 use Rattle.ccsl_kernel.specs.Table.{Now}
 use Rattle.ccsl_kernel.specs.Lives.{Step}
 use Rattle.ccsl_kernel.specs.Meaning.{definition_dead, dead_below}
@@ -27,6 +29,7 @@ use Rattle.ccsl_state.specs.Part.{HeldPart, followed_tree, part_of, PartStandsFo
 use Rattle.ccsl_state.specs.Passing.{tree_number, IsFollowed, IsPassed, AreKept}
 use Rattle.ccsl_state.proofs.WithinLaws.{tick_same, dead_same, next_same}
 use Rattle.ccsl_state.proofs.StateLaws.{states_opened, tree_step, length-step, tree_dead, states_mean, states_derive}
+use Rattle.ccsl_state.proofs.StandLaws.{get_tree}
 use Rattle.ccsl_state.proofs.WholeLaws.{derived-keeps}
 use Rattle.ccsl_state.proofs.QuietLaws.{bodies_closed, opening_reads}
 use Rattle.ccsl_state.proofs.ReachLaws.{definition_at}
@@ -34,51 +37,14 @@ use Rattle.ccsl_state.proofs.Visiting.{reads_below}
 
 -- A PART OF A SET
 module _ (p : ℕ → Bool) where
-  part_ticks : (s : List ℕ) (y : ℕ) → ticks_in y (filter p s) ≡ (p y && ticks_in y s)
-  part_ticks [] y = on (p y)
-    where
-      on : (t : Bool) → false ≡ (t && false)
-      on true = refl
-      on false = refl
-  part_ticks (z ∷ s) y = on (p z) refl (part_ticks s y)
-    where
-      on : (t : Bool) → p z ≡ t → ticks_in y (filter p s) ≡ (p y && ticks_in y s)
-          → ticks_in y (if t then z ∷ filter p s else filter p s) ≡ (p y && (nat_eq y z || ticks_in y s))
-      on true h rest = ⊎_elim
-          (λ (e : y ≡ z). ap (λ b. b || ticks_in y (filter p s)) (eq-eqb y z e) ∙ sym (ap₂ (λ b c. b && (c || ticks_in y s)) (ap p e ∙ h) (eq-eqb y z e)))
-          (λ (ne : y ≡ z → ⊥). ap₂ (λ b r. b || r) (ne_eqb y z ne) rest ∙ sym (ap (λ c. p y && (c || ticks_in y s)) (ne_eqb y z ne)))
-          (cases_eq y z)
-      on false h rest = rest ∙ ⊎_elim
-          (λ (e : y ≡ z). ap (λ b. b && ticks_in y s) (ap p e ∙ h) ∙ sym (ap (λ b. b && (nat_eq y z || ticks_in y s)) (ap p e ∙ h)))
-          (λ (ne : y ≡ z → ⊥). sym (ap (λ c. p y && (c || ticks_in y s)) (ne_eqb y z ne)))
-          (cases_eq y z)
-
   -- what is in the part ticks in it as in the whole
   pub part_keeps : (s : List ℕ) (y : ℕ) → p y ≡ true → ticks_in y (filter p s) ≡ ticks_in y s
-  part_keeps s y is = part_ticks s y ∙ ap (λ t. t && ticks_in y s) is
+  part_keeps s y is = ticks_in-filter p y s ∙ ap (λ t. ticks_in y s && t) is ∙ and-true (ticks_in y s)
 
-module _ (K : System) where
-  -- the trees of the definitions, by number
-  pub tree_get : (T : List Step) (x : ℕ) (es : List Expression) (i : ℕ) (e : Expression) → slice_get es i ≡ Some e
-      → slice_get (trees_from K T x es) i ≡ Some (tree_after K T (x + i) e)
-  tree_get T x [] i e is = let z : ⊥ = cc in absurd z
-  tree_get T x (d ∷ es) zero e is = let same : d ≡ e = cc in ap₂ (λ k d'. Some (tree_after K T k d')) (let z : x ≡ x + 0 = omega arith in z) same
-  tree_get T x (d ∷ es) (suc i) e is = tree_get T (suc x) es i e is ∙ ap (λ k. Some (tree_after K T k e)) (let z : suc x + i ≡ x + suc i = omega arith in z)
-
-  pub tree_none : (T : List Step) (x : ℕ) (es : List Expression) (i : ℕ) → length es ≤ i → slice_get (trees_from K T x es) i ≡ None
-  tree_none T x [] i l = refl
-  tree_none T x (d ∷ es) zero l = absurd (omega (arith, l))
-  tree_none T x (d ∷ es) (suc i) l = tree_none T (suc x) es i (omega (arith, l))
-
-get_none : {A : Type 0} (xs : List A) (i : ℕ) → length xs ≤ i → slice_get xs i ≡ None
-get_none [] i l = refl
-get_none (x ∷ xs) zero l = absurd (omega (arith, l))
-get_none (x ∷ xs) (suc i) l = get_none xs i (omega (arith, l))
-
-get_some : {A : Type 0} (xs : List A) (i : ℕ) → i < length xs → (x : A) × (slice_get xs i ≡ Some x)
-get_some [] i l = absurd (omega (arith, l))
-get_some (x ∷ xs) zero l = (x, refl)
-get_some (x ∷ xs) (suc i) l = get_some xs i (omega (arith, l))
+-- the tree of a definition, by its number
+tree_get : (K : System) (T : List Step) (x : ℕ) (es : List Expression) (i : ℕ) (e : Expression) → slice_get es i ≡ Some e
+    → slice_get (trees_from K T x es) i ≡ Some (tree_after K T (x + i) e)
+tree_get K T x es i e is = get_tree K T x es i ∙ ap (option_map (tree_after K T (x + i))) is
 
 module _ (K : System) (ok : IsAccepted K) (F : List ℕ) (closed : IsClosed K F) (T : List Step) (s : Step) (low : are_below K.declared s ≡ true)
     (ascends : is_ascending s ≡ true)
@@ -129,14 +95,14 @@ module _ (K : System) (ok : IsAccepted K) (F : List ℕ) (closed : IsClosed K F)
         → ticks_in (K.declared + i) step ≡ ticks_in (K.declared + i) full
     defined_tick i followed lower = ⊎_elim
         (λ (l : i < length K.definitions).
-        let at = get_some K.definitions i l in
-        let e = at.0 in
+        let e = slice_index_or K.definitions i ENever in
+        let at = slice_get-get_or K.definitions i ENever l in
         let x = K.declared + i in
         let f : IsFollowed K F i = (l, followed) in
-        let is : definition_of K x ≡ Some e = definition_at K ok i e at.1 in
+        let is : definition_of K x ≡ Some e = definition_at K ok i e at in
         passed.tick i f
         ∙ tick_same (λ y. reads K i y ≡ true) step full (λ y r. lower y (reads_below K ok F i y r) (known i y followed r)) (tree_number old i) (within i f)
-        ∙ ap (λ t. eval (formula_of t) full) (before i e f at.1)
+        ∙ ap (λ t. eval (formula_of t) full) (before i e f at)
         ∙ ap (λ (now : Now). eval now.formula full) (states_mean K (accepted_guarded K ok) T x e few is)
         ∙ sym (full_obeys K (accepted_guarded K ok) (accepted_scoped K ok) T s low x e is))
         (λ (l : length K.definitions ≤ i). passed.outside i (λ (f : IsFollowed K F i). let m = f.0 in omega (arith, m, l)) ∙ sym (past i l))
@@ -163,7 +129,7 @@ module _ (K : System) (ok : IsAccepted K) (F : List ℕ) (closed : IsClosed K F)
         (part-ascends (is_within K F) full
         (and_parts (is_ascending full) (are_below (K.declared + length K.definitions) full)
         (full_named K T s (and_from (is_ascending s) (are_below K.declared s) ascends low))).0)
-        (λ y. at y (is_within K F y) refl ∙ sym (part_ticks (is_within K F) full y))
+        (λ y. at y (is_within K F y) refl ∙ and_comm (is_within K F y) (ticks_in y full) ∙ sym (ticks_in-filter (is_within K F) y full))
       where
         at : (y : ℕ) (t : Bool) → is_within K F y ≡ t → ticks_in y step ≡ (is_within K F y && ticks_in y full)
         at y true w = tick_below (suc y) y (omega arith) w ∙ ap (λ t. t && ticks_in y full) (sym w)
@@ -204,15 +170,15 @@ module _ (K : System) (ok : IsAccepted K) (F : List ℕ) (closed : IsClosed K F)
       defined_death : (i : ℕ) → IsFollowed K F i → ((y : ℕ) → y < K.declared + i → is_within K F y ≡ true → ticks_in y gone ≡ death y)
           → ticks_in (K.declared + i) gone ≡ death (K.declared + i)
       defined_death i f lower =
-          let at = get_some K.definitions i f.0 in
-          let e = at.0 in
+          let e = slice_index_or K.definitions i ENever in
+          let at = slice_get-get_or K.definitions i ENever f.0 in
           let x = K.declared + i in
           dead i f
           ∙ dead_same (λ y. reads K i y ≡ true) (gone_in gone) (dead_below K more x len)
           (λ y r. lower y (reads_below K ok F i y r) (known i y f.1 r) ∙ sym (dead_below-at K more x len y (reads_below K ok F i y r))) (tree_number trees i)
           (here i f)
-          ∙ ap (dead_of (dead_below K more x len)) (tree_is i e f at.1 lower)
-          ∙ tree_dead K (accepted_guarded K ok) more x e small (definition_at K ok i e at.1)
+          ∙ ap (dead_of (dead_below K more x len)) (tree_is i e f at lower)
+          ∙ tree_dead K (accepted_guarded K ok) more x e small (definition_at K ok i e at)
 
       death_below : (b y : ℕ) → y < b → y < K.declared + length K.definitions → is_within K F y ≡ true → ticks_in y gone ≡ death y
       death_below zero y l u w = absurd (omega (arith, l))
@@ -235,31 +201,25 @@ module _ (K : System) (ok : IsAccepted K) (F : List ℕ) (closed : IsClosed K F)
       pub trees_are : (i : ℕ) → ticks_in (K.declared + i) F ≡ true → slice_get trees i ≡ slice_get (trees_after K more) i
       trees_are i followed = ⊎_elim
           (λ (l : i < length K.definitions).
-          let at = get_some K.definitions i l in
-          let got = get_some trees i (let c = passed.count in omega (arith, l, c)) in
-          let f : IsFollowed K F i = (l, followed) in
-          got.1
-          ∙ ap Some (sym (get_or_from_slice_get trees i got.0 TNever got.1)
-          ∙ tree_is i at.0 f at.1 (λ y m w. death_below (suc y) y (omega arith) (omega (arith, m, l)) w))
-          ∙ sym (tree_get K more K.declared K.definitions i at.0 at.1))
-          (λ (l : length K.definitions ≤ i). get_none trees i (let c = passed.count in omega (arith, l, c))
-          ∙ sym (tree_none K more K.declared K.definitions i l))
+          let e = slice_index_or K.definitions i ENever in
+          let at = slice_get-get_or K.definitions i ENever l in
+          slice_get-get_or trees i TNever (let c = passed.count in omega (arith, l, c))
+          ∙ ap Some (tree_is i e (l, followed) at (λ y m w. death_below (suc y) y (omega arith) (omega (arith, m, l)) w))
+          ∙ sym (tree_get K more K.declared K.definitions i e at))
+          (λ (l : length K.definitions ≤ i). slice_get_past trees i (let c = passed.count in omega (arith, l, c))
+          ∙ sym (get_tree K more K.declared K.definitions i ∙ ap (option_map (tree_after K more (K.declared + i))) (slice_get_past K.definitions i l)))
           (cases_lt i (length K.definitions))
 
 -- THE OPENING: each followed definition is to be visited at the first step
-opened_get : (K : System) (es : List Expression) (i : ℕ) (e : Expression) → slice_get es i ≡ Some e → slice_get (opened_all K es) i ≡ Some (opening K e [])
-opened_get K [] i e is = let z : ⊥ = cc in absurd z
-opened_get K (d ∷ es) zero e is = let same : d ≡ e = cc in ap (λ d'. Some (opening K d' [])) same
-opened_get K (d ∷ es) (suc i) e is = opened_get K es i e is
-
 pub kept_opened : (K : System) → IsAccepted K → (F : List ℕ) (trees : List Tree) (unsettled : List ℕ) → trees ≡ opened_all K K.definitions →
     ((i : ℕ) → ticks_in i unsettled ≡ (nat_lt i (length K.definitions) && ticks_in (K.declared + i) F)) → AreKept K F trees [] unsettled
 kept_opened K ok F trees unsettled opened all = record {
   within = λ i f.
-      let at = get_some K.definitions i f.0 in
-      let is : tree_number trees i ≡ opening K at.0 [] =
-      get_or_from_slice_get trees i (opening K at.0 []) TNever (ap (λ ts. slice_get ts i) opened ∙ opened_get K K.definitions i at.0 at.1) in
-      subst (TreeWithin (λ y. reads K i y ≡ true)) (sym is) (opening_reads K ok i at.0 at.1);
+      let e = slice_index_or K.definitions i ENever in
+      let at = slice_get-get_or K.definitions i ENever f.0 in
+      let is : tree_number trees i ≡ opening K e [] = get_or_from_slice_get trees i (opening K e []) TNever
+      (ap (λ ts. slice_get ts i) (opened ∙ states_opened K (accepted_guarded K ok)) ∙ tree_get K [] K.declared K.definitions i e at) in
+      subst (TreeWithin (λ y. reads K i y ≡ true)) (sym is) (opening_reads K ok i e at);
   dead = λ i f h. absurd (waits i f h);
   alive = λ y l. refl;
   settled = λ i f h. absurd (waits i f h);

@@ -1,6 +1,6 @@
 -- What accepted systems owe for regions: calls that are there, of the own group in tail positions alone.
 use Rattle.std.proofs.Common.{◌≡◌, ℕ, ◌≤◌, inl, inr, List, length, Bool, true, false, Some, if◌then◌else◌, refl, sym, ap, subst, ◌∙◌, arith, []}
-use Rattle.std.proofs.lemmas.Bool.{lt-leb}
+use Rattle.std.proofs.lemmas.Bool.{lt-leb, cond_both}
 use Rattle.ccsl_words.specs.Word.{BinaryWord}
 use Rattle.ccsl_kernel.specs.declared.expr.ExprOp.TheVariants as op
 use Rattle.ccsl_kernel.specs.declared.group.ParamKind.{ParamKind}
@@ -22,47 +22,25 @@ use Rattle.ccsl_kernel.proofs.GuardedCalls.{tail_guarded, inner_guarded}
 module _ (K : System) (g : ℕ) where
   -- what stands inside of an operator can stand outside too
   pub inner_stands : (e : Expression) → Stands K g true e → Stands K g false e
-  inner_stands (EName x) h = tt
   inner_stands (ECall group member args) h = (let l = h.0 in omega arith, h.1)
-  inner_stands ENever h = tt
   inner_stands (EBinary op.Then a d) h = (h.0, inner_stands d h.1)
-  inner_stands (EBinary o a d) h = h
-  inner_stands (EDelay a m) h = h
-  inner_stands (EAwait a m) h = h
-  inner_stands (EFilter a w) h = h
-  inner_stands (EDelayed a m d) h = h
   inner_stands (EIf q a d) h = (inner_stands a h.0, inner_stands d h.1)
-
-  not_own_if : (words : List BinaryWord) (t : Bool) (x y : Bool) → x ≡ false → y ≡ false → (if t then x else y) ≡ false
-  not_own_if words true x y p q = p
-  not_own_if words false x y p q = q
+  inner_stands e h = h
 
   -- and is no call of the own group
   pub inner_not_own : (words : List BinaryWord) (e : Expression) (ρ : List Actual) → Stands K g true e → is_own words g e ρ ≡ false
-  inner_not_own words (EName x) ρ h = refl
   inner_not_own words (ECall group member args) ρ h = lt-leb g group h.0
-  inner_not_own words ENever ρ h = refl
-  inner_not_own words (EBinary o a d) ρ h = refl
-  inner_not_own words (EDelay a m) ρ h = refl
-  inner_not_own words (EAwait a m) ρ h = refl
-  inner_not_own words (EFilter a w) ρ h = refl
-  inner_not_own words (EDelayed a m d) ρ h = refl
   inner_not_own words (EIf q a d) ρ h =
-      not_own_if words (test_of words q ρ) (is_own words g a ρ) (is_own words g d ρ) (inner_not_own words a ρ h.0) (inner_not_own words d ρ h.1)
+      cond_both (test_of words q ρ) _ _ (λ t. t ≡ false) (λ _. inner_not_own words a ρ h.0) (λ _. inner_not_own words d ρ h.1)
+  inner_not_own words e ρ h = refl
 
   pub allowed_not_own : (words : List BinaryWord) (p : Position) (e : Expression) (ρ : List Actual) → Allowed g p e → (p ≡ Guarded → ⊥)
       → is_own words g e ρ ≡ false
-  allowed_not_own words p (EName x) ρ h nog = refl
   allowed_not_own words p (ECall group member args) ρ (inl l) nog = lt-leb g group l
   allowed_not_own words p (ECall group member args) ρ (inr h) nog = absurd (nog h.1)
-  allowed_not_own words p ENever ρ h nog = refl
-  allowed_not_own words p (EBinary o a d) ρ h nog = refl
-  allowed_not_own words p (EDelay a m) ρ h nog = refl
-  allowed_not_own words p (EAwait a m) ρ h nog = refl
-  allowed_not_own words p (EFilter a w) ρ h nog = refl
-  allowed_not_own words p (EDelayed a m d) ρ h nog = refl
   allowed_not_own words p (EIf q a d) ρ h nog =
-      not_own_if words (test_of words q ρ) (is_own words g a ρ) (is_own words g d ρ) (allowed_not_own words p a ρ h.0 nog) (allowed_not_own words p d ρ h.1 nog)
+      cond_both (test_of words q ρ) _ _ (λ t. t ≡ false) (λ _. allowed_not_own words p a ρ h.0 nog) (λ _. allowed_not_own words p d ρ h.1 nog)
+  allowed_not_own words p e ρ h nog = refl
 
 abbrev is_inner : Position → Bool
 is_inner Inner = true

@@ -17,10 +17,11 @@ use Rattle.ccsl_kernel.specs.Meaning.{dead_below}
 use Rattle.ccsl_kernel.specs.Accepted.{IsAccepted}
 use Rattle.ccsl_kernel.proofs.Scoped.{NamesBelow}
 use Rattle.ccsl_kernel.proofs.AcceptedParts.{accepted_scoped}
+use Rattle.ccsl_kernel.proofs.WithinLaws.{names_more, actuals_more}
 use Rattle.ccsl_state.specs.Tree.{One, Delaying, Awaiting, Filtering, Two, Uniting, Meeting, Lessening, Leading, Trailing, Ending, EndingWeakly, Sampling}
 use Rattle.ccsl_state.specs.Tree.{SamplingWeakly, Lagging, Tree, TName, TNever, TOne, TTwo, TThen, one_ticks, one_next, two_ticks, two_next, set_first, opening}
 use Rattle.ccsl_state.specs.Tree.{then_or_right, next, formula_of, dead_of}
-use Rattle.ccsl_state.specs.Within.{PlaceWithin, ArgsWithin, NamesWithin, ActualsWithin, TreeWithin}
+use Rattle.ccsl_state.specs.Within.{TreeWithin}
 use Rattle.ccsl_state.specs.Reach.{names_clock}
 use Rattle.ccsl_state.specs.Quiet.{named_by, reads, ReadsNoMore, IsUnheard, is_settled, IsQuiet, StaysAsItIs, BearsSettled}
 use Rattle.ccsl_state.proofs.Evals.{one_eval, two_eval}
@@ -52,25 +53,20 @@ two_silent (SamplingWeakly waiting) = both waiting
 two_silent (Lagging m waiting) = both (slice_index_or waiting (m - 1) false)
 
 one_still : (o : One) → one_next o false ≡ o
-one_still (Delaying m ticks) = refl
-one_still (Awaiting m ticks) = refl
 one_still (Filtering w o) = refl
+one_still o = refl
 
 unmarked : (waiting : List Bool) → set_first false waiting ≡ waiting
 unmarked [] = refl
 unmarked (x ∷ xs) = refl
 
 two_still : (o : Two) → two_next o false false ≡ o
-two_still Uniting = refl
-two_still Meeting = refl
-two_still Lessening = refl
-two_still (Leading a d) = refl
-two_still (Trailing a d) = refl
 two_still (Ending seen) = ap Ending (or-false seen)
 two_still (EndingWeakly seen) = ap EndingWeakly (or-false seen)
 two_still (Sampling waiting) = ap Sampling (and-true waiting)
 two_still (SamplingWeakly waiting) = ap SamplingWeakly (and-true waiting)
 two_still (Lagging m waiting) = ap (Lagging m) (unmarked waiting)
+two_still o = refl
 
 -- NOTHING HEARD, NOTHING TOLD
 pub tells_nothing : (s : Step) (t : Tree) → IsUnheard s t → eval (formula_of t) s ≡ false
@@ -117,39 +113,12 @@ module _ (P : ℕ → Type 0) (gone gone' : ℕ → Bool) (same : (x : ℕ) → 
 
 -- what names clocks with P only names clocks with Q only, where Q follows from P
 module _ (P Q : ℕ → Type 0) (more : (y : ℕ) → P y → Q y) where
-  place_more : (x : Place) → PlaceWithin P x → PlaceWithin Q x
-  place_more (place.Clock x) h = more x h
-  place_more (place.Param i) h = tt
-
-  args_more : (args : List Value) → ArgsWithin P args → ArgsWithin Q args
-  args_more [] h = tt
-  args_more (value.Clock x ∷ args) h = (place_more x h.0, args_more args h.1)
-  args_more (value.Number t ∷ args) h = args_more args h
-  args_more (value.Word w ∷ args) h = args_more args h
-
-  names_more : (e : Expression) → NamesWithin P e → NamesWithin Q e
-  names_more (EName x) h = place_more x h
-  names_more (ECall group member args) h = args_more args h
-  names_more ENever h = tt
-  names_more (EBinary o a d) h = (names_more a h.0, names_more d h.1)
-  names_more (EDelay a m) h = names_more a h
-  names_more (EAwait a m) h = names_more a h
-  names_more (EFilter a w) h = names_more a h
-  names_more (EDelayed a m d) h = (names_more a h.0, names_more d h.1)
-  names_more (EIf q a d) h = (names_more a h.0, names_more d h.1)
-
-  actuals_more : (ρ : List Actual) → ActualsWithin P ρ → ActualsWithin Q ρ
-  actuals_more [] h = tt
-  actuals_more (actual.Clock x ∷ ρ) h = (more x h.0, actuals_more ρ h.1)
-  actuals_more (actual.Number n ∷ ρ) h = actuals_more ρ h
-  actuals_more (actual.Word w o ∷ ρ) h = actuals_more ρ h
-
   pub tree_more : (t : Tree) → TreeWithin P t → TreeWithin Q t
   tree_more (TName x) h = more x h
   tree_more TNever h = tt
   tree_more (TOne o a) h = tree_more a h
   tree_more (TTwo o a d) h = (tree_more a h.0, tree_more d h.1)
-  tree_more (TThen a d ρ) h = (tree_more a h.0, names_more d h.1, actuals_more ρ h.2)
+  tree_more (TThen a d ρ) h = (tree_more a h.0, names_more P Q more d h.1, actuals_more P Q more ρ h.2)
 
 pub stays_as_it_is : (K : System) (s : Step) (gone gone' : ℕ → Bool) (t : Tree) → IsQuiet s gone gone' t → StaysAsItIs K s gone gone' t
 stays_as_it_is K s gone gone' t q =

@@ -8,25 +8,23 @@ use Rattle.ccsl_kernel.specs.Syntax.{Expression, System, definition_of}
 use Rattle.ccsl_kernel.specs.Accepted.{IsAccepted}
 use Rattle.ccsl_kernel.proofs.AcceptedParts.{accepted_scoped}
 use Rattle.ccsl_kernel.proofs.Definitions.{definitions-are}
-use Rattle.ccsl_state.specs.Within.{NamesWithin}
+use Rattle.ccsl_kernel.specs.Within.{NamesWithin}
+use Rattle.ccsl_kernel.proofs.WithinLaws.{names_more}
 use Rattle.ccsl_state.specs.Reach.{names_clock, Includes, IsClosed}
-use Rattle.ccsl_state.proofs.WithinLaws.{named_below, names_within}
+use Rattle.ccsl_state.proofs.WithinLaws.{named}
 
 module _ (K : System) (ok : IsAccepted K) where
   -- a definition names lower clocks, so few as there are
   pub definition_names : (x y : ℕ) (e : Expression) → definition_of K x ≡ Some e → names_clock e y ≡ true → y < x
-  definition_names x y e is named = named_below x y e ((accepted_scoped K ok).definitions x e is) named
+  definition_names x y e is n = named (λ y. y < x) e y ((accepted_scoped K ok).definitions x e is) n
 
   pub definition_at : (i : ℕ) (e : Expression) → slice_get K.definitions i ≡ Some e → definition_of K (K.declared + i) ≡ Some e
   definition_at i e is = sym (definitions-are K i) ∙ is
 
   pub names_few : (i : ℕ) (e : Expression) → slice_get K.definitions i ≡ Some e → NamesWithin (λ y. y < 1024) e
-  names_few i e is = names_within (λ y. y < 1024) e (λ y named.
-      let low = definition_names (K.declared + i) y e (definition_at i e is) named in
-      let within = slice_get_within K.definitions i e is in
-      let all = ok.defined in
-      let few = ok.few_clocks in
-      omega arith)
+  names_few i e is = names_more (λ y. y < K.declared + i) (λ y. y < 1024)
+      (λ y low. let within = slice_get_within K.definitions i e is in let all = ok.defined in let few = ok.few_clocks in omega arith)
+      e ((accepted_scoped K ok).definitions (K.declared + i) e (definition_at i e is))
 
 -- the definitions from number i on have been passed
 pub record ReachedSo (K : System) (clocks set : List ℕ) (i : ℕ) : Type 0 where

@@ -1,10 +1,11 @@
 -- A definition that is dead neither ticks in the next full step nor comes back.
 use Rattle.std.proofs.Common.{◌≡◌, ℕ, zero, suc, ◌+◌, ◌<◌, ◌≤◌, ◌^◌, List, [], ◌∷◌, ◌++◌, length, true, false, Some, slice_get, refl, sym, ap, ap₂, subst, ◌∙◌}
-use Rattle.std.proofs.Common.{arith, ⊎_elim, length-append}
+use Rattle.std.proofs.Common.{slice_index_or, arith, ⊎_elim, length-append}
 use Rattle.std.proofs.lemmas.Bool.{cases_lt}
+use Rattle.std.proofs.lemmas.Option.{slice_get-get_or}
 use Rattle.ccsl_base.specs.Clocks.{ticks_in, are_below}
 use Rattle.ccsl_formula.specs.Formula.{eval}
-use Rattle.ccsl_kernel.specs.Syntax.{Expression, System, definition_of}
+use Rattle.ccsl_kernel.specs.Syntax.{Expression, ENever, System, definition_of}
 use Rattle.ccsl_kernel.specs.Table.{Now}
 use Rattle.ccsl_kernel.specs.Lives.{Step, step_at}
 use Rattle.ccsl_kernel.specs.Meaning.{dead_below, formula_at}
@@ -19,11 +20,6 @@ use Rattle.ccsl_kernel.proofs.TableHolds.{first_steps_matter}
 use Rattle.ccsl_state.specs.Held.{Held, derived_by, Advances, StandsFor}
 use Rattle.ccsl_state.specs.Laws.{StaySilent}
 use Rattle.ccsl_state.proofs.StandLaws.{stands_derived, stands_dead, stands_next}
-
-has_at : (es : List Expression) (i : ℕ) → i < length es → (e : Expression) × (slice_get es i ≡ Some e)
-has_at [] i l = absurd (omega (arith, l))
-has_at (e ∷ es) zero l = (e, refl)
-has_at (e ∷ es) (suc i) l = has_at es i (omega (arith, l))
 
 module _ (K : System) (ok : IsAccepted K) (T : List Step) (s : Step) (obeys : ObeysDefinitions K T) (low : are_below K.declared s ≡ true) where
   longer : length (T ++ full_step K T s ∷ []) ≡ suc (length T)
@@ -72,9 +68,8 @@ pub stay_silent : (h : Held) (ok : IsAccepted h.system) (T : List Step) (stands 
 stay_silent h ok T stands s h' obeys low short next i l dead =
     let K = h.system in
     let x = K.declared + i in
-    let has = has_at K.definitions i l in
-    let e = has.0 in
-    let is : definition_of K x ≡ Some e = sym (definitions-are K i) ∙ has.1 in
+    let e = slice_index_or K.definitions i ENever in
+    let is : definition_of K x ≡ Some e = sym (definitions-are K i) ∙ slice_get-get_or K.definitions i ENever l in
     let was : dead_at K T x e [] 0 (length T) ≡ true = sym (stands_dead h ok T stands i e is) ∙ dead in
     let silent = next_silent K ok T s obeys low x e is was in
     let T' = T ++ full_step K T s ∷ [] in

@@ -36,7 +36,7 @@ use Rattle.ccsl_state.proofs.StateLaws.{states_opened, states_step, states_dead,
 use Rattle.ccsl_kernel.specs.Table.{Now}
 
 -- the tree of a definition after a list of steps
-get_tree : (K : System) (T : List Step) (x : ℕ) (es : List Expression) (i : ℕ)
+pub get_tree : (K : System) (T : List Step) (x : ℕ) (es : List Expression) (i : ℕ)
     → slice_get (trees_from K T x es) i ≡ option_map (tree_after K T (x + i)) (slice_get es i)
 get_tree K T x [] i = refl
 get_tree K T x (e ∷ es) zero = ap (λ k. Some (tree_after K T k e)) (omega arith)

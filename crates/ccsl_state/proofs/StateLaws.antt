@@ -13,7 +13,7 @@ use Rattle.ccsl_kernel.proofs.Steps.{from_birth}
 use Rattle.ccsl_kernel.specs.Runs.{derived_from as kernel_derived, full_step}
 use Rattle.ccsl_formula.specs.Formula.{eval}
 use Rattle.ccsl_kernel.proofs.Definitions.{choice, step_at-front, step_at-last, definitions-are, dead_below-at, definition_allowed, dead_below-same}
-use Rattle.ccsl_kernel.proofs.Sets.{ticks_in-with_clock}
+use Rattle.ccsl_base.proofs.Sets.{ticks_in-with_same, ticks_in-with_other}
 use Rattle.ccsl_state.specs.Tree.{most, Tree, opening, next, formula_of, dead_of}
 use Rattle.ccsl_state.specs.Grown.{grown}
 use Rattle.ccsl_state.specs.Moves.{gone_in}
@@ -33,48 +33,36 @@ grown_same K T T' gone gone' t b n l same same_gone =
     ∙ sym (grown-suc K T' gone' t b n l))
     n l same same_gone
 
+-- a clock that is put, and any other
+pub put_same : (t : Bool) (x : ℕ) (s : List ℕ) → ticks_in x s ≡ false → ticks_in x (put t x s) ≡ t
+put_same true x s none = ticks_in-with_same x s
+put_same false x s none = none
+
+pub put_other : (t : Bool) (x y : ℕ) (s : List ℕ) → (y ≡ x → ⊥) → ticks_in y (put t x s) ≡ ticks_in y s
+put_other true x y s ne = ticks_in-with_other x y s ne
+put_other false x y s ne = refl
+
 module _ (K : System) (ok : IsGuarded K) where
   -- the clocks below x that are dead at n, as a set
   abbrev pub table : List Step → ℕ → ℕ → List ℕ
   table T n zero = []
   table T n (suc x) = put (definition_dead K T (dead_below K T x) n (definition_of K x)) x (table T n x)
 
-  pub put_ticks : (t : Bool) (x y : ℕ) (s : List ℕ) → ticks_in y (put t x s) ≡ ((nat_eq y x && t) || ticks_in y s)
-  put_ticks true x y s = ticks_in-with_clock y x s ∙ ap (λ b. b || ticks_in y s) (and_true (nat_eq y x))
-    where
-      and_true : (b : Bool) → b ≡ (b && true)
-      and_true true = refl
-      and_true false = refl
-  put_ticks false x y s = ap (λ b. b || ticks_in y s) (and_false (nat_eq y x))
-    where
-      and_false : (b : Bool) → false ≡ (b && false)
-      and_false true = refl
-      and_false false = refl
-
   table-past : (T : List Step) (n x y : ℕ) → x ≤ y → ticks_in y (table T n x) ≡ false
   table-past T n zero y l = refl
-  table-past T n (suc x) y l =
-      put_ticks (definition_dead K T (dead_below K T x) n (definition_of K x)) x y (table T n x)
-      ∙ ap₂ (λ e b. (e && definition_dead K T (dead_below K T x) n (definition_of K x)) || b) (ne_eqb y x (λ e. let z : ⊥ = omega (arith, e, l) in z))
-      (table-past T n x y (omega (arith, l)))
+  table-past T n (suc x) y l = put_other _ x y (table T n x) (λ e. omega (arith, e, l)) ∙ table-past T n x y (omega (arith, l))
 
   pub table-reads : (T : List Step) (n x y : ℕ) → gone_in (table T n x) y ≡ dead_below K T x n y
   table-reads T n zero y = refl
-  table-reads T n (suc x) y =
-      put_ticks here x y (table T n x)
-      ∙ ⊎_elim
-      (λ (e : y ≡ x). ap₂ (λ t b. (t && here) || b) (eq-eqb y x e) (table-past T n x y (omega (arith, e))) ∙ or_false here
+  table-reads T n (suc x) y = ⊎_elim
+      (λ (e : y ≡ x). ap (λ k. ticks_in k (table T n (suc x))) e ∙ put_same here x (table T n x) (table-past T n x x (omega arith))
       ∙ sym (ap (λ t. choice t here (dead_below K T x n y)) (eq-eqb y x e)))
-      (λ (ne : y ≡ x → ⊥). ap₂ (λ t b. (t && here) || b) (ne_eqb y x ne) (table-reads T n x y)
+      (λ (ne : y ≡ x → ⊥). put_other here x y (table T n x) ne ∙ table-reads T n x y
       ∙ sym (ap (λ t. choice t here (dead_below K T x n y)) (ne_eqb y x ne)))
       (cases_eq y x)
     where
       here : Bool
       here = definition_dead K T (dead_below K T x) n (definition_of K x)
-
-      or_false : (b : Bool) → (b || false) ≡ b
-      or_false true = refl
-      or_false false = refl
 
   -- the tree of a definition after one more step
   pub tree_step : (T : List Step) (s : Step) (x : ℕ) (e : Expression) →

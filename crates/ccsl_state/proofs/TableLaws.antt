@@ -1,8 +1,8 @@
 -- The table of the cells of calls is enough.
-use Rattle.std.proofs.Common.{◌≡◌, ℕ, zero, suc, ◌+◌, ◌*◌, ◌<◌, ◌≤◌, List, [], ◌∷◌, ◌++◌, length, take, map, max, sum, slice_get, slice_index, Some, None, refl}
+use Rattle.std.proofs.Common.{◌≡◌, ℕ, zero, suc, ◌+◌, ◌*◌, ◌<◌, ◌≤◌, List, [], ◌∷◌, ◌++◌, length, take, map, max, sum, slice_get, slice_index, slice_index_or, Some, None, refl}
 use Rattle.std.proofs.Common.{sym, ap, ap₂, subst, ◌∙◌, arith, length-append, append_assoc}
-use Rattle.std.proofs.lemmas.List.{append-nil}
-use Rattle.std.proofs.Math.Seq.{take-append_seam}
+use Rattle.std.proofs.lemmas.List.{append-nil, get_or_at, get_or-map, length-map, take-map, take_at}
+use Rattle.std.proofs.lemmas.Option.{slice_get-get_or}
 use Rattle.std.proofs.lemmas.List.Sums.{sum_by-cons}
 use Rattle.ccsl_kernel.specs.Syntax.{Expression, Body, System}
 use Rattle.ccsl_kernel.specs.Cells.{greatest, cells_in, group_cells, groups_cells, cells}
@@ -25,15 +25,6 @@ groups_front earlier (g ∷ gs) =
     let r = groups_front (earlier ++ group_cells earlier g ∷ []) gs in
     (group_cells earlier g ∷ r.0, r.1 ∙ append_assoc earlier (group_cells earlier g ∷ []) r.0, ap suc r.2)
 
-front_is : (xs ys : List ℕ) (n : ℕ) → length xs ≡ n → take n (xs ++ ys) ≡ xs
-front_is xs ys n l = ap (λ k. take k (xs ++ ys)) (sym l) ∙ take-append_seam xs ys
-
-at_seam : (xs ys : List ℕ) (y n : ℕ) → length xs ≡ n → slice_index (xs ++ y ∷ ys) n ≡ y
-at_seam [] ys y zero l = refl
-at_seam [] ys y (suc n) l = absurd (omega (arith, l))
-at_seam (x ∷ xs) ys y zero l = absurd (omega (arith, l))
-at_seam (x ∷ xs) ys y (suc n) l = at_seam xs ys y n (omega (arith, l))
-
 -- each entry is the count of its group, from those before it
 groups_at : (earlier : List ℕ) (gs : List (List Body)) (j k : ℕ) (members : List Body) → slice_get gs j ≡ Some members → k ≡ length earlier + j →
     slice_index (groups_cells earlier gs) k ≡ group_cells (take k (groups_cells earlier gs)) members
@@ -44,46 +35,28 @@ groups_at earlier (g ∷ gs) zero k members e at =
     let r = groups_front (earlier ++ here ∷ []) gs in
     let is : groups_cells earlier (g ∷ gs) ≡ earlier ++ here ∷ r.0 = r.1 ∙ append_assoc earlier (here ∷ []) r.0 in
     let len : length earlier ≡ k = omega (arith, at) in
-    ap (λ ns. slice_index ns k) is ∙ at_seam earlier r.0 here k len ∙ ap₂ group_cells (sym (front_is earlier (here ∷ r.0) k len) ∙ ap (take k) (sym is)) same
+    ap (λ ns. slice_index ns k) is ∙ get_or_at earlier here r.0 0 k len ∙ ap₂ group_cells (sym (take_at earlier (here ∷ r.0) k len) ∙ ap (take k) (sym is)) same
 groups_at earlier (g ∷ gs) (suc j) k members e at =
     groups_at (earlier ++ group_cells earlier g ∷ []) gs j k members e (let l = length-append earlier (group_cells earlier g ∷ []) in omega (arith, l, at))
 
-map_take : (n : ℕ) (xs : List ℕ) → take n (map saturated xs) ≡ map saturated (take n xs)
-map_take zero xs = refl
-map_take (suc n) [] = refl
-map_take (suc n) (x ∷ xs) = ap (λ ys. saturated x ∷ ys) (map_take n xs)
-
-map_at : (n : ℕ) (xs : List ℕ) → slice_index (map saturated xs) n ≡ saturated (slice_index xs n)
-map_at n [] = refl
-map_at zero (x ∷ xs) = refl
-map_at (suc n) (x ∷ xs) = map_at n xs
-
--- a group number below the count has its members
-has_group : (gs : List (List Body)) (g : ℕ) → g < length gs → (members : List Body) × (slice_get gs g ≡ Some members)
-has_group [] g l = absurd (omega (arith, l))
-has_group (m ∷ gs) zero l = (m, refl)
-has_group (m ∷ gs) (suc g) l = has_group gs g (omega (arith, l))
-
-capped_len : (xs : List ℕ) → length (map saturated xs) ≡ length xs
-capped_len [] = refl
-capped_len (x ∷ xs) = ap suc (capped_len xs)
-
 pub table_len : (gs : List (List Body)) → length (map saturated (groups_cells [] gs)) ≡ length gs
-table_len gs = let r = groups_front [] gs in capped_len (groups_cells [] gs) ∙ ap length r.1 ∙ r.2
+table_len gs = let r = groups_front [] gs in length-map (groups_cells [] gs) saturated ∙ ap length r.1 ∙ r.2
 
 pub table_enough : (K : System) → IsEnough K (map saturated (groups_cells [] K.groups))
 table_enough K g l =
     let full = groups_cells [] K.groups in
-    let has = has_group K.groups g (omega (arith, l, table_len K.groups)) in
-    let at : slice_index full g ≡ group_cells (take g full) has.0 = groups_at [] K.groups g g has.0 has.1 (omega arith) in
-    let entry = map_at g full in (
+    let few : g < length full = omega (arith, l, length-map full saturated) in
+    let members = slice_index_or K.groups g [] in
+    let has = slice_get-get_or K.groups g [] (omega (arith, l, table_len K.groups)) in
+    let at : slice_index full g ≡ group_cells (take g full) members = groups_at [] K.groups g g members has (omega arith) in
+    let entry = get_or-map saturated full g 0 0 few in (
       omega (arith, entry, at),
       λ m b is.
-          let member : slice_get has.0 m ≡ Some b = sym (ap (λ o. elim o [ None ↦ None | Some members ↦ slice_get members m ]) has.1) ∙ is in
-          let p = greatest_at (λ (b : Body). length b.params) has.0 m b member in
-          let q = greatest_at (λ (b : Body). cells_in (take g full) b.root) has.0 m b member in
+          let member : slice_get members m ≡ Some b = sym (ap (λ o. elim o [ None ↦ None | Some members ↦ slice_get members m ]) has) ∙ is in
+          let p = greatest_at (λ (b : Body). length b.params) members m b member in
+          let q = greatest_at (λ (b : Body). cells_in (take g full) b.root) members m b member in
           let c : saturated (cells_in (take g (map saturated full)) b.root) ≡ saturated (cells_in (take g full) b.root) =
-          ap (λ ns. saturated (cells_in ns b.root)) (map_take g full) ∙ capped_cells_in (take g full) b.root in
+          ap (λ ns. saturated (cells_in ns b.root)) (take-map saturated g full) ∙ capped_cells_in (take g full) b.root in
           omega (arith, entry, at, p, q, c),
     )
 

@@ -2,55 +2,31 @@
 use Rattle.std.proofs.Common.{◌≡◌, ℕ, zero, suc, ◌+◌, ◌<◌, ◌≤◌, ⊎_elim, List, [], ◌∷◌, length, Bool, true, false, not, ◌&&◌, ◌||◌, Option, Some}
 use Rattle.std.proofs.Common.{None, slice_get, slice_set, slice_index_or, nat_eq, eq-eqb, refl, sym, ap, ap₂, subst}
 use Rattle.std.proofs.Common.{◌∙◌, arith}
-use Rattle.std.proofs.lemmas.Bool.{cases_eq, ne_eqb, and_parts, or_cases, cases_Bool, or_parts, not-false, both_ways}
+use Rattle.std.proofs.lemmas.Bool.{cases_eq, ne_eqb, and_parts, or_cases, cases_Bool, or_parts, not-false, both_ways, not-true}
+use Rattle.std.proofs.Math.Bool.{and-true}
+use Rattle.std.proofs.lemmas.List.{length-set, get_or-set_same, get_or-set_other}
 use Rattle.std.proofs.lemmas.Option.{slice_get_within}
 use Rattle.ccsl_base.specs.Clocks.{ticks_in, is_ascending, are_below}
 use Rattle.ccsl_base.specs.Changes.{put_clock}
-use Rattle.ccsl_base.proofs.Sets.{ticks_in-put_same, ticks_in-put_other, ticks_in-with_same, ticks_in-with_other}
+use Rattle.ccsl_base.proofs.Sets.{ticks_in-put_same, ticks_in-put_other}
 use Rattle.ccsl_formula.specs.Formula.{eval}
 use Rattle.ccsl_kernel.specs.Syntax.{Expression, System}
 use Rattle.ccsl_kernel.specs.Accepted.{IsAccepted}
 use Rattle.ccsl_kernel.proofs.Sets.{NoneFrom-are_below}
-use Rattle.ccsl_state.specs.Tree.{Tree, next, formula_of, dead_of}
+use Rattle.ccsl_state.specs.Tree.{Tree, TNever, next, formula_of, dead_of}
 use Rattle.ccsl_state.specs.Moves.{gone_in}
 use Rattle.ccsl_state.specs.States.{put}
 use Rattle.ccsl_state.specs.Within.{TreeWithin}
 use Rattle.ccsl_state.specs.Quiet.{named_by, reads, is_settled}
 use Rattle.ccsl_state.specs.Passing.{tree_number, IsFollowed, AreReaders, AreKept, IsPassed}
+use Rattle.ccsl_state.proofs.StateLaws.{put_same, put_other}
 use Rattle.ccsl_state.proofs.WithinLaws.{tick_same, dead_same, next_same, next_within}
 use Rattle.ccsl_state.proofs.QuietLaws.{tells_nothing, stays, settled_same, bodies_closed, tree_more}
 use Rattle.ccsl_state.proofs.ReachLaws.{definition_names, definition_at}
 use Rattle.ccsl_base.proofs.Ascending.{with_clock-ascends}
 
--- ONE TREE of a list is written
-tree_set_same : (ts : List Tree) (i : ℕ) (t : Tree) → i < length ts → tree_number (slice_set ts i t) i ≡ t
-tree_set_same [] i t l = absurd (omega (arith, l))
-tree_set_same (u ∷ ts) zero t l = refl
-tree_set_same (u ∷ ts) (suc i) t l = tree_set_same ts i t (omega (arith, l))
-
-tree_set_other : (ts : List Tree) (i j : ℕ) (t : Tree) → (j ≡ i → ⊥) → tree_number (slice_set ts i t) j ≡ tree_number ts j
-tree_set_other [] i j t ne = refl
-tree_set_other (u ∷ ts) zero zero t ne = absurd (ne refl)
-tree_set_other (u ∷ ts) zero (suc j) t ne = refl
-tree_set_other (u ∷ ts) (suc i) zero t ne = refl
-tree_set_other (u ∷ ts) (suc i) (suc j) t ne = tree_set_other ts i j t (λ e. ne (ap suc e))
-
-tree_set_len : (ts : List Tree) (i : ℕ) (t : Tree) → length (slice_set ts i t) ≡ length ts
-tree_set_len [] i t = refl
-tree_set_len (u ∷ ts) zero t = refl
-tree_set_len (u ∷ ts) (suc i) t = ap suc (tree_set_len ts i t)
-
-put_same : (t : Bool) (x : ℕ) (s : List ℕ) → ticks_in x s ≡ false → ticks_in x (put t x s) ≡ t
-put_same true x s none = ticks_in-with_same x s
-put_same false x s none = none
-
-put_other : (t : Bool) (x y : ℕ) (s : List ℕ) → (y ≡ x → ⊥) → ticks_in y (put t x s) ≡ ticks_in y s
-put_other true x y s ne = ticks_in-with_other x y s ne
-put_other false x y s ne = refl
-
-and_false : (a b : Bool) → (a && b) ≡ false → b ≡ true → a ≡ false
-and_false true b h is = let z : ⊥ = (let e : true ≡ false = sym is ∙ h in cc) in absurd z
-and_false false b h is = refl
+first_false : (a b : Bool) → (a && b) ≡ false → b ≡ true → a ≡ false
+first_false a b h is = sym (ap (λ c. a && c) is ∙ and-true a) ∙ h
 
 put_ascends : (t : Bool) (x : ℕ) (s : List ℕ) → is_ascending s ≡ true → is_ascending (put t x s) ≡ true
 put_ascends true x s h = with_clock-ascends x s h
@@ -151,7 +127,7 @@ module _ (K : System) (ok : IsAccepted K) (F : List ℕ) where
               let w = or_parts (ticks_in i waiting && not (nat_eq j i)) (told && ticks_in i (slice_index_or readers (K.declared + j) []))
               (sym (v.waiting_is i) ∙ quiet) in
               let n = v.told_is
-              (and_false told (ticks_in i (slice_index_or readers (K.declared + j) [])) w.1 (no_reader i (K.declared + j) followed read')) in (
+              (first_false told (ticks_in i (slice_index_or readers (K.declared + j) [])) w.1 (no_reader i (K.declared + j) followed read')) in (
                 ap (λ k. ticks_in k step) e ∙ here.tick ∙ sym n.0 ∙ sym step_here ∙ ap (λ k. ticks_in k step') (sym e),
                 ap (λ k. ticks_in k gone) e ∙ sym n.1 ∙ sym gone_here ∙ ap (λ k. ticks_in k gone') (sym e),
               ))
@@ -180,7 +156,7 @@ module _ (K : System) (ok : IsAccepted K) (F : List ℕ) where
           the_tree : tree_number trees' j ≡ next K step (gone_in gone) (tree_number old j)
           the_tree =
               ap (λ ts. tree_number ts j) v.trees_are
-              ∙ tree_set_same trees j (next K step (gone_in gone) (tree_number trees j)) (let c = g.count in let l = mine.0 in omega arith)
+              ∙ get_or-set_same trees j (next K step (gone_in gone) (tree_number trees j)) TNever (let c = g.count in let l = mine.0 in omega arith)
               ∙ ap (next K step (gone_in gone)) here.tree
 
           visited : ticks_in j waiting' ≡ false → IsDone K old trees' step' gone' unsettled' j
@@ -207,7 +183,7 @@ module _ (K : System) (ok : IsAccepted K) (F : List ℕ) where
               was.dead in
               let apart : K.declared + i ≡ K.declared + j → ⊥ = λ e. ne (omega (arith, e)) in
               let kept : tree_number trees' i ≡ tree_number trees i =
-              ap (λ ts. tree_number ts i) v.trees_are ∙ tree_set_other trees j i (next K step (gone_in gone) (tree_number trees j)) ne in
+              ap (λ ts. tree_number ts i) v.trees_are ∙ get_or-set_other trees j i (next K step (gone_in gone) (tree_number trees j)) TNever ne in
               record {
                 tick = step_other (K.declared + i) apart ∙ same.0;
                 tree = kept ∙ same.1;
@@ -223,7 +199,7 @@ module _ (K : System) (ok : IsAccepted K) (F : List ℕ) where
               (λ (w : (ticks_in m waiting && not (nat_eq j m)) ≡ true).
               let p = and_parts (ticks_in m waiting) (not (nat_eq j m)) w in
               let low = first m p.0 in
-              let ne : m ≡ j → ⊥ = λ e. both_ways (nat_eq j m) (not_is (nat_eq j m) p.1) (eq_is j m (sym e)) in
+              let ne : m ≡ j → ⊥ = λ e. both_ways (nat_eq j m) (not-true (nat_eq j m) p.1) (eq-eqb j m (sym e)) in
               (g.followed m p.0, omega (arith, low, ne)))
               (λ (w : (told && ticks_in m (slice_index_or readers (K.declared + j) [])) ≡ true).
               let p = and_parts told (ticks_in m (slice_index_or readers (K.declared + j) [])) w in
@@ -231,13 +207,6 @@ module _ (K : System) (ok : IsAccepted K) (F : List ℕ) where
               let low = reads_below m (K.declared + j) r.1 in
               (r.0, omega (arith, low)))
               (or_cases (ticks_in m waiting && not (nat_eq j m)) (told && ticks_in m (slice_index_or readers (K.declared + j) [])) (sym (v.waiting_is m) ∙ h))
-            where
-              eq_is : (a b : ℕ) → a ≡ b → nat_eq a b ≡ true
-              eq_is a b e = eq-eqb a b e
-
-              not_is : (b : Bool) → not b ≡ true → b ≡ false
-              not_is true h = let z : ⊥ = cc in absurd z
-              not_is false h = refl
 
           pub later : (m : ℕ) → ticks_in m waiting' ≡ true → j < m
           later m h = (waits m h).1
@@ -246,12 +215,12 @@ module _ (K : System) (ok : IsAccepted K) (F : List ℕ) where
           waited i ne quiet =
               let w = or_parts (ticks_in i waiting && not (nat_eq j i)) (told && ticks_in i (slice_index_or readers (K.declared + j) []))
               (sym (v.waiting_is i) ∙ quiet) in
-              and_false (ticks_in i waiting) (not (nat_eq j i)) w.0 (ap not (ne_eqb j i (λ e. ne (sym e))))
+              first_false (ticks_in i waiting) (not (nat_eq j i)) w.0 (ap not (ne_eqb j i (λ e. ne (sym e))))
 
           -- A VISIT MORE
           pub one_more : IsGoing K F s gone₀ old trees' step' gone' waiting' unsettled'
           one_more = record {
-            count = ap length v.trees_are ∙ tree_set_len trees j (next K step (gone_in gone) (tree_number trees j)) ∙ g.count;
+            count = ap length v.trees_are ∙ length-set trees j (next K step (gone_in gone) (tree_number trees j)) ∙ g.count;
             done = λ i followed quiet. ⊎_elim
                 (λ (e : i ≡ j). subst (IsDone K old trees' step' gone' unsettled') (sym e) (visited (ap (λ k. ticks_in k waiting') (sym e) ∙ quiet)))
                 (λ (ne : i ≡ j → ⊥). other i ne followed (waited i ne quiet) quiet)
@@ -264,7 +233,7 @@ module _ (K : System) (ok : IsAccepted K) (F : List ℕ) where
                 let apart : K.declared + i ≡ K.declared + j → ⊥ = λ e. ne (omega (arith, e)) in
                 record {
                   tick = step_other (K.declared + i) apart ∙ u.tick;
-                  tree = ap (λ ts. tree_number ts i) v.trees_are ∙ tree_set_other trees j i (next K step (gone_in gone) (tree_number trees j)) ne ∙ u.tree;
+                  tree = ap (λ ts. tree_number ts i) v.trees_are ∙ get_or-set_other trees j i (next K step (gone_in gone) (tree_number trees j)) TNever ne ∙ u.tree;
                   dead = gone_other (K.declared + i) apart ∙ u.dead;
                 };
             followed = λ m h. (waits m h).0;

@@ -12,7 +12,7 @@ use Rattle.ccsl_kernel.specs.Lives.{Step}
 use Rattle.ccsl_kernel.specs.Accepted.{IsAccepted}
 use Rattle.ccsl_kernel.proofs.Definitions.{definitions-are}
 use Rattle.ccsl_kernel.proofs.AcceptedParts.{accepted_scoped}
-use Rattle.ccsl_kernel.proofs.Sets.{ticks_in-with_clock}
+use Rattle.ccsl_state.proofs.StateLaws.{put_other}
 use Rattle.ccsl_state.specs.Tree.{Tree, next, formula_of, dead_of}
 use Rattle.ccsl_state.specs.Moves.{gone_in}
 use Rattle.ccsl_state.specs.Standing.{IsEnough}
@@ -23,7 +23,7 @@ use Rattle.ccsl_state.specs.Whole.{IsWhole}
 use Rattle.ccsl_state.specs.Ready.{HasRegions}
 use Rattle.ccsl_state.specs.Held.{calls_of, trees_of, deaths_of, counts_of, derived_by, CellsCount, Advances}
 use Rattle.ccsl_state.proofs.TableLaws.{table_len, table_enough, table_room}
-use Rattle.ccsl_state.proofs.WithinLaws.{below_within, opening_within, next_within, next_same}
+use Rattle.ccsl_state.proofs.WithinLaws.{opening_within, next_within, next_same}
 use Rattle.ccsl_state.proofs.Frame.{read_same}
 use Rattle.ccsl_state.proofs.Regions.{behind_head, front_head, within, fewer}
 
@@ -44,8 +44,7 @@ module _ (K : System) (ok : IsAccepted K) where
   opened-from x [] h = tt
   opened-from x (e ∷ es) h = (
     opening_within (λ y. y < x) K (accepted_scoped K ok).bodies e []
-        (below_within (λ y. y < x) x e ((accepted_scoped K ok).definitions x e (sym (h 0 ∙ ap (definition_of K) (let z : x + 0 ≡ x = omega arith in z))))
-        (λ y l. l)) tt,
+        ((accepted_scoped K ok).definitions x e (sym (h 0 ∙ ap (definition_of K) (let z : x + 0 ≡ x = omega arith in z)))) tt,
     opened-from (suc x) es (λ j. h (suc j) ∙ ap (definition_of K) (let z : x + suc j ≡ suc x + j = omega arith in z)),
   )
 
@@ -62,11 +61,8 @@ module _ (K : System) (ok : IsAccepted K) where
 -- THE FULL STEP ON THE WAY. What is derived from clock x on has the same lower clocks
 pub derived-keeps : (ts : List Tree) (x : ℕ) (s : Step) (y : ℕ) → y < x → ticks_in y (derived_in ts x s) ≡ ticks_in y s
 derived-keeps [] x s y l = refl
-derived-keeps (t ∷ ts) x s y l = derived-keeps ts (suc x) (put (eval (formula_of t) s) x s) y (omega (arith, l)) ∙ kept (eval (formula_of t) s)
-  where
-    kept : (c : Bool) → ticks_in y (put c x s) ≡ ticks_in y s
-    kept true = ticks_in-with_clock y x s ∙ ap (λ b. b || ticks_in y s) (ne_eqb y x (λ e. let z : ⊥ = omega (arith, e, l) in z))
-    kept false = refl
+derived-keeps (t ∷ ts) x s y l = derived-keeps ts (suc x) (put (eval (formula_of t) s) x s) y (omega (arith, l))
+    ∙ put_other (eval (formula_of t) s) x y s (λ e. omega (arith, e, l))
 
 pub passed_is : (K : System) → IsAccepted K → (s : Step) (known : List ℕ) (x : ℕ) (ts : List Tree) → TreesBelow x ts
     → passed_all K s known x ts ≡ next_all K (derived_in ts x s) known x ts

@@ -3,7 +3,7 @@
 ghost use Rattle.std.specs.Prelude.{◌≡◌, ◌<◌, ◌||◌, ℕ, List, true};
 ghost use Rattle.ccsl_base.specs.Clocks.{ticks_in};
 ghost use Rattle.ccsl_kernel.specs.Plain.{plain_expr};
-ghost use Rattle.ccsl_state.specs.Within.{PlaceWithin, ArgsWithin, NamesWithin};
+ghost use Rattle.ccsl_kernel.specs.Within.{PlaceWithin, ArgsWithin, NamesWithin};
 ghost use Rattle.ccsl_state.specs.Reach.{place_names, arguments_name, names_clock, Includes, IsClosed};
 
 use ccsl_base::{ClockSet, MAX_CLOCKS};

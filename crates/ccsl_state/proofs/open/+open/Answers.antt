@@ -1,6 +1,7 @@
 -- The parts of a region, each of which was opened.
 use Rattle.std.proofs.Common.{rules, ◌≡◌, ◌<◌, ◌≤◌, ◌+◌, ◌%◌, ◌^◌, length, map, Some, ◌++◌, slice_set, refl, sym, ap, subst, ◌∙◌}
 use Rattle.std.proofs.Common.{arith}
+use Rattle.std.proofs.lemmas.List.{length-set, get_or-set_same}
 use Rattle.ccsl_kernel.specs.Syntax.{body_of}
 use Rattle.ccsl_kernel.specs.Plain.{plain_expr, plain_body}
 use Rattle.ccsl_kernel.specs.Actuals.{value_of}
@@ -20,7 +21,7 @@ use Rattle.ccsl_state.proofs.Frame.{two_front, lag_node_front}
 use Rattle.ccsl_state.proofs.Calls.{call_at, call_opens, small_mod}
 use Rattle.ccsl_state.proofs.Operands.{pair_opened}
 use Rattle.ccsl_state.proofs.Places.{call_params, ready_body}
-use Rattle.ccsl_state.proofs.Regions.{rest_one, one_set, set_at}
+use Rattle.ccsl_state.proofs.Regions.{rest_one}
 use Rattle.ccsl_state.proofs.open.+open.Goals as goal
 
 pub two_opened-returns : goal.two_opened-returns
@@ -61,7 +62,7 @@ pub then_opened-returns : goal.then_opened-returns
 then_opened-returns t c = record {
   opens = search rules;
   rest = rest_one 1 _ _ _ _ _ _ _ c.split_at_mut-head.ensures.value c.split_at_mut-head.ensures.front_len
-      (one_set c.split_at_mut-head.result.0.now 0 c.split_at_mut-head.ensures.front_len) c.opened-born.ensures.rest (omega arith);
+      (length-set c.split_at_mut-head.result.0.now 0 0 ∙ c.split_at_mut-head.ensures.front_len) c.opened-born.ensures.rest (omega arith);
   dead = search rules;
   size = search rules;
 }
@@ -111,15 +112,15 @@ call_opened-returns-in-Some t c =
     let born = call_opens K (accepted_guarded K c.body.ensures.accepted).bodies b member c.args.group args ρ values c.requires.groups is
     (c.values.ensures.values ∙ ap (λ w. map (value_of w ρ) args) words) in
     record {
-      tree = call_at K E head cells region (head ++ (cells ++ region)) member c.args.group b refl (one_set first c.from.result one)
-          (ap (λ n. n % 2 ^ 32) (set_at first c.from.result one ∙ c.from.ensures) ∙ small_mod member (omega arith)) c.requires.group is count
+      tree = call_at K E head cells region (head ++ (cells ++ region)) member c.args.group b refl (length-set first 0 c.from.result ∙ one)
+          (ap (λ n. n % 2 ^ 32) (get_or-set_same first 0 c.from.result 0 (omega (arith, one)) ∙ c.from.ensures) ∙ small_mod member (omega arith)) c.requires.group is count
           ∙ ap (λ vs. read K E b.root vs region) (ap (λ w. map (actual_of w) cells) (sym words) ∙ c.store.ensures)
           ∙ c.opened.ensures.opens ∙ born;
       rest = λ n room.
           let fits = room b is in
           let size = cells_in E b.root in
           let p = length b.params in
-          rest_one 1 n (p + size) first head rest (cells ++ region) c.args.row.now c.split_at_mut-first.ensures.value one (one_set first c.from.result one)
+          rest_one 1 n (p + size) first head rest (cells ++ region) c.args.row.now c.split_at_mut-first.ensures.value one (length-set first 0 c.from.result ∙ one)
           (rest_one p (p + size) size c.split_at_mut-cells.result.0.now cells c.split_at_mut-cells.result.1.now region rest c.split_at_mut-cells.ensures.value
           (c.split_at_mut-cells.ensures.front_len ∙ few.0) count c.opened.ensures.rest (omega arith)) (omega (arith, fits));
       dead = c.opened.ensures.dead ∙ ap (dead_of (gone_in c.args.gone.now)) born;
