@@ -45,14 +45,6 @@ visit-visited-requires c =
       place = ap (λ places. slice_get places i) (sym c.requires.places) ∙ slice_get-get_or c.args.places.now i 0 below;
     }
 
-pub enter-requires-clause-clock : goal.enter-requires-clause-clock
-enter-requires-clause-clock c =
-    let within = (c.visits.invariant.followed c.in-Some.i c.in-Some.ensures.member).0 in
-    let few = c.requires.accepted.few_clocks in
-    let all = c.requires.accepted.defined in
-    let scope = ap (λ (s : Scope). s.declared) c.scope.ensures.scope in
-    omega (arith, within, few, all, scope)
-
 pub visits-preserved : goal.visits-preserved
 visits-preserved c =
     let K = c.args.lay.now.system.now in
@@ -85,21 +77,10 @@ visits-smaller c =
     _ _ _ _ _ _ _ _ _ _ i _ _ _ _ c.visits.invariant v c.in-Some.ensures.member c.in-Some.ensures.least) in
     omega (arith, before, most, after)
 
-pub returns-clause-ascends : goal.returns-clause-ascends
-returns-clause-ascends c = c.visits.invariant.ascends
-
 pub returns-clause-kept : goal.returns-clause-kept
 returns-clause-kept c =
     let p = c.args.passage.now in
     let q = c.visits.passage in
     ends c.args.lay.now.system.now c.requires.accepted c.args.readers.now.followed c.args.readers.now.sets.items c.requires.readers c.args.step.now p.gone
-    (trees_from c.args.lay.now 0 c.args.row.now) c.requires.kept.within
-    (trees_from c.args.lay.now 0 c.visits.row) c.visits.step q.gone q.waiting q.unsettled c.visits.invariant c.in_default.ensures.none
-
-pub returns-clause-passed : goal.returns-clause-passed
-returns-clause-passed c =
-    let p = c.args.passage.now in
-    let q = c.visits.passage in
-    passes c.args.lay.now.system.now c.requires.accepted c.args.readers.now.followed c.args.readers.now.sets.items c.requires.readers c.args.step.now p.gone
     (trees_from c.args.lay.now 0 c.args.row.now) c.requires.kept.within
     (trees_from c.args.lay.now 0 c.visits.row) c.visits.step q.gone q.waiting q.unsettled c.visits.invariant c.in_default.ensures.none

@@ -26,10 +26,3 @@ loop-i-preserved c =
     rw c.in_ok-push.ensures.items
     (more_places c.args.lay.now.earlier.now c.args.lay.now.system.now.definitions c.loop-i.i (plain_expr c.definition.result.now) c.loop-i.places.items
     c.loop-i.place c.size_of.result c.definition.ensures.definition c.loop-i.invariant c.size_of.ensures)
-
-pub returns : goal.returns
-returns c =
-    let defs = c.args.lay.now.system.now.definitions in
-    let all : c.loop-i.i ≡ length defs =
-    (let count = c.definitions-count.ensures in let past = c.loop-i-test.false in let most = c.loop-i.auto.i-end in omega arith) in
-    c.loop-i.invariant.first ∙ ap (places_from c.args.lay.now.earlier.now 0) (ap (λ n. take n defs) all ∙ take-length defs)

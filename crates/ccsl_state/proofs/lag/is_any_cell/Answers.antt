@@ -13,9 +13,3 @@ returns-then-cells-i-ne0 c =
 pub loop-i-preserved : goal.loop-i-preserved
 loop-i-preserved c = none_more c.args.cells.now c.loop-i.i c.loop-i-test.true (omega (arith, c.type_inv.cells c.loop-i.i)) c.loop-i.invariant
     c.if-cells-i-ne0.false
-
-pub returns : goal.returns
-returns c =
-    let cells = c.args.cells.now in
-    let all : c.loop-i.i ≡ length cells = (let past = c.loop-i-test.false in let most = c.loop-i.auto.i-end in omega arith) in
-    sym c.loop-i.invariant ∙ ap (λ xs. any_set (bits_of xs)) (ap (λ k. take k cells) all ∙ take-length cells)

@@ -11,17 +11,6 @@ use Rattle.ccsl_state.proofs.Regions.{front_head}
 use Rattle.ccsl_state.proofs.PartMeans.{passed_by, part_step, part_stands}
 use Rattle.ccsl_state.proofs.part.Part.go_on.Goals as goal
 
-pub follow-requires-clause-kept : goal.follow-requires-clause-kept
-follow-requires-clause-kept c =
-    let K = c.self.inside.system.now in
-    subst (λ ts. AreKept K c.self.inside.readers.followed ts c.self.inside.passage.gone c.self.inside.passage.unsettled)
-    (ap₂ (λ C row. trees_in K C K.definitions row) (sym (c.as_slice.ensures.value ∙ c.self.invariant.calls)) (sym c.as_mut_slice.ensures.value))
-    c.self.invariant.kept
-
-pub follow-requires-clause-low : goal.follow-requires-clause-low
-follow-requires-clause-low c =
-    subst (λ (p : HeldPart). are_below p.system.declared c.args.step.now ≡ true) (sym c.self.view_is) c.requires
-
 pub returns-clause-step : goal.returns-clause-step
 returns-clause-step c = λ T stands.
     let s = c.args.step.now in

@@ -8,18 +8,6 @@ use Rattle.ccsl_kernel.specs.Plain.{plain_expr}
 use Rattle.ccsl_state.proofs.ReachLaws.{names_few, definition_names, definition_at}
 use Rattle.ccsl_state.proofs.Entering.{ReadBefore, named_alone, read_past, read_more, read_all, read_none}
 use Rattle.ccsl_state.proofs.readers.Readers.open.Goals as goal
-use Rattle.ccsl_state.proofs.readers.Readers.open.Goals.{then-has, else-has}
-
-pub loop-i-init : goal.loop-i-init
-loop-i-init c = record {
-  count = (
-      let count = c.in_ok-sets.ensures.count in
-      let scope = ap (λ (s : Scope). s.declared) c.scope-declared.ensures.scope in
-      let all = c.definitions.ensures in
-      omega (arith, count, scope, all)
-      );
-  before = read_none c.args.system.now c.args.followed c.in_ok-sets.sets.items c.in_ok-sets.ensures.empty;
-}
 
 pub add_named-requires : goal.add_named-requires
 add_named-requires c = names_few c.args.system.now c.definition.ensures.accepted c.loop-i.i (plain_expr c.definition.result.now) c.definition.ensures.definition
@@ -42,32 +30,6 @@ add_reader-requires c =
           omega (arith, low, within, count, same);
       number = omega (arith, within, few, all);
     }
-
-pub loop-i-preserved : goal.loop-i-preserved
-loop-i-preserved c =
-    let K = c.args.system.now in
-    let F = c.args.followed in
-    let i = c.loop-i.i in
-    let has : c.has.result ≡ ticks_in (K.declared + i) F =
-    c.has.ensures.member ∙ ap (λ (s : Scope). ticks_in (s.declared + i) F) c.scope-declared.ensures.scope in
-    elim c.if-has.branch [
-      | then-has w ↦
-          let e = plain_expr w.definition.result.now in
-          let new = w.add_reader.new.sets in
-          let items = with_items_is c.loop-i.sets new (w.add_reader.auto.sets ∙ w.as_mut_slice.ensures.len) in
-          rw w.sets-is (record {
-            count = ap length items ∙ w.add_reader.auto.sets ∙ ap length w.as_mut_slice.ensures.value ∙ c.loop-i.invariant.count;
-            before = subst (ReadBefore K F (i + 1)) (sym items)
-                (read_more K F i c.loop-i.sets.items c.loop-i.invariant.before e new w.definition.ensures.definition (sym has ∙ w.if-has.true) (λ y p.
-                w.add_reader.ensures y p
-                ∙ ap₂ (λ t sets. (nat_eq p i && t) || ticks_in p (slice_index_or sets y []))
-                (named_alone e w.empty-named.result w.add_named.new.set w.empty-named.ensures w.add_named.ensures y) w.as_mut_slice.ensures.value));
-          })
-      | else-has w ↦ rw w.sets-is (record {
-        count = c.loop-i.invariant.count;
-        before = read_past K F i c.loop-i.sets.items c.loop-i.invariant.before (sym has ∙ w.if-has.false);
-      })
-    ]
 
 pub returns-clause-readers : goal.returns-clause-readers
 returns-clause-readers c =
