@@ -109,37 +109,11 @@ abbrev pub IsHearing : List (List ℕ) → List ℕ → Step → List ℕ → Li
 IsHearing sets unsettled s left waiting =
     (p : ℕ) → (ticks_in p waiting || list_any (λ y. ticks_in p (slice_index_or sets y [])) left) ≡ is_waiting sets unsettled s p
 
-pub hear_more : (sets : List (List ℕ)) (unsettled : List ℕ) (s : Step) (y : ℕ) (left waiting waiting' : List ℕ) → IsHearing sets unsettled s (y ∷ left) waiting
-    → ((p : ℕ) → ticks_in p waiting' ≡ (ticks_in p waiting || ticks_in p (slice_index_or sets y []))) → IsHearing sets unsettled s left waiting'
-hear_more sets unsettled s y left waiting waiting' h more p =
-    ap (λ t. t || list_any (λ y. ticks_in p (slice_index_or sets y [])) left) (more p)
-    ∙ or_assoc (ticks_in p waiting) (ticks_in p (slice_index_or sets y [])) (list_any (λ y. ticks_in p (slice_index_or sets y [])) left)
-    ∙ h p
-
-pub hear_all : (sets : List (List ℕ)) (unsettled : List ℕ) (s : Step) (waiting : List ℕ) → IsHearing sets unsettled s [] waiting → (p : ℕ)
-    → ticks_in p waiting ≡ is_waiting sets unsettled s p
-hear_all sets unsettled s waiting h p = sym (or-false (ticks_in p waiting)) ∙ h p
-
--- ONE EMPTY SET more
-pub empty_more : (sets : List (List ℕ)) (one : List ℕ) → one ≡ [] → ((y : ℕ) → slice_index_or sets y [] ≡ []) → (y : ℕ)
-    → slice_index_or (sets ++ one ∷ []) y [] ≡ []
-empty_more [] one is h zero = is
-empty_more [] one is h (suc y) = refl
-empty_more (set ∷ sets) one is h zero = h zero
-empty_more (set ∷ sets) one is h (suc y) = empty_more sets one is (λ k. h (suc k)) y
-
 -- ONE READER of some clocks, while they are gone through: some are left
 pub record IsAdding (i : ℕ) (clocks : List ℕ) (old : List (List ℕ)) (left : List ℕ) (sets : List (List ℕ)) : Type 0 where
   pub within : (y : ℕ) → ticks_in y left ≡ true → y < length sets
   pub added : (y p : ℕ) → ((nat_eq p i && ticks_in y left) || ticks_in p (slice_index_or sets y [])) ≡ ((nat_eq p i && ticks_in y clocks)
       || ticks_in p (slice_index_or old y []))
-
-pub adding_none : (i : ℕ) (clocks left : List ℕ) (old : List (List ℕ)) → left ≡ clocks → ((y : ℕ) → ticks_in y clocks ≡ true → y < length old)
-    → IsAdding i clocks old left old
-adding_none i clocks left old is below = record {
-  within = λ y h. below y (ap (ticks_in y) (sym is) ∙ h);
-  added = λ y p. ap (λ clocks. (nat_eq p i && ticks_in y clocks) || ticks_in p (slice_index_or old y [])) is;
-}
 
 regroup : (a e u w : Bool) → ((a && u) || ((a && e) || w)) ≡ ((a && (e || u)) || w)
 regroup a e u w = grind arith
@@ -164,10 +138,6 @@ adding_more i clock clocks left left' old sets was now is so at new = record {
       ∙ so.added y p;
 }
 
-pub adding_all : (i : ℕ) (clocks : List ℕ) (old sets : List (List ℕ)) → IsAdding i clocks old [] sets → (y p : ℕ) →
-    ticks_in p (slice_index_or sets y []) ≡ ((nat_eq p i && ticks_in y clocks) || ticks_in p (slice_index_or old y []))
-adding_all i clocks old sets so y p = sym (ap (λ a. a || ticks_in p (slice_index_or sets y [])) (and-false (nat_eq p i))) ∙ so.added y p
-
 -- the clocks that an expression names, as a set that had none
 pub named_alone : (e : Expression) (empty named : List ℕ) → empty ≡ [] → ((y : ℕ) → ticks_in y named ≡ (names_clock e y || ticks_in y empty)) → (y : ℕ)
     → ticks_in y named ≡ names_clock e y
@@ -185,40 +155,6 @@ lt_more p i = ⊎_elim
     (λ (l : i ≤ p). le-ltb p (i + 1) (omega (arith, l, ne)) ∙ sym (ap₂ (λ t u. t || u) (ne_eqb p i ne) (le-ltb p i l)))
     (cases_lt p i))
     (cases_eq p i)
-
-module _ (K : System) (F : List ℕ) (i : ℕ) (sets : List (List ℕ)) (before : ReadBefore K F i sets) where
-  -- one that is not followed
-  pub read_past : ticks_in (K.declared + i) F ≡ false → ReadBefore K F (i + 1) sets
-  read_past out y p = before y p ∙ ⊎_elim
-      (λ (e : p ≡ i). both (nat_lt p i) (nat_lt p (i + 1)) (ticks_in (K.declared + p) F && reads K p y)
-      (ap (λ k. ticks_in (K.declared + k) F && reads K p y) e ∙ ap (λ t. t && reads K p y) out))
-      (λ (ne : p ≡ i → ⊥). sym (ap (λ t. t && (ticks_in (K.declared + p) F && reads K p y)) (lt_more p i ∙ ap (λ t. t || nat_lt p i) (ne_eqb p i ne))))
-      (cases_eq p i)
-    where
-      both : (t u c : Bool) → c ≡ false → (t && c) ≡ (u && c)
-      both true true c h = refl
-      both true false c h = h
-      both false true c h = sym h
-      both false false c h = refl
-
-  -- or is, and then its number stands with the clocks that it names
-  pub read_more : (e : Expression) (sets' : List (List ℕ)) → slice_get K.definitions i ≡ Some e → ticks_in (K.declared + i) F ≡ true →
-      ((y p : ℕ) → ticks_in p (slice_index_or sets' y []) ≡ ((nat_eq p i && names_clock e y) || ticks_in p (slice_index_or sets y [])))
-      → ReadBefore K F (i + 1) sets'
-  read_more e sets' is followed added y p =
-      added y p ∙ ap (λ t. (nat_eq p i && names_clock e y) || t) (before y p) ∙ ⊎_elim
-      (λ (same : p ≡ i).
-      ap₂ (λ a b. (a && names_clock e y) || (b && (ticks_in (K.declared + p) F && reads K p y))) (eq-eqb p i same) (le-ltb p i (omega (arith, same)))
-      ∙ or-false (names_clock e y)
-      ∙ sym (ap₂ (λ a b. a && b) (lt-ltb p (i + 1) (omega (arith, same)))
-      (ap₂ (λ a b. a && b) (ap (λ k. ticks_in (K.declared + k) F) same ∙ followed) (ap (λ k. reads K k y) same ∙ ap (λ o. named_by o y) is))))
-      (λ (ne : p ≡ i → ⊥).
-      ap (λ a. (a && names_clock e y) || (nat_lt p i && (ticks_in (K.declared + p) F && reads K p y))) (ne_eqb p i ne)
-      ∙ sym (ap (λ t. t && (ticks_in (K.declared + p) F && reads K p y)) (lt_more p i ∙ ap (λ t. t || nat_lt p i) (ne_eqb p i ne))))
-      (cases_eq p i)
-
-pub read_none : (K : System) (F : List ℕ) (sets : List (List ℕ)) → ((y : ℕ) → slice_index_or sets y [] ≡ []) → ReadBefore K F 0 sets
-read_none K F sets empty y p = ap (ticks_in p) (empty y) ∙ sym (ap (λ t. t && (ticks_in (K.declared + p) F && reads K p y)) (le-ltb p 0 (omega arith)))
 
 no_number : (K : System) (p y : ℕ) → length K.definitions ≤ p → reads K p y ≡ false
 no_number K p y l = ap (λ o. named_by o y) (slice_get_past K.definitions p l)

@@ -54,13 +54,3 @@ pair_dead gone (Some o) a d = refl
 pub open_formula : (x : Bool) (g : Formula) → (if (if x then true else false) then g else FFalse) ≡ (if x then g else FFalse)
 open_formula true g = refl
 open_formula false g = refl
-
-with_tick : (x : Bool) (f : Formula) → (if x then f else FFalse) ≡ (if x && true then f else FFalse)
-with_tick true f = refl
-with_tick false f = refl
-
--- an operator of one operand lets its formula through where it ticks with it
-pub one_open : (o : One) (f : Formula) → one_formula o f ≡ (if one_ticks o true then f else FFalse)
-one_open (Delaying m ticks) f = with_tick (nat_le m ticks) f
-one_open (Awaiting m ticks) f = with_tick (nat_eq (ticks + 1) m) f
-one_open (Filtering w o) f = with_tick (letter w o) f

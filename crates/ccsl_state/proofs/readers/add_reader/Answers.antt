@@ -1,7 +1,7 @@
 -- One clock more.
-use Rattle.std.proofs.Common.{sym, ap, subst, ◌∙◌}
+use Rattle.std.proofs.Common.{sym, ap, ◌∙◌}
 use Rattle.ccsl_base.specs.Clocks.{with_clock}
-use Rattle.ccsl_state.proofs.Entering.{IsAdding, adding_none, adding_more, adding_within, adding_all}
+use Rattle.ccsl_state.proofs.Entering.{adding_more, adding_within}
 use Rattle.ccsl_state.proofs.readers.add_reader.Goals as goal
 
 pub bounds-sets-clock : goal.bounds-sets-clock

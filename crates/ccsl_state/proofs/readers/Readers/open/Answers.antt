@@ -6,7 +6,7 @@ use Rattle.ccsl_base.specs.Clocks.{ticks_in}
 use Rattle.ccsl_formula.specs.declared.scope.Scope.{Scope}
 use Rattle.ccsl_kernel.specs.Plain.{plain_expr}
 use Rattle.ccsl_state.proofs.ReachLaws.{names_few, definition_names, definition_at}
-use Rattle.ccsl_state.proofs.Entering.{ReadBefore, named_alone, read_past, read_more, read_all, read_none}
+use Rattle.ccsl_state.proofs.Entering.{named_alone, read_all}
 use Rattle.ccsl_state.proofs.readers.Readers.open.Goals as goal
 
 pub add_named-requires : goal.add_named-requires
