@@ -3,6 +3,7 @@ use Rattle.std.proofs.Common.{◌≡◌, ℕ, zero, suc, ◌+◌, ◌<◌, ◌�
 use Rattle.std.proofs.Common.{min, slice_get, slice_set, slice_index_or, nat_eq, nat_lt, refl, sym, ap, ap₂, ◌∙◌, arith, lt-ltb, le-ltb, eq-eqb, eqb-true}
 use Rattle.std.specs.Prelude.{MatchOption, IfSome}
 use Rattle.std.specs.List.{list_any, list_all}
+use Rattle.std.proofs.lemmas.Grind.{common_steps}
 use Rattle.std.proofs.lemmas.List.{length-set, get_or_default, get_or-set_same, get_or-set_other}
 use Rattle.std.proofs.lemmas.Bool.{cases_eq, cases_lt, ne_eqb, and_parts, or_cases, or_left, or_right}
 use Rattle.std.proofs.Math.Bool.{or_assoc, or-false, and-true, and-false}
@@ -27,10 +28,7 @@ use Rattle.ccsl_state.proofs.Visiting.{IsVisit}
 
 -- THE FIRST MEMBER of an ascending list is the least
 pub first_least : (x : ℕ) (xs : List ℕ) → is_ascending (x ∷ xs) ≡ true → (m : ℕ) → ticks_in m (x ∷ xs) ≡ true → x ≤ m
-first_least x xs h m is = ⊎_elim
-    (λ (e : nat_eq m x ≡ true). let same = eqb-true m x e in omega (arith, same))
-    (λ (r : ticks_in m xs ≡ true). let l = above x xs m (and_parts (list_all (nat_lt x) xs) (is_ascending xs) h).0 r in omega (arith, l))
-    (or_cases (nat_eq m x) (ticks_in m xs) is)
+first_least x xs h m is = grind (arith, common_steps, above)
 
 pub first_is : (set left left' : List ℕ) (r : Option ℕ) → left ≡ set → is_ascending set ≡ true
     → MatchOption r ((left ≡ []) × (left' ≡ [])) (λ x. left ≡ x ∷ left') →
@@ -41,17 +39,7 @@ first_is set left left' (Some x) is asc h = λ m t. first_least x left' (ap is_a
 -- one member of one set more
 pub placed_more : (old : List (List ℕ)) (i clock : ℕ) (was now : List ℕ) → clock < length old → was ≡ slice_index_or old clock was → now ≡ with_clock i was →
     (y p : ℕ) → ticks_in p (slice_index_or (slice_set old clock now) y []) ≡ ((nat_eq p i && nat_eq y clock) || ticks_in p (slice_index_or old y []))
-placed_more old i clock was now l at is y p = ⊎_elim
-    (λ (e : y ≡ clock).
-    ap (λ k. ticks_in p (slice_index_or (slice_set old clock now) k [])) e
-    ∙ ap (ticks_in p) (get_or-set_same old clock now [] l ∙ is) ∙ ticks_in-with_clock p i was
-    ∙ ap₂ (λ a b. a || b) (sym (ap (λ b. nat_eq p i && b) (eq-eqb y clock e) ∙ and-true (nat_eq p i)))
-    (ap (ticks_in p) (at ∙ get_or_default old clock was [] l ∙ ap (λ k. slice_index_or old k []) (sym e))))
-    (λ (ne : y ≡ clock → ⊥).
-    ap (ticks_in p) (get_or-set_other old clock y now [] ne)
-    ∙ sym (ap (λ b. (nat_eq p i && b) || ticks_in p (slice_index_or old y [])) (ne_eqb y clock ne)
-    ∙ ap (λ b. b || ticks_in p (slice_index_or old y [])) (and-false (nat_eq p i))))
-    (cases_eq y clock)
+placed_more old i clock was now l at is y p = grind (arith, common_steps, get_or-set_same {A = List ℕ}, get_or-set_other {A = List ℕ}, get_or_default {X = List ℕ}, ticks_in-with_clock)
 
 -- the least member, or a bound where there is none
 abbrev pub lowest : ℕ → List ℕ → ℕ
@@ -90,19 +78,14 @@ member_any p (y ∷ xs) h = ⊎_elim (λ (e : p y ≡ true). (y, e)) (λ (r : li
 
 module _ (sets : List (List ℕ)) (unsettled : List ℕ) (s : Step) (waiting : List ℕ) (are : (p : ℕ) → ticks_in p waiting ≡ is_waiting sets unsettled s p) where
   pub unsettled_wait : (p : ℕ) → ticks_in p unsettled ≡ true → ticks_in p waiting ≡ true
-  unsettled_wait p h = are p ∙ or_left (ticks_in p unsettled) (list_any (λ y. ticks_in p (slice_index_or sets y [])) s) h
+  unsettled_wait p h = grind (arith, common_steps)
 
   pub readers_wait : (p y : ℕ) → ticks_in y s ≡ true → ticks_in p (slice_index_or sets y []) ≡ true → ticks_in p waiting ≡ true
-  readers_wait p y is h = are p ∙ or_right (ticks_in p unsettled) (list_any (λ y. ticks_in p (slice_index_or sets y [])) s)
-      (any_member (λ y. ticks_in p (slice_index_or sets y [])) s y is h)
+  readers_wait p y is h = grind (arith, common_steps, any_member)
 
   pub followed_wait : (P : ℕ → Type 0) → ((p : ℕ) → ticks_in p unsettled ≡ true → P p) → ((p y : ℕ) → ticks_in p (slice_index_or sets y []) ≡ true → P p)
       → (p : ℕ) → ticks_in p waiting ≡ true → P p
-  followed_wait P early reader p h = ⊎_elim
-      (λ (u : ticks_in p unsettled ≡ true). early p u)
-      (λ (a : list_any (λ y. ticks_in p (slice_index_or sets y [])) s ≡ true). let m =
-      member_any (λ y. ticks_in p (slice_index_or sets y [])) s a in reader p m.0 m.1)
-      (or_cases (ticks_in p unsettled) (list_any (λ y. ticks_in p (slice_index_or sets y [])) s) (sym (are p) ∙ h))
+  followed_wait P early reader p h = grind (arith, common_steps, member_any)
 
 -- while the clocks that tick are gone through: some are left
 abbrev pub IsHearing : List (List ℕ) → List ℕ → Step → List ℕ → List ℕ → Type 0
@@ -141,34 +124,21 @@ adding_more i clock clocks left left' old sets was now is so at new = record {
 -- the clocks that an expression names, as a set that had none
 pub named_alone : (e : Expression) (empty named : List ℕ) → empty ≡ [] → ((y : ℕ) → ticks_in y named ≡ (names_clock e y || ticks_in y empty)) → (y : ℕ)
     → ticks_in y named ≡ names_clock e y
-named_alone e empty named is added y = added y ∙ ap (λ s. names_clock e y || ticks_in y s) is ∙ or-false (names_clock e y)
+named_alone e empty named is added y = grind (arith, common_steps)
 
 -- THE TABLE OF READERS, of the definitions before number i
 abbrev pub ReadBefore : System → List ℕ → ℕ → List (List ℕ) → Type 0
 ReadBefore K F i sets = (y p : ℕ) → ticks_in p (slice_index_or sets y []) ≡ (nat_lt p i && (ticks_in (K.declared + p) F && reads K p y))
 
 lt_more : (p i : ℕ) → nat_lt p (i + 1) ≡ (nat_eq p i || nat_lt p i)
-lt_more p i = ⊎_elim
-    (λ (e : p ≡ i). lt-ltb p (i + 1) (omega (arith, e)) ∙ sym (ap (λ t. t || nat_lt p i) (eq-eqb p i e)))
-    (λ (ne : p ≡ i → ⊥). ⊎_elim
-    (λ (l : p < i). lt-ltb p (i + 1) (omega (arith, l)) ∙ sym (or_right (nat_eq p i) (nat_lt p i) (lt-ltb p i l)))
-    (λ (l : i ≤ p). le-ltb p (i + 1) (omega (arith, l, ne)) ∙ sym (ap₂ (λ t u. t || u) (ne_eqb p i ne) (le-ltb p i l)))
-    (cases_lt p i))
-    (cases_eq p i)
+lt_more p i = grind (arith, common_steps)
 
 no_number : (K : System) (p y : ℕ) → length K.definitions ≤ p → reads K p y ≡ false
 no_number K p y l = ap (λ o. named_by o y) (slice_get_past K.definitions p l)
 
 pub read_all : (K : System) (F : List ℕ) (sets : List (List ℕ)) (n : ℕ) → n ≡ length K.definitions → length sets ≡ K.declared + length K.definitions
     → ReadBefore K F n sets → AreReaders K F sets
-read_all K F sets n all count before = record {
-  count = count;
-  tell = λ y p. before y p ∙ ⊎_elim
-      (λ (l : p < n). ap (λ t. t && (ticks_in (K.declared + p) F && reads K p y)) (lt-ltb p n l))
-      (λ (l : n ≤ p). ap (λ t. t && (ticks_in (K.declared + p) F && reads K p y)) (le-ltb p n l)
-      ∙ sym (ap (λ t. ticks_in (K.declared + p) F && t) (no_number K p y (omega (arith, l, all))) ∙ and-false (ticks_in (K.declared + p) F)))
-      (cases_lt p n);
-}
+read_all K F sets n all count before = record { count = count; tell = λ y p. grind (arith, common_steps, no_number) }
 
 -- what is as it is to be stays so
 pub put_already : (number : ℕ) (member : Bool) (set : List ℕ) → ticks_in number set ≡ member → (x : ℕ)
@@ -200,10 +170,4 @@ visit_is lay i clock sets row row' v s s' old new at is e = record {
 pub numbers_more : (D i : ℕ) (F set set' : List ℕ) (one : Bool) → ((p : ℕ) → ticks_in p set ≡ (nat_lt p i && ticks_in (D + p) F)) → set' ≡ put_clock i one set
     → one ≡ ticks_in (D + i) F →
     (p : ℕ) → ticks_in p set' ≡ (nat_lt p (i + 1) && ticks_in (D + p) F)
-numbers_more D i F set set' one before is one_is p = ap (ticks_in p) is ∙ ⊎_elim
-    (λ (e : p ≡ i).
-    ap (λ k. ticks_in k (put_clock i one set)) e ∙ ticks_in-put_same i one set ∙ one_is
-    ∙ sym (ap₂ (λ t k. t && ticks_in (D + k) F) (lt-ltb p (i + 1) (omega (arith, e))) e))
-    (λ (ne : p ≡ i → ⊥). ticks_in-put_other i one p set ne ∙ before p
-    ∙ sym (ap (λ t. t && ticks_in (D + p) F) (lt_more p i ∙ ap (λ t. t || nat_lt p i) (ne_eqb p i ne))))
-    (cases_eq p i)
+numbers_more D i F set set' one before is one_is p = grind (arith, common_steps, ticks_in-put_same, ticks_in-put_other)

@@ -8,6 +8,7 @@ use Rattle.std.proofs.lemmas.List.{length-set, get_or-set_same, get_or-set_other
 use Rattle.std.proofs.lemmas.Option.{slice_get_within}
 use Rattle.ccsl_base.specs.Clocks.{ticks_in, is_ascending, are_below}
 use Rattle.ccsl_base.specs.Changes.{put_clock}
+use Rattle.std.proofs.lemmas.Grind.{common_steps}
 use Rattle.ccsl_base.proofs.Sets.{ticks_in-put_same, ticks_in-put_other}
 use Rattle.ccsl_formula.specs.Formula.{eval}
 use Rattle.ccsl_kernel.specs.Syntax.{Expression, System}
@@ -26,7 +27,7 @@ use Rattle.ccsl_state.proofs.ReachLaws.{definition_names, definition_at}
 use Rattle.ccsl_base.proofs.Ascending.{with_clock-ascends}
 
 first_false : (a b : Bool) → (a && b) ≡ false → b ≡ true → a ≡ false
-first_false a b h is = sym (ap (λ c. a && c) is ∙ and-true a) ∙ h
+first_false a b h is = grind (arith, common_steps)
 
 put_ascends : (t : Bool) (x : ℕ) (s : List ℕ) → is_ascending s ≡ true → is_ascending (put t x s) ≡ true
 put_ascends true x s h = with_clock-ascends x s h
@@ -89,10 +90,10 @@ module _ (K : System) (ok : IsAccepted K) (F : List ℕ) where
   module _ (readers : List (List ℕ)) (are : AreReaders K F readers) where
     -- a reader of a clock is followed and names it
     pub reader : (i y : ℕ) → ticks_in i (slice_index_or readers y []) ≡ true → IsFollowed K F i × (reads K i y ≡ true)
-    reader i y h = let w = and_parts (ticks_in (K.declared + i) F) (reads K i y) (sym (are.tell y i) ∙ h) in ((reads_there i y w.1, w.0), w.1)
+    reader i y h = grind (arith, common_steps, reads_there)
 
     no_reader : (i y : ℕ) → IsFollowed K F i → reads K i y ≡ true → ticks_in i (slice_index_or readers y []) ≡ true
-    no_reader i y followed h = are.tell y i ∙ ap₂ (λ b c. b && c) followed.1 h
+    no_reader i y followed h = grind (arith, common_steps)
 
     module _ (s gone₀ : List ℕ) (old : List Tree) (within : (i : ℕ) → IsFollowed K F i → TreeWithin (λ y. reads K i y ≡ true) (tree_number old i)) where
       module _ (trees trees' : List Tree) (step step' gone gone' waiting waiting' unsettled unsettled' : List ℕ) (j : ℕ) (tick dead settled told : Bool)
@@ -195,27 +196,13 @@ module _ (K : System) (ok : IsAccepted K) (F : List ℕ) where
 
           -- what waits now has waited, or reads the clock
           waits : (m : ℕ) → ticks_in m waiting' ≡ true → IsFollowed K F m × (j < m)
-          waits m h = ⊎_elim
-              (λ (w : (ticks_in m waiting && not (nat_eq j m)) ≡ true).
-              let p = and_parts (ticks_in m waiting) (not (nat_eq j m)) w in
-              let low = first m p.0 in
-              let ne : m ≡ j → ⊥ = λ e. both_ways (nat_eq j m) (not-true (nat_eq j m) p.1) (eq-eqb j m (sym e)) in
-              (g.followed m p.0, omega (arith, low, ne)))
-              (λ (w : (told && ticks_in m (slice_index_or readers (K.declared + j) [])) ≡ true).
-              let p = and_parts told (ticks_in m (slice_index_or readers (K.declared + j) [])) w in
-              let r = reader m (K.declared + j) p.1 in
-              let low = reads_below m (K.declared + j) r.1 in
-              (r.0, omega (arith, low)))
-              (or_cases (ticks_in m waiting && not (nat_eq j m)) (told && ticks_in m (slice_index_or readers (K.declared + j) [])) (sym (v.waiting_is m) ∙ h))
+          waits m h = grind (arith, common_steps, reader, reads_below)
 
           pub later : (m : ℕ) → ticks_in m waiting' ≡ true → j < m
           later m h = (waits m h).1
 
           waited : (i : ℕ) → (i ≡ j → ⊥) → ticks_in i waiting' ≡ false → ticks_in i waiting ≡ false
-          waited i ne quiet =
-              let w = or_parts (ticks_in i waiting && not (nat_eq j i)) (told && ticks_in i (slice_index_or readers (K.declared + j) []))
-              (sym (v.waiting_is i) ∙ quiet) in
-              first_false (ticks_in i waiting) (not (nat_eq j i)) w.0 (ap not (ne_eqb j i (λ e. ne (sym e))))
+          waited i ne quiet = grind (arith, common_steps)
 
           -- A VISIT MORE
           pub one_more : IsGoing K F s gone₀ old trees' step' gone' waiting' unsettled'
@@ -280,16 +267,10 @@ module _ (K : System) (ok : IsAccepted K) (F : List ℕ) where
           none i = NoneFrom-are_below K.declared s low (K.declared + i) (omega arith)
 
           waits_not : (i : ℕ) → ticks_in i waiting ≡ false → ticks_in i unsettled ≡ false
-          waits_not i quiet = ⊎_elim
-              (λ (h : ticks_in i unsettled ≡ true). absurd (both_ways (ticks_in i waiting) quiet (unsettled_wait i h)))
-              (λ (h : ticks_in i unsettled ≡ false). h)
-              (cases_Bool (ticks_in i unsettled))
+          waits_not i quiet = grind (arith, common_steps)
 
           silent_clock : (i : ℕ) → IsFollowed K F i → ticks_in i waiting ≡ false → (y : ℕ) → reads K i y ≡ true → ticks_in y s ≡ false
-          silent_clock i f quiet y read = ⊎_elim
-              (λ (h : ticks_in y s ≡ true). absurd (both_ways (ticks_in i waiting) quiet (heard i y h (no_reader i y f read))))
-              (λ (h : ticks_in y s ≡ false). h)
-              (cases_Bool (ticks_in y s))
+          silent_clock i f quiet y read = grind (arith, common_steps, no_reader)
 
           unheard : (i : ℕ) → IsFollowed K F i → ticks_in i waiting ≡ false → TreeWithin (λ y. ticks_in y s ≡ false) (tree_number old i)
           unheard i f quiet = tree_more (λ y. reads K i y ≡ true) (λ y. ticks_in y s ≡ false) (silent_clock i f quiet) (tree_number old i) (within i f)
