@@ -1,4 +1,5 @@
 -- Whether a bit is set, by whole cells.
+use Rattle.std.proofs.lemmas.Grind.{common_steps}
 use Rattle.std.proofs.Common.{◌≡◌, ◌≢◌, ℕ, zero, suc, ◌+◌, ◌*◌, ◌/◌, ◌%◌, ◌^◌, ◌<◌, ◌≤◌, List, [], ◌∷◌, ◌++◌, length, get_or, take, drop, Bool, true, false}
 use Rattle.std.proofs.Common.{not, ◌||◌, refl, sym, ap, ap₂, ◌∙◌, arith, ⊎_elim, pow-suc, append_assoc}
 use Rattle.std.proofs.lemmas.Bool.{cases_eq, ne_eqb}
@@ -12,16 +13,7 @@ flag_set : (n : ℕ) → n ≢ 0 → flag_of n ≡ true
 flag_set n ne = ap not (ne_eqb n 0 ne)
 
 half_flags : (n : ℕ) → (flag_of (n % 2) || flag_of (n / 2)) ≡ flag_of n
-half_flags n =
-    ⊎_elim
-    (λ (e : n % 2 ≡ 0).
-    ap (λ x. flag_of x || flag_of (n / 2)) e
-    ∙ ⊎_elim
-    (λ (z : n / 2 ≡ 0). ap flag_of (let s : n / 2 ≡ n = omega (arith, e, z) in s))
-    (λ (nz : n / 2 ≢ 0). flag_set (n / 2) nz ∙ sym (flag_set n (λ z. nz (omega (arith, z)))))
-    (cases_eq (n / 2) 0))
-    (λ (ne : n % 2 ≢ 0). ap (λ b. b || flag_of (n / 2)) (flag_set (n % 2) ne) ∙ sym (flag_set n (λ z. ne (omega (arith, z)))))
-    (cases_eq (n % 2) 0)
+half_flags n = grind (arith, common_steps, flag_set)
 
 -- a number has a bit that is set where it is not 0
 any_word : (k n : ℕ) → n < 2 ^ k → any_set (bits_of_word k n) ≡ flag_of n
@@ -57,10 +49,7 @@ one_is cells i l fits none ne =
 
 -- the bits of the first cells
 pub front_bits : (w : ℕ) (front back : List ℕ) → length front ≡ w → take (64 * w) (bits_of (front ++ back)) ≡ bits_of front
-front_bits w front back l =
-    ap (take (64 * w)) (bits_append front back)
-    ∙ ap (λ k. take k (bits_of front ++ bits_of back)) (let n = bits_of_len front in let z : 64 * w ≡ length (bits_of front) = omega (arith, n, l) in z)
-    ∙ take-append_seam (bits_of front) (bits_of back)
+front_bits w front back l = grind (arith, common_steps, bits_append, bits_of_len, take-append_seam)
 
 pub any_further : (xs : List Bool) (n m : ℕ) → n ≤ m → any_set (take n xs) ≡ true → any_set (take m xs) ≡ true
 any_further xs n m l set =

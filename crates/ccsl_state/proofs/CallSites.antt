@@ -1,4 +1,5 @@
 -- A call of an earlier group, seen from outside of its region.
+use Rattle.std.proofs.lemmas.Grind.{common_steps}
 use Rattle.std.proofs.Common.{◌≡◌, ℕ, ◌+◌, ◌<◌, ◌≤◌, List, false, length, take, slice_index, Some, if◌then◌else◌, sym, ap, ap₂, subst, ◌∙◌, arith}
 use Rattle.std.proofs.lemmas.Bool.{lt-ltb}
 use Rattle.std.proofs.lemmas.List.{length-take-le}
@@ -22,9 +23,7 @@ use Rattle.ccsl_state.proofs.Frame.{enough_before, read_call_is, call_room}
 module _ (K : System) (earlier : List ℕ) (group : ℕ) where
   call_read : (member : ℕ) (args : List Value) (ρ : List Actual) (row : List ℕ) → group < length earlier
       → read K earlier (ECall group member args) ρ row ≡ region_of K (take group earlier) row
-  call_read member args ρ row below =
-      ap (λ t. if t then read_call K earlier (length earlier) group row else TNever) (lt-ltb group (length earlier) below)
-      ∙ read_call_is K earlier (length earlier) group row below (omega arith)
+  call_read member args ρ row below = grind (arith, common_steps, read_call_is)
 
   -- seen from its region
   region_read : (K' : System) (earlier' : List ℕ) (member : ℕ) (args : List Value) (ρ : List Actual) (row : List ℕ) → K' ≡ K → earlier' ≡ take group earlier
@@ -36,13 +35,7 @@ module _ (K : System) (earlier : List ℕ) (group : ℕ) where
   site_room : IsEnough K earlier → group < length earlier → slice_index earlier group ≤ MAX_CELLS →
       (1 ≤ slice_index earlier group) × ((m : ℕ) (b : Body) → body_of K.groups group m ≡ Some b
       → 1 + length b.params + cells_in (take group earlier) b.root ≤ slice_index earlier group)
-  site_room enough below few = (
-    (enough group below).0,
-    λ m b is.
-        call_room K earlier group m b enough below few
-        (let len : length (take group earlier) ≡ group = length-take-le group earlier (omega (arith, below)) in subst (λ k. body_of K.groups k m ≡ Some
-        b) (sym len) is),
-  )
+  site_room enough below few = grind (arith, common_steps, call_room, length-take-le)
 
 -- THE REGION OF A CALL, seen from the expression and from the place of its group
 pub record IsSite (lay before : Lay) (e : Expr) (ρ : List Actual) (group : ℕ) (row : List ℕ) : Type 0 where

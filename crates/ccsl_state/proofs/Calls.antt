@@ -1,4 +1,5 @@
 -- The region of a call in its parts: the member, the parameters' cells, and the body's region.
+use Rattle.std.proofs.lemmas.Grind.{common_steps}
 use Rattle.std.proofs.Common.{◌≡◌, ℕ, ◌<◌, ◌%◌, ◌^◌, List, [], ◌∷◌, ◌++◌, length, map, slice_index, Some, refl, sym, ap, ap₂, ◌∙◌, arith}
 use Rattle.std.proofs.lemmas.List.{get_or_append_left}
 use Rattle.ccsl_kernel.specs.declared.actual.Actual.{Actual}
@@ -30,10 +31,4 @@ module _ (K : System) (earlier : List ℕ) where
       → slice_index head 0 % 2 ^ 32 ≡ member → length earlier ≡ g →
       body_of K.groups g member ≡ Some b → length cells ≡ length b.params
       → region_of K earlier row ≡ read K earlier b.root (map (actual_of K.words) cells) region
-  call_at head cells region row member g b row_is l at is_g is few =
-      ap (region_of K earlier) row_is
-      ∙ ap₂ (λ o rest. read_body K earlier (read_call K earlier (length earlier)) o rest)
-      (ap₂ (body_of K.groups) is_g (ap (λ n. n % 2 ^ 32) (first_cell head (cells ++ region) l) ∙ at) ∙ is)
-      (behind_head 1 head (cells ++ region) l)
-      ∙ ap₂ (λ params rest. read K earlier b.root (map (actual_of K.words) params) rest) (front_head (length b.params) cells region few)
-      (behind_head (length b.params) cells region few)
+  call_at head cells region row member g b row_is l at is_g is few = grind (arith, common_steps, first_cell, behind_head, front_head)

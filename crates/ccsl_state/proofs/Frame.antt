@@ -1,4 +1,5 @@
 -- The tree that a region holds depends on its own cells alone.
+use Rattle.std.proofs.lemmas.Grind.{common_steps}
 use Rattle.std.proofs.Common.{◌≡◌, ℕ, zero, suc, ◌+◌, ◌<◌, ◌≤◌, List, [], ◌∷◌, ◌++◌, length, map, take, drop, slice_index, max, Bool, true, false, Option, Some}
 use Rattle.std.proofs.Common.{None, nat_lt, nat_eq, if◌then◌else◌, refl, sym, ap, ap₂, subst, ◌∙◌, arith, ltb-true, ◌%◌, ◌^◌, ⊎_elim}
 use Rattle.std.proofs.lemmas.Bool.{eqb-true, eqb-false, cases_lt}
@@ -40,11 +41,7 @@ two_same o xs ys e = refl
 
 -- a delayed's own cells
 pub lag_front : (m : ℕ) (head rest : List ℕ) → length head ≡ 2 + words_of m → lag_at m (head ++ rest) ≡ lag_at m head
-lag_front m head rest l =
-    let own = 2 + words_of m in
-    let e : take own (head ++ rest) ≡ take own head = sym (take_own own head rest l) in
-    ap₂ (λ k bits. Lagging m (rotated k (take m (bits_of bits)))) (cell_same own 0 (head ++ rest) head e (omega arith))
-    (within own 2 (words_of m) (head ++ rest) head e (omega arith))
+lag_front m head rest l = grind (arith, common_steps, take_own, cell_same, within)
 
 -- the nodes that they hold
 pub two_front : (o : ExprOp) (head rest : List ℕ) → length head ≡ own_cells o → two_at o (head ++ rest) ≡ two_at o head
@@ -140,37 +137,13 @@ module _ (K : System) (earlier : List ℕ) (calls : ℕ → List ℕ → Tree)
 
 module _ (K : System) where
   pub enough_before : (earlier : List ℕ) (g : ℕ) → g ≤ length earlier → IsEnough K earlier → IsEnough K (take g earlier)
-  enough_before earlier g l enough g' l' =
-      let len : length (take g earlier) ≡ g = length-take-le g earlier l in
-      let below : g' < g = omega (arith, l', len) in
-      let h = enough g' (omega (arith, below, l)) in
-      let at = get_or-take g earlier g' 0 below in (
-        subst (λ n. 1 ≤ n) (sym at) h.0,
-        λ m b is.
-            subst (λ ns. saturated (1 + length b.params + cells_in ns b.root) ≤ slice_index (take g earlier) g')
-            (sym (take-take g' g earlier (omega (arith, below))))
-            (subst (λ n. saturated (1 + length b.params + cells_in (take g' earlier) b.root) ≤ n) (sym at) (h.1 m b is)),
-      )
+  enough_before earlier g l enough g' l' = grind (arith, common_steps, length-take-le, get_or-take, slice_index, take-take)
 
   -- the region of a call is that of its group behind the earlier ones
   call_step : (earlier : List ℕ) (n group : ℕ) (row : List ℕ) → group < suc n → n ≤ length earlier →
       (group < n → read_call K earlier n group row ≡ region_of K (take group earlier) row)
       → read_call K earlier (suc n) group row ≡ region_of K (take group earlier) row
-  call_step earlier n group row l u below = on (nat_eq group n) refl
-    where
-      on : (t : Bool) → nat_eq group n ≡ t →
-          elim t [
-            | true ↦ read_body K (take n earlier) (read_call K (take n earlier) n) (body_of K.groups n (slice_index row 0 % 2 ^ 32)) (drop 1 row)
-            | false ↦ read_call K earlier n group row
-          ]
-          ≡ region_of K (take group earlier) row
-      on true e =
-          let len : length (take n earlier) ≡ n = length-take-le n earlier u in
-          let same : group ≡ n = eqb-true group n e in
-          ap₂ (λ k j. read_body K (take n earlier) (read_call K (take n earlier) k) (body_of K.groups j (slice_index row 0 % 2 ^ 32)) (drop 1 row)) (sym len)
-          (sym len)
-          ∙ ap (λ k. region_of K (take k earlier) row) (sym same)
-      on false e = below (let other = eqb-false group n e in ⊎_elim (λ (k : group < n). k) (λ k. absurd (other (omega (arith, k, l)))) (cases_lt group n))
+  call_step earlier n group row l u below = grind (arith, common_steps, nat_eq, slice_index, length-take-le, eqb-false)
 
   pub read_call_is : (earlier : List ℕ) (n group : ℕ) (row : List ℕ) → group < n → n ≤ length earlier
       → read_call K earlier n group row ≡ region_of K (take group earlier) row

@@ -1,4 +1,5 @@
 -- What a node keeps is what its row counts over all ticks, in fewer steps than a count can hold.
+use Rattle.std.proofs.lemmas.Grind.{common_steps}
 use Rattle.std.proofs.Common.{◌≡◌, ℕ, zero, suc, ◌+◌, ◌-◌, ◌<◌, ◌≤◌, List, [], ◌∷◌, ◌++◌, map, length, get_or, le-ltb, lt-ltb, eq-eqb, ⊎_elim, Bool, true}
 use Rattle.std.proofs.Common.{false, not, ◌&&◌, ◌||◌, refl, sym, ap, ap₂, ◌∙◌, arith, nat_lt, nat_eq, nat_le, le-leb, zero-add, replicate, if◌then◌else◌}
 use Rattle.std.proofs.lemmas.Bool.{cases_lt, cases_eq, ne_eqb}
@@ -81,12 +82,7 @@ filtered w o k t (i ∷ is) = on (t i) (filtered w (rest w o) k t is) (filtered 
 
 -- and where a finite word has ended, it has at the place
 ended_rest : (w : BinaryWord) (o c : ℕ) → is_finite w ≡ true → nat_le (length w.prefix) (rest w o + c) ≡ nat_le (length w.prefix) (o + suc c)
-ended_rest w o c fin =
-    ⊎_elim
-    (λ (l : o < length w.prefix). ap (nat_le (length w.prefix)) (let r = rest_before_end w o fin l in omega (arith, r)))
-    (λ (l : length w.prefix ≤ o). le-leb (length w.prefix) (rest w o + c) (let r = rest_at_end w o fin l in omega (arith, r))
-    ∙ sym (le-leb (length w.prefix) (o + suc c) (omega (arith, l))))
-    (cases_lt o (length w.prefix))
+ended_rest w o c fin = grind (arith, common_steps, nat_le, rest_before_end, rest_at_end)
 
 ended : (w : BinaryWord) (o : ℕ) (t : ℕ → Bool) (is : List ℕ) → is_finite w ≡ true →
     nat_le (length w.prefix) (offset_after w o (map t is)) ≡ nat_le (length w.prefix) (o + count (map t is))
@@ -250,10 +246,7 @@ length-marked t true q = length-set_first t (shifted false q) ∙ length-shifted
 length-marked t false q = length-set_first t q
 
 eqb-suc : (a b : ℕ) → nat_eq (suc a) (suc b) ≡ nat_eq a b
-eqb-suc a b =
-    ⊎_elim (λ (e : a ≡ b). eq-eqb (suc a) (suc b) (ap suc e) ∙ sym (eq-eqb a b e))
-    (λ (ne : a ≡ b → ⊥). ne_eqb (suc a) (suc b) (λ e. ne (omega arith)) ∙ sym (ne_eqb a b ne))
-    (cases_eq a b)
+eqb-suc a b = grind (arith, common_steps)
 
 eqb_zero_suc : (j : ℕ) → nat_eq 0 (suc j) ≡ false
 eqb_zero_suc j = ne_eqb 0 (suc j) (λ e. omega arith)
@@ -262,10 +255,7 @@ eqb_suc_zero : (j : ℕ) → nat_eq (suc j) 0 ≡ false
 eqb_suc_zero j = ne_eqb (suc j) 0 (λ e. omega arith)
 
 ltb-suc : (a b : ℕ) → nat_lt (suc a) (suc b) ≡ nat_lt a b
-ltb-suc a b =
-    ⊎_elim (λ (l : a < b). lt-ltb (suc a) (suc b) (omega arith) ∙ sym (lt-ltb a b l))
-    (λ (l : b ≤ a). le-ltb (suc a) (suc b) (omega arith) ∙ sym (le-ltb a b l))
-    (cases_lt a b)
+ltb-suc a b = grind (arith, common_steps)
 
 -- as many places further
 abbrev falses : ℕ → List Bool → List Bool

@@ -1,4 +1,5 @@
 -- What has gone on by its own ticks has gone on by the full step: by induction over the clocks, since a definition reads lower ones.
+use Rattle.std.proofs.lemmas.Grind.{common_steps}
 use Rattle.std.proofs.Common.{◌≡◌, ℕ, zero, suc, ◌+◌, ◌-◌, ◌<◌, ◌≤◌, ◌^◌, ⊎_elim, List, [], ◌∷◌, ◌++◌, length, filter, Bool, true, false, ◌&&◌, ◌||◌, Option}
 use Rattle.std.proofs.Common.{Some, None, option_map, slice_get, slice_index_or, nat_eq, nat_lt, if◌then◌else◌, refl, sym, ap, ap₂, subst, ◌∙◌, arith, length-append, lt-ltb, eq-eqb}
 use Rattle.std.proofs.lemmas.Bool.{cases_lt, cases_eq, ne_eqb, and_parts, and_from, or_cases, ltb-true, or_left, or_right}
@@ -79,10 +80,7 @@ module _ (K : System) (ok : IsAccepted K) (F : List ℕ) (closed : IsClosed K F)
     numbered x l = (x - K.declared, omega (arith, l))
 
     within_followed : (x i : ℕ) → x ≡ K.declared + i → is_within K F x ≡ true → ticks_in (K.declared + i) F ≡ true
-    within_followed x i e h = ⊎_elim
-        (λ (w : nat_lt x K.declared ≡ true). let l = ltb-true x K.declared w in let z : ⊥ = omega (arith, e, l) in absurd z)
-        (λ (w : ticks_in x F ≡ true). ap (λ k. ticks_in k F) (sym e) ∙ w)
-        (or_cases (nat_lt x K.declared) (ticks_in x F) h)
+    within_followed x i e h = grind (arith, common_steps, nat_lt)
 
     past : (i : ℕ) → length K.definitions ≤ i → ticks_in (K.declared + i) full ≡ false
     past i l =
@@ -243,9 +241,7 @@ pub passed_by : (p : HeldPart) (s declared : Step) (calls row : List ℕ) (trees
     → declared ≡ s →
     IsPassed p.system p.followed (trees_in p.system calls p.system.definitions row) declared trees step gone
     → IsPassed p.system p.followed (trees_in p.system (calls_of p.system) p.system.definitions p.row) s trees step gone
-passed_by p s declared calls row trees step gone calls_are row_is step_is given =
-    subst (λ ts. IsPassed p.system p.followed ts s trees step gone) (ap₂ (λ C r. trees_in p.system C p.system.definitions r) calls_are row_is)
-    (subst (λ d. IsPassed p.system p.followed (trees_in p.system calls p.system.definitions row) d trees step gone) step_is given)
+passed_by p s declared calls row trees step gone calls_are row_is step_is given = grind (arith, common_steps, step_is)
 
 -- ONE STEP MORE, as the program makes it
 module _ (p : HeldPart) (T : List Step) (s : Step) (ok : IsAccepted p.system) (closed : IsClosed p.system p.followed)

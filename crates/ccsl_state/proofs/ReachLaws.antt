@@ -1,4 +1,5 @@
 -- What a pass over the definitions, from the last one down, has reached.
+use Rattle.std.proofs.lemmas.Grind.{common_steps}
 use Rattle.std.proofs.Common.{◌≡◌, ℕ, ◌+◌, ◌<◌, ◌≤◌, List, true, false, ◌||◌, Some, slice_get, sym, ap, ◌∙◌}
 use Rattle.std.proofs.Common.{arith, ⊎_elim}
 use Rattle.std.proofs.lemmas.Bool.{or_cases, cases_eq, or_left, or_right}
@@ -73,9 +74,4 @@ module _ (K : System) (ok : IsAccepted K) (clocks set : List ℕ) where
 
       -- a clock past the definition is not named by it
       before : (x : ℕ) → K.declared + i < x → ticks_in x set' ≡ true → ticks_in x set ≡ true
-      before x past h =
-          ⊎_elim
-          (λ (named : names_clock e x ≡ true). let low = definition_names K ok (K.declared + i) x e (definition_at K ok i e at) named in let z : ⊥ =
-          omega arith in absurd z)
-          (λ (was : ticks_in x set ≡ true). was)
-          (or_cases (names_clock e x) (ticks_in x set) (sym (added x) ∙ h))
+      before x past h = grind (arith, common_steps, named, definition_names, definition_at)

@@ -1,4 +1,5 @@
 -- What states that stand for a list of steps tell, and for which list they stand after one step more.
+use Rattle.std.proofs.lemmas.Grind.{common_steps}
 use Rattle.std.proofs.Common.{◌≡◌, ℕ, zero, suc, ◌+◌, ◌-◌, ◌*◌, ◌<◌, ◌≤◌, ◌^◌, List, [], ◌∷◌, ◌++◌, length, drop, replicate, map, Bool, true, false, Option}
 use Rattle.std.proofs.Common.{Some, None, option_map, slice_get, slice_index, nat_eq, nat_le, if◌then◌else◌, refl, sym, ap, ap₂, subst, ◌∙◌, arith, ⊎_elim}
 use Rattle.std.proofs.Common.{eqb-true, length-append}
@@ -109,9 +110,7 @@ module _ (h : Held) (ok : IsAccepted h.system) where
     -- THE DEATHS
     pub stands_dead : (i : ℕ) (e : Expression) → definition_of h.system (h.system.declared + i) ≡ Some e
         → is_dead h i ≡ dead_at h.system T (h.system.declared + i) e [] 0 (length T)
-    stands_dead i e is =
-        ap (λ ts. ticks_in (h.system.declared + i) (deaths_from [] h.system.declared ts)) stands.trees
-        ∙ states_dead h.system (accepted_guarded h.system ok) T i e few is (slice_get_within h.system.definitions i e (definitions-are h.system i ∙ is))
+    stands_dead i e is = grind (arith, common_steps, states_dead, accepted_guarded, few, slice_get_within, definitions-are)
 
     -- ONE STEP MORE
     pub stands_next : (s : Step) (h' : Held) → Advances h (derived_by h s) h' → length T + 1 < 2 ^ 64 → StandsFor h' (T ++ full_step h.system T s ∷ [])

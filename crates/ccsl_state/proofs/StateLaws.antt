@@ -1,4 +1,5 @@
 -- The trees of a system after one more step, and that they give the meaning.
+use Rattle.std.proofs.lemmas.Grind.{common_steps}
 use Rattle.std.proofs.Common.{◌≡◌, ℕ, zero, suc, ◌+◌, ◌-◌, ◌<◌, ◌≤◌, ⊎_elim, List, [], ◌∷◌, ◌++◌, length, Bool, true, false, Some, None, slice_get, nat_eq}
 use Rattle.std.proofs.Common.{◌&&◌, ◌||◌, if◌then◌else◌, refl, sym, ap, ap₂, ◌∙◌, arith, length-append, eq-eqb, lt-ltb}
 use Rattle.std.proofs.lemmas.Bool.{cases_eq, ne_eqb}

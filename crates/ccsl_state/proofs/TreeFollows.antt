@@ -1,4 +1,5 @@
 -- The state tree follows the meaning: its life obeys each row of the table, and so is the meaning.
+use Rattle.std.proofs.lemmas.Grind.{common_steps}
 use Rattle.std.proofs.Common.{◌≡◌, ℕ, zero, suc, ◌≤◌, List, [], ◌∷◌, ◌++◌, find, length, replicate, Bool, true, false, Option, Some, None, refl, sym, ap, ap₂}
 use Rattle.std.proofs.Common.{◌∙◌, arith, nat_le, le-leb, if◌then◌else◌, length-append}
 use Rattle.std.proofs.lemmas.Bool.{lt-leb}
@@ -78,15 +79,11 @@ module _ (K : System) (T : List Step) (gone : ℕ → ℕ → Bool) where
 
   one_life : (o : One) (row : Operand → Now) → IsOne o row → (a : Tree) (b n : ℕ) → b ≤ n → n ≤ most
       → life_of K T gone (TOne o a) b n ≡ over_one T row (life_of K T gone a) b n
-  one_life o row h a b n l u =
-      ap (now_of n) (grown-one o a b n l) ∙ h.at (tick a b) (steps b n) (formula_of (grown K T gone a b n)) (dead_of (gone n) (grown K T gone a b n)) (let s =
-      steps_len b n in omega arith)
+  one_life o row h a b n l u = grind (arith, common_steps, grown-one, steps_len)
 
   two_life : (o : Two) (row : Operand → Operand → Now) → IsTwo o row → (a d : Tree) (b n : ℕ) → b ≤ n → n ≤ most
       → life_of K T gone (TTwo o a d) b n ≡ over_two T row (life_of K T gone a) (life_of K T gone d) b n
-  two_life o row h a d b n l u =
-      ap (now_of n) (grown-two o a d b n l) ∙ h.at (tick a b) (tick d b) (steps b n) (formula_of (grown K T gone a b n)) (formula_of (grown K T gone d b n))
-      (dead_of (gone n) (grown K T gone a b n)) (dead_of (gone n) (grown K T gone d b n)) (let s = steps_len b n in omega arith)
+  two_life o row h a d b n l u = grind (arith, common_steps, grown-two, steps_len)
 
   -- the step at which a state dies, seen at one more step
   end-first : (a : Tree) (b : ℕ) → end_of (life_of K T gone a) b b ≡ None

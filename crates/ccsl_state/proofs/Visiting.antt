@@ -74,18 +74,10 @@ pub record IsVisit (K : System) (readers : List (List ℕ)) (trees trees' : List
 
 module _ (K : System) (ok : IsAccepted K) (F : List ℕ) where
   pub reads_below : (i y : ℕ) → reads K i y ≡ true → y < K.declared + i
-  reads_below i y h = on (slice_get K.definitions i) refl h
-    where
-      on : (o : Option Expression) → slice_get K.definitions i ≡ o → named_by o y ≡ true → y < K.declared + i
-      on None is n = let z : ⊥ = cc in absurd z
-      on (Some e) is n = definition_names K ok (K.declared + i) y e (definition_at K ok i e is) n
+  reads_below i y h = grind (arith, common_steps, slice_get, definition_names, definition_at)
 
   reads_there : (i y : ℕ) → reads K i y ≡ true → i < length K.definitions
-  reads_there i y h = on (slice_get K.definitions i) refl h
-    where
-      on : (o : Option Expression) → slice_get K.definitions i ≡ o → named_by o y ≡ true → i < length K.definitions
-      on None is n = let z : ⊥ = cc in absurd z
-      on (Some e) is n = slice_get_within K.definitions i e is
+  reads_there i y h = grind (arith, common_steps, slice_get, slice_get_within)
 
   module _ (readers : List (List ℕ)) (are : AreReaders K F readers) where
     -- a reader of a clock is followed and names it
@@ -122,18 +114,7 @@ module _ (K : System) (ok : IsAccepted K) (F : List ℕ) where
           -- what does not wait hears nothing of it
           unheard : (i : ℕ) → IsFollowed K F i → ticks_in i waiting' ≡ false → (y : ℕ) → reads K i y ≡ true
               → (ticks_in y step ≡ ticks_in y step') × (ticks_in y gone ≡ ticks_in y gone')
-          unheard i followed quiet y read = ⊎_elim
-              (λ (e : y ≡ K.declared + j).
-              let read' : reads K i (K.declared + j) ≡ true = ap (reads K i) (sym e) ∙ read in
-              let w = or_parts (ticks_in i waiting && not (nat_eq j i)) (told && ticks_in i (slice_index_or readers (K.declared + j) []))
-              (sym (v.waiting_is i) ∙ quiet) in
-              let n = v.told_is
-              (first_false told (ticks_in i (slice_index_or readers (K.declared + j) [])) w.1 (no_reader i (K.declared + j) followed read')) in (
-                ap (λ k. ticks_in k step) e ∙ here.tick ∙ sym n.0 ∙ sym step_here ∙ ap (λ k. ticks_in k step') (sym e),
-                ap (λ k. ticks_in k gone) e ∙ sym n.1 ∙ sym gone_here ∙ ap (λ k. ticks_in k gone') (sym e),
-              ))
-              (λ (ne : y ≡ K.declared + j → ⊥). (sym (step_other y ne), sym (gone_other y ne)))
-              (cases_eq y (K.declared + j))
+          unheard i followed quiet y read = grind (arith, common_steps, nat_eq, slice_index_or, first_false, no_reader, here, step_here, gone_here, step_other, gone_other)
 
           old_next : (i : ℕ) → IsFollowed K F i → TreeWithin (λ y. reads K i y ≡ true) (next K step (gone_in gone) (tree_number old i))
           old_next i followed = next_within (λ y. reads K i y ≡ true) K (bodies_closed K ok) step (gone_in gone) (tree_number old i) (within i followed)
@@ -143,22 +124,10 @@ module _ (K : System) (ok : IsAccepted K) (F : List ℕ) where
               → t' ≡ next K step (gone_in gone) (tree_number old i) → d ≡ dead_of (gone_in gone) t' →
               (b ≡ eval (formula_of (tree_number old i)) step') × (t' ≡ next K step' (gone_in gone') (tree_number old i)) × (d ≡ dead_of (gone_in gone') t')
               × (is_settled (gone_in gone) t' ≡ is_settled (gone_in gone') t')
-          still i t' b d followed quiet ticks tree dies =
-              let P = λ (y : ℕ). reads K i y ≡ true in
-              let at : TreeWithin P t' = subst (TreeWithin P) (sym tree) (old_next i followed) in
-              let same_step : (y : ℕ) → P y → ticks_in y step ≡ ticks_in y step' = λ y r. (unheard i followed quiet y r).0 in
-              let same_gone : (y : ℕ) → P y → gone_in gone y ≡ gone_in gone' y = λ y r. (unheard i followed quiet y r).1 in (
-                ticks ∙ tick_same P step step' same_step (tree_number old i) (within i followed),
-                tree ∙ next_same P K (bodies_closed K ok) step step' same_step (gone_in gone) (gone_in gone') same_gone (tree_number old i) (within i followed),
-                dies ∙ dead_same P (gone_in gone) (gone_in gone') same_gone t' at,
-                settled_same P (gone_in gone) (gone_in gone') same_gone t' at,
-              )
+          still i t' b d followed quiet ticks tree dies = grind (arith, common_steps, old_next, unheard, tick_same, next_same, bodies_closed, dead_same, settled_same)
 
           the_tree : tree_number trees' j ≡ next K step (gone_in gone) (tree_number old j)
-          the_tree =
-              ap (λ ts. tree_number ts j) v.trees_are
-              ∙ get_or-set_same trees j (next K step (gone_in gone) (tree_number trees j)) TNever (let c = g.count in let l = mine.0 in omega arith)
-              ∙ ap (next K step (gone_in gone)) here.tree
+          the_tree = grind (arith, common_steps, get_or-set_same, mine, here)
 
           visited : ticks_in j waiting' ≡ false → IsDone K old trees' step' gone' unsettled' j
           visited quiet =

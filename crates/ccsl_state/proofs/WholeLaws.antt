@@ -1,4 +1,5 @@
 -- The whole row of an accepted system: there is room for its regions, and what the trees and the counts become in a step.
+use Rattle.std.proofs.lemmas.Grind.{common_steps}
 use Rattle.std.proofs.Common.{◌≡◌, ℕ, suc, ◌+◌, ◌-◌, ◌*◌, ◌<◌, ◌≤◌, List, [], ◌∷◌, ◌++◌, length, take, drop, Bool, true, false, ◌||◌, slice_get, refl, sym, ap}
 use Rattle.std.proofs.Common.{ap₂, subst, ◌∙◌, arith, length-append}
 use Rattle.std.proofs.lemmas.Bool.{ne_eqb}
@@ -90,12 +91,7 @@ module _ (K : System) (ok : IsAccepted K) where
   -- the trees are those of the front
   pub trees_front : (front counts : List ℕ) → length counts ≡ 2 * length K.constraints → length (front ++ counts) ≡ cells K →
       trees_in K (calls_of K) K.definitions (front ++ counts) ≡ trees_in K (calls_of K) K.definitions front
-  trees_front front counts l whole =
-      let room = table_room K ok in
-      let few = ok.few_cells in
-      trees_same K (calls_of K) K.definitions (length front) (front ++ counts) front (table_enough K)
-      (omega (arith, room, whole, l, length-append front counts)) (omega (arith, few, whole, length-append front counts))
-      (front_head (length front) front counts refl ∙ sym (take-length front))
+  trees_front front counts l whole = grind (arith, common_steps, table_room, trees_same, table_enough, length-append, front_head, take-length)
 
   pub row_advances : (declared step gone front counts front' counts' : List ℕ) → length front' ≡ length front → length counts ≡ 2 * length K.constraints
       → length counts' ≡ length counts →

@@ -1,5 +1,6 @@
 -- An expression and a tree that name clocks with P only. What is born of them and what a step makes of them names no others, and
 -- steps and deaths that are the same for these clocks are all one to them.
+use Rattle.std.proofs.lemmas.Grind.{common_steps}
 use Rattle.std.proofs.Common.{◌≡◌, ℕ, zero, suc, ◌<◌, List, [], ◌∷◌, map, length, get_or, Bool, true, false, ◌||◌, Option, Some, None, nat_le, refl, sym, ap}
 use Rattle.std.proofs.Common.{ap₂, subst, ◌∙◌, arith, if◌then◌else◌, ⊎_elim, eqb-true, eq-eqb}
 use Rattle.std.proofs.lemmas.Bool.{or_cases, or_left, or_right, cond_both}
@@ -42,10 +43,7 @@ module _ (P : ℕ → Type 0) where
 
   both_within : (a d : Expression) → (((y : ℕ) → names_clock a y ≡ true → P y) → NamesWithin P a) → (((y : ℕ) → names_clock d y ≡ true → P y) → NamesWithin P d)
       → ((y : ℕ) → (names_clock a y || names_clock d y) ≡ true → P y) → NamesWithin P a × NamesWithin P d
-  both_within a d left right h = (
-    left (λ y e. h y (or_left (names_clock a y) (names_clock d y) e)),
-    right (λ y e. h y (or_right (names_clock a y) (names_clock d y) e)),
-  )
+  both_within a d left right h = grind (arith, common_steps)
 
   pub names_within : (e : Expression) → ((y : ℕ) → names_clock e y ≡ true → P y) → NamesWithin P e
   names_within (EName x) h = place_within x h

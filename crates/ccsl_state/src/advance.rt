@@ -22,7 +22,7 @@ use ccsl_kernel::{Actual, Expr, ExprOp};
 /// Rewrites the region of an expression by a step: whether it ticks in it, whether it is dead behind it, and how many
 /// cells the region has. It takes no memory.
 #[cycle(advance)]
-#[tactic(auto, using(crate::proofs::Places::inner_stands))]
+#[tactic(auto, using(crate::proofs::Places::inner_stands, crate::proofs::Regions::rest_one, crate::proofs::Regions::further))]
 pub fn advanced<'s>(
     lay: &Lay<'s>,
     e: &'s Expr,
@@ -177,7 +177,7 @@ fn two_advanced<'s>(
 
 /// A then. Where its left operand has died, its right operand is born: in its region, or as a call of the own group.
 #[cycle(advance)]
-#[tactic(auto, using(crate::proofs::Places::inner_stands))]
+#[tactic(auto, using(crate::proofs::Places::inner_stands, crate::proofs::Regions::rest_one, crate::proofs::Regions::further))]
 fn then_advanced<'s>(
     lay: &Lay<'s>,
     a: &'s Expr,

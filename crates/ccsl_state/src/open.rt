@@ -24,7 +24,7 @@ use ccsl_kernel::{Actual, Expr, ExprOp, Value};
 
 /// Writes the region of an expression at its birth, and tells whether it is dead there.
 #[cycle(open)]
-#[tactic(auto, using(crate::proofs::Places::inner_stands, crate::proofs::Places::inner_not_own))]
+#[tactic(auto, using(crate::proofs::Places::inner_stands, crate::proofs::Places::inner_not_own, crate::proofs::Regions::rest_one))]
 pub fn opened(lay: &Lay<'_>, e: &Expr, actuals: &[Actual], row: &mut [u64], gone: &ClockSet) -> Born
     requires ready { IsReady lay.now false 0 e.now actuals.now row.old }
     requires placed { is_own lay.now.system.now.words (length lay.now.earlier.now)
@@ -146,7 +146,7 @@ fn two_opened(
 
 /// A then: its left operand.
 #[cycle(open)]
-#[tactic(auto, using(crate::proofs::Places::inner_stands, crate::proofs::Places::inner_not_own))]
+#[tactic(auto, using(crate::proofs::Places::inner_stands, crate::proofs::Places::inner_not_own, crate::proofs::Regions::rest_one))]
 fn then_opened(
     lay: &Lay<'_>,
     a: &Expr,

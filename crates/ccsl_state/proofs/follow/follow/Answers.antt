@@ -1,4 +1,5 @@
 -- Each visit leaves what is done done and what waits untouched, and at the end nothing waits.
+use Rattle.std.proofs.lemmas.Grind.{common_steps}
 use Rattle.std.proofs.Common.{◌≡◌, ◌+◌, ◌<◌, length, slice_get, sym, ap, subst, ◌∙◌, arith}
 use Rattle.std.proofs.lemmas.Option.{slice_get-get_or}
 use Rattle.ccsl_formula.specs.declared.scope.Scope.{Scope}
@@ -26,24 +27,10 @@ visits-init c =
     (λ q y h. (reader K c.requires.accepted F sets c.requires.readers q y h).0))
 
 pub bounds-places-i : goal.bounds-places-i
-bounds-places-i c =
-    let within = (c.visits.invariant.followed c.in-Some.i c.in-Some.ensures.member).0 in
-    let len = ap length c.requires.places ∙ places_len c.args.lay.now.earlier.now 0 c.args.lay.now.system.now.definitions in
-    omega (arith, within, len)
+bounds-places-i c = grind (arith, common_steps, places_len)
 
 pub visit-visited-requires : goal.visit-visited-requires
-visit-visited-requires c =
-    let K = c.args.lay.now.system.now in
-    let i = c.in-Some.i in
-    let within = (c.visits.invariant.followed i c.in-Some.ensures.member).0 in
-    let len = ap length c.requires.places ∙ places_len c.args.lay.now.earlier.now 0 K.definitions in
-    let below : i < length c.args.places.now = omega (arith, within, len) in
-    let same = c.visits.auto.row in
-    record {
-      regions = whole_regions _ _ _ c.requires.accepted c.requires.whole (omega arith) (omega arith);
-      within = within;
-      place = ap (λ places. slice_get places i) (sym c.requires.places) ∙ slice_get-get_or c.args.places.now i 0 below;
-    }
+visit-visited-requires c = grind (arith, common_steps, places_len, whole_regions, slice_get, slice_get-get_or)
 
 pub visits-preserved : goal.visits-preserved
 visits-preserved c =

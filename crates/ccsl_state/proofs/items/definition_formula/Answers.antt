@@ -1,4 +1,5 @@
 -- A definition at its place.
+use Rattle.std.proofs.lemmas.Grind.{common_steps}
 use Rattle.std.proofs.Common.{[], Some, option_map, sym, ap, ◌∙◌, arith}
 use Rattle.ccsl_state.specs.Tree.{formula_of}
 use Rattle.ccsl_state.specs.Regions.{tree}
@@ -17,8 +18,4 @@ told-requires c =
     outside _ _ _ _ _ (p.ready c.split_at.result.1.now (omega arith))
 
 pub returns : goal.returns
-returns c =
-    let p = placed_region _ c.args.i _ _ _ c.requires.regions c.definition-e.ensures.accepted c.definition-e.ensures.definition c.requires.place in
-    ap Some c.in_ok-part.ensures.formula
-    ∙ sym (ap (option_map formula_of)
-    (p.tree_is ∙ ap (λ region. Some (tree c.args.lay.now c.definition-e.result.now [] region)) (sym c.split_at.ensures.back)))
+returns c = grind (arith, common_steps, placed_region, option_map)

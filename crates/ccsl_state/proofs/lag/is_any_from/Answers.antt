@@ -1,4 +1,5 @@
 -- A bit that is set, and one that is not.
+use Rattle.std.proofs.lemmas.Grind.{common_steps}
 use Rattle.std.proofs.Common.{◌<◌, length, sym, ◌∙◌, arith}
 use Rattle.ccsl_state.specs.Layout.{bits_of}
 use Rattle.ccsl_state.proofs.Bits.{bits_of_len}
@@ -9,7 +10,4 @@ pub returns-then-bit_at : goal.returns-then-bit_at
 returns-then-bit_at c = sym (any_at c.args.m c.loop-p.p (bits_of c.args.cells.now) c.loop-p-test.true (sym c.bit_at.ensures ∙ c.if-bit_at.true))
 
 pub loop-p-preserved : goal.loop-p-preserved
-loop-p-preserved c =
-    let below : c.loop-p.p < length (bits_of c.args.cells.now) = let r = c.requires.within in let t =
-    c.loop-p-test.true in omega (arith, r, t, bits_of_len c.args.cells.now) in
-    any_more (bits_of c.args.cells.now) c.loop-p.p below c.loop-p.invariant (sym c.bit_at.ensures ∙ c.if-bit_at.false)
+loop-p-preserved c = grind (arith, common_steps, bits_of_len, any_more)

@@ -1,4 +1,5 @@
 -- The parts of a region, each of which was opened.
+use Rattle.std.proofs.lemmas.Grind.{common_steps}
 use Rattle.std.proofs.Common.{rules, ◌≡◌, ◌<◌, ◌≤◌, ◌+◌, ◌%◌, ◌^◌, length, map, Some, ◌++◌, slice_set, refl, sym, ap, subst, ◌∙◌}
 use Rattle.std.proofs.Common.{arith}
 use Rattle.std.proofs.lemmas.List.{length-set, get_or-set_same}
@@ -37,35 +38,6 @@ lag_opened-returns t c =
     c.requires.ready.left c.split_at_mut-head.ensures.value (c.split_at_mut-head.ensures.front_len ∙ c.lag_cells.ensures.cells) c.lag_born.auto.head
     c.split_at_mut-behind.ensures.value (c.split_at_mut-behind.ensures.front_len ∙ c.opened-left.ensures.size) _ _ _ _ _
     c.opened-left.ensures c.opened-right.ensures (ap Some c.lag_born.ensures) c.lag_dead.ensures (search rules)
-
-pub opened-returns-then-holds : goal.opened-returns-then-holds
-opened-returns-then-holds t c = record {
-  opens = search rules;
-  rest = rw c.in-If.is
-      (rest_one 1 _ _ _ _ _ _ _ c.split_at_mut-rest.ensures.value c.split_at_mut-rest.ensures.front_len c.split_at_mut-rest.ensures.front_len
-      (rw c.deref-then-holds.ensures at c.opened-born.ensures.rest) (omega arith));
-  dead = search rules;
-  size = search rules;
-}
-
-pub opened-returns-else-holds : goal.opened-returns-else-holds
-opened-returns-else-holds t c = record {
-  opens = search rules;
-  rest = rw c.in-If.is
-      (rest_one 1 _ _ _ _ _ _ _ c.split_at_mut-rest.ensures.value c.split_at_mut-rest.ensures.front_len c.split_at_mut-rest.ensures.front_len
-      (rw c.deref-else-holds.ensures at c.opened-born-else-holds.ensures.rest) (omega arith));
-  dead = search rules;
-  size = search rules;
-}
-
-pub then_opened-returns : goal.then_opened-returns
-then_opened-returns t c = record {
-  opens = search rules;
-  rest = rest_one 1 _ _ _ _ _ _ _ c.split_at_mut-head.ensures.value c.split_at_mut-head.ensures.front_len
-      (length-set c.split_at_mut-head.result.0.now 0 0 ∙ c.split_at_mut-head.ensures.front_len) c.opened-born.ensures.rest (omega arith);
-  dead = search rules;
-  size = search rules;
-}
 
 pub call_opened-opened-requires : goal.call_opened-opened-requires
 call_opened-opened-requires t c =

@@ -1,4 +1,5 @@
 -- One definition more: its clock is a member, and then so are those that it names, or is none.
+use Rattle.std.proofs.lemmas.Grind.{common_steps}
 use Rattle.std.proofs.Common.{◌≡◌, ◌+◌, ◌-◌, true, false, sym, ap, subst, ◌∙◌, arith}
 use Rattle.ccsl_base.specs.Clocks.{ticks_in}
 use Rattle.ccsl_formula.specs.declared.scope.Scope.{Scope}
@@ -23,14 +24,7 @@ loop-i-preserved-then-has c =
     (subst (ReachedSo K c.args.clocks.now c.loop-i.set) up c.loop-i.invariant) is_in c.add_named.ensures
 
 pub loop-i-preserved : goal.loop-i-preserved
-loop-i-preserved c =
-    let K = c.args.system.now in
-    let i = c.loop-i.i - 1 in
-    let up : c.loop-i.i ≡ i + 1 = omega arith in
-    let clock : c.scope-declared.result.declared + i ≡ K.declared + i = ap (λ (s : Scope). s.declared + i) c.scope-declared.ensures.scope in
-    let out : ticks_in (K.declared + i) c.loop-i.set ≡ false = ap (λ x. ticks_in x c.loop-i.set) (sym clock) ∙ sym c.has.ensures.member ∙ c.if-has.false in
-    reached_past K c.scope-declared.ensures.accepted c.args.clocks.now c.loop-i.set i (subst (ReachedSo K c.args.clocks.now c.loop-i.set) up c.loop-i.invariant)
-    out
+loop-i-preserved c = grind (arith, common_steps, reached_past, ReachedSo)
 
 pub returns-clause-closed : goal.returns-clause-closed
 returns-clause-closed c = λ x y e is h named low.

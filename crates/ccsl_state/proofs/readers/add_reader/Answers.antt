@@ -1,4 +1,6 @@
 -- One clock more.
+use Rattle.std.proofs.Common.{arith}
+use Rattle.std.proofs.lemmas.Grind.{common_steps}
 use Rattle.std.proofs.Common.{sym, ap, ◌∙◌}
 use Rattle.ccsl_base.specs.Clocks.{with_clock}
 use Rattle.ccsl_state.proofs.Entering.{adding_more, adding_within}
@@ -9,7 +11,4 @@ bounds-sets-clock c = adding_within c.args.i c.in-Some.clock c.args.clocks.now c
     c.in-Some.ensures.steps c.loop-clock.invariant
 
 pub loop-clock-preserved : goal.loop-clock-preserved
-loop-clock-preserved c =
-    adding_more c.args.i c.in-Some.clock c.args.clocks.now c.loop-clock.clock-iterator c.next.new.self c.args.sets.now c.loop-clock.sets
-    c.index-sets-clock.result c.insert.new.self c.in-Some.ensures.steps c.loop-clock.invariant c.index-sets-clock.is
-    (c.insert.ensures ∙ ap (with_clock c.args.i) (sym c.index-sets-clock.is))
+loop-clock-preserved c = grind (arith, common_steps, adding_more)

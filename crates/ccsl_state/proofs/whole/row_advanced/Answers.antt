@@ -1,13 +1,11 @@
 -- The table of calls is the system's, and there is room for the regions.
+use Rattle.std.proofs.lemmas.Grind.{common_steps}
 use Rattle.std.proofs.Common.{◌≡◌, ◌+◌, ◌*◌, ◌++◌, length, refl, arith}
 use Rattle.ccsl_state.proofs.WholeLaws.{whole_regions, row_goes_on}
 use Rattle.ccsl_state.proofs.whole.row_advanced.Goals as goal
 
 pub advance_from-requires : goal.advance_from-requires
-advance_from-requires c =
-    let front = c.split_at_mut-front.ensures.front_len in
-    let end = c.before_counts-end.ensures in
-    whole_regions _ _ _ c.requires.accepted c.requires.whole (omega arith) (omega arith)
+advance_from-requires c = grind (arith, common_steps, whole_regions)
 
 pub returns : goal.returns
 returns c =

@@ -1,4 +1,6 @@
 -- The followed definitions go on as all do.
+use Rattle.std.proofs.Common.{arith}
+use Rattle.std.proofs.lemmas.Grind.{common_steps}
 use Rattle.std.proofs.Common.{◌≡◌, ℕ, ◌++◌, ◌∷◌, [], length, drop, true, slice_get, refl, sym, ap, ap₂, subst, ◌∙◌}
 use Rattle.std.specs.Vec.{with_items}
 use Rattle.ccsl_base.specs.Clocks.{are_below, is_ascending}

@@ -1,4 +1,6 @@
 -- The formula is that of the item, and reads named clocks alone.
+use Rattle.std.proofs.Common.{arith}
+use Rattle.std.proofs.lemmas.Grind.{common_steps}
 use Rattle.std.proofs.Common.{◌≡◌, length, sym, ap, subst, ◌∙◌}
 use Rattle.ccsl_formula.specs.Variables.{ReadsBelow}
 use Rattle.ccsl_formula.specs.Plain.{plain}
@@ -9,14 +11,7 @@ use Rattle.ccsl_state.proofs.StandLaws.{trees_len, stands_formula, formula_below
 use Rattle.ccsl_state.proofs.states.States.formula_of.Goals as goal
 
 pub returns-clause-formula : goal.returns-clause-formula
-returns-clause-formula c = λ T stands.
-    let K = c.self.inside.system.now in
-    let item = c.args.item in
-    let ok : IsAccepted c.args.self.now.system = subst (λ (h : Held). IsAccepted h.system) c.self.view_is c.self.invariant.accepted in
-    c.in_ok-item_formula.ensures
-    ∙ ap (λ row. formula_in (record { system = K; row = row }) item) c.as_slice-2.ensures.value
-    ∙ ap (λ (h : Held). formula_in h item) c.self.view_is
-    ∙ stands_formula c.args.self.now ok T stands item
+returns-clause-formula c = grind (arith, common_steps, stands_formula)
 
 pub returns-clause-below : goal.returns-clause-below
 returns-clause-below c =

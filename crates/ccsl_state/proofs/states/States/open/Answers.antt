@@ -1,4 +1,5 @@
 -- There is room for the regions, and no clock has ticked.
+use Rattle.std.proofs.lemmas.Grind.{common_steps}
 use Rattle.std.proofs.Common.{◌≡◌, ◌-◌, ◌*◌, length, drop, replicate, slice_index, ap, ◌∙◌, arith}
 use Rattle.std.specs.Vec.{with_items}
 use Rattle.ccsl_state.specs.States.{opened_all}
@@ -9,11 +10,7 @@ use Rattle.ccsl_state.proofs.StandLaws.{zeros, stands_opened}
 use Rattle.ccsl_state.proofs.states.States.open.Goals as goal
 
 pub places-requires : goal.places-requires
-places-requires c =
-    let ready = ready_table c.args.system.now c.as_slice.result.now c.in_ok-calls.ensures.accepted (c.as_slice.ensures.value ∙ c.in_ok-calls.ensures.cells) in
-    let room = ready.room in
-    let few = ready.few in
-    omega arith
+places-requires c = grind (arith, common_steps, ready_table)
 
 pub returns-clause-stands : goal.returns-clause-stands
 returns-clause-stands c =
