@@ -1,4 +1,5 @@
 -- A definition's region, and those behind it.
+use Rattle.std.proofs.lemmas.Grind.{common_steps}
 use Rattle.std.proofs.Common.{rules, ◌≡◌, ℕ, zero, suc, ◌+◌, ◌<◌, ◌≤◌, List, [], ◌∷◌, ◌++◌, length, drop, true, false, Some, slice_get, sym, ap, ap₂, subst, ◌∙◌}
 use Rattle.std.proofs.Common.{arith}
 use Rattle.std.proofs.lemmas.Option.{slice_get_within}
@@ -57,16 +58,7 @@ ready_definition K i e ok is =
 
 -- THE REGION OF A DEFINITION, and those behind it
 pub outside : (lay : Lay) (own : ℕ) (e : Expr) (ρ : List Actual) (row : List ℕ) → IsReady lay true own e ρ row → IsReady lay false own e ρ row
-outside lay own e ρ row r = record {
-  table = r.table;
-  groups = r.groups;
-  shallow = r.shallow;
-  offsets = r.offsets;
-  stands = inner_stands lay.system.now (length lay.earlier.now) (plain_expr e) r.stands;
-  actuals = r.actuals;
-  room = r.room;
-  few = r.few;
-}
+outside lay own e ρ row r = grind (arith, common_steps, inner_stands)
 
 definition_region : (lay : Lay) (i : ℕ) (e : Expr) (row : List ℕ) → HasTable lay → length lay.earlier.now ≡ length lay.system.now.groups
     → IsAccepted lay.system.now → slice_get lay.system.now.definitions i ≡ Some (plain_expr e) → size lay e ≤ length row → length row ≤ MAX_CELLS

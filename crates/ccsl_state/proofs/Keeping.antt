@@ -105,18 +105,10 @@ filtering w o t [] = refl
 filtering w o t (i ∷ is) = filtering w (if t i then rest w o else o) t is
 
 pub await_is : (m : ℕ) → IsOne (Awaiting m 0) (await_row m)
-await_is m = record {
-  at = λ t is f x h.
-      ap (λ o. record { formula = one_formula o f; dead = one_dead o x }) (awaiting m 0 t is (omega (arith, h)) ∙ ap (Awaiting m) (zero-add (count (map t is))))
-      ∙ ap (λ k. record { formula = if nat_eq k m then f else FFalse; dead = one_dead (Awaiting m (count (map t is))) x }) (sym (more_one (count (map t is))));
-}
+await_is m = grind (arith, common_steps, awaiting, zero-add, nat_eq, more_one)
 
 pub delay_is : (m : ℕ) → IsOne (Delaying m 0) (delay_row m)
-delay_is m = record {
-  at =
-      λ t is f x h. ap (λ o. record { formula = one_formula o f; dead = one_dead o x })
-      (delaying m 0 t is (omega (arith, h)) ∙ ap (Delaying m) (zero-add (count (map t is))));
-}
+delay_is m = grind (arith, common_steps, delaying, zero-add)
 
 pub filter_is : (w : BinaryWord) (o : ℕ) → IsOne (Filtering w o) (filter_row w o)
 filter_is w o = record {
@@ -156,10 +148,7 @@ leading a d t u (i ∷ is) h k =
     ∙ ap₂ Leading (counted a (t i) (count (map t is)) (length is) h) (counted d (u i) (count (map u is)) (length is) k)
 
 pub inf_is : IsTwo (Leading 0 0) inf_row
-inf_is = record {
-  at = λ t u is f g x y h. ap (λ o. record { formula = two_formula o f g; dead = two_dead o x y })
-      (leading 0 0 t u is (omega (arith, h)) (omega (arith, h)) ∙ ap₂ Leading (zero-add (count (map t is))) (zero-add (count (map u is))));
-}
+inf_is = grind (arith, common_steps, leading, zero-add)
 
 pub trailing : (a d : ℕ) (t u : ℕ → Bool) (is : List ℕ) → a + length is ≤ most → d + length is ≤ most
     → two_after (Trailing a d) t u is ≡ Trailing (a + count (map t is)) (d + count (map u is))
@@ -169,10 +158,7 @@ trailing a d t u (i ∷ is) h k =
     ∙ ap₂ Trailing (counted a (t i) (count (map t is)) (length is) h) (counted d (u i) (count (map u is)) (length is) k)
 
 pub sup_is : IsTwo (Trailing 0 0) sup_row
-sup_is = record {
-  at = λ t u is f g x y h. ap (λ o. record { formula = two_formula o f g; dead = two_dead o x y })
-      (trailing 0 0 t u is (omega (arith, h)) (omega (arith, h)) ∙ ap₂ Trailing (zero-add (count (map t is))) (zero-add (count (map u is))));
-}
+sup_is = grind (arith, common_steps, trailing, zero-add)
 
 pub ending : (s : Bool) (t u : ℕ → Bool) (is : List ℕ) → two_after (Ending s) t u is ≡ Ending (s || ever (map u is))
 ending s t u [] = ap Ending (elim s as (λ s. s ≡ (s || false)) [ true ↦ refl | false ↦ refl ])
@@ -202,11 +188,7 @@ no_flag true e = refl
 no_flag false e = refl
 
 pub sampled_is : IsTwo (Sampling false) sampled_row
-sampled_is = record {
-  at =
-      λ t u is f g x y h. ap (λ o. record { formula = two_formula o f g; dead = two_dead o x y })
-      (sampling false t u is ∙ ap Sampling (no_flag (waits (map t is) (map u is)) (not (ever (map u is)))));
-}
+sampled_is = grind (arith, common_steps, sampling, no_flag)
 
 weak_flag : (w t u e v : Bool) → (v || (((t || w) && not u) && not e)) ≡ (((t && not (u || e)) || v) || (w && not (u || e)))
 weak_flag w t u e v = grind arith
@@ -218,11 +200,7 @@ sampling_weakly w t u (i ∷ is) =
     sampling_weakly ((t i || w) && not (u i)) t u is ∙ ap SamplingWeakly (weak_flag w (t i) (u i) (ever (map u is)) (waits_weakly (map t is) (map u is)))
 
 pub sampled_weakly_is : IsTwo (SamplingWeakly false) sampled_weakly_row
-sampled_weakly_is = record {
-  at =
-      λ t u is f g x y h. ap (λ o. record { formula = two_formula o f g; dead = two_dead o x y })
-      (sampling_weakly false t u is ∙ ap SamplingWeakly (no_flag (waits_weakly (map t is) (map u is)) (not (ever (map u is)))));
-}
+sampled_weakly_is = grind (arith, common_steps, sampling_weakly, no_flag)
 
 -- the places of a row of marks after steps
 abbrev pub marks_after : List Bool → (ℕ → Bool) → (ℕ → Bool) → List ℕ → List Bool

@@ -1,4 +1,5 @@
 -- The region of an operator behind its own cells, from those of its operands.
+use Rattle.std.proofs.lemmas.Grind.{common_steps}
 use Rattle.std.proofs.Common.{◌≡◌, ℕ, ◌≤◌, List, ◌++◌, length, drop, Bool, true, ◌&&◌, Option, Some, None, option_map, refl, sym, ap, ap₂, subst, ◌∙◌, arith}
 use Rattle.std.proofs.lemmas.Bool.{and_parts}
 use Rattle.ccsl_base.specs.declared.limits.TheConstants.{MAX_CELLS}
@@ -26,10 +27,7 @@ use Rattle.ccsl_state.proofs.Regions.{two_regions}
 pub inside : (lay : Lay) (ρ : List Actual) (t : List ℕ → Tree) (n : ℕ) (s : Step) (gone row row' : List ℕ) (r : Moved)
     → IsAdvanced lay ρ t n s gone row row' r → r.tail ≡ None
     → IsRewritten lay t s gone row row' (record { tick = r.tick; dead = r.dead; settled = r.settled })
-inside lay ρ t n s gone row row' r o none =
-    let out : (t row' ≡ after lay s gone (t row)) × (r.dead ≡ dead_of (gone_in gone) (t row')) =
-    subst (Outcome lay.system.now s (gone_in gone) (length lay.earlier.now) ρ (t row) (t row') r.dead) none o.next in
-    record { tick = o.tick; goes = out.0; dead = out.1; settled = o.settled }
+inside lay ρ t n s gone row row' r o none = grind (arith, common_steps, row')
 
 pair_next : (K : System) (s : Step) (gone : ℕ → Bool) (o : Option Two) (a d : Tree) → next K s gone (pair_at o a d)
     ≡ pair_at (option_map (λ o. two_next o (eval (formula_of a) s) (eval (formula_of d) s)) o) (next K s gone a) (next K s gone d)

@@ -231,10 +231,7 @@ kept_opened K ok F trees unsettled opened all = record {
 
 pub part_opened : (p : HeldPart) → IsAccepted p.system
     → trees_in p.system (calls_of p.system) p.system.definitions p.row ≡ opened_all p.system p.system.definitions → PartStandsFor p []
-part_opened p ok opened = record {
-  trees = λ i followed. ap (λ ts. slice_get ts i) (opened ∙ states_opened p.system (accepted_guarded p.system ok));
-  few = omega arith;
-}
+part_opened p ok opened = grind (arith, common_steps, slice_get, states_opened, accepted_guarded)
 
 -- what a step has found, in terms of the states before it
 pub passed_by : (p : HeldPart) (s declared : Step) (calls row : List ℕ) (trees : List Tree) (step gone : List ℕ) → calls ≡ calls_of p.system → row ≡ p.row

@@ -1,4 +1,5 @@
 -- Where a definition's region begins, and the tree that it holds.
+use Rattle.std.proofs.lemmas.Grind.{common_steps}
 use Rattle.std.proofs.Common.{◌≡◌, ℕ, zero, suc, ◌+◌, ◌-◌, ◌≤◌, List, [], ◌∷◌, ◌++◌, length, drop, take, Some, slice_get, refl, sym, ap, ap₂, subst, ◌∙◌, arith}
 use Rattle.std.proofs.lemmas.List.{drop-drop}
 use Rattle.ccsl_kernel.specs.Syntax.{Expression, System}
@@ -67,11 +68,4 @@ module _ (earlier : List ℕ) where
   pub more_places : (es : List Expression) (i : ℕ) (e : Expression) (places : List ℕ) (place size : ℕ) → slice_get es i ≡ Some e → PlacesSoFar es i places place
       → size ≡ cells_in earlier e →
       PlacesSoFar es (i + 1) (places ++ place ∷ []) (place + size)
-  more_places es i e places place size is before at = record {
-    first =
-        ap (λ xs. xs ++ place ∷ []) before.first
-        ∙ ap (λ n. places_from earlier 0 (take i es) ++ n ∷ []) (let here = before.next in let z : place ≡ 0 + cells_from earlier (take i es) =
-        omega arith in z)
-        ∙ sym (places_more es i 0 e is);
-    next = ap₂ (λ m n. m + n) before.next at ∙ sym (next_place es i e is).0;
-  }
+  more_places es i e places place size is before at = grind (arith, common_steps, places_more, next_place)

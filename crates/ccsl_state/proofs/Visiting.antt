@@ -130,38 +130,11 @@ module _ (K : System) (ok : IsAccepted K) (F : List ℕ) where
           the_tree = grind (arith, common_steps, get_or-set_same, mine, here)
 
           visited : ticks_in j waiting' ≡ false → IsDone K old trees' step' gone' unsettled' j
-          visited quiet =
-              let n = next K step (gone_in gone) (tree_number old j) in
-              let same = still j n tick dead mine quiet (v.tick_is ∙ ap (λ t. eval (formula_of t) step) here.tree) refl
-              (v.dead_is ∙ ap (λ t. dead_of (gone_in gone) (next K step (gone_in gone) t)) here.tree) in
-              record {
-                tick = step_here ∙ same.0;
-                tree = the_tree ∙ same.1;
-                dead = gone_here ∙ same.2 ∙ ap (dead_of (gone_in gone')) (sym the_tree);
-                settled = λ h.
-                    let so : settled ≡ true =
-                    not-false settled (sym (ticks_in-put_same j (not settled) unsettled) ∙ sym (v.unsettled_is j) ∙ h) in
-                    ap (is_settled (gone_in gone')) the_tree ∙ sym same.3 ∙ ap (λ t. is_settled (gone_in gone) (next K step (gone_in gone) t)) (sym here.tree)
-                    ∙ v.settled_is so;
-              }
+          visited quiet = grind (arith, common_steps, still, mine, here, step_here, the_tree, gone_here, not-false, ticks_in-put_same)
 
           other : (i : ℕ) → (i ≡ j → ⊥) → IsFollowed K F i → ticks_in i waiting ≡ false → ticks_in i waiting' ≡ false
               → IsDone K old trees' step' gone' unsettled' i
-          other i ne followed before quiet =
-              let was = g.done i followed before in
-              let same = still i (tree_number trees i) (ticks_in (K.declared + i) step) (ticks_in (K.declared + i) gone) followed quiet was.tick was.tree
-              was.dead in
-              let apart : K.declared + i ≡ K.declared + j → ⊥ = λ e. ne (omega (arith, e)) in
-              let kept : tree_number trees' i ≡ tree_number trees i =
-              ap (λ ts. tree_number ts i) v.trees_are ∙ get_or-set_other trees j i (next K step (gone_in gone) (tree_number trees j)) TNever ne in
-              record {
-                tick = step_other (K.declared + i) apart ∙ same.0;
-                tree = kept ∙ same.1;
-                dead = gone_other (K.declared + i) apart ∙ same.2 ∙ ap (dead_of (gone_in gone')) (sym kept);
-                settled = λ h.
-                    ap (is_settled (gone_in gone')) kept ∙ sym same.3 ∙ was.settled
-                    (sym (ticks_in-put_other j (not settled) i unsettled ne) ∙ sym (v.unsettled_is i) ∙ h);
-              }
+          other i ne followed before quiet = grind (arith, common_steps, still, get_or-set_other, step_other, gone_other, ticks_in-put_other)
 
           -- what waits now has waited, or reads the clock
           waits : (m : ℕ) → ticks_in m waiting' ≡ true → IsFollowed K F m × (j < m)
@@ -210,59 +183,13 @@ module _ (K : System) (ok : IsAccepted K) (F : List ℕ) where
           ((p : ℕ) → ticks_in p unsettled ≡ true → ticks_in p waiting ≡ true)
           → ((p y : ℕ) → ticks_in y s ≡ true → ticks_in p (slice_index_or readers y []) ≡ true → ticks_in p waiting ≡ true) →
           ((p : ℕ) → ticks_in p waiting ≡ true → IsFollowed K F p) → IsGoing K F s gone₀ old old s gone₀ waiting unsettled
-      begins unsettled waiting count low ascends kept unsettled_wait heard followed =
-          record {
-            count = count;
-            done = λ i f quiet.
-                let settled = kept.settled i f (waits_not i quiet) in
-                let silent = unheard i f quiet in
-                let same = stays K s (gone_in gone₀) (tree_number old i) silent settled in
-                record {
-                  tick = none i ∙ sym (tells_nothing s (tree_number old i) silent);
-                  tree = sym same;
-                  dead = kept.dead i f (waits_not i quiet);
-                  settled = λ h. settled;
-                };
-            untouched = λ m i h l. record { tick = none i; tree = refl; dead = refl };
-            followed = followed;
-            few = kept.few;
-            declared = λ y l. refl;
-            outside = λ i h. none i;
-            alive = kept.alive;
-            ascends = ascends;
-          }
-        where
-          none : (i : ℕ) → ticks_in (K.declared + i) s ≡ false
-          none i = NoneFrom-are_below K.declared s low (K.declared + i) (omega arith)
-
-          waits_not : (i : ℕ) → ticks_in i waiting ≡ false → ticks_in i unsettled ≡ false
-          waits_not i quiet = grind (arith, common_steps)
-
-          silent_clock : (i : ℕ) → IsFollowed K F i → ticks_in i waiting ≡ false → (y : ℕ) → reads K i y ≡ true → ticks_in y s ≡ false
-          silent_clock i f quiet y read = grind (arith, common_steps, no_reader)
-
-          unheard : (i : ℕ) → IsFollowed K F i → ticks_in i waiting ≡ false → TreeWithin (λ y. ticks_in y s ≡ false) (tree_number old i)
-          unheard i f quiet = tree_more (λ y. reads K i y ≡ true) (λ y. ticks_in y s ≡ false) (silent_clock i f quiet) (tree_number old i) (within i f)
+      begins unsettled waiting count low ascends kept unsettled_wait heard followed = grind (arith, common_steps, unheard, stays, tells_nothing, NoneFrom-are_below, no_reader, tree_more)
 
       -- THE END, where nothing waits
       pub ends : (trees : List Tree) (step gone waiting unsettled : List ℕ) → IsGoing K F s gone₀ old trees step gone waiting unsettled
           → ((m : ℕ) → ticks_in m waiting ≡ false) → AreKept K F trees gone unsettled
-      ends trees step gone waiting unsettled g none = record {
-        within = λ i f. subst (TreeWithin (λ y. reads K i y ≡ true)) (sym (g.done i f (none i)).tree)
-            (next_within (λ y. reads K i y ≡ true) K (bodies_closed K ok) step (gone_in gone) (tree_number old i) (within i f));
-        dead = λ i f h. (g.done i f (none i)).dead;
-        alive = g.alive;
-        settled = λ i f h. (g.done i f (none i)).settled h;
-        few = g.few;
-      }
+      ends trees step gone waiting unsettled g none = grind (arith, common_steps, next_within, bodies_closed)
 
       pub passes : (trees : List Tree) (step gone waiting unsettled : List ℕ) → IsGoing K F s gone₀ old trees step gone waiting unsettled
           → ((m : ℕ) → ticks_in m waiting ≡ false) → IsPassed K F old s trees step gone
-      passes trees step gone waiting unsettled g none = record {
-        count = g.count;
-        tick = λ i f. (g.done i f (none i)).tick;
-        tree = λ i f. (g.done i f (none i)).tree;
-        dead = λ i f. (g.done i f (none i)).dead;
-        declared = g.declared;
-        outside = g.outside;
-      }
+      passes trees step gone waiting unsettled g none = grind (arith, common_steps)

@@ -174,16 +174,4 @@ module _ (K : System) (ok : IsAccepted K) (C : List ℕ) (is : C ≡ calls_of K)
       → length row ≡ cells K →
       trees_in K C K.definitions front' ≡ opened_all K K.definitions → gone ≡ deaths_from [] x (opened_all K K.definitions)
       → RowOpened K row gone (front' ++ counts)
-  row_opens gone front counts front' row row_is same few whole trees gone_is =
-      let D = K.definitions in
-      let whole' : length (front' ++ counts) ≡ cells K =
-      (let e = ap length row_is in omega (arith, e, same, whole, length-append front counts, length-append front' counts)) in
-      let new : trees_in K (calls_of K) D (front' ++ counts) ≡ opened_all K D =
-      trees_front K ok front' counts few whole' ∙ subst (λ C. trees_in K C D front' ≡ opened_all K D) is trees in
-      record {
-        trees = new;
-        counts = counts_behind front' counts (2 * length K.constraints) few
-            ∙ sym (ap (λ r. drop (length r - 2 * length K.constraints) r) row_is ∙ counts_behind front counts (2 * length K.constraints) few);
-        deaths = gone_is ∙ ap₂ (λ x ts. deaths_from [] x ts) at (sym new);
-        below = subst (TreesBelow K.declared) (sym new) (opened_below K ok);
-      }
+  row_opens gone front counts front' row row_is same few whole trees gone_is = grind (arith, common_steps, length-append, trees_front, counts_behind, opened_below)
