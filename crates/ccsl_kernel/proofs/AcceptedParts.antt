@@ -1,6 +1,6 @@
 -- What the parts of an accepted system obey: guarded calls, scopes, offsets that fit, and bounded depth.
-use Rattle.std.proofs.Common.{◌≡◌, ℕ, zero, suc, ◌+◌, ◌-◌, ◌<◌, ◌≤◌, List, [], ◌∷◌, All, Bool, true, false, Option, Some, None, slice_get, nat_lt, if◌then◌else◌}
-use Rattle.std.proofs.Common.{refl, sym, ap, subst, arith, ltb-false}
+use Rattle.std.proofs.Common.{◌≡◌, ℕ, zero, suc, ◌+◌, ◌-◌, ◌<◌, ◌≤◌, List, [], ◌∷◌, All, Bool, true, false, Option, Some, None}
+use Rattle.std.proofs.Common.{slice_get, nat_lt, if◌then◌else◌, refl, sym, ap, subst, arith, ltb-false}
 use Rattle.std.proofs.lemmas.List.Elements.{All-nil, All-cons}
 use Rattle.std.proofs.lemmas.Option.{slice_get_within, get_or_from_slice_get}
 use Rattle.ccsl_base.specs.declared.limits.TheConstants.{MAX_LEVELS}

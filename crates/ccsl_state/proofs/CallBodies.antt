@@ -1,6 +1,7 @@
 -- The body of a call in a region: behind the member's number lie the cells of its parameters, and then its own region.
 use Rattle.std.proofs.lemmas.Grind.{common_steps}
-use Rattle.std.proofs.Common.{◌≡◌, ℕ, ◌+◌, ◌<◌, ◌≤◌, ◌%◌, ◌^◌, List, ◌++◌, length, drop, take, map, false, Some, None, slice_index, refl, sym, ap, ap₂, subst, ◌∙◌, arith}
+use Rattle.std.proofs.Common.{◌≡◌, ℕ, ◌+◌, ◌<◌, ◌≤◌, ◌%◌, ◌^◌, List, ◌++◌, length, drop, take, map, false, Some, None, slice_index, refl, sym, ap, ap₂, subst}
+use Rattle.std.proofs.Common.{◌∙◌, arith}
 use Rattle.std.proofs.lemmas.List.{drop-drop}
 use Rattle.ccsl_base.specs.declared.limits.TheConstants.{MAX_CELLS}
 use Rattle.ccsl_formula.specs.Formula.{eval}
@@ -84,7 +85,8 @@ module _ (lay : Lay) (g : ℕ) (root : Expr) (count : ℕ) (ρ : List Actual) (r
       let old : call_tree lay row ≡ tree lay root ρ region =
       body.tree_is ∙ ap (tree lay root ρ) (ap (drop own) row_is ∙ behind_head own left region len) in
       let new : call_tree lay (left ++ region') ≡ tree lay root ρ region' =
-      body.same (left ++ region') (front_kept own left region' region len ∙ ap (take own) (sym row_is)) ∙ ap (tree lay root ρ) (behind_head own left region' len) in
+      body.same (left ++ region') (front_kept own left region' region len ∙ ap (take own) (sym row_is))
+      ∙ ap (tree lay root ρ) (behind_head own left region' len) in
       let o = inside lay ρ (tree lay root ρ) (size lay root) s gone region region' r moved none in
       record {
         tick = o.tick ∙ ap (λ t. eval (formula_of t) s) (sym old);

@@ -39,7 +39,8 @@ first_is set left left' (Some x) is asc h = λ m t. first_least x left' (ap is_a
 -- one member of one set more
 pub placed_more : (old : List (List ℕ)) (i clock : ℕ) (was now : List ℕ) → clock < length old → was ≡ slice_index_or old clock was → now ≡ with_clock i was →
     (y p : ℕ) → ticks_in p (slice_index_or (slice_set old clock now) y []) ≡ ((nat_eq p i && nat_eq y clock) || ticks_in p (slice_index_or old y []))
-placed_more old i clock was now l at is y p = grind (arith, common_steps, get_or-set_same {A = List ℕ}, get_or-set_other {A = List ℕ}, get_or_default {X = List ℕ}, ticks_in-with_clock)
+placed_more old i clock was now l at is y p =
+    grind (arith, common_steps, get_or-set_same {A = List ℕ}, get_or-set_other {A = List ℕ}, get_or_default {X = List ℕ}, ticks_in-with_clock)
 
 -- the least member, or a bound where there is none
 abbrev pub lowest : ℕ → List ℕ → ℕ
@@ -129,9 +130,6 @@ named_alone e empty named is added y = grind (arith, common_steps)
 -- THE TABLE OF READERS, of the definitions before number i
 abbrev pub ReadBefore : System → List ℕ → ℕ → List (List ℕ) → Type 0
 ReadBefore K F i sets = (y p : ℕ) → ticks_in p (slice_index_or sets y []) ≡ (nat_lt p i && (ticks_in (K.declared + p) F && reads K p y))
-
-lt_more : (p i : ℕ) → nat_lt p (i + 1) ≡ (nat_eq p i || nat_lt p i)
-lt_more p i = grind (arith, common_steps)
 
 no_number : (K : System) (p y : ℕ) → length K.definitions ≤ p → reads K p y ≡ false
 no_number K p y l = ap (λ o. named_by o y) (slice_get_past K.definitions p l)

@@ -13,7 +13,8 @@ use Rattle.ccsl_kernel.specs.Actuals.{number_of, suffix_of, test_of, word_of}
 use Rattle.ccsl_kernel.specs.Cells.{saturated, cells_in, cells_of_two}
 use Rattle.ccsl_state.specs.Tree.{Tree, TNever, TOne, TTwo, Delaying, Awaiting, Filtering, Leading, Trailing, Ending, EndingWeakly, Sampling, SamplingWeakly}
 use Rattle.ccsl_state.specs.Tree.{Lagging}
-use Rattle.ccsl_state.specs.Layout.{binary_at, count_of, offset_of, flag_of, flag_at, bits_of, rotated, own_cells, two_at, then_at, words_of, lag_at, actual_of, read_in}
+use Rattle.ccsl_state.specs.Layout.{binary_at, count_of, offset_of, flag_of, flag_at, bits_of, rotated, own_cells, two_at, then_at, words_of, lag_at}
+use Rattle.ccsl_state.specs.Layout.{actual_of, read_in}
 use Rattle.ccsl_state.specs.Layout.{read_body, read_call, read, region_of}
 use Rattle.ccsl_state.specs.Standing.{is_then, IsEnough}
 use Rattle.ccsl_state.specs.Nodes.{pair_at}
@@ -137,13 +138,13 @@ module _ (K : System) (earlier : List ℕ) (calls : ℕ → List ℕ → Tree)
 
 module _ (K : System) where
   pub enough_before : (earlier : List ℕ) (g : ℕ) → g ≤ length earlier → IsEnough K earlier → IsEnough K (take g earlier)
-  enough_before earlier g l enough g' l' = grind (arith, common_steps, length-take-le, get_or-take, slice_index, take-take)
+  enough_before earlier g l enough g' l' = grind (arith, common_steps, length-take-le, get_or-take, take-take)
 
   -- the region of a call is that of its group behind the earlier ones
   call_step : (earlier : List ℕ) (n group : ℕ) (row : List ℕ) → group < suc n → n ≤ length earlier →
       (group < n → read_call K earlier n group row ≡ region_of K (take group earlier) row)
       → read_call K earlier (suc n) group row ≡ region_of K (take group earlier) row
-  call_step earlier n group row l u below = grind (arith, common_steps, nat_eq, slice_index, length-take-le, eqb-false)
+  call_step earlier n group row l u below = grind (arith, common_steps, length-take-le, eqb-false)
 
   pub read_call_is : (earlier : List ℕ) (n group : ℕ) (row : List ℕ) → group < n → n ≤ length earlier
       → read_call K earlier n group row ≡ region_of K (take group earlier) row
@@ -154,7 +155,8 @@ module _ (K : System) where
   region_step : (earlier : List ℕ) (n : ℕ) (xs ys : List ℕ) → IsEnough K earlier → 1 ≤ n →
       ((m : ℕ) (b : Body) → body_of K.groups (length earlier) m ≡ Some b → 1 + length b.params + cells_in earlier b.root ≤ n) → n ≤ MAX_CELLS
       → take n xs ≡ take n ys →
-      ((b : Body) (ρ : List Actual) (xs ys : List ℕ) → cells_in earlier b.root ≤ MAX_CELLS → take (cells_in earlier b.root) xs ≡ take (cells_in earlier b.root) ys
+      ((b : Body) (ρ : List Actual) (xs ys : List ℕ) → cells_in earlier b.root ≤ MAX_CELLS
+          → take (cells_in earlier b.root) xs ≡ take (cells_in earlier b.root) ys
       → read K earlier b.root ρ xs ≡ read K earlier b.root ρ ys) →
       region_of K earlier xs ≡ region_of K earlier ys
   region_step earlier n xs ys enough pos room few e same =

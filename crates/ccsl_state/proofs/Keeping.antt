@@ -82,7 +82,7 @@ filtered w o k t (i ∷ is) = on (t i) (filtered w (rest w o) k t is) (filtered 
 
 -- and where a finite word has ended, it has at the place
 ended_rest : (w : BinaryWord) (o c : ℕ) → is_finite w ≡ true → nat_le (length w.prefix) (rest w o + c) ≡ nat_le (length w.prefix) (o + suc c)
-ended_rest w o c fin = grind (arith, common_steps, nat_le, rest_before_end, rest_at_end)
+ended_rest w o c fin = grind (arith, common_steps, rest_before_end, rest_at_end)
 
 ended : (w : BinaryWord) (o : ℕ) (t : ℕ → Bool) (is : List ℕ) → is_finite w ≡ true →
     nat_le (length w.prefix) (offset_after w o (map t is)) ≡ nat_le (length w.prefix) (o + count (map t is))
@@ -105,7 +105,7 @@ filtering w o t [] = refl
 filtering w o t (i ∷ is) = filtering w (if t i then rest w o else o) t is
 
 pub await_is : (m : ℕ) → IsOne (Awaiting m 0) (await_row m)
-await_is m = grind (arith, common_steps, awaiting, zero-add, nat_eq, more_one)
+await_is m = grind (arith, common_steps, awaiting, zero-add, more_one)
 
 pub delay_is : (m : ℕ) → IsOne (Delaying m 0) (delay_row m)
 delay_is m = grind (arith, common_steps, delaying, zero-add)

@@ -27,7 +27,7 @@ use Rattle.ccsl_state.proofs.Regions.{two_regions}
 pub inside : (lay : Lay) (ρ : List Actual) (t : List ℕ → Tree) (n : ℕ) (s : Step) (gone row row' : List ℕ) (r : Moved)
     → IsAdvanced lay ρ t n s gone row row' r → r.tail ≡ None
     → IsRewritten lay t s gone row row' (record { tick = r.tick; dead = r.dead; settled = r.settled })
-inside lay ρ t n s gone row row' r o none = grind (arith, common_steps, row')
+inside lay ρ t n s gone row row' r o none = grind (arith, common_steps)
 
 pair_next : (K : System) (s : Step) (gone : ℕ → Bool) (o : Option Two) (a d : Tree) → next K s gone (pair_at o a d)
     ≡ pair_at (option_map (λ o. two_next o (eval (formula_of a) s) (eval (formula_of d) s)) o) (next K s gone a) (next K s gone d)

@@ -1,7 +1,8 @@
 -- What has gone on by its own ticks has gone on by the full step: by induction over the clocks, since a definition reads lower ones.
 use Rattle.std.proofs.lemmas.Grind.{common_steps}
 use Rattle.std.proofs.Common.{◌≡◌, ℕ, zero, suc, ◌+◌, ◌-◌, ◌<◌, ◌≤◌, ◌^◌, ⊎_elim, List, [], ◌∷◌, ◌++◌, length, filter, Bool, true, false, ◌&&◌, ◌||◌, Option}
-use Rattle.std.proofs.Common.{Some, None, option_map, slice_get, slice_index_or, nat_eq, nat_lt, if◌then◌else◌, refl, sym, ap, ap₂, subst, ◌∙◌, arith, length-append, lt-ltb, eq-eqb}
+use Rattle.std.proofs.Common.{Some, None, option_map, slice_get, slice_index_or, nat_eq, nat_lt, if◌then◌else◌, refl, sym, ap, ap₂, subst, ◌∙◌, arith}
+use Rattle.std.proofs.Common.{length-append, lt-ltb, eq-eqb}
 use Rattle.std.proofs.lemmas.Bool.{cases_lt, cases_eq, ne_eqb, and_parts, and_from, or_cases, ltb-true, or_left, or_right}
 use Rattle.std.proofs.lemmas.Option.{get_or_from_slice_get, slice_get-get_or, slice_get_past}
 use Rattle.ccsl_base.specs.Clocks.{ticks_in, is_ascending, are_below}
@@ -80,7 +81,7 @@ module _ (K : System) (ok : IsAccepted K) (F : List ℕ) (closed : IsClosed K F)
     numbered x l = (x - K.declared, omega (arith, l))
 
     within_followed : (x i : ℕ) → x ≡ K.declared + i → is_within K F x ≡ true → ticks_in (K.declared + i) F ≡ true
-    within_followed x i e h = grind (arith, common_steps, nat_lt)
+    within_followed x i e h = grind (arith, common_steps)
 
     past : (i : ℕ) → length K.definitions ≤ i → ticks_in (K.declared + i) full ≡ false
     past i l =
@@ -231,7 +232,7 @@ kept_opened K ok F trees unsettled opened all = record {
 
 pub part_opened : (p : HeldPart) → IsAccepted p.system
     → trees_in p.system (calls_of p.system) p.system.definitions p.row ≡ opened_all p.system p.system.definitions → PartStandsFor p []
-part_opened p ok opened = grind (arith, common_steps, slice_get, states_opened, accepted_guarded)
+part_opened p ok opened = grind (arith, common_steps, states_opened, accepted_guarded)
 
 -- what a step has found, in terms of the states before it
 pub passed_by : (p : HeldPart) (s declared : Step) (calls row : List ℕ) (trees : List Tree) (step gone : List ℕ) → calls ≡ calls_of p.system → row ≡ p.row

@@ -19,7 +19,8 @@ use Rattle.ccsl_state.proofs.PlaceLaws.{placed}
 
 module _ (K : System) (earlier : List ℕ) (enough : IsEnough K earlier) where
   -- where a row changes in the region of one definition only, only its tree does
-  pub trees_set : (es : List Expression) (i k d : ℕ) (e : Expression) (place : ℕ) (row row' : List ℕ) → cells_from earlier es ≤ MAX_CELLS → slice_get es i ≡ Some e
+  pub trees_set : (es : List Expression) (i k d : ℕ) (e : Expression) (place : ℕ) (row row' : List ℕ) → cells_from earlier es ≤ MAX_CELLS
+      → slice_get es i ≡ Some e
       → slice_get (places_from earlier k es) i ≡ Some place → place ≡ k + d → take d row' ≡ take d row
       → drop (d + cells_in earlier e) row' ≡ drop (d + cells_in earlier e) row →
       trees_in K earlier es row' ≡ slice_set (trees_in K earlier es row) i (read K earlier e [] (drop d row'))
@@ -46,7 +47,8 @@ module _ (K : System) (earlier : List ℕ) (enough : IsEnough K earlier) where
       ∙ ap (λ r. slice_set (trees_in K earlier es (drop n row)) i (read K earlier e [] r)) (drop-drop (d - n) n row' ∙ ap (λ j. drop j row') more))
 
   -- A DEFINITION IS VISITED where its region is rewritten by the step
-  module _ (i : ℕ) (e : Expression) (place : ℕ) (row left region region' : List ℕ) (s : Step) (known : List ℕ) (few : cells_from earlier K.definitions ≤ MAX_CELLS)
+  module _ (i : ℕ) (e : Expression) (place : ℕ) (row left region region' : List ℕ) (s : Step) (known : List ℕ)
+      (few : cells_from earlier K.definitions ≤ MAX_CELLS)
       (is : slice_get K.definitions i ≡ Some e)
       (at : slice_get (places_from earlier 0 K.definitions) i ≡ Some place) (split : row ≡ left ++ region) (len : length left ≡ place)
     where

@@ -74,10 +74,10 @@ pub record IsVisit (K : System) (readers : List (List ℕ)) (trees trees' : List
 
 module _ (K : System) (ok : IsAccepted K) (F : List ℕ) where
   pub reads_below : (i y : ℕ) → reads K i y ≡ true → y < K.declared + i
-  reads_below i y h = grind (arith, common_steps, slice_get, definition_names, definition_at)
+  reads_below i y h = grind (arith, common_steps, definition_names, definition_at)
 
   reads_there : (i y : ℕ) → reads K i y ≡ true → i < length K.definitions
-  reads_there i y h = grind (arith, common_steps, slice_get, slice_get_within)
+  reads_there i y h = grind (arith, common_steps, slice_get_within)
 
   module _ (readers : List (List ℕ)) (are : AreReaders K F readers) where
     -- a reader of a clock is followed and names it
@@ -114,7 +114,7 @@ module _ (K : System) (ok : IsAccepted K) (F : List ℕ) where
           -- what does not wait hears nothing of it
           unheard : (i : ℕ) → IsFollowed K F i → ticks_in i waiting' ≡ false → (y : ℕ) → reads K i y ≡ true
               → (ticks_in y step ≡ ticks_in y step') × (ticks_in y gone ≡ ticks_in y gone')
-          unheard i followed quiet y read = grind (arith, common_steps, nat_eq, slice_index_or, first_false, no_reader, here, step_here, gone_here, step_other, gone_other)
+          unheard i followed quiet y read = grind (arith, common_steps, first_false, no_reader, here, step_here, gone_here, step_other, gone_other)
 
           old_next : (i : ℕ) → IsFollowed K F i → TreeWithin (λ y. reads K i y ≡ true) (next K step (gone_in gone) (tree_number old i))
           old_next i followed = next_within (λ y. reads K i y ≡ true) K (bodies_closed K ok) step (gone_in gone) (tree_number old i) (within i followed)
@@ -124,7 +124,8 @@ module _ (K : System) (ok : IsAccepted K) (F : List ℕ) where
               → t' ≡ next K step (gone_in gone) (tree_number old i) → d ≡ dead_of (gone_in gone) t' →
               (b ≡ eval (formula_of (tree_number old i)) step') × (t' ≡ next K step' (gone_in gone') (tree_number old i)) × (d ≡ dead_of (gone_in gone') t')
               × (is_settled (gone_in gone) t' ≡ is_settled (gone_in gone') t')
-          still i t' b d followed quiet ticks tree dies = grind (arith, common_steps, old_next, unheard, tick_same, next_same, bodies_closed, dead_same, settled_same)
+          still i t' b d followed quiet ticks tree dies =
+              grind (arith, common_steps, old_next, unheard, tick_same, next_same, bodies_closed, dead_same, settled_same)
 
           the_tree : tree_number trees' j ≡ next K step (gone_in gone) (tree_number old j)
           the_tree = grind (arith, common_steps, get_or-set_same, mine, here)
@@ -162,7 +163,8 @@ module _ (K : System) (ok : IsAccepted K) (F : List ℕ) where
                 let apart : K.declared + i ≡ K.declared + j → ⊥ = λ e. ne (omega (arith, e)) in
                 record {
                   tick = step_other (K.declared + i) apart ∙ u.tick;
-                  tree = ap (λ ts. tree_number ts i) v.trees_are ∙ get_or-set_other trees j i (next K step (gone_in gone) (tree_number trees j)) TNever ne ∙ u.tree;
+                  tree = ap (λ ts. tree_number ts i) v.trees_are
+                      ∙ get_or-set_other trees j i (next K step (gone_in gone) (tree_number trees j)) TNever ne ∙ u.tree;
                   dead = gone_other (K.declared + i) apart ∙ u.dead;
                 };
             followed = λ m h. (waits m h).0;
@@ -183,7 +185,8 @@ module _ (K : System) (ok : IsAccepted K) (F : List ℕ) where
           ((p : ℕ) → ticks_in p unsettled ≡ true → ticks_in p waiting ≡ true)
           → ((p y : ℕ) → ticks_in y s ≡ true → ticks_in p (slice_index_or readers y []) ≡ true → ticks_in p waiting ≡ true) →
           ((p : ℕ) → ticks_in p waiting ≡ true → IsFollowed K F p) → IsGoing K F s gone₀ old old s gone₀ waiting unsettled
-      begins unsettled waiting count low ascends kept unsettled_wait heard followed = grind (arith, common_steps, unheard, stays, tells_nothing, NoneFrom-are_below, no_reader, tree_more)
+      begins unsettled waiting count low ascends kept unsettled_wait heard followed =
+          grind (arith, common_steps, unheard, stays, tells_nothing, NoneFrom-are_below, no_reader, tree_more)
 
       -- THE END, where nothing waits
       pub ends : (trees : List Tree) (step gone waiting unsettled : List ℕ) → IsGoing K F s gone₀ old trees step gone waiting unsettled

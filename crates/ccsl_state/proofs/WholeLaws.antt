@@ -29,7 +29,8 @@ use Rattle.ccsl_state.proofs.Frame.{read_same}
 use Rattle.ccsl_state.proofs.Regions.{behind_head, front_head, within, fewer}
 
 -- the trees don't depend on what lies behind their regions
-pub trees_same : (K : System) (earlier : List ℕ) (es : List Expression) (n : ℕ) (xs ys : List ℕ) → IsEnough K earlier → cells_from earlier es ≤ n → n ≤ MAX_CELLS
+pub trees_same : (K : System) (earlier : List ℕ) (es : List Expression) (n : ℕ) (xs ys : List ℕ) → IsEnough K earlier → cells_from earlier es ≤ n
+    → n ≤ MAX_CELLS
     → take n xs ≡ take n ys →
     trees_in K earlier es xs ≡ trees_in K earlier es ys
 trees_same K earlier [] n xs ys enough room few same = refl
@@ -174,4 +175,5 @@ module _ (K : System) (ok : IsAccepted K) (C : List ℕ) (is : C ≡ calls_of K)
       → length row ≡ cells K →
       trees_in K C K.definitions front' ≡ opened_all K K.definitions → gone ≡ deaths_from [] x (opened_all K K.definitions)
       → RowOpened K row gone (front' ++ counts)
-  row_opens gone front counts front' row row_is same few whole trees gone_is = grind (arith, common_steps, length-append, trees_front, counts_behind, opened_below)
+  row_opens gone front counts front' row row_is same few whole trees gone_is =
+      grind (arith, common_steps, length-append, trees_front, counts_behind, opened_below)

@@ -101,7 +101,8 @@ module _ (P : ℕ → Type 0) where
     open_within calls at (EAwait a m) ρ h v = open_within calls at a ρ h v
     open_within calls at (EFilter a w) ρ h v = open_within calls at a ρ h v
     open_within calls at (EDelayed a m d) ρ h v = (open_within calls at a ρ h.0 v, open_within calls at d ρ h.1 v)
-    open_within calls at (EIf q a d) ρ h v = cond_both (test_of K.words q ρ) _ _ (TreeWithin P) (λ _. open_within calls at a ρ h.0 v) (λ _. open_within calls at d ρ h.1 v)
+    open_within calls at (EIf q a d) ρ h v =
+        cond_both (test_of K.words q ρ) _ _ (TreeWithin P) (λ _. open_within calls at a ρ h.0 v) (λ _. open_within calls at d ρ h.1 v)
 
     bodies_within : (level g m : ℕ) (ρ : List Actual) → ActualsWithin P ρ → TreeWithin P (open_bodies K level g m ρ)
     bodies_within zero g m ρ v = tt

@@ -2,7 +2,8 @@
 --     earlier      the cells of a call to each group before that of the body; a call to a later group is one of the own group
 --     read_in K earlier calls e ρ row      the tree in the region of e, where `calls group row` is that in the region of a call
 --     read_call, read      the tree in the region of a call to a group; in that of an expression
-use Rattle.std.specs.Prelude.{ℕ, zero, suc, ◌+◌, ◌*◌, ◌/◌, ◌%◌, ◌^◌, List, [], ◌∷◌, ◌++◌, Bool, true, false, not, Option, Some, None, length, map, min, take, drop}
+use Rattle.std.specs.Prelude.{ℕ, zero, suc, ◌+◌, ◌*◌, ◌/◌, ◌%◌, ◌^◌, List, [], ◌∷◌, ◌++◌, Bool, true, false, not, Option, Some, None, length, map, min, take}
+use Rattle.std.specs.Prelude.{drop}
 use Rattle.std.specs.Prelude.{slice_index, nat_eq, nat_lt, if◌then◌else◌}
 use Rattle.ccsl_words.specs.Word.{BinaryWord, is_finite, word_len}
 use Rattle.ccsl_kernel.specs.declared.expr.ExprOp.{ExprOp}

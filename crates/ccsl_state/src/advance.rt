@@ -243,7 +243,8 @@ fn call_advanced(
     gone: &ClockSet,
 ) -> Visited
     requires { IsCallReady lay.now group row.old }
-    ensures moved { IsRewritten lay.now (call_tree lay.now) step.now gone.now row.old row.new result }
+    ensures moved { IsRewritten lay.now (call_tree lay.now)
+        step.now gone.now row.old row.new result }
     ensures rest { (n : ℕ) → HasRoom lay.now group n → drop n row.new ≡ drop n row.old }
 {
     let mut array = [Actual::Number(0); 8];

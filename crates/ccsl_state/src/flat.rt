@@ -128,7 +128,8 @@ fn any_advanced(
     gone: &ClockSet,
 ) -> Visited
     requires { IsReady lay.now true 0 e.now [] row.old }
-    ensures moved { IsRewritten lay.now (tree lay.now e.now []) step.now gone.now row.old row.new result }
+    ensures moved { IsRewritten lay.now (tree lay.now e.now [])
+        step.now gone.now row.old row.new result }
     ensures rest { drop (size lay.now e.now) row.new ≡ drop (size lay.now e.now) row.old }
 {
     let moved = advanced(lay, e, &[], row, step, gone);
@@ -149,7 +150,8 @@ pub fn definition_advanced(
     gone: &ClockSet,
 ) -> Visited
     requires { IsReady lay.now true 0 e.now [] row.old }
-    ensures moved { IsRewritten lay.now (tree lay.now e.now []) step.now gone.now row.old row.new result }
+    ensures moved { IsRewritten lay.now (tree lay.now e.now [])
+        step.now gone.now row.old row.new result }
     ensures rest { drop (size lay.now e.now) row.new ≡ drop (size lay.now e.now) row.old }
 {
     match e {

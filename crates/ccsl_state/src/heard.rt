@@ -21,7 +21,8 @@ use ccsl_kernel::{Actual, Expr, ExprOp};
 #[tactic(auto, using(crate::proofs::Places::inner_stands))]
 pub fn heard(lay: &Lay<'_>, e: &Expr, actuals: &[Actual], row: &[u64], step: &ClockSet) -> Heard
     requires { IsReady lay.now false 0 e.now actuals.now row.now }
-    ensures { IsHeard (tree lay.now e.now actuals.now row.now) (size lay.now e.now) step.now result }
+    ensures { IsHeard (tree lay.now e.now actuals.now row.now)
+        (size lay.now e.now) step.now result }
 {
     match e {
         Expr::Name(place) => Heard {
@@ -141,7 +142,8 @@ fn lag_heard(
     requires some { 1 ≤ m }
     requires short { m ≤ MAX_DELAY }
     requires ready { AreReady lay.now (2 + words_of m) a.now d.now actuals.now row.now }
-    ensures { IsHeard (pair_tree lay.now (lag_node m) (2 + words_of m) a.now d.now actuals.now row.now)
+    ensures { IsHeard
+        (pair_tree lay.now (lag_node m) (2 + words_of m) a.now d.now actuals.now row.now)
         (pair_size lay.now (2 + words_of m) a.now d.now) step.now result }
 {
     let own = lag_cells(m) + size_of(a, lay.earlier);

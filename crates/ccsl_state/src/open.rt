@@ -8,7 +8,8 @@ ghost use Rattle.ccsl_state.specs.Layout.{words_of, own_cells, two_at};
 ghost use Rattle.ccsl_state.specs.Standing.{is_own};
 ghost use Rattle.ccsl_state.specs.Nodes.{one_at};
 ghost use Rattle.ccsl_state.specs.Moves.{gone_in};
-ghost use Rattle.ccsl_state.specs.Regions.{tree, call_tree, one_tree, pair_tree, then_tree, lag_node, size, pair_size, choice_size, newborn, newborn_pair, HasRoomFor};
+ghost use Rattle.ccsl_state.specs.Regions.{tree, call_tree, one_tree, pair_tree, then_tree, lag_node, size, pair_size};
+ghost use Rattle.ccsl_state.specs.Regions.{choice_size, newborn, newborn_pair, HasRoomFor};
 ghost use Rattle.ccsl_state.specs.Ready.{IsReady, AreReady, IsBirthReady};
 ghost use Rattle.ccsl_state.specs.Walks.{IsOpened};
 

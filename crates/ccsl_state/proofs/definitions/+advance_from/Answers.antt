@@ -48,7 +48,8 @@ returns-then-i-definitions t c =
     let dies = c.put-then-i-definitions.ensures ∙ ap₂ (λ b k. put b k known) out.dead clock in
     record {
       trees = trees.new rest'
-          ∙ passes K s known x (tree lay e [] row) (tree lay e [] row') (trees_from lay (i + 1) rest) (trees_from lay (i + 1) rest') s' known' out.goes ticks dies
+          ∙ passes K s known x (tree lay e [] row) (tree lay e [] row') (trees_from lay (i + 1) rest) (trees_from lay
+          (i + 1) rest') s' known' out.goes ticks dies
           (c.advance_from.ensures.trees ∙ ap (λ k. passed_all K s' known' k (trees_from lay (i + 1) rest)) later)
           ∙ sym (ap (passed_all K s known x) trees.old);
       step = c.advance_from.ensures.step ∙ ap₂ (derived_in (trees_from lay (i + 1) rest)) later ticks ∙ sym (ap (λ ts. derived_in ts x s) trees.old);

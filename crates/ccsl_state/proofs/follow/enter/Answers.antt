@@ -8,4 +8,4 @@ use Rattle.ccsl_base.proofs.Sets.{ticks_in-filter}
 use Rattle.ccsl_state.proofs.follow.enter.Goals as goal
 
 pub returns : goal.returns
-returns c = grind (arith, common_steps, get_or_default, slice_index_or, ticks_in-filter, nat_eq)
+returns c = grind (arith, common_steps, get_or_default, ticks_in-filter)

@@ -30,7 +30,7 @@ pub bounds-places-i : goal.bounds-places-i
 bounds-places-i c = grind (arith, common_steps, places_len)
 
 pub visit-visited-requires : goal.visit-visited-requires
-visit-visited-requires c = grind (arith, common_steps, places_len, whole_regions, slice_get, slice_get-get_or)
+visit-visited-requires c = grind (arith, common_steps, places_len, whole_regions, slice_get-get_or)
 
 pub visits-preserved : goal.visits-preserved
 visits-preserved c =

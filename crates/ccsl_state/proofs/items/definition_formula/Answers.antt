@@ -18,4 +18,4 @@ told-requires c =
     outside _ _ _ _ _ (p.ready c.split_at.result.1.now (omega arith))
 
 pub returns : goal.returns
-returns c = grind (arith, common_steps, placed_region, option_map)
+returns c = grind (arith, common_steps, placed_region)

@@ -9,4 +9,4 @@ pub bounds-places-item : goal.bounds-places-item
 bounds-places-item c = grind (arith, common_steps, places_len)
 
 pub definition_item-requires-clause-place : goal.definition_item-requires-clause-place
-definition_item-requires-clause-place c = grind (arith, common_steps, places_len, slice_get, slice_get-get_or)
+definition_item-requires-clause-place c = grind (arith, common_steps, places_len, slice_get-get_or)

@@ -34,7 +34,8 @@ two_opened-returns t c =
 
 pub lag_opened-returns : goal.lag_opened-returns
 lag_opened-returns t c =
-    pair_opened c.args.lay.now c.args.actuals.now (lag_node c.args.m) (2 + words_of c.args.m) (lag_node_front c.args.m) c.args.a.now c.args.d.now _ _ _ _ _ _ _ _
+    pair_opened c.args.lay.now c.args.actuals.now (lag_node c.args.m) (2 + words_of c.args.m)
+    (lag_node_front c.args.m) c.args.a.now c.args.d.now _ _ _ _ _ _ _ _
     c.requires.ready.left c.split_at_mut-head.ensures.value (c.split_at_mut-head.ensures.front_len ∙ c.lag_cells.ensures.cells) c.lag_born.auto.head
     c.split_at_mut-behind.ensures.value (c.split_at_mut-behind.ensures.front_len ∙ c.opened-left.ensures.size) _ _ _ _ _
     c.opened-left.ensures c.opened-right.ensures (ap Some c.lag_born.ensures) c.lag_dead.ensures (search rules)
@@ -85,14 +86,16 @@ call_opened-returns-in-Some t c =
     (c.values.ensures.values ∙ ap (λ w. map (value_of w ρ) args) words) in
     record {
       tree = call_at K E head cells region (head ++ (cells ++ region)) member c.args.group b refl (length-set first 0 c.from.result ∙ one)
-          (ap (λ n. n % 2 ^ 32) (get_or-set_same first 0 c.from.result 0 (omega (arith, one)) ∙ c.from.ensures) ∙ small_mod member (omega arith)) c.requires.group is count
+          (ap (λ n. n % 2 ^ 32) (get_or-set_same first 0 c.from.result 0 (omega (arith, one)) ∙ c.from.ensures)
+          ∙ small_mod member (omega arith)) c.requires.group is count
           ∙ ap (λ vs. read K E b.root vs region) (ap (λ w. map (actual_of w) cells) (sym words) ∙ c.store.ensures)
           ∙ c.opened.ensures.opens ∙ born;
       rest = λ n room.
           let fits = room b is in
           let size = cells_in E b.root in
           let p = length b.params in
-          rest_one 1 n (p + size) first head rest (cells ++ region) c.args.row.now c.split_at_mut-first.ensures.value one (length-set first 0 c.from.result ∙ one)
+          rest_one 1 n (p + size) first head rest (cells ++ region) c.args.row.now c.split_at_mut-first.ensures.value one
+          (length-set first 0 c.from.result ∙ one)
           (rest_one p (p + size) size c.split_at_mut-cells.result.0.now cells c.split_at_mut-cells.result.1.now region rest c.split_at_mut-cells.ensures.value
           (c.split_at_mut-cells.ensures.front_len ∙ few.0) count c.opened.ensures.rest (omega arith)) (omega (arith, fits));
       dead = c.opened.ensures.dead ∙ ap (dead_of (gone_in c.args.gone.now)) born;

@@ -24,7 +24,7 @@ loop-i-preserved-then-has c =
     (subst (ReachedSo K c.args.clocks.now c.loop-i.set) up c.loop-i.invariant) is_in c.add_named.ensures
 
 pub loop-i-preserved : goal.loop-i-preserved
-loop-i-preserved c = grind (arith, common_steps, reached_past, ReachedSo)
+loop-i-preserved c = grind (arith, common_steps, reached_past)
 
 pub returns-clause-closed : goal.returns-clause-closed
 returns-clause-closed c = λ x y e is h named low.
