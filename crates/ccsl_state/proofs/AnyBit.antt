@@ -1,8 +1,8 @@
 -- Whether a bit is set, by whole cells.
 use Rattle.std.proofs.lemmas.Grind.{common_steps}
 use Rattle.std.proofs.Common.{◌≡◌, ◌≢◌, ℕ, zero, suc, ◌+◌, ◌*◌, ◌/◌, ◌%◌, ◌^◌, ◌<◌, ◌≤◌, List, [], ◌∷◌, ◌++◌, length, get_or, take, drop, Bool, true, false}
-use Rattle.std.proofs.Common.{not, ◌||◌, refl, sym, ap, ap₂, ◌∙◌, arith, ⊎_elim, pow-suc, append_assoc}
-use Rattle.std.proofs.lemmas.Bool.{cases_eq, ne_eqb}
+use Rattle.std.proofs.Common.{not, ◌||◌, refl, sym, ap, ap₂, ◌∙◌, arith, pow-suc, append_assoc}
+use Rattle.std.proofs.lemmas.Bool.{ne_eqb}
 use Rattle.std.proofs.lemmas.List.{take_more, take-take, take-append-drop, append-nil}
 use Rattle.std.proofs.Math.Seq.{take-append_seam}
 use Rattle.ccsl_state.specs.Tree.{any_set}

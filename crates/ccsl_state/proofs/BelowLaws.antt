@@ -1,5 +1,5 @@
 -- The formula of a tree that names clocks below a bound reads these only.
-use Rattle.std.proofs.Common.{ℕ, ◌+◌, ◌-◌, Bool, true, false, nat_le, nat_lt, nat_eq, if◌then◌else◌, slice_index_or}
+use Rattle.std.proofs.Common.{ℕ, ◌+◌, ◌-◌, false, nat_le, nat_lt, nat_eq, if◌then◌else◌, slice_index_or}
 use Rattle.ccsl_formula.specs.Formula.{Formula, FFalse, FNot, FAnd, FOr}
 use Rattle.ccsl_words.specs.Word.{letter}
 use Rattle.ccsl_kernel.proofs.Scope.{ReadsOnly, chosen}

@@ -1,7 +1,6 @@
 -- A call of an earlier group, seen from outside of its region.
 use Rattle.std.proofs.lemmas.Grind.{common_steps}
-use Rattle.std.proofs.Common.{◌≡◌, ℕ, ◌+◌, ◌<◌, ◌≤◌, List, false, length, take, slice_index, Some, if◌then◌else◌, sym, ap, ap₂, subst, ◌∙◌, arith}
-use Rattle.std.proofs.lemmas.Bool.{lt-ltb}
+use Rattle.std.proofs.Common.{◌≡◌, ℕ, ◌+◌, ◌<◌, ◌≤◌, List, false, length, take, slice_index, Some, sym, ap, ap₂, subst, ◌∙◌, arith}
 use Rattle.std.proofs.lemmas.List.{length-take-le}
 use Rattle.ccsl_base.specs.declared.limits.TheConstants.{MAX_CELLS}
 use Rattle.ccsl_kernel.specs.declared.actual.Actual.{Actual}
@@ -13,8 +12,8 @@ use Rattle.ccsl_kernel.specs.Cells.{cells_in}
 use Rattle.ccsl_kernel.specs.Fit.{ActualsFit}
 use Rattle.ccsl_kernel.specs.Fitting.{ValuesFit, ExprFits}
 use Rattle.ccsl_state.specs.declared.lay.Lay.{Lay}
-use Rattle.ccsl_state.specs.Tree.{TNever, opening}
-use Rattle.ccsl_state.specs.Layout.{read, read_call, region_of}
+use Rattle.ccsl_state.specs.Tree.{opening}
+use Rattle.ccsl_state.specs.Layout.{read, region_of}
 use Rattle.ccsl_state.specs.Standing.{IsCall, Stands, IsEnough}
 use Rattle.ccsl_state.specs.Regions.{tree, call_tree, size, newborn, HasRoom, IsBefore}
 use Rattle.ccsl_state.specs.Ready.{IsReady, IsCallReady, IsBirthReady}

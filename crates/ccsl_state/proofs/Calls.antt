@@ -1,6 +1,6 @@
 -- The region of a call in its parts: the member, the parameters' cells, and the body's region.
 use Rattle.std.proofs.lemmas.Grind.{common_steps}
-use Rattle.std.proofs.Common.{◌≡◌, ℕ, ◌<◌, ◌%◌, ◌^◌, List, [], ◌∷◌, ◌++◌, length, map, slice_index, Some, refl, sym, ap, ap₂, ◌∙◌, arith}
+use Rattle.std.proofs.Common.{◌≡◌, ℕ, ◌<◌, ◌%◌, ◌^◌, List, ◌++◌, length, map, slice_index, Some, sym, ap₂, ◌∙◌, arith}
 use Rattle.std.proofs.lemmas.List.{get_or_append_left}
 use Rattle.ccsl_kernel.specs.declared.actual.Actual.{Actual}
 use Rattle.ccsl_kernel.specs.declared.expr.Value.{Value}
@@ -8,7 +8,7 @@ use Rattle.ccsl_kernel.specs.Syntax.{Body, ECall, System, body_of, root_or_never
 use Rattle.ccsl_kernel.specs.Actuals.{value_of}
 use Rattle.ccsl_kernel.proofs.GuardedCalls.{AreGuarded}
 use Rattle.ccsl_state.specs.Tree.{opening}
-use Rattle.ccsl_state.specs.Layout.{actual_of, read, read_body, read_call, region_of}
+use Rattle.ccsl_state.specs.Layout.{actual_of, read, region_of}
 use Rattle.ccsl_state.proofs.Opening.{opening_call}
 use Rattle.ccsl_state.proofs.Regions.{behind_head, front_head}
 

@@ -1,8 +1,8 @@
 -- The tree that a region holds depends on its own cells alone.
 use Rattle.std.proofs.lemmas.Grind.{common_steps}
-use Rattle.std.proofs.Common.{◌≡◌, ℕ, zero, suc, ◌+◌, ◌<◌, ◌≤◌, List, [], ◌∷◌, ◌++◌, length, map, take, drop, slice_index, max, Bool, true, false, Option, Some}
-use Rattle.std.proofs.Common.{None, nat_lt, nat_eq, if◌then◌else◌, refl, sym, ap, ap₂, subst, ◌∙◌, arith, ltb-true, ◌%◌, ◌^◌, ⊎_elim}
-use Rattle.std.proofs.lemmas.Bool.{eqb-true, eqb-false, cases_lt}
+use Rattle.std.proofs.Common.{◌≡◌, ℕ, zero, suc, ◌+◌, ◌<◌, ◌≤◌, List, ◌++◌, length, map, take, drop, slice_index, max, Bool, true, false, Option, Some}
+use Rattle.std.proofs.Common.{None, nat_lt, if◌then◌else◌, refl, sym, ap, ap₂, subst, ◌∙◌, arith, ltb-true, ◌%◌, ◌^◌}
+use Rattle.std.proofs.lemmas.Bool.{eqb-false}
 use Rattle.std.proofs.lemmas.List.{length-take-le, take-take, get_or-take}
 use Rattle.ccsl_base.specs.declared.limits.TheConstants.{MAX_CELLS}
 use Rattle.ccsl_kernel.specs.declared.expr.ExprOp.{ExprOp}
@@ -10,7 +10,7 @@ use Rattle.ccsl_kernel.specs.declared.expr.ExprOp.TheVariants as op
 use Rattle.ccsl_kernel.specs.declared.actual.Actual.{Actual}
 use Rattle.ccsl_kernel.specs.Syntax.{Expression, EName, ECall, ENever, EBinary, EDelay, EAwait, EFilter, EDelayed, EIf, Body, System, body_of}
 use Rattle.ccsl_kernel.specs.Actuals.{number_of, suffix_of, test_of, word_of}
-use Rattle.ccsl_kernel.specs.Cells.{saturated, cells_in, cells_of_two}
+use Rattle.ccsl_kernel.specs.Cells.{cells_in, cells_of_two}
 use Rattle.ccsl_state.specs.Tree.{Tree, TNever, TOne, TTwo, Delaying, Awaiting, Filtering, Leading, Trailing, Ending, EndingWeakly, Sampling, SamplingWeakly}
 use Rattle.ccsl_state.specs.Tree.{Lagging}
 use Rattle.ccsl_state.specs.Layout.{binary_at, count_of, offset_of, flag_of, flag_at, bits_of, rotated, own_cells, two_at, then_at, words_of, lag_at}
@@ -156,7 +156,7 @@ module _ (K : System) where
       ((m : ℕ) (b : Body) → body_of K.groups (length earlier) m ≡ Some b → 1 + length b.params + cells_in earlier b.root ≤ n) → n ≤ MAX_CELLS
       → take n xs ≡ take n ys →
       ((b : Body) (ρ : List Actual) (xs ys : List ℕ) → cells_in earlier b.root ≤ MAX_CELLS
-          → take (cells_in earlier b.root) xs ≡ take (cells_in earlier b.root) ys
+      → take (cells_in earlier b.root) xs ≡ take (cells_in earlier b.root) ys
       → read K earlier b.root ρ xs ≡ read K earlier b.root ρ ys) →
       region_of K earlier xs ≡ region_of K earlier ys
   region_step earlier n xs ys enough pos room few e same =

@@ -1,8 +1,8 @@
 -- What a node keeps is what its row counts over all ticks, in fewer steps than a count can hold.
 use Rattle.std.proofs.lemmas.Grind.{common_steps}
-use Rattle.std.proofs.Common.{◌≡◌, ℕ, zero, suc, ◌+◌, ◌-◌, ◌<◌, ◌≤◌, List, [], ◌∷◌, ◌++◌, map, length, get_or, le-ltb, lt-ltb, eq-eqb, ⊎_elim, Bool, true}
-use Rattle.std.proofs.Common.{false, not, ◌&&◌, ◌||◌, refl, sym, ap, ap₂, ◌∙◌, arith, nat_lt, nat_eq, nat_le, le-leb, zero-add, replicate, if◌then◌else◌}
-use Rattle.std.proofs.lemmas.Bool.{cases_lt, cases_eq, ne_eqb}
+use Rattle.std.proofs.Common.{◌≡◌, ℕ, zero, suc, ◌+◌, ◌-◌, ◌<◌, ◌≤◌, List, [], ◌∷◌, ◌++◌, map, length, get_or, le-ltb, lt-ltb, Bool, true}
+use Rattle.std.proofs.Common.{false, not, ◌&&◌, ◌||◌, refl, sym, ap, ap₂, ◌∙◌, arith, nat_lt, nat_eq, nat_le, zero-add, replicate, if◌then◌else◌}
+use Rattle.std.proofs.lemmas.Bool.{ne_eqb}
 use Rattle.std.proofs.Math.Bool.{or_assoc, or-false}
 use Rattle.ccsl_formula.specs.Formula.{Formula, FFalse}
 use Rattle.ccsl_words.specs.Word.{BinaryWord, letter, rest, is_finite}

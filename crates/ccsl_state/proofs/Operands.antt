@@ -16,7 +16,7 @@ use Rattle.ccsl_state.specs.Tree.{Tree, Two, two_next, next, formula_of, dead_of
 use Rattle.ccsl_state.specs.Moves.{gone_in, Outcome}
 use Rattle.ccsl_state.specs.Nodes.{pair_at, node_ticks, node_dead}
 use Rattle.ccsl_state.specs.Quiet.{is_settled}
-use Rattle.ccsl_state.specs.Regions.{tree, size, newborn, newborn_pair, after, pair_tree, pair_size, left_tree, right_tree}
+use Rattle.ccsl_state.specs.Regions.{tree, size, newborn, newborn_pair, pair_tree, pair_size, left_tree, right_tree}
 use Rattle.ccsl_state.specs.Ready.{IsReady}
 use Rattle.ccsl_state.specs.Walks.{IsOpened, IsAdvanced, IsRewritten}
 use Rattle.ccsl_state.proofs.Evals.{pair_eval, pair_dead}

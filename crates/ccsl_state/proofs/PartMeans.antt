@@ -1,9 +1,9 @@
 -- What has gone on by its own ticks has gone on by the full step: by induction over the clocks, since a definition reads lower ones.
 use Rattle.std.proofs.lemmas.Grind.{common_steps}
-use Rattle.std.proofs.Common.{◌≡◌, ℕ, zero, suc, ◌+◌, ◌-◌, ◌<◌, ◌≤◌, ◌^◌, ⊎_elim, List, [], ◌∷◌, ◌++◌, length, filter, Bool, true, false, ◌&&◌, ◌||◌, Option}
-use Rattle.std.proofs.Common.{Some, None, option_map, slice_get, slice_index_or, nat_eq, nat_lt, if◌then◌else◌, refl, sym, ap, ap₂, subst, ◌∙◌, arith}
-use Rattle.std.proofs.Common.{length-append, lt-ltb, eq-eqb}
-use Rattle.std.proofs.lemmas.Bool.{cases_lt, cases_eq, ne_eqb, and_parts, and_from, or_cases, ltb-true, or_left, or_right}
+use Rattle.std.proofs.Common.{◌≡◌, ℕ, zero, suc, ◌+◌, ◌-◌, ◌<◌, ◌≤◌, ◌^◌, ⊎_elim, List, [], ◌∷◌, ◌++◌, length, filter, Bool, true, false, ◌&&◌, Option}
+use Rattle.std.proofs.Common.{Some, None, option_map, slice_get, slice_index_or, nat_lt, if◌then◌else◌, refl, sym, ap, ap₂, subst, ◌∙◌, arith}
+use Rattle.std.proofs.Common.{length-append, lt-ltb}
+use Rattle.std.proofs.lemmas.Bool.{cases_lt, and_parts, and_from, ltb-true, or_left, or_right}
 use Rattle.std.proofs.lemmas.Option.{get_or_from_slice_get, slice_get-get_or, slice_get_past}
 use Rattle.ccsl_base.specs.Clocks.{ticks_in, is_ascending, are_below}
 use Rattle.std.proofs.Math.Bool.{and-true, and_comm}

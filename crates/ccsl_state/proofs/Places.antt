@@ -1,5 +1,5 @@
 -- What accepted systems owe for regions: calls that are there, of the own group in tail positions alone.
-use Rattle.std.proofs.Common.{◌≡◌, ℕ, ◌≤◌, inl, inr, List, length, Bool, true, false, Some, if◌then◌else◌, refl, sym, ap, subst, ◌∙◌, arith, []}
+use Rattle.std.proofs.Common.{◌≡◌, ℕ, ◌≤◌, inl, inr, List, length, Bool, true, false, Some, refl, sym, ap, subst, ◌∙◌, arith, []}
 use Rattle.std.proofs.lemmas.Bool.{lt-leb, cond_both}
 use Rattle.ccsl_words.specs.Word.{BinaryWord}
 use Rattle.ccsl_kernel.specs.declared.expr.ExprOp.TheVariants as op

@@ -5,13 +5,7 @@ use Rattle.std.proofs.lemmas.Bool.{and_parts, and_from, not-true}
 use Rattle.std.proofs.Math.Bool.{and-false, or-false, and-true}
 use Rattle.ccsl_formula.specs.Formula.{eval}
 use Rattle.ccsl_words.specs.Word.{letter}
-use Rattle.ccsl_kernel.specs.declared.expr.Place.{Place}
-use Rattle.ccsl_kernel.specs.declared.expr.Place.TheVariants as place
-use Rattle.ccsl_kernel.specs.declared.expr.Value.{Value}
-use Rattle.ccsl_kernel.specs.declared.expr.Value.TheVariants as value
-use Rattle.ccsl_kernel.specs.declared.actual.Actual.{Actual}
-use Rattle.ccsl_kernel.specs.declared.actual.Actual.TheVariants as actual
-use Rattle.ccsl_kernel.specs.Syntax.{Expression, EName, ECall, ENever, EBinary, EDelay, EAwait, EFilter, EDelayed, EIf, System, root_of}
+use Rattle.ccsl_kernel.specs.Syntax.{Expression, System, root_of}
 use Rattle.ccsl_kernel.specs.Lives.{Step}
 use Rattle.ccsl_kernel.specs.Meaning.{dead_below}
 use Rattle.ccsl_kernel.specs.Accepted.{IsAccepted}

@@ -28,7 +28,7 @@ use Rattle.ccsl_kernel.proofs.Quiet.{count-snoc}
 use Rattle.ccsl_kernel.proofs.Scope.{ReadsOnly, reads_only}
 use Rattle.ccsl_state.specs.Tree.{bumped, Tree, formula_of}
 use Rattle.ccsl_state.specs.Layout.{count_of}
-use Rattle.ccsl_state.specs.States.{trees_in, next_all, deaths_from, derived_in, tree_after, trees_from, trees_after, opened_all}
+use Rattle.ccsl_state.specs.States.{trees_in, next_all, derived_in, tree_after, trees_from, trees_after, opened_all}
 use Rattle.ccsl_state.specs.Below.{TreeBelow, TreesBelow}
 use Rattle.ccsl_state.specs.Held.{Held, trees_of, is_dead, derived_by, counts_of, left_count, right_count, counted_formula, tree_or_constraint, formula_in}
 use Rattle.ccsl_state.specs.Held.{Advances, StandsFor}

@@ -1,7 +1,6 @@
 -- The trees of a system after one more step, and that they give the meaning.
-use Rattle.std.proofs.lemmas.Grind.{common_steps}
-use Rattle.std.proofs.Common.{◌≡◌, ℕ, zero, suc, ◌+◌, ◌-◌, ◌<◌, ◌≤◌, ⊎_elim, List, [], ◌∷◌, ◌++◌, length, Bool, true, false, Some, None, slice_get, nat_eq}
-use Rattle.std.proofs.Common.{◌&&◌, ◌||◌, if◌then◌else◌, refl, sym, ap, ap₂, ◌∙◌, arith, length-append, eq-eqb, lt-ltb}
+use Rattle.std.proofs.Common.{◌≡◌, ℕ, zero, suc, ◌+◌, ◌-◌, ◌<◌, ◌≤◌, ⊎_elim, List, [], ◌∷◌, ◌++◌, length, Bool, true, false, Some, None, slice_get}
+use Rattle.std.proofs.Common.{if◌then◌else◌, refl, sym, ap, ap₂, ◌∙◌, arith, length-append, eq-eqb, lt-ltb}
 use Rattle.std.proofs.lemmas.Bool.{cases_eq, ne_eqb}
 use mathlib.Core.Path.{fun_ext}
 use Rattle.ccsl_base.specs.Clocks.{ticks_in, with_clock}

@@ -1,9 +1,8 @@
 -- A STEP THAT VISITS ONLY WHAT HEARS SOMETHING: a definition that waits for its visit is untouched, and one that does not is done.
-use Rattle.std.proofs.Common.{◌≡◌, ℕ, zero, suc, ◌+◌, ◌<◌, ◌≤◌, ⊎_elim, List, [], ◌∷◌, length, Bool, true, false, not, ◌&&◌, ◌||◌, Option, Some}
-use Rattle.std.proofs.Common.{None, slice_get, slice_set, slice_index_or, nat_eq, eq-eqb, refl, sym, ap, ap₂, subst}
+use Rattle.std.proofs.Common.{◌≡◌, ℕ, ◌+◌, ◌<◌, ◌≤◌, ⊎_elim, List, [], length, Bool, true, false, not, ◌&&◌, ◌||◌}
+use Rattle.std.proofs.Common.{slice_set, slice_index_or, nat_eq, sym, ap, subst}
 use Rattle.std.proofs.Common.{◌∙◌, arith}
-use Rattle.std.proofs.lemmas.Bool.{cases_eq, ne_eqb, and_parts, or_cases, cases_Bool, or_parts, not-false, both_ways, not-true}
-use Rattle.std.proofs.Math.Bool.{and-true}
+use Rattle.std.proofs.lemmas.Bool.{cases_eq, not-false}
 use Rattle.std.proofs.lemmas.List.{length-set, get_or-set_same, get_or-set_other}
 use Rattle.std.proofs.lemmas.Option.{slice_get_within}
 use Rattle.ccsl_base.specs.Clocks.{ticks_in, is_ascending, are_below}
@@ -11,14 +10,14 @@ use Rattle.ccsl_base.specs.Changes.{put_clock}
 use Rattle.std.proofs.lemmas.Grind.{common_steps}
 use Rattle.ccsl_base.proofs.Sets.{ticks_in-put_same, ticks_in-put_other}
 use Rattle.ccsl_formula.specs.Formula.{eval}
-use Rattle.ccsl_kernel.specs.Syntax.{Expression, System}
+use Rattle.ccsl_kernel.specs.Syntax.{System}
 use Rattle.ccsl_kernel.specs.Accepted.{IsAccepted}
 use Rattle.ccsl_kernel.proofs.Sets.{NoneFrom-are_below}
 use Rattle.ccsl_state.specs.Tree.{Tree, TNever, next, formula_of, dead_of}
 use Rattle.ccsl_state.specs.Moves.{gone_in}
 use Rattle.ccsl_state.specs.States.{put}
 use Rattle.ccsl_state.specs.Within.{TreeWithin}
-use Rattle.ccsl_state.specs.Quiet.{named_by, reads, is_settled}
+use Rattle.ccsl_state.specs.Quiet.{reads, is_settled}
 use Rattle.ccsl_state.specs.Passing.{tree_number, IsFollowed, AreReaders, AreKept, IsPassed}
 use Rattle.ccsl_state.proofs.StateLaws.{put_same, put_other}
 use Rattle.ccsl_state.proofs.WithinLaws.{tick_same, dead_same, next_same, next_within}

@@ -1,5 +1,4 @@
 -- A definition's region, and those behind it.
-use Rattle.std.proofs.lemmas.Grind.{common_steps}
 use Rattle.std.proofs.Common.{rules, ◌≡◌, suc, ◌<◌, ◌+◌, length, refl, sym, ap, ap₂, ◌∙◌, arith}
 use Rattle.ccsl_formula.specs.declared.scope.Scope.{Scope}
 use Rattle.ccsl_state.specs.States.{put, derived_in}

@@ -1,9 +1,6 @@
 -- The bits lie in front of the row.
 use Rattle.std.proofs.Common.{arith}
 use Rattle.std.proofs.lemmas.Grind.{common_steps}
-use Rattle.std.proofs.Common.{◌++◌, false, sym, ap, ap₂, ◌∙◌}
-use Rattle.ccsl_state.specs.Tree.{two_ticks, two_dead, two_next}
-use Rattle.ccsl_state.specs.Layout.{lag_at}
 use Rattle.ccsl_state.proofs.Frame.{lag_front}
 use Rattle.ccsl_state.proofs.flat.lag_clocks.Goals as goal
 

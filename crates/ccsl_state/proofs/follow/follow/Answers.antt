@@ -1,6 +1,6 @@
 -- Each visit leaves what is done done and what waits untouched, and at the end nothing waits.
 use Rattle.std.proofs.lemmas.Grind.{common_steps}
-use Rattle.std.proofs.Common.{◌≡◌, ◌+◌, ◌<◌, length, slice_get, sym, ap, subst, ◌∙◌, arith}
+use Rattle.std.proofs.Common.{◌≡◌, ◌+◌, length, ap, subst, arith}
 use Rattle.std.proofs.lemmas.Option.{slice_get-get_or}
 use Rattle.ccsl_formula.specs.declared.scope.Scope.{Scope}
 use Rattle.ccsl_state.specs.Regions.{trees_from}
@@ -9,7 +9,7 @@ use Rattle.ccsl_state.specs.Visits.{IsEntered}
 use Rattle.ccsl_state.proofs.PlaceLaws.{places_len}
 use Rattle.ccsl_state.proofs.WholeLaws.{whole_regions}
 use Rattle.ccsl_state.proofs.StandLaws.{trees_len}
-use Rattle.ccsl_state.proofs.Visiting.{begins, ends, passes, one_more, later, reader}
+use Rattle.ccsl_state.proofs.Visiting.{begins, ends, one_more, later, reader}
 use Rattle.ccsl_state.proofs.Entering.{visit_is, lowest_below, lowest_above, lowest_most, unsettled_wait, readers_wait, followed_wait}
 use Rattle.ccsl_state.proofs.follow.follow.Goals as goal
 

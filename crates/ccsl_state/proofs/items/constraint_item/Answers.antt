@@ -1,5 +1,4 @@
 -- The two counts of a constraint.
-use Rattle.std.proofs.lemmas.Grind.{common_steps}
 use Rattle.std.proofs.Common.{◌≡◌, ◌+◌, ◌-◌, ◌*◌, length, drop, slice_index, sym, ap, ap₂, ◌∙◌, arith}
 use Rattle.ccsl_kernel.specs.Items.{relation_formula}
 use Rattle.ccsl_state.specs.Layout.{count_of}

@@ -1,8 +1,6 @@
 -- A definition at its place.
 use Rattle.std.proofs.lemmas.Grind.{common_steps}
-use Rattle.std.proofs.Common.{[], Some, option_map, sym, ap, ◌∙◌, arith}
-use Rattle.ccsl_state.specs.Tree.{formula_of}
-use Rattle.ccsl_state.specs.Regions.{tree}
+use Rattle.std.proofs.Common.{arith}
 use Rattle.ccsl_state.proofs.Each.{outside, placed_region}
 use Rattle.ccsl_state.proofs.items.definition_formula.Goals as goal
 

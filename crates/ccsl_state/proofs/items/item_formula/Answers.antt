@@ -1,6 +1,6 @@
 -- A definition has its place.
 use Rattle.std.proofs.lemmas.Grind.{common_steps}
-use Rattle.std.proofs.Common.{◌<◌, length, slice_get, sym, ap, ◌∙◌, arith}
+use Rattle.std.proofs.Common.{arith}
 use Rattle.std.proofs.lemmas.Option.{slice_get-get_or}
 use Rattle.ccsl_state.proofs.PlaceLaws.{places_len}
 use Rattle.ccsl_state.proofs.items.item_formula.Goals as goal

@@ -1,9 +1,6 @@
 -- One place more.
-use Rattle.std.proofs.lemmas.Grind.{common_steps}
-use Rattle.std.proofs.Common.{◌≡◌, take, length, ap, ◌∙◌, arith}
-use Rattle.std.proofs.Math.Seq.{take-length}
+use Rattle.std.proofs.Common.{arith}
 use Rattle.ccsl_kernel.specs.Plain.{plain_expr}
-use Rattle.ccsl_state.specs.States.{places_from}
 use Rattle.ccsl_state.proofs.PlaceLaws.{next_place, more_places}
 use Rattle.ccsl_state.proofs.items.places.Goals as goal
 

@@ -1,8 +1,5 @@
 -- A cell that is not 0, and one that is.
-use Rattle.std.proofs.Common.{◌≡◌, length, take, sym, ap, ◌∙◌, arith}
-use Rattle.std.proofs.Math.Seq.{take-length}
-use Rattle.ccsl_state.specs.Tree.{any_set}
-use Rattle.ccsl_state.specs.Layout.{bits_of}
+use Rattle.std.proofs.Common.{arith}
 use Rattle.ccsl_state.proofs.AnyBit.{none_more, one_is}
 use Rattle.ccsl_state.proofs.lag.is_any_cell.Goals as goal
 

@@ -1,6 +1,6 @@
 -- A bit that is set, and one that is not.
 use Rattle.std.proofs.lemmas.Grind.{common_steps}
-use Rattle.std.proofs.Common.{◌<◌, length, sym, ◌∙◌, arith}
+use Rattle.std.proofs.Common.{sym, ◌∙◌, arith}
 use Rattle.ccsl_state.specs.Layout.{bits_of}
 use Rattle.ccsl_state.proofs.Bits.{bits_of_len}
 use Rattle.ccsl_state.proofs.Rings.{any_at, any_more}

@@ -1,7 +1,5 @@
-use Rattle.std.proofs.Common.{[], ◌∷◌, ◌++◌, sym, ap, ◌∙◌}
 use Rattle.std.proofs.Common.{arith}
 use Rattle.std.proofs.lemmas.Grind.{common_steps}
-use Rattle.ccsl_kernel.specs.Runs.{completed}
 use Rattle.ccsl_kernel.proofs.Completion.{completed-append}
 use Rattle.ccsl_state.proofs.StandLaws.{stands_derived}
 use Rattle.ccsl_state.proofs.laws.derived_step_completes.Goals as goal

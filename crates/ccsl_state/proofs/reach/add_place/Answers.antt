@@ -1,10 +1,7 @@
 -- A clock names itself.
 use Rattle.std.proofs.Common.{arith}
 use Rattle.std.proofs.lemmas.Grind.{common_steps}
-use Rattle.std.proofs.Common.{◌||◌, sym, ap, ◌∙◌}
-use Rattle.ccsl_base.specs.Clocks.{ticks_in}
 use Rattle.ccsl_kernel.proofs.Sets.{ticks_in-with_clock}
-use Rattle.ccsl_state.specs.Reach.{place_names}
 use Rattle.ccsl_state.proofs.reach.add_place.Goals as goal
 
 pub returns-in-Clock : goal.returns-in-Clock

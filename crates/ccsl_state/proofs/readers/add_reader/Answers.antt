@@ -1,8 +1,6 @@
 -- One clock more.
 use Rattle.std.proofs.Common.{arith}
 use Rattle.std.proofs.lemmas.Grind.{common_steps}
-use Rattle.std.proofs.Common.{sym, ap, ◌∙◌}
-use Rattle.ccsl_base.specs.Clocks.{with_clock}
 use Rattle.ccsl_state.proofs.Entering.{adding_more, adding_within}
 use Rattle.ccsl_state.proofs.readers.add_reader.Goals as goal
 

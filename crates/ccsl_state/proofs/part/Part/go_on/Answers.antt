@@ -1,6 +1,4 @@
 -- The followed definitions go on as all do.
-use Rattle.std.proofs.Common.{arith}
-use Rattle.std.proofs.lemmas.Grind.{common_steps}
 use Rattle.std.proofs.Common.{◌≡◌, ℕ, ◌++◌, ◌∷◌, [], length, drop, true, slice_get, refl, sym, ap, ap₂, subst, ◌∙◌}
 use Rattle.std.specs.Vec.{with_items}
 use Rattle.ccsl_base.specs.Clocks.{are_below, is_ascending}
@@ -8,7 +6,6 @@ use Rattle.ccsl_kernel.specs.Runs.{full_step}
 use Rattle.ccsl_state.specs.States.{trees_in}
 use Rattle.ccsl_state.specs.Part.{HeldPart, followed_tree, part_of, PartStandsFor}
 use Rattle.ccsl_state.specs.PartLaid.{held_part}
-use Rattle.ccsl_state.specs.Passing.{AreKept}
 use Rattle.ccsl_state.proofs.Regions.{front_head}
 use Rattle.ccsl_state.proofs.PartMeans.{passed_by, part_step, part_stands}
 use Rattle.ccsl_state.proofs.part.Part.go_on.Goals as goal

@@ -1,11 +1,8 @@
 -- There is room for the regions, and all definitions are at their birth.
 use Rattle.std.proofs.lemmas.Grind.{common_steps}
-use Rattle.std.proofs.Common.{rules, ◌≡◌, length, drop, sym, ap, subst, ◌∙◌, arith}
+use Rattle.std.proofs.Common.{◌≡◌, length, drop, ap, ◌∙◌, arith}
 use Rattle.std.specs.Vec.{with_items}
-use Rattle.ccsl_state.specs.Reach.{IsClosed}
-use Rattle.ccsl_state.specs.States.{trees_in, opened_all}
-use Rattle.ccsl_state.specs.Held.{Held, calls_of, trees_of}
-use Rattle.ccsl_state.specs.Passing.{AreReaders, AreKept}
+use Rattle.ccsl_state.specs.Held.{Held, trees_of}
 use Rattle.ccsl_state.proofs.Regions.{front_head}
 use Rattle.ccsl_state.proofs.WholeLaws.{ready_table}
 use Rattle.ccsl_state.proofs.PartMeans.{part_opened, kept_opened}

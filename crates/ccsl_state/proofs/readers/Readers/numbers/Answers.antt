@@ -1,9 +1,6 @@
 -- One definition more.
 use Rattle.std.proofs.Common.{arith}
 use Rattle.std.proofs.lemmas.Grind.{common_steps}
-use Rattle.std.proofs.Common.{ap, ◌∙◌, ◌+◌}
-use Rattle.ccsl_base.specs.Clocks.{ticks_in}
-use Rattle.ccsl_formula.specs.declared.scope.Scope.{Scope}
 use Rattle.ccsl_state.proofs.Entering.{numbers_more}
 use Rattle.ccsl_state.proofs.readers.Readers.numbers.Goals as goal
 

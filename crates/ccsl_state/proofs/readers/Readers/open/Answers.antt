@@ -1,10 +1,7 @@
 -- One definition more: its number stands with the clocks that it names, where it is followed.
 use Rattle.std.proofs.lemmas.Grind.{common_steps}
-use Rattle.std.proofs.Common.{◌≡◌, ◌+◌, ◌&&◌, ◌||◌, [], nat_eq, length, slice_index_or, sym, ap, ap₂, subst, ◌∙◌, arith}
-use Rattle.std.proofs.lemmas.List.{with_items_is}
+use Rattle.std.proofs.Common.{arith}
 use Rattle.std.proofs.lemmas.Option.{slice_get_within}
-use Rattle.ccsl_base.specs.Clocks.{ticks_in}
-use Rattle.ccsl_formula.specs.declared.scope.Scope.{Scope}
 use Rattle.ccsl_kernel.specs.Plain.{plain_expr}
 use Rattle.ccsl_state.proofs.ReachLaws.{names_few, definition_names, definition_at}
 use Rattle.ccsl_state.proofs.Entering.{named_alone, read_all}

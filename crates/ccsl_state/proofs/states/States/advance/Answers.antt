@@ -1,6 +1,4 @@
 -- The row goes on as the list does.
-use Rattle.std.proofs.Common.{arith}
-use Rattle.std.proofs.lemmas.Grind.{common_steps}
 use Rattle.std.proofs.Common.{◌≡◌, length, drop, sym, ap, subst, ◌∙◌}
 use Rattle.std.specs.Vec.{with_items}
 use Rattle.ccsl_kernel.specs.Accepted.{IsAccepted}

@@ -1,11 +1,6 @@
 -- The kept set has the deaths that the trees tell.
 use Rattle.std.proofs.Common.{arith}
 use Rattle.std.proofs.lemmas.Grind.{common_steps}
-use Rattle.std.proofs.Common.{◌+◌, ap, ap₂, subst, ◌∙◌}
-use Rattle.ccsl_base.specs.Clocks.{ticks_in}
-use Rattle.ccsl_formula.specs.declared.scope.Scope.{Scope}
-use Rattle.ccsl_kernel.specs.Accepted.{IsAccepted}
-use Rattle.ccsl_state.specs.Held.{Held, is_dead}
 use Rattle.ccsl_state.proofs.StandLaws.{stands_dead}
 use Rattle.ccsl_state.proofs.states.States.dead.Goals as goal
 

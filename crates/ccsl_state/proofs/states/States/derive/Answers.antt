@@ -1,9 +1,6 @@
 -- The derived step is the full one.
 use Rattle.std.proofs.Common.{arith}
 use Rattle.std.proofs.lemmas.Grind.{common_steps}
-use Rattle.std.proofs.Common.{ap, subst, ◌∙◌}
-use Rattle.ccsl_kernel.specs.Accepted.{IsAccepted}
-use Rattle.ccsl_state.specs.Held.{Held, derived_by}
 use Rattle.ccsl_state.proofs.StandLaws.{stands_derived}
 use Rattle.ccsl_state.proofs.states.States.derive.Goals as goal
 

@@ -4,7 +4,6 @@ use Rattle.std.proofs.lemmas.Grind.{common_steps}
 use Rattle.std.proofs.Common.{◌≡◌, length, sym, ap, subst, ◌∙◌}
 use Rattle.ccsl_formula.specs.Variables.{ReadsBelow}
 use Rattle.ccsl_formula.specs.Plain.{plain}
-use Rattle.ccsl_kernel.specs.Accepted.{IsAccepted}
 use Rattle.ccsl_state.specs.Held.{Held, calls_of, formula_in}
 use Rattle.ccsl_state.specs.Laid.{held}
 use Rattle.ccsl_state.proofs.StandLaws.{trees_len, stands_formula, formula_below}
