@@ -14,7 +14,7 @@ use Rattle.ccsl_kernel.specs.Deep.{deep}
 use Rattle.ccsl_kernel.specs.Fit.{ActualsFit}
 use Rattle.ccsl_kernel.specs.Fitting.{ExprFits}
 use Rattle.ccsl_kernel.specs.Lives.{Step}
-use Rattle.ccsl_state.specs.declared.lay.Lay.{Lay}
+use Rattle.ccsl_state.specs.declared.layout.Layout.{Layout}
 use Rattle.ccsl_state.specs.declared.moved.Moved.{Moved}
 use Rattle.ccsl_state.specs.Tree.{formula_of, dead_of}
 use Rattle.ccsl_state.specs.Moves.{gone_in}
@@ -29,7 +29,7 @@ use Rattle.ccsl_state.proofs.Places.{ready_body, few_params}
 use Rattle.ccsl_state.proofs.Regions.{behind_head, cell_same, front_kept, rest_one, within}
 
 -- what is owed for the region of the body of a member
-pub body_ready : (lay : Lay) (g m own : ℕ) (b : Body) (e : Expr) (ρ : List Actual) (row : List ℕ) → HasTable lay → length lay.earlier.now ≡ g
+pub body_ready : (lay : Layout) (g m own : ℕ) (b : Body) (e : Expr) (ρ : List Actual) (row : List ℕ) → HasTable lay → length lay.earlier.now ≡ g
     → g < length lay.system.now.groups → IsAccepted lay.system.now → body_of lay.system.now.groups g m ≡ Some b → b.root ≡ plain_expr e
     → ActualsFit lay.system.now.words ρ → own + cells_in lay.earlier.now b.root ≤ length row → length row ≤ MAX_CELLS → IsReady lay false own e ρ row
 body_ready lay g m own b e ρ row table at below ok is root fit room few =
@@ -48,7 +48,7 @@ body_ready lay g m own b e ρ row table at below ok is root fit room few =
     }
 
 -- THE BODY in the region of a call
-pub call_body_is : (lay : Lay) (g m count : ℕ) (b : Body) (e : Expr) (ρ : List Actual) (row : List ℕ) → IsCallReady lay g row → IsAccepted lay.system.now
+pub call_body_is : (lay : Layout) (g m count : ℕ) (b : Body) (e : Expr) (ρ : List Actual) (row : List ℕ) → IsCallReady lay g row → IsAccepted lay.system.now
     → body_of lay.system.now.groups g m ≡ Some b → b.root ≡ plain_expr e → count ≡ length b.params → m ≡ slice_index row 0 % 2 ^ 32
     → ρ ≡ map (actual_of lay.system.now.words) (take count (drop 1 row)) → ActualsFit lay.system.now.words ρ → IsCallBody lay g e count ρ row
 call_body_is lay g m count b e ρ row call ok is root params member stand fit =
@@ -75,7 +75,7 @@ call_body_is lay g m count b e ρ row call ok is root params member stand fit =
     }
 
 -- ITS REGION REWRITTEN
-module _ (lay : Lay) (g : ℕ) (root : Expr) (count : ℕ) (ρ : List Actual) (row left region region' : List ℕ) (body : IsCallBody lay g root count ρ row)
+module _ (lay : Layout) (g : ℕ) (root : Expr) (count : ℕ) (ρ : List Actual) (row left region region' : List ℕ) (body : IsCallBody lay g root count ρ row)
     (row_is : row ≡ left ++ region) (len : length left ≡ 1 + count) where
   pub body_moved : (s : Step) (gone : List ℕ) (r : Moved) → IsAdvanced lay ρ (tree lay root ρ) (size lay root) s gone region region' r → r.tail ≡ None
       → IsRewritten lay (call_tree lay) s gone row (left ++ region') (record { tick = r.tick; dead = r.dead; settled = r.settled })

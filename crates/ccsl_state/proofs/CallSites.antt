@@ -11,7 +11,7 @@ use Rattle.ccsl_kernel.specs.Syntax.{Body, ECall, System, body_of}
 use Rattle.ccsl_kernel.specs.Cells.{cells_in}
 use Rattle.ccsl_kernel.specs.Fit.{ActualsFit}
 use Rattle.ccsl_kernel.specs.Fitting.{ValuesFit, ExprFits}
-use Rattle.ccsl_state.specs.declared.lay.Lay.{Lay}
+use Rattle.ccsl_state.specs.declared.layout.Layout.{Layout}
 use Rattle.ccsl_state.specs.Tree.{opening}
 use Rattle.ccsl_state.specs.Layout.{read, region_of}
 use Rattle.ccsl_state.specs.Standing.{IsCall, Stands, IsEnough}
@@ -37,12 +37,12 @@ module _ (K : System) (earlier : List ℕ) (group : ℕ) where
   site_room enough below few = grind (arith, common_steps, call_room, length-take-le)
 
 -- THE REGION OF A CALL, seen from the expression and from the place of its group
-pub record IsSite (lay before : Lay) (e : Expr) (ρ : List Actual) (group : ℕ) (row : List ℕ) : Type 0 where
+pub record IsSite (lay before : Layout) (e : Expr) (ρ : List Actual) (group : ℕ) (row : List ℕ) : Type 0 where
   pub ready : IsCallReady before group row
   pub same : (row : List ℕ) → call_tree before row ≡ tree lay e ρ row
   pub room : HasRoom before group (size lay e)
 
-pub site : {lay before : Lay} {e : Expr} {group member : ℕ} {args : List Value} {ρ : List Actual} {row : List ℕ} → IsReady lay false 0 e ρ row
+pub site : {lay before : Layout} {e : Expr} {group member : ℕ} {args : List Value} {ρ : List Actual} {row : List ℕ} → IsReady lay false 0 e ρ row
     → plain_expr e ≡ ECall group member args → group < length lay.earlier.now → IsBefore lay group before → IsSite lay before e ρ group row
 site {lay} {before} {e} {group} {member} {args} {ρ} {row} ready is below at =
     let K = lay.system.now in
@@ -71,11 +71,11 @@ site {lay} {before} {e} {group} {member} {args} {ρ} {row} ready is below at =
     }
 
 -- at its birth, with the values of its arguments
-pub record IsBirthSite (lay before : Lay) (e : Expr) (ρ : List Actual) (group member : ℕ) (args : List Value) (row : List ℕ) : Type 0 where
+pub record IsBirthSite (lay before : Layout) (e : Expr) (ρ : List Actual) (group member : ℕ) (args : List Value) (row : List ℕ) : Type 0 where
   pub ready : IsBirthReady before group member args ρ row
   pub born : opening before.system.now (ECall group member args) ρ ≡ newborn lay e ρ
 
-pub birth_site : {lay before : Lay} {e : Expr} {group member : ℕ} {args values : List Value} {ρ : List Actual} {row : List ℕ}
+pub birth_site : {lay before : Layout} {e : Expr} {group member : ℕ} {args values : List Value} {ρ : List Actual} {row : List ℕ}
     → IsReady lay false 0 e ρ row → plain_expr e ≡ ECall group member args → group < length lay.earlier.now → IsBefore lay group before → values ≡ args
     → IsBirthSite lay before e ρ group member values row
 birth_site {lay} {before} {e} {group} {member} {args} {values} {ρ} {row} ready is below at same =

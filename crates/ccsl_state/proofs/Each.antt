@@ -15,7 +15,7 @@ use Rattle.ccsl_kernel.specs.Deep.{deep}
 use Rattle.ccsl_kernel.specs.Fitting.{ExprFits}
 use Rattle.ccsl_kernel.specs.Lives.{Step}
 use Rattle.ccsl_kernel.proofs.AcceptedParts.{definition_ready}
-use Rattle.ccsl_state.specs.declared.lay.Lay.{Lay}
+use Rattle.ccsl_state.specs.declared.layout.Layout.{Layout}
 use Rattle.ccsl_state.specs.Tree.{Tree, next, formula_of, dead_of}
 use Rattle.ccsl_state.specs.Moves.{gone_in}
 use Rattle.ccsl_state.specs.Layout.{read}
@@ -58,10 +58,10 @@ ready_definition K i e ok is =
     each_at x (e' ∷ es) (suc i) h is = let n : suc x + i ≡ x + suc i = omega arith in subst (λ k. IsDefinition K k e) n (each_at (suc x) es i h.1 is)
 
 -- THE REGION OF A DEFINITION, and those behind it
-pub outside : (lay : Lay) (own : ℕ) (e : Expr) (ρ : List Actual) (row : List ℕ) → IsReady lay true own e ρ row → IsReady lay false own e ρ row
+pub outside : (lay : Layout) (own : ℕ) (e : Expr) (ρ : List Actual) (row : List ℕ) → IsReady lay true own e ρ row → IsReady lay false own e ρ row
 outside lay own e ρ row r = grind (arith, common_steps, inner_stands)
 
-definition_region : (lay : Lay) (i : ℕ) (e : Expr) (row : List ℕ) → HasTable lay → length lay.earlier.now ≡ length lay.system.now.groups
+definition_region : (lay : Layout) (i : ℕ) (e : Expr) (row : List ℕ) → HasTable lay → length lay.earlier.now ≡ length lay.system.now.groups
     → IsAccepted lay.system.now → slice_get lay.system.now.definitions i ≡ Some (plain_expr e) → size lay e ≤ length row → length row ≤ MAX_CELLS
     → IsReady lay true 0 e [] row
 definition_region lay i e row table groups ok is room few =
@@ -77,7 +77,7 @@ definition_region lay i e row table groups ok is room few =
       few = few;
     }
 
-pub record IsFirst (lay : Lay) (i : ℕ) (e : Expr) (row : List ℕ) : Type 0 where
+pub record IsFirst (lay : Layout) (i : ℕ) (e : Expr) (row : List ℕ) : Type 0 where
   pub ready : IsReady lay true 0 e [] row
   pub outside : IsReady lay false 0 e [] row
   pub placed : is_own lay.system.now.words (length lay.earlier.now) (plain_expr e) [] ≡ false
@@ -85,7 +85,7 @@ pub record IsFirst (lay : Lay) (i : ℕ) (e : Expr) (row : List ℕ) : Type 0 wh
   pub split : drop i lay.system.now.definitions ≡ plain_expr e ∷ drop (i + 1) lay.system.now.definitions
   pub behind : (n : ℕ) (rest : List ℕ) → n ≡ size lay e → n + length rest ≡ length row → HasRegions lay (i + 1) rest
 
-pub first_region : (lay : Lay) (i : ℕ) (e : Expr) (row : List ℕ) → HasRegions lay i row → IsAccepted lay.system.now
+pub first_region : (lay : Layout) (i : ℕ) (e : Expr) (row : List ℕ) → HasRegions lay i row → IsAccepted lay.system.now
     → slice_get lay.system.now.definitions i ≡ Some (plain_expr e) → IsFirst lay i e row
 first_region lay i e row has ok is =
     let K = lay.system.now in
@@ -110,11 +110,11 @@ first_region lay i e row has ok is =
     }
 
 -- where its region has been rewritten, and those behind it then: the trees
-pub record AreTrees (lay : Lay) (i : ℕ) (e : Expr) (row row' left rest : List ℕ) : Type 0 where
+pub record AreTrees (lay : Layout) (i : ℕ) (e : Expr) (row row' left rest : List ℕ) : Type 0 where
   pub old : trees_from lay i row ≡ tree lay e [] row ∷ trees_from lay (i + 1) rest
   pub new : (rest' : List ℕ) → trees_from lay i (left ++ rest') ≡ tree lay e [] row' ∷ trees_from lay (i + 1) rest'
 
-pub first_trees : (lay : Lay) (i : ℕ) (e : Expr) (row row' left rest : List ℕ) → IsFirst lay i e row → row' ≡ left ++ rest → length left ≡ size lay e
+pub first_trees : (lay : Layout) (i : ℕ) (e : Expr) (row row' left rest : List ℕ) → IsFirst lay i e row → row' ≡ left ++ rest → length left ≡ size lay e
     → drop (size lay e) row' ≡ drop (size lay e) row → AreTrees lay i e row row' left rest
 first_trees lay i e row row' left rest first is len kept =
     let K = lay.system.now in
@@ -133,12 +133,12 @@ first_trees lay i e row row' left rest first is len kept =
     }
 
 -- THE REGION OF A DEFINITION AT ITS PLACE
-pub record IsPlaced (lay : Lay) (i : ℕ) (e : Expr) (place : ℕ) (row : List ℕ) : Type 0 where
+pub record IsPlaced (lay : Layout) (i : ℕ) (e : Expr) (place : ℕ) (row : List ℕ) : Type 0 where
   pub room : place + size lay e ≤ length row
   pub ready : (region : List ℕ) → place + length region ≡ length row → IsReady lay true 0 e [] region
   pub tree_is : slice_get (trees_from lay 0 row) i ≡ Some (tree lay e [] (drop place row))
 
-pub placed_region : (lay : Lay) (i : ℕ) (e : Expr) (place : ℕ) (row : List ℕ) → HasRegions lay 0 row → IsAccepted lay.system.now
+pub placed_region : (lay : Layout) (i : ℕ) (e : Expr) (place : ℕ) (row : List ℕ) → HasRegions lay 0 row → IsAccepted lay.system.now
     → slice_get lay.system.now.definitions i ≡ Some (plain_expr e) → BeginsAt lay i place → IsPlaced lay i e place row
 placed_region lay i e place row has ok is at =
     let few = has.few in

@@ -17,7 +17,7 @@ use Rattle.ccsl_kernel.specs.Lives.{Step}
 use Rattle.ccsl_state.specs.Reach.{names_clock}
 use Rattle.ccsl_state.specs.Quiet.{named_by, reads}
 use Rattle.ccsl_state.specs.Passing.{AreReaders}
-use Rattle.ccsl_state.specs.declared.lay.Lay.{Lay}
+use Rattle.ccsl_state.specs.declared.layout.Layout.{Layout}
 use Rattle.ccsl_state.specs.declared.moved.Visited.{Visited}
 use Rattle.ccsl_state.specs.declared.follow.Passage.{Passage}
 use Rattle.ccsl_state.specs.States.{put}
@@ -146,7 +146,8 @@ put_already number member set is x = ⊎_elim
     (cases_eq x number)
 
 -- A VISIT, as the program makes it and enters it
-pub visit_is : (lay : Lay) (i clock : ℕ) (sets : List (List ℕ)) (row row' : List ℕ) (v : Visited) (s s' : Step) (old new : Passage) → clock ≡ lay.system.now.declared + i
+pub visit_is : (lay : Layout) (i clock : ℕ) (sets : List (List ℕ)) (row row' : List ℕ) (v : Visited) (s s' : Step)
+    (old new : Passage) → clock ≡ lay.system.now.declared + i
     → IsVisited lay i row row' s old.gone v →
     (e : IsEntered sets i clock v s s' old new)
     → IsVisit lay.system.now sets (trees_from lay 0 row) (trees_from lay 0 row') s s' old.gone new.gone old.waiting new.waiting old.unsettled

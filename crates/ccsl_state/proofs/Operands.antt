@@ -9,7 +9,7 @@ use Rattle.ccsl_kernel.specs.declared.expr.Expr.{Expr}
 use Rattle.ccsl_kernel.specs.Syntax.{System}
 use Rattle.ccsl_kernel.specs.Plain.{plain_expr}
 use Rattle.ccsl_kernel.specs.Lives.{Step}
-use Rattle.ccsl_state.specs.declared.lay.Lay.{Lay}
+use Rattle.ccsl_state.specs.declared.layout.Layout.{Layout}
 use Rattle.ccsl_state.specs.declared.moved.Born.{Born}
 use Rattle.ccsl_state.specs.declared.moved.Moved.{Moved}
 use Rattle.ccsl_state.specs.Tree.{Tree, Two, two_next, next, formula_of, dead_of}
@@ -24,7 +24,7 @@ use Rattle.ccsl_state.proofs.Frame.{read_same}
 use Rattle.ccsl_state.proofs.Regions.{two_regions}
 
 -- where it came to no call of the own group
-pub inside : (lay : Lay) (ρ : List Actual) (t : List ℕ → Tree) (n : ℕ) (s : Step) (gone row row' : List ℕ) (r : Moved)
+pub inside : (lay : Layout) (ρ : List Actual) (t : List ℕ → Tree) (n : ℕ) (s : Step) (gone row row' : List ℕ) (r : Moved)
     → IsAdvanced lay ρ t n s gone row row' r → r.tail ≡ None
     → IsRewritten lay t s gone row row' (record { tick = r.tick; dead = r.dead; settled = r.settled })
 inside lay ρ t n s gone row row' r o none = grind (arith, common_steps)
@@ -39,7 +39,7 @@ pair_settled gone None a d p q = refl
 pair_settled gone (Some o) a d p q = ap₂ (λ x y. x && y) p q
 
 -- TWO REGIONS behind an operator's own cells. The region of the first operand was rewritten, and then that of the second one; the own cells too
-module _ (lay : Lay) (ρ : List Actual) (at : List ℕ → Option Two) (own : ℕ) (front : (head rest : List ℕ) → length head ≡ own → at (head ++ rest) ≡ at head)
+module _ (lay : Layout) (ρ : List Actual) (at : List ℕ → Option Two) (own : ℕ) (front : (head rest : List ℕ) → length head ≡ own → at (head ++ rest) ≡ at head)
     (a d : Expr) (head head' rest middle left right right' row : List ℕ) (ready : IsReady lay true own a ρ row) (row_is : row ≡ head ++ rest)
     (len : length head ≡ own) (same : length head' ≡ length head) (middle_is : middle ≡ left ++ right) (size_is : length left ≡ size lay a) where
   row' : List ℕ

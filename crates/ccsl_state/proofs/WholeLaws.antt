@@ -18,7 +18,7 @@ use Rattle.ccsl_state.specs.Moves.{gone_in}
 use Rattle.ccsl_state.specs.Standing.{IsEnough}
 use Rattle.ccsl_state.specs.States.{put, cells_from, next_all, deaths_from, derived_in, passed_all, trees_in, opened_all}
 use Rattle.ccsl_state.specs.Below.{TreesBelow}
-use Rattle.ccsl_state.specs.declared.lay.Lay.{Lay}
+use Rattle.ccsl_state.specs.declared.layout.Layout.{Layout}
 use Rattle.ccsl_state.specs.Whole.{IsWhole}
 use Rattle.ccsl_state.specs.Ready.{HasRegions}
 use Rattle.ccsl_state.specs.Held.{calls_of, trees_of, deaths_of, counts_of, derived_by, CellsCount, Advances}
@@ -135,7 +135,7 @@ pub ready_table : (K : System) (C : List ℕ) → IsAccepted K → C ≡ calls_o
 ready_table K C ok is = subst (HasCells K) (sym is) (record { table = table_enough K; groups = table_len K.groups; room = table_room K ok; few = ok.few_cells })
 
 -- THE REGIONS lie before the constraints' cells
-pub whole_regions : (lay : Lay) (row front : List ℕ) → IsAccepted lay.system.now → IsWhole lay row → length front ≤ length row
+pub whole_regions : (lay : Layout) (row front : List ℕ) → IsAccepted lay.system.now → IsWhole lay row → length front ≤ length row
     → length row ≤ length front + 2 * length lay.system.now.constraints → HasRegions lay 0 front
 whole_regions lay row front ok whole most least =
     let ready = ready_table lay.system.now lay.earlier.now ok whole.calls in

@@ -9,7 +9,7 @@ use Rattle.ccsl_base.specs.Clocks.{ticks_in}
 use Rattle.ccsl_base.specs.Changes.{put_clock}
 use Rattle.ccsl_formula.specs.Formula.{eval}
 use Rattle.ccsl_kernel.specs.Lives.{Step}
-use Rattle.ccsl_state.specs.declared.lay.Lay.{Lay}
+use Rattle.ccsl_state.specs.declared.layout.Layout.{Layout}
 use Rattle.ccsl_state.specs.declared.moved.Visited.{Visited}
 use Rattle.ccsl_state.specs.declared.follow.Passage.{Passage}
 use Rattle.ccsl_state.specs.Tree.{Tree, formula_of, dead_of}
@@ -20,10 +20,10 @@ use Rattle.ccsl_state.specs.Regions.{trees_from, after}
 use Rattle.ccsl_state.specs.Passing.{tree_number}
 
 -- the tree of definition number i
-abbrev pub tree_at : Lay → ℕ → List ℕ → Tree
+abbrev pub tree_at : Layout → ℕ → List ℕ → Tree
 tree_at lay i row = tree_number (trees_from lay 0 row) i
 
-pub record IsVisited (lay : Lay) (i : ℕ) (row row' : List ℕ) (s : Step) (gone : List ℕ) (v : Visited) : Type 0 where
+pub record IsVisited (lay : Layout) (i : ℕ) (row row' : List ℕ) (s : Step) (gone : List ℕ) (v : Visited) : Type 0 where
   pub tick : v.tick ≡ eval (formula_of (tree_at lay i row)) s
   pub dead : v.dead ≡ dead_of (gone_in gone) (after lay s gone (tree_at lay i row))
   pub settled : v.settled ≡ true → is_settled (gone_in gone) (after lay s gone (tree_at lay i row)) ≡ true

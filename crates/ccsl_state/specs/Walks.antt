@@ -8,7 +8,7 @@ use Rattle.ccsl_formula.specs.Formula.{eval}
 use Rattle.ccsl_formula.specs.Plain.{plain}
 use Rattle.ccsl_kernel.specs.declared.actual.Actual.{Actual}
 use Rattle.ccsl_kernel.specs.Lives.{Step}
-use Rattle.ccsl_state.specs.declared.lay.Lay.{Lay}
+use Rattle.ccsl_state.specs.declared.layout.Layout.{Layout}
 use Rattle.ccsl_state.specs.declared.moved.Born.{Born}
 use Rattle.ccsl_state.specs.declared.moved.Heard.{Heard}
 use Rattle.ccsl_state.specs.declared.moved.Moved.{Moved}
@@ -33,14 +33,14 @@ pub record IsOpened (tree : List ℕ → Tree) (n : ℕ) (born : Tree) (gone row
   pub dead : r.dead ≡ dead_of (gone_in gone) born
   pub size : r.size ≡ n
 
-pub record IsAdvanced (lay : Lay) (ρ : List Actual) (tree : List ℕ → Tree) (n : ℕ) (s : Step) (gone row row' : List ℕ) (r : Moved) : Type 0 where
+pub record IsAdvanced (lay : Layout) (ρ : List Actual) (tree : List ℕ → Tree) (n : ℕ) (s : Step) (gone row row' : List ℕ) (r : Moved) : Type 0 where
   pub tick : r.tick ≡ eval (formula_of (tree row)) s
   pub settled : r.settled ≡ true → is_settled (gone_in gone) (after lay s gone (tree row)) ≡ true
   pub next : Outcome lay.system.now s (gone_in gone) (length lay.earlier.now) ρ (tree row) (tree row') r.dead r.tail
   pub rest : drop n row' ≡ drop n row
   pub size : r.size ≡ n
 
-pub record IsRewritten (lay : Lay) (tree : List ℕ → Tree) (s : Step) (gone row row' : List ℕ) (v : Visited) : Type 0 where
+pub record IsRewritten (lay : Layout) (tree : List ℕ → Tree) (s : Step) (gone row row' : List ℕ) (v : Visited) : Type 0 where
   pub tick : v.tick ≡ eval (formula_of (tree row)) s
   pub goes : tree row' ≡ after lay s gone (tree row)
   pub dead : v.dead ≡ dead_of (gone_in gone) (tree row')

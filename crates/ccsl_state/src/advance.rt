@@ -10,7 +10,7 @@ ghost use Rattle.ccsl_state.specs.Walks.{IsAdvanced, IsRewritten};
 use crate::call::call_body;
 use crate::cells::{is_then, own_cells, size_of};
 use crate::lag::{lag_cells, lag_dead, lag_moved, lag_ticks};
-use crate::lay::Lay;
+use crate::layout::Layout;
 use crate::moved::{Moved, Visited};
 use crate::name::{is_gone, name_ticks};
 use crate::node::{Unary, filter_from, two_dead, two_moved, two_ticks};
@@ -23,8 +23,8 @@ use ccsl_kernel::{Actual, Expr, ExprOp};
 /// cells the region has. It takes no memory.
 #[cycle(advance)]
 #[tactic(auto, using(crate::proofs::Places::inner_stands, crate::proofs::Regions::rest_one, crate::proofs::Regions::further))]
-pub fn advanced<'s>(
-    lay: &Lay<'s>,
+pub fn advance<'s>(
+    lay: &Layout<'s>,
     e: &'s Expr,
     actuals: &[Actual],
     row: &mut [u64],
@@ -50,7 +50,7 @@ pub fn advanced<'s>(
         Expr::Call { group, .. } => {
             if (*group as usize) < lay.earlier.len() {
                 let inner = lay.before(*group);
-                let stepped = call_advanced(&inner, *group, row, step, gone);
+                let stepped = advance_call(&inner, *group, row, step, gone);
                 Moved {
                     tick: stepped.tick,
                     dead: stepped.dead,
@@ -77,33 +77,33 @@ pub fn advanced<'s>(
         },
         Expr::Binary(op, a, d) => {
             if is_then(*op) {
-                then_advanced(lay, a, d, actuals, row, step, gone)
+                advance_then(lay, a, d, actuals, row, step, gone)
             } else {
-                two_advanced(lay, *op, a, d, actuals, row, step, gone)
+                advance_two(lay, *op, a, d, actuals, row, step, gone)
             }
         }
         Expr::Delay(a, m) => {
             let unary = Unary::Delay(m.number(actuals));
-            one_advanced(lay, unary, a, actuals, row, step, gone)
+            advance_one(lay, unary, a, actuals, row, step, gone)
         }
         Expr::Await(a, m) => {
             let unary = Unary::Await(m.number(actuals));
-            one_advanced(lay, unary, a, actuals, row, step, gone)
+            advance_one(lay, unary, a, actuals, row, step, gone)
         }
         Expr::Filter(a, word) => {
             let words = lay.system.words();
             let unary = filter_from(words, word.suffix(words, actuals));
-            one_advanced(lay, unary, a, actuals, row, step, gone)
+            advance_one(lay, unary, a, actuals, row, step, gone)
         }
-        Expr::Delayed(a, m, d) => lag_advanced(lay, a, *m, d, actuals, row, step, gone),
+        Expr::Delayed(a, m, d) => advance_lag(lay, a, *m, d, actuals, row, step, gone),
         Expr::If(test, a, d) => {
             let (_, rest) = row.split_at_mut(1);
             if test.holds(lay.system.words(), actuals) {
-                let moved = advanced(lay, a, actuals, rest, step, gone);
+                let moved = advance(lay, a, actuals, rest, step, gone);
                 let size = 1 + moved.size.max(size_of(d, lay.earlier));
                 Moved { size, ..moved }
             } else {
-                let moved = advanced(lay, d, actuals, rest, step, gone);
+                let moved = advance(lay, d, actuals, rest, step, gone);
                 let size = 1 + moved.size.max(size_of(a, lay.earlier));
                 Moved { size, ..moved }
             }
@@ -114,8 +114,8 @@ pub fn advanced<'s>(
 /// An operator of one operand.
 #[cycle(advance)]
 #[tactic(auto, using(crate::proofs::Places::inner_stands))]
-fn one_advanced<'s>(
-    lay: &Lay<'s>,
+fn advance_one<'s>(
+    lay: &Layout<'s>,
     unary: Unary,
     a: &'s Expr,
     actuals: &[Actual],
@@ -129,7 +129,7 @@ fn one_advanced<'s>(
     ensures tail { result.tail ≡ None }
 {
     let (head, rest) = row.split_at_mut(1);
-    let moved = advanced(lay, a, actuals, rest, step, gone);
+    let moved = advance(lay, a, actuals, rest, step, gone);
     let stepped = unary.stepped(lay.system.words(), &mut head[0], moved.tick, moved.dead);
     Moved {
         tick: stepped.tick,
@@ -143,8 +143,8 @@ fn one_advanced<'s>(
 /// An operator of two operands.
 #[cycle(advance)]
 #[tactic(auto, using(crate::proofs::Places::inner_stands))]
-fn two_advanced<'s>(
-    lay: &Lay<'s>,
+fn advance_two<'s>(
+    lay: &Layout<'s>,
     op: ExprOp,
     a: &'s Expr,
     d: &'s Expr,
@@ -161,9 +161,9 @@ fn two_advanced<'s>(
     ensures tail { result.tail ≡ None }
 {
     let (head, rest) = row.split_at_mut(own_cells(op));
-    let left = advanced(lay, a, actuals, rest, step, gone);
+    let left = advance(lay, a, actuals, rest, step, gone);
     let (_, behind) = rest.split_at_mut(left.size);
-    let right = advanced(lay, d, actuals, behind, step, gone);
+    let right = advance(lay, d, actuals, behind, step, gone);
     let tick = two_ticks(op, head, left.tick, right.tick);
     two_moved(op, head, left.tick, right.tick);
     Moved {
@@ -178,8 +178,8 @@ fn two_advanced<'s>(
 /// A then. Where its left operand has died, its right operand is born: in its region, or as a call of the own group.
 #[cycle(advance)]
 #[tactic(auto, using(crate::proofs::Places::inner_stands, crate::proofs::Regions::rest_one, crate::proofs::Regions::further))]
-fn then_advanced<'s>(
-    lay: &Lay<'s>,
+fn advance_then<'s>(
+    lay: &Layout<'s>,
     a: &'s Expr,
     d: &'s Expr,
     actuals: &[Actual],
@@ -195,11 +195,11 @@ fn then_advanced<'s>(
 {
     let (head, rest) = row.split_at_mut(1);
     if head[0] != 0 {
-        let right = advanced(lay, d, actuals, rest, step, gone);
+        let right = advance(lay, d, actuals, rest, step, gone);
         let size = 1 + right.size.max(size_of(a, lay.earlier));
         return Moved { size, ..right };
     }
-    let left = advanced(lay, a, actuals, rest, step, gone);
+    let left = advance(lay, a, actuals, rest, step, gone);
     let size = 1 + left.size.max(size_of(d, lay.earlier));
     if !left.dead {
         return Moved {
@@ -235,8 +235,8 @@ fn then_advanced<'s>(
 /// The region of a call to the group behind all that `lay` has. Where its body comes to a call of the group, the whole region is
 /// written anew; the parameters were taken from their cells before.
 #[cycle(advance)]
-fn call_advanced(
-    lay: &Lay<'_>,
+fn advance_call(
+    lay: &Layout<'_>,
     group: u32,
     row: &mut [u64],
     step: &ClockSet,
@@ -252,7 +252,7 @@ fn call_advanced(
         Some(body) => {
             let actuals = &array[..body.count];
             let (_, region) = row.split_at_mut(1 + body.count);
-            let moved = advanced(lay, body.root, actuals, region, step, gone);
+            let moved = advance(lay, body.root, actuals, region, step, gone);
             match moved.tail {
                 None => Visited {
                     tick: moved.tick,
@@ -277,8 +277,8 @@ fn call_advanced(
 /// A delayed.
 #[cycle(advance)]
 #[tactic(auto, using(crate::proofs::Places::inner_stands))]
-fn lag_advanced<'s>(
-    lay: &Lay<'s>,
+fn advance_lag<'s>(
+    lay: &Layout<'s>,
     a: &'s Expr,
     m: u32,
     d: &'s Expr,
@@ -297,9 +297,9 @@ fn lag_advanced<'s>(
     ensures tail { result.tail ≡ None }
 {
     let (head, rest) = row.split_at_mut(lag_cells(m));
-    let left = advanced(lay, a, actuals, rest, step, gone);
+    let left = advance(lay, a, actuals, rest, step, gone);
     let (_, behind) = rest.split_at_mut(left.size);
-    let right = advanced(lay, d, actuals, behind, step, gone);
+    let right = advance(lay, d, actuals, behind, step, gone);
     let tick = lag_ticks(m, head, right.tick);
     lag_moved(m, head, left.tick, right.tick);
     Moved {

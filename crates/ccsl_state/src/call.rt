@@ -5,7 +5,7 @@ ghost use Rattle.ccsl_state.specs.Tree.{TNever};
 ghost use Rattle.ccsl_state.specs.Regions.{call_tree};
 ghost use Rattle.ccsl_state.specs.Ready.{IsCallReady, IsCallBody};
 
-use crate::lay::Lay;
+use crate::layout::Layout;
 use crate::params::actuals_at;
 use ccsl_kernel::{Actual, Expr};
 
@@ -19,7 +19,7 @@ pub struct CallBody<'s> {
 /// The body in the region of a call to the group behind all that `lay` has, and what its parameters stand for.
 #[inline(always)]
 pub fn call_body<'s>(
-    lay: &Lay<'s>,
+    lay: &Layout<'s>,
     group: u32,
     row: &[u64],
     actuals: &mut [Actual; 8],

@@ -5,9 +5,9 @@ ghost use Rattle.ccsl_state.specs.States.{put, passed_all, deaths_from, derived_
 ghost use Rattle.ccsl_state.specs.Regions.{trees_from};
 ghost use Rattle.ccsl_state.specs.Ready.{HasRegions};
 
-use crate::advance::advanced;
+use crate::advance::advance;
 use crate::heard::heard;
-use crate::lay::Lay;
+use crate::layout::Layout;
 use crate::open::opened;
 use ccsl_base::{ClockSet, MAX_CLOCKS};
 
@@ -22,7 +22,7 @@ pub fn put(set: &mut ClockSet, clock: u32, member: bool)
 }
 
 /// Writes the regions of the definitions from number `i` on at the birth. `gone` has the dead clocks before, and then all.
-pub fn open_from(lay: &Lay<'_>, i: u32, row: &mut [u64], gone: &mut ClockSet)
+pub fn open_from(lay: &Layout<'_>, i: u32, row: &mut [u64], gone: &mut ClockSet)
     requires { HasRegions lay.now i row.old }
     ensures trees { trees_from lay.now i row.new ≡
         opened_all lay.now.system.now (drop i lay.now.system.now.definitions) }
@@ -40,7 +40,7 @@ pub fn open_from(lay: &Lay<'_>, i: u32, row: &mut [u64], gone: &mut ClockSet)
 /// Rewrites the regions of the definitions from number `i` on after a step. `step` has the ticks of the clocks before, and then
 /// all; `gone` has those that are dead after it.
 pub fn advance_from(
-    lay: &Lay<'_>,
+    lay: &Layout<'_>,
     i: u32,
     row: &mut [u64],
     step: &mut ClockSet,
@@ -56,7 +56,7 @@ pub fn advance_from(
         (trees_from lay.now i row.new) }
 {
     if i < lay.system.definitions() {
-        let moved = advanced(lay, lay.system.definition(i), &[], row, step, gone);
+        let moved = advance(lay, lay.system.definition(i), &[], row, step, gone);
         let clock = lay.system.scope().declared + i;
         put(step, clock, moved.tick);
         put(gone, clock, moved.dead);
@@ -66,7 +66,7 @@ pub fn advance_from(
 }
 
 /// Adds to a step the ticks of the definitions from number `i` on, each under those before it.
-pub fn derive_from(lay: &Lay<'_>, i: u32, row: &[u64], step: &mut ClockSet)
+pub fn derive_from(lay: &Layout<'_>, i: u32, row: &[u64], step: &mut ClockSet)
     requires { HasRegions lay.now i row.now }
     ensures { step.new ≡ derived_in (trees_from lay.now i row.now)
         (lay.now.system.now.declared + i) step.old }

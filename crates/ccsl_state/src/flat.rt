@@ -13,10 +13,10 @@ ghost use Rattle.ccsl_state.specs.Regions.{tree, size};
 ghost use Rattle.ccsl_state.specs.Ready.{IsReady};
 ghost use Rattle.ccsl_state.specs.Walks.{IsRewritten};
 
-use crate::advance::advanced;
+use crate::advance::advance;
 use crate::cells::{is_then, own_cells};
 use crate::lag::{lag_cells, lag_dead, lag_moved, lag_ticks};
-use crate::lay::Lay;
+use crate::layout::Layout;
 use crate::moved::Visited;
 use crate::node::{Unary, two_dead, two_moved, two_ticks};
 use ccsl_base::{ClockSet, MAX_DELAY};
@@ -120,8 +120,8 @@ fn lag_clocks(m: u32, x: u32, y: u32, row: &mut [u64], step: &ClockSet, gone: &C
 /// Any definition.
 #[inline(never)]
 #[tactic(auto, using(crate::proofs::Places::inner_stands))]
-fn any_advanced(
-    lay: &Lay<'_>,
+fn advance_any(
+    lay: &Layout<'_>,
     e: &Expr,
     row: &mut [u64],
     step: &ClockSet,
@@ -132,7 +132,7 @@ fn any_advanced(
         step.now gone.now row.old row.new result }
     ensures rest { drop (size lay.now e.now) row.new ≡ drop (size lay.now e.now) row.old }
 {
-    let moved = advanced(lay, e, &[], row, step, gone);
+    let moved = advance(lay, e, &[], row, step, gone);
     Visited {
         tick: moved.tick,
         dead: moved.dead,
@@ -142,8 +142,8 @@ fn any_advanced(
 
 /// Rewrites the region of a definition's expression.
 #[inline(always)]
-pub fn definition_advanced(
-    lay: &Lay<'_>,
+pub fn advance_definition(
+    lay: &Layout<'_>,
     e: &Expr,
     row: &mut [u64],
     step: &ClockSet,
@@ -157,26 +157,26 @@ pub fn definition_advanced(
     match e {
         Expr::Binary(op, a, d) if !is_then(*op) => match (clock_of(a), clock_of(d)) {
             (Some(x), Some(y)) => two_clocks(*op, x, y, row, step, gone),
-            _ => any_advanced(lay, e, row, step, gone),
+            _ => advance_any(lay, e, row, step, gone),
         },
         Expr::Delayed(a, m, d) => match (clock_of(a), clock_of(d)) {
             (Some(x), Some(y)) => lag_clocks(*m, x, y, row, step, gone),
-            _ => any_advanced(lay, e, row, step, gone),
+            _ => advance_any(lay, e, row, step, gone),
         },
         Expr::Delay(a, m) => match clock_of(a) {
             Some(x) => {
                 let unary = Unary::Delay(m.number(&[]));
                 one_clock(lay.system.words(), unary, x, row, step, gone)
             }
-            None => any_advanced(lay, e, row, step, gone),
+            None => advance_any(lay, e, row, step, gone),
         },
         Expr::Await(a, m) => match clock_of(a) {
             Some(x) => {
                 let unary = Unary::Await(m.number(&[]));
                 one_clock(lay.system.words(), unary, x, row, step, gone)
             }
-            None => any_advanced(lay, e, row, step, gone),
+            None => advance_any(lay, e, row, step, gone),
         },
-        _ => any_advanced(lay, e, row, step, gone),
+        _ => advance_any(lay, e, row, step, gone),
     }
 }

@@ -12,8 +12,8 @@ ghost use Rattle.ccsl_state.specs.Passing.{AreReaders, AreKept, IsPassed};
 ghost use Rattle.ccsl_state.specs.Visits.{IsVisited, IsEntered, is_waiting};
 
 use crate::definitions::put;
-use crate::flat::definition_advanced;
-use crate::lay::Lay;
+use crate::flat::advance_definition;
+use crate::layout::Layout;
 use crate::moved::Visited;
 use crate::readers::Readers;
 use ccsl_base::{ClockSet, MAX_CLOCKS};
@@ -30,7 +30,7 @@ pub struct Passage {
 /// Rewrites the region of definition number `i`, which begins at `place`. `step` has the ticks that its expression may ask for, and
 /// `gone` those clocks that are dead after the step.
 fn visit(
-    lay: &Lay<'_>,
+    lay: &Layout<'_>,
     i: u32,
     place: u32,
     row: &mut [u64],
@@ -44,7 +44,7 @@ fn visit(
 {
     let e = lay.system.definition(i);
     let (_, region) = row.split_at_mut(place as usize);
-    definition_advanced(lay, e, region, step, gone)
+    advance_definition(lay, e, region, step, gone)
 }
 
 /// Whether others may hear of a visit: the clock ticked, or was dead before the step and is not after it, or the other way round.
@@ -113,7 +113,7 @@ fn first(set: &ClockSet) -> Option<u32>
 /// Goes on by the full step that the declared ticks in `step` give, which has all ticks behind it: visits the definitions that wait, in ascending order, with those that begin to
 /// wait meanwhile.
 pub fn follow(
-    lay: &Lay<'_>,
+    lay: &Layout<'_>,
     readers: &Readers,
     places: &[u32],
     row: &mut [u64],

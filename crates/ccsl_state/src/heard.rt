@@ -9,7 +9,7 @@ ghost use Rattle.ccsl_state.specs.Walks.{IsHeard};
 use crate::call::call_body;
 use crate::cells::{is_then, own_cells, size_of};
 use crate::lag::{lag_cells, lag_ticks};
-use crate::lay::Lay;
+use crate::layout::Layout;
 use crate::moved::Heard;
 use crate::name::name_ticks;
 use crate::node::{Unary, filter_from, two_ticks};
@@ -19,7 +19,7 @@ use ccsl_kernel::{Actual, Expr, ExprOp};
 /// Whether an expression ticks, and how many cells its region has.
 #[cycle(hear)]
 #[tactic(auto, using(crate::proofs::Places::inner_stands))]
-pub fn heard(lay: &Lay<'_>, e: &Expr, actuals: &[Actual], row: &[u64], step: &ClockSet) -> Heard
+pub fn heard(lay: &Layout<'_>, e: &Expr, actuals: &[Actual], row: &[u64], step: &ClockSet) -> Heard
     requires { IsReady lay.now false 0 e.now actuals.now row.now }
     ensures { IsHeard (tree lay.now e.now actuals.now row.now)
         (size lay.now e.now) step.now result }
@@ -84,7 +84,7 @@ pub fn heard(lay: &Lay<'_>, e: &Expr, actuals: &[Actual], row: &[u64], step: &Cl
 #[cycle(hear)]
 #[tactic(auto, using(crate::proofs::Places::inner_stands))]
 fn one_heard(
-    lay: &Lay<'_>,
+    lay: &Layout<'_>,
     unary: Unary,
     a: &Expr,
     actuals: &[Actual],
@@ -106,7 +106,7 @@ fn one_heard(
 #[cycle(hear)]
 #[tactic(auto, using(crate::proofs::Places::inner_stands))]
 fn two_heard(
-    lay: &Lay<'_>,
+    lay: &Layout<'_>,
     op: ExprOp,
     a: &Expr,
     d: &Expr,
@@ -131,7 +131,7 @@ fn two_heard(
 #[cycle(hear)]
 #[tactic(auto, using(crate::proofs::Places::inner_stands))]
 fn lag_heard(
-    lay: &Lay<'_>,
+    lay: &Layout<'_>,
     a: &Expr,
     m: u32,
     d: &Expr,
@@ -158,7 +158,7 @@ fn lag_heard(
 #[cycle(hear)]
 #[tactic(auto, using(crate::proofs::Places::inner_stands))]
 fn one_of_heard(
-    lay: &Lay<'_>,
+    lay: &Layout<'_>,
     e: &Expr,
     other: &Expr,
     actuals: &[Actual],
@@ -179,7 +179,7 @@ fn one_of_heard(
 
 /// Whether a call to the group behind all that `lay` has ticks.
 #[cycle(hear)]
-fn call_heard(lay: &Lay<'_>, group: u32, row: &[u64], step: &ClockSet) -> bool
+fn call_heard(lay: &Layout<'_>, group: u32, row: &[u64], step: &ClockSet) -> bool
     requires { IsCallReady lay.now group row.now }
     ensures { result ≡ ticks (call_tree lay.now row.now) step.now }
 {

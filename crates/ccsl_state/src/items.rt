@@ -13,7 +13,7 @@ ghost use Rattle.ccsl_state.specs.Ready.{HasRegions, BeginsAt};
 
 use crate::cells::{count_at, size_of};
 use crate::connective::iff;
-use crate::lay::Lay;
+use crate::layout::Layout;
 use crate::relation::relation_formula;
 use crate::told::told;
 use crate::whole::before_counts;
@@ -22,7 +22,7 @@ use ccsl_formula::Formula;
 use std::alloc::Global;
 
 /// Where each definition's region begins.
-pub fn places(alloc: Global, lay: &Lay<'_>) -> Result<Vec<u32>, Memory>
+pub fn places(alloc: Global, lay: &Layout<'_>) -> Result<Vec<u32>, Memory>
     requires { cells_from lay.now.earlier.now lay.now.system.now.definitions ≤ MAX_CELLS }
     ensures { IfOk result
         (λ v. v.items ≡ places_from lay.now.earlier.now 0 lay.now.system.now.definitions) }
@@ -40,7 +40,7 @@ pub fn places(alloc: Global, lay: &Lay<'_>) -> Result<Vec<u32>, Memory>
 /// The formula of the expression of definition number `i`, whose region begins at `place`.
 pub fn definition_formula(
     alloc: Global,
-    lay: &Lay<'_>,
+    lay: &Layout<'_>,
     i: u32,
     place: u32,
     row: &[u64],
@@ -60,7 +60,7 @@ pub fn definition_formula(
 /// The formula of a definition: its clock ticks where the formula of its expression holds.
 fn definition_item(
     alloc: Global,
-    lay: &Lay<'_>,
+    lay: &Layout<'_>,
     i: u32,
     place: u32,
     row: &[u64],
@@ -77,7 +77,7 @@ fn definition_item(
 }
 
 /// The formula of a constraint.
-fn constraint_item(alloc: Global, lay: &Lay<'_>, j: u32, row: &[u64]) -> Result<Formula, Memory>
+fn constraint_item(alloc: Global, lay: &Layout<'_>, j: u32, row: &[u64]) -> Result<Formula, Memory>
     requires accepted { IsAccepted lay.now.system.now }
     requires whole { IsWhole lay.now row.now }
     requires within { j < length lay.now.system.now.constraints }
@@ -95,7 +95,7 @@ fn constraint_item(alloc: Global, lay: &Lay<'_>, j: u32, row: &[u64]) -> Result<
 /// The formula of an item.
 pub fn item_formula(
     alloc: Global,
-    lay: &Lay<'_>,
+    lay: &Layout<'_>,
     places: &[u32],
     item: u32,
     row: &[u64],

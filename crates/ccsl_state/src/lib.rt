@@ -23,7 +23,7 @@ mod heard;
 mod items;
 mod lag;
 pub mod laws;
-mod lay;
+mod layout;
 mod moved;
 mod name;
 mod node;

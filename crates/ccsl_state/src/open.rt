@@ -15,7 +15,7 @@ ghost use Rattle.ccsl_state.specs.Walks.{IsOpened};
 
 use crate::cells::{is_then, own_cells, size_of};
 use crate::lag::{lag_born, lag_cells, lag_dead};
-use crate::lay::Lay;
+use crate::layout::Layout;
 use crate::moved::Born;
 use crate::name::is_gone;
 use crate::node::{Unary, filter_from, two_born, two_dead};
@@ -26,7 +26,13 @@ use ccsl_kernel::{Actual, Expr, ExprOp, Value};
 /// Writes the region of an expression at its birth, and tells whether it is dead there.
 #[cycle(open)]
 #[tactic(auto, using(crate::proofs::Places::inner_stands, crate::proofs::Places::inner_not_own, crate::proofs::Regions::rest_one))]
-pub fn opened(lay: &Lay<'_>, e: &Expr, actuals: &[Actual], row: &mut [u64], gone: &ClockSet) -> Born
+pub fn opened(
+    lay: &Layout<'_>,
+    e: &Expr,
+    actuals: &[Actual],
+    row: &mut [u64],
+    gone: &ClockSet,
+) -> Born
     requires ready { IsReady lay.now false 0 e.now actuals.now row.old }
     requires placed { is_own lay.now.system.now.words (length lay.now.earlier.now)
         (plain_expr e.now) actuals.now ≡ false }
@@ -94,7 +100,7 @@ pub fn opened(lay: &Lay<'_>, e: &Expr, actuals: &[Actual], row: &mut [u64], gone
 #[cycle(open)]
 #[tactic(auto, using(crate::proofs::Places::inner_stands, crate::proofs::Places::inner_not_own))]
 fn one_opened(
-    lay: &Lay<'_>,
+    lay: &Layout<'_>,
     unary: Unary,
     first: u64,
     a: &Expr,
@@ -120,7 +126,7 @@ fn one_opened(
 #[cycle(open)]
 #[tactic(auto, using(crate::proofs::Places::inner_stands, crate::proofs::Places::inner_not_own))]
 fn two_opened(
-    lay: &Lay<'_>,
+    lay: &Layout<'_>,
     op: ExprOp,
     a: &Expr,
     d: &Expr,
@@ -149,7 +155,7 @@ fn two_opened(
 #[cycle(open)]
 #[tactic(auto, using(crate::proofs::Places::inner_stands, crate::proofs::Places::inner_not_own, crate::proofs::Regions::rest_one))]
 fn then_opened(
-    lay: &Lay<'_>,
+    lay: &Layout<'_>,
     a: &Expr,
     d: &Expr,
     actuals: &[Actual],
@@ -176,7 +182,7 @@ fn then_opened(
 /// a cell is written.
 #[cycle(open)]
 pub fn call_opened(
-    lay: &Lay<'_>,
+    lay: &Layout<'_>,
     group: u32,
     member: u32,
     args: &[Value],
@@ -211,7 +217,7 @@ pub fn call_opened(
 #[cycle(open)]
 #[tactic(auto, using(crate::proofs::Places::inner_stands, crate::proofs::Places::inner_not_own))]
 fn lag_opened(
-    lay: &Lay<'_>,
+    lay: &Layout<'_>,
     a: &Expr,
     m: u32,
     d: &Expr,

@@ -10,10 +10,10 @@ ghost use Rattle.ccsl_state.specs.Part.{part_of, PartStandsFor};
 
 use crate::follow::{Passage, follow};
 use crate::items::places;
-use crate::lay::Lay;
+use crate::layout::Layout;
 use crate::reach::reached;
 use crate::readers::Readers;
-use crate::whole::row_opened;
+use crate::whole::open_row;
 use ccsl_base::{ClockSet, Memory};
 use ccsl_kernel::System;
 use std::alloc::Global;
@@ -66,12 +66,12 @@ impl<'s> Part<'s> {
     {
         let calls = system.group_cells(alloc)?;
         let mut row = Vec::from_elem(alloc, 0u64, system.cells() as usize)?;
-        let lay = Lay {
+        let lay = Layout {
             system,
             earlier: calls.as_slice(),
         };
         let places = places(alloc, &lay)?;
-        row_opened(&lay, row.as_mut_slice());
+        open_row(&lay, row.as_mut_slice());
         let readers = Readers::open(alloc, system, reached(system, clocks))?;
         let passage = Passage {
             gone: ClockSet::empty(),
@@ -107,7 +107,7 @@ impl<'s> Part<'s> {
         ensures stands { (T : List Step) → PartStandsFor self.old T → length T + 1 < 2 ^ 64 →
             PartStandsFor self.new (T ++ full_step self.old.system T step.old ∷ []) }
     {
-        let lay = Lay {
+        let lay = Layout {
             system: self.system,
             earlier: self.calls.as_slice(),
         };

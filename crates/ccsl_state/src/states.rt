@@ -14,8 +14,8 @@ ghost use Rattle.ccsl_state.specs.Held.{formula_in, derived_by, is_dead, Advance
 ghost use Rattle.ccsl_state.specs.Laws.{StaySilent};
 
 use crate::items::{item_formula, places};
-use crate::lay::Lay;
-use crate::whole::{row_advanced, row_derived, row_opened};
+use crate::layout::Layout;
+use crate::whole::{advance_row, derive_row, open_row};
 use ccsl_base::{ClockSet, Memory};
 use ccsl_formula::Formula;
 use ccsl_kernel::System;
@@ -61,12 +61,12 @@ impl<'s> States<'s> {
     {
         let calls = system.group_cells(alloc)?;
         let mut row = Vec::from_elem(alloc, 0u64, system.cells() as usize)?;
-        let lay = Lay {
+        let lay = Layout {
             system,
             earlier: calls.as_slice(),
         };
         let places = places(alloc, &lay)?;
-        let gone = row_opened(&lay, row.as_mut_slice());
+        let gone = open_row(&lay, row.as_mut_slice());
         Ok(States {
             system,
             calls,
@@ -84,7 +84,7 @@ impl<'s> States<'s> {
             plain f ≡ item_formula self.now.system T (length T) item) }
         ensures below { IfOk result (λ f. ReadsBelow (length self.now.system.names) (plain f)) }
     {
-        let lay = Lay {
+        let lay = Layout {
             system: self.system,
             earlier: self.calls.as_slice(),
         };
@@ -98,11 +98,11 @@ impl<'s> States<'s> {
         ensures step { (T : List Step) → StandsFor self.now T →
             result ≡ full_step self.now.system T declared.now }
     {
-        let lay = Lay {
+        let lay = Layout {
             system: self.system,
             earlier: self.calls.as_slice(),
         };
-        row_derived(&lay, self.row.as_slice(), declared)
+        derive_row(&lay, self.row.as_slice(), declared)
     }
 
     /// Whether a definition is dead: it will not tick again.
@@ -130,11 +130,11 @@ impl<'s> States<'s> {
             are_below self.old.system.declared declared.now ≡ true →
             StaySilent self.old result self.new }
     {
-        let lay = Lay {
+        let lay = Layout {
             system: self.system,
             earlier: self.calls.as_slice(),
         };
-        let passed = row_advanced(&lay, self.row.as_mut_slice(), declared);
+        let passed = advance_row(&lay, self.row.as_mut_slice(), declared);
         self.gone = passed.gone;
         passed.step
     }

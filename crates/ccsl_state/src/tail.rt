@@ -6,12 +6,12 @@ ghost use Rattle.ccsl_state.specs.Standing.{is_own};
 ghost use Rattle.ccsl_state.specs.Moves.{IsTail};
 ghost use Rattle.ccsl_state.specs.Regions.{newborn, MayStand, WordsFit, ParamsFit};
 
-use crate::lay::Lay;
+use crate::layout::Layout;
 use crate::moved::TailCall;
 use ccsl_kernel::{Actual, Expr};
 
 /// The call of the own group that an expression comes to by its choices.
-pub fn own_call<'s>(lay: &Lay<'s>, e: &'s Expr, actuals: &[Actual]) -> Option<TailCall<'s>>
+pub fn own_call<'s>(lay: &Layout<'s>, e: &'s Expr, actuals: &[Actual]) -> Option<TailCall<'s>>
     requires offsets { WordsFit lay.now e.now }
     requires stands { MayStand lay.now false e.now }
     requires actuals { ParamsFit lay.now actuals.now }

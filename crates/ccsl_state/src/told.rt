@@ -14,7 +14,7 @@ use crate::call::call_body;
 use crate::cells::{count_at, is_then, own_cells, size_of};
 use crate::connective::{and, not, or};
 use crate::lag::{lag_cells, lag_ticks};
-use crate::lay::Lay;
+use crate::layout::Layout;
 use crate::node::{Unary, filter_from};
 use ccsl_base::{MAX_DELAY, Memory};
 use ccsl_formula::Formula;
@@ -119,7 +119,7 @@ fn joined(
 #[tactic(auto, using(crate::proofs::Places::inner_stands))]
 pub fn told(
     alloc: Global,
-    lay: &Lay<'_>,
+    lay: &Layout<'_>,
     e: &Expr,
     actuals: &[Actual],
     row: &[u64],
@@ -189,7 +189,7 @@ pub fn told(
 #[tactic(auto, using(crate::proofs::Places::inner_stands))]
 fn one_told(
     alloc: Global,
-    lay: &Lay<'_>,
+    lay: &Layout<'_>,
     unary: Unary,
     a: &Expr,
     actuals: &[Actual],
@@ -211,7 +211,7 @@ fn one_told(
 #[tactic(auto, using(crate::proofs::Places::inner_stands, crate::proofs::Evals::pair_formula))]
 fn two_told(
     alloc: Global,
-    lay: &Lay<'_>,
+    lay: &Layout<'_>,
     op: ExprOp,
     a: &Expr,
     d: &Expr,
@@ -238,7 +238,7 @@ fn two_told(
 #[tactic(auto, using(crate::proofs::Places::inner_stands, crate::proofs::Evals::open_formula))]
 fn lag_told(
     alloc: Global,
-    lay: &Lay<'_>,
+    lay: &Layout<'_>,
     a: &Expr,
     m: u32,
     d: &Expr,
@@ -265,7 +265,7 @@ fn lag_told(
 #[tactic(auto, using(crate::proofs::Places::inner_stands))]
 fn one_of_told(
     alloc: Global,
-    lay: &Lay<'_>,
+    lay: &Layout<'_>,
     e: &Expr,
     other: &Expr,
     actuals: &[Actual],
@@ -285,7 +285,7 @@ fn one_of_told(
 
 /// The formula of a call to the group behind all that `lay` has.
 #[cycle(tell)]
-fn call_told(alloc: Global, lay: &Lay<'_>, group: u32, row: &[u64]) -> Result<Formula, Memory>
+fn call_told(alloc: Global, lay: &Layout<'_>, group: u32, row: &[u64]) -> Result<Formula, Memory>
     requires { IsCallReady lay.now group row.now }
     ensures { IfOk result (λ f. plain f ≡ formula_of (call_tree lay.now row.now)) }
 {

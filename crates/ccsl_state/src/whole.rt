@@ -9,7 +9,7 @@ ghost use Rattle.ccsl_state.specs.Whole.{held_at, IsWhole};
 
 use crate::counts::count_ticks;
 use crate::definitions::{advance_from, derive_from, open_from};
-use crate::lay::Lay;
+use crate::layout::Layout;
 use ccsl_base::ClockSet;
 
 /// The full step that a row went on by, and the clocks that are dead after it.
@@ -20,7 +20,7 @@ pub struct Passed {
 }
 
 /// The cells before those of the constraints.
-pub fn before_counts(lay: &Lay<'_>, row: &[u64]) -> usize
+pub fn before_counts(lay: &Layout<'_>, row: &[u64]) -> usize
     requires accepted { IsAccepted lay.now.system.now }
     requires whole { IsWhole lay.now row.now }
     ensures { result + 2 * length lay.now.system.now.constraints ≡ length row.now }
@@ -29,7 +29,7 @@ pub fn before_counts(lay: &Lay<'_>, row: &[u64]) -> usize
 }
 
 /// Writes the regions before the first step, and answers the dead clocks.
-pub fn row_opened(lay: &Lay<'_>, row: &mut [u64]) -> ClockSet
+pub fn open_row(lay: &Layout<'_>, row: &mut [u64]) -> ClockSet
     requires accepted { IsAccepted lay.now.system.now }
     requires whole { IsWhole lay.now row.old }
     ensures trees { trees_of (held_at lay.now row.new) ≡
@@ -46,7 +46,7 @@ pub fn row_opened(lay: &Lay<'_>, row: &mut [u64]) -> ClockSet
 }
 
 /// The full step that declared ticks give.
-pub fn row_derived(lay: &Lay<'_>, row: &[u64], declared: &ClockSet) -> ClockSet
+pub fn derive_row(lay: &Layout<'_>, row: &[u64], declared: &ClockSet) -> ClockSet
     requires accepted { IsAccepted lay.now.system.now }
     requires whole { IsWhole lay.now row.now }
     ensures { result ≡ derived_by (held_at lay.now row.now) declared.now }
@@ -57,7 +57,7 @@ pub fn row_derived(lay: &Lay<'_>, row: &[u64], declared: &ClockSet) -> ClockSet
 }
 
 /// Goes on by the full step that declared ticks give.
-pub fn row_advanced(lay: &Lay<'_>, row: &mut [u64], declared: &ClockSet) -> Passed
+pub fn advance_row(lay: &Layout<'_>, row: &mut [u64], declared: &ClockSet) -> Passed
     requires accepted { IsAccepted lay.now.system.now }
     requires whole { IsWhole lay.now row.old }
     requires below { TreesBelow lay.now.system.now.declared (trees_of (held_at lay.now row.old)) }

@@ -7,8 +7,8 @@ use Rattle.ccsl_state.proofs.Each.{passes, first_region, first_trees}
 use Rattle.ccsl_state.proofs.Operands.{inside}
 use Rattle.ccsl_state.proofs.definitions.+advance_from.Goals as goal
 
-pub advanced-moved-requires : goal.advanced-moved-requires
-advanced-moved-requires t c = (first_region _ _ _ _ c.requires c.definition.ensures.accepted c.definition.ensures.definition).outside
+pub advance-moved-requires : goal.advance-moved-requires
+advance-moved-requires t c = (first_region _ _ _ _ c.requires c.definition.ensures.accepted c.definition.ensures.definition).outside
 
 pub split_at_mut-rest-requires : goal.split_at_mut-rest-requires
 split_at_mut-rest-requires t c =
@@ -19,7 +19,7 @@ pub advance_from-requires : goal.advance_from-requires
 advance_from-requires t c =
     let first = first_region c.args.lay.now c.args.i _ c.args.row.now c.requires c.definition.ensures.accepted c.definition.ensures.definition in
     let below : c.args.i < length c.args.lay.now.system.now.definitions = first.below in
-    (search (rules, below), first.behind _ c.split_at_mut-rest.result.1.now c.advanced-moved.ensures.moved.size (omega arith))
+    (search (rules, below), first.behind _ c.split_at_mut-rest.result.1.now c.advance-moved.ensures.moved.size (omega arith))
 
 pub returns-then-i-definitions : goal.returns-then-i-definitions
 returns-then-i-definitions t c =
@@ -27,11 +27,11 @@ returns-then-i-definitions t c =
     let K = lay.system.now in
     let i = c.args.i in
     let row = c.args.row.now in
-    let row' = c.advanced-moved.new.row in
+    let row' = c.advance-moved.new.row in
     let rest = c.split_at_mut-rest.result.1.now in
     let rest' = c.advance_from.new.row in
     let e = c.definition.result.now in
-    let moved = c.advanced-moved.ensures.moved in
+    let moved = c.advance-moved.ensures.moved in
     let first = first_region lay i e row c.requires c.definition.ensures.accepted c.definition.ensures.definition in
     let trees = first_trees lay i e row row' c.split_at_mut-rest.result.0.now rest first c.split_at_mut-rest.ensures.value
     (c.split_at_mut-rest.ensures.front_len ∙ moved.size) moved.rest in
@@ -42,7 +42,7 @@ returns-then-i-definitions t c =
     let s = c.args.step.now in
     let s' = c.put.new.set in
     let known' = c.put-then-i-definitions.new.set in
-    let out = inside lay [] (tree lay e []) _ s known row row' c.advanced-moved.result moved (c.advanced-moved.ensures.inner first.ready.stands) in
+    let out = inside lay [] (tree lay e []) _ s known row row' c.advance-moved.result moved (c.advance-moved.ensures.inner first.ready.stands) in
     let ticks = c.put.ensures ∙ ap₂ (λ b k. put b k s) out.tick clock in
     let dies = c.put-then-i-definitions.ensures ∙ ap₂ (λ b k. put b k known) out.dead clock in
     record {

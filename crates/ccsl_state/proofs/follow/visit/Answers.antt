@@ -16,8 +16,8 @@ split_at_mut-region-requires c =
     let room = (placed_region _ c.args.i _ _ _ c.requires.regions c.definition-e.ensures.accepted c.definition-e.ensures.definition c.requires.place).room in
     omega arith
 
-pub definition_advanced-requires : goal.definition_advanced-requires
-definition_advanced-requires c =
+pub advance_definition-requires : goal.advance_definition-requires
+advance_definition-requires c =
     let p = placed_region _ c.args.i _ _ _ c.requires.regions c.definition-e.ensures.accepted c.definition-e.ensures.definition c.requires.place in
     let back = c.split_at_mut-region.ensures.back_len in
     p.ready c.split_at_mut-region.result.1.now (omega arith)
@@ -30,11 +30,11 @@ returns c =
     let e = plain_expr c.definition-e.result.now in
     let left = c.split_at_mut-region.result.0.now in
     let region = c.split_at_mut-region.result.1.now in
-    let region' = c.definition_advanced.new.row in
+    let region' = c.advance_definition.new.row in
     let s = c.args.step.now in
     let known = c.args.gone.now in
     let few : cells_from earlier K.definitions ≤ MAX_CELLS = (let room = c.requires.regions.room in let cells = c.requires.regions.few in omega arith) in
-    let m = c.definition_advanced.ensures.moved in
+    let m = c.advance_definition.ensures.moved in
     let same = visited_tree K earlier c.requires.regions.table i e c.args.place c.args.row.now left region region' s known few c.definition-e.ensures.definition
     c.requires.place c.split_at_mut-region.ensures.value c.split_at_mut-region.ensures.front_len in
     record {
@@ -42,5 +42,5 @@ returns c =
       dead = m.dead ∙ ap (dead_of (gone_in known)) (m.goes ∙ ap (next K s (gone_in known)) (sym same));
       settled = λ h. ap (λ t. is_settled (gone_in known) (next K s (gone_in known) t)) same ∙ m.settled h;
       trees = visited_trees K earlier c.requires.regions.table i e c.args.place c.args.row.now left region region' s known few c.definition-e.ensures.definition
-          c.requires.place c.split_at_mut-region.ensures.value c.split_at_mut-region.ensures.front_len c.definition_advanced.ensures.rest m.goes;
+          c.requires.place c.split_at_mut-region.ensures.value c.split_at_mut-region.ensures.front_len c.advance_definition.ensures.rest m.goes;
     }

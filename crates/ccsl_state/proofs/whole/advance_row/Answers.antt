@@ -2,7 +2,7 @@
 use Rattle.std.proofs.lemmas.Grind.{common_steps}
 use Rattle.std.proofs.Common.{◌≡◌, ◌+◌, ◌*◌, ◌++◌, length, refl, arith}
 use Rattle.ccsl_state.proofs.WholeLaws.{whole_regions, row_goes_on}
-use Rattle.ccsl_state.proofs.whole.row_advanced.Goals as goal
+use Rattle.ccsl_state.proofs.whole.advance_row.Goals as goal
 
 pub advance_from-requires : goal.advance_from-requires
 advance_from-requires c = grind (arith, common_steps, whole_regions)

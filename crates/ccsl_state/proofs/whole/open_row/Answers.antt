@@ -2,7 +2,7 @@
 use Rattle.std.proofs.lemmas.Grind.{common_steps}
 use Rattle.std.proofs.Common.{◌≡◌, ◌+◌, ◌*◌, length, arith}
 use Rattle.ccsl_state.proofs.WholeLaws.{whole_regions, row_opens}
-use Rattle.ccsl_state.proofs.whole.row_opened.Goals as goal
+use Rattle.ccsl_state.proofs.whole.open_row.Goals as goal
 
 pub open_from-requires : goal.open_from-requires
 open_from-requires c = grind (arith, common_steps, whole_regions)
