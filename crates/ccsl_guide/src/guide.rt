@@ -1,5 +1,8 @@
 //! What to do next: unit propagation over the formulas and the learned clauses, then a decision.
 
+ghost use Rattle.std.specs.Prelude.{◌≡◌, ◌<◌, ◌*◌, All, IfOk, length};
+ghost use Rattle.ccsl_guide.specs.Named.{AreNamed};
+
 use crate::look::looked;
 use crate::order::Order;
 use crate::problem::Problem;
@@ -42,7 +45,14 @@ pub struct Guide {
     forced: Vec<Forced>,
     /// For each item the last line that it gave, or 0.
     lines: Vec<u64>,
-    noted: Vec<Operands>,
+    /// The place where the values of operands are noted.
+    pub noted: Vec<Operands>,
+    ghost clocks: { length readers.firsts.items ≡ length order.clocks.items },
+    ghost literals: { length watches.places.items ≡ 2 * length order.clocks.items },
+    ghost read: { All (λ r. r.item < length is_waiting.items) readers.readers.items },
+    ghost waiting: { All (λ item. item < length is_waiting.items) items.items },
+    ghost named: { All (λ l. l.clock < length order.clocks.items) falsified.items },
+    ghost given: { length lines.items ≡ length is_waiting.items },
 }
 
 // By hand and not derived: to the prover, an early return then drops one by a single call.
@@ -63,8 +73,13 @@ impl Drop for Guide {
 }
 
 impl Guide {
+    ghost use Rattle.ccsl_guide.specs.Fits.{Fits, clock_count, item_count};
+
     /// A guide that has looked at nothing yet.
-    pub fn open(problem: &Problem, lines: &[Line], part: &Partial) -> Result<Guide, Memory> {
+    pub fn open(problem: &Problem, lines: &[Line], part: &Partial) -> Result<Guide, Memory>
+        requires { AreNamed problem.now.scope.named lines.now }
+        ensures { IfOk result (Fits problem.now) }
+    {
         let alloc = problem.alloc;
         let count = problem.formulas.len();
         let mut guide = Guide {
@@ -82,21 +97,20 @@ impl Guide {
         Ok(guide)
     }
 
-    /// The place where the values of operands are noted.
-    pub fn noted(&mut self) -> &mut Vec<Operands> {
-        &mut self.noted
-    }
-
     /// The last line that an item gave, or 0.
-    pub fn line_of(&self, item: u32) -> u64 {
-        self.lines.get(item as usize).copied().unwrap_or(0)
+    pub fn line_of(&self, item: u32) -> u64
+        requires { item < item_count self.now }
+    {
+        self.lines[item as usize]
     }
 
     /// Notes the number of the last line that an item gave.
-    pub fn note(&mut self, item: u32, line: u64) {
-        if let Some(last) = self.lines.get_mut(item as usize) {
-            *last = line;
-        }
+    pub fn note(&mut self, item: u32, line: u64)
+        requires { item < item_count self.old }
+        ensures clocks { clock_count self.new ≡ clock_count self.old }
+        ensures items { item_count self.new ≡ item_count self.old }
+    {
+        self.lines[item as usize] = line;
     }
 
     /// What to do next.
@@ -105,14 +119,20 @@ impl Guide {
         problem: &Problem,
         lines: &[Line],
         part: &Partial,
-    ) -> Result<Hint, Memory> {
+    ) -> Result<Hint, Memory>
+        requires lines { AreNamed problem.now.scope.named lines.now }
+        requires fits { Fits problem.now self.old }
+        ensures { Fits problem.now self.new }
+    {
         if let Some(hint) = next_forced(&mut self.forced, part) {
             return Ok(hint);
         }
         while let Some(item) = self.items.pop() {
-            unmark(&mut self.is_waiting, item);
-            if look(problem, part, item, &mut self.noted, &mut self.forced)? {
-                return Ok(Hint::Broken(Reason::Item(item)));
+            self.is_waiting[item as usize] = false;
+            let formula = &problem.formulas[item as usize];
+            let reason = Reason::Item(item);
+            if looked(formula, part, reason, &mut self.noted, &mut self.forced)? {
+                return Ok(Hint::Broken(reason));
             }
             if let Some(hint) = next_forced(&mut self.forced, part) {
                 return Ok(hint);
@@ -129,20 +149,36 @@ impl Guide {
     }
 
     /// A literal becomes true.
-    pub fn assigned(&mut self, lit: Lit) -> Result<(), Memory> {
-        for item in self.readers.of(lit.clock) {
-            if let Some(is_waiting) = self.is_waiting.get_mut(*item as usize) {
-                if !*is_waiting {
-                    *is_waiting = true;
-                    self.items.push(*item)?;
-                }
-            }
+    pub fn assigned(&mut self, lit: Lit) -> Result<(), Memory>
+        requires { lit.clock < clock_count self.old }
+        ensures clocks { clock_count self.new ≡ clock_count self.old }
+        ensures items { item_count self.new ≡ item_count self.old }
+    {
+        let mut number = self.readers.first(lit.clock);
+        while number > 0 {
+            let reader = self.readers.reader(number);
+            self.wait(reader.item)?;
+            number = reader.next;
         }
         self.order.assigned(lit);
         self.falsified.push(Lit {
             clock: lit.clock,
             positive: !lit.positive,
         })?;
+        Ok(())
+    }
+
+    /// An item is to be looked at.
+    fn wait(&mut self, item: u32) -> Result<(), Memory>
+        requires { item < item_count self.old }
+        ensures readers { self.new.readers ≡ self.old.readers }
+        ensures clocks { clock_count self.new ≡ clock_count self.old }
+        ensures items { item_count self.new ≡ item_count self.old }
+    {
+        if !self.is_waiting[item as usize] {
+            self.is_waiting[item as usize] = true;
+            self.items.push(item)?;
+        }
         Ok(())
     }
 
@@ -154,14 +190,19 @@ impl Guide {
         part: &Partial,
         lit: Lit,
         line: u64,
-    ) -> Result<(), Memory> {
+    ) -> Result<(), Memory>
+        requires lines { AreNamed problem.now.scope.named lines.now }
+        requires fits { Fits problem.now self.old }
+        requires named { lit.clock < problem.now.scope.named }
+        ensures { Fits problem.now self.new }
+    {
         while let Some(item) = self.items.pop() {
-            unmark(&mut self.is_waiting, item);
+            self.is_waiting[item as usize] = false;
         }
         self.falsified.clear();
         self.forced.clear();
         self.order.restart();
-        self.watches.again(&mut self.forced)?;
+        self.watches.force_units(&mut self.forced)?;
         self.watch(problem, lines, part, line)?;
         self.assigned(Lit {
             clock: lit.clock,
@@ -176,10 +217,15 @@ impl Guide {
         lines: &[Line],
         part: &Partial,
         line: u64,
-    ) -> Result<(), Memory> {
+    ) -> Result<(), Memory>
+        requires lines { AreNamed problem.now.scope.named lines.now }
+        requires fits { Fits problem.now self.old }
+        ensures { Fits problem.now self.new }
+    {
         if line <= self.watches.last() {
             return Ok(());
         }
+        // No contract says that there is such a line; without it nothing is watched.
         match lines.get((line - 1) as usize) {
             None | Some(Line::Item(_, _)) => Ok(()),
             Some(clause) => {
@@ -192,12 +238,14 @@ impl Guide {
 }
 
 /// The items of all formulas.
-fn all_items(problem: &Problem) -> Result<Vec<u32>, Memory> {
-    let mut items = Vec::with_capacity(problem.alloc, problem.formulas.len())?;
-    let mut item = 0u32;
-    for _ in problem.formulas {
+fn all_items(problem: &Problem) -> Result<Vec<u32>, Memory>
+    ensures { IfOk result (λ items.
+        All (λ item. item < length problem.now.formulas.now) items.items) }
+{
+    let count = problem.formulas.len();
+    let mut items = Vec::with_capacity(problem.alloc, count)?;
+    for item in 0..count as u32 {
         items.push(item)?;
-        item = item.wrapping_add(1);
     }
     Ok(items)
 }
@@ -215,25 +263,4 @@ fn next_forced(forced: &mut Vec<Forced>, part: &Partial) -> Option<Hint> {
         }
     }
     None
-}
-
-/// An item waits no longer.
-fn unmark(is_waiting: &mut [bool], item: u32) {
-    if let Some(is_waiting) = is_waiting.get_mut(item as usize) {
-        *is_waiting = false;
-    }
-}
-
-/// Looks at the formula of an item. Answers whether it is refuted.
-fn look(
-    problem: &Problem,
-    part: &Partial,
-    item: u32,
-    noted: &mut Vec<Operands>,
-    forced: &mut Vec<Forced>,
-) -> Result<bool, Memory> {
-    match problem.formulas.get(item as usize) {
-        None => Ok(false),
-        Some(formula) => looked(formula, part, Reason::Item(item), noted, forced),
-    }
 }

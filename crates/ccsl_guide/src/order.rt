@@ -1,11 +1,12 @@
 //! Which clock to decide next: one of a late conflict, at the value that it had last.
 
-ghost use Rattle.std.specs.Prelude.{◌<◌, ◌≤◌, All, length};
+ghost use Rattle.std.specs.Prelude.{◌≡◌, ◌<◌, ◌≤◌, All, IfOk, length};
+ghost use Rattle.ccsl_refute.specs.Below.{AreBelow};
+ghost use Rattle.ccsl_refute.specs.LineLiterals.{literals};
 
-use crate::problem::Problem;
+use crate::problem::{Problem, clause_in};
 use ccsl_base::Memory;
 use ccsl_formula::Partial;
-use ccsl_refute::clause::clause_of;
 use ccsl_refute::{Line, Lit};
 
 /// What is noted of a clock.
@@ -44,7 +45,9 @@ impl Drop for Order {
 
 impl Order {
     /// Clocks by their numbers, each to be tried as false.
-    pub fn open(problem: &Problem) -> Result<Order, Memory> {
+    pub fn open(problem: &Problem) -> Result<Order, Memory>
+        ensures { IfOk result (λ o. length o.clocks.items ≡ problem.now.scope.named) }
+    {
         let named = problem.scope.named;
         let mut queue = Vec::with_capacity(problem.alloc, named as usize)?;
         let mut clocks = Vec::with_capacity(problem.alloc, named as usize)?;
@@ -65,16 +68,19 @@ impl Order {
     }
 
     /// Puts a clock last.
-    fn append(&mut self, clock: u32) -> Result<(), Memory> {
-        if let Some(noted) = self.clocks.get_mut(clock as usize) {
-            noted.place = self.queue.len();
-            self.queue.push(clock)?;
-        }
+    fn append(&mut self, clock: u32) -> Result<(), Memory>
+        requires { clock < length self.old.clocks.items }
+        ensures { length self.new.clocks.items ≡ length self.old.clocks.items }
+    {
+        self.clocks[clock as usize].place = self.queue.len();
+        self.queue.push(clock)?;
         Ok(())
     }
 
     /// The last clock of the queue that is open.
-    pub fn next(&mut self, part: &Partial) -> Option<Lit> {
+    pub fn next(&mut self, part: &Partial) -> Option<Lit>
+        ensures { length self.new.clocks.items ≡ length self.old.clocks.items }
+    {
         while self.end > 0 {
             let lit = self.open_at(self.end - 1, part);
             if lit.is_some() {
@@ -102,30 +108,38 @@ impl Order {
     }
 
     /// A literal becomes true.
-    pub fn assigned(&mut self, lit: Lit) {
+    pub fn assigned(&mut self, lit: Lit)
+        requires { lit.clock < length self.old.clocks.items }
+        ensures { length self.new.clocks.items ≡ length self.old.clocks.items }
+    {
+        // No run gets to the last number; behind it the times would begin anew.
         self.now = self.now.wrapping_add(1);
-        if let Some(noted) = self.clocks.get_mut(lit.clock as usize) {
-            noted.positive = lit.positive;
-            noted.time = self.now;
-        }
+        let noted = &mut self.clocks[lit.clock as usize];
+        noted.positive = lit.positive;
+        noted.time = self.now;
     }
 
     /// When a clock got its last value.
-    pub fn time(&self, clock: u32) -> u64 {
-        match self.clocks.get(clock as usize) {
-            None => 0,
-            Some(noted) => noted.time,
-        }
+    pub fn time(&self, clock: u32) -> u64
+        requires { clock < length self.now.clocks.items }
+    {
+        self.clocks[clock as usize].time
     }
 
     /// Clocks lose their values.
-    pub fn restart(&mut self) {
+    pub fn restart(&mut self)
+        ensures { length self.new.clocks.items ≡ length self.old.clocks.items }
+    {
         self.end = self.queue.len();
     }
 
     /// Puts the clocks of a line last.
-    pub fn bump(&mut self, problem: &Problem, line: &Line) -> Result<(), Memory> {
-        for lit in clause_of(line, problem.nonempty) {
+    pub fn bump(&mut self, problem: &Problem, line: &Line) -> Result<(), Memory>
+        requires clocks { length self.old.clocks.items ≡ problem.now.scope.named }
+        requires named { AreBelow problem.now.scope.named (literals line.now) }
+        ensures { length self.new.clocks.items ≡ length self.old.clocks.items }
+    {
+        for lit in clause_in(problem, line) {
             self.append(lit.clock)?;
         }
         if self.queue.len() / 8 > self.clocks.len() {
@@ -136,7 +150,9 @@ impl Order {
     }
 
     /// Takes out the places that don't count.
-    fn compact(&mut self) {
+    fn compact(&mut self)
+        ensures { length self.new.clocks.items ≡ length self.old.clocks.items }
+    {
         let mut kept = 0usize;
         for place in 0..self.queue.len() {
             let clock = self.queue[place];

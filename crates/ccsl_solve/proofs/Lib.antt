@@ -10,3 +10,4 @@ pub mod Answering
 pub mod Denials
 pub mod Searching
 pub mod PosedLaws
+pub mod Guided

@@ -4,7 +4,8 @@ ghost use Rattle.std.specs.Prelude.{◌≡◌, ◌≢◌, ◌<◌, ℕ, List, So
 ghost use Rattle.ccsl_formula.specs.declared.truth3.Truth3.TheVariants.{Open};
 ghost use Rattle.ccsl_formula.specs.Agreement.{is_open};
 ghost use Rattle.ccsl_formula.specs.Known.{known};
-ghost use Rattle.ccsl_solve.specs.Posed.{IsPosed};
+ghost use Rattle.ccsl_guide.specs.Fits.{Fits};
+ghost use Rattle.ccsl_solve.specs.Posed.{IsPosed, AreValid};
 ghost use Rattle.ccsl_refute.specs.declared.line.Line.{Line};
 ghost use Rattle.ccsl_refute.specs.declared.line.Lit.{Lit};
 ghost use Rattle.ccsl_solve.specs.Reasons.{IsForced};
@@ -48,7 +49,10 @@ pub fn planned(
     from: usize,
 ) -> Result<Plan, Memory>
     requires posed { IsPosed problem.now }
+    requires valid { AreValid problem.now lines.now }
     requires settled { AreSettled problem.now.wishes.now from (known part.old) }
+    requires fits { Fits problem.now guide.old }
+    ensures fits { OnOk result (Fits problem.now guide.new) }
     ensures same { OnOk result (known part.new ≡ known part.old) }
     ensures plan { IfOk result (IsPlan problem.now lines.now (known part.old)) }
 {

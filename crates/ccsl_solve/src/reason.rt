@@ -3,6 +3,7 @@
 ghost use Rattle.std.specs.Prelude.{◌≡◌, true, IfOk, OnOk, slice_get};
 ghost use Rattle.ccsl_formula.specs.Known.{known};
 ghost use Rattle.ccsl_refute.specs.Validity.{is_refuted, fails_at};
+ghost use Rattle.ccsl_guide.specs.Fits.{Fits};
 ghost use Rattle.ccsl_solve.specs.Under.{Under};
 ghost use Rattle.ccsl_solve.specs.Posed.{IsPosed, IsSound, AreValid, asked};
 ghost use Rattle.ccsl_solve.specs.Reasons.{refutes};
@@ -38,6 +39,8 @@ pub fn clash(
 ) -> Result<Clash, Memory>
     requires sound { IsSound problem.now lines.old.items (known part.now) }
     requires refuted { refutes problem.now lines.old.items (known part.now) reason ≡ true }
+    requires fits { Fits problem.now guide.old }
+    ensures fits { OnOk result (Fits problem.now guide.new) }
     ensures lines { OnOk result (AddsLines problem.now lines.old.items lines.new.items) }
     ensures clause { IfOk result
         (λ c. IsClause problem.now.scope lines.new.items c.line (known c.part.value)) }
@@ -50,7 +53,7 @@ pub fn clash(
             if fails_at(lines, &problem.scope, problem.nonempty, part, line) {
                 return line_clash(problem, lines, part, line);
             }
-            let clash = item_clash(problem, lines, guide.noted(), part, item)?;
+            let clash = item_clash(problem, lines, &mut guide.noted, part, item)?;
             guide.note(item, clash.line);
             Ok(clash)
         }

@@ -7,6 +7,7 @@ ghost use Rattle.ccsl_formula.specs.Known.{known};
 ghost use Rattle.ccsl_formula.specs.Plain.{plain};
 ghost use Rattle.ccsl_refute.specs.Literals.{all_false};
 ghost use Rattle.ccsl_refute.specs.Validity.{is_refuted};
+ghost use Rattle.ccsl_guide.specs.Fits.{Fits};
 ghost use Rattle.ccsl_solve.specs.Posed.{IsSound};
 ghost use Rattle.ccsl_solve.specs.Reasons.{refutes, IsForced};
 ghost use Rattle.ccsl_solve.specs.Conflict.{IsConflictOf, IsConflictWith, AddsLines};
@@ -70,6 +71,8 @@ fn broken(
 ) -> Result<Conflict, Memory>
     requires sound { IsSound problem.now lines.old.items (known part.now) }
     requires refuted { refutes problem.now lines.old.items (known part.now) reason ≡ true }
+    requires fits { Fits problem.now guide.old }
+    ensures fits { OnOk result (Fits problem.now guide.new) }
     ensures lines { OnOk result (AddsLines problem.now lines.old.items lines.new.items) }
     ensures conflict { IfOk result (IsConflictOf problem.now lines.new.items (known part.now)) }
 {
@@ -87,6 +90,8 @@ fn completed(
 ) -> Result<Option<Conflict>, Memory>
     requires sound { IsSound problem.now lines.old.items (known part.now) }
     requires total { (x : ℕ) → x < problem.now.scope.named → known part.now x ≢ Open }
+    requires fits { Fits problem.now guide.old }
+    ensures fits { OnOk result (Fits problem.now guide.new) }
     ensures lines { OnOk result (AddsLines problem.now lines.old.items lines.new.items) }
     ensures finds { IfOk result
         (Finds problem.now lines.new.items (known part.now) (known part.now)) }
@@ -111,6 +116,8 @@ fn no_member(
 ) -> Result<Conflict, Memory>
     requires sound { IsSound problem.now lines.old.items (known part.now) }
     requires none { all_false (known part.now) problem.now.nonempty.now ≡ true }
+    requires fits { Fits problem.now guide.old }
+    ensures fits { OnOk result (Fits problem.now guide.new) }
     ensures lines { OnOk result (AddsLines problem.now lines.old.items lines.new.items) }
     ensures conflict { IfOk result (IsConflictOf problem.now lines.new.items (known part.now)) }
 {
@@ -134,6 +141,8 @@ fn against(
     requires free { known part.old lit.clock ≡ Open }
     requires forced { IsForced problem.now lines.old.items (known part.old) lit reason }
     requires conflict { IsConflictWith problem.now lines.old.items (known part.old) lit conflict }
+    requires fits { Fits problem.now guide.old }
+    ensures fits { OnOk result (Fits problem.now guide.new) }
     ensures same { OnOk result (known part.new ≡ known part.old) }
     ensures lines { OnOk result (AddsLines problem.now lines.old.items lines.new.items) }
     ensures conflict { IfOk result (IsConflictOf problem.now lines.new.items (known part.old)) }
@@ -168,6 +177,8 @@ fn search_with(
     requires settled { AreSettled problem.now.wishes.now from (known part.old) }
     requires named { lit.clock < problem.now.scope.named }
     requires free { known part.old lit.clock ≡ Open }
+    requires fits { Fits problem.now guide.old }
+    ensures fits { OnOk result (Fits problem.now guide.new) }
     ensures lines { OnOk result (AddsLines problem.now lines.old.items lines.new.items) }
     ensures finds { IfOk result
         (FindsWith problem.now lines.new.items (known part.old) lit (known part.new)) }
@@ -197,6 +208,8 @@ fn search_against(
     requires named { lit.clock < problem.now.scope.named }
     requires free { known part.old lit.clock ≡ Open }
     requires conflict { IsConflictWith problem.now lines.old.items (known part.old) lit first }
+    requires fits { Fits problem.now guide.old }
+    ensures fits { OnOk result (Fits problem.now guide.new) }
     ensures lines { OnOk result (AddsLines problem.now lines.old.items lines.new.items) }
     ensures finds { IfOk result
         (Finds problem.now lines.new.items (known part.old) (known part.new)) }
@@ -231,6 +244,8 @@ fn search_both(
 ) -> Result<Option<Conflict>, Memory>
     requires sound { IsSound problem.now lines.old.items (known part.old) }
     requires first { IsTry problem.now lines.old.items (known part.old) lit by from }
+    requires fits { Fits problem.now guide.old }
+    ensures fits { OnOk result (Fits problem.now guide.new) }
     ensures lines { OnOk result (AddsLines problem.now lines.old.items lines.new.items) }
     ensures finds { IfOk result
         (Finds problem.now lines.new.items (known part.old) (known part.new)) }
@@ -261,6 +276,8 @@ pub fn search(
 ) -> Result<Option<Conflict>, Memory>
     requires sound { IsSound problem.now lines.old.items (known part.old) }
     requires settled { AreSettled problem.now.wishes.now from (known part.old) }
+    requires fits { Fits problem.now guide.old }
+    ensures fits { OnOk result (Fits problem.now guide.new) }
     ensures lines { OnOk result (AddsLines problem.now lines.old.items lines.new.items) }
     ensures finds { IfOk result
         (Finds problem.now lines.new.items (known part.old) (known part.new)) }

@@ -1,4 +1,8 @@
+use Rattle.ccsl_solve.proofs.Guided.{valid-named}
 use Rattle.ccsl_solve.proofs.plan.planned.Goals as goal
+
+pub next-requires-clause-lines : goal.next-requires-clause-lines
+next-requires-clause-lines c = valid-named c.args.problem.now c.args.lines.now c.requires.valid
 
 pub decided-requires-else-forces-clause-settled : goal.decided-requires-else-forces-clause-settled
 decided-requires-else-forces-clause-settled c = rw c.if-forces.ensures.same c.requires.settled

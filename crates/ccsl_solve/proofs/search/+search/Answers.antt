@@ -5,6 +5,7 @@ use Rattle.ccsl_solve.proofs.Tests.{open-test, not-open-test}
 use Rattle.ccsl_solve.proofs.Clauses.{clause-more}
 use Rattle.ccsl_solve.proofs.Conflicts.{without-value}
 use Rattle.ccsl_solve.proofs.Best.{first-best, second-best}
+use Rattle.ccsl_solve.proofs.Guided.{valid-named}
 use Rattle.ccsl_solve.proofs.Searching.{back-of, sound-after, forced-after, onward}
 use Rattle.ccsl_solve.proofs.search.+search.Goals as goal
 
@@ -24,7 +25,8 @@ search-search_both-requires t c =
     let q = c.args.problem.now in
     let same = c.in_ok-reason.ensures.same in
     let down : 4 * open_count q.scope.named (known c.planned.new.part) + 2 < t = omega (arith, ap (open_count q.scope.named) same, c.decreases) in
-    (down, (rw same c.requires.sound, rw (same, ← c.deref.ensures.value) (rw c.in-Try.is at c.in_ok-reason.ensures.plan)))
+    let first = rw c.in-Try.is at c.in_ok-reason.ensures.plan in
+    (down, (rw same c.requires.sound, (rw (same, ← c.deref.ensures.value) first, c.in_ok-reason.ensures.fits)))
 
 -- ## The search with a literal first
 
@@ -51,10 +53,28 @@ search_both-search_against-requires t c =
     let named = c.args.problem.now.scope.named in
     let down : 4 * open_count named (known c.search_with.new.part) + 1 < t = omega (arith, ap (open_count named) found.0, c.decreases) in
     let sound = sound-after c.in_ok-first.ensures.lines found.0 c.requires.sound in
-    let uses = not-open-test (known c.in-Some.first.part.value c.args.lit.clock) (sym c.if-is_free_of.ensures) in
-    (down, (sound, (rw found.0 first.settled, (first.named, (rw found.0 first.free, record { conflict = rw found.0 found.1; uses = uses })))))
+    let uses = not-open-test (known c.in-Some.first.part.value c.args.lit.clock) (sym c.if-is_free_of.ensures) in (
+      down,
+      (
+        sound,
+        (
+          rw found.0 first.settled,
+          (
+            first.named,
+            (
+              rw found.0 first.free,
+              (record { conflict = rw found.0 found.1; uses = uses }, c.in_ok-first.ensures.fits),
+            ),
+          ),
+        ),
+      ),
+    )
 
 -- ## The search with the negation
+
+pub search_against-flipped-requires-clause-lines : goal.search_against-flipped-requires-clause-lines
+search_against-flipped-requires-clause-lines t c =
+    rw c.deref.ensures.value (valid-named c.args.problem.now c.learned.new.lines.items c.in_ok-line.ensures.lines.valid)
 
 pub search_against-returns-in_default-clause-finds : goal.search_against-returns-in_default-clause-finds
 search_against-returns-in_default-clause-finds t c =
@@ -90,7 +110,7 @@ search_with-search-requires t c =
     let named = c.args.problem.now.scope.named in
     let on = onward c.args.lit c.args.from c.set.ensures c.requires.named c.requires.free c.requires.sound c.requires.settled in
     let down : 4 * open_count named (known c.set.new.self) + 3 < t = omega (arith, on.0, c.decreases) in
-    (down, (on.1, on.2))
+    (down, (on.1, (on.2, c.requires.fits)))
 
 pub search_with-returns-clause-finds : goal.search_with-returns-clause-finds
 search_with-returns-clause-finds t c =

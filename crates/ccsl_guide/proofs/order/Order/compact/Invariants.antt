@@ -5,4 +5,5 @@ abbrev pub invariant-loop-place : goal.invariant-loop-place
 invariant-loop-place l = record {
   kept : l.kept ≤ l.place;
   same : length l.self.queue.items ≡ length l.fn.self.queue.items;
+  clocks : length l.self.clocks.items ≡ length l.fn.self.clocks.items;
 }
