@@ -1,6 +1,6 @@
 //! What to do next: unit propagation over the formulas and the learned clauses, then a decision.
 
-ghost use Rattle.std.specs.Prelude.{◌≡◌, ◌<◌, ◌*◌, All, IfOk, length};
+ghost use Rattle.std.specs.Prelude.{◌≡◌, ◌<◌, ◌≤◌, ◌*◌, All, IfOk, length};
 ghost use Rattle.ccsl_guide.specs.Named.{AreNamed};
 
 use crate::look::looked;
@@ -77,7 +77,8 @@ impl Guide {
 
     /// A guide that has looked at nothing yet.
     pub fn open(problem: &Problem, lines: &[Line], part: &Partial) -> Result<Guide, Memory>
-        requires { AreNamed problem.now.scope.named lines.now }
+        requires lines { AreNamed problem.now.scope.named lines.now }
+        requires first { 0 < length lines.now }
         ensures { IfOk result (Fits problem.now) }
     {
         let alloc = problem.alloc;
@@ -194,6 +195,7 @@ impl Guide {
         requires lines { AreNamed problem.now.scope.named lines.now }
         requires fits { Fits problem.now self.old }
         requires named { lit.clock < problem.now.scope.named }
+        requires line { line ≤ length lines.now }
         ensures { Fits problem.now self.new }
     {
         while let Some(item) = self.items.pop() {
@@ -220,20 +222,19 @@ impl Guide {
     ) -> Result<(), Memory>
         requires lines { AreNamed problem.now.scope.named lines.now }
         requires fits { Fits problem.now self.old }
+        requires line { line ≤ length lines.now }
         ensures { Fits problem.now self.new }
     {
         if line <= self.watches.last() {
             return Ok(());
         }
-        // No contract says that there is such a line; without it nothing is watched.
-        match lines.get((line - 1) as usize) {
-            None | Some(Line::Item(_, _)) => Ok(()),
-            Some(clause) => {
-                self.order.bump(problem, clause)?;
-                self.watches
-                    .watch(problem, lines, part, &self.order, line, &mut self.forced)
-            }
+        let clause = &lines[(line - 1) as usize];
+        if let Line::Item(_, _) = clause {
+            return Ok(());
         }
+        self.order.bump(problem, clause)?;
+        self.watches
+            .watch(problem, clause, part, &self.order, line, &mut self.forced)
     }
 }
 

@@ -1,5 +1,5 @@
-//! Where a solver looks next: which values are forced, and which clock to decide. No contract speaks of it, so nothing
-//! rests on it: ccsl_solve tests each hint before it uses it, and a wrong one costs time alone.
+//! Where a solver looks next: which values are forced, and which clock to decide. No contract says what it answers, so
+//! nothing rests on that: ccsl_solve tests each hint before it uses it, and a wrong one costs time alone.
 //!
 //!     let mut guide = Guide::open(&problem, lines, &part)?;
 //!     match guide.next(&problem, lines, &part)? {

@@ -50,6 +50,7 @@ fn force(
         }
         Formula::Not(f) => force(f, !wanted, part, reason, noted, forced),
         Formula::And(f, g) | Formula::Or(f, g) | Formula::Iff(f, g) => {
+            // `valued` noted one for each connective, but no contract says so; without it nothing is forced.
             let Some(operands) = noted.pop() else {
                 return Ok(());
             };

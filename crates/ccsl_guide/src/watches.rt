@@ -1,6 +1,8 @@
 //! Two literals of each learned clause that are watched: as long as neither is false the clause forces nothing.
 
 ghost use Rattle.std.specs.Prelude.{ℕ, ◌≡◌, ◌+◌, ◌*◌, ◌<◌, ◌≤◌, ⊤, All, IfOk, MatchOption, length};
+ghost use Rattle.ccsl_refute.specs.Below.{AreBelow};
+ghost use Rattle.ccsl_refute.specs.LineLiterals.{literals};
 ghost use Rattle.ccsl_guide.specs.Named.{AreNamed, HasAt, number};
 ghost use Rattle.ccsl_guide.specs.Moves.{IsWithin};
 
@@ -82,20 +84,18 @@ impl Watches {
     pub fn watch(
         &mut self,
         problem: &Problem,
-        lines: &[Line],
+        clause: &Line,
         part: &Partial,
         order: &Order,
         line: u64,
         forced: &mut Vec<Forced>,
     ) -> Result<(), Memory>
-        requires lines { AreNamed problem.now.scope.named lines.now }
+        requires clause { AreBelow problem.now.scope.named (literals clause.now) }
         requires order { length order.now.clocks.items ≡ problem.now.scope.named }
         requires places { length self.old.places.items ≡ 2 * problem.now.scope.named }
         ensures { length self.new.places.items ≡ length self.old.places.items }
     {
-        let Some(lits) = lits_of(problem, lines, line) else {
-            return Ok(());
-        };
+        let lits = clause_in(problem, clause);
         self.last = line;
         let Some(first) = best_watch(lits, part, order, None) else {
             return Ok(());

@@ -1,7 +1,8 @@
 -- Lines, and more lines after them.
-use Rattle.std.proofs.Common.{◌≡◌, ℕ, zero, suc, List, [], ◌∷◌, ◌++◌, length, true, false, ◌&&◌, Some, None, slice_get}
-use Rattle.std.proofs.Common.{refl, sym, ap, ◌∙◌, append_assoc, append-nil, length-append, add-one}
+use Rattle.std.proofs.Common.{◌≡◌, ℕ, zero, suc, ◌<◌, ◌≤◌, List, [], ◌∷◌, ◌++◌, length, true, false, ◌&&◌, Some, None, slice_get}
+use Rattle.std.proofs.Common.{refl, sym, ap, ◌∙◌, append_assoc, append-nil, length-append, add-one, arith}
 use Rattle.std.proofs.lemmas.Bool.{and_parts}
+use Rattle.std.proofs.lemmas.Option.{slice_get_within}
 use Rattle.ccsl_formula.specs.declared.scope.Scope.{Scope}
 use Rattle.ccsl_formula.specs.Truth.{Part, with_value}
 use Rattle.ccsl_formula.specs.Formula.{Formula}
@@ -21,6 +22,10 @@ get-more (z ∷ xs) ys (suc i) x e = get-more xs ys i x e
 pub line-more : (lines more : List Line) (j : ℕ) (e : Line) → line_at lines j ≡ Some e → line_at (lines ++ more) j ≡ Some e
 line-more lines more zero e h = absurd (cc)
 line-more lines more (suc i) e h = get-more lines more i e h
+
+pub line-within : (lines : List Line) (j : ℕ) (e : Line) → line_at lines j ≡ Some e → j ≤ length lines
+line-within lines zero e h = absurd (cc)
+line-within lines (suc i) e h = let within : i < length lines = slice_get_within lines i e h in omega arith
 
 pub line-last : (lines : List Line) (e : Line) {new : List Line} {n : ℕ} → n ≡ length new → new ≡ lines ++ e ∷ [] → line_at new n ≡ Some e
 line-last lines e {n} s is =

@@ -138,6 +138,7 @@ fn searched(
     part: &mut Partial,
 ) -> Result<Option<Conflict>, Memory>
     requires sound { IsSound problem.now lines.old.items (known part.old) }
+    requires first { 0 < length lines.old.items }
     ensures valid { OnOk result (AreValid problem.now lines.new.items) }
     ensures finds { IfOk result
         (Finds problem.now lines.new.items (known part.old) (known part.new)) }

@@ -2,6 +2,7 @@ use Rattle.std.proofs.Common.{◌<◌, ◌+◌, ◌*◌, ◌∙◌, not, sym, ap
 use Rattle.ccsl_formula.specs.Known.{known}
 use Rattle.ccsl_solve.specs.Under.{open_count}
 use Rattle.ccsl_solve.proofs.Tests.{open-test, not-open-test}
+use Rattle.ccsl_solve.proofs.Lines.{line-within}
 use Rattle.ccsl_solve.proofs.Clauses.{clause-more}
 use Rattle.ccsl_solve.proofs.Conflicts.{without-value}
 use Rattle.ccsl_solve.proofs.Best.{first-best, second-best}
@@ -75,6 +76,11 @@ search_both-search_against-requires t c =
 pub search_against-flipped-requires-clause-lines : goal.search_against-flipped-requires-clause-lines
 search_against-flipped-requires-clause-lines t c =
     rw c.deref.ensures.value (valid-named c.args.problem.now c.learned.new.lines.items c.in_ok-line.ensures.lines.valid)
+
+pub search_against-flipped-requires-clause-line : goal.search_against-flipped-requires-clause-line
+search_against-flipped-requires-clause-line t c =
+    let clause = c.in_ok-line.ensures.clause in
+    rw c.deref.ensures.value (line-within c.learned.new.lines.items c.in_ok-line.line clause.line clause.found)
 
 pub search_against-returns-in_default-clause-finds : goal.search_against-returns-in_default-clause-finds
 search_against-returns-in_default-clause-finds t c =
