@@ -26,7 +26,8 @@ pub fn looked(
     }
 }
 
-/// Notes the literals without which the formula can't have the wanted value.
+/// Notes the literals without which the formula can't have the wanted value; none behind a connective whose operands are
+/// not noted. `valued` notes them all, but no contract says so.
 fn force(
     formula: &Formula,
     wanted: bool,
@@ -50,7 +51,6 @@ fn force(
         }
         Formula::Not(f) => force(f, !wanted, part, reason, noted, forced),
         Formula::And(f, g) | Formula::Or(f, g) | Formula::Iff(f, g) => {
-            // `valued` noted one for each connective, but no contract says so; without it nothing is forced.
             let Some(operands) = noted.pop() else {
                 return Ok(());
             };

@@ -108,8 +108,7 @@ impl Watches {
             forced.push(unit)?;
             return Ok(());
         };
-        let other = lits[second];
-        if let Truth3::No = lit_value(part, other) {
+        if let Truth3::No = lit_value(part, lits[second]) {
             forced.push(Forced { lit, reason })?;
         }
         let place = self.watches.len();
@@ -119,7 +118,7 @@ impl Watches {
             second,
         })?;
         self.enter(lit, place)?;
-        self.enter(other, place)
+        self.enter(lits[second], place)
     }
 
     /// The last line that is watched.
