@@ -1,5 +1,5 @@
 -- An index has the first places, and keeps them as names are added.
-use Rattle.std.proofs.Common.{◌≡◌, ℕ, ◌+◌, List, [], ◌∷◌, ◌++◌, map, length, position, bytes_eq, Bool, true, false, cond, Option, Some, None, is_some, not, suc}
+use Rattle.std.proofs.Common.{◌≡◌, ℕ, ◌+◌, List, [], ◌∷◌, ◌++◌, map, length, position, bytes_eq, Bool, true, false, cond, Option, Some, None, not, suc}
 use Rattle.std.proofs.Common.{refl, sym, ap, ◌∙◌, arith, nat_lt}
 use Rattle.std.specs.Option.{option_or, option_map}
 use Rattle.std.specs.Map.{lookup}
