@@ -1,13 +1,13 @@
 -- Declared codes and their numbers.
-use Rattle.std.proofs.Common.{◌≡◌, ℕ, ◌+◌, suc, List, [], ◌∷◌, ◌++◌, length, Bool, true, false, not, nat_lt, ◌||◌, cond, Some, None, refl, sym, ap, ◌∙◌, arith}
+use Rattle.std.proofs.Common.{◌≡◌, ℕ, List, [], ◌∷◌, ◌++◌, length, Bool, true, false, nat_lt, ◌||◌, cond, Some, None, refl, sym, ap, ◌∙◌, arith}
 use Rattle.std.specs.Prelude.{bytes_eq, fold, is_some, nat_eq}
-use Rattle.std.specs.List.{list_any, position_or_len, slice_get}
-use Rattle.std.proofs.lemmas.Bool.{lt-ltb, eq-eqb}
+use Rattle.std.specs.List.{position_or_len, slice_get}
+use Rattle.std.proofs.lemmas.Bool.{eq-eqb}
 use Rattle.std.proofs.lemmas.List.Folds.{list_any-append}
 use Rattle.std.proofs.lemmas.Grind.{common_steps}
 use Rattle.std.proofs.Math.Bool.{or-true, or-false, or_assoc}
 use Rattle.ccsl_base.specs.Names.{is_among, find_name}
-use Rattle.ccsl_base.proofs.Tables.{bytes_eq-true, bytes_eq-refl, bytes_eq-sym, find_name-there, any-within, bytes_eq-comm}
+use Rattle.ccsl_base.proofs.Tables.{bytes_eq-true, bytes_eq-refl, find_name-there, any-within, bytes_eq-comm}
 use Rattle.ccsl_vcd.specs.Binding.{Declaration}
 use Rattle.ccsl_vcd.specs.Body.{is_declared}
 use Rattle.ccsl_bind.specs.Codes.{put_code, codes_of, number_of}

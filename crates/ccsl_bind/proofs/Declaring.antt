@@ -1,16 +1,15 @@
 -- What a binder stands for, declaration by declaration.
-use Rattle.std.proofs.Common.{◌≡◌, ℕ, zero, suc, ◌+◌, ◌≤◌, ◌<◌, List, [], ◌∷◌, ◌++◌, length, take, Bool, true, false, not, ◌||◌, ◌&&◌, Option, Some, None}
+use Rattle.std.proofs.Common.{◌≡◌, ℕ, zero, suc, ◌+◌, ◌≤◌, ◌<◌, List, [], ◌∷◌, ◌++◌, length, take, true, false, not, ◌||◌, Option, Some, None}
 use Rattle.std.proofs.Common.{get_or, refl, sym, ap, ◌∙◌, subst, arith}
 use Rattle.std.specs.Prelude.{bytes_eq}
 use Rattle.std.specs.List.{slice_get}
 use Rattle.std.proofs.Math.ListN.{set}
 use Rattle.std.proofs.lemmas.Option.{slice_get_within}
 use Rattle.std.proofs.lemmas.Bool.{and_parts, not-true}
-use Rattle.std.proofs.Math.Bool.{or-true}
 use Rattle.ccsl_base.specs.declared.limits.TheConstants.{MAX_CLOCKS}
 use Rattle.ccsl_base.specs.Names.{is_among, find_name, are_distinct}
 use Rattle.ccsl_base.specs.Added.{IsAdded}
-use Rattle.ccsl_base.proofs.Tables.{bytes_eq-true, bytes_eq-refl, find_name-there, there-among}
+use Rattle.ccsl_base.proofs.Tables.{bytes_eq-true, find_name-there, there-among}
 use Rattle.ccsl_vcd.specs.Binding.{Declaration, Wanted, is_event, qualifies}
 use Rattle.ccsl_bind.specs.declared.candidate.Candidates.{Candidates}
 use Rattle.ccsl_bind.specs.Codes.{put_code, codes_of, number_of}

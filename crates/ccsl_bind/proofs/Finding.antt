@@ -1,11 +1,11 @@
 -- The number of a code, as codes are added.
-use Rattle.std.proofs.Common.{◌≡◌, ℕ, suc, ◌+◌, ◌≤◌, List, [], ◌∷◌, ◌++◌, length, Bool, true, false, not, nat_lt, ◌||◌, cond, Option, Some, None, refl, sym, ap}
+use Rattle.std.proofs.Common.{◌≡◌, ℕ, suc, ◌+◌, ◌≤◌, List, [], ◌∷◌, ◌++◌, length, Bool, true, false, not, nat_lt, cond, Option, Some, None, refl, sym, ap}
 use Rattle.std.proofs.Common.{◌∙◌, arith, length-append}
 use Rattle.std.specs.Prelude.{bytes_eq, fold}
 use Rattle.std.specs.Option.{option_map}
 use Rattle.std.specs.List.{list_any, position, position_or_len}
 use Rattle.std.proofs.lemmas.Bool.{lt-ltb, or_parts}
-use Rattle.std.proofs.lemmas.Grind.{common_steps, fold-append}
+use Rattle.std.proofs.lemmas.Grind.{fold-append}
 use Rattle.ccsl_base.specs.Names.{is_among}
 use Rattle.ccsl_base.proofs.Tables.{bytes_eq-refl}
 use Rattle.ccsl_vcd.specs.Binding.{Declaration}

@@ -17,7 +17,6 @@ use std::alloc::Global;
 use std::marker::Model;
 
 /// Takes the declarations of a header in order. One that answered `Memory` is not used again.
-#[derive(Drop)]
 pub struct Binder {
     names: Names,
     declared: u32,
@@ -31,6 +30,18 @@ impl Model for Binder {
     ghost Value = { Collected };
 
     ghost view = { λ b. record { wanted = record { names = b.names; declared = b.declared }; codes = b.codes; found = b.found.items } };
+}
+
+// By hand and not derived: to the prover, an early return then drops one by a single call.
+impl Drop for Binder {
+    fn drop(self) {
+        let Binder {
+            names: _names,
+            declared: _,
+            codes: _codes,
+            found: _found,
+        } = self;
+    }
 }
 
 // An event of any size, or a net of one bit.
@@ -133,10 +144,17 @@ impl Binder {
             StandsFor wanted self ds →
             Refuses e (bind wanted ds)) }
     {
-        match bound_clocks(self.found.as_slice(), self.declared) {
-            Ok(bound) => Ok(Binding::new(self.codes, bound, self.found)),
-            Err(fault) => Err(fault),
-        }
+        let Binder {
+            names: _names,
+            declared,
+            codes,
+            found,
+        } = self;
+        let bound = match bound_clocks(found.as_slice(), declared) {
+            Ok(bound) => bound,
+            Err(fault) => return Err(fault),
+        };
+        Ok(Binding::new(codes, bound, found))
     }
 }
 

@@ -1,5 +1,5 @@
 -- Changes that are made where they lie.
-use Rattle.std.proofs.Common.{◌≡◌, ℕ, suc, ◌+◌, ◌-◌, ◌<◌, ◌≤◌, ◌⊎◌, inl, inr, List, [], ◌∷◌, length, take, drop, get_or, map, Bool, true, false, not, nat_eq}
+use Rattle.std.proofs.Common.{◌≡◌, ℕ, ◌+◌, ◌-◌, ◌<◌, ◌≤◌, ◌⊎◌, inl, inr, List, [], ◌∷◌, length, take, drop, get_or, map, Bool, true, false, not, nat_eq}
 use Rattle.std.proofs.Common.{◌||◌, cond, Some, Ok, refl, sym, ap, ◌∙◌, subst, arith, length-drop, length-take-le}
 use Rattle.std.specs.List.{list_all, prefix_len}
 use Rattle.std.proofs.lemmas.Bool.{and_parts}

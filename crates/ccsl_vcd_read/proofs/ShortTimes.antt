@@ -8,7 +8,7 @@ use Rattle.ccsl_vcd_lex.specs.Tokens.{is_white}
 use Rattle.ccsl_vcd_lex.specs.Lexing.{is_dark}
 use Rattle.ccsl_vcd.specs.declared.fault.VcdFault.{VcdFault}
 use Rattle.ccsl_base.specs.Decimal.{value_behind}
-use Rattle.ccsl_vcd.specs.Words.{number, word_of, time, time_of}
+use Rattle.ccsl_vcd.specs.Words.{number}
 use Rattle.ccsl_vcd.specs.Reading.{is_changes}
 use Rattle.ccsl_vcd_read.specs.declared.body.Body.{Body}
 use Rattle.ccsl_vcd_read.specs.Meant.{amid_of}

@@ -23,8 +23,8 @@ new-requires-clause-numbers c =
     let s = subst (λ (x : Collected). StandsFor c.requires.0 x c.requires.1) (sym c.self.view_is) c.requires.2 in
     numbered c.self.inside.codes c.requires.1 _ c.self.inside.found.items s.found
 
-pub returns-in-Ok-clause-bound : goal.returns-in-Ok-clause-bound
-returns-in-Ok-clause-bound c = λ wanted ds t.
+pub returns-clause-bound : goal.returns-clause-bound
+returns-clause-bound c = λ wanted ds t.
     let s = subst (λ (x : Collected). StandsFor wanted x ds) (sym c.self.view_is) t in
     ap (λ w. bind w ds) (sym s.wanted)
     ∙ (all-bound _ c.self.inside.codes ds c.self.inside.found.items c.in-Ok.bound s.found

@@ -1,4 +1,4 @@
-use Rattle.std.proofs.Common.{◌≡◌, true, List, ℕ, map, ap, sym, ◌∙◌, subst}
+use Rattle.std.proofs.Common.{◌≡◌, true, map, ap, sym, ◌∙◌, subst}
 use Rattle.ccsl_base.specs.Clocks.{is_ascending, are_below}
 use Rattle.ccsl_base.specs.declared.limits.TheConstants.{MAX_CLOCKS}
 use Rattle.ccsl_bind.specs.Bindings.{Bindings, are_declared}
