@@ -1,10 +1,23 @@
 use Rattle.std.proofs.Common.{◌≡◌, ◌≤◌, ◌∙◌, sym, [], length, get_or, arith}
 use Rattle.std.specs.Counts.{IsPrefixLen}
 use Rattle.std.proofs.lemmas.Result.{IfOk-at_ok}
+use Rattle.std.proofs.lemmas.Grind.{common_steps}
 use Rattle.ccsl_edge.proofs.OneSlot.{Fails-at}
+use Rattle.ccsl_edge.proofs.Slots.{index_of-lt}
 use Rattle.ccsl_files.proofs.Untold.{Takes-untold}
 use Rattle.ccsl_files.proofs.file_world.FileWorldWorld.read.Goals as goal
 use Rattle.ccsl_files.proofs.file_world.FileWorldWorld.read.Goals.{in-Input, in_default}
+
+pub offset_bounds-self-inside-index : goal.offset_bounds-self-inside-index
+offset_bounds-self-inside-index g c = grind (arith, common_steps)
+
+pub bounds-self-inside-index : goal.bounds-self-inside-index
+bounds-self-inside-index g c = rw c.index.ensures (index_of-lt c.args.slot)
+
+pub listed : goal.listed
+listed g c =
+    let long : length c.self.inside.slots ≡ 7 = omega arith in
+    rw (c.index.ensures, long) (index_of-lt c.args.slot)
 
 pub returns-in_default-answer-clause-err : goal.returns-in_default-answer-clause-err
 returns-in_default-answer-clause-err g c =
