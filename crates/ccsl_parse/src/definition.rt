@@ -14,7 +14,7 @@ use crate::expression::expr_at;
 use crate::leaf::{before_symbol, behind_word, is_word, name_at, symbol_at};
 use crate::line::rline_at;
 use crate::list::list_at;
-use crate::repeat::{Repeated, many_at};
+use crate::repeat::{Repeated, many_behind};
 use crate::room::Room;
 use crate::stop::Stop;
 use ccsl_ast::{Definition, Member};
@@ -35,9 +35,7 @@ fn relation_at<'a>(
     let (params, rest) = list_at(alloc, rest)?;
     let rest = symbol_at(rest, b'{')?;
     let (line, rest) = rline_at(alloc, room, rest)?;
-    let mut first = Vec::new(alloc);
-    first.push(line)?;
-    let (lines, rest) = many_at(alloc, room, first, rest)?;
+    let (lines, rest) = many_behind(alloc, room, line, rest)?;
     let relation = Definition::Relation {
         name,
         params,
@@ -73,9 +71,7 @@ fn group_at<'a>(
     ensures { ReadsAs plain_definition result (group_at room.two room.levels) tokens.now }
 {
     let (member, rest) = member_at(alloc, room, tokens)?;
-    let mut first = Vec::new(alloc);
-    first.push(member)?;
-    let (members, rest) = many_at(alloc, room, first, rest)?;
+    let (members, rest) = many_behind(alloc, room, member, rest)?;
     before_symbol(Definition::Group(members), rest, b';')
 }
 

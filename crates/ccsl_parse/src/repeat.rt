@@ -1,6 +1,6 @@
 //! What is read again and again, with nothing between.
 
-ghost use Rattle.std.specs.Prelude.{◌≡◌, map};
+ghost use Rattle.std.specs.Prelude.{◌≡◌, ◌∷◌, [], map};
 ghost use Rattle.ccsl_grammar.specs.Terminals.{terminals};
 ghost use Rattle.ccsl_grammar.specs.Reader.{took, many};
 ghost use Rattle.ccsl_grammar.specs.Loop.{behind};
@@ -56,4 +56,20 @@ pub fn many_at<'a, T: Repeated>(
         rest = after;
     }
     Ok((Seq::new(members), rest))
+}
+
+/// One, and as many as stand behind it.
+pub fn many_behind<'a, T: Repeated>(
+    alloc: Global,
+    room: Room,
+    first: T,
+    tokens: &'a [Token],
+) -> Result<(Seq<T>, &'a [Token]), Stop<'a>>
+    ensures { ReadsAs (map T.plain) result
+        (behind (T.plain first ∷ []) (many T.starts (T.reader room.two room.levels)))
+        tokens.now }
+{
+    let mut members = Vec::new(alloc);
+    members.push(first)?;
+    many_at(alloc, room, members, tokens)
 }
