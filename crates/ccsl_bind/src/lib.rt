@@ -8,6 +8,9 @@
 //!     let binding = binder.close()?;         // or the first declared clock that is unbound or ambiguous
 //!
 //! A defined clock may be bound too, and need not. The codes are hashed by keys that no file can know.
+//! Proved: the binding is the one that is defined on all declarations of the header (`specs/Gathered.antt`), or the
+//! fault is the first that is defined; a change is looked up by its code in constant time. ccsl_vcd_read declares what
+//! it reads, and hears the changes by the binding.
 #![tactic(auto)]
 
 pub mod binder;

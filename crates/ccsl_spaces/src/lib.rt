@@ -8,6 +8,9 @@
 //!     space.find(b"req")                     // the declaration, with the place from which on it may be used
 //!
 //! There is one space a group of parameters, one a relation, one for the system, and one for what can be called.
+//! Proved: what a look-up answers is what the rules say of the list of all declarations (`find` of ccsl_rules), and it
+//! takes one look into an index. ccsl_faults asks it whether a name is there and of its kind, ccsl_expand what a name
+//! stands for.
 #![tactic(auto)]
 
 pub mod callee;
