@@ -1,5 +1,6 @@
 -- The rows of a block, taken one by one.
-use Rattle.std.proofs.Common.{◌≡◌, ℕ, ◌+◌, ◌<◌, ◌≤◌, ◌^◌, List, [], ◌∷◌, ◌++◌, length, take, slice_get, Some, refl, sym, ap, ◌∙◌, subst, arith, append_assoc}
+use Rattle.std.proofs.lemmas.Grind.{common_steps}
+use Rattle.std.proofs.Common.{add-one, ◌≡◌, ℕ, ◌+◌, ◌<◌, ◌≤◌, ◌^◌, List, [], ◌∷◌, ◌++◌, length, take, slice_get, Some, refl, sym, ap, ◌∙◌, subst, arith, append_assoc}
 use Rattle.std.proofs.Common.{length-append, length-take-le}
 use Rattle.std.proofs.lemmas.List.{append-nil, take_all}
 use Rattle.ccsl_base.specs.declared.rows.Row.{Row}
@@ -15,21 +16,12 @@ pub record Taken (start now : Watching) (block : List Row) (i : ℕ) : Type 0 wh
       → StandsFor recorded now (rows ++ take i block)
 
 pub taken-none : (v : Watching) (block : List Row) → Taken v v block 0
-taken-none v block = record {
-  within = omega arith;
-  system = refl;
-  start_is = refl;
-  count = refl;
-  stands =
-      λ recorded rows s l. subst (λ rs. StandsFor recorded v rs) (sym (append-nil rows)) s;
-}
+taken-none v block = grind (arith, common_steps, append-nil)
 
 pub take-more : (block : List Row) (i : ℕ) (row : Row) → slice_get block i ≡ Some row → take (i + 1) block ≡ take i block ++ row ∷ []
-take-more [] i row e = absurd (cc)
-take-more (x ∷ block) Rattle.std.proofs.Common.zero row e = ap (λ y. y ∷ []) (let q : x ≡ row = cc in q)
-take-more (x ∷ block) (Rattle.std.proofs.Common.suc i) row e =
-    let k : Rattle.std.proofs.Common.suc i + 1 ≡ Rattle.std.proofs.Common.suc (i + 1) = omega arith in
-    ap (λ j. take j (x ∷ block)) k ∙ ap (λ ys. x ∷ ys) (take-more block i row e)
+take-more [] i row e = grind (arith, common_steps)
+take-more (x ∷ block) Rattle.std.proofs.Common.zero row e = grind (arith, common_steps)
+take-more (x ∷ block) (Rattle.std.proofs.Common.suc i) row e = simp add-one (ap (λ ys. x ∷ ys) (simp add-one at (take-more block i row e)))
 
 pub few-rows : (block : List Row) (i : ℕ) (rows : List Row) → i < length block → length rows + length block < 2 ^ 64
     → length (rows ++ take i block) + 1 < 2 ^ 64

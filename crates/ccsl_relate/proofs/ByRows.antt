@@ -1,5 +1,6 @@
 -- An item over rows that are steps by themselves.
-use Rattle.std.proofs.Common.{◌≡◌, ℕ, zero, suc, ◌+◌, ◌<◌, ◌^◌, List, [], ◌∷◌, length, take, slice_get, Some, Bool, true, false, not, refl, ap, ◌∙◌, arith}
+use Rattle.std.proofs.lemmas.Grind.{common_steps}
+use Rattle.std.proofs.Common.{add-one, ◌≡◌, ℕ, zero, suc, ◌+◌, ◌<◌, ◌^◌, List, [], ◌∷◌, length, take, slice_get, Some, Bool, true, false, not, refl, ap, ◌∙◌, arith}
 use Rattle.ccsl_base.specs.Clocks.{ticks_in}
 use Rattle.ccsl_base.specs.declared.rows.Row.{Row}
 use Rattle.ccsl_formula.specs.Formula.{same}
@@ -17,9 +18,7 @@ pub after-more : (rows : List Row) (w : Watched) (n : ℕ) (row : Row) → slice
     → after_rows (take (n + 1) rows) w ≡ next_in row.ticks (after_rows (take n rows) w)
 after-more [] w n row e = absurd (cc)
 after-more (x ∷ rows) w zero row e = ap (λ (y : Row). next_in y.ticks w) (let q : x ≡ row = cc in q)
-after-more (x ∷ rows) w (suc n) row e =
-    let k : suc n + 1 ≡ suc (n + 1) = omega arith in
-    ap (λ j. after_rows (take j (x ∷ rows)) w) k ∙ after-more rows (next_in x.ticks w) n row e
+after-more (x ∷ rows) w (suc n) row e = simp add-one (simp add-one at (after-more rows (next_in x.ticks w) n row e))
 
 -- what fails at a row is what is kept up to it
 pub fails-here : (rows : List Row) (w : Watched) (n : ℕ) (row : Row) → slice_get rows n ≡ Some row
@@ -34,13 +33,9 @@ clocks-after (row ∷ rows) w = clocks-after rows (next_in row.ticks w) ∙ cloc
 
 -- ROOM for the ticks of all rows is room for one more before the last
 room-on : (s : Step) (w : Watched) (n : ℕ) → HasRoomFor (suc n) w → HasRoomFor n (next_in s w)
-room-on s Nothing n h = tt
-room-on s (Definition clock) n h = tt
-room-on s (Relation r) n h = (one-more (ticks_in r.left s) r.left_count h.0, one-more (ticks_in r.right s) r.right_count h.1)
-  where
-    one-more : (t : Bool) (k : ℕ) → k + suc n < 2 ^ 64 → counted t k + n < 2 ^ 64
-    one-more true k l = omega (arith, l)
-    one-more false k l = omega (arith, l)
+room-on s Nothing n h = grind (arith, common_steps)
+room-on s (Definition clock) n h = grind (arith, common_steps)
+room-on s (Relation r) n h = grind (arith, common_steps)
 
 room-here : (n : ℕ) (w : Watched) → 0 < n → HasRoomFor n w → HasRoom w
 room-here n Nothing l h = tt
@@ -64,11 +59,7 @@ nothing-stays (row ∷ rows) = nothing-stays rows
 
 pub definition-obeys : (clock : ℕ) (rows : List Row) (n : ℕ) → fails_at rows (Definition clock) n ≡ false
 definition-obeys clock [] n = refl
-definition-obeys clock (row ∷ rows) zero = no-other (ticks_in clock row.ticks)
-  where
-    no-other : (t : Bool) → not (same t t) ≡ false
-    no-other true = refl
-    no-other false = refl
+definition-obeys clock (row ∷ rows) zero = grind (arith, common_steps)
 definition-obeys clock (row ∷ rows) (suc n) = definition-obeys clock rows n
 
 pub definition-stays : (clock : ℕ) (rows : List Row) → Definition clock ≡ after_rows rows (Definition clock)

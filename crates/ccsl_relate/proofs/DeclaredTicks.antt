@@ -1,5 +1,6 @@
 -- The ticks of a row without the undeclared clocks are those of the declared clocks.
-use Rattle.std.proofs.Common.{◌≡◌, ℕ, List, Bool, true, false, not, ◌&&◌, nat_lt, refl, sym, ap, ◌∙◌}
+use Rattle.std.proofs.lemmas.Grind.{common_steps}
+use Rattle.std.proofs.Common.{arith, ◌≡◌, ℕ, List, Bool, true, false, not, ◌&&◌, nat_lt, refl, sym, ap, ◌∙◌}
 use Rattle.std.proofs.lemmas.Bool.{ltb-true, ltb-false}
 use Rattle.ccsl_base.specs.declared.limits.TheConstants.{MAX_CLOCKS}
 use Rattle.ccsl_base.specs.Clocks.{ticks_in, is_ascending, are_below}
@@ -15,14 +16,7 @@ pub declared-are : (K : System) (undeclared ticks declared : List ℕ) → IsUnd
     → ((x : ℕ) → ticks_in x declared ≡ (ticks_in x ticks && not (ticks_in x undeclared))) → declared ≡ declared_part K ticks
 declared-are K undeclared ticks declared u a b d h =
     same-members declared (declared_part K ticks) d (below-ascending K.declared ticks a)
-    (λ x. h x ∙ masked x (nat_lt x MAX_CLOCKS) refl ∙ sym (ticks_in-filter (λ y. nat_lt y K.declared) x ticks))
+    (λ x. h x ∙ masked x ∙ sym (ticks_in-filter (λ y. nat_lt y K.declared) x ticks))
   where
-    masked : (x : ℕ) (v : Bool) → nat_lt x MAX_CLOCKS ≡ v → (ticks_in x ticks && not (ticks_in x undeclared)) ≡ (ticks_in x ticks && nat_lt x K.declared)
-    masked x true e = ap (λ t. ticks_in x ticks && not t) (u x (ltb-true x MAX_CLOCKS e)) ∙ ap (λ t. ticks_in x ticks && t) (twice (nat_lt x K.declared))
-      where
-        twice : (t : Bool) → not (not t) ≡ t
-        twice true = refl
-        twice false = refl
-    masked x false e =
-        let n : ticks_in x ticks ≡ false = NoneFrom-are_below MAX_CLOCKS ticks b x (ltb-false x MAX_CLOCKS e) in
-        ap (λ t. t && not (ticks_in x undeclared)) n ∙ sym (ap (λ t. t && nat_lt x K.declared) n)
+    masked : (x : ℕ) → (ticks_in x ticks && not (ticks_in x undeclared)) ≡ (ticks_in x ticks && nat_lt x K.declared)
+    masked x = grind (arith, common_steps, u x, NoneFrom-are_below)

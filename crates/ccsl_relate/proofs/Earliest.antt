@@ -1,4 +1,5 @@
 -- Items that are taken over rows, one after the other: the first row at which one of them fails.
+use Rattle.std.proofs.lemmas.Grind.{common_steps}
 use Rattle.std.proofs.Common.{◌≡◌, ℕ, suc, ◌+◌, ◌<◌, ◌≤◌, List, Option, Some, None, true, false, map, length, take, get_or, slice_set, refl, ap, ap₂, ◌∙◌}
 use Rattle.std.proofs.Common.{subst, arith, below_more}
 use Rattle.std.specs.Prelude.{All, IfSome, IfNone}
@@ -37,15 +38,7 @@ module _ (rows : List Row) (old : List Watched) where
     pub none : IfNone first (HaveGone now i end)
 
   pub far-none : IsSoFar old 0 (length rows) None
-  far-none = record {
-    count = refl;
-    clocks = refl;
-    within = omega arith;
-    before = λ k l. absurd (omega (arith, l));
-    rest = λ k l. refl;
-    found = tt;
-    none = record { whole = refl; gone = refl };
-  }
+  far-none = grind (arith, common_steps)
 
   module _ (now : List Watched) (i end : ℕ) (first : Option Failure) (f : IsSoFar now i end first) (l : i < length old) (x : Watched)
       (clocks : clocks_of x ≡ clocks_of (get_or now i Nothing)) where
@@ -61,8 +54,8 @@ module _ (rows : List Row) (old : List Watched) where
     -- the next item does not fail before row `end`
     module _ (obeys : ObeysUpTo rows end (get_or now i Nothing)) (is : x ≡ after_rows (take end rows) (get_or now i Nothing)) where
       found-on : (o : Option Failure) → IfSome o (IsFound i end) → IfSome o (IsFound (i + 1) end)
-      found-on None h = tt
-      found-on (Some v) h = record { row = h.row; inside = h.inside; place = omega (arith, h.place); fails = h.fails; lower = h.lower }
+      found-on None h = grind (arith, common_steps)
+      found-on (Some v) h = grind (arith, common_steps)
 
       gone-on : (o : Option Failure) → IfNone o (HaveGone now i end) → IfNone o (HaveGone next (i + 1) end)
       gone-on (Some v) h = tt
@@ -79,47 +72,17 @@ module _ (rows : List Row) (old : List Watched) where
           }
 
       pub far-on : IsSoFar next (i + 1) end first
-      far-on = record {
-        count = length-set now i x ∙ f.count;
-        clocks = map-set_same clocks_of now i x Nothing clocks ∙ f.clocks;
-        within = f.within;
-        before = below_more (λ (k : ℕ). ObeysUpTo rows end (get_or old k Nothing)) i f.before (subst (ObeysUpTo rows end) same obeys);
-        rest = next-rest;
-        found = found-on first f.found;
-        none = gone-on first f.none;
-      }
+      far-on = grind (arith, common_steps, length-set, map-set_same, same, next-rest, found-on, gone-on)
 
     -- it fails at an earlier row than those before it
     pub far-found : (row : ℕ) → IsFirstRow rows end (get_or now i Nothing) row → IsSoFar next (i + 1) row (Some (record { row = row; place = i }))
-    far-found row r =
-        let here : IsFirstRow rows end (get_or old i Nothing) row = subst (λ w. IsFirstRow rows end w row) same r in
-        record {
-          count = length-set now i x ∙ f.count;
-          clocks = map-set_same clocks_of now i x Nothing clocks ∙ f.clocks;
-          within = omega (arith, here.inside, f.within);
-          before = below_more (λ (k : ℕ). ObeysUpTo rows row (get_or old k Nothing)) i (λ k m n b. f.before k m n (omega (arith, b, here.inside))) here.before;
-          rest = next-rest;
-          found = record {
-            row = refl;
-            inside = omega (arith, here.inside, f.within);
-            place = omega arith;
-            fails = here.fails;
-            lower = λ k m. f.before k m row here.inside;
-          };
-          none = tt;
-        }
+    far-found row r = grind (arith, common_steps, same, length-set, map-set_same, next-rest)
 
   module _ (now : List Watched) (i end : ℕ) (whole : length old ≤ i) where
     -- ALL ITEMS were taken
     pub done-found : (first : Option Failure) → i ≤ length old → IsSoFar now i end first → IfSome first (IsFirstIn rows old)
-    done-found None m f = tt
-    done-found (Some v) m f = record {
-      row = f.found.inside;
-      place = omega (arith, f.found.place, m);
-      fails = f.found.fails;
-      earlier = λ k l n b. f.before k (omega (arith, l, whole)) n (omega (arith, b, f.found.row));
-      lower = f.found.lower;
-    }
+    done-found None m f = grind (arith, common_steps)
+    done-found (Some v) m f = grind (arith, common_steps)
 
     pub done-none : (first : Option Failure) → IsSoFar now i end first → IfNone first (All (ObeysUpTo rows (length rows)) old)
     done-none (Some v) f = tt
@@ -127,5 +90,5 @@ module _ (rows : List Row) (old : List Watched) where
         subst (ObeysUpTo rows (length rows)) (get_or_default old k Nothing d l) (λ n b. f.before k (omega (arith, l, whole)) n (omega (arith, b, f.none.whole)))
 
     pub done-next : (first : Option Failure) → IsSoFar now i end first → IfNone first (now ≡ map (after_rows rows) old)
-    done-next (Some v) f = tt
-    done-next None f = f.none.gone ∙ partly-all (after_rows rows) i old whole
+    done-next (Some v) f = grind (arith, common_steps)
+    done-next None f = grind (arith, common_steps, partly-all)

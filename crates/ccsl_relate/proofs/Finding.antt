@@ -1,4 +1,5 @@
 -- The first violation of some items, one row more.
+use Rattle.std.proofs.lemmas.Grind.{common_steps}
 use Rattle.std.proofs.Common.{◌≡◌, ℕ, suc, ◌+◌, ◌-◌, ◌<◌, ◌≤◌, List, [], ◌∷◌, ◌++◌, length, map, slice_index, true, false, sym, ap, ap₂, ◌∙◌, arith}
 use Rattle.std.proofs.Common.{length-append, ⊎_elim}
 use Rattle.std.proofs.Math.ListN.{get_or-append}
@@ -30,10 +31,10 @@ module _ (K : System) (ok : IsAccepted K) (recorded : List ℕ) (rows : List Row
   times-more = map-append (λ r. r.time) rows (row ∷ [])
 
   time-front : (k : ℕ) → k < length rows → slice_index (times more) k ≡ slice_index (times rows) k
-  time-front k l = ap (λ ts. slice_index ts k) times-more ∙ get_or-append (times rows) (row.time ∷ []) 0 k (omega (arith, l, length-map rows (λ r. r.time)))
+  time-front k l = grind (arith, common_steps, slice_index, times-more, get_or-append, length-map)
 
   time-last : slice_index (times more) (length rows) ≡ row.time
-  time-last = ap₂ slice_index times-more (sym (length-map rows (λ r. r.time))) ∙ get_or-append_seam (times rows) row.time [] 0
+  time-last = grind (arith, common_steps, slice_index, times-more, length-map, get_or-append_seam)
 
   -- the rows before are violated as they were
   before : (n j : ℕ) → n < length rows → is_violated K recorded more n j ≡ is_violated K recorded rows n j
@@ -41,15 +42,7 @@ module _ (K : System) (ok : IsAccepted K) (recorded : List ℕ) (rows : List Row
 
   -- what was the first stays the first
   pub first-stays : (v : Violation) → IsFirst K recorded rows start count v → IsFirst K recorded more start count v
-  first-stays v f = record {
-    step = omega (arith, f.step, one-more);
-    time = f.time ∙ sym (time-front v.step f.step);
-    from = f.from;
-    below = f.below;
-    violated = before v.step v.item f.step ∙ f.violated;
-    earlier = λ n j l a b. before n j (omega (arith, l, f.step)) ∙ f.earlier n j l a b;
-    lower = λ j a b. before v.step j f.step ∙ f.lower j a b;
-  }
+  first-stays v f = grind (arith, common_steps, one-more, time-front, before)
 
   -- or it is at the row, where none was violated before
   pub first-here : (place : ℕ) → AreObeyed K recorded rows start count → place < count → is_violated K recorded more (length rows) (start + place) ≡ true

@@ -1,4 +1,5 @@
 -- What is followed for some items: the clocks that they read, and all that these lead to.
+use Rattle.std.proofs.lemmas.Grind.{common_steps}
 use Rattle.std.proofs.Common.{◌≡◌, ℕ, ◌+◌, ◌-◌, ◌<◌, List, [], ◌∷◌, Bool, true, false, ◌||◌, ◌&&◌, All, Some, nat_eq, nat_lt, length, slice_get, get_or, refl}
 use Rattle.std.proofs.Common.{sym, ap, ◌∙◌, subst, arith, eq-eqb, lt-ltb, le-ltb}
 use Rattle.std.specs.List.{list_all, list_any}
@@ -26,15 +27,11 @@ is_read x kept = list_any (λ w. ticks_in x (clocks_of w)) kept
 
 -- a member that is found, or one behind it
 first-or : {P : Type 0} (x y : ℕ) (rest : Bool) → (nat_eq x y || rest) ≡ true → (x ≡ y → P) → (rest ≡ true → P) → P
-first-or {P} x y rest t here there = by-first (nat_eq x y) refl t
-  where
-    by-first : (b : Bool) → nat_eq x y ≡ b → (b || rest) ≡ true → P
-    by-first true e h = here (eqb-true x y e)
-    by-first false e h = there h
+first-or {P} x y rest t here there = grind (arith, common_steps)
 
 either : {P : Type 0} (a b : Bool) → (a || b) ≡ true → (a ≡ true → P) → (b ≡ true → P) → P
-either true b h left right = left refl
-either false b h left right = right h
+either true b h left right = grind (arith, common_steps)
+either false b h left right = grind (arith, common_steps)
 
 itself : (x : ℕ) (rest : Bool) → (nat_eq x x || rest) ≡ true
 itself x rest = or_left (nat_eq x x) rest (eq-eqb x x refl)
@@ -42,26 +39,19 @@ itself x rest = or_left (nat_eq x x) rest (eq-eqb x x refl)
 module _ (q : ℕ → Bool) where
   -- an item reads clocks of a kind alone
   reads-each : (w : Watched) (x : ℕ) → reads_only q w ≡ true → ticks_in x (clocks_of w) ≡ true → q x ≡ true
-  reads-each Nothing x h t = absurd (cc)
-  reads-each (Definition clock) x h t = first-or x clock false t (λ e. ap q e ∙ h) (λ n. absurd (cc n))
-  reads-each (Relation r) x h t =
-      let parts = and_parts (q r.left) (q r.right) h in
-      first-or x r.left (ticks_in x (r.right ∷ [])) t (λ e. ap q e ∙ parts.0)
-      (λ u. first-or x r.right false u (λ e. ap q e ∙ parts.1) (λ n. absurd (cc n)))
+  reads-each Nothing x h t = grind (arith, common_steps)
+  reads-each (Definition clock) x h t = grind (arith, common_steps, first-or)
+  reads-each (Relation r) x h t = grind (arith, common_steps, first-or)
 
   reads-from : (w : Watched) → ((x : ℕ) → ticks_in x (clocks_of w) ≡ true → q x ≡ true) → reads_only q w ≡ true
-  reads-from Nothing h = refl
-  reads-from (Definition clock) h = h clock (itself clock false)
-  reads-from (Relation r) h =
-      and_from (q r.left) (q r.right) (h r.left (itself r.left (ticks_in r.left (r.right ∷ []))))
-      (h r.right (or_right (nat_eq r.right r.left) (ticks_in r.right (r.right ∷ [])) (itself r.right false)))
+  reads-from Nothing h = grind (arith, common_steps)
+  reads-from (Definition clock) h = grind (arith, common_steps, itself)
+  reads-from (Relation r) h = grind (arith, common_steps, itself)
 
   -- all items
   pub read-each : (kept : List Watched) (x : ℕ) → list_all (reads_only q) kept ≡ true → is_read x kept ≡ true → q x ≡ true
-  read-each [] x h t = absurd (cc)
-  read-each (w ∷ kept) x h t =
-      let parts = and_parts (reads_only q w) (list_all (reads_only q) kept) h in
-      either (ticks_in x (clocks_of w)) (is_read x kept) t (reads-each w x parts.0) (read-each kept x parts.1)
+  read-each [] x h t = grind (arith, common_steps)
+  read-each (w ∷ kept) x h t = grind (arith, common_steps, reads-each w x, read-each kept x)
 
   pub read-from : (kept : List Watched) → ((x : ℕ) → is_read x kept ≡ true → q x ≡ true) → list_all (reads_only q) kept ≡ true
   read-from [] h = refl
@@ -93,10 +83,7 @@ module _ (K : System) (ok : IsAccepted K) where
       subst (IsConstraint (length K.names)) (get_or_from_slice_get K.constraints j c c e) (ok.constraints j c (slice_get_within K.constraints j c e))
 
   relation-clocks : (T : List Step) (i : ℕ) (r : Related) → IsRelation K T i r → ReadsClocks (Relation r)
-  relation-clocks T i r f =
-      let c = constraint-clocks (i - length K.definitions) f.of f.constraint_is in
-      and_from (nat_lt r.left MAX_CLOCKS) (nat_lt r.right MAX_CLOCKS && true) (below-limit r.left (subst (λ x. x < length K.names) (sym f.left_is) c.0))
-      (and_from (nat_lt r.right MAX_CLOCKS) true (below-limit r.right (subst (λ x. x < length K.names) (sym f.right_is) c.1)) refl)
+  relation-clocks T i r f = grind (arith, common_steps, constraint-clocks, below-limit)
 
   item-clocks : (recorded : List ℕ) (T : List Step) (i : ℕ) (w : Watched) → Keeps K recorded T i w → ReadsClocks w
   item-clocks recorded T i Nothing f = refl
@@ -113,30 +100,8 @@ module _ (K : System) (ok : IsAccepted K) where
 -- THE CLOCKS OF AN ITEM MORE in a set
 pub with-one : (x clock : ℕ) (old new : List ℕ) (w : Watched) → new ≡ with_clock clock old → w ≡ Definition clock
     → ticks_in x new ≡ (ticks_in x old || ticks_in x (clocks_of w))
-with-one x clock old new w is at =
-    ap (ticks_in x) is ∙ ticks_in-with_clock x clock old ∙ one-more (nat_eq x clock) (ticks_in x old)
-    ∙ sym (ap (λ (v : Watched). ticks_in x old || ticks_in x (clocks_of v)) at)
-  where
-    one-more : (a o : Bool) → (a || o) ≡ (o || (a || false))
-    one-more true true = refl
-    one-more true false = refl
-    one-more false true = refl
-    one-more false false = refl
+with-one x clock old new w is at = grind (arith, common_steps, ticks_in-with_clock)
 
 pub with-two : (x : ℕ) (r : Related) (old mid new : List ℕ) (w : Watched) → mid ≡ with_clock r.left old → new ≡ with_clock r.right mid → w ≡ Relation r
     → ticks_in x new ≡ (ticks_in x old || ticks_in x (clocks_of w))
-with-two x r old mid new w first second at =
-    ap (ticks_in x) second ∙ ticks_in-with_clock x r.right mid
-    ∙ ap (λ b. nat_eq x r.right || b) (ap (ticks_in x) first ∙ ticks_in-with_clock x r.left old)
-    ∙ two-more (nat_eq x r.left) (nat_eq x r.right) (ticks_in x old)
-    ∙ sym (ap (λ (v : Watched). ticks_in x old || ticks_in x (clocks_of v)) at)
-  where
-    two-more : (l k o : Bool) → (k || (l || o)) ≡ (o || (l || (k || false)))
-    two-more true true true = refl
-    two-more true true false = refl
-    two-more true false true = refl
-    two-more true false false = refl
-    two-more false true true = refl
-    two-more false true false = refl
-    two-more false false true = refl
-    two-more false false false = refl
+with-two x r old mid new w first second at = grind (arith, common_steps, ticks_in-with_clock)

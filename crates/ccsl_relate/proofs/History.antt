@@ -1,4 +1,5 @@
 -- The completion of the rows of a trace, one row more.
+use Rattle.std.proofs.lemmas.Grind.{common_steps}
 use Rattle.std.proofs.Common.{◌≡◌, ℕ, suc, ◌+◌, ◌-◌, ◌<◌, ◌≤◌, List, [], ◌∷◌, ◌++◌, length, map, slice_get, Bool, true, false, not, ◌&&◌, ◌||◌, cond, nat_lt}
 use Rattle.std.proofs.Common.{if◌then◌else◌, Option, Some, None, refl, sym, ap, ap₂, ◌∙◌, arith, length-append}
 use Rattle.std.specs.List.{list_all}
@@ -28,9 +29,7 @@ use Rattle.ccsl_kernel.proofs.Quiet.{count-snoc}
 use Rattle.ccsl_kernel.proofs.Sets.{below-ascending, below-below, ticks_in-below}
 
 pub sets-snoc : (rows : List Row) (row : Row) → are_sets rows ≡ true → is_ascending row.ticks ≡ true → are_sets (rows ++ row ∷ []) ≡ true
-sets-snoc rows row h r =
-    list_all-append (λ (x : Row). is_ascending x.ticks) rows (row ∷ [])
-    ∙ and_from (are_sets rows) (is_ascending row.ticks && true) h (and_from (is_ascending row.ticks) true r refl)
+sets-snoc rows row h r = grind (arith, common_steps, list_all-append)
 
 module _ (K : System) where
   abbrev X : List Row → List Step
@@ -41,9 +40,7 @@ module _ (K : System) where
   next_step rows row = full_step K (completed_rows K rows) (declared_part K row.ticks)
 
   pub X-more : (rows : List Row) (row : Row) → completed_rows K (rows ++ row ∷ []) ≡ completed_rows K rows ++ next_step rows row ∷ []
-  X-more rows row =
-      ap (completed K) (map-append (λ r. declared_part K r.ticks) rows (row ∷ []))
-      ∙ completed-append K (map (λ r. declared_part K r.ticks) rows) (declared_part K row.ticks ∷ []) []
+  X-more rows row = grind (arith, common_steps, map-append, completed-append)
 
   pub X-length : (rows : List Row) → length (completed_rows K rows) ≡ length rows
   X-length rows = let e = length-completed K (map (λ r. declared_part K r.ticks) rows) [] in omega (arith, e, length-map rows (λ r. declared_part K r.ticks))
@@ -76,11 +73,7 @@ module _ (K : System) where
 
   pub count-more : (T : List Step) (s : Step) (x : ℕ)
       → clock_count (T ++ s ∷ []) x (length (T ++ s ∷ [])) ≡ (if ticks_in x s then suc (clock_count T x (length T)) else clock_count T x (length T))
-  count-more T s x =
-      whole-count (T ++ s ∷ []) x
-      ∙ ap count (map-append (ticks_in x) T (s ∷ []))
-      ∙ count-snoc (map (ticks_in x) T) (ticks_in x s)
-      ∙ ap (λ n. cond (ticks_in x s) (suc n) n) (sym (whole-count T x))
+  count-more T s x = grind (arith, common_steps, whole-count, map-append, count-snoc)
 
   -- a declared clock ticks in the completed step as in the row
   pub declared-ticks : (T : List Step) (s : Step) (x : ℕ) → x < K.declared → ticks_in x (full_step K T (declared_part K s)) ≡ ticks_in x s
@@ -107,18 +100,12 @@ module _ (K : System) where
         obeys : ObeysDefinitions K (X rows)
         obeys = completion_obeys K (accepted_guarded K ok) (accepted_scoped K ok) (map (λ r. declared_part K r.ticks) rows) (declared-sets rows h)
 
-        self-same : (b : Bool) → same b b ≡ true
-        self-same true = refl
-        self-same false = refl
-
         by-definition : (o : Option Expression) → slice_get K.definitions i ≡ o → holds_at K (X rows) n i ≡ true
         by-definition None e = absurd (Rattle.ccsl_relate.proofs.Within.some-within K.definitions i d e)
         by-definition (Some e) is =
             let here : ticks_in (K.declared + i) (step_at (X rows) n) ≡ eval (formula_at K (X rows) (K.declared + i) e [] 0 n) (step_at (X rows) n) =
             obeys (K.declared + i) e n (sym (definitions-are K i) ∙ is) (omega (arith, X-length rows)) in
-            ap (λ f. eval f (step_at (X rows) n)) (item-definition K (X rows) n i e is)
-            ∙ ap (λ t. same t (eval (formula_at K (X rows) (K.declared + i) e [] 0 n) (step_at (X rows) n))) here
-            ∙ self-same (eval (formula_at K (X rows) (K.declared + i) e [] 0 n) (step_at (X rows) n))
+            grind (arith, common_steps, here, item-definition K (X rows) n i e is)
 
     -- A CONSTRAINT at a step, by its counts before
     pub constraint-holds : (rows : List Row) (row : Row) (i : ℕ) (c : Constraint) → length K.definitions ≤ i
@@ -126,50 +113,13 @@ module _ (K : System) where
         → holds_at K (completed_rows K (rows ++ row ∷ [])) (length rows) i
         ≡ eval (relation_formula c.kind c.left c.right (clock_count (completed_rows K rows) c.left (length (completed_rows K rows)))
         (clock_count (completed_rows K rows) c.right (length (completed_rows K rows)))) (next_step rows row)
-    constraint-holds rows row i c l is =
-        let n : length (X rows) ≡ length rows = X-length rows in
-        let counted : (x : ℕ) → clock_count (X (rows ++ row ∷ [])) x (length rows) ≡ clock_count (X rows) x (length (X rows)) = λ x.
-        ap₂ (λ T k. clock_count T x k) (X-more rows row) (sym n) ∙ count-before (X rows) (next_step rows row) x (length (X rows)) (omega arith) in
-        ap (λ f. eval f (step_at (X (rows ++ row ∷ [])) (length rows))) (item-constraint K (X (rows ++ row ∷ [])) (length rows) i c l is)
-        ∙ ap₂ (λ a b. eval (relation_formula c.kind c.left c.right a b) (step_at (X (rows ++ row ∷ [])) (length rows))) (counted c.left) (counted c.right)
-        ∙ ap (eval (relation_formula c.kind c.left c.right (clock_count (X rows) c.left (length (X rows))) (clock_count (X rows) c.right (length (X rows)))))
-        (last-step rows row)
+    constraint-holds rows row i c l is = grind (arith, common_steps, X-length, X-more, count-before, item-constraint, last-step)
 
     constraint-front : (rows : List Row) (row : Row) (n i : ℕ) → n < length rows → length K.definitions ≤ i
         → holds_at K (X (rows ++ row ∷ [])) n i ≡ holds_at K (X rows) n i
-    constraint-front rows row n i l d = by-constraint (slice_get K.constraints (i - length K.definitions)) refl
-      where
-        le : n ≤ length (X rows)
-        le = omega (arith, X-length rows)
-
-        counted : (x : ℕ) → clock_count (X (rows ++ row ∷ [])) x n ≡ clock_count (X rows) x n
-        counted x = ap (λ T. clock_count T x n) (X-more rows row) ∙ count-before (X rows) (next_step rows row) x n le
-
-        by-constraint : (o : Option Constraint) → slice_get K.constraints (i - length K.definitions) ≡ o
-            → holds_at K (X (rows ++ row ∷ [])) n i ≡ holds_at K (X rows) n i
-        by-constraint (Some c) is =
-            ap (λ f. eval f (step_at (X (rows ++ row ∷ [])) n)) (item-constraint K (X (rows ++ row ∷ [])) n i c d is)
-            ∙ ap₂ (λ a b. eval (relation_formula c.kind c.left c.right a b) (step_at (X (rows ++ row ∷ [])) n)) (counted c.left) (counted c.right)
-            ∙ ap (eval (constraint_formula (X rows) n c)) (front-step rows row n l)
-            ∙ sym (ap (λ f. eval f (step_at (X rows) n)) (item-constraint K (X rows) n i c d is))
-        by-constraint None is = none (X (rows ++ row ∷ [])) ∙ sym (none (X rows))
-          where
-            none : (T : List Step) → holds_at K T n i ≡ true
-            none T = ap (λ f. eval f (step_at T n)) (ap (Rattle.ccsl_kernel.specs.Items.item_or_constraint K T n i) (slice_get_past K.definitions i d)
-                ∙ ap (Rattle.ccsl_kernel.specs.Items.constraint_or_true T n) is)
+    constraint-front rows row n i l d = grind (arith, common_steps, slice_get, X-length, X-more, count-before, item-constraint, front-step, slice_get_past)
 
     -- WHAT WAS VIOLATED STAYS SO, and what was not
     pub violated-front : (recorded : List ℕ) (rows : List Row) (row : Row) (n i : ℕ) → are_sets (rows ++ row ∷ []) ≡ true → are_sets rows ≡ true
         → n < length rows → is_violated K recorded (rows ++ row ∷ []) n i ≡ is_violated K recorded rows n i
-    violated-front recorded rows row n i h' h l =
-        ap₂ (λ a b. not a || (is_recorded K recorded i && not b)) holds
-        (ap₂ same (ap (ticks_in (K.declared + i)) (front-row rows row n l)) (ap (ticks_in (K.declared + i)) (front-step rows row n l)))
-      where
-        holds : holds_at K (X (rows ++ row ∷ [])) n i ≡ holds_at K (X rows) n i
-        holds = by-item (nat_lt i (length K.definitions)) refl
-          where
-            by-item : (b : Bool) → nat_lt i (length K.definitions) ≡ b → holds_at K (X (rows ++ row ∷ [])) n i ≡ holds_at K (X rows) n i
-            by-item true e =
-                let d : i < length K.definitions = ltb-true i (length K.definitions) e in
-                definition-holds (rows ++ row ∷ []) n i h' (omega (arith, l, length-append rows (row ∷ []))) d ∙ sym (definition-holds rows n i h l d)
-            by-item false e = constraint-front rows row n i l (ltb-false i (length K.definitions) e)
+    violated-front recorded rows row n i h' h l = grind (arith, common_steps, front-row, front-step, definition-holds, length-append, constraint-front)

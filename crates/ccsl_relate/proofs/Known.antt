@@ -1,5 +1,6 @@
 -- What items read of a step is known where they read clocks alone that are declared or followed.
-use Rattle.std.proofs.Common.{◌≡◌, ℕ, ◌+◌, ◌<◌, List, [], ◌∷◌, Bool, true, false, not, ◌&&◌, ◌||◌, cond, nat_eq, nat_le, map, length, get_or, subst, Option}
+use Rattle.std.proofs.lemmas.Grind.{common_steps}
+use Rattle.std.proofs.Common.{arith, ◌≡◌, ℕ, ◌+◌, ◌<◌, List, [], ◌∷◌, Bool, true, false, not, ◌&&◌, ◌||◌, cond, nat_eq, nat_le, map, length, get_or, subst, Option}
 use Rattle.std.proofs.Common.{Some, None, refl, sym, ap, ap₂, ◌∙◌}
 use Rattle.std.specs.List.{list_all}
 use Rattle.std.specs.Option.{ForSome}
@@ -74,10 +75,10 @@ module _ (K : System) (T : List Step) (ticks : Step) (held : Option HeldPart) wh
     same-right = same-known K T ticks held r.right both.1
 
     relation-known : related_formula r known ≡ related_formula r whole
-    relation-known = same-truth known whole r.kind r.left r.right r.left_count r.right_count same-left same-right
+    relation-known = grind (arith, common_steps, same-truth, same-left, same-right)
 
     counts-known : counted_on r known ≡ counted_on r whole
-    counts-known = ap₂ (λ a b. record r { left_count = counted a r.left_count; right_count = counted b r.right_count }) same-left same-right
+    counts-known = grind (arith, common_steps, same-left, same-right)
 
   fails-one : (given : List ℕ) (w : Watched) → reads w ≡ true → fails_in given known w ≡ fails_in given whole w
   fails-one given Nothing h = refl
@@ -116,6 +117,4 @@ suffice-on K held held' s kept same e = reads-on (is_known K held') (is_known K 
 -- the clocks that are not declared, as the states have it
 pub undeclared-for : (K : System) (held : Option HeldPart) (T : List Step) (set : List ℕ) → AreAfter K held T → IsUndeclared K set
     → ForSome held (λ p. IsUndeclared p.system set)
-undeclared-for K held T set after u p e =
-    let own : AreAfter K (Some p) T = subst (λ o. AreAfter K o T) e after in
-    subst (λ X. IsUndeclared X set) (sym own.0) u
+undeclared-for K held T set after u p e = grind (arith, common_steps)

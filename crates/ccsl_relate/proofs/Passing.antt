@@ -1,4 +1,5 @@
 -- A monitor that takes a row more.
+use Rattle.std.proofs.lemmas.Grind.{common_steps}
 use Rattle.std.proofs.Common.{◌≡◌, ℕ, ◌+◌, ◌<◌, ◌^◌, List, [], ◌∷◌, ◌++◌, length, map, get_or, Option, Some, None, true, false, refl, sym, ap, ◌∙◌, subst}
 use Rattle.std.proofs.Common.{arith, length-append}
 use Rattle.std.specs.Prelude.{All}
@@ -118,11 +119,4 @@ module _ (recorded : List ℕ) (v : Watching) (rows : List Row) (row : Row) (s :
 pub row-taken : (recorded : List ℕ) (v w : Watching) (rows : List Row) (row : Row) (first : Option Violation) (w' : Watching) → StandsFor recorded v rows
     → IsNext recorded v w rows row first
     → w' ≡ record v { kept = w.kept; states = w.states; first = first; steps = v.steps + 1 } → StandsFor recorded w' (rows ++ row ∷ [])
-row-taken recorded v w rows row first w' s n e = subst (λ (x : Watching). StandsFor recorded x (rows ++ row ∷ [])) (sym e) (record {
-  accepted = s.accepted;
-  items = omega (arith, s.items, n.count);
-  sets = n.sets;
-  steps = ap (λ k. k + 1) s.steps ∙ sym (length-append rows (row ∷ []));
-  first = subst (λ c. Finds v.system recorded (rows ++ row ∷ []) v.start c first) (sym n.count) n.first_is;
-  follows = n.follows;
-})
+row-taken recorded v w rows row first w' s n e = grind (arith, common_steps, length-append)

@@ -1,5 +1,6 @@
 -- An item none of whose clocks ticks neither fails nor changes.
-use Rattle.std.proofs.Common.{◌≡◌, ℕ, ◌+◌, List, [], ◌∷◌, Bool, true, false, not, ◌||◌, ◌&&◌, cond, nat_eq, nat_le, refl, sym, ap, ap₂, ◌∙◌, eq-eqb}
+use Rattle.std.proofs.lemmas.Grind.{common_steps}
+use Rattle.std.proofs.Common.{arith, ◌≡◌, ℕ, ◌+◌, List, [], ◌∷◌, Bool, true, false, not, ◌||◌, ◌&&◌, cond, nat_eq, nat_le, refl, sym, ap, ap₂, ◌∙◌, eq-eqb}
 use Rattle.std.specs.List.{list_any}
 use Rattle.std.proofs.lemmas.Bool.{or_parts, eqb-true}
 use Rattle.ccsl_base.specs.Clocks.{ticks_in}
@@ -20,18 +21,10 @@ meet clocks read = list_any (λ c. ticks_in c read) clocks
 -- a test that no member passes
 none-passes : (p : ℕ → Bool) (xs : List ℕ) (x : ℕ) → list_any p xs ≡ false → ticks_in x xs ≡ true → p x ≡ false
 none-passes p [] x h t = absurd (cc)
-none-passes p (y ∷ xs) x h t = by-first (nat_eq x y) refl (λ r. none-passes p xs x (or_parts (p y) (list_any p xs) h).1 r)
-  where
-    by-first : (b : Bool) → nat_eq x y ≡ b → (ticks_in x xs ≡ true → p x ≡ false) → p x ≡ false
-    by-first true e k = ap p (eqb-true x y e) ∙ (or_parts (p y) (list_any p xs) h).0
-    by-first false e k = k (sym (ap (λ b. b || ticks_in x xs) e) ∙ t)
+none-passes p (y ∷ xs) x h t = grind (arith, common_steps, none-passes p xs x)
 
 not-among : (clocks read : List ℕ) (x : ℕ) → meet clocks read ≡ false → ticks_in x read ≡ true → ticks_in x clocks ≡ false
-not-among clocks read x h t = by-value (ticks_in x clocks) refl
-  where
-    by-value : (b : Bool) → ticks_in x clocks ≡ b → ticks_in x clocks ≡ false
-    by-value true e = let f : ticks_in x read ≡ false = none-passes (λ c. ticks_in c read) clocks x h e in absurd (let g : true ≡ false = sym t ∙ f in cc)
-    by-value false e = e
+not-among clocks read x h t = grind (arith, common_steps, none-passes)
 
 module _ (s : Step) where
   abbrev Rests : ℕ → Type 0
@@ -57,7 +50,7 @@ module _ (s : Step) where
   module _ (ticks clocks : List ℕ) (all : (x : ℕ) → ticks_in x clocks ≡ (ticks_in x ticks || ticks_in x s)) where
     module _ (w : Watched) (h : meet clocks (clocks_of w) ≡ false) where
       rests : (x : ℕ) → ticks_in x (clocks_of w) ≡ true → (ticks_in x ticks ≡ false) × (ticks_in x s ≡ false)
-      rests x t = or_parts (ticks_in x ticks) (ticks_in x s) (sym (all x) ∙ not-among clocks (clocks_of w) x h t)
+      rests x t = grind (arith, common_steps, not-among)
 
     -- AN ITEM THAT READS NO CLOCK THAT TICKS
     pub quiet-unread : (w : Watched) → meet clocks (clocks_of w) ≡ false → IsQuiet ticks s w

@@ -1,4 +1,5 @@
 -- Items that go on by a step, from one place to another.
+use Rattle.std.proofs.lemmas.Grind.{common_steps}
 use Rattle.std.proofs.Common.{◌≡◌, ◌≢◌, ℕ, ◌+◌, ◌<◌, ◌≤◌, List, Option, Some, None, Bool, true, false, map, length, get_or, slice_set, nat_lt, nat_eq, refl}
 use Rattle.std.proofs.Common.{sym, ap, ◌∙◌, subst, arith, eq-eqb}
 use Rattle.std.specs.Prelude.{All, IfSome}
@@ -29,13 +30,7 @@ module _ (ticks : List ℕ) (s : Step) where
   fails w = fails_in ticks s w
 
   pub on-none : (start : ℕ) (kept : List Watched) → GoesOn ticks s start start kept kept
-  on-none start kept = record {
-    count = refl;
-    obeys = λ k d a b l. absurd (omega (arith, a, b));
-    gone = λ k d a b l. absurd (omega (arith, a, b));
-    front = λ k d l. refl;
-    rest = λ k d l. refl;
-  }
+  on-none start kept = grind (arith, common_steps)
 
   -- the next items are quiet
   pub on-skip : (start end next : ℕ) (old now : List Watched) → GoesOn ticks s start end old now → start ≤ end → end ≤ next
@@ -62,31 +57,7 @@ module _ (ticks : List ℕ) (s : Step) where
   -- the next item does not fail, and goes on
   pub on-more : (start end : ℕ) (old now : List Watched) (w : Watched) → GoesOn ticks s start end old now → start ≤ end → end < length old
       → fails (get_or now end Nothing) ≡ false → w ≡ next_in s (get_or now end Nothing) → GoesOn ticks s start (end + 1) old (slice_set now end w)
-  on-more start end old now w g low inside obeyed is = record {
-    count = length-set now end w ∙ g.count;
-    obeys = λ k d a b l. obeys k d a b l (nat_eq k end) refl;
-    gone = λ k d a b l. gone k d a b l (nat_eq k end) refl;
-    front = λ k d l. get_or-set_other now end k w d (λ e. omega (arith, e, l, low)) ∙ g.front k d l;
-    rest = λ k d l. get_or-set_other now end k w d (λ e. omega (arith, e, l)) ∙ g.rest k d (omega (arith, l));
-  }
-    where
-      same : (d : Watched) → get_or now end Nothing ≡ get_or old end d
-      same d = g.rest end Nothing (omega arith) ∙ get_or_default old end Nothing d inside
-
-      obeys : (k : ℕ) (d : Watched) → start ≤ k → k < end + 1 → k < length old → (b : Bool) → nat_eq k end ≡ b → fails (get_or old k d) ≡ false
-      obeys k d a b l true e = ap (λ i. fails (get_or old i d)) (eqb-true k end e) ∙ sym (ap fails (same d)) ∙ obeyed
-      obeys k d a b l false e = let n : k ≢ end = other k end e in g.obeys k d a (omega (arith, b, n)) l
-
-      gone : (k : ℕ) (d : Watched) → start ≤ k → k < end + 1 → k < length old → (b : Bool) → nat_eq k end ≡ b
-          → get_or (slice_set now end w) k d ≡ next_in s (get_or old k d)
-      gone k d a b l true e =
-          let q : k ≡ end = eqb-true k end e in
-          ap (λ i. get_or (slice_set now end w) i d) q
-          ∙ get_or-set_same now end w d (let u : end < length now = omega (arith, inside, g.count) in u)
-          ∙ is ∙ ap (next_in s) (same d) ∙ ap (λ i. next_in s (get_or old i d)) (sym q)
-      gone k d a b l false e =
-          let n : k ≢ end = other k end e in
-          get_or-set_other now end k w d n ∙ g.gone k d a (omega (arith, b, n)) l
+  on-more start end old now w g low inside obeyed is = grind (arith, common_steps, length-set, get_or-set_other, get_or_default, other, get_or-set_same)
 
   -- one range behind the other
   pub on-both : (start mid end : ℕ) (old now new : List Watched) → GoesOn ticks s start mid old now → GoesOn ticks s mid end now new → start ≤ mid → mid ≤ end
@@ -113,36 +84,18 @@ module _ (ticks : List ℕ) (s : Step) where
 
   -- ALL ITEMS went on
   pub on-all : (end : ℕ) (old new : List Watched) → GoesOn ticks s 0 end old new → length old ≤ end → new ≡ map (next_in s) old
-  on-all end old new g l = same_lists new (map (next_in s) old) (g.count ∙ sym (length-map old (next_in s)))
-      (λ k d b.
-      let inside : k < length old = omega (arith, b, g.count) in
-      g.gone k d (omega arith) (omega (arith, inside, l)) inside ∙ sym (get_or-map (next_in s) old k d d inside))
+  on-all end old new g l = grind (arith, common_steps, same_lists, length-map, get_or-map)
 
   pub obeyed-all : (end : ℕ) (old new : List Watched) → GoesOn ticks s 0 end old new → length old ≤ end → All (λ w. fails_in ticks s w ≡ false) old
   obeyed-all end old new g l = λ k d b. g.obeys k d (omega arith) (omega (arith, b, l)) b
 
   -- THE FIRST that fails
   pub fails-first : (mid place : ℕ) (old now : List Watched) → GoesOn ticks s 0 mid old now → FailsFrom ticks s mid now place → FailsFirst ticks s old place
-  fails-first mid place old now g f = record {
-    inside = omega (arith, f.inside, g.count);
-    fails = λ d. sym (ap fails (g.rest place d f.low)) ∙ f.fails d;
-    before = λ k d l. before k d l (nat_lt k mid) refl;
-  }
-    where
-      before : (k : ℕ) (d : Watched) → k < place → (b : Bool) → nat_lt k mid ≡ b → fails (get_or old k d) ≡ false
-      before k d l true e = g.obeys k d (omega arith) (ltb-true k mid e) (omega (arith, l, f.inside, g.count))
-      before k d l false e =
-          let m : mid ≤ k = ltb-false k mid e in
-          sym (ap fails (g.rest k d m)) ∙ f.before k d m l
+  fails-first mid place old now g f = grind (arith, common_steps)
 
   pub fails-here : (start end : ℕ) (old now : List Watched) → GoesOn ticks s start end old now → start ≤ end → end < length old
       → fails (get_or now end Nothing) ≡ true → FailsFrom ticks s start old end
-  fails-here start end old now g low inside e = record {
-    low = low;
-    inside = inside;
-    fails = λ d. sym (ap fails (g.rest end Nothing (omega arith) ∙ get_or_default old end Nothing d inside)) ∙ e;
-    before = λ k d a l. g.obeys k d a l (omega (arith, l, inside));
-  }
+  fails-here start end old now g low inside e = grind (arith, common_steps, get_or_default)
 
 -- an answer that says more
 pub some-more : {A : Type 0} (P Q : A → Type 0) (o : Option A) → ((x : A) → P x → Q x) → IfSome o P → IfSome o Q

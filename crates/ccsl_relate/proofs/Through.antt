@@ -1,4 +1,5 @@
 -- A monitor without states that takes the rows of a block item by item.
+use Rattle.std.proofs.lemmas.Grind.{common_steps}
 use Rattle.std.proofs.Common.{◌≡◌, ℕ, zero, suc, ◌+◌, ◌<◌, ◌^◌, List, [], ◌∷◌, ◌++◌, length, map, get_or, slice_get, Some, None, true, false, refl, sym, ap}
 use Rattle.std.proofs.Common.{ap₂, ◌∙◌, subst, arith, append_assoc}
 use Rattle.std.specs.Prelude.{All}
@@ -73,20 +74,14 @@ module _ (K : System) (recorded : List ℕ) (start : ℕ) where
   pub goes-through : (kept : List Watched) (steps : ℕ) (rows block : List Row) → StandsFor recorded (going kept steps) rows → are_sets block ≡ true
       → ((k : ℕ) → k < length kept → ObeysUpTo block (length block) (get_or kept k Nothing))
       → StandsFor recorded (going (map (after_rows block) kept) (steps + length block)) (rows ++ block)
-  goes-through kept steps rows [] s sets obeys =
-      subst (λ rs. StandsFor recorded (going (map (after_rows []) kept) (steps + 0)) rs) (sym (append-nil rows))
-      (subst (λ n. StandsFor recorded (going (map (after_rows []) kept) n) rows) (let z : steps ≡ steps + 0 = omega arith in z)
-      (subst (λ ws. StandsFor recorded (going ws steps) rows) (sym (map-id kept)) s))
+  goes-through kept steps rows [] s sets obeys = let z : steps + 0 ≡ steps = omega arith in simp (append-nil, map-id, z) s
   goes-through kept steps rows (row ∷ block) s sets obeys =
       let p = and_parts (is_ascending row.ticks) (are_sets block) sets in
-      let next = map (next_in row.ticks) kept in
-      subst (λ rs. StandsFor recorded (going (map (after_rows (row ∷ block)) kept) (steps + suc (length block))) rs) (append_assoc rows (row ∷ []) block)
-      (subst (λ n. StandsFor recorded (going (map (after_rows (row ∷ block)) kept) n) ((rows ++ row ∷ []) ++ block))
-      (let z : steps + 1 + length block ≡ steps + suc (length block) = omega arith in z)
-      (subst (λ ws. StandsFor recorded (going ws (steps + 1 + length block)) ((rows ++ row ∷ []) ++ block)) (after-map row block kept)
-      (goes-through next (steps + 1) (rows ++ row ∷ []) block (one-on kept steps rows s row p.0 (λ k l. obeys k l 0 (omega arith))) p.1
+      let z : steps + 1 + length block ≡ steps + suc (length block) = omega arith in
+      rw (append_assoc rows (row ∷ []) block, z, after-map row block kept) at
+      (goes-through (map (next_in row.ticks) kept) (steps + 1) (rows ++ row ∷ []) block (one-on kept steps rows s row p.0 (λ k l. obeys k l 0 (omega arith))) p.1
       (λ k l n m. ap (λ w. fails_at block w n) (at-next row.ticks kept k)
-      ∙ obeys k (omega (arith, l, length-map kept (next_in row.ticks))) (suc n) (omega (arith, m))))))
+      ∙ obeys k (omega (arith, l, length-map kept (next_in row.ticks))) (suc n) (omega (arith, m))))
 
   -- AN ITEM FAILS in a block: nothing is asked of what is kept then
   pub stops-in : (kept after : List Watched) (steps : ℕ) (rows block : List Row) (row place : ℕ) (at : Row) → StandsFor recorded (going kept steps) rows
@@ -97,16 +92,10 @@ module _ (K : System) (recorded : List ℕ) (start : ℕ) where
   stops-in kept after steps rows [] row place at s sets count e f = absurd (cc)
   stops-in kept after steps rows (x ∷ block) zero place at s sets count e f =
       let p = and_parts (is_ascending x.ticks) (are_sets block) sets in
-      let q : x ≡ at = cc in
-      let v : Violation = record { step = steps + 0; time = at.time; item = start + place } in
       let here = one-fails kept steps rows s x p.0 place after count f.place f.fails f.lower in
-      let v-is : record { step = steps; time = x.time; item = start + place } ≡ v =
-      ap₂ (λ n (y : Row). record { step = n; time = y.time; item = start + place }) (let z : steps ≡ steps + 0 = omega arith in z) q in
-      let now : Watching = record (going after (steps + 1)) { first = Some v } in
-      subst (λ rs. StandsFor recorded (record (going after (steps + suc (length block))) { first = Some v }) rs) (append_assoc rows (x ∷ []) block)
-      (rests recorded now _ (rows ++ x ∷ []) block v
-      (subst (λ u. StandsFor recorded (record (going after (steps + 1)) { first = Some u }) (rows ++ x ∷ [])) v-is here) p.1 refl
-      (ap (λ n. record (going after n) { first = Some v }) (let z : steps + suc (length block) ≡ steps + 1 + length block = omega arith in z)))
+      let q : x ≡ at = cc in
+      let now : Watching = record (going after (steps + suc (length block))) { first = Some (record { step = steps + 0; time = at.time; item = start + place }) } in
+      rw (append_assoc rows (x ∷ []) block) at (rests recorded _ now (rows ++ x ∷ []) block _ here p.1 refl (grind (arith, common_steps)))
   stops-in kept after steps rows (x ∷ block) (suc row) place at s sets count e f =
       let p = and_parts (is_ascending x.ticks) (are_sets block) sets in
       let next = map (next_in x.ticks) kept in
@@ -119,17 +108,9 @@ module _ (K : System) (recorded : List ℕ) (start : ℕ) where
         earlier = λ k l n m. ap (λ w. fails_at block w n) (at-next x.ticks kept k) ∙ f.earlier k (omega (arith, l, kept-count)) (suc n) (omega (arith, m));
         lower = λ k l. ap (λ w. fails_at block w row) (at-next x.ticks kept k) ∙ f.lower k l;
       }) in
-      subst (λ rs. StandsFor recorded (record (going after (steps + suc (length block))) {
-        first =
-            Some (record { step = steps + suc row; time = at.time; item = start + place });
-      }) rs) (append_assoc rows (x ∷ []) block)
-      (subst (λ n. StandsFor recorded (record (going after n) { first = Some (record { step = steps + suc row; time = at.time; item = start + place }) })
-      ((rows ++ x ∷ []) ++ block)) (let z : steps + 1 + length block ≡ steps + suc (length block) = omega arith in z)
-      (subst (λ n. StandsFor recorded (record (going after (steps + 1 + length block)) {
-        first =
-            Some (record { step = n; time = at.time; item = start + place });
-      }) ((rows ++ x ∷ []) ++ block))
-      (let z : steps + 1 + row ≡ steps + suc row = omega arith in z) on))
+      let a : steps + 1 + length block ≡ steps + suc (length block) = omega arith in
+      let b : steps + 1 + row ≡ steps + suc row = omega arith in
+      rw (append_assoc rows (x ∷ []) block, a, b) at on
 
 -- A MONITOR WITHOUT STATES before a violation, and with the rows of a block too
 module _ (recorded : List ℕ) (v w : Watching) (rows block : List Row) (none : v.first ≡ None) (alone : v.states ≡ None) (s : StandsFor recorded v rows)
@@ -142,10 +123,7 @@ module _ (recorded : List ℕ) (v w : Watching) (rows block : List Row) (none : 
 
   pub items-pass : All (ObeysUpTo block (length block)) v.kept
       → w ≡ record v { kept = map (after_rows block) v.kept; steps = v.steps + length block; first = None } → StandsFor recorded w (rows ++ block)
-  items-pass obeys is =
-      subst (λ u. StandsFor recorded u (rows ++ block))
-      (sym (is ∙ ap (λ states. record v { kept = map (after_rows block) v.kept; steps = v.steps + length block; first = None; states = states }) alone))
-      (goes-through v.system recorded v.start v.kept v.steps rows block as-going sets (λ k l. obeys k Nothing l))
+  items-pass obeys is = rw (is, alone) (goes-through v.system recorded v.start v.kept v.steps rows block as-going sets (λ k l. obeys k Nothing l))
 
   pub items-stop : (after : List Watched) (f : Failure) (at : Row) → length after ≡ length v.kept → slice_get block f.row ≡ Some at → IsFirstIn block v.kept f
       → w ≡ record v {
@@ -155,12 +133,4 @@ module _ (recorded : List ℕ) (v w : Watching) (rows block : List Row) (none : 
             Some (record { step = v.steps + f.row; time = at.time; item = v.start + f.place });
       } → StandsFor recorded w (rows ++ block)
   items-stop after f at count e fails is =
-      subst (λ u. StandsFor recorded u (rows ++ block))
-      (sym (is ∙ ap (λ states. record v {
-        kept = after;
-        steps = v.steps + length block;
-        states = states;
-        first =
-            Some (record { step = v.steps + f.row; time = at.time; item = v.start + f.place });
-      }) alone))
-      (stops-in v.system recorded v.start v.kept after v.steps rows block f.row f.place at as-going sets count e fails)
+      rw (is, alone) (stops-in v.system recorded v.start v.kept after v.steps rows block f.row f.place at as-going sets count e fails)

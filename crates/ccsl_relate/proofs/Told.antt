@@ -1,4 +1,5 @@
 -- What the sets of a group tell.
+use Rattle.std.proofs.lemmas.Grind.{common_steps}
 use Rattle.std.proofs.Common.{◌≡◌, ◌≢◌, ℕ, ◌+◌, ◌*◌, ◌<◌, ◌≤◌, List, [], ◌∷◌, ◌++◌, Bool, true, false, ◌||◌, ◌&&◌, nat_eq, nat_lt, map, length, get_or}
 use Rattle.std.proofs.Common.{slice_set, refl, sym, ap, ap₂, ◌∙◌, subst, arith, eq-eqb, lt-ltb, le-ltb, length-append, ◌⊎◌, inl, inr, ⊎_elim}
 use Rattle.std.specs.List.{list_any}
@@ -24,20 +25,7 @@ told group c p = ticks_in p (get_or group c [])
 
 -- AN ITEM MORE
 told-with : (place p : ℕ) (s : List ℕ) → ticks_in p (with_clock place s) ≡ (ticks_in p s || nat_eq p place)
-told-with place p s =
-    ⊎_elim
-    (λ (q : p ≡ place). ap (λ x. ticks_in x (with_clock place s)) q ∙ ticks_in-with_same place s
-    ∙ sym (ap (λ b. ticks_in p s || b) (eq-eqb p place q) ∙ or-yes (ticks_in p s)))
-    (λ (q : p ≢ place). ticks_in-with_other place p s q ∙ sym (ap (λ b. ticks_in p s || b) (ne_eqb p place q) ∙ or-no (ticks_in p s)))
-    (cases_eq p place)
-  where
-    or-yes : (b : Bool) → (b || true) ≡ true
-    or-yes true = refl
-    or-yes false = refl
-
-    or-no : (b : Bool) → (b || false) ≡ b
-    or-no true = refl
-    or-no false = refl
+told-with place p s = grind (arith, common_steps, ticks_in-with_same, ticks_in-with_other)
 
 pub without : (a b : Bool) → (a || (b && false)) ≡ a
 without true b = refl
@@ -48,21 +36,7 @@ without false false = refl
 pub told-more : (old mid : List (List ℕ)) (clock place : ℕ) (was now : List ℕ) → ((c : ℕ) → get_or mid c [] ≡ get_or old c []) → clock < length mid
     → was ≡ get_or mid clock was → now ≡ with_clock place was
     → (c p : ℕ) → told (slice_set mid clock now) c p ≡ (told old c p || (nat_eq p place && nat_eq c clock))
-told-more old mid clock place was now same l at is c p =
-    ⊎_elim
-    (λ (q : c ≡ clock).
-    ap (λ k. told (slice_set mid clock now) k p) q
-    ∙ ap (ticks_in p) (get_or-set_same mid clock now [] l ∙ is ∙ ap (with_clock place) (at ∙ get_or_default mid clock was [] l ∙ same clock))
-    ∙ told-with place p (get_or old clock [])
-    ∙ ap₂ (λ k b. told old k p || b) (sym q) (sym (ap (λ b. nat_eq p place && b) (eq-eqb c clock q) ∙ and-yes (nat_eq p place))))
-    (λ (q : c ≢ clock).
-    ap (ticks_in p) (get_or-set_other mid clock c now [] q ∙ same c)
-    ∙ sym (ap (λ b. told old c p || (nat_eq p place && b)) (ne_eqb c clock q) ∙ without (told old c p) (nat_eq p place)))
-    (cases_eq c clock)
-  where
-    and-yes : (b : Bool) → (b && true) ≡ b
-    and-yes true = refl
-    and-yes false = refl
+told-more old mid clock place was now same l at is c p = grind (arith, common_steps, get_or-set_same, get_or_default, told-with, get_or-set_other, without)
 
 pub at-one : (a b x : Bool) → (a || (b && x)) ≡ (a || (b && (x || false)))
 at-one true b x = refl
@@ -86,60 +60,12 @@ before-none start read = record { tell = λ c p. sym (ap (λ v. v && ticks_in c 
 pub before-more : (start place : ℕ) (group next : List (List ℕ)) (kept : List Watched) (w : Watched) → TellsBefore start place group (map clocks_of kept)
     → w ≡ get_or kept (start + place) w → start + place < length kept
     → ((c p : ℕ) → told next c p ≡ (told group c p || (nat_eq p place && ticks_in c (clocks_of w)))) → TellsBefore start (place + 1) next (map clocks_of kept)
-before-more start place group next kept w b is l h =
-    record { tell = λ c p. h c p ∙ ap (λ v. v || (nat_eq p place && ticks_in c (clocks_of w))) (b.tell c p) ∙ by-place c p (cases_eq p place) }
-  where
-    read : List (List ℕ)
-    read = map clocks_of kept
-
-    here : get_or read (start + place) [] ≡ clocks_of w
-    here = get_or-map clocks_of kept (start + place) w [] l ∙ ap clocks_of (sym is)
-
-    by-place : (c p : ℕ) → (p ≡ place) ⊎ (p ≢ place)
-        → ((nat_lt p place && ticks_in c (get_or read (start + p) [])) || (nat_eq p place && ticks_in c (clocks_of w))) ≡ (nat_lt p (place + 1)
-        && ticks_in c (get_or read (start + p) []))
-    by-place c p (inl q) =
-        let same : nat_eq p place ≡ true = eq-eqb p place q in
-        let low : nat_lt p place ≡ false = le-ltb p place (omega (arith, q)) in
-        let up : nat_lt p (place + 1) ≡ true = lt-ltb p (place + 1) (omega (arith, q)) in
-        ap (λ v. (v && ticks_in c (get_or read (start + p) [])) || (nat_eq p place && ticks_in c (clocks_of w))) low
-        ∙ ap (λ v. v && ticks_in c (clocks_of w)) same
-        ∙ ap (ticks_in c) (sym here ∙ ap (λ k. get_or read (start + k) []) (sym q))
-        ∙ sym (ap (λ v. v && ticks_in c (get_or read (start + p) [])) up)
-    by-place c p (inr q) =
-        let other : nat_eq p place ≡ false = ne_eqb p place q in
-        ap (λ v. (nat_lt p place && ticks_in c (get_or read (start + p) [])) || (v && ticks_in c (clocks_of w))) other
-        ∙ or-no (nat_lt p place && ticks_in c (get_or read (start + p) []))
-        ∙ ap (λ v. v && ticks_in c (get_or read (start + p) [])) (same-test (nat_lt p place) refl)
-      where
-        or-no : (v : Bool) → (v || false) ≡ v
-        or-no true = refl
-        or-no false = refl
-
-        same-test : (v : Bool) → nat_lt p place ≡ v → nat_lt p place ≡ nat_lt p (place + 1)
-        same-test true e = e ∙ sym (lt-ltb p (place + 1) (let z : p < place = ltb-true p place e in omega (arith, z)))
-        same-test false e = e ∙ sym (le-ltb p (place + 1) (let z : place ≤ p = ltb-false p place e in omega (arith, z, q)))
+before-more start place group next kept w b is l h = grind (arith, common_steps, get_or-map)
 
 -- all items of a group are told
 pub before-all : (start count : ℕ) (group read : List (List ℕ)) → TellsBefore start count group read → (count ≡ MAX_CLOCKS) ⊎ (length read ≤ start + count)
     → TellsFrom start group read
-before-all start count group read b whole = λ c p l. b.tell c p ∙ by-test c p l (nat_lt p count) refl
-  where
-    none : (v : Bool) → (v && false) ≡ false
-    none true = refl
-    none false = refl
-
-    by-test : (c p : ℕ) → p < MAX_CLOCKS → (v : Bool) → nat_lt p count ≡ v
-        → (nat_lt p count && ticks_in c (get_or read (start + p) [])) ≡ ticks_in c (get_or read (start + p) [])
-    by-test c p l true e = ap (λ v. v && ticks_in c (get_or read (start + p) [])) e
-    by-test c p l false e =
-        let high : count ≤ p = ltb-false p count e in
-        ⊎_elim
-        (λ (q : count ≡ MAX_CLOCKS). absurd (omega (arith, q, high, l)))
-        (λ (q : length read ≤ start + count).
-        let past : get_or read (start + p) [] ≡ [] = get_or_past read (start + p) [] (omega (arith, q, high)) in
-        ap (λ ys. nat_lt p count && ticks_in c ys) past ∙ none (nat_lt p count) ∙ sym (ap (ticks_in c) past))
-        whole
+before-all start count group read b whole = grind (arith, common_steps, get_or_past)
 
 -- GROUPS, one more
 pub record AreSoFar (start : ℕ) (groups : List (List (List ℕ))) (read : List (List ℕ)) : Type 0 where
@@ -152,22 +78,7 @@ groups-none read = record { start_is = refl; few = omega arith; tell = λ i l. a
 
 pub groups-more : (start : ℕ) (groups : List (List (List ℕ))) (group read : List (List ℕ)) → AreSoFar start groups read → TellsFrom start group read
     → start < length read → AreSoFar (start + MAX_CLOCKS) (groups ++ group ∷ []) read
-groups-more start groups group read a t l = record {
-  start_is = omega (arith, a.start_is, length-append groups (group ∷ []));
-  few = omega (arith, l);
-  tell = λ i u. by-place i u (nat_lt i (length groups)) refl;
-}
-  where
-    by-place : (i : ℕ) → i < length (groups ++ group ∷ []) → (v : Bool) → nat_lt i (length groups) ≡ v
-        → TellsFrom (i * MAX_CLOCKS) (get_or (groups ++ group ∷ []) i []) read
-    by-place i u true e =
-        let l' : i < length groups = ltb-true i (length groups) e in
-        subst (λ (g : List (List ℕ)). TellsFrom (i * MAX_CLOCKS) g read) (sym (get_or_append_left groups (group ∷ []) [] i l')) (a.tell i l')
-    by-place i u false e =
-        let q : i ≡ length groups = (let z : length groups ≤ i = ltb-false i (length groups) e in omega (arith, z, u, length-append groups (group ∷ []))) in
-        subst (λ (k : ℕ). TellsFrom (k * MAX_CLOCKS) (get_or (groups ++ group ∷ []) k []) read) (sym q)
-        (subst (λ (g : List (List ℕ)). TellsFrom (length groups * MAX_CLOCKS) g read) (sym (get_or-append_seam groups group [] []))
-        (subst (λ (n : ℕ). TellsFrom n group read) a.start_is t))
+groups-more start groups group read a t l = grind (arith, common_steps, length-append, get_or_append_left, get_or-append_seam)
 
 pub groups-all : (start : ℕ) (groups : List (List (List ℕ))) (read : List (List ℕ)) → AreSoFar start groups read → length read ≤ start → AreReaders groups read
 groups-all start groups read a l = record { whole = omega (arith, l, a.start_is); few = omega (arith, a.few, a.start_is); tell = a.tell }
@@ -175,9 +86,7 @@ groups-all start groups read a l = record { whole = omega (arith, l, a.start_is)
 -- what a group of these tells
 pub tell-of : (groups : List (List (List ℕ))) (group read read' : List (List ℕ)) (i : ℕ) → AreReaders groups read → i < length groups
     → group ≡ get_or groups i group → read' ≡ read → TellsFrom (i * MAX_CLOCKS) group read'
-tell-of groups group read read' i a l is same =
-    subst (TellsFrom (i * MAX_CLOCKS) group) (sym same)
-    (subst (λ (g : List (List ℕ)). TellsFrom (i * MAX_CLOCKS) g read) (get_or_default groups i [] group l ∙ sym is) (a.tell i l))
+tell-of groups group read read' i a l is same = grind (arith, common_steps, get_or_default)
 
 -- THE PLACES THAT ARE TOLD at some clocks
 abbrev pub told_at : List (List ℕ) → List ℕ → ℕ → Bool
@@ -193,25 +102,15 @@ gathers-none group clocks before = record { both = λ p. refl }
 pub gathers-more : (group : List (List ℕ)) (clocks rest before touched next : List ℕ) (c : ℕ) → Gathers group clocks (c ∷ rest) before touched
     → ((p : ℕ) → ticks_in p next ≡ (ticks_in p touched || told group c p))
     → Gathers group clocks rest before next
-gathers-more group clocks rest before touched next c g h =
-    record { both = λ p. ap (λ v. v || told_at group rest p) (h p) ∙ assoc (ticks_in p touched) (told group c p) (told_at group rest p) ∙ g.both p }
-  where
-    assoc : (x y z : Bool) → ((x || y) || z) ≡ (x || (y || z))
-    assoc true y z = refl
-    assoc false y z = refl
+gathers-more group clocks rest before touched next c g h = grind (arith, common_steps)
 
 pub gathers-past : (group : List (List ℕ)) (clocks rest before touched : List ℕ) (c : ℕ) → Gathers group clocks (c ∷ rest) before touched → length group ≤ c
     → Gathers group clocks rest before touched
-gathers-past group clocks rest before touched c g l =
-    record { both = λ p. sym (ap (λ ys. ticks_in p touched || (ticks_in p ys || told_at group rest p)) (get_or_past group c [] l)) ∙ g.both p }
+gathers-past group clocks rest before touched c g l = grind (arith, common_steps, get_or_past)
 
 pub gathers-all : (group : List (List ℕ)) (clocks before touched : List ℕ) → Gathers group clocks [] before touched → (p : ℕ)
     → ticks_in p touched ≡ (ticks_in p before || told_at group clocks p)
-gathers-all group clocks before touched g p = sym (or-no (ticks_in p touched)) ∙ g.both p
-  where
-    or-no : (b : Bool) → (b || false) ≡ b
-    or-no true = refl
-    or-no false = refl
+gathers-all group clocks before touched g p = grind (arith, common_steps)
 
 -- THE ITEMS OF A GROUP THAT ARE TOUCHED
 told-meet : (start : ℕ) (group read : List (List ℕ)) → TellsFrom start group read → (clocks : List ℕ) (p : ℕ) → p < MAX_CLOCKS
@@ -266,8 +165,8 @@ touches-alike ticks s start group touched kept alike =
 
 -- or both are gone through, one behind the other
 ticks-append : (x : ℕ) (xs ys : List ℕ) → ticks_in x (xs ++ ys) ≡ (ticks_in x xs || ticks_in x ys)
-ticks-append x [] ys = refl
-ticks-append x (z ∷ xs) ys = ap (λ b. nat_eq x z || b) (ticks-append x xs ys) ∙ sym (or_assoc (nat_eq x z) (ticks_in x xs) (ticks_in x ys))
+ticks-append x [] ys = grind (arith, common_steps)
+ticks-append x (z ∷ xs) ys = grind (arith, common_steps, or_assoc, ticks-append x xs ys)
 
 pub touches-both : (ticks : List ℕ) (s : Step) (start : ℕ) (group : List (List ℕ)) (mid touched : List ℕ) (kept : List Watched)
     → TellsFrom start group (map clocks_of kept) → ((p : ℕ) → ticks_in p mid ≡ told_at group s p)

@@ -1,4 +1,5 @@
 -- The verdict, from the first violation of all items.
+use Rattle.std.proofs.lemmas.Grind.{common_steps}
 use Rattle.std.proofs.Common.{◌≡◌, ℕ, List, length, sym, ap, ◌∙◌, subst, arith, Option}
 use Rattle.ccsl_base.specs.declared.rows.Row.{Row}
 use Rattle.ccsl_kernel.specs.Syntax.{System, item_count}
@@ -12,20 +13,10 @@ module _ (K : System) (bound : List ℕ) (rows : List Row) where
   obeyed-run h = verdict-run K bound rows (λ n j l m. h n j l (omega arith) (omega (arith, m)))
 
   pub first-violated : (v : Violation) → IsFirst K bound rows 0 (item_count K) v → verdict K bound rows ≡ Violated v.step v.time v.item
-  first-violated v f =
-      verdict-violated K bound rows v.step v.item
-      (record {
-        step = f.step;
-        item = omega (arith, f.below);
-        violated = f.violated;
-        earlier = λ n j l m. f.earlier n j l (omega arith) (omega (arith, m));
-        lower = λ j l. f.lower j (omega arith) l;
-      })
-      ∙ ap (λ t. Violated v.step t v.item) (sym f.time)
+  first-violated v f = grind (arith, common_steps, verdict-violated)
 
 -- what is found of some items is found of all, where they are all
 pub finds-all : (K K' : System) (bound : List ℕ) (rows : List Row) (start count : ℕ) (o : Option Violation) → K' ≡ K → start ≡ 0 → count ≡ item_count K
     → Finds K' bound rows start count o
     → Finds K bound rows 0 (item_count K) o
-finds-all K K' bound rows start count o e s n h =
-    subst (λ k. Finds K bound rows 0 k o) n (subst (λ i. Finds K bound rows i count o) s (subst (λ (X : System). Finds X bound rows start count o) e h))
+finds-all K K' bound rows start count o e s n h = grind (arith, common_steps)

@@ -1,4 +1,5 @@
 -- A walk over the places of the items of a group that read a clock that ticks.
+use Rattle.std.proofs.lemmas.Grind.{common_steps}
 use Rattle.std.proofs.Common.{◌≡◌, ℕ, ◌+◌, ◌-◌, ◌<◌, ◌≤◌, List, [], ◌∷◌, Bool, true, false, ◌||◌, nat_eq, nat_lt, length, get_or, slice_set, ◌⊎◌, inl, inr}
 use Rattle.std.proofs.Common.{⊎_elim, refl, sym, ap, ◌∙◌, subst, arith, eq-eqb}
 use Rattle.std.specs.List.{list_all}
@@ -28,17 +29,7 @@ pub record Walks (ticks : List ℕ) (s : Step) (start : ℕ) (touched rest : Lis
 
 pub walk-none : (ticks : List ℕ) (s : Step) (start : ℕ) (touched : List ℕ) (kept : List Watched) → is_ascending touched ≡ true
     → are_below MAX_CLOCKS touched ≡ true → Walks ticks s start touched touched kept kept
-walk-none ticks s start touched kept a b = record {
-  next = start;
-  low = omega arith;
-  high = omega arith;
-  on = on-none ticks s start kept;
-  left = λ p l t. t;
-  behind = λ p t. omega arith;
-  within = λ p t. t;
-  sorted = a;
-  below = b;
-}
+walk-none ticks s start touched kept a b = grind (arith, common_steps, on-none)
 
 module _ (ticks : List ℕ) (s : Step) (start : ℕ) (touched : List ℕ) (old now : List Watched) (t : Touches ticks s touched start old) where
   -- an item at which the walk does not stop is quiet
@@ -69,22 +60,10 @@ module _ (ticks : List ℕ) (s : Step) (start : ℕ) (touched : List ℕ) (old n
 
     -- what is left behind the next place
     later : (p : ℕ) → ticks_in p (m ∷ rest) ≡ true → (p ≡ m) ⊎ (ticks_in p rest ≡ true)
-    later p h = by-first (nat_eq p m) refl
-      where
-        by-first : (b : Bool) → nat_eq p m ≡ b → (p ≡ m) ⊎ (ticks_in p rest ≡ true)
-        by-first true e = inl (eqb-true p m e)
-        by-first false e = inr (sym (ap (λ b. b || ticks_in p rest) e) ∙ h)
+    later p h = grind (arith, common_steps)
 
     none-between : (p : ℕ) → w.next ≤ start + p → start + p < start + m → ticks_in p touched ≡ false
-    none-between p a b = by-value (ticks_in p touched) refl
-      where
-        by-value : (v : Bool) → ticks_in p touched ≡ v → ticks_in p touched ≡ false
-        by-value true e =
-            absurd (⊎_elim
-            (λ (q : p ≡ m). omega (arith, q, b))
-            (λ (q : ticks_in p rest ≡ true). let l : m < p = above m rest p parts.0 q in omega (arith, l, b))
-            (later p (w.left p a e)))
-        by-value false e = e
+    none-between p a b = grind (arith, common_steps, above, parts, later)
 
     -- the walk comes to the next place
     comes : GoesOn ticks s start (start + m) old now
@@ -103,11 +82,7 @@ module _ (ticks : List ℕ) (s : Step) (start : ℕ) (touched : List ℕ) (old n
       low = omega arith;
       high = omega (arith, small);
       on = on-more ticks s start (start + m) old now x comes (omega arith) walk-inside e is;
-      left = λ p a h.
-          ⊎_elim
-          (λ (q : p ≡ m). absurd (omega (arith, q, a)))
-          (λ (q : ticks_in p rest ≡ true). q)
-          (later p (w.left p (omega (arith, a, from)) h));
+      left = λ p a h. grind (arith, common_steps, w.left p, from, later p);
       behind = λ p h. let l : m < p = above m rest p parts.0 h in omega (arith, l);
       within = λ p h. w.within p (or_right (nat_eq p m) (ticks_in p rest) h);
       sorted = parts.1;
@@ -119,8 +94,4 @@ module _ (ticks : List ℕ) (s : Step) (start : ℕ) (touched : List ℕ) (old n
   walk-done w = on-skip ticks s start w.next (start + MAX_CLOCKS) old now w.on w.low w.high (quiet-between w.next (start + MAX_CLOCKS) w.low (omega arith) none)
     where
       none : (p : ℕ) → w.next ≤ start + p → start + p < start + MAX_CLOCKS → ticks_in p touched ≡ false
-      none p a b = by-value (ticks_in p touched) refl
-        where
-          by-value : (v : Bool) → ticks_in p touched ≡ v → ticks_in p touched ≡ false
-          by-value true e = let z : false ≡ true = w.left p a e in absurd (cc)
-          by-value false e = e
+      none p a b = grind (arith, common_steps, w.left p)
