@@ -15,9 +15,6 @@ pub record Taken (start now : Watching) (block : List Row) (i : ℕ) : Type 0 wh
   pub stands : (recorded : List ℕ) (rows : List Row) → StandsFor recorded start rows → length rows + length block < 2 ^ 64
       → StandsFor recorded now (rows ++ take i block)
 
-pub taken-none : (v : Watching) (block : List Row) → Taken v v block 0
-taken-none v block = grind (arith, common_steps, append-nil)
-
 pub take-more : (block : List Row) (i : ℕ) (row : Row) → slice_get block i ≡ Some row → take (i + 1) block ≡ take i block ++ row ∷ []
 take-more [] i row e = grind (arith, common_steps)
 take-more (x ∷ block) Rattle.std.proofs.Common.zero row e = grind (arith, common_steps)

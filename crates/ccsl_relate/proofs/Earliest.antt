@@ -37,9 +37,6 @@ module _ (rows : List Row) (old : List Watched) where
     pub found : IfSome first (IsFound i end)
     pub none : IfNone first (HaveGone now i end)
 
-  pub far-none : IsSoFar old 0 (length rows) None
-  far-none = grind (arith, common_steps)
-
   module _ (now : List Watched) (i end : ℕ) (first : Option Failure) (f : IsSoFar now i end first) (l : i < length old) (x : Watched)
       (clocks : clocks_of x ≡ clocks_of (get_or now i Nothing)) where
     abbrev next : List Watched
@@ -80,15 +77,8 @@ module _ (rows : List Row) (old : List Watched) where
 
   module _ (now : List Watched) (i end : ℕ) (whole : length old ≤ i) where
     -- ALL ITEMS were taken
-    pub done-found : (first : Option Failure) → i ≤ length old → IsSoFar now i end first → IfSome first (IsFirstIn rows old)
-    done-found None m f = grind (arith, common_steps)
-    done-found (Some v) m f = grind (arith, common_steps)
-
     pub done-none : (first : Option Failure) → IsSoFar now i end first → IfNone first (All (ObeysUpTo rows (length rows)) old)
     done-none (Some v) f = tt
     done-none None f = λ k d l.
         subst (ObeysUpTo rows (length rows)) (get_or_default old k Nothing d l) (λ n b. f.before k (omega (arith, l, whole)) n (omega (arith, b, f.none.whole)))
 
-    pub done-next : (first : Option Failure) → IsSoFar now i end first → IfNone first (now ≡ map (after_rows rows) old)
-    done-next (Some v) f = grind (arith, common_steps)
-    done-next None f = grind (arith, common_steps, partly-all)

@@ -86,9 +86,6 @@ module _ (ticks : List ℕ) (s : Step) where
   pub on-all : (end : ℕ) (old new : List Watched) → GoesOn ticks s 0 end old new → length old ≤ end → new ≡ map (next_in s) old
   on-all end old new g l = grind (arith, common_steps, same_lists, length-map, get_or-map)
 
-  pub obeyed-all : (end : ℕ) (old new : List Watched) → GoesOn ticks s 0 end old new → length old ≤ end → All (λ w. fails_in ticks s w ≡ false) old
-  obeyed-all end old new g l = λ k d b. g.obeys k d (omega arith) (omega (arith, b, l)) b
-
   -- THE FIRST that fails
   pub fails-first : (mid place : ℕ) (old now : List Watched) → GoesOn ticks s 0 mid old now → FailsFrom ticks s mid now place → FailsFirst ticks s old place
   fails-first mid place old now g f = grind (arith, common_steps)

@@ -38,50 +38,16 @@ pub told-more : (old mid : List (List ℕ)) (clock place : ℕ) (was now : List 
     → (c p : ℕ) → told (slice_set mid clock now) c p ≡ (told old c p || (nat_eq p place && nat_eq c clock))
 told-more old mid clock place was now same l at is c p = grind (arith, common_steps, get_or-set_same, get_or_default, told-with, get_or-set_other, without)
 
-pub at-one : (a b x : Bool) → (a || (b && x)) ≡ (a || (b && (x || false)))
-at-one true b x = refl
-at-one false false x = refl
-at-one false true true = refl
-at-one false true false = refl
-
-pub at-two : (a b x y : Bool) → ((a || (b && x)) || (b && y)) ≡ (a || (b && (x || (y || false))))
-at-two true b x y = refl
-at-two false false x y = refl
-at-two false true true y = refl
-at-two false true false y = at-one false true y
-
 -- the items before a place are told
 pub record TellsBefore (start place : ℕ) (group read : List (List ℕ)) : Type 0 where
   pub tell : (c p : ℕ) → told group c p ≡ (nat_lt p place && ticks_in c (get_or read (start + p) []))
 
-pub before-none : (start : ℕ) (read : List (List ℕ)) → TellsBefore start 0 [] read
-before-none start read = record { tell = λ c p. sym (ap (λ v. v && ticks_in c (get_or read (start + p) [])) (le-ltb p 0 (omega arith))) }
-
-pub before-more : (start place : ℕ) (group next : List (List ℕ)) (kept : List Watched) (w : Watched) → TellsBefore start place group (map clocks_of kept)
-    → w ≡ get_or kept (start + place) w → start + place < length kept
-    → ((c p : ℕ) → told next c p ≡ (told group c p || (nat_eq p place && ticks_in c (clocks_of w)))) → TellsBefore start (place + 1) next (map clocks_of kept)
-before-more start place group next kept w b is l h = grind (arith, common_steps, get_or-map)
-
 -- all items of a group are told
-pub before-all : (start count : ℕ) (group read : List (List ℕ)) → TellsBefore start count group read → (count ≡ MAX_CLOCKS) ⊎ (length read ≤ start + count)
-    → TellsFrom start group read
-before-all start count group read b whole = grind (arith, common_steps, get_or_past)
-
 -- GROUPS, one more
 pub record AreSoFar (start : ℕ) (groups : List (List (List ℕ))) (read : List (List ℕ)) : Type 0 where
   pub start_is : start ≡ length groups * MAX_CLOCKS
   pub few : start < length read + MAX_CLOCKS
   pub tell : (i : ℕ) → i < length groups → TellsFrom (i * MAX_CLOCKS) (get_or groups i []) read
-
-pub groups-none : (read : List (List ℕ)) → AreSoFar 0 [] read
-groups-none read = record { start_is = refl; few = omega arith; tell = λ i l. absurd (omega (arith, l)) }
-
-pub groups-more : (start : ℕ) (groups : List (List (List ℕ))) (group read : List (List ℕ)) → AreSoFar start groups read → TellsFrom start group read
-    → start < length read → AreSoFar (start + MAX_CLOCKS) (groups ++ group ∷ []) read
-groups-more start groups group read a t l = grind (arith, common_steps, length-append, get_or_append_left, get_or-append_seam)
-
-pub groups-all : (start : ℕ) (groups : List (List (List ℕ))) (read : List (List ℕ)) → AreSoFar start groups read → length read ≤ start → AreReaders groups read
-groups-all start groups read a l = record { whole = omega (arith, l, a.start_is); few = omega (arith, a.few, a.start_is); tell = a.tell }
 
 -- what a group of these tells
 pub tell-of : (groups : List (List (List ℕ))) (group read read' : List (List ℕ)) (i : ℕ) → AreReaders groups read → i < length groups
@@ -95,22 +61,6 @@ told_at group clocks p = list_any (λ c. told group c p) clocks
 -- what is gathered, and what the clocks that are left tell, is what was there and what all tell
 pub record Gathers (group : List (List ℕ)) (clocks rest before touched : List ℕ) : Type 0 where
   pub both : (p : ℕ) → (ticks_in p touched || told_at group rest p) ≡ (ticks_in p before || told_at group clocks p)
-
-pub gathers-none : (group : List (List ℕ)) (clocks before : List ℕ) → Gathers group clocks clocks before before
-gathers-none group clocks before = record { both = λ p. refl }
-
-pub gathers-more : (group : List (List ℕ)) (clocks rest before touched next : List ℕ) (c : ℕ) → Gathers group clocks (c ∷ rest) before touched
-    → ((p : ℕ) → ticks_in p next ≡ (ticks_in p touched || told group c p))
-    → Gathers group clocks rest before next
-gathers-more group clocks rest before touched next c g h = grind (arith, common_steps)
-
-pub gathers-past : (group : List (List ℕ)) (clocks rest before touched : List ℕ) (c : ℕ) → Gathers group clocks (c ∷ rest) before touched → length group ≤ c
-    → Gathers group clocks rest before touched
-gathers-past group clocks rest before touched c g l = grind (arith, common_steps, get_or_past)
-
-pub gathers-all : (group : List (List ℕ)) (clocks before touched : List ℕ) → Gathers group clocks [] before touched → (p : ℕ)
-    → ticks_in p touched ≡ (ticks_in p before || told_at group clocks p)
-gathers-all group clocks before touched g p = grind (arith, common_steps)
 
 -- THE ITEMS OF A GROUP THAT ARE TOUCHED
 told-meet : (start : ℕ) (group read : List (List ℕ)) → TellsFrom start group read → (clocks : List ℕ) (p : ℕ) → p < MAX_CLOCKS

@@ -16,14 +16,8 @@ pub record IsRange (d c : ℕ) (s : List ℕ) : Type 0 where
   pub inside : (x : ℕ) → d ≤ x → x < c → ticks_in x s ≡ true
   pub outside : (x : ℕ) → x < d → ticks_in x s ≡ false
 
-pub range-none : (d : ℕ) → IsRange d d []
-range-none d = record { low = omega arith; inside = λ x a b. absurd (omega (arith, a, b)); outside = λ x a. refl }
-
 pub range-more : (d c : ℕ) (s : List ℕ) → IsRange d c s → IsRange d (c + 1) (with_clock c s)
 range-more d c s r = grind (arith, common_steps, ticks_in-with_clock)
-
-pub range-undeclared : (K : System) (c : ℕ) (s : List ℕ) → IsRange K.declared c s → MAX_CLOCKS ≤ c → IsUndeclared K s
-range-undeclared K c s r m x l = grind (arith, common_steps)
 
 pub some-of : {A : Type 0} (o : Option A) → is_some o ≡ true → (x : A) × (o ≡ Some x)
 some-of None e = absurd (cc)

@@ -27,10 +27,6 @@ pub record Walks (ticks : List ℕ) (s : Step) (start : ℕ) (touched rest : Lis
   pub sorted : is_ascending rest ≡ true
   pub below : are_below MAX_CLOCKS touched ≡ true
 
-pub walk-none : (ticks : List ℕ) (s : Step) (start : ℕ) (touched : List ℕ) (kept : List Watched) → is_ascending touched ≡ true
-    → are_below MAX_CLOCKS touched ≡ true → Walks ticks s start touched touched kept kept
-walk-none ticks s start touched kept a b = grind (arith, common_steps, on-none)
-
 module _ (ticks : List ℕ) (s : Step) (start : ℕ) (touched : List ℕ) (old now : List Watched) (t : Touches ticks s touched start old) where
   -- an item at which the walk does not stop is quiet
   quiet-between : (next : ℕ) (stop : ℕ) → start ≤ next → stop ≤ start + MAX_CLOCKS
@@ -68,9 +64,6 @@ module _ (ticks : List ℕ) (s : Step) (start : ℕ) (touched : List ℕ) (old n
     -- the walk comes to the next place
     comes : GoesOn ticks s start (start + m) old now
     comes = on-skip ticks s start w.next (start + m) old now w.on w.low from (quiet-between w.next (start + m) w.low (omega (arith, small)) none-between)
-
-    pub walk-same : (d : Watched) → get_or now (start + m) d ≡ get_or old (start + m) d
-    walk-same d = comes.rest (start + m) d (omega arith)
 
     pub walk-fails : fails_in ticks s (get_or now (start + m) Nothing) ≡ true → FailsFrom ticks s start old (start + m)
     walk-fails e = fails-here ticks s start (start + m) old now comes (omega arith) walk-inside e
