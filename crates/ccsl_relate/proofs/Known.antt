@@ -115,6 +115,3 @@ pub suffice-on : (K : System) (held held' : Option HeldPart) (s : Step) (kept : 
 suffice-on K held held' s kept same e = reads-on (is_known K held') (is_known K held) same s kept ∙ e
 
 -- the clocks that are not declared, as the states have it
-pub undeclared-for : (K : System) (held : Option HeldPart) (T : List Step) (set : List ℕ) → AreAfter K held T → IsUndeclared K set
-    → ForSome held (λ p. IsUndeclared p.system set)
-undeclared-for K held T set after u p e = grind (arith, common_steps)

@@ -37,22 +37,14 @@ module _ (ticks : List ℕ) (s : Step) where
       → ((k : ℕ) → end ≤ k → k < next → k < length old → IsQuiet ticks s (get_or old k Nothing)) → GoesOn ticks s start next old now
   on-skip start end next old now g low up quiet = record {
     count = g.count;
-    obeys = λ k d a b l. obeys k d a b l (nat_lt k end) refl;
-    gone = λ k d a b l. gone k d a b l (nat_lt k end) refl;
+    obeys = λ k d a b l. grind (arith, quiet-at k d, g.obeys k d);
+    gone = λ k d a b l. grind (arith, quiet-at k d, g.gone k d, g.rest k d);
     front = g.front;
     rest = λ k d l. g.rest k d (omega (arith, l, up));
   }
     where
       quiet-at : (k : ℕ) (d : Watched) → end ≤ k → k < next → k < length old → IsQuiet ticks s (get_or old k d)
       quiet-at k d a b l = subst (IsQuiet ticks s) (get_or_default old k Nothing d l) (quiet k a b l)
-
-      obeys : (k : ℕ) (d : Watched) → start ≤ k → k < next → k < length old → (b : Bool) → nat_lt k end ≡ b → fails (get_or old k d) ≡ false
-      obeys k d a b l true e = g.obeys k d a (ltb-true k end e) l
-      obeys k d a b l false e = (quiet-at k d (ltb-false k end e) b l).obeys
-
-      gone : (k : ℕ) (d : Watched) → start ≤ k → k < next → k < length old → (b : Bool) → nat_lt k end ≡ b → get_or now k d ≡ next_in s (get_or old k d)
-      gone k d a b l true e = g.gone k d a (ltb-true k end e) l
-      gone k d a b l false e = g.rest k d (ltb-false k end e) ∙ sym (quiet-at k d (ltb-false k end e) b l).stays
 
   -- the next item does not fail, and goes on
   pub on-more : (start end : ℕ) (old now : List Watched) (w : Watched) → GoesOn ticks s start end old now → start ≤ end → end < length old
@@ -87,14 +79,8 @@ module _ (ticks : List ℕ) (s : Step) where
   on-all end old new g l = grind (arith, common_steps, same_lists, length-map, get_or-map)
 
   -- THE FIRST that fails
-  pub fails-first : (mid place : ℕ) (old now : List Watched) → GoesOn ticks s 0 mid old now → FailsFrom ticks s mid now place → FailsFirst ticks s old place
-  fails-first mid place old now g f = grind (arith, common_steps)
-
   pub fails-here : (start end : ℕ) (old now : List Watched) → GoesOn ticks s start end old now → start ≤ end → end < length old
       → fails (get_or now end Nothing) ≡ true → FailsFrom ticks s start old end
   fails-here start end old now g low inside e = grind (arith, common_steps, get_or_default)
 
 -- an answer that says more
-pub some-more : {A : Type 0} (P Q : A → Type 0) (o : Option A) → ((x : A) → P x → Q x) → IfSome o P → IfSome o Q
-some-more P Q None f h = tt
-some-more P Q (Some x) f h = f x h

@@ -50,10 +50,6 @@ pub record AreSoFar (start : ℕ) (groups : List (List (List ℕ))) (read : List
   pub tell : (i : ℕ) → i < length groups → TellsFrom (i * MAX_CLOCKS) (get_or groups i []) read
 
 -- what a group of these tells
-pub tell-of : (groups : List (List (List ℕ))) (group read read' : List (List ℕ)) (i : ℕ) → AreReaders groups read → i < length groups
-    → group ≡ get_or groups i group → read' ≡ read → TellsFrom (i * MAX_CLOCKS) group read'
-tell-of groups group read read' i a l is same = grind (arith, common_steps, get_or_default)
-
 -- THE PLACES THAT ARE TOLD at some clocks
 abbrev pub told_at : List (List ℕ) → List ℕ → ℕ → Bool
 told_at group clocks p = list_any (λ c. told group c p) clocks

@@ -1,3 +1,4 @@
+use Rattle.std.proofs.lemmas.Grind.{common_steps}
 use Rattle.std.proofs.Common.{◌≡◌, ◌+◌, ◌<◌, length, take, get_or, slice_set, sym, subst, arith}
 use Rattle.std.specs.Prelude.{IfSome, IfNone}
 use Rattle.ccsl_relate.specs.declared.watched.Watched.TheVariants.{Nothing}
@@ -6,11 +7,6 @@ use Rattle.ccsl_relate.specs.Alone.{after_rows, ObeysUpTo, IsFirstRow}
 use Rattle.ccsl_relate.proofs.Earliest.{IsSoFar, far-on, far-found, done-none}
 use Rattle.ccsl_relate.proofs.alone.first_in.Goals as goal
 use Rattle.ccsl_relate.proofs.alone.first_in.Goals.{in-None, in-Some}
-
-pub first_row-requires-clause-room : goal.first_row-requires-clause-room
-first_row-requires-clause-room c =
-    subst (HasRoomFor (length c.args.block.now.rows)) (sym (c.loop-i.invariant.rest c.loop-i.i (omega arith)))
-    (c.requires.room c.loop-i.i Nothing (omega arith))
 
 pub loop-i-preserved : goal.loop-i-preserved
 loop-i-preserved c =

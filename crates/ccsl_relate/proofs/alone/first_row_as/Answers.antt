@@ -1,3 +1,4 @@
+use Rattle.std.proofs.lemmas.Grind.{common_steps}
 use Rattle.std.proofs.Common.{◌≡◌, ℕ, ◌<◌, length, take, false, sym, ap, ◌∙◌, subst, arith, below_more, length-take-le}
 use Rattle.ccsl_relate.specs.declared.watched.Watched.TheVariants.{Relation}
 use Rattle.ccsl_relate.specs.Few.{HasRoom}
@@ -8,15 +9,7 @@ use Rattle.ccsl_relate.proofs.ByRows.{after-more, fails-here, clocks-after, room
 use Rattle.ccsl_relate.proofs.alone.first_row_as.Goals as goal
 
 pub fails-requires : goal.fails-requires
-fails-requires c =
-    let rows = c.args.block.now.rows in
-    let i = c.loop-i.i in
-    let inside : i < length rows = omega (arith, c.requires.inside) in
-    record {
-      few = subst HasRoom (sym c.loop-i.invariant.gone)
-          (room-after (take i rows) (Relation c.args.related.now) (length rows) (omega (arith, length-take-le i rows (omega (arith, inside)), inside))
-          c.requires.room);
-    }
+fails-requires c = grind (arith, common_steps, room-after, length-take-le)
 
 pub loop-i-preserved : goal.loop-i-preserved
 loop-i-preserved c =
@@ -46,11 +39,3 @@ returns-then-fails-clause-fails c =
 
 pub returns-clause-clocks : goal.returns-clause-clocks
 returns-clause-clocks c = ap clocks_of c.loop-i.invariant.gone ∙ clocks-after (take c.loop-i.i c.args.block.now.rows) (Relation c.args.related.now)
-
-pub returns-clause-none : goal.returns-clause-none
-returns-clause-none c = λ n l. c.loop-i.invariant.obeys n (omega (arith, l))
-
-pub returns-clause-next : goal.returns-clause-next
-returns-clause-next c =
-    c.loop-i.invariant.gone
-    ∙ ap (λ n. after_rows (take n c.args.block.now.rows) (Relation c.args.related.now)) (let e : c.loop-i.i ≡ c.args.end = omega arith in e)

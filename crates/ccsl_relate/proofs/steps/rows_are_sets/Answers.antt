@@ -1,3 +1,4 @@
+use Rattle.std.proofs.lemmas.Grind.{common_steps}
 use Rattle.std.proofs.Common.{◌≡◌, true, take, sym, subst, arith}
 use Rattle.std.proofs.lemmas.List.{take_all}
 use Rattle.ccsl_relate.specs.Watching.{are_sets}
@@ -8,8 +9,5 @@ use Rattle.ccsl_relate.proofs.steps.rows_are_sets.Goals as goal
 pub loop-i-preserved : goal.loop-i-preserved
 loop-i-preserved c =
     let rows = c.args.block.now.rows in
-    subst (λ rs. are_sets rs ≡ true) (sym (take-more rows c.loop-i.i c.row.result.now c.row.ensures))
+    rw (take-more rows c.loop-i.i c.row.result.now c.row.ensures)
     (sets-snoc (take c.loop-i.i rows) c.row.result.now c.loop-i.invariant c.ascends.ensures.ascending)
-
-pub returns : goal.returns
-returns c = subst (λ rs. are_sets rs ≡ true) (take_all c.loop-i.i c.args.block.now.rows (omega arith)) c.loop-i.invariant

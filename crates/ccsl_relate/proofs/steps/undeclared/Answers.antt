@@ -1,8 +1,7 @@
-use Rattle.std.proofs.Common.{◌+◌, sym, subst}
+use Rattle.std.proofs.lemmas.Grind.{common_steps}
+use Rattle.std.proofs.Common.{arith, ◌+◌, sym, subst}
 use Rattle.ccsl_relate.proofs.Undeclared.{IsRange, range-more}
 use Rattle.ccsl_relate.proofs.steps.undeclared.Goals as goal
 
 pub loop-clock-preserved : goal.loop-clock-preserved
-loop-clock-preserved c =
-    subst (IsRange c.args.system.now.declared (c.loop-clock.clock + 1)) (sym c.insert.ensures)
-    (range-more c.args.system.now.declared c.loop-clock.clock c.loop-clock.clocks c.loop-clock.invariant)
+loop-clock-preserved c = rw c.insert.ensures (range-more _ _ _ c.loop-clock.invariant)

@@ -1,3 +1,4 @@
+use Rattle.std.proofs.lemmas.Grind.{common_steps}
 use Rattle.std.proofs.Common.{◌≡◌, ◌+◌, ◌*◌, ◌||◌, length, map, sym, ap, ◌∙◌, subst, arith}
 use Rattle.std.proofs.lemmas.List.{length-map}
 use Rattle.std.specs.Prelude.{IfNone}
@@ -5,26 +6,10 @@ use Rattle.ccsl_base.specs.declared.limits.TheConstants.{MAX_CLOCKS}
 use Rattle.ccsl_base.specs.Clocks.{ticks_in}
 use Rattle.ccsl_relate.specs.Watching.{FailsFirst}
 use Rattle.ccsl_relate.specs.Reading.{clocks_of, AreReaders, FailsFrom, GoesOn}
-use Rattle.ccsl_relate.proofs.Ranges.{on-both, on-all, fails-first, some-more}
-use Rattle.ccsl_relate.proofs.Told.{told_at, touches-told, tell-of}
+use Rattle.ccsl_relate.proofs.Ranges.{on-both, on-all}
+use Rattle.ccsl_relate.proofs.Told.{told_at, touches-told}
 use Rattle.ccsl_relate.proofs.touched.first_touched.Goals as goal
 use Rattle.ccsl_base.proofs.Cases.{none-of}
-
-pub first_at-place-requires-clause-touched : goal.first_at-place-requires-clause-touched
-first_at-place-requires-clause-touched c =
-    let i = c.loop-i.i in
-    c.touch.ensures (i * MAX_CLOCKS) c.loop-i.kept
-    (tell-of c.groups-groups.result.now c.index-groups-i.result (map clocks_of c.args.kept.now) (map clocks_of c.loop-i.kept) i
-    (subst (λ gs. AreReaders gs (map clocks_of c.args.kept.now)) (sym c.groups-groups.ensures) c.requires.readers)
-    c.loop-i-test.true c.index-groups-i.is c.loop-i.invariant.clocks)
-
-pub returns-then-is_some-clause-fails : goal.returns-then-is_some-clause-fails
-returns-then-is_some-clause-fails c =
-    let ticks = c.args.ticks.now in
-    let step = c.args.step.now in
-    let mid = c.loop-i.i * MAX_CLOCKS in
-    some-more (FailsFrom ticks step mid c.loop-i.kept) (FailsFirst ticks step c.args.kept.now) c.first_at-place.result
-    (λ place f. fails-first ticks step mid place c.args.kept.now c.loop-i.kept c.loop-i.invariant.on f) c.first_at-place.ensures.fails
 
 pub loop-i-preserved : goal.loop-i-preserved
 loop-i-preserved c =

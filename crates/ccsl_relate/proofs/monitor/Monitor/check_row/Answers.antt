@@ -1,38 +1,23 @@
+use Rattle.std.proofs.lemmas.Grind.{common_steps}
 use Rattle.std.proofs.Common.{◌≡◌, ◌+◌, length, ap, ◌∙◌, arith}
 use Rattle.ccsl_relate.specs.Watching.{Watching}
 use Rattle.ccsl_relate.proofs.Passing.{row-taken}
 use Rattle.ccsl_relate.proofs.monitor.Monitor.check_row.Goals as goal
 
 pub keep-requires : goal.keep-requires
-keep-requires c = λ none.
-    let w = c.requires in
-    let n = c.first_with-found.ensures w.0 w.1 w.2 w.3 in
-    ap (λ (v : Watching). v.first) (c.self.view_is ∙ n.same) ∙ n.none_before none
+keep-requires c = grind (arith, common_steps, c.first_with-found.ensures c.requires.0 c.requires.1 c.requires.2 c.requires.3)
 
 pub overflow_add-self : goal.overflow_add-self
-overflow_add-self c =
-    let w = c.requires in
-    let n = c.first_with-found.ensures w.0 w.1 w.2 w.3 in
-    let steps : c.self.inside.steps ≡ length w.1 = ap (λ (v : Watching). v.steps) (c.self.view_is ∙ n.same) ∙ w.2.steps in
-    omega (arith, steps, w.3)
+overflow_add-self c = grind (arith, c.first_with-found.ensures c.requires.0 c.requires.1 c.requires.2 c.requires.3, c.requires.2.steps)
 
 pub returns-clause-system : goal.returns-clause-system
-returns-clause-system c =
-    let w = c.requires in
-    let n = c.first_with-found.ensures w.0 w.1 w.2 w.3 in
-    ap (λ (v : Watching). v.system) (c.self.view_is ∙ n.same)
+returns-clause-system c = grind (arith, c.first_with-found.ensures c.requires.0 c.requires.1 c.requires.2 c.requires.3)
 
 pub returns-clause-start : goal.returns-clause-start
-returns-clause-start c =
-    let w = c.requires in
-    let n = c.first_with-found.ensures w.0 w.1 w.2 w.3 in
-    ap (λ (v : Watching). v.start) (c.self.view_is ∙ n.same)
+returns-clause-start c = grind (arith, c.first_with-found.ensures c.requires.0 c.requires.1 c.requires.2 c.requires.3)
 
 pub returns-clause-count : goal.returns-clause-count
-returns-clause-count c =
-    let w = c.requires in
-    let n = c.first_with-found.ensures w.0 w.1 w.2 w.3 in
-    ap (λ (v : Watching). length v.kept) c.self.view_is ∙ n.count
+returns-clause-count c = grind (arith, c.first_with-found.ensures c.requires.0 c.requires.1 c.requires.2 c.requires.3)
 
 pub returns-clause-stands : goal.returns-clause-stands
 returns-clause-stands c = λ recorded rows s l.

@@ -5,7 +5,6 @@ use Rattle.std.proofs.lemmas.List.{with_items_is}
 use Rattle.ccsl_kernel.specs.Verdict.{completed_rows}
 use Rattle.ccsl_relate.specs.Few.{EachHasRoom}
 use Rattle.ccsl_relate.specs.Watching.{Watching, fails_in, next_in, FailsFirst, step_known, StandsFor, IsNext}
-use Rattle.ccsl_relate.proofs.Known.{undeclared-for}
 use Rattle.ccsl_relate.proofs.Passing.{states-after, few-steps, each-has-room, next-resting, next-violated, next-obeyed}
 use Rattle.ccsl_relate.proofs.Undeclared.{some-of}
 use Rattle.ccsl_relate.proofs.monitor.Monitor.first_with.Goals as goal
@@ -76,15 +75,6 @@ returns-in_err-place c = λ recorded rows s l.
     (items ∙ c.in_err-place.ensures.next K T after ∙ ap (map (next_in step)) value)
     (c.first_violated.ensures.known K)
     (c.first_violated.ensures.after K T after few)))
-
-pub first_violated-requires-clause-undeclared : goal.first_violated-requires-clause-undeclared
-first_violated-requires-clause-undeclared c =
-    let w = c.requires in
-    let K = c.self.inside.system.now in
-    let n = none-of c.self.inside.first (sym c.is_some.ensures ∙ c.if-is_some.false) in
-    let s = subst (λ v. StandsFor w.0 v w.1) (sym c.self.view_is) w.2 in
-    undeclared-for K c.self.inside.states (completed_rows K w.1) c.self.inside.undeclared
-    (states-after w.0 _ w.1 c.args.row.now s c.ascends.ensures.ascending n) c.self.invariant.0
 
 pub first_violated-requires-clause-room : goal.first_violated-requires-clause-room
 first_violated-requires-clause-room c =

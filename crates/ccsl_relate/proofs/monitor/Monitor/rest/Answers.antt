@@ -1,14 +1,9 @@
+use Rattle.std.proofs.lemmas.Grind.{common_steps}
 use Rattle.std.proofs.Common.{◌≡◌, ◌+◌, length, ap, ◌∙◌, arith}
 use Rattle.ccsl_relate.specs.Watching.{Watching}
 use Rattle.ccsl_relate.proofs.Resting.{rests}
 use Rattle.ccsl_relate.proofs.Undeclared.{some-of}
 use Rattle.ccsl_relate.proofs.monitor.Monitor.rest.Goals as goal
-
-pub overflow_add-self : goal.overflow_add-self
-overflow_add-self c =
-    let w = c.requires.stands in
-    let steps : c.self.inside.steps ≡ length w.1 = ap (λ (v : Watching). v.steps) c.self.view_is ∙ w.2.steps in
-    omega (arith, steps, w.3)
 
 pub returns-clause-stands : goal.returns-clause-stands
 returns-clause-stands c = λ recorded rows s l.
