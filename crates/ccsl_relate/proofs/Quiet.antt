@@ -58,14 +58,4 @@ module _ (s : Step) where
     quiet-unread (Definition clock) h =
         let r = rests (Definition clock) h clock (ap (λ b. b || false) (eq-eqb clock clock refl)) in
         record { obeys = ap₂ (λ x y. not (same x y)) r.0 r.1; stays = refl }
-    quiet-unread (Relation r) h =
-        let left = (rests (Relation r) h r.left (ap (λ b. b || ticks_in r.left (r.right ∷ [])) (eq-eqb r.left r.left refl))).1 in
-        let right = (rests (Relation r) h r.right (right-read (nat_eq r.right r.left) r.right)).1 in
-        record {
-          obeys = ap not (holds-quiet r.kind r.left r.right r.left_count r.right_count left right);
-          stays = ap₂ (λ a b. Relation (record r { left_count = counted a r.left_count; right_count = counted b r.right_count })) left right;
-        }
-      where
-        right-read : (b : Bool) (x : ℕ) → (b || (nat_eq x x || false)) ≡ true
-        right-read true x = refl
-        right-read false x = ap (λ b. b || false) (eq-eqb x x refl)
+    quiet-unread (Relation r) h = grind (arith, common_steps, rests (Relation r) h, holds-quiet)

@@ -72,9 +72,8 @@ pub touches-told : (ticks : List ℕ) (s : Step) (clocks : List ℕ) (start : �
     → ((x : ℕ) → ticks_in x clocks ≡ (ticks_in x ticks || ticks_in x s))
     → TellsFrom start group (map clocks_of kept) → ((p : ℕ) → ticks_in p touched ≡ told_at group clocks p) → Touches ticks s touched start kept
 touches-told ticks s clocks start group touched kept all t h = record {
-  inside = λ p l e. inside p l e (nat_lt (start + p) (length kept)) refl;
-  quiet = λ p l e. quiet-unread s ticks clocks all (get_or kept (start + p) Nothing)
-      (sym (met p l ∙ ap (meet clocks) (at p (nat_lt (start + p) (length kept)) refl)) ∙ e);
+  inside = λ p l e. grind (arith, met p l, get_or_past read (start + p) [], length-map kept clocks_of, meet-none clocks);
+  quiet = λ p l e. quiet-unread s ticks clocks all (get_or kept (start + p) Nothing) (sym (met p l ∙ ap (meet clocks) (at p)) ∙ e);
 }
   where
     read : List (List ℕ)
@@ -83,19 +82,9 @@ touches-told ticks s clocks start group touched kept all t h = record {
     met : (p : ℕ) → p < MAX_CLOCKS → ticks_in p touched ≡ meet clocks (get_or read (start + p) [])
     met p l = h p ∙ told-meet start group read t clocks p l
 
-    at : (p : ℕ) → (v : Bool) → nat_lt (start + p) (length kept) ≡ v → get_or read (start + p) [] ≡ clocks_of (get_or kept (start + p) Nothing)
-    at p true e = get_or-map clocks_of kept (start + p) Nothing [] (ltb-true (start + p) (length kept) e)
-    at p false e =
-        let high : length kept ≤ start + p = ltb-false (start + p) (length kept) e in
-        get_or_past read (start + p) [] (omega (arith, high, length-map kept clocks_of)) ∙ ap clocks_of (sym (get_or_past kept (start + p) Nothing high))
-
-    inside : (p : ℕ) → p < MAX_CLOCKS → ticks_in p touched ≡ true → (v : Bool) → nat_lt (start + p) (length kept) ≡ v → start + p < length kept
-    inside p l e true b = ltb-true (start + p) (length kept) b
-    inside p l e false b =
-        let high : length kept ≤ start + p = ltb-false (start + p) (length kept) b in
-        let past : get_or read (start + p) [] ≡ [] = get_or_past read (start + p) [] (omega (arith, high, length-map kept clocks_of)) in
-        let z : true ≡ false = sym e ∙ met p l ∙ ap (meet clocks) past ∙ meet-none clocks in
-        absurd (cc)
+    at : (p : ℕ) → get_or read (start + p) [] ≡ clocks_of (get_or kept (start + p) Nothing)
+    at p = grind (arith, get_or-map clocks_of kept (start + p) Nothing [], get_or_past read (start + p) [], get_or_past kept (start + p) Nothing,
+        length-map kept clocks_of)
 
 -- what ticks in the row ticks in the step, so that the step's clocks are all
 within : (a b : Bool) → (a && not b) ≡ false → b ≡ (a || b)

@@ -25,50 +25,20 @@ returns-clause-stands c = λ recorded rows s few.
     let count = c.first_in.ensures.count ∙ ap length value in
     let after = (with_items c.self.inside.kept c.first_in.new.kept).items in
     let after-is = with_items_is c.self.inside.kept c.first_in.new.kept (count ∙ sym c.self.inside.kept.ok.0) in
-    let now : Watching = record {
-      system = c.self.inside.system.now;
-      start = c.self.inside.start;
-      kept = after;
-      states = c.self.inside.states;
-      steps =
-          c.self.inside.steps + c.len-rows.result;
-      first = c.match-first_in.first;
-    } in
-    let old : Watching = record {
-      system = c.self.inside.system.now;
-      start = c.self.inside.start;
-      kept = c.self.inside.kept.items;
-      states =
-          c.self.inside.states;
-      steps = c.self.inside.steps;
-      first = c.self.inside.first;
-    } in
-    let is : old ≡ v = c.self.view_is in
     elim c.match-first_in.branch [
       | in-None w ↦
           let none = λ (P : Type 0) (h : IfNone c.first_in.result P). subst (λ o. IfNone o P) w.in-None.is h in
-          items-pass recorded v now rows block c.requires.none c.requires.alone s c.rows_are_sets.ensures
+          items-pass recorded v _ rows block c.requires.none c.requires.alone s c.rows_are_sets.ensures
           (subst (All (ObeysUpTo block (length block))) kept-is (none _ c.first_in.ensures.none))
-          (ap (λ o. record now { first = o }) w.first-is
-          ∙ ap (λ ks. record now { kept = ks; first = None }) (after-is ∙ none _ c.first_in.ensures.next ∙ ap (map (after_rows block)) value)
-          ∙ ap (λ (u : Watching). record u { kept = map (after_rows block) u.kept; steps = u.steps + c.len-rows.result; first = None }) is
-          ∙ ap (λ n. record v { kept = map (after_rows block) v.kept; steps = v.steps + n; first = None }) c.len-rows.ensures)
+          (rw (← c.self.view_is) (cc (w.first-is, after-is, none _ c.first_in.ensures.next, value, c.len-rows.ensures)))
       | in-Some w ↦
           let f = w.in-Some.failure in
           let at = w.row.result.now in
-          items-stop recorded v now rows block c.requires.none c.requires.alone s c.rows_are_sets.ensures
+          items-stop recorded v _ rows block c.requires.none c.requires.alone s c.rows_are_sets.ensures
           after f at
           (ap length after-is ∙ c.first_in.ensures.count ∙ ap length kept-is)
           w.row.ensures
           (subst (λ ks. IsFirstIn block ks f) kept-is
           (subst (λ o. IfSome o (IsFirstIn block c.as_mut_slice-kept.result.now)) w.in-Some.is c.first_in.ensures.fails))
-          (ap (λ o. record now { first = o }) w.first-is
-          ∙ ap (λ (u : Watching). record u {
-            kept = after;
-            steps = u.steps + c.len-rows.result;
-            first =
-                Some (record { step = u.steps + f.row; time = at.time; item = u.start + f.place });
-          }) is
-          ∙ ap (λ n. record v { kept = after; steps = v.steps + n; first = Some (record { step = v.steps + f.row; time = at.time; item = v.start + f.place }) })
-          c.len-rows.ensures)
+          (rw (← c.self.view_is) (cc (w.first-is, after-is, c.len-rows.ensures)))
     ]

@@ -29,18 +29,8 @@ returns c = λ recorded rows s l.
     let count = c.in_ok-place.ensures.count ∙ ap length value in
     let written = with_items c.self.inside.kept c.first_violated.new.kept in
     let items = with_items_is c.self.inside.kept c.first_violated.new.kept (count ∙ sym c.self.inside.kept.ok.0) in
-    let w : Watching = record {
-      system = K;
-      start = c.self.inside.start;
-      kept = written.items;
-      states = c.first_violated.new.states;
-      steps =
-          c.self.inside.steps;
-      first = c.self.inside.first;
-    } in
-    subst (λ v. IsNext recorded v w rows c.args.row.now
-    (Some (record { step = c.self.inside.steps; time = c.args.row.now.time; item = c.self.inside.start + c.in_ok-place.place }))) c.self.view_is
-    (next-violated recorded _ rows c.args.row.now t c.ascends.ensures.ascending n w refl
+    rw (← c.self.view_is)
+    (next-violated recorded _ rows c.args.row.now t c.ascends.ensures.ascending n _ refl
     (ap length items ∙ count)
     c.in_ok-place.place
     (subst (λ ws. FailsFirst c.args.row.now.ticks step ws c.in_ok-place.place) value (c.in_ok-place.ensures.fails K T after)))
@@ -58,23 +48,13 @@ returns-in_err-place c = λ recorded rows s l.
     let count = c.in_err-place.ensures.count ∙ ap length value in
     let written = with_items c.self.inside.kept c.first_violated.new.kept in
     let items = with_items_is c.self.inside.kept c.first_violated.new.kept (count ∙ sym c.self.inside.kept.ok.0) in
-    let w : Watching = record {
-      system = K;
-      start = c.self.inside.start;
-      kept = written.items;
-      states = c.first_violated.new.states;
-      steps =
-          c.self.inside.steps;
-      first = c.self.inside.first;
-    } in
-    subst (IsNext recorded c.args.self.now w rows c.args.row.now) (sym c.from_residual.ensures)
-    (subst (λ v. IsNext recorded v w rows c.args.row.now None) c.self.view_is
-    (next-obeyed recorded _ rows c.args.row.now t c.ascends.ensures.ascending n w refl
+    rw (c.from_residual.ensures, ← c.self.view_is)
+    (next-obeyed recorded _ rows c.args.row.now t c.ascends.ensures.ascending n _ refl
     (ap length items ∙ count)
     (subst (All (λ x. fails_in c.args.row.now.ticks step x ≡ false)) value (c.in_err-place.ensures.none K T after))
     (items ∙ c.in_err-place.ensures.next K T after ∙ ap (map (next_in step)) value)
     (c.first_violated.ensures.known K)
-    (c.first_violated.ensures.after K T after few)))
+    (c.first_violated.ensures.after K T after few))
 
 pub first_violated-requires-clause-room : goal.first_violated-requires-clause-room
 first_violated-requires-clause-room c =
