@@ -1,14 +1,12 @@
 -- An item over rows that are steps by themselves.
 use Rattle.std.proofs.lemmas.Grind.{common_steps}
-use Rattle.std.proofs.Common.{add-one, ◌≡◌, ℕ, zero, suc, ◌+◌, ◌<◌, ◌^◌, List, [], ◌∷◌, length, take, slice_get, Some, Bool, true, false, not, refl, ap, ◌∙◌, arith}
-use Rattle.ccsl_base.specs.Clocks.{ticks_in}
+use Rattle.std.proofs.Common.{add-one, ◌≡◌, ℕ, zero, suc, ◌+◌, ◌<◌, List, [], ◌∷◌, length, take, slice_get, Some, false, refl, ap, ◌∙◌, arith}
 use Rattle.ccsl_base.specs.declared.rows.Row.{Row}
-use Rattle.ccsl_formula.specs.Formula.{same}
 use Rattle.ccsl_kernel.specs.Lives.{Step}
 use Rattle.ccsl_relate.specs.declared.watched.Watched.{Watched}
 use Rattle.ccsl_relate.specs.declared.watched.Watched.TheVariants.{Nothing, Definition, Relation}
 use Rattle.ccsl_relate.specs.Few.{HasRoom, HasRoomFor}
-use Rattle.ccsl_relate.specs.Watching.{counted, fails_in, next_in}
+use Rattle.ccsl_relate.specs.Watching.{fails_in, next_in}
 use Rattle.ccsl_relate.specs.Reading.{clocks_of}
 use Rattle.ccsl_relate.specs.Alone.{after_rows, fails_at}
 use Rattle.ccsl_relate.proofs.Ranges.{clocks_of-next}

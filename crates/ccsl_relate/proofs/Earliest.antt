@@ -1,7 +1,7 @@
 -- Items that are taken over rows, one after the other: the first row at which one of them fails.
 use Rattle.std.proofs.lemmas.Grind.{common_steps}
-use Rattle.std.proofs.Common.{◌≡◌, ℕ, suc, ◌+◌, ◌<◌, ◌≤◌, List, Option, Some, None, true, false, map, length, take, get_or, slice_set, refl, ap, ap₂, ◌∙◌}
-use Rattle.std.proofs.Common.{subst, arith, below_more}
+use Rattle.std.proofs.Common.{◌≡◌, ℕ, suc, ◌+◌, ◌<◌, ◌≤◌, List, Option, Some, None, true, false, map, length, take, get_or, slice_set, ap, ap₂, ◌∙◌}
+use Rattle.std.proofs.Common.{subst, arith}
 use Rattle.std.specs.Prelude.{All, IfSome, IfNone}
 use Rattle.std.proofs.Math.Seq.{map-set_same}
 use Rattle.std.proofs.lemmas.List.{get_or_default, get_or-set_other, length-set, take_all}
@@ -10,8 +10,8 @@ use Rattle.ccsl_relate.specs.declared.alone.Failure.{Failure}
 use Rattle.ccsl_relate.specs.declared.watched.Watched.{Watched}
 use Rattle.ccsl_relate.specs.declared.watched.Watched.TheVariants.{Nothing}
 use Rattle.ccsl_relate.specs.Reading.{clocks_of}
-use Rattle.ccsl_relate.specs.Alone.{after_rows, fails_at, ObeysUpTo, IsFirstRow, IsFirstIn}
-use Rattle.ccsl_relate.proofs.Partly.{partly, partly-more, partly-all}
+use Rattle.ccsl_relate.specs.Alone.{after_rows, fails_at, ObeysUpTo, IsFirstRow}
+use Rattle.ccsl_relate.proofs.Partly.{partly, partly-more}
 
 module _ (rows : List Row) (old : List Watched) where
   -- of the items before item i one fails first at row `end`
@@ -62,10 +62,7 @@ module _ (rows : List Row) (old : List Watched) where
           is ∙ ap₂ after_rows (ap (λ n. take n rows) h.whole ∙ take_all (length rows) rows (omega arith)) same in
           record {
             whole = h.whole;
-            gone =
-                ap₂ (λ ws w. slice_set ws i w) h.gone x-is
-                ∙ partly-more on i old Nothing l
-                ∙ ap (λ n. partly on n old) (let z : suc i ≡ i + 1 = omega arith in z);
+            gone = let z : suc i ≡ i + 1 = omega arith in cc (h.gone, x-is, partly-more on i old Nothing l, z);
           }
 
       pub far-on : IsSoFar next (i + 1) end first
@@ -81,4 +78,3 @@ module _ (rows : List Row) (old : List Watched) where
     done-none (Some v) f = tt
     done-none None f = λ k d l.
         subst (ObeysUpTo rows (length rows)) (get_or_default old k Nothing d l) (λ n b. f.before k (omega (arith, l, whole)) n (omega (arith, b, f.none.whole)))
-

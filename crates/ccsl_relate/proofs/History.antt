@@ -1,25 +1,25 @@
 -- The completion of the rows of a trace, one row more.
 use Rattle.std.proofs.lemmas.Grind.{common_steps}
-use Rattle.std.proofs.Common.{◌≡◌, ℕ, suc, ◌+◌, ◌-◌, ◌<◌, ◌≤◌, List, [], ◌∷◌, ◌++◌, length, map, slice_get, Bool, true, false, not, ◌&&◌, ◌||◌, cond, nat_lt}
+use Rattle.std.proofs.Common.{◌≡◌, ℕ, suc, ◌+◌, ◌-◌, ◌<◌, ◌≤◌, List, [], ◌∷◌, ◌++◌, length, map, slice_get, true}
 use Rattle.std.proofs.Common.{if◌then◌else◌, Option, Some, None, refl, sym, ap, ap₂, ◌∙◌, arith, length-append}
 use Rattle.std.specs.List.{list_all}
 use Rattle.std.proofs.Math.Seq.{take-length}
 use Rattle.std.proofs.lemmas.List.{map-append, length-map, take-append-le}
 use Rattle.std.proofs.lemmas.List.Folds.{list_all-append}
-use Rattle.std.proofs.lemmas.Bool.{and_parts, and_from, ltb-true, ltb-false}
+use Rattle.std.proofs.lemmas.Bool.{and_parts, and_from}
 use Rattle.std.proofs.lemmas.Option.{slice_get_past}
 use Rattle.ccsl_base.specs.Clocks.{ticks_in, is_ascending, are_below}
 use Rattle.ccsl_base.specs.declared.rows.Row.{Row}
-use Rattle.ccsl_formula.specs.Formula.{eval, same}
+use Rattle.ccsl_formula.specs.Formula.{eval}
 use Rattle.ccsl_kernel.specs.declared.constraint.Constraint.{Constraint}
 use Rattle.ccsl_kernel.specs.Syntax.{Expression, System}
 use Rattle.ccsl_kernel.specs.Accepted.{IsAccepted}
 use Rattle.ccsl_kernel.specs.Ticks.{count}
 use Rattle.ccsl_kernel.specs.Lives.{Step, step_at}
 use Rattle.ccsl_kernel.specs.Meaning.{formula_at}
-use Rattle.ccsl_kernel.specs.Items.{clock_count, relation_formula, constraint_formula, item_formula}
-use Rattle.ccsl_kernel.specs.Runs.{ObeysDefinitions, holds_at, full_step, completed, declared_part, is_declared}
-use Rattle.ccsl_kernel.specs.Verdict.{completed_rows, is_recorded, is_violated}
+use Rattle.ccsl_kernel.specs.Items.{clock_count, relation_formula}
+use Rattle.ccsl_kernel.specs.Runs.{ObeysDefinitions, holds_at, full_step, declared_part, is_declared}
+use Rattle.ccsl_kernel.specs.Verdict.{completed_rows, is_violated}
 use Rattle.ccsl_relate.specs.Watching.{are_sets}
 use Rattle.ccsl_kernel.proofs.AcceptedParts.{accepted_guarded, accepted_scoped}
 use Rattle.ccsl_kernel.proofs.Completion.{completion_obeys, completed-append, length-completed, declared-full}

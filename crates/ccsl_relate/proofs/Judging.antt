@@ -1,10 +1,10 @@
 -- Whether a row violates an item, by what is kept of it.
 use Rattle.std.proofs.lemmas.Grind.{common_steps}
-use Rattle.std.proofs.Common.{◌≡◌, ℕ, suc, ◌+◌, ◌<◌, ◌^◌, List, [], ◌∷◌, ◌++◌, length, Bool, true, false, not, ◌&&◌, ◌||◌, if◌then◌else◌, refl, sym, ap, ap₂}
-use Rattle.std.proofs.Common.{◌∙◌, arith, length-append, le-ltb}
+use Rattle.std.proofs.Common.{◌≡◌, ℕ, ◌+◌, ◌<◌, ◌^◌, List, [], ◌∷◌, ◌++◌, length, true, not, ◌&&◌, sym, ap}
+use Rattle.std.proofs.Common.{◌∙◌, arith, length-append}
 use Rattle.ccsl_base.specs.Clocks.{ticks_in, is_ascending}
 use Rattle.ccsl_base.specs.declared.rows.Row.{Row}
-use Rattle.ccsl_formula.specs.Formula.{eval, same}
+use Rattle.ccsl_formula.specs.Formula.{eval}
 use Rattle.ccsl_kernel.specs.Syntax.{System}
 use Rattle.ccsl_kernel.specs.Accepted.{IsAccepted}
 use Rattle.ccsl_kernel.specs.Lives.{Step}

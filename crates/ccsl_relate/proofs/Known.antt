@@ -1,9 +1,8 @@
 -- What items read of a step is known where they read clocks alone that are declared or followed.
 use Rattle.std.proofs.lemmas.Grind.{common_steps}
-use Rattle.std.proofs.Common.{arith, ◌≡◌, ℕ, ◌+◌, ◌<◌, List, [], ◌∷◌, Bool, true, false, not, ◌&&◌, ◌||◌, cond, nat_eq, nat_le, map, length, get_or, subst, Option}
+use Rattle.std.proofs.Common.{arith, ◌≡◌, ℕ, ◌+◌, ◌<◌, List, [], ◌∷◌, Bool, true, false, not, ◌&&◌, ◌||◌, cond, nat_eq, nat_le, map, length, get_or, Option}
 use Rattle.std.proofs.Common.{Some, None, refl, sym, ap, ap₂, ◌∙◌}
 use Rattle.std.specs.List.{list_all}
-use Rattle.std.specs.Option.{ForSome}
 use Rattle.std.proofs.lemmas.Bool.{and_parts, ltb-true}
 use Rattle.ccsl_base.specs.Clocks.{ticks_in}
 use Rattle.ccsl_formula.specs.Formula.{FTrue, FVar, FNot, FOr, eval, same}
@@ -19,7 +18,7 @@ use Rattle.ccsl_state.proofs.PartMeans.{part_keeps}
 use Rattle.ccsl_relate.specs.declared.watched.Related.{Related}
 use Rattle.ccsl_relate.specs.declared.watched.Watched.{Watched}
 use Rattle.ccsl_relate.specs.declared.watched.Watched.TheVariants.{Nothing, Definition, Relation}
-use Rattle.ccsl_relate.specs.Watching.{counted, counted_on, related_formula, fails_in, next_in, reads_only, is_known, Suffice, AreAfter, IsUndeclared}
+use Rattle.ccsl_relate.specs.Watching.{counted_on, related_formula, fails_in, next_in, reads_only, is_known, Suffice}
 use Rattle.ccsl_relate.specs.Watching.{step_known}
 use Rattle.ccsl_relate.proofs.History.{declared-ticks}
 use Rattle.ccsl_relate.proofs.Within.{list_all_at}

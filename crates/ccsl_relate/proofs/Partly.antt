@@ -1,5 +1,4 @@
 -- A list whose first items have gone on by a step, one item after the other.
-use Rattle.std.proofs.lemmas.Grind.{common_steps}
 use Rattle.std.proofs.Common.{◌≡◌, ℕ, zero, suc, ◌+◌, ◌<◌, ◌≤◌, List, [], ◌∷◌, ◌++◌, length, map, take, drop, get_or, slice_set, refl, ap, subst, arith}
 use Rattle.ccsl_kernel.specs.Accepted.{Each}
 

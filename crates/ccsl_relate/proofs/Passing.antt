@@ -1,12 +1,11 @@
 -- A monitor that takes a row more.
 use Rattle.std.proofs.lemmas.Grind.{common_steps}
-use Rattle.std.proofs.Common.{◌≡◌, ℕ, ◌+◌, ◌<◌, ◌^◌, List, [], ◌∷◌, ◌++◌, length, map, get_or, Option, Some, None, true, false, refl, sym, ap, ◌∙◌, subst}
+use Rattle.std.proofs.Common.{◌≡◌, ℕ, ◌+◌, ◌<◌, ◌^◌, List, [], ◌∷◌, ◌++◌, length, map, get_or, Option, Some, None, true, false, refl, sym, ◌∙◌, subst}
 use Rattle.std.proofs.Common.{arith, length-append}
 use Rattle.std.specs.Prelude.{All}
 use Rattle.ccsl_base.specs.Clocks.{is_ascending}
 use Rattle.ccsl_base.specs.declared.rows.Row.{Row}
 use Rattle.ccsl_kernel.specs.Syntax.{System}
-use Rattle.ccsl_kernel.specs.Accepted.{Each}
 use Rattle.ccsl_kernel.specs.Lives.{Step}
 use Rattle.ccsl_kernel.specs.Runs.{full_step, declared_part}
 use Rattle.ccsl_kernel.specs.Verdict.{is_violated, completed_rows}
@@ -16,7 +15,7 @@ use Rattle.ccsl_relate.specs.declared.watched.Watched.{Watched}
 use Rattle.ccsl_relate.specs.declared.watched.Watched.TheVariants.{Nothing}
 use Rattle.ccsl_relate.specs.Few.{EachHasRoom}
 use Rattle.ccsl_relate.specs.Violations.{AreObeyed, Finds}
-use Rattle.ccsl_relate.specs.Watching.{Watching, Keeps, fails_in, next_in, FailsFirst, Suffice, AreAfter, is_known, step_known, Follows, StandsFor, IsNext}
+use Rattle.ccsl_relate.specs.Watching.{Watching, Keeps, fails_in, next_in, FailsFirst, AreAfter, is_known, step_known, Follows, StandsFor, IsNext}
 use Rattle.ccsl_relate.proofs.Finding.{first-stays, first-here, obeyed-on}
 use Rattle.ccsl_relate.proofs.History.{X-more, X-length, sets-snoc}
 use Rattle.ccsl_relate.proofs.Judging.{fails-where-violated, keeps-on, keeps-room}
@@ -85,8 +84,7 @@ module _ (recorded : List ℕ) (v : Watching) (rows : List Row) (row : Row) (s :
         none_before = λ n. absurd (cc n);
         count = count;
         sets = sets-snoc rows row s.sets sorted;
-        first_is = subst (λ n. Finds K recorded more v.start (length v.kept) (Some (record { step = n; time = row.time; item = v.start + place })))
-            (sym s.steps)
+        first_is = rw s.steps
             (first-here K s.accepted recorded rows row s.sets sorted v.start (length v.kept) place obeyed f.inside
             (sym (asked place Nothing f.inside) ∙ f.fails Nothing)
             (λ k l. sym (asked k Nothing (omega (arith, l, f.inside))) ∙ f.before k Nothing l));
@@ -104,11 +102,11 @@ module _ (recorded : List ℕ) (v : Watching) (rows : List Row) (row : Row) (s :
         first_is = obeyed-on K s.accepted recorded rows row s.sets sorted v.start (length v.kept) obeyed
             (λ k l. sym (asked k Nothing l) ∙ obeys k Nothing l);
         follows = λ _. record {
-          keeps = subst (Each (Keeps K recorded (completed_rows K more)) v.start) (sym kept-is)
+          keeps = rw kept-is
               (each_made_from (Keeps K recorded (completed_rows K more)) (next_in whole) v.start v.kept
               (λ k d l. keeps-on K s.accepted recorded (v.start + k) rows row s.sets sorted (get_or v.kept k d) (keeps-at k d l)));
-          suffice = subst (Suffice K w.states) (sym kept-is) (suffice-on K v.states w.states whole v.kept known follows.suffice);
-          states = subst (AreAfter K w.states) (sym (X-more K rows row)) after;
+          suffice = rw kept-is (suffice-on K v.states w.states whole v.kept known follows.suffice);
+          states = rw X-more after;
         };
       }
         where

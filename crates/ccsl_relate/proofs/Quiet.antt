@@ -1,8 +1,7 @@
 -- An item none of whose clocks ticks neither fails nor changes.
 use Rattle.std.proofs.lemmas.Grind.{common_steps}
-use Rattle.std.proofs.Common.{arith, ◌≡◌, ℕ, ◌+◌, List, [], ◌∷◌, Bool, true, false, not, ◌||◌, ◌&&◌, cond, nat_eq, nat_le, refl, sym, ap, ap₂, ◌∙◌, eq-eqb}
+use Rattle.std.proofs.Common.{arith, ◌≡◌, ℕ, ◌+◌, List, [], ◌∷◌, Bool, true, false, not, ◌||◌, ◌&&◌, cond, nat_eq, nat_le, refl, ap, ap₂, eq-eqb}
 use Rattle.std.specs.List.{list_any}
-use Rattle.std.proofs.lemmas.Bool.{or_parts, eqb-true}
 use Rattle.ccsl_base.specs.Clocks.{ticks_in}
 use Rattle.ccsl_formula.specs.Formula.{FTrue, FVar, FNot, FOr, eval, same}
 use Rattle.ccsl_kernel.specs.declared.constraint.RelationKind.{RelationKind}
@@ -11,7 +10,6 @@ use Rattle.ccsl_kernel.specs.Lives.{Step}
 use Rattle.ccsl_kernel.specs.Items.{relation_formula}
 use Rattle.ccsl_relate.specs.declared.watched.Watched.{Watched}
 use Rattle.ccsl_relate.specs.declared.watched.Watched.TheVariants.{Nothing, Definition, Relation}
-use Rattle.ccsl_relate.specs.Watching.{counted}
 use Rattle.ccsl_relate.specs.Reading.{clocks_of, IsQuiet}
 
 -- whether one of some clocks is among those that are read

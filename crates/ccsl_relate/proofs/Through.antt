@@ -11,7 +11,6 @@ use Rattle.ccsl_kernel.specs.Syntax.{System}
 use Rattle.ccsl_kernel.specs.Verdict.{completed_rows}
 use Rattle.ccsl_kernel.proofs.EachOne.{each_at}
 use Rattle.ccsl_relate.specs.declared.alone.Failure.{Failure}
-use Rattle.ccsl_relate.specs.declared.violation.Violation.{Violation}
 use Rattle.ccsl_relate.specs.declared.watched.Watched.{Watched}
 use Rattle.ccsl_relate.specs.declared.watched.Watched.TheVariants.{Nothing}
 use Rattle.ccsl_relate.specs.Few.{HasRoomFor}

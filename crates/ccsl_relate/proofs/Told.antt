@@ -1,14 +1,12 @@
 -- What the sets of a group tell.
 use Rattle.std.proofs.lemmas.Grind.{common_steps}
-use Rattle.std.proofs.Common.{◌≡◌, ◌≢◌, ℕ, ◌+◌, ◌*◌, ◌<◌, ◌≤◌, List, [], ◌∷◌, ◌++◌, Bool, true, false, ◌||◌, ◌&&◌, nat_eq, nat_lt, map, length, get_or}
-use Rattle.std.proofs.Common.{slice_set, refl, sym, ap, ap₂, ◌∙◌, subst, arith, eq-eqb, lt-ltb, le-ltb, length-append, ◌⊎◌, inl, inr, ⊎_elim}
+use Rattle.std.proofs.Common.{◌≡◌, ℕ, ◌+◌, ◌*◌, ◌<◌, List, [], ◌∷◌, ◌++◌, Bool, true, false, ◌||◌, ◌&&◌, nat_eq, nat_lt, map, length, get_or}
+use Rattle.std.proofs.Common.{slice_set, refl, sym, ap, ap₂, ◌∙◌, arith}
 use Rattle.std.specs.List.{list_any}
 use Rattle.std.proofs.Common.{not}
-use Rattle.std.proofs.Math.Seq.{get_or-append_seam}
 use Rattle.std.proofs.Math.Bool.{or_comm, or_assoc}
 use Rattle.std.proofs.lemmas.List.Folds.{list_any-append}
-use Rattle.std.proofs.lemmas.Bool.{cases_eq, ne_eqb, ltb-true, ltb-false}
-use Rattle.std.proofs.lemmas.List.{get_or_default, get_or_past, get_or_append_left, get_or-map, get_or-set_same, get_or-set_other, length-map}
+use Rattle.std.proofs.lemmas.List.{get_or_default, get_or_past, get_or-map, get_or-set_same, get_or-set_other, length-map}
 use Rattle.ccsl_base.specs.declared.limits.TheConstants.{MAX_CLOCKS}
 use Rattle.ccsl_base.specs.Clocks.{ticks_in, with_clock}
 use Rattle.ccsl_base.specs.Changes.{difference}
@@ -16,7 +14,7 @@ use Rattle.ccsl_base.proofs.Sets.{ticks_in-with_same, ticks_in-with_other, ticks
 use Rattle.ccsl_kernel.specs.Lives.{Step}
 use Rattle.ccsl_relate.specs.declared.watched.Watched.{Watched}
 use Rattle.ccsl_relate.specs.declared.watched.Watched.TheVariants.{Nothing}
-use Rattle.ccsl_relate.specs.Reading.{clocks_of, TellsFrom, AreReaders, Touches}
+use Rattle.ccsl_relate.specs.Reading.{clocks_of, TellsFrom, Touches}
 use Rattle.ccsl_relate.proofs.Quiet.{meet, quiet-unread}
 
 -- whether place p is told at clock c
@@ -83,8 +81,13 @@ touches-told ticks s clocks start group touched kept all t h = record {
     met p l = h p ∙ told-meet start group read t clocks p l
 
     at : (p : ℕ) → get_or read (start + p) [] ≡ clocks_of (get_or kept (start + p) Nothing)
-    at p = grind (arith, get_or-map clocks_of kept (start + p) Nothing [], get_or_past read (start + p) [], get_or_past kept (start + p) Nothing,
-        length-map kept clocks_of)
+    at p = grind (
+      arith,
+      get_or-map clocks_of kept (start + p) Nothing [],
+      get_or_past read (start + p) [],
+      get_or_past kept (start + p) Nothing,
+      length-map kept clocks_of,
+    )
 
 -- what ticks in the row ticks in the step, so that the step's clocks are all
 within : (a b : Bool) → (a && not b) ≡ false → b ≡ (a || b)

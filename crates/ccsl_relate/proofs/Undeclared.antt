@@ -1,15 +1,9 @@
 -- The clocks from a number on.
 use Rattle.std.proofs.lemmas.Grind.{common_steps}
-use Rattle.std.proofs.Common.{◌≡◌, ◌≢◌, ℕ, suc, ◌+◌, ◌<◌, ◌≤◌, List, [], Bool, true, false, not, nat_eq, nat_lt, Option, Some, None, refl, sym, ap, ◌∙◌, arith}
-use Rattle.std.proofs.Common.{lt-ltb, le-ltb}
+use Rattle.std.proofs.Common.{◌≡◌, ℕ, ◌+◌, ◌<◌, ◌≤◌, List, true, false, Option, Some, None, refl, arith}
 use Rattle.std.specs.Prelude.{is_some}
-use Rattle.std.proofs.lemmas.Bool.{eqb-true, ltb-true, ltb-false}
-use Rattle.ccsl_base.specs.declared.limits.TheConstants.{MAX_CLOCKS}
 use Rattle.ccsl_base.specs.Clocks.{ticks_in, with_clock}
-use Rattle.ccsl_base.proofs.Sets.{ticks_in-with_same, ticks_in-with_other}
 use Rattle.ccsl_kernel.proofs.Sets.{ticks_in-with_clock}
-use Rattle.ccsl_kernel.specs.Syntax.{System}
-use Rattle.ccsl_relate.specs.Watching.{IsUndeclared}
 
 pub record IsRange (d c : ℕ) (s : List ℕ) : Type 0 where
   pub low : d ≤ c

@@ -1,9 +1,9 @@
 -- A walk over the places of the items of a group that read a clock that ticks.
 use Rattle.std.proofs.lemmas.Grind.{common_steps}
-use Rattle.std.proofs.Common.{◌≡◌, ℕ, ◌+◌, ◌-◌, ◌<◌, ◌≤◌, List, [], ◌∷◌, Bool, true, false, ◌||◌, nat_eq, nat_lt, length, get_or, slice_set, ◌⊎◌, inl, inr}
-use Rattle.std.proofs.Common.{⊎_elim, refl, sym, ap, ◌∙◌, subst, arith, eq-eqb}
+use Rattle.std.proofs.Common.{◌≡◌, ℕ, ◌+◌, ◌-◌, ◌<◌, ◌≤◌, List, [], ◌∷◌, true, false, nat_eq, nat_lt, length, get_or, slice_set, ◌⊎◌}
+use Rattle.std.proofs.Common.{subst, arith}
 use Rattle.std.specs.List.{list_all}
-use Rattle.std.proofs.lemmas.Bool.{and_parts, or_right, eqb-true}
+use Rattle.std.proofs.lemmas.Bool.{and_parts, or_right}
 use Rattle.ccsl_base.specs.declared.limits.TheConstants.{MAX_CLOCKS}
 use Rattle.ccsl_base.specs.Clocks.{ticks_in, is_ascending, are_below}
 use Rattle.ccsl_base.proofs.Sets.{member-below, first-ticks}
@@ -13,7 +13,7 @@ use Rattle.ccsl_relate.specs.declared.watched.Watched.TheVariants.{Nothing}
 use Rattle.ccsl_relate.specs.Watching.{fails_in, next_in}
 use Rattle.ccsl_relate.specs.Reading.{IsQuiet, Touches, FailsFrom, GoesOn}
 use Rattle.ccsl_base.proofs.Ascending.{above}
-use Rattle.ccsl_relate.proofs.Ranges.{on-none, on-skip, on-more, fails-here}
+use Rattle.ccsl_relate.proofs.Ranges.{on-skip, on-more, fails-here}
 
 -- the items before place `next` are behind the walk, and the places that are left are all that follow
 pub record Walks (ticks : List ℕ) (s : Step) (start : ℕ) (touched rest : List ℕ) (old now : List Watched) : Type 0 where

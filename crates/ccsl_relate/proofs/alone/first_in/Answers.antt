@@ -1,10 +1,8 @@
-use Rattle.std.proofs.lemmas.Grind.{common_steps}
-use Rattle.std.proofs.Common.{◌≡◌, ◌+◌, ◌<◌, length, take, get_or, slice_set, sym, subst, arith}
+use Rattle.std.proofs.Common.{◌≡◌, ◌<◌, length, take, get_or, subst, arith}
 use Rattle.std.specs.Prelude.{IfSome, IfNone}
 use Rattle.ccsl_relate.specs.declared.watched.Watched.TheVariants.{Nothing}
-use Rattle.ccsl_relate.specs.Few.{HasRoomFor}
 use Rattle.ccsl_relate.specs.Alone.{after_rows, ObeysUpTo, IsFirstRow}
-use Rattle.ccsl_relate.proofs.Earliest.{IsSoFar, far-on, far-found, done-none}
+use Rattle.ccsl_relate.proofs.Earliest.{far-on, far-found, done-none}
 use Rattle.ccsl_relate.proofs.alone.first_in.Goals as goal
 use Rattle.ccsl_relate.proofs.alone.first_in.Goals.{in-None, in-Some}
 
@@ -15,22 +13,19 @@ loop-i-preserved c =
     let i = c.loop-i.i in
     let end = c.loop-i.end in
     let x = c.first_row.new.watched in
-    let next = slice_set c.loop-i.kept i x in
     let here = get_or c.loop-i.kept i Nothing in
     let inside : i < length old = omega arith in
     let join = c.match-first_row in
     elim join.branch [
       | in-None w ↦
-          subst (λ e. IsSoFar rows old next (i + 1) e join.first) (sym w.end-is)
-          (subst (λ o. IsSoFar rows old next (i + 1) end o) (sym w.first-is)
+          rw (w.end-is, w.first-is)
           (far-on rows old c.loop-i.kept i end c.loop-i.first c.loop-i.invariant inside x c.first_row.ensures.clocks
           (subst (λ o. IfNone o (ObeysUpTo rows end here)) w.in-None.is c.first_row.ensures.none)
-          (subst (λ o. IfNone o (x ≡ after_rows (take end rows) here)) w.in-None.is c.first_row.ensures.next)))
+          (subst (λ o. IfNone o (x ≡ after_rows (take end rows) here)) w.in-None.is c.first_row.ensures.next))
       | in-Some w ↦
-          subst (λ e. IsSoFar rows old next (i + 1) e join.first) (sym w.end-is)
-          (subst (λ o. IsSoFar rows old next (i + 1) w.in-Some.row o) (sym w.first-is)
+          rw (w.end-is, w.first-is)
           (far-found rows old c.loop-i.kept i end c.loop-i.first c.loop-i.invariant inside x c.first_row.ensures.clocks w.in-Some.row
-          (subst (λ o. IfSome o (IsFirstRow rows end here)) w.in-Some.is c.first_row.ensures.fails)))
+          (subst (λ o. IfSome o (IsFirstRow rows end here)) w.in-Some.is c.first_row.ensures.fails))
     ]
 
 pub returns-clause-none : goal.returns-clause-none

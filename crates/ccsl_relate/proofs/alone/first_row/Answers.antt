@@ -1,6 +1,6 @@
 use Rattle.std.proofs.lemmas.Grind.{common_steps}
-use Rattle.std.proofs.Common.{arith, ◌≡◌, take, sym, ap, ◌∙◌, subst}
-use Rattle.ccsl_relate.specs.Alone.{after_rows, fails_at}
+use Rattle.std.proofs.Common.{arith, ap, ◌∙◌}
+use Rattle.ccsl_relate.specs.Alone.{fails_at}
 use Rattle.ccsl_relate.proofs.ByRows.{nothing-obeys, nothing-stays, definition-obeys, definition-stays}
 use Rattle.ccsl_relate.proofs.alone.first_row.Goals as goal
 

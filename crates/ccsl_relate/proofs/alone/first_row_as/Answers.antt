@@ -1,10 +1,9 @@
 use Rattle.std.proofs.lemmas.Grind.{common_steps}
-use Rattle.std.proofs.Common.{◌≡◌, ℕ, ◌<◌, length, take, false, sym, ap, ◌∙◌, subst, arith, below_more, length-take-le}
+use Rattle.std.proofs.Common.{◌≡◌, ℕ, take, false, sym, ap, ◌∙◌, arith, below_more, length-take-le}
 use Rattle.ccsl_relate.specs.declared.watched.Watched.TheVariants.{Relation}
-use Rattle.ccsl_relate.specs.Few.{HasRoom}
 use Rattle.ccsl_relate.specs.Watching.{fails_in, next_in}
 use Rattle.ccsl_relate.specs.Reading.{clocks_of}
-use Rattle.ccsl_relate.specs.Alone.{after_rows, fails_at}
+use Rattle.ccsl_relate.specs.Alone.{fails_at}
 use Rattle.ccsl_relate.proofs.ByRows.{after-more, fails-here, clocks-after, room-after}
 use Rattle.ccsl_relate.proofs.alone.first_row_as.Goals as goal
 

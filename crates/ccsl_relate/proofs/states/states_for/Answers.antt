@@ -1,5 +1,3 @@
-use Rattle.std.proofs.Common.{arith}
-use Rattle.std.proofs.lemmas.Grind.{common_steps}
 use Rattle.ccsl_relate.proofs.Following.{read-within, read-includes}
 use Rattle.ccsl_relate.proofs.states.states_for.Goals as goal
 

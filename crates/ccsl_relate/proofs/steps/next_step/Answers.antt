@@ -1,11 +1,6 @@
-use Rattle.std.proofs.lemmas.Grind.{common_steps}
-use Rattle.std.proofs.Common.{arith, ◌≡◌, ◌++◌, ◌∷◌, [], true, ap, ap₂, ◌∙◌, sym, subst}
+use Rattle.std.proofs.Common.{◌≡◌, true, sym, subst}
 use Rattle.ccsl_base.specs.Clocks.{are_below}
-use Rattle.ccsl_kernel.specs.Syntax.{System}
-use Rattle.ccsl_kernel.specs.Runs.{full_step, declared_part}
 use Rattle.ccsl_kernel.proofs.Sets.{below-below}
-use Rattle.ccsl_state.specs.Reach.{is_within}
-use Rattle.ccsl_state.specs.Part.{part_of, PartStandsFor}
 use Rattle.ccsl_relate.proofs.steps.next_step.Goals as goal
 
 pub go_on-requires : goal.go_on-requires

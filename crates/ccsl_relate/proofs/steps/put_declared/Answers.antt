@@ -1,5 +1,4 @@
-use Rattle.std.proofs.lemmas.Grind.{common_steps}
-use Rattle.std.proofs.Common.{arith, ap, ◌∙◌}
+use Rattle.std.proofs.Common.{ap, ◌∙◌}
 use Rattle.ccsl_base.specs.Clocks.{ticks_in}
 use Rattle.ccsl_base.proofs.Sets.{ticks_in-difference}
 use Rattle.ccsl_relate.proofs.DeclaredTicks.{declared-are}

@@ -1,7 +1,4 @@
-use Rattle.std.proofs.lemmas.Grind.{common_steps}
-use Rattle.std.proofs.Common.{◌≡◌, true, take, sym, subst, arith}
-use Rattle.std.proofs.lemmas.List.{take_all}
-use Rattle.ccsl_relate.specs.Watching.{are_sets}
+use Rattle.std.proofs.Common.{take}
 use Rattle.ccsl_relate.proofs.Blocks.{take-more}
 use Rattle.ccsl_relate.proofs.History.{sets-snoc}
 use Rattle.ccsl_relate.proofs.steps.rows_are_sets.Goals as goal

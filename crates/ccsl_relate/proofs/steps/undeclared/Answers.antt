@@ -1,6 +1,4 @@
-use Rattle.std.proofs.lemmas.Grind.{common_steps}
-use Rattle.std.proofs.Common.{arith, ◌+◌, sym, subst}
-use Rattle.ccsl_relate.proofs.Undeclared.{IsRange, range-more}
+use Rattle.ccsl_relate.proofs.Undeclared.{range-more}
 use Rattle.ccsl_relate.proofs.steps.undeclared.Goals as goal
 
 pub loop-clock-preserved : goal.loop-clock-preserved

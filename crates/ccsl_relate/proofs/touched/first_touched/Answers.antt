@@ -1,13 +1,9 @@
-use Rattle.std.proofs.lemmas.Grind.{common_steps}
-use Rattle.std.proofs.Common.{◌≡◌, ◌+◌, ◌*◌, ◌||◌, length, map, sym, ap, ◌∙◌, subst, arith}
+use Rattle.std.proofs.Common.{◌≡◌, ◌+◌, ◌*◌, length, sym, ap, ◌∙◌, subst, arith}
 use Rattle.std.proofs.lemmas.List.{length-map}
 use Rattle.std.specs.Prelude.{IfNone}
 use Rattle.ccsl_base.specs.declared.limits.TheConstants.{MAX_CLOCKS}
-use Rattle.ccsl_base.specs.Clocks.{ticks_in}
-use Rattle.ccsl_relate.specs.Watching.{FailsFirst}
-use Rattle.ccsl_relate.specs.Reading.{clocks_of, AreReaders, FailsFrom, GoesOn}
+use Rattle.ccsl_relate.specs.Reading.{clocks_of, GoesOn}
 use Rattle.ccsl_relate.proofs.Ranges.{on-both, on-all}
-use Rattle.ccsl_relate.proofs.Told.{told_at, touches-told}
 use Rattle.ccsl_relate.proofs.touched.first_touched.Goals as goal
 use Rattle.ccsl_base.proofs.Cases.{none-of}
 
@@ -23,8 +19,7 @@ loop-i-preserved c =
     subst (λ o. IfNone o (GoesOn ticks step mid (mid + MAX_CLOCKS) old new)) none c.first_at-place.ensures.none in
     let next : mid + MAX_CLOCKS ≡ (c.loop-i.i + 1) * MAX_CLOCKS = omega arith in
     record {
-      on = subst (λ n. GoesOn ticks step 0 n c.args.kept.now new) next
-          (on-both ticks step 0 mid (mid + MAX_CLOCKS) c.args.kept.now old new c.loop-i.invariant.on here (omega arith) (omega arith));
+      on = rw next at (on-both ticks step 0 mid (mid + MAX_CLOCKS) c.args.kept.now old new c.loop-i.invariant.on here (omega arith) (omega arith));
       clocks = c.first_at-place.ensures.clocks ∙ c.loop-i.invariant.clocks;
     }
 

@@ -1,6 +1,5 @@
 -- What ticks in a row is in its step, or is gathered too.
-use Rattle.std.proofs.lemmas.Grind.{common_steps}
-use Rattle.std.proofs.Common.{arith, ◌≡◌, ◌||◌, ap, ◌∙◌, rules}
+use Rattle.std.proofs.Common.{◌||◌, ap, ◌∙◌, rules}
 use Rattle.ccsl_base.specs.Clocks.{ticks_in}
 use Rattle.ccsl_relate.proofs.Told.{told_at, touches-alike, touches-both}
 use Rattle.ccsl_relate.proofs.touched.touch.Goals as goal

@@ -1,10 +1,9 @@
-use Rattle.std.proofs.lemmas.Grind.{common_steps}
-use Rattle.std.proofs.Common.{◌≡◌, ℕ, suc, ◌+◌, false, get_or, slice_set, sym, ap, ap₂, ◌∙◌, arith, below_more}
+use Rattle.std.proofs.Common.{◌≡◌, ℕ, suc, ◌+◌, false, get_or, sym, ap, ◌∙◌, arith, below_more}
 use Rattle.std.proofs.lemmas.List.{get_or_default}
 use Rattle.ccsl_relate.specs.declared.watched.Watched.{Watched}
 use Rattle.ccsl_relate.specs.declared.watched.Watched.TheVariants.{Nothing}
 use Rattle.ccsl_relate.specs.Watching.{fails_in, next_in}
-use Rattle.ccsl_relate.proofs.Partly.{partly, partly-at, partly-more}
+use Rattle.ccsl_relate.proofs.Partly.{partly-at, partly-more}
 use Rattle.ccsl_relate.proofs.Ranges.{clocks-set}
 use Rattle.ccsl_relate.proofs.watched.first_failing.Goals as goal
 
@@ -20,10 +19,7 @@ loop-i-preserved c =
     let at = λ (d : Watched). ap (fails_in c.args.ticks.now c.args.step.now) (get_or_default old i d Nothing c.loop-i-test.true) ∙ here in
     record {
       obeys = λ k d l. below_more (λ (k : ℕ). (d : Watched) → obeys (get_or old k d)) i (λ k l d. c.loop-i.invariant.obeys k d l) at k l d;
-      gone =
-          ap₂ (λ ws w. slice_set ws i w) c.loop-i.invariant.gone (c.fails.ensures.next ∙ ap on same)
-          ∙ partly-more on i old Nothing c.loop-i-test.true
-          ∙ ap (λ n. partly on n old) next;
+      gone = cc (c.loop-i.invariant.gone, c.fails.ensures.next, same, partly-more on i old Nothing c.loop-i-test.true, next);
       clocks = clocks-set c.args.step.now c.loop-i.kept i Nothing c.fails.new.self c.fails.ensures.next ∙ c.loop-i.invariant.clocks;
     }
 

@@ -1,7 +1,5 @@
 use Rattle.std.proofs.lemmas.Grind.{common_steps}
-use Rattle.std.proofs.Common.{arith, ◌+◌, [], ◌∷◌, length, sym, ap, ◌∙◌, subst, length-append}
-use Rattle.ccsl_kernel.specs.Accepted.{Each}
-use Rattle.ccsl_relate.specs.Watching.{Keeps}
+use Rattle.std.proofs.Common.{arith, length-append}
 use Rattle.ccsl_relate.proofs.Partly.{each-more}
 use Rattle.ccsl_relate.proofs.watched.open_all.Goals as goal
 

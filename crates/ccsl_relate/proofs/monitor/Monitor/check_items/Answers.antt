@@ -1,9 +1,9 @@
-use Rattle.std.proofs.Common.{◌≡◌, ◌+◌, length, map, None, Some, sym, ap, ◌∙◌, subst}
+use Rattle.std.proofs.Common.{length, sym, ap, ◌∙◌, subst}
 use Rattle.std.specs.Prelude.{All, IfSome, IfNone}
 use Rattle.std.specs.Vec.{with_items}
 use Rattle.std.proofs.lemmas.List.{with_items_is}
 use Rattle.ccsl_relate.specs.Few.{HasRoomFor}
-use Rattle.ccsl_relate.specs.Alone.{after_rows, ObeysUpTo, IsFirstIn}
+use Rattle.ccsl_relate.specs.Alone.{ObeysUpTo, IsFirstIn}
 use Rattle.ccsl_relate.specs.Watching.{Watching}
 use Rattle.ccsl_relate.proofs.Through.{items-have-room, items-pass, items-stop}
 use Rattle.ccsl_relate.proofs.monitor.Monitor.check_items.Goals as goal

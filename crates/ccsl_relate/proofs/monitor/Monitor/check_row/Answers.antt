@@ -1,5 +1,5 @@
 use Rattle.std.proofs.lemmas.Grind.{common_steps}
-use Rattle.std.proofs.Common.{◌≡◌, ◌+◌, length, ap, ◌∙◌, arith}
+use Rattle.std.proofs.Common.{◌+◌, ap, ◌∙◌, arith}
 use Rattle.ccsl_relate.specs.Watching.{Watching}
 use Rattle.ccsl_relate.proofs.Passing.{row-taken}
 use Rattle.ccsl_relate.proofs.monitor.Monitor.check_row.Goals as goal

@@ -1,6 +1,5 @@
 use Rattle.std.proofs.lemmas.Grind.{common_steps}
-use Rattle.std.proofs.Common.{arith, [], All, sym, subst}
-use Rattle.ccsl_relate.specs.Following.{ReadsClocks}
+use Rattle.std.proofs.Common.{arith}
 use Rattle.ccsl_relate.proofs.Following.{items-clocks}
 use Rattle.ccsl_relate.proofs.monitor.Monitor.open.Goals as goal
 

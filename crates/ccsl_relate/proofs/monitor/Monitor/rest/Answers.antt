@@ -1,5 +1,4 @@
-use Rattle.std.proofs.lemmas.Grind.{common_steps}
-use Rattle.std.proofs.Common.{◌≡◌, ◌+◌, length, ap, ◌∙◌, arith}
+use Rattle.std.proofs.Common.{◌+◌, ap, ◌∙◌}
 use Rattle.ccsl_relate.specs.Watching.{Watching}
 use Rattle.ccsl_relate.proofs.Resting.{rests}
 use Rattle.ccsl_relate.proofs.Undeclared.{some-of}
