@@ -11,6 +11,7 @@ use Rattle.ccsl_kernel.specs.Syntax.{System}
 use Rattle.ccsl_kernel.specs.Verdict.{completed_rows}
 use Rattle.ccsl_kernel.proofs.EachOne.{each_at}
 use Rattle.ccsl_relate.specs.declared.alone.Failure.{Failure}
+use Rattle.ccsl_relate.specs.declared.violation.Violation.{Violation}
 use Rattle.ccsl_relate.specs.declared.watched.Watched.{Watched}
 use Rattle.ccsl_relate.specs.declared.watched.Watched.TheVariants.{Nothing}
 use Rattle.ccsl_relate.specs.Few.{HasRoomFor}
@@ -78,7 +79,8 @@ module _ (K : System) (recorded : List ℕ) (start : ℕ) where
       let p = and_parts (is_ascending row.ticks) (are_sets block) sets in
       let z : steps + 1 + length block ≡ steps + suc (length block) = omega arith in
       rw (append_assoc rows (row ∷ []) block, z, after-map row block kept) at
-      (goes-through (map (next_in row.ticks) kept) (steps + 1) (rows ++ row ∷ []) block (one-on kept steps rows s row p.0 (λ k l. obeys k l 0 (omega arith))) p.1
+      (goes-through (map (next_in row.ticks) kept) (steps + 1) (rows ++ row ∷ []) block
+      (one-on kept steps rows s row p.0 (λ k l. obeys k l 0 (omega arith))) p.1
       (λ k l n m. ap (λ w. fails_at block w n) (at-next row.ticks kept k)
       ∙ obeys k (omega (arith, l, length-map kept (next_in row.ticks))) (suc n) (omega (arith, m))))
 
@@ -93,7 +95,8 @@ module _ (K : System) (recorded : List ℕ) (start : ℕ) where
       let p = and_parts (is_ascending x.ticks) (are_sets block) sets in
       let here = one-fails kept steps rows s x p.0 place after count f.place f.fails f.lower in
       let q : x ≡ at = cc in
-      let now : Watching = record (going after (steps + suc (length block))) { first = Some (record { step = steps + 0; time = at.time; item = start + place }) } in
+      let v : Violation = record { step = steps + 0; time = at.time; item = start + place } in
+      let now : Watching = record (going after (steps + suc (length block))) { first = Some v } in
       rw (append_assoc rows (x ∷ []) block) at (rests recorded _ now (rows ++ x ∷ []) block _ here p.1 refl (grind (arith, common_steps)))
   stops-in kept after steps rows (x ∷ block) (suc row) place at s sets count e f =
       let p = and_parts (is_ascending x.ticks) (are_sets block) sets in

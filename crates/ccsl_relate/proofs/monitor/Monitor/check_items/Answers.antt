@@ -40,5 +40,5 @@ returns-clause-stands c = λ recorded rows s few.
           w.row.ensures
           (subst (λ ks. IsFirstIn block ks f) kept-is
           (subst (λ o. IfSome o (IsFirstIn block c.as_mut_slice-kept.result.now)) w.in-Some.is c.first_in.ensures.fails))
-          (rw (← c.self.view_is) (cc (w.first-is, after-is, c.len-rows.ensures)))
+          (rw (← c.self.view_is) (cc (w.first-is, c.len-rows.ensures)))
     ]
