@@ -1,6 +1,6 @@
 -- Which definitions wait and which read a clock, as the program finds it.
 use Rattle.std.proofs.Common.{◌≡◌, ℕ, ◌+◌, ◌<◌, ◌≤◌, ⊎_elim, List, [], ◌∷◌, length, Bool, true, false, not, ◌&&◌, ◌||◌, Option, Some, None}
-use Rattle.std.proofs.Common.{min, slice_set, slice_index_or, nat_eq, nat_lt, refl, sym, ap, ◌∙◌, arith, eq-eqb, eqb-true}
+use Rattle.std.proofs.Common.{min, slice_set, slice_index_or, nat_eq, nat_lt, refl, sym, ap, ap₂, ◌∙◌, arith, eq-eqb, eqb-true}
 use Rattle.std.specs.Prelude.{MatchOption, IfSome}
 use Rattle.std.specs.List.{list_any}
 use Rattle.std.proofs.lemmas.Grind.{common_steps}
@@ -18,7 +18,7 @@ use Rattle.ccsl_state.specs.Reach.{names_clock}
 use Rattle.ccsl_state.specs.Quiet.{named_by, reads}
 use Rattle.ccsl_state.specs.Passing.{AreReaders}
 use Rattle.ccsl_state.specs.declared.layout.Layout.{Layout}
-use Rattle.ccsl_state.specs.declared.moved.Visited.{Visited}
+use Rattle.ccsl_state.specs.declared.moved.Stepped.{Stepped}
 use Rattle.ccsl_state.specs.declared.follow.Passage.{Passage}
 use Rattle.ccsl_state.specs.States.{put}
 use Rattle.ccsl_state.specs.Regions.{trees_from}
@@ -146,23 +146,27 @@ put_already number member set is x = ⊎_elim
     (cases_eq x number)
 
 -- A VISIT, as the program makes it and enters it
-pub visit_is : (lay : Layout) (i clock : ℕ) (sets : List (List ℕ)) (row row' : List ℕ) (v : Visited) (s s' : Step)
-    (old new : Passage) → clock ≡ lay.system.now.declared + i
-    → IsVisited lay i row row' s old.gone v →
-    (e : IsEntered sets i clock v s s' old new)
+pub visit_is : (lay : Layout) (i clock : ℕ) (sets : List (List ℕ)) (row row' : List ℕ) (v : Stepped) (s s' : Step)
+    (old middle new : Passage) → clock ≡ lay.system.now.declared + i
+    → (is : IsVisited lay i row row' s old.gone old.unsettled middle.unsettled v) → middle ≡ record old { unsettled = middle.unsettled }
+    → (e : IsEntered sets i clock v s s' middle new)
     → IsVisit lay.system.now sets (trees_from lay 0 row) (trees_from lay 0 row') s s' old.gone new.gone old.waiting new.waiting old.unsettled
-    new.unsettled i v.tick v.dead v.settled e.news
-visit_is lay i clock sets row row' v s s' old new at is e = record {
-  trees_are = is.trees;
-  tick_is = is.tick;
-  dead_is = is.dead;
-  settled_is = is.settled;
-  told_is = λ h. let n = e.none h in (n.0, n.1 ∙ ap (λ k. ticks_in k old.gone) at);
-  step_is = e.step ∙ ap (λ k. put v.tick k s) at;
-  gone_is = λ x. e.gone x ∙ ap (λ k. ticks_in x (put_clock k v.dead old.gone)) at;
-  unsettled_is = e.unsettled;
-  waiting_is = λ p. e.waiting p ∙ ap (λ k. (ticks_in p old.waiting && not (nat_eq i p)) || (e.news && ticks_in p (slice_index_or sets k []))) at;
-}
+    new.unsettled i v.tick v.dead is.known e.news
+visit_is lay i clock sets row row' v s s' old middle new at is same e =
+    let gone : middle.gone ≡ old.gone = ap (λ (p : Passage). p.gone) same in
+    let waiting : middle.waiting ≡ old.waiting = ap (λ (p : Passage). p.waiting) same in
+    record {
+      trees_are = is.trees;
+      tick_is = is.tick;
+      dead_is = is.dead;
+      settled_is = is.settled;
+      told_is = λ h. let n = e.none h in (n.0, n.1 ∙ ap₂ ticks_in at gone);
+      step_is = e.step ∙ ap (λ k. put v.tick k s) at;
+      gone_is = λ x. e.gone x ∙ ap₂ (λ k set. ticks_in x (put_clock k v.dead set)) at gone;
+      unsettled_is = λ p. ap (ticks_in p) e.unsettled ∙ is.entered p;
+      waiting_is = λ p. e.waiting p
+          ∙ ap₂ (λ set k. (ticks_in p set && not (nat_eq i p)) || (e.news && ticks_in p (slice_index_or sets k []))) waiting at;
+    }
 
 -- THE NUMBERS of the followed definitions, one more
 pub numbers_more : (D i : ℕ) (F set set' : List ℕ) (one : Bool) → ((p : ℕ) → ticks_in p set ≡ (nat_lt p i && ticks_in (D + p) F)) → set' ≡ put_clock i one set

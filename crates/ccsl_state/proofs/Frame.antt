@@ -27,7 +27,7 @@ cells_pair op.Then m n e = let z : ⊥ = cc in absurd z
 cells_pair o m n e = refl
 
 -- an operator that is no then: its node over its operands
-binary_pair : (o : ExprOp) (row : List ℕ) → is_then o ≡ false → (a d t : Tree) → binary_at (two_at o row) a d t ≡ pair_at (two_at o row) a d
+pub binary_pair : (o : ExprOp) (row : List ℕ) → is_then o ≡ false → (a d t : Tree) → binary_at (two_at o row) a d t ≡ pair_at (two_at o row) a d
 binary_pair op.Then row e a d t = let z : ⊥ = cc in absurd z
 binary_pair o row e a d t = refl
 

@@ -28,3 +28,4 @@ pub mod PartRegions
 pub mod Visiting
 pub mod PartMeans
 pub mod Entering
+mod Flats

@@ -29,12 +29,12 @@ pub inside : (lay : Layout) (ρ : List Actual) (t : List ℕ → Tree) (n : ℕ)
     → IsRewritten lay t s gone row row' (record { tick = r.tick; dead = r.dead; settled = r.settled })
 inside lay ρ t n s gone row row' r o none = grind (arith, common_steps)
 
-pair_next : (K : System) (s : Step) (gone : ℕ → Bool) (o : Option Two) (a d : Tree) → next K s gone (pair_at o a d)
+pub pair_next : (K : System) (s : Step) (gone : ℕ → Bool) (o : Option Two) (a d : Tree) → next K s gone (pair_at o a d)
     ≡ pair_at (option_map (λ o. two_next o (eval (formula_of a) s) (eval (formula_of d) s)) o) (next K s gone a) (next K s gone d)
 pair_next K s gone None a d = refl
 pair_next K s gone (Some o) a d = refl
 
-pair_settled : (gone : ℕ → Bool) (o : Option Two) (a d : Tree) → is_settled gone a ≡ true → is_settled gone d ≡ true → is_settled gone (pair_at o a d) ≡ true
+pub pair_settled : (gone : ℕ → Bool) (o : Option Two) (a d : Tree) → is_settled gone a ≡ true → is_settled gone d ≡ true → is_settled gone (pair_at o a d) ≡ true
 pair_settled gone None a d p q = refl
 pair_settled gone (Some o) a d p q = ap₂ (λ x y. x && y) p q
 

@@ -1,17 +1,28 @@
 -- One definition's region rewritten at its place.
-use Rattle.std.proofs.Common.{◌≡◌, ℕ, zero, suc, ◌+◌, ◌-◌, ◌≤◌, List, [], ◌∷◌, ◌++◌, length, take, drop, Some, slice_get, slice_set, sym, ap, ap₂, ◌∙◌, arith}
+use Rattle.std.proofs.Common.{◌≡◌, ℕ, zero, suc, ◌+◌, ◌-◌, ◌≤◌, List, [], ◌∷◌, ◌++◌, Bool, true, not, length, take, drop, Some, slice_get, slice_set, sym, ap, ap₂, ◌∙◌, arith}
 use Rattle.std.proofs.lemmas.List.{drop-drop}
 use Rattle.std.proofs.lemmas.Option.{get_or_from_slice_get}
 use Rattle.ccsl_base.specs.declared.limits.TheConstants.{MAX_CELLS}
+use Rattle.ccsl_base.specs.Clocks.{ticks_in}
+use Rattle.ccsl_base.specs.Changes.{put_clock}
+use Rattle.ccsl_formula.specs.Formula.{eval}
+use Rattle.ccsl_kernel.specs.declared.expr.Expr.{Expr}
+use Rattle.ccsl_kernel.specs.Plain.{plain_expr}
 use Rattle.ccsl_kernel.specs.Syntax.{Expression, System}
 use Rattle.ccsl_kernel.specs.Cells.{cells_in}
 use Rattle.ccsl_kernel.specs.Lives.{Step}
-use Rattle.ccsl_state.specs.Tree.{TNever, next}
+use Rattle.ccsl_state.specs.declared.layout.Layout.{Layout}
+use Rattle.ccsl_state.specs.Tree.{TNever, next, formula_of, dead_of}
 use Rattle.ccsl_state.specs.Moves.{gone_in}
 use Rattle.ccsl_state.specs.Layout.{read}
 use Rattle.ccsl_state.specs.Standing.{IsEnough}
 use Rattle.ccsl_state.specs.States.{cells_from, places_from, trees_in}
 use Rattle.ccsl_state.specs.Passing.{tree_number}
+use Rattle.ccsl_state.specs.Quiet.{is_settled}
+use Rattle.ccsl_state.specs.Ready.{BeginsAt}
+use Rattle.ccsl_state.specs.Regions.{tree, size}
+use Rattle.ccsl_state.specs.Visits.{IsVisited}
+use Rattle.ccsl_state.specs.Walks.{IsRewritten}
 use Rattle.ccsl_state.proofs.Frame.{read_same}
 use Rattle.ccsl_state.proofs.Regions.{behind, behind_head, fewer, front_kept, within}
 use Rattle.ccsl_state.proofs.PlaceLaws.{placed}
@@ -71,3 +82,23 @@ module _ (K : System) (earlier : List ℕ) (enough : IsEnough K earlier) where
           ∙ ap (drop (place + cells_in earlier e)) (sym split))
           ∙ ap (slice_set (trees_in K earlier K.definitions row) i)
           (ap (read K earlier e []) (behind_head place left region' len) ∙ goes ∙ ap (next K s (gone_in known)) (sym visited_tree))
+
+-- what a visit answers, from what comes of the region at its place
+pub visited_is : (lay : Layout) (enough : IsEnough lay.system.now lay.earlier.now) (i : ℕ) (e : Expr) (place : ℕ) (row left region region' : List ℕ) (s : Step)
+    (known unsettled unsettled' : List ℕ) (tick dead settled : Bool) → cells_from lay.earlier.now lay.system.now.definitions ≤ MAX_CELLS
+    → slice_get lay.system.now.definitions i ≡ Some (plain_expr e) → BeginsAt lay i place → row ≡ left ++ region → length left ≡ place
+    → IsRewritten lay (tree lay e []) s known region region' (record { tick = tick; dead = dead; settled = settled })
+    → drop (size lay e) region' ≡ drop (size lay e) region
+    → ((p : ℕ) → ticks_in p unsettled' ≡ ticks_in p (put_clock i (not settled) unsettled))
+    → IsVisited lay i row (left ++ region') s known unsettled unsettled' (record { tick = tick; dead = dead })
+visited_is lay enough i e place row left region region' s known unsettled unsettled' tick dead settled few is at split len m rest entered =
+    let K = lay.system.now in
+    let same = visited_tree K lay.earlier.now enough i (plain_expr e) place row left region region' s known few is at split len in
+    record {
+      known = settled;
+      tick = m.tick ∙ ap (λ t. eval (formula_of t) s) (sym same);
+      dead = m.dead ∙ ap (dead_of (gone_in known)) (m.goes ∙ ap (next K s (gone_in known)) (sym same));
+      settled = λ h. ap (λ t. is_settled (gone_in known) (next K s (gone_in known) t)) same ∙ m.settled h;
+      entered = entered;
+      trees = visited_trees K lay.earlier.now enough i (plain_expr e) place row left region region' s known few is at split len rest m.goes;
+    }

@@ -19,5 +19,6 @@ pub mod PartLaid
 pub mod Regions
 pub mod Ready
 pub mod Walks
+pub mod Flats
 pub mod Passing
 pub mod Visits

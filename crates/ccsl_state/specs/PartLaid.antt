@@ -6,6 +6,7 @@ use Rattle.ccsl_kernel.specs.Accepted.{IsAccepted}
 use Rattle.ccsl_state.specs.declared.part.Part.TheInside.{Inside}
 use Rattle.ccsl_state.specs.States.{places_from, trees_in}
 use Rattle.ccsl_state.specs.Held.{calls_of}
+use Rattle.ccsl_state.specs.Flats.{AreFlats}
 use Rattle.ccsl_state.specs.Reach.{IsClosed}
 use Rattle.ccsl_state.specs.Passing.{AreReaders, AreKept}
 use Rattle.ccsl_state.specs.Part.{HeldPart}
@@ -17,6 +18,7 @@ pub record IsPartLaid (p : Inside) : Type 0 where
   pub accepted : IsAccepted p.system.now
   pub calls : p.calls.items ≡ calls_of p.system.now
   pub places : p.places.items ≡ places_from (calls_of p.system.now) 0 p.system.now.definitions
+  pub flats : AreFlats p.system.now p.flats.items
   pub readers : AreReaders p.system.now p.readers.followed p.readers.sets.items
   pub row : length p.row.items ≡ cells p.system.now
   pub closed : IsClosed p.system.now p.readers.followed

@@ -1,27 +1,42 @@
-//! Definitions of one operator over clocks. There is no region of an operand to go through, so a step of theirs is a few loads and
-//! stores.
+//! Definitions that are one operator over clocks: their regions are rewritten without a walk.
 
-ghost use Rattle.std.specs.Prelude.{◌≡◌, ◌≤◌, ◌+◌, [], drop, length, option_map, slice_index, true, IfSome};
+ghost use Rattle.std.specs.Prelude.{◌≡◌, ◌≤◌, ◌+◌, [], drop, length, option_map, slice_index, true, IfOk, IfSome};
 ghost use Rattle.ccsl_base.specs.Clocks.{ticks_in};
+ghost use Rattle.ccsl_kernel.specs.declared.expr.Expr.{Expr};
 ghost use Rattle.ccsl_kernel.specs.declared.expr.Place.TheVariants as place;
 ghost use Rattle.ccsl_kernel.specs.Syntax.{EName};
 ghost use Rattle.ccsl_kernel.specs.Plain.{plain_expr};
+ghost use Rattle.ccsl_state.specs.declared.layout.Layout.{Layout};
 ghost use Rattle.ccsl_state.specs.Tree.{one_ticks, one_next, one_dead, two_ticks, two_dead, two_next};
 ghost use Rattle.ccsl_state.specs.Layout.{own_cells, two_at, words_of, lag_at};
 ghost use Rattle.ccsl_state.specs.Nodes.{one_at, node_ticks, node_dead};
 ghost use Rattle.ccsl_state.specs.Regions.{tree, size};
 ghost use Rattle.ccsl_state.specs.Ready.{IsReady};
 ghost use Rattle.ccsl_state.specs.Walks.{IsRewritten};
+ghost use Rattle.ccsl_state.specs.Flats.{IsFlat, AreFlats};
 
-use crate::advance::advance;
 use crate::cells::{is_then, own_cells};
 use crate::lag::{lag_cells, lag_dead, lag_moved, lag_ticks};
-use crate::layout::Layout;
-use crate::moved::Visited;
+use crate::moved::Stepped;
 use crate::node::{Unary, two_dead, two_moved, two_ticks};
-use ccsl_base::{ClockSet, MAX_DELAY};
-use ccsl_kernel::{Expr, ExprOp, Place};
+use ccsl_base::{ClockSet, MAX_DELAY, Memory};
+use ccsl_kernel::{Expr, ExprOp, Place, System};
 use ccsl_words::Word;
+use std::alloc::Global;
+
+/// An operator over clocks: what a visit asks of such an expression, found once. The numbers are those of clocks, and how many ticks
+/// a delay, an await or a delayed counts.
+#[derive(Clone, Copy)]
+pub enum Flat {
+    /// An operator but `then`, and its operands.
+    Two(ExprOp, u32, u32),
+    /// The left operand, the count and the right operand of a delayed.
+    Delayed(u32, u32, u32),
+    /// An operand and its count.
+    Delay(u32, u32),
+    /// An operand and its count.
+    Await(u32, u32),
+}
 
 /// The clock that an expression names.
 #[inline(always)]
@@ -30,6 +45,31 @@ fn clock_of(e: &Expr) -> Option<u32>
 {
     match e {
         Expr::Name(Place::Clock(x)) => Some(*x),
+        _ => None,
+    }
+}
+
+/// An expression as one operator over clocks, if it is one.
+pub fn flat_of(e: &Expr) -> Option<Flat>
+    ensures { IfSome result (IsFlat e.now) }
+{
+    match e {
+        Expr::Binary(op, a, d) if !is_then(*op) => match (clock_of(a), clock_of(d)) {
+            (Some(x), Some(y)) => Some(Flat::Two(*op, x, y)),
+            _ => None,
+        },
+        Expr::Delayed(a, m, d) => match (clock_of(a), clock_of(d)) {
+            (Some(x), Some(y)) => Some(Flat::Delayed(x, *m, y)),
+            _ => None,
+        },
+        Expr::Delay(a, m) => match clock_of(a) {
+            Some(x) => Some(Flat::Delay(x, m.number(&[]))),
+            None => None,
+        },
+        Expr::Await(a, m) => match clock_of(a) {
+            Some(x) => Some(Flat::Await(x, m.number(&[]))),
+            None => None,
+        },
         _ => None,
     }
 }
@@ -43,7 +83,7 @@ fn one_clock(
     row: &mut [u64],
     step: &ClockSet,
     gone: &ClockSet,
-) -> Visited
+) -> Stepped
     requires { 1 ≤ length row.old }
     ensures tick { result.tick ≡ one_ticks
         (one_at words.now unary (slice_index row.old 0)) (ticks_in x step.now) }
@@ -53,12 +93,7 @@ fn one_clock(
         (one_at words.now unary (slice_index row.new 0)) (ticks_in x gone.now) }
     ensures rest { drop 1 row.new ≡ drop 1 row.old }
 {
-    let stepped = unary.stepped(words, &mut row[0], step.has(x), gone.has(x));
-    Visited {
-        tick: stepped.tick,
-        dead: stepped.dead,
-        settled: true,
-    }
+    unary.stepped(words, &mut row[0], step.has(x), gone.has(x))
 }
 
 /// An operator over two clocks.
@@ -70,7 +105,7 @@ fn two_clocks(
     row: &mut [u64],
     step: &ClockSet,
     gone: &ClockSet,
-) -> Visited
+) -> Stepped
     requires { own_cells op ≤ length row.old }
     ensures tick { result.tick ≡ node_ticks (two_at op row.old)
         (ticks_in x step.now) (ticks_in y step.now) }
@@ -85,16 +120,15 @@ fn two_clocks(
     let (left, right) = (step.has(x), step.has(y));
     let tick = two_ticks(op, head, left, right);
     two_moved(op, head, left, right);
-    Visited {
+    Stepped {
         tick,
         dead: two_dead(op, head, gone.has(x), gone.has(y)),
-        settled: true,
     }
 }
 
 /// A delayed over two clocks.
 #[inline(always)]
-fn lag_clocks(m: u32, x: u32, y: u32, row: &mut [u64], step: &ClockSet, gone: &ClockSet) -> Visited
+fn lag_clocks(m: u32, x: u32, y: u32, row: &mut [u64], step: &ClockSet, gone: &ClockSet) -> Stepped
     requires some { 1 ≤ m }
     requires short { m ≤ MAX_DELAY }
     requires room { 2 + words_of m ≤ length row.old }
@@ -110,73 +144,44 @@ fn lag_clocks(m: u32, x: u32, y: u32, row: &mut [u64], step: &ClockSet, gone: &C
     let (left, right) = (step.has(x), step.has(y));
     let tick = lag_ticks(m, head, right);
     lag_moved(m, head, left, right);
-    Visited {
+    Stepped {
         tick,
         dead: lag_dead(m, head, gone.has(x), gone.has(y)),
-        settled: true,
     }
 }
 
-/// Any definition.
-#[inline(never)]
-#[tactic(auto, using(crate::proofs::Places::inner_stands))]
-fn advance_any(
-    lay: &Layout<'_>,
-    e: &Expr,
-    row: &mut [u64],
-    step: &ClockSet,
-    gone: &ClockSet,
-) -> Visited
-    requires { IsReady lay.now true 0 e.now [] row.old }
-    ensures moved { IsRewritten lay.now (tree lay.now e.now [])
-        step.now gone.now row.old row.new result }
-    ensures rest { drop (size lay.now e.now) row.new ≡ drop (size lay.now e.now) row.old }
-{
-    let moved = advance(lay, e, &[], row, step, gone);
-    Visited {
-        tick: moved.tick,
-        dead: moved.dead,
-        settled: moved.settled,
-    }
-}
-
-/// Rewrites the region of a definition's expression.
+/// Rewrites the region of an expression that is one operator over clocks. Such a region is settled.
 #[inline(always)]
-pub fn advance_definition(
-    lay: &Layout<'_>,
-    e: &Expr,
+pub fn advance_flat(
+    words: &[Word],
+    flat: Flat,
     row: &mut [u64],
     step: &ClockSet,
     gone: &ClockSet,
-) -> Visited
-    requires { IsReady lay.now true 0 e.now [] row.old }
-    ensures moved { IsRewritten lay.now (tree lay.now e.now [])
-        step.now gone.now row.old row.new result }
-    ensures rest { drop (size lay.now e.now) row.new ≡ drop (size lay.now e.now) row.old }
+) -> Stepped
+    requires { (lay : Layout) × (e : Expr) × IsReady lay true 0 e [] row.old × IsFlat e flat }
+    ensures moved { (lay : Layout) (e : Expr) → lay.system.now.words ≡ words.now →
+        IsReady lay true 0 e [] row.old → IsFlat e flat →
+        IsRewritten lay (tree lay e []) step.now gone.now row.old row.new
+        (record { tick = result.tick; dead = result.dead; settled = true }) }
+    ensures rest { (lay : Layout) (e : Expr) → IsReady lay true 0 e [] row.old → IsFlat e flat →
+        drop (size lay e) row.new ≡ drop (size lay e) row.old }
 {
-    match e {
-        Expr::Binary(op, a, d) if !is_then(*op) => match (clock_of(a), clock_of(d)) {
-            (Some(x), Some(y)) => two_clocks(*op, x, y, row, step, gone),
-            _ => advance_any(lay, e, row, step, gone),
-        },
-        Expr::Delayed(a, m, d) => match (clock_of(a), clock_of(d)) {
-            (Some(x), Some(y)) => lag_clocks(*m, x, y, row, step, gone),
-            _ => advance_any(lay, e, row, step, gone),
-        },
-        Expr::Delay(a, m) => match clock_of(a) {
-            Some(x) => {
-                let unary = Unary::Delay(m.number(&[]));
-                one_clock(lay.system.words(), unary, x, row, step, gone)
-            }
-            None => advance_any(lay, e, row, step, gone),
-        },
-        Expr::Await(a, m) => match clock_of(a) {
-            Some(x) => {
-                let unary = Unary::Await(m.number(&[]));
-                one_clock(lay.system.words(), unary, x, row, step, gone)
-            }
-            None => advance_any(lay, e, row, step, gone),
-        },
-        _ => advance_any(lay, e, row, step, gone),
+    match flat {
+        Flat::Two(op, x, y) => two_clocks(op, x, y, row, step, gone),
+        Flat::Delayed(x, m, y) => lag_clocks(m, x, y, row, step, gone),
+        Flat::Delay(x, m) => one_clock(words, Unary::Delay(m), x, row, step, gone),
+        Flat::Await(x, m) => one_clock(words, Unary::Await(m), x, row, step, gone),
     }
+}
+
+/// Each definition as one operator over clocks, where it is one.
+pub fn flats(alloc: Global, system: &System) -> Result<Vec<Option<Flat>>, Memory>
+    ensures { IfOk result (λ v. AreFlats system.now v.items) }
+{
+    let mut flats = Vec::with_capacity(alloc, system.definitions() as usize)?;
+    for i in 0..system.definitions() {
+        flats.push(flat_of(system.definition(i)))?;
+    }
+    Ok(flats)
 }

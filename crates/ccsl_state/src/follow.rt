@@ -1,22 +1,26 @@
 //! The regions of some definitions in a step: those that hear something, each at its place.
 
-ghost use Rattle.std.specs.Prelude.{◌≡◌, ◌≤◌, ◌<◌, ℕ, ◌||◌, ◌&&◌, true, false, length, IfSome, IfNone};
+ghost use Rattle.std.specs.Prelude.{◌≡◌, ◌≤◌, ◌<◌, ℕ, [], drop, ◌||◌, ◌&&◌, true, false, length, IfSome, IfNone};
 ghost use Rattle.ccsl_base.specs.Clocks.{ticks_in, are_below, is_ascending};
 ghost use Rattle.ccsl_base.specs.Changes.{put_clock};
 ghost use Rattle.ccsl_kernel.specs.Accepted.{IsAccepted};
 ghost use Rattle.ccsl_state.specs.States.{places_from};
-ghost use Rattle.ccsl_state.specs.Regions.{trees_from};
-ghost use Rattle.ccsl_state.specs.Ready.{HasRegions, BeginsAt};
+ghost use Rattle.ccsl_state.specs.Regions.{trees_from, tree, size};
+ghost use Rattle.ccsl_state.specs.Ready.{IsReady, HasRegions, BeginsAt};
 ghost use Rattle.ccsl_state.specs.Whole.{IsWhole};
+ghost use Rattle.ccsl_state.specs.Walks.{IsRewritten};
+ghost use Rattle.ccsl_state.specs.Flats.{AreFlats, IsFlatAt};
 ghost use Rattle.ccsl_state.specs.Passing.{AreReaders, AreKept, IsPassed};
 ghost use Rattle.ccsl_state.specs.Visits.{IsVisited, IsEntered, is_waiting};
 
+use crate::advance::advance;
 use crate::definitions::put;
-use crate::flat::advance_definition;
+use crate::flat::{Flat, advance_flat};
 use crate::layout::Layout;
-use crate::moved::Visited;
+use crate::moved::{Stepped, Visited};
 use crate::readers::Readers;
 use ccsl_base::{ClockSet, MAX_CLOCKS};
+use ccsl_kernel::Expr;
 
 /// What is found of a step on its way: the clocks that are dead after it, the numbers of the definitions that wait for their visit,
 /// and of those that are to be visited at the next step, whatever ticks.
@@ -27,29 +31,85 @@ pub struct Passage {
     pub unsettled: ClockSet,
 }
 
-/// Rewrites the region of definition number `i`, which begins at `place`. `step` has the ticks that its expression may ask for, and
-/// `gone` those clocks that are dead after the step.
-fn visit(
+/// Makes a number a member of a set, or takes it out; `was` tells whether it is one. It seldom is not yet as it is to be.
+#[inline(always)]
+fn change(set: &mut ClockSet, number: u32, was: bool, member: bool)
+    requires number { number < MAX_CLOCKS }
+    requires was { was ≡ ticks_in number set.old }
+    ensures { (x : ℕ) → ticks_in x set.new ≡ ticks_in x (put_clock number member set.old) }
+{
+    if was != member {
+        set.put(number, member);
+    }
+}
+
+/// Rewrites the region of any definition's expression.
+#[inline(never)]
+#[tactic(auto, using(crate::proofs::Places::inner_stands))]
+fn advance_any(
     lay: &Layout<'_>,
-    i: u32,
-    place: u32,
+    e: &Expr,
     row: &mut [u64],
     step: &ClockSet,
     gone: &ClockSet,
 ) -> Visited
+    requires { IsReady lay.now true 0 e.now [] row.old }
+    ensures moved { IsRewritten lay.now (tree lay.now e.now [])
+        step.now gone.now row.old row.new result }
+    ensures rest { drop (size lay.now e.now) row.new ≡ drop (size lay.now e.now) row.old }
+{
+    let moved = advance(lay, e, &[], row, step, gone);
+    Visited {
+        tick: moved.tick,
+        dead: moved.dead,
+        settled: moved.settled,
+    }
+}
+
+/// Rewrites the region of definition number `i`, which begins at `place`. `step` has the ticks that its expression may ask for, and
+/// `passage` those clocks that are dead after the step.
+#[inline(always)]
+fn visit(
+    lay: &Layout<'_>,
+    i: u32,
+    place: u32,
+    flat: Option<Flat>,
+    row: &mut [u64],
+    step: &ClockSet,
+    passage: &mut Passage,
+) -> Stepped
     requires regions { HasRegions lay.now 0 row.old }
     requires within { i < length lay.now.system.now.definitions }
     requires place { BeginsAt lay.now i place }
-    ensures { IsVisited lay.now i row.old row.new step.now gone.now result }
+    requires flat { IsFlatAt lay.now.system.now i flat }
+    requires number { i < MAX_CLOCKS }
+    ensures visited { IsVisited lay.now i row.old row.new step.now passage.old.gone
+        passage.old.unsettled passage.new.unsettled result }
+    ensures same { passage.new ≡ record passage.old { unsettled = passage.new.unsettled } }
 {
     let e = lay.system.definition(i);
     let (_, region) = row.split_at_mut(place as usize);
-    advance_definition(lay, e, region, step, gone)
+    match flat {
+        Some(flat) => {
+            let was_unsettled = passage.unsettled.has(i);
+            change(&mut passage.unsettled, i, was_unsettled, false);
+            advance_flat(lay.system.words(), flat, region, step, &passage.gone)
+        }
+        None => {
+            let walked = advance_any(lay, e, region, step, &passage.gone);
+            let was_unsettled = passage.unsettled.has(i);
+            change(&mut passage.unsettled, i, was_unsettled, !walked.settled);
+            Stepped {
+                tick: walked.tick,
+                dead: walked.dead,
+            }
+        }
+    }
 }
 
 /// Whether others may hear of a visit: the clock ticked, or was dead before the step and is not after it, or the other way round.
 #[inline(always)]
-fn has_news(visited: Visited, was_dead: bool) -> bool
+fn has_news(visited: Stepped, was_dead: bool) -> bool
     ensures { result ≡ false → (visited.tick ≡ false) × (visited.dead ≡ was_dead) }
 {
     visited.tick || visited.dead != was_dead
@@ -66,17 +126,6 @@ fn wait(waiting: &mut ClockSet, news: bool, readers: &ClockSet)
     }
 }
 
-/// Makes a number a member of a set, or takes it out. It seldom is not yet as it is to be.
-#[inline(always)]
-fn change(set: &mut ClockSet, number: u32, member: bool)
-    requires { number < MAX_CLOCKS }
-    ensures { (x : ℕ) → ticks_in x set.new ≡ ticks_in x (put_clock number member set.old) }
-{
-    if set.has(number) != member {
-        set.put(number, member);
-    }
-}
-
 /// Enters what came of the visit of definition number `i`, that of a clock. `step` has the ticks that are known.
 #[inline(always)]
 fn enter(
@@ -85,19 +134,19 @@ fn enter(
     sets: &[ClockSet],
     i: u32,
     clock: u32,
-    visited: Visited,
+    visited: Stepped,
 )
     requires clock { clock < MAX_CLOCKS }
     requires number { i < MAX_CLOCKS }
     requires inside { clock < length sets.now }
     ensures { IsEntered sets.now i clock visited step.old step.new passage.old passage.new }
 {
-    let news = has_news(visited, passage.gone.has(clock));
+    let was_dead = passage.gone.has(clock);
+    let news = has_news(visited, was_dead);
     passage.waiting.remove(i);
     wait(&mut passage.waiting, news, &sets[clock as usize]);
     put(step, clock, visited.tick);
-    change(&mut passage.gone, clock, visited.dead);
-    change(&mut passage.unsettled, i, !visited.settled);
+    change(&mut passage.gone, clock, was_dead, visited.dead);
 }
 
 /// The first member of a set.
@@ -116,6 +165,7 @@ pub fn follow(
     lay: &Layout<'_>,
     readers: &Readers,
     places: &[u32],
+    flats: &[Option<Flat>],
     row: &mut [u64],
     step: &mut ClockSet,
     passage: &mut Passage,
@@ -124,6 +174,7 @@ pub fn follow(
     requires whole { IsWhole lay.now row.old }
     requires places { places.now ≡ places_from lay.now.earlier.now 0
         lay.now.system.now.definitions }
+    requires flats { AreFlats lay.now.system.now flats.now }
     requires readers { AreReaders lay.now.system.now readers.now.followed readers.now.sets.items }
     requires kept { AreKept lay.now.system.now readers.now.followed
         (trees_from lay.now 0 row.old) passage.old.gone passage.old.unsettled }
@@ -139,7 +190,8 @@ pub fn follow(
 {
     'visits: while let Some(i) = first(&passage.waiting) {
         let clock = lay.system.scope().declared + i;
-        let visited = visit(lay, i, places[i as usize], row, step, &passage.gone);
+        let place = places[i as usize];
+        let visited = visit(lay, i, place, flats[i as usize], row, step, passage);
         enter(passage, step, readers.sets.as_slice(), i, clock, visited);
     }
 }

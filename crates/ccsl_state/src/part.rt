@@ -8,6 +8,7 @@ ghost use Rattle.ccsl_kernel.specs.Runs.{full_step};
 ghost use Rattle.ccsl_state.specs.Reach.{Includes, IsClosed};
 ghost use Rattle.ccsl_state.specs.Part.{part_of, PartStandsFor};
 
+use crate::flat::{Flat, flats};
 use crate::follow::{Passage, follow};
 use crate::items::places;
 use crate::layout::Layout;
@@ -29,6 +30,8 @@ pub struct Part<'s> {
     calls: Vec<u32>,
     // where each definition's region begins in the row
     places: Vec<u32>,
+    // which are operators over clocks
+    flats: Vec<Option<Flat>>,
     readers: Readers,
     row: Vec<u64>,
     // what has come of the last step
@@ -52,7 +55,7 @@ impl<'s> Model for Part<'s> {
 }
 
 impl<'s> Part<'s> {
-    /// The states before the first step, of the definitions that these clocks lead to. They take one row of cells, two small
+    /// The states before the first step, of the definitions that these clocks lead to. They take one row of cells, three small
     /// tables, and a set for each clock.
     pub fn open(alloc: Global, system: &'s System, clocks: &ClockSet) -> Result<Part<'s>, Memory>
         ensures system { IfOk result (λ p. p.system ≡ system.now) }
@@ -71,6 +74,7 @@ impl<'s> Part<'s> {
             earlier: calls.as_slice(),
         };
         let places = places(alloc, &lay)?;
+        let flats = flats(alloc, system)?;
         open_row(&lay, row.as_mut_slice());
         let readers = Readers::open(alloc, system, reached(system, clocks))?;
         let passage = Passage {
@@ -82,6 +86,7 @@ impl<'s> Part<'s> {
             system,
             calls,
             places,
+            flats,
             readers,
             row,
             passage,
@@ -97,6 +102,7 @@ impl<'s> Part<'s> {
     }
 
     /// Goes on by the full step that the declared clocks of a set give. Then the set has what of that step is declared or followed.
+    #[inline(always)]
     pub fn go_on(&mut self, step: &mut ClockSet)
         requires { are_below self.old.system.declared step.old ≡ true }
         ensures system { self.new.system ≡ self.old.system }
@@ -119,6 +125,7 @@ impl<'s> Part<'s> {
             &lay,
             &self.readers,
             places,
+            self.flats.as_slice(),
             self.row.as_mut_slice(),
             step,
             passage,

@@ -3,5 +3,5 @@ use Rattle.std.proofs.Common.{rules}
 use Rattle.ccsl_state.proofs.Entering.{put_already}
 use Rattle.ccsl_state.proofs.follow.change.Goals as goal
 
-pub returns-else-has-member : goal.returns-else-has-member
-returns-else-has-member c = λ x. put_already c.args.number c.args.member c.args.set.now (search rules) x
+pub returns-else-was-member : goal.returns-else-was-member
+returns-else-was-member c = λ x. put_already c.args.number c.args.member c.args.set.now (search rules) x

@@ -29,6 +29,9 @@ visits-init c =
 pub bounds-places-i : goal.bounds-places-i
 bounds-places-i c = grind (arith, common_steps, places_len)
 
+pub bounds-flats-i : goal.bounds-flats-i
+bounds-flats-i c = let within = (c.visits.invariant.followed c.in-Some.i c.in-Some.ensures.member).0 in let count = c.requires.flats.count in omega arith
+
 pub visit-visited-requires : goal.visit-visited-requires
 visit-visited-requires c = grind (arith, common_steps, places_len, whole_regions, slice_get-get_or)
 
@@ -37,10 +40,10 @@ visits-preserved c =
     let K = c.args.lay.now.system.now in
     let i = c.in-Some.i in
     let clock : c.scope.result.declared + i ≡ K.declared + i = ap (λ (s : Scope). s.declared + i) c.scope.ensures.scope in
-    let v = visit_is c.args.lay.now i _ c.args.readers.now.sets.items c.visits.row c.visit-visited.new.row c.visit-visited.result c.visits.step c.enter.new.step c.visits.passage
-    c.enter.new.passage clock c.visit-visited.ensures
-    (subst (λ sets. IsEntered sets i (c.scope.result.declared + i) c.visit-visited.result c.visits.step c.enter.new.step c.visits.passage c.enter.new.passage) c.as_slice.ensures.value
-    c.enter.ensures) in
+    let v = visit_is c.args.lay.now i _ c.args.readers.now.sets.items c.visits.row c.visit-visited.new.row c.visit-visited.result c.visits.step c.enter.new.step
+    c.visits.passage c.visit-visited.new.passage c.enter.new.passage clock c.visit-visited.ensures.visited c.visit-visited.ensures.same
+    (subst (λ sets. IsEntered sets i (c.scope.result.declared + i) c.visit-visited.result c.visits.step c.enter.new.step c.visit-visited.new.passage
+    c.enter.new.passage) c.as_slice.ensures.value c.enter.ensures) in
     one_more K c.requires.accepted c.args.readers.now.followed c.args.readers.now.sets.items c.requires.readers c.args.step.now c.args.passage.now.gone
     (trees_from c.args.lay.now 0 c.args.row.now) c.requires.kept.within
     _ _ _ _ _ _ _ _ _ _ i _ _ _ _ c.visits.invariant v c.in-Some.ensures.member c.in-Some.ensures.least
@@ -51,10 +54,10 @@ visits-smaller c =
     let n = length K.definitions in
     let i = c.in-Some.i in
     let clock : c.scope.result.declared + i ≡ K.declared + i = ap (λ (s : Scope). s.declared + i) c.scope.ensures.scope in
-    let v = visit_is c.args.lay.now i _ c.args.readers.now.sets.items c.visits.row c.visit-visited.new.row c.visit-visited.result c.visits.step c.enter.new.step c.visits.passage
-    c.enter.new.passage clock c.visit-visited.ensures
-    (subst (λ sets. IsEntered sets i (c.scope.result.declared + i) c.visit-visited.result c.visits.step c.enter.new.step c.visits.passage c.enter.new.passage) c.as_slice.ensures.value
-    c.enter.ensures) in
+    let v = visit_is c.args.lay.now i _ c.args.readers.now.sets.items c.visits.row c.visit-visited.new.row c.visit-visited.result c.visits.step c.enter.new.step
+    c.visits.passage c.visit-visited.new.passage c.enter.new.passage clock c.visit-visited.ensures.visited c.visit-visited.ensures.same
+    (subst (λ sets. IsEntered sets i (c.scope.result.declared + i) c.visit-visited.result c.visits.step c.enter.new.step c.visit-visited.new.passage
+    c.enter.new.passage) c.as_slice.ensures.value c.enter.ensures) in
     let within = (c.visits.invariant.followed i c.in-Some.ensures.member).0 in
     let before = lowest_below n c.visits.passage.waiting i c.in-Some.ensures.member in
     let most = lowest_most n c.enter.new.passage.waiting in
