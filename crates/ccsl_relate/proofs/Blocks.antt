@@ -1,7 +1,8 @@
 -- The rows of a block, taken one by one.
 use Rattle.std.proofs.lemmas.Grind.{common_steps}
-use Rattle.std.proofs.Common.{add-one, ◌≡◌, ℕ, ◌+◌, ◌<◌, ◌≤◌, ◌^◌, List, [], ◌∷◌, ◌++◌, length, take, slice_get, Some, refl, sym, ap, ◌∙◌, subst, arith}
+use Rattle.std.proofs.Common.{add-one, ◌≡◌, ℕ, ◌+◌, ◌-◌, ◌<◌, ◌≤◌, ◌^◌, List, [], ◌∷◌, ◌++◌, length, take, drop, slice_get, Some, refl, sym, ap, ◌∙◌, subst, arith}
 use Rattle.std.proofs.Common.{append_assoc, length-append, length-take-le}
+use Rattle.std.proofs.Math.Seq.{take-add}
 use Rattle.std.proofs.lemmas.List.{take_all}
 use Rattle.ccsl_base.specs.declared.rows.Row.{Row}
 use Rattle.ccsl_relate.specs.Watching.{Watching, StandsFor}
@@ -24,6 +25,10 @@ pub few-rows : (block : List Row) (i : ℕ) (rows : List Row) → i < length blo
     → length (rows ++ take i block) + 1 < 2 ^ 64
 few-rows block i rows l h = omega (arith, length-append rows (take i block), length-take-le i block (omega (arith, l)), l, h)
 
+pub few-others : (block : List Row) (i : ℕ) (rows : List Row) → i ≤ length block → length rows + length block < 2 ^ 64
+    → length (rows ++ take i block) + (length block - i) < 2 ^ 64
+few-others block i rows l h = omega (arith, length-append rows (take i block), length-take-le i block l, l, h)
+
 pub taken-more : (start now next : Watching) (block : List Row) (i : ℕ) (row : Row) → Taken start now block i → slice_get block i ≡ Some row → i < length block
     → next.system ≡ now.system → next.start ≡ now.start → length next.kept ≡ length now.kept
     → ((recorded : List ℕ) (rows : List Row) → StandsFor recorded now rows → length rows + 1 < 2 ^ 64 → StandsFor recorded next (rows ++ row ∷ []))
@@ -41,3 +46,19 @@ taken-more start now next block i row t e l a b c f = record {
 pub taken-all : (start now : Watching) (block : List Row) (i : ℕ) → Taken start now block i → length block ≤ i → (recorded : List ℕ) (rows : List Row)
     → StandsFor recorded start rows → length rows + length block < 2 ^ 64 → StandsFor recorded now (rows ++ block)
 taken-all start now block i t l recorded rows s h = subst (λ rs. StandsFor recorded now (rows ++ rs)) (take_all i block l) (t.stands recorded rows s h)
+
+-- some rows more
+pub taken-part : (start now next : Watching) (block : List Row) (i n : ℕ) → Taken start now block i → i + n ≤ length block
+    → next.system ≡ now.system → next.start ≡ now.start → length next.kept ≡ length now.kept
+    → ((recorded : List ℕ) (rows : List Row) → StandsFor recorded now rows → length rows + (length block - i) < 2 ^ 64
+    → StandsFor recorded next (rows ++ take n (drop i block)))
+    → Taken start next block (i + n)
+taken-part start now next block i n t l a b c f = record {
+  within = l;
+  system = a ∙ t.system;
+  start_is = b ∙ t.start_is;
+  count = c ∙ t.count;
+  stands = λ recorded rows s h.
+      subst (λ rs. StandsFor recorded next rs) (append_assoc rows (take i block) (take n (drop i block)) ∙ ap (λ rs. rows ++ rs) (sym (take-add i n block)))
+      (f recorded (rows ++ take i block) (t.stands recorded rows s h) (few-others block i rows (omega (arith, l)) h));
+}

@@ -16,5 +16,6 @@ pub mod Walking
 pub mod Told
 pub mod ByRows
 pub mod Earliest
+pub mod Completing
 pub mod Through
 pub mod Verdicts

@@ -1,5 +1,6 @@
 -- Rows behind a violation change no answer.
-use Rattle.std.proofs.Common.{◌≡◌, ℕ, ◌+◌, List, [], ◌∷◌, ◌++◌, length, Some, None, true, sym, ap, ◌∙◌, subst, append_assoc, length-append}
+use Rattle.std.proofs.lemmas.Grind.{common_steps}
+use Rattle.std.proofs.Common.{◌≡◌, ℕ, zero, suc, ◌+◌, List, [], ◌∷◌, ◌++◌, length, take, drop, Some, None, true, refl, arith, sym, ap, ◌∙◌, subst, append_assoc, length-append}
 use Rattle.std.proofs.lemmas.Bool.{and_parts, and_from}
 use Rattle.std.proofs.lemmas.List.{append-nil}
 use Rattle.std.proofs.lemmas.List.Folds.{list_all-append}
@@ -34,3 +35,18 @@ rests recorded v w rows more x s sets e is = subst (λ (u : Watching). StandsFor
       (subst (Finds v.system recorded rows v.start (length v.kept)) e s.first));
   follows = λ n. absurd (let z : None ≡ Some x = sym n ∙ e in cc);
 })
+
+-- some rows of many are sets too
+sets-behind : (rows : List Row) (n : ℕ) → are_sets rows ≡ true → are_sets (drop n rows) ≡ true
+sets-behind [] n s = grind (arith, common_steps)
+sets-behind (row ∷ rows) zero s = s
+sets-behind (row ∷ rows) (suc n) s = sets-behind rows n (and_parts (is_ascending row.ticks) (are_sets rows) s).1
+
+sets-front : (rows : List Row) (n : ℕ) → are_sets rows ≡ true → are_sets (take n rows) ≡ true
+sets-front [] n s = grind (arith, common_steps)
+sets-front (row ∷ rows) zero s = refl
+sets-front (row ∷ rows) (suc n) s =
+    let p = and_parts (is_ascending row.ticks) (are_sets rows) s in and_from (is_ascending row.ticks) (are_sets (take n rows)) p.0 (sets-front rows n p.1)
+
+pub sets-within : (rows : List Row) (from n : ℕ) → are_sets rows ≡ true → are_sets (take n (drop from rows)) ≡ true
+sets-within rows from n s = sets-front (drop from rows) n (sets-behind rows from s)

@@ -4,3 +4,4 @@ pub mod Watching
 pub mod Reading
 pub mod Following
 pub mod Alone
+pub mod Completed

@@ -1,16 +1,17 @@
 //! Monitors of neighbouring items.
 
-ghost use Rattle.std.specs.Prelude.{◌≡◌, ℕ, ◌+◌, ◌<◌, ◌≤◌, ◌^◌, List, [], ◌∷◌, ◌++◌, length, None, IfOk, IsSome};
+ghost use Rattle.std.specs.Prelude.{◌≡◌, ℕ, ◌+◌, ◌-◌, ◌<◌, ◌≤◌, ◌^◌, List, [], ◌∷◌, ◌++◌, length, take, drop, None, IfOk, IsSome};
 ghost use Rattle.ccsl_base.specs.declared.rows.Row.{Row};
 ghost use Rattle.ccsl_kernel.specs.Syntax.{item_count};
 ghost use Rattle.ccsl_relate.specs.Violations.{Finds};
 ghost use Rattle.ccsl_relate.specs.Watching.{StandsFor, IsNext};
 ghost use Rattle.ccsl_relate.specs.Following.{FollowsNoMore};
+ghost use Rattle.ccsl_relate.specs.declared.monitor.TheConstants.{PART_ROWS};
 
-use crate::alone::first_in;
+use crate::alone::first_violation;
 use crate::readers::Readers;
 use crate::states::states_for;
-use crate::steps::{first_violated, rows_are_sets, undeclared};
+use crate::steps::{complete, first_violated, rows_are_sets, undeclared};
 use crate::touched::readers_of;
 use crate::violation::Violation;
 use crate::watched::{Watched, open_all};
@@ -19,6 +20,9 @@ use ccsl_kernel::System;
 use ccsl_state::Part;
 use std::alloc::Global;
 use std::marker::Model;
+
+/// So many rows are taken item by item at one time, where their steps have to be found.
+pub(crate) const PART_ROWS: usize = 64;
 
 /// Follows some neighbouring items of a system over the rows of a trace, up to the first row that violates one of them. The states
 /// of the definitions that its items reach go on once a row, and no others: a definition whose clock was not recorded and a
@@ -32,8 +36,9 @@ pub struct Monitor<'s> {
     // which of them read a clock
     readers: Option<Readers>,
     states: Option<Part<'s>>,
-    // room for a step
+    // room for a step, and for those of so many rows
     step: ClockSet,
+    completed: Block,
     steps: u64,
     first: Option<Violation>,
 }
@@ -49,6 +54,7 @@ impl<'s> Drop for Monitor<'s> {
             readers: _readers,
             states: _states,
             step: _step,
+            completed: _completed,
             steps: _,
             first: _,
         } = self;
@@ -64,8 +70,10 @@ impl<'s> Model for Monitor<'s> {
 
     ghost coded = { Prim.hlevel (codes, coded_expression) };
 
+    ghost use Rattle.std.specs.Prelude.{◌≡◌};
     ghost use Rattle.ccsl_relate.specs.Watching.{IsUndeclared};
     ghost use Rattle.ccsl_relate.specs.Reading.{Fit};
+    ghost use Rattle.ccsl_relate.specs.declared.monitor.TheConstants.{PART_ROWS};
 
     ghost view = { λ m. record {
       system = m.system.now;
@@ -76,7 +84,8 @@ impl<'s> Model for Monitor<'s> {
       first = m.first;
     } };
 
-    ghost invariant = { λ m. IsUndeclared m.system.now m.undeclared × Fit m.readers m.kept.items };
+    ghost invariant = { λ m. IsUndeclared m.system.now m.undeclared × Fit m.readers m.kept.items
+        × (m.completed.room ≡ PART_ROWS) };
 }
 
 // Keeps what was found, where there was nothing before it: most rows write nothing.
@@ -92,7 +101,7 @@ fn keep(first: &mut Option<Violation>, found: Option<Violation>)
 
 impl<'s> Monitor<'s> {
     /// Follows `count` items from number `start` on, where these clocks are bound. It takes the states of the definitions that the
-    /// items reach, where one of them reads a defined clock.
+    /// items reach, where one of them reads a defined clock, and room for the steps of [`PART_ROWS`] rows.
     pub fn open(
         alloc: Global,
         system: &'s System,
@@ -111,6 +120,7 @@ impl<'s> Monitor<'s> {
         let readers = readers_of(alloc, kept.as_slice())?;
         system.is_accepted();
         let states = states_for(alloc, system, kept.as_slice())?;
+        let completed = Block::with_room(alloc, PART_ROWS)?;
         Ok(Monitor {
             system,
             start,
@@ -119,6 +129,7 @@ impl<'s> Monitor<'s> {
             readers,
             states,
             step: ClockSet::empty(),
+            completed,
             steps: 0,
             first: None,
         })
@@ -202,16 +213,64 @@ impl<'s> Monitor<'s> {
         rows_are_sets(block);
         let rows = block.len() as u64;
         let kept = self.kept.as_mut_slice();
-        let first = match first_in(kept, block) {
-            None => None,
-            Some(failure) => Some(Violation {
-                step: self.steps + failure.row as u64,
-                time: block.row(failure.row).time,
-                item: self.start + failure.place,
-            }),
-        };
+        let first = first_violation(kept, block, 0, block, self.steps, self.start);
         self.first = first;
         self.steps += rows;
+    }
+
+    // Takes the next part of a block, from row `from` on, item by item, once the steps that its rows complete are found. It answers how
+    // many rows these are.
+    fn check_part(&mut self, block: &Block, from: usize) -> usize
+        requires inside { from < length block.now.rows }
+        requires stands { (recorded : List ℕ) × (rows : List Row) × StandsFor recorded self.old rows
+            × (length rows + (length block.now.rows - from) < 2 ^ 64) }
+        ensures some { 0 < result }
+        ensures inside { from + result ≤ length block.now.rows }
+        ensures system { self.new.system ≡ self.old.system }
+        ensures start { self.new.start ≡ self.old.start }
+        ensures count { length self.new.kept ≡ length self.old.kept }
+        ensures stands { (recorded : List ℕ) (rows : List Row) → StandsFor recorded self.old rows →
+            length rows + (length block.now.rows - from) < 2 ^ 64 →
+            StandsFor recorded self.new (rows ++ take result (drop from block.now.rows)) }
+    {
+        rows_are_sets(block);
+        let count = (block.len() - from).min(PART_ROWS);
+        if self.first.is_some() {
+            self.steps += count as u64;
+            return count;
+        }
+        let (states, completed) = (&mut self.states, &mut self.completed);
+        complete(
+            states,
+            &self.undeclared,
+            block,
+            from,
+            count,
+            &mut self.step,
+            completed,
+        );
+        let kept = self.kept.as_mut_slice();
+        let first = first_violation(kept, block, from, &self.completed, self.steps, self.start);
+        self.first = first;
+        self.steps += count as u64;
+        count
+    }
+
+    // Takes the rows of a block as the next ones, part by part.
+    fn check_parts(&mut self, block: &Block)
+        requires { (recorded : List ℕ) × (rows : List Row) × StandsFor recorded self.old rows
+            × (length rows + length block.now.rows < 2 ^ 64) }
+        ensures system { self.new.system ≡ self.old.system }
+        ensures start { self.new.start ≡ self.old.start }
+        ensures count { length self.new.kept ≡ length self.old.kept }
+        ensures stands { (recorded : List ℕ) (rows : List Row) → StandsFor recorded self.old rows →
+            length rows + length block.now.rows < 2 ^ 64 →
+            StandsFor recorded self.new (rows ++ block.now.rows) }
+    {
+        let mut from = 0;
+        'parts: while from < block.len() {
+            from += self.check_part(block, from);
+        }
     }
 
     /// Takes the rows of a block as the next ones. It takes no memory.
@@ -229,8 +288,12 @@ impl<'s> Monitor<'s> {
             self.rest(block);
             return;
         }
-        if self.states.is_none() && self.readers.is_none() {
-            self.check_items(block);
+        if self.readers.is_none() {
+            if self.states.is_none() {
+                self.check_items(block);
+            } else {
+                self.check_parts(block);
+            }
             return;
         }
         for i in 0..block.len() {

@@ -1,6 +1,6 @@
 -- The region of an operator over clocks, and what was found of the definitions so far.
 use Rattle.std.proofs.lemmas.Grind.{common_steps}
-use Rattle.std.proofs.Common.{◌≡◌, ℕ, zero, suc, ⊎_elim, List, [], ◌∷◌, ◌++◌, true, false, length, Option, Some, None, option_map, slice_get, slice_index_or, subst, refl, sym, ap, ap₂, ◌∙◌, arith}
+use Rattle.std.proofs.Common.{◌≡◌, ℕ, zero, suc, ⊎_elim, List, [], ◌∷◌, ◌++◌, true, false, length, Option, Some, None, option_map, slice_get, slice_index_or, subst, refl, sym, ap, ◌∙◌, arith}
 use Rattle.std.proofs.lemmas.Bool.{cases_eq}
 use Rattle.std.proofs.lemmas.List.{get_or_push}
 use Rattle.std.specs.Prelude.{IfSome}
@@ -14,7 +14,7 @@ use Rattle.ccsl_kernel.specs.Lives.{Step}
 use Rattle.ccsl_state.specs.declared.flat.Flat.{Flat}
 use Rattle.ccsl_state.specs.declared.layout.Layout.{Layout}
 use Rattle.ccsl_state.specs.declared.moved.Stepped.{Stepped}
-use Rattle.ccsl_state.specs.Tree.{Tree, TName, two_next, formula_of, dead_of, next}
+use Rattle.ccsl_state.specs.Tree.{TName, two_next, formula_of, dead_of}
 use Rattle.ccsl_state.specs.Moves.{gone_in}
 use Rattle.ccsl_state.specs.Standing.{is_then}
 use Rattle.ccsl_state.specs.Layout.{two_at, read}

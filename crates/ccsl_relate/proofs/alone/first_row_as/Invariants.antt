@@ -1,11 +1,11 @@
 use Rattle.std.proofs.Common.{◌≡◌, take}
 use Rattle.ccsl_relate.specs.declared.watched.Watched.TheVariants.{Relation}
-use Rattle.ccsl_relate.specs.Alone.{after_rows, ObeysUpTo}
+use Rattle.ccsl_relate.specs.Alone.{after_steps, ObeysUpTo}
 use Rattle.ccsl_relate.proofs.alone.first_row_as.Given as goal
 
 -- the relation went on by the rows so far, and failed at none
 abbrev pub invariant-loop-i : goal.invariant-loop-i
 invariant-loop-i l = record {
-  gone : Relation l.now ≡ after_rows (take l.i l.block.rows) (Relation l.related);
-  obeys : ObeysUpTo l.block.rows l.i (Relation l.related);
+  gone : Relation l.now ≡ after_steps (take l.i l.steps.rows) (Relation l.related);
+  obeys : ObeysUpTo l.steps.rows l.steps.rows l.i (Relation l.related);
 }

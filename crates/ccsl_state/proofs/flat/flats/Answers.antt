@@ -1,5 +1,5 @@
 -- One definition more.
-use Rattle.std.proofs.Common.{length, ap, ◌∙◌, arith}
+use Rattle.std.proofs.Common.{arith}
 use Rattle.std.proofs.lemmas.Grind.{common_steps}
 use Rattle.ccsl_kernel.specs.Plain.{plain_expr}
 use Rattle.ccsl_state.proofs.Flats.{flats_more}

@@ -1,5 +1,5 @@
 -- A definition at its place.
-use Rattle.std.proofs.Common.{◌≤◌, [], true, sym, subst, arith}
+use Rattle.std.proofs.Common.{◌≤◌, true, sym, subst, arith}
 use Rattle.std.specs.Prelude.{IfSome}
 use Rattle.ccsl_base.specs.declared.limits.TheConstants.{MAX_CELLS}
 use Rattle.ccsl_kernel.specs.Plain.{plain_expr}

@@ -1,44 +1,36 @@
-use Rattle.std.proofs.Common.{length, sym, ap, ◌∙◌, subst}
-use Rattle.std.specs.Prelude.{All, IfSome, IfNone}
+-- The rows are the steps: what the items find of them is what the monitor finds.
+use Rattle.std.proofs.Common.{length, sym, ap, ◌∙◌, subst, ◌+◌}
+use Rattle.std.specs.Prelude.{All}
 use Rattle.std.specs.Vec.{with_items}
 use Rattle.std.proofs.lemmas.List.{with_items_is}
+use Rattle.ccsl_kernel.specs.Verdict.{completed_rows}
 use Rattle.ccsl_relate.specs.Few.{HasRoomFor}
-use Rattle.ccsl_relate.specs.Alone.{ObeysUpTo, IsFirstIn}
-use Rattle.ccsl_relate.specs.Watching.{Watching}
-use Rattle.ccsl_relate.proofs.Through.{items-have-room, items-pass, items-stop}
+use Rattle.ccsl_relate.specs.Completed.{Completes}
+use Rattle.ccsl_relate.specs.Watching.{Watching, StandsFor}
+use Rattle.ccsl_relate.proofs.Completing.{completes-alone}
+use Rattle.ccsl_relate.proofs.Through.{items-have-room, found-stands}
 use Rattle.ccsl_relate.proofs.monitor.Monitor.check_items.Goals as goal
-use Rattle.ccsl_relate.proofs.monitor.Monitor.check_items.Goals.{in-None, in-Some}
 
-pub first_in-requires-clause-room : goal.first_in-requires-clause-room
-first_in-requires-clause-room c =
+pub first_violation-first-requires-clause-room : goal.first_violation-first-requires-clause-room
+first_violation-first-requires-clause-room c =
     let v = c.args.self.now in
     let w = c.requires.stands in
-    subst (All (HasRoomFor (length c.args.block.now.rows))) (sym (c.as_mut_slice-kept.ensures.value ∙ ap (λ (u : Watching). u.kept) c.self.view_is))
-    (items-have-room w.0 v v w.1 c.args.block.now.rows c.requires.none c.requires.alone w.2 c.rows_are_sets.ensures w.3)
+    let kept-is = c.as_mut_slice-kept.ensures.value ∙ ap (λ (u : Watching). u.kept) c.self.view_is in
+    subst (All (HasRoomFor (length c.args.block.now.rows))) (sym kept-is) (items-have-room w.0 v w.1 c.requires.none w.2 (length c.args.block.now.rows) w.3)
 
 pub returns-clause-stands : goal.returns-clause-stands
 returns-clause-stands c = λ recorded rows s few.
-    let v = c.args.self.now in
+    let i = c.self.inside in
+    let v : Watching = record { system = i.system.now; start = i.start; kept = i.kept.items; states = i.states; steps = i.steps; first = i.first } in
     let block = c.args.block.now.rows in
+    let found = c.first_violation-first in
     let value = c.as_mut_slice-kept.ensures.value in
-    let kept-is = value ∙ ap (λ (u : Watching). u.kept) c.self.view_is in
-    let count = c.first_in.ensures.count ∙ ap length value in
-    let after = (with_items c.self.inside.kept c.first_in.new.kept).items in
-    let after-is = with_items_is c.self.inside.kept c.first_in.new.kept (count ∙ sym c.self.inside.kept.ok.0) in
-    elim c.match-first_in.branch [
-      | in-None w ↦
-          let none = λ (P : Type 0) (h : IfNone c.first_in.result P). subst (λ o. IfNone o P) w.in-None.is h in
-          items-pass recorded v _ rows block c.requires.none c.requires.alone s c.rows_are_sets.ensures
-          (subst (All (ObeysUpTo block (length block))) kept-is (none _ c.first_in.ensures.none))
-          (rw (← c.self.view_is) (cc (w.first-is, after-is, none _ c.first_in.ensures.next, value, c.len-rows.ensures)))
-      | in-Some w ↦
-          let f = w.in-Some.failure in
-          let at = w.row.result.now in
-          items-stop recorded v _ rows block c.requires.none c.requires.alone s c.rows_are_sets.ensures
-          after f at
-          (ap length after-is ∙ c.first_in.ensures.count ∙ ap length kept-is)
-          w.row.ensures
-          (subst (λ ks. IsFirstIn block ks f) kept-is
-          (subst (λ o. IfSome o (IsFirstIn block c.as_mut_slice-kept.result.now)) w.in-Some.is c.first_in.ensures.fails))
-          (rw (← c.self.view_is) (cc (w.first-is, c.len-rows.ensures)))
-    ]
+    let back = with_items_is i.kept found.new.kept (found.ensures.count ∙ ap length value ∙ sym i.kept.ok.0) in
+    let alone = ap (λ (u : Watching). u.states) c.self.view_is ∙ c.requires.alone in
+    found-stands recorded v _ rows block block i.states (ap (λ (u : Watching). u.first) c.self.view_is ∙ c.requires.none)
+    (subst (λ u. StandsFor recorded u rows) (sym c.self.view_is) s)
+    (λ after. subst (λ h. Completes v.system (completed_rows v.system rows) h block block h) (sym alone)
+    (completes-alone v.system (completed_rows v.system rows) block))
+    c.rows_are_sets.ensures c.as_mut_slice-kept.result.now found.new.kept (with_items i.kept found.new.kept).items found.result value back found.ensures.count
+    found.ensures.fails found.ensures.none found.ensures.next
+    (ap (λ n. record v { kept = (with_items i.kept found.new.kept).items; steps = v.steps + n; first = found.result }) c.len-rows.ensures)

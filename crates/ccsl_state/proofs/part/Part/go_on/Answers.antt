@@ -1,5 +1,5 @@
 -- The followed definitions go on as all do.
-use Rattle.std.proofs.Common.{◌≡◌, ℕ, ◌++◌, ◌∷◌, [], length, drop, true, slice_get, refl, sym, ap, ap₂, subst, ◌∙◌}
+use Rattle.std.proofs.Common.{◌≡◌, ℕ, ◌++◌, ◌∷◌, [], length, drop, true, slice_get, refl, sym, ap₂, subst, ◌∙◌}
 use Rattle.std.specs.Vec.{with_items}
 use Rattle.ccsl_base.specs.Clocks.{are_below, is_ascending}
 use Rattle.ccsl_kernel.specs.Runs.{full_step}
