@@ -22,7 +22,6 @@ use ccsl_kernel::{Actual, Expr, ExprOp};
 /// Rewrites the region of an expression by a step: whether it ticks in it, whether it is dead behind it, and how many
 /// cells the region has. It takes no memory.
 #[cycle(advance)]
-#[tactic(auto, using(crate::proofs::Places::inner_stands, crate::proofs::Regions::rest_one, crate::proofs::Regions::further))]
 pub fn advance<'s>(
     lay: &Layout<'s>,
     e: &'s Expr,
@@ -113,7 +112,6 @@ pub fn advance<'s>(
 
 /// An operator of one operand.
 #[cycle(advance)]
-#[tactic(auto, using(crate::proofs::Places::inner_stands))]
 fn advance_one<'s>(
     lay: &Layout<'s>,
     unary: Unary,
@@ -142,7 +140,6 @@ fn advance_one<'s>(
 
 /// An operator of two operands.
 #[cycle(advance)]
-#[tactic(auto, using(crate::proofs::Places::inner_stands))]
 fn advance_two<'s>(
     lay: &Layout<'s>,
     op: ExprOp,
@@ -177,7 +174,6 @@ fn advance_two<'s>(
 
 /// A then. Where its left operand has died, its right operand is born: in its region, or as a call of the own group.
 #[cycle(advance)]
-#[tactic(auto, using(crate::proofs::Places::inner_stands, crate::proofs::Regions::rest_one, crate::proofs::Regions::further))]
 fn advance_then<'s>(
     lay: &Layout<'s>,
     a: &'s Expr,
@@ -276,7 +272,6 @@ fn advance_call(
 
 /// A delayed.
 #[cycle(advance)]
-#[tactic(auto, using(crate::proofs::Places::inner_stands))]
 fn advance_lag<'s>(
     lay: &Layout<'s>,
     a: &'s Expr,

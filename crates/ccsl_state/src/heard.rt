@@ -18,7 +18,6 @@ use ccsl_kernel::{Actual, Expr, ExprOp};
 
 /// Whether an expression ticks, and how many cells its region has.
 #[cycle(hear)]
-#[tactic(auto, using(crate::proofs::Places::inner_stands))]
 pub fn heard(lay: &Layout<'_>, e: &Expr, actuals: &[Actual], row: &[u64], step: &ClockSet) -> Heard
     requires { IsReady lay.now false 0 e.now actuals.now row.now }
     ensures { IsHeard (tree lay.now e.now actuals.now row.now)
@@ -82,7 +81,6 @@ pub fn heard(lay: &Layout<'_>, e: &Expr, actuals: &[Actual], row: &[u64], step: 
 
 /// An operator of one operand.
 #[cycle(hear)]
-#[tactic(auto, using(crate::proofs::Places::inner_stands))]
 fn one_heard(
     lay: &Layout<'_>,
     unary: Unary,
@@ -104,7 +102,6 @@ fn one_heard(
 
 /// An operator of two operands.
 #[cycle(hear)]
-#[tactic(auto, using(crate::proofs::Places::inner_stands))]
 fn two_heard(
     lay: &Layout<'_>,
     op: ExprOp,
@@ -129,7 +126,6 @@ fn two_heard(
 
 /// A delayed.
 #[cycle(hear)]
-#[tactic(auto, using(crate::proofs::Places::inner_stands))]
 fn lag_heard(
     lay: &Layout<'_>,
     a: &Expr,
@@ -156,7 +152,6 @@ fn lag_heard(
 
 /// The operand that lives, where two share the cells behind the first one.
 #[cycle(hear)]
-#[tactic(auto, using(crate::proofs::Places::inner_stands))]
 fn one_of_heard(
     lay: &Layout<'_>,
     e: &Expr,

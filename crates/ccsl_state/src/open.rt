@@ -25,7 +25,6 @@ use ccsl_kernel::{Actual, Expr, ExprOp, Value};
 
 /// Writes the region of an expression at its birth, and tells whether it is dead there.
 #[cycle(open)]
-#[tactic(auto, using(crate::proofs::Places::inner_stands, crate::proofs::Places::inner_not_own, crate::proofs::Regions::rest_one))]
 pub fn opened(
     lay: &Layout<'_>,
     e: &Expr,
@@ -98,7 +97,6 @@ pub fn opened(
 
 /// An operator of one operand.
 #[cycle(open)]
-#[tactic(auto, using(crate::proofs::Places::inner_stands, crate::proofs::Places::inner_not_own))]
 fn one_opened(
     lay: &Layout<'_>,
     unary: Unary,
@@ -124,7 +122,6 @@ fn one_opened(
 
 /// An operator of two operands.
 #[cycle(open)]
-#[tactic(auto, using(crate::proofs::Places::inner_stands, crate::proofs::Places::inner_not_own))]
 fn two_opened(
     lay: &Layout<'_>,
     op: ExprOp,
@@ -153,7 +150,6 @@ fn two_opened(
 
 /// A then: its left operand.
 #[cycle(open)]
-#[tactic(auto, using(crate::proofs::Places::inner_stands, crate::proofs::Places::inner_not_own, crate::proofs::Regions::rest_one))]
 fn then_opened(
     lay: &Layout<'_>,
     a: &Expr,
@@ -215,7 +211,6 @@ pub fn call_opened(
 
 /// A delayed.
 #[cycle(open)]
-#[tactic(auto, using(crate::proofs::Places::inner_stands, crate::proofs::Places::inner_not_own))]
 fn lag_opened(
     lay: &Layout<'_>,
     a: &Expr,

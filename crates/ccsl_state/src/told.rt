@@ -116,7 +116,6 @@ fn joined(
 /// The formula that an expression asks of the next step, read from its region of a row. It is as large as the tree
 /// that is left of the expression.
 #[cycle(tell)]
-#[tactic(auto, using(crate::proofs::Places::inner_stands))]
 pub fn told(
     alloc: Global,
     lay: &Layout<'_>,
@@ -186,7 +185,6 @@ pub fn told(
 
 /// An operator of one operand.
 #[cycle(tell)]
-#[tactic(auto, using(crate::proofs::Places::inner_stands))]
 fn one_told(
     alloc: Global,
     lay: &Layout<'_>,
@@ -208,7 +206,6 @@ fn one_told(
 
 /// An operator of two operands.
 #[cycle(tell)]
-#[tactic(auto, using(crate::proofs::Places::inner_stands, crate::proofs::Evals::pair_formula))]
 fn two_told(
     alloc: Global,
     lay: &Layout<'_>,
@@ -235,7 +232,6 @@ fn two_told(
 
 /// A delayed.
 #[cycle(tell)]
-#[tactic(auto, using(crate::proofs::Places::inner_stands, crate::proofs::Evals::open_formula))]
 fn lag_told(
     alloc: Global,
     lay: &Layout<'_>,
@@ -262,7 +258,6 @@ fn lag_told(
 
 /// The operand that lives, where two share the cells behind the first one.
 #[cycle(tell)]
-#[tactic(auto, using(crate::proofs::Places::inner_stands))]
 fn one_of_told(
     alloc: Global,
     lay: &Layout<'_>,
