@@ -55,14 +55,8 @@ pub fn heard(lay: &Layout<'_>, e: &Expr, actuals: &[Actual], row: &[u64], step: 
                 one_of_heard(lay, d, a, actuals, row, step)
             }
         }
-        Expr::Delay(a, m) => {
-            let unary = Unary::Delay(m.number(actuals));
-            one_heard(lay, unary, a, actuals, row, step)
-        }
-        Expr::Await(a, m) => {
-            let unary = Unary::Await(m.number(actuals));
-            one_heard(lay, unary, a, actuals, row, step)
-        }
+        Expr::Delay(a, m) => one_heard(lay, Unary::Delay(m.number(actuals)), a, actuals, row, step),
+        Expr::Await(a, m) => one_heard(lay, Unary::Await(m.number(actuals)), a, actuals, row, step),
         Expr::Filter(a, word) => {
             let words = lay.system.words();
             let unary = filter_from(words, word.suffix(words, actuals));

@@ -93,6 +93,7 @@ impl<'s> States<'s> {
     }
 
     /// The full step that a set of declared clocks gives: the set with the defined clocks whose formulas hold.
+    #[tactic(auto, using(crate::proofs::StandLaws::stands_derived))]
     pub fn derive(&self, declared: &ClockSet) -> ClockSet
         ensures row { result ≡ derived_by self.now declared.now }
         ensures step { (T : List Step) → StandsFor self.now T →

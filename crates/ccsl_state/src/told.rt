@@ -159,14 +159,8 @@ pub fn told(
                 one_of_told(alloc, lay, d, a, actuals, row)
             }
         }
-        Expr::Delay(a, m) => {
-            let unary = Unary::Delay(m.number(actuals));
-            one_told(alloc, lay, unary, a, actuals, row)
-        }
-        Expr::Await(a, m) => {
-            let unary = Unary::Await(m.number(actuals));
-            one_told(alloc, lay, unary, a, actuals, row)
-        }
+        Expr::Delay(a, m) => one_told(alloc, lay, Unary::Delay(m.number(actuals)), a, actuals, row),
+        Expr::Await(a, m) => one_told(alloc, lay, Unary::Await(m.number(actuals)), a, actuals, row),
         Expr::Filter(a, word) => {
             let words = lay.system.words();
             let unary = filter_from(words, word.suffix(words, actuals));
