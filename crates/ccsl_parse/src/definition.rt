@@ -11,7 +11,7 @@ ghost use Rattle.ccsl_grammar.proofs.Loop.{further_member_falls, definition_fall
 ghost use Rattle.ccsl_parse.specs.Reads.{ReadsAs};
 
 use crate::expression::expr_at;
-use crate::leaf::{before_symbol, behind_word, is_word, name_at, symbol_at};
+use crate::leaf::{before_symbol, behind_word, name_at, symbol_at};
 use crate::line::rline_at;
 use crate::list::list_at;
 use crate::repeat::{Repeated, many_behind};
@@ -114,22 +114,25 @@ impl Repeated for Definition {
 
     ghost falls = { λ two levels. (definition_falls two levels).at };
 
-    #[tactic(auto, unfolding(ccsl_grammar::specs::Parser::definition_at, ccsl_grammar::specs::Parser::word_at))]
+    #[tactic(auto, unfolding(ccsl_grammar::specs::Parser::definition_at))]
     fn next<'a>(
         alloc: Global,
         room: Room,
         tokens: &'a [Token],
     ) -> Result<Option<(Definition, &'a [Token])>, Stop<'a>> {
-        match tokens {
-            [token, rest @ ..] if is_word(token, Reserved::Relation) => {
+        match behind_word(tokens, Reserved::Relation) {
+            Some(rest) => {
                 let (relation, rest) = relation_at(alloc, room, rest)?;
-                Ok(Some((relation, rest)))
+                return Ok(Some((relation, rest)));
             }
-            [token, rest @ ..] if is_word(token, Reserved::Expression) => {
+            None => {}
+        }
+        match behind_word(tokens, Reserved::Expression) {
+            Some(rest) => {
                 let (group, rest) = group_at(alloc, room, rest)?;
                 Ok(Some((group, rest)))
             }
-            _ => Ok(None),
+            None => Ok(None),
         }
     }
 }
