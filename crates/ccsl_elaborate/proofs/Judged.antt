@@ -1,6 +1,5 @@
 -- A file without faults and with no total above its limit is not refused.
-use Rattle.std.proofs.Common.{◌≡◌, ℕ, ◌≤◌, Bool, false, nat_lt, Option, Some, None, length, ap, ◌∙◌, arith, if◌then◌else◌}
-use Rattle.std.proofs.lemmas.Bool.Decides.{nat_tests}
+use Rattle.std.proofs.Common.{◌≡◌, ℕ, ◌≤◌, Bool, false, nat_lt, Option, Some, None, length, ap, ◌∙◌, le-ltb, if◌then◌else◌}
 use Rattle.ccsl_base.specs.declared.limits.TheConstants.{MAX_CLOCKS, MAX_CONSTRAINTS, MAX_CELLS}
 use Rattle.ccsl_ast.specs.Trees.{PlainFile}
 use Rattle.ccsl_kernel.specs.Syntax.{System}
@@ -11,9 +10,6 @@ use Rattle.ccsl_rules.specs.Blocks.{first_fault}
 use Rattle.ccsl_rules.specs.Expansion.{expand}
 use Rattle.ccsl_rules.specs.Elaborated.{totals_refusal, refusal_with, refusal}
 use Rattle.ccsl_accepts.specs.Acceptance.{IsFaultless}
-
-within : (m n : ℕ) → n ≤ m → nat_lt m n ≡ false
-within m n h = grind (arith, nat_tests)
 
 -- the first of three totals, by their tests
 abbrev first_of_three : (a b d : Bool) → Refusal → Refusal → Refusal → Option Refusal
@@ -45,5 +41,5 @@ module _ (library file : PlainFile) where
 
   pub not-refused : IsFaultless library file → cells K ≤ MAX_CELLS → refusal library file ≡ None
   not-refused s h =
-      no-fault s.no_fault ∙ totals false false false (within MAX_CLOCKS (length K.names) s.few_clocks)
-      (within MAX_CONSTRAINTS (length K.constraints) s.few_constraints) (within MAX_CELLS (cells K) h)
+      no-fault s.no_fault ∙ totals false false false (le-ltb MAX_CLOCKS (length K.names) s.few_clocks)
+      (le-ltb MAX_CONSTRAINTS (length K.constraints) s.few_constraints) (le-ltb MAX_CELLS (cells K) h)

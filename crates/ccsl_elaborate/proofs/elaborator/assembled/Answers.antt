@@ -1,4 +1,4 @@
-use Rattle.std.proofs.Common.{◌≤◌, subst, sym, arith}
+use Rattle.std.proofs.Common.{ℕ, ◌≤◌, subst, sym, ap, ◌∙◌}
 use Rattle.ccsl_base.specs.declared.limits.TheConstants.{MAX_CELLS}
 use Rattle.ccsl_ast.specs.Files.{plain_file}
 use Rattle.ccsl_kernel.specs.Accepted.{IsAccepted}
@@ -17,6 +17,9 @@ expand-requires-clause-new c =
     let known : IsLibrary library = record { file = kept; accepted = c.requires.library } in
     c.names_are_distinct.ensures.new library file known kept-2 c.requires.faultless
 
+pub expand-requires-clause-few : goal.expand-requires-clause-few
+expand-requires-clause-few c = c.requires.faultless.few_clocks
+
 pub assemble-requires-clause-accepted : goal.assemble-requires-clause-accepted
 assemble-requires-clause-accepted c =
     let library = plain_file c.args.library.now in
@@ -24,5 +27,13 @@ assemble-requires-clause-accepted c =
     let kept : IsFile library = record { kept = c.every_file_is_kept.ensures.kept; depth = c.every_file_is_kept.ensures.depth } in
     let kept-2 : IsFile file = record { kept = c.every_file_is_kept-2.ensures.kept; depth = c.every_file_is_kept-2.ensures.depth } in
     let known : IsLibrary library = record { file = kept; accepted = c.requires.library } in
-    let few : cells (expand library file) ≤ MAX_CELLS = omega (arith, c.requires.cells, c.requires.few) in
+    let few = subst (λ (n : ℕ). n ≤ MAX_CELLS) c.requires.cells c.requires.few in
     subst IsAccepted (sym c.in_ok-parts.ensures) (c.files_expand.ensures library file known kept-2 (not-refused library file c.requires.faultless few))
+
+pub assemble-requires-clause-cells : goal.assemble-requires-clause-cells
+assemble-requires-clause-cells c = c.requires.cells ∙ ap cells (sym c.in_ok-parts.ensures)
+
+pub returns : goal.returns
+returns c =
+    let few = subst (λ (n : ℕ). n ≤ MAX_CELLS) c.requires.cells c.requires.few in
+    (not-refused (plain_file c.args.library.now) (plain_file c.args.file.now) c.requires.faultless few, c.assemble.ensures ∙ c.in_ok-parts.ensures)
