@@ -1,9 +1,8 @@
 -- What is found by a number of a table of names is what is found by the name.
 use Rattle.std.proofs.Common.{◌≡◌, ℕ, zero, suc, ◌+◌, ◌<◌, ◌≤◌, List, [], ◌∷◌, ◌++◌, Bool, true, false, not, cond, nat_lt, Option, Some, None, is_none}
-use Rattle.std.proofs.Common.{if◌then◌else◌, map, length, slice_get, bytes_eq, refl, sym, ap, ◌∙◌, arith}
+use Rattle.std.proofs.Common.{if◌then◌else◌, map, length, slice_get, bytes_eq, refl, sym, ap, ◌∙◌, arith, ltb-true, ltb-false}
 use Rattle.std.specs.List.{zip, position_or_len}
 use Rattle.std.specs.Option.{option_map}
-use Rattle.std.proofs.lemmas.Bool.Decides.{nat_tests}
 use Rattle.std.proofs.lemmas.Slice.Eq.{bytes_eq-Decides}
 use Rattle.std.proofs.lemmas.Option.{slice_get_past}
 use Rattle.ccsl_base.specs.Names.{find_name}
@@ -44,7 +43,10 @@ place-some true n i e = cc
 place-some false n i e = absurd (cc)
 
 place-none : (m n : ℕ) → cond (nat_lt m n) (Some m) None ≡ None → n ≤ m
-place-none m n e = grind (arith, nat_tests)
+place-none m n e = by (nat_lt m n) refl e where
+  by : (b : Bool) → nat_lt m n ≡ b → cond b (Some m) None ≡ None → n ≤ m
+  by true p q = absurd (cc)
+  by false p q = ltb-false m n p
 
 -- what stands at the number of a name
 pub atom_of-there : (ns : List (List ℕ)) (as' : List Atom) (name : List ℕ) (i : ℕ) (a : Atom) → length ns ≡ length as' → find_name name ns ≡ Some i
@@ -98,7 +100,7 @@ zip-append (a ∷ xs) (b ∷ ys) x y h = ap (λ l. (a, b) ∷ l) (zip-append xs 
 place-less : (m n : ℕ) (i : ℕ) → cond (nat_lt m n) (Some m) None ≡ Some i → i < n
 place-less m n i e = by (nat_lt m n) refl e where
   by : (b : Bool) → nat_lt m n ≡ b → cond b (Some m) None ≡ Some i → i < n
-  by true p q = let same : m ≡ i = cc in grind (arith, nat_tests)
+  by true p q = let same : m ≡ i = cc in rw (← same) (ltb-true m n p)
   by false p q = absurd (cc)
 
 -- a found place is one of the list

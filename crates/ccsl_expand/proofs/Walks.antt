@@ -1,6 +1,8 @@
 -- One step of a walk over a list: what stands so far, and what the rest adds, stays the whole.
 use Rattle.std.proofs.Common.{◌≡◌, ℕ, zero, suc, ◌+◌, ◌<◌, ◌≤◌, List, [], ◌∷◌, ◌++◌, append_assoc, append-nil, length, length-append, drop, drop-cons, get_or}
-use Rattle.std.proofs.Common.{add-one, map, flat_map, slice_get, refl, sym, ap, ◌∙◌, arith}
+use Rattle.std.proofs.Common.{add-one, map, flat_map, slice_get, Option, Some, None, refl, sym, ap, ◌∙◌, arith}
+use Rattle.std.specs.List.{cons_option}
+use Rattle.std.specs.Option.{option_to_list}
 use Rattle.std.proofs.lemmas.List.{map-append}
 use Rattle.std.proofs.lemmas.Option.{slice_get_past}
 use Rattle.std.proofs.lemmas.Grind.{common_steps}
@@ -21,6 +23,23 @@ count-at f xs i x h e = ap (λ l. length (flat_map f l)) (drop-at xs i x h e) �
 
 more-then : {X : Type 0} (so_far more rest added whole : List X) → so_far ≡ more ++ added → more ++ (added ++ rest) ≡ whole → so_far ++ rest ≡ whole
 more-then so_far more rest added whole e h = ap (λ l. l ++ rest) e ∙ (append_assoc more added rest ∙ h)
+
+-- one more member, of which the walk adds its part
+pub walked : {X Y : Type 0} (w : List X → List Y) (part : List Y) (xs : List X) (i : ℕ) (x : X) → i < length xs → x ≡ get_or xs i x
+    → w (x ∷ drop (i + 1) xs) ≡ part ++ w (drop (i + 1) xs) → (so_far more whole : List Y) → so_far ≡ more ++ part → more ++ w (drop i xs) ≡ whole
+    → so_far ++ w (drop (i + 1) xs) ≡ whole
+walked w part xs i x l is step so_far more whole e h =
+    more-then so_far more (w (drop (i + 1) xs)) part whole e
+    (ap (λ ys. more ++ ys) (sym step) ∙ (ap (λ ys. more ++ w ys) (sym (drop-at xs i x l is)) ∙ h))
+
+-- the part of a member that may add one
+pub one-kept : {Y : Type 0} (o : Option Y) (ys : List Y) → cons_option o ys ≡ option_to_list o ++ ys
+one-kept None ys = refl
+one-kept (Some y) ys = refl
+
+pub one-mapped : {Y Z : Type 0} (g : Y → Z) (o : Option Y) (ys : List Y) → map g (cons_option o ys) ≡ map g (option_to_list o) ++ map g ys
+one-mapped g None ys = refl
+one-mapped g (Some y) ys = refl
 
 -- one more line of a body
 pub own_clocks-step : (path : List ℕ) (l : SLine) (ls : List SLine) (σ τ whole : Setting)
