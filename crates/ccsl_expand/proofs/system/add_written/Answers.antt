@@ -1,4 +1,4 @@
-use Rattle.std.proofs.Common.{drop, ◌+◌, filter_map, map}
+use Rattle.std.proofs.Common.{filter_map, map}
 use Rattle.ccsl_rules.specs.Expansion.{written_item, item_name}
 use Rattle.ccsl_expand.specs.Items.{seen_item}
 use Rattle.ccsl_expand.proofs.Walks.{walked, one-mapped}

@@ -1,4 +1,4 @@
-use Rattle.std.proofs.Common.{drop, ◌+◌, filter_map, map}
+use Rattle.std.proofs.Common.{filter_map, map}
 use Rattle.ccsl_rules.specs.Expansion.{hidden_item, item_definition}
 use Rattle.ccsl_expand.specs.Seen.{seen_tables}
 use Rattle.ccsl_expand.specs.Items.{seen_item}
