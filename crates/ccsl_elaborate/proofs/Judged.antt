@@ -1,5 +1,5 @@
 -- A file without faults and with no total above its limit is not refused.
-use Rattle.std.proofs.Common.{◌≡◌, ℕ, ◌≤◌, Bool, false, nat_lt, Option, Some, None, length, ap, ◌∙◌, le-ltb, if◌then◌else◌}
+use Rattle.std.proofs.Common.{◌≡◌, ◌≤◌, Bool, false, nat_lt, Option, Some, None, length, ap, ◌∙◌, le-ltb, if◌then◌else◌}
 use Rattle.ccsl_base.specs.declared.limits.TheConstants.{MAX_CLOCKS, MAX_CONSTRAINTS, MAX_CELLS}
 use Rattle.ccsl_ast.specs.Trees.{PlainFile}
 use Rattle.ccsl_kernel.specs.Syntax.{System}

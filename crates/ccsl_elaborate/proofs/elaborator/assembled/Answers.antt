@@ -3,7 +3,6 @@ use Rattle.ccsl_base.specs.declared.limits.TheConstants.{MAX_CELLS}
 use Rattle.ccsl_ast.specs.Files.{plain_file}
 use Rattle.ccsl_kernel.specs.Accepted.{IsAccepted}
 use Rattle.ccsl_kernel.specs.Cells.{cells}
-use Rattle.ccsl_rules.specs.Expansion.{expand}
 use Rattle.ccsl_accepts.specs.Acceptance.{IsFile, IsLibrary}
 use Rattle.ccsl_elaborate.proofs.Judged.{not-refused}
 use Rattle.ccsl_elaborate.proofs.elaborator.assembled.Goals as goal
