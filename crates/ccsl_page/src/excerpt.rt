@@ -57,19 +57,41 @@ fn put_line_shown(page: &mut Page, marked: &Marked<'_>) -> Result<(), Memory> {
     page.put_line(&[])
 }
 
-fn put_mark(page: &mut Page, marked: &Marked<'_>, said: &[Piece<'_>]) -> Result<(), Memory> {
-    let from = marked.from.min(marked.line.len());
-    page.put(&[Piece::Text("  ")])?;
-    page.fill(b' ', width_of(marked.number))?;
+// Blanks for a number, and what stands under the front of its line.
+fn put_margin(page: &mut Page, number: u64, front: &[u8]) -> Result<(), Memory> {
+    page.fill(b' ', width_of(number).saturating_add(2))?;
     page.put(&[Piece::Text(" | ")])?;
-    put_indent(page, &marked.line[..from])?;
-    let left = marked.line.len() - from;
+    put_indent(page, front)
+}
+
+// A mark of so many bytes, and what is said behind it.
+fn put_said(page: &mut Page, count: usize, said: &[Piece<'_>]) -> Result<(), Memory> {
     page.paint(Paint::Fault)?;
-    page.fill(b'^', marked.count.min(left).max(1))?;
+    page.fill(b'^', count)?;
     if said.iter().any(|piece| !piece.is_empty()) {
         page.put(&[Piece::Text(" ")])?;
     }
     page.put(said)?;
+    page.paint(Paint::Plain)?;
+    page.put_line(&[])
+}
+
+fn put_mark(page: &mut Page, marked: &Marked<'_>, said: &[Piece<'_>]) -> Result<(), Memory> {
+    let from = marked.from.min(marked.line.len());
+    put_margin(page, marked.number, &marked.line[..from])?;
+    let left = marked.line.len() - from;
+    put_said(page, marked.count.min(left).max(1), said)
+}
+
+fn put_place(page: &mut Page, file: &str, place: Place) -> Result<(), Memory> {
+    page.paint(Paint::Place)?;
+    page.put(&[
+        Piece::Text(file),
+        Piece::Text(":"),
+        Piece::Number(place.line),
+        Piece::Text(":"),
+        Piece::Number(place.column),
+    ])?;
     page.paint(Paint::Plain)?;
     page.put_line(&[])
 }
@@ -84,16 +106,7 @@ pub fn put_line_at(
     count: usize,
     said: &[Piece<'_>],
 ) -> Result<(), Memory> {
-    page.paint(Paint::Place)?;
-    page.put(&[
-        Piece::Text(file),
-        Piece::Text(":"),
-        Piece::Number(place.line),
-        Piece::Text(":"),
-        Piece::Number(place.column),
-    ])?;
-    page.paint(Paint::Plain)?;
-    page.put_line(&[])?;
+    put_place(page, file, place)?;
     let marked = Marked {
         number: place.line,
         line: &line[..line.len().min(MOST)],

@@ -79,18 +79,21 @@ impl Page {
         self.text.clear();
     }
 
+    fn put_bytes(&mut self, bytes: &[u8]) -> Result<(), Memory>
+        ensures { OnOk result (self.new ≡ self.old ++ bytes.now) }
+    {
+        self.text.extend_from_slice(bytes)?;
+        Ok(())
+    }
+
     fn put_piece(&mut self, piece: &Piece<'_>) -> Result<(), Memory>
         ensures { OnOk result (self.new ≡ self.old ++ piece_text piece.now) }
     {
         match piece {
-            Piece::Text(text) => self.text.extend_from_slice(text.as_bytes())?,
-            Piece::Name(name) => self.text.extend_from_slice(name)?,
-            Piece::Number(number) => {
-                self.text
-                    .extend_from_slice(Buffer::new().format(*number).as_bytes())?
-            }
+            Piece::Text(text) => self.put_bytes(text.as_bytes()),
+            Piece::Name(name) => self.put_bytes(name),
+            Piece::Number(number) => self.put_bytes(Buffer::new().format(*number).as_bytes()),
         }
-        Ok(())
     }
 
     /// Puts these pieces behind what stands.
@@ -108,14 +111,13 @@ impl Page {
         ensures { OnOk result (self.new ≡ self.old ++ line (piece_texts pieces.now)) }
     {
         self.put(pieces)?;
-        self.text.extend_from_slice(b"\n")?;
-        Ok(())
+        self.put_bytes(b"\n")
     }
 
     /// What is put from here on has this colour, where the page has colours.
     pub fn paint(&mut self, paint: Paint) -> Result<(), Memory> {
         if self.is_coloured {
-            self.text.extend_from_slice(paint.code().as_bytes())?;
+            self.put_bytes(paint.code().as_bytes())?;
         }
         Ok(())
     }

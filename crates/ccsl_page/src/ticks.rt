@@ -70,6 +70,14 @@ fn put_end(page: &mut Page, end: &str) -> Result<(), Memory> {
     Ok(())
 }
 
+// What stands in front of a column that is marked, a bracket aside.
+fn put_begin(page: &mut Page, is_marked: bool) -> Result<(), Memory> {
+    if is_marked {
+        page.paint(Paint::Fault)?;
+    }
+    Ok(())
+}
+
 // A row. The marked step stands in brackets, and no blank stands at the end.
 fn put_cells(
     page: &mut Page,
@@ -82,9 +90,7 @@ fn put_cells(
     for column in columns {
         put_end(page, end)?;
         let is_marked = marked == Some(column.step);
-        if is_marked {
-            page.paint(Paint::Fault)?;
-        }
+        put_begin(page, is_marked)?;
         put_cell(page, column, scale, cell, if is_marked { "[" } else { " " })?;
         end = if is_marked { "]" } else { " " };
     }
@@ -118,6 +124,22 @@ fn put_unit(page: &mut Page, scale: Scale) -> Result<(), Memory> {
     page.put_line(&[])
 }
 
+// The two rows that name the columns.
+fn put_heading(
+    page: &mut Page,
+    columns: &[Column],
+    scale: Scale,
+    margin: usize,
+    marked: Option<u64>,
+) -> Result<(), Memory> {
+    put_word(page, b"step", margin)?;
+    put_cells(page, columns, scale, Cell::Step, marked)?;
+    page.put_line(&[])?;
+    put_word(page, b"time", margin)?;
+    put_cells(page, columns, scale, Cell::Time, marked)?;
+    put_unit(page, scale)
+}
+
 /// Puts the steps of these columns with the ticks of these clocks, each under its name. The marked step stands in brackets.
 pub fn put_ticks(
     page: &mut Page,
@@ -128,12 +150,7 @@ pub fn put_ticks(
     marked: Option<u64>,
 ) -> Result<(), Memory> {
     let margin = margin_of(names, clocks);
-    put_word(page, b"step", margin)?;
-    put_cells(page, columns, scale, Cell::Step, marked)?;
-    page.put_line(&[])?;
-    put_word(page, b"time", margin)?;
-    put_cells(page, columns, scale, Cell::Time, marked)?;
-    put_unit(page, scale)?;
+    put_heading(page, columns, scale, margin, marked)?;
     for clock in clocks {
         put_word(page, name_of(names, *clock), margin)?;
         put_cells(page, columns, scale, Cell::Tick(*clock), None)?;
