@@ -78,34 +78,23 @@ pub(crate) fn command_of(
     ensures infinite { IfOk result (λ command. HasInfiniteWords command) }
 {
     match name {
-        CommandName::Check => Ok(Command::Check {
-            spec: file_name(alloc, Key::Spec, pairs)?,
-        }),
+        CommandName::Check => check_of(alloc, pairs),
         CommandName::Simulate => simulate_of(alloc, pairs),
-        CommandName::Judge => Ok(Command::Judge {
-            spec: file_name(alloc, Key::Spec, pairs)?,
-            trace: file_name(alloc, Key::Trace, pairs)?,
-            workers: workers_of(name, pairs),
-        }),
-        CommandName::Certify => Ok(Command::Certify {
-            spec: file_name(alloc, Key::Spec, pairs)?,
-            trace: file_name(alloc, Key::Trace, pairs)?,
-            cert: file_name(alloc, Key::Cert, pairs)?,
-        }),
-        CommandName::Trial => Ok(Command::Trial {
-            clocks: number_of(name, Key::Clocks, pairs) as u32,
-            steps: number_of(name, Key::Steps, pairs),
-            seed: number_of(name, Key::Seed, pairs),
-            workers: workers_of(name, pairs),
-        }),
-        CommandName::Periodic => Ok(Command::Periodic {
-            left: word_in(alloc, Key::Left, pairs)?,
-            right: word_in(alloc, Key::Right, pairs)?,
-            relation: relation_in(pairs),
-        }),
+        CommandName::Judge => judge_of(alloc, pairs),
+        CommandName::Certify => certify_of(alloc, pairs),
+        CommandName::Trial => Ok(trial_of(pairs)),
+        CommandName::Periodic => periodic_of(alloc, pairs),
         CommandName::Explain => explain_of(alloc, pairs),
         CommandName::Session => session_of(alloc, pairs),
     }
+}
+
+fn check_of(alloc: Global, pairs: &[CommandWord]) -> Result<Command, Memory>
+    ensures command { IfOk result (λ command. command ≡ command_of CommandName.Check pairs.now) }
+    ensures infinite { IfOk result (λ command. HasInfiniteWords command) }
+{
+    let spec = file_name(alloc, Key::Spec, pairs)?;
+    Ok(Command::Check { spec })
 }
 
 fn simulate_of(alloc: Global, pairs: &[CommandWord]) -> Result<Command, Memory>
@@ -120,6 +109,48 @@ fn simulate_of(alloc: Global, pairs: &[CommandWord]) -> Result<Command, Memory>
         trace: file_name(alloc, Key::Trace, pairs)?,
         cert: file_name(alloc, Key::Cert, pairs)?,
     })
+}
+
+fn judge_of(alloc: Global, pairs: &[CommandWord]) -> Result<Command, Memory>
+    ensures command { IfOk result (λ command. command ≡ command_of CommandName.Judge pairs.now) }
+    ensures infinite { IfOk result (λ command. HasInfiniteWords command) }
+{
+    let spec = file_name(alloc, Key::Spec, pairs)?;
+    let trace = file_name(alloc, Key::Trace, pairs)?;
+    let workers = workers_of(CommandName::Judge, pairs);
+    Ok(Command::Judge { spec, trace, workers })
+}
+
+fn certify_of(alloc: Global, pairs: &[CommandWord]) -> Result<Command, Memory>
+    ensures command { IfOk result (λ command. command ≡ command_of CommandName.Certify pairs.now) }
+    ensures infinite { IfOk result (λ command. HasInfiniteWords command) }
+{
+    let spec = file_name(alloc, Key::Spec, pairs)?;
+    let trace = file_name(alloc, Key::Trace, pairs)?;
+    let cert = file_name(alloc, Key::Cert, pairs)?;
+    Ok(Command::Certify { spec, trace, cert })
+}
+
+fn trial_of(pairs: &[CommandWord]) -> Command
+    ensures command { result ≡ command_of CommandName.Trial pairs.now }
+    ensures infinite { HasInfiniteWords result }
+{
+    Command::Trial {
+        clocks: number_of(CommandName::Trial, Key::Clocks, pairs) as u32,
+        steps: number_of(CommandName::Trial, Key::Steps, pairs),
+        seed: number_of(CommandName::Trial, Key::Seed, pairs),
+        workers: workers_of(CommandName::Trial, pairs),
+    }
+}
+
+fn periodic_of(alloc: Global, pairs: &[CommandWord]) -> Result<Command, Memory>
+    ensures command { IfOk result (λ command. command ≡ command_of CommandName.Periodic pairs.now) }
+    ensures infinite { IfOk result (λ command. HasInfiniteWords command) }
+{
+    let left = word_in(alloc, Key::Left, pairs)?;
+    let right = word_in(alloc, Key::Right, pairs)?;
+    let relation = relation_in(pairs);
+    Ok(Command::Periodic { left, right, relation })
 }
 
 fn explain_of(alloc: Global, pairs: &[CommandWord]) -> Result<Command, Memory>

@@ -7,9 +7,15 @@ use std::alloc::Global;
 use std::marker::Model;
 
 /// The name of a file. Contracts see its bytes, which are UTF-8.
-#[derive(Drop)]
 pub struct FileName {
     text: String,
+}
+
+// By hand and not derived: to the prover, an early return then drops one by a single call.
+impl Drop for FileName {
+    fn drop(self) {
+        let FileName { text: _text } = self;
+    }
 }
 
 impl Model for FileName {
