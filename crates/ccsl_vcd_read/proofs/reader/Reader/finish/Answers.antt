@@ -1,4 +1,4 @@
-use Rattle.std.proofs.Common.{◌≡◌, ◌≤◌, ◌<◌, ◌^◌, ◌+◌, ◌-◌, ℕ, List, ◌++◌, length, true, false, refl, sym, ap, ◌∙◌, subst, arith}
+use Rattle.std.proofs.Common.{◌≡◌, ◌≤◌, ◌<◌, ◌^◌, ◌+◌, ◌-◌, ℕ, List, ◌++◌, length, true, false, refl, sym, ap, ◌∙◌, subst, arith, length-append}
 use Rattle.ccsl_vcd.specs.declared.fault.VcdFault.TheVariants as faults
 use Rattle.ccsl_vcd.specs.Binding.{Wanted}
 use Rattle.ccsl_vcd_read.specs.Staging.{ends_well, row_left}
@@ -40,6 +40,17 @@ pub returns-then-not-may_end-clause-completes : goal.returns-then-not-may_end-cl
 returns-then-not-may_end-clause-completes c =
     when-none c.args.self.now.fault (λ _. weaken c.fail.result (λ (wanted : Wanted) (bytes : List ℕ) (t : StandsFor wanted c.args.self.now bytes).
     cut-pushes wanted c.args.self.now c.last_token.new.self bytes _ _ (c.in-Ok.ensures.ends wanted bytes t)))
+
+pub overflow_sub-result : goal.overflow_sub-result
+overflow_sub-result c =
+    let e = ap (λ x. length x.rows) c.give_left.ensures ∙ length-append c.last_token.new.out.rows _ in
+    omega (arith, e, c.len.ensures, c.len-before.ensures)
+
+pub overflow_add-result : goal.overflow_add-result
+overflow_add-result c =
+    let e = ap (λ x. length x.rows) c.give_left.ensures ∙ length-append c.last_token.new.out.rows _ in
+    let few = subst (λ (x : Reading). x.rows + length (row_left x.stage) < 2 ^ 64) (sym c.self-in-Ok.view_is) c.in-Ok.ensures.few in
+    omega (arith, e, few, c.len.ensures, c.len-before.ensures)
 
 pub returns-else-not-may_end-clause-accepts : goal.returns-else-not-may_end-clause-accepts
 returns-else-not-may_end-clause-accepts c = λ wanted bytes t.

@@ -1,4 +1,4 @@
-use Rattle.std.proofs.Common.{◌≡◌, ◌-◌, ◌≤◌, ◌<◌, [], length, take, None, refl, sym, ap, ◌∙◌, arith}
+use Rattle.std.proofs.Common.{◌≡◌, ◌-◌, ◌≤◌, ◌<◌, [], length, take, None, refl, sym, ap, ◌∙◌, arith, length-take}
 use Rattle.ccsl_vcd_read.specs.Reading.{Reading}
 use Rattle.ccsl_vcd_read.proofs.Faults.{enter, taken}
 use Rattle.ccsl_vcd_read.proofs.Taking.{running-of, stands-of}
@@ -11,12 +11,30 @@ overflow_sub-self-inside c =
     let s = enter _ _ _ _ c.self.view_is c.requires.ready.runs c.requires.ready.stands.2 in
     omega (arith, s.taken, s.within)
 
+pub run-count-requires-clause-fits : goal.run-count-requires-clause-fits
+run-count-requires-clause-fits c =
+    let s = enter _ _ _ _ c.self.view_is c.requires.ready.runs c.requires.ready.stands.2 in
+    let n = ap length c.front-piece.ensures ∙ length-take _ c.args.piece.now in
+    omega (arith, s.within, s.taken, n)
+
 pub pass-requires-clause-fits : goal.pass-requires-clause-fits
 pass-requires-clause-fits c =
     let s = enter _ _ _ _ c.self.view_is c.requires.ready.runs c.requires.ready.stands.2 in
     let k = taken c.args.piece.now c.run-count.result c.front-piece.ensures c.run-count.ensures.within in
     let few : c.run-count.result ≤ c.self.inside.limits.bytes - c.self.inside.taken = k.few in
     (c.requires.ready.stands.1, s.lexes, omega (arith, s.taken, s.within, few))
+
+pub overflow_add-self : goal.overflow_add-self
+overflow_add-self c =
+    let s = enter _ _ _ _ c.self.view_is c.requires.ready.runs c.requires.ready.stands.2 in
+    let k = taken c.args.piece.now c.run-count.result c.front-piece.ensures c.run-count.ensures.within in
+    let few : c.run-count.result ≤ c.self.inside.limits.bytes - c.self.inside.taken = k.few in
+    omega (arith, s.taken, s.within, few)
+
+pub overflow_sub-self : goal.overflow_sub-self
+overflow_sub-self c =
+    let pushed = few-pushed _ _ _ _ _ _ c.run-count.ensures.runs in
+    omega (arith, pushed.0, c.len.ensures, c.len-before.ensures)
 
 pub overflow_add-self-2 : goal.overflow_add-self-2
 overflow_add-self-2 c =
