@@ -25,7 +25,9 @@ pub fn letters_at_front(alloc: Global, text: &[u8], room: usize) -> Result<Vec<b
         if letters.len() == room {
             return Err(WordFault::TooLong);
         }
-        letters.push(letter).map_err(|_| WordFault::Memory)?;
+        if letters.push(letter).is_err() {
+            return Err(WordFault::Memory);
+        }
     }
     Ok(letters)
 }
