@@ -118,7 +118,11 @@ fn judge_of(alloc: Global, pairs: &[CommandWord]) -> Result<Command, Memory>
     let spec = file_name(alloc, Key::Spec, pairs)?;
     let trace = file_name(alloc, Key::Trace, pairs)?;
     let workers = workers_of(CommandName::Judge, pairs);
-    Ok(Command::Judge { spec, trace, workers })
+    Ok(Command::Judge {
+        spec,
+        trace,
+        workers,
+    })
 }
 
 fn certify_of(alloc: Global, pairs: &[CommandWord]) -> Result<Command, Memory>
@@ -150,7 +154,11 @@ fn periodic_of(alloc: Global, pairs: &[CommandWord]) -> Result<Command, Memory>
     let left = word_in(alloc, Key::Left, pairs)?;
     let right = word_in(alloc, Key::Right, pairs)?;
     let relation = relation_in(pairs);
-    Ok(Command::Periodic { left, right, relation })
+    Ok(Command::Periodic {
+        left,
+        right,
+        relation,
+    })
 }
 
 fn explain_of(alloc: Global, pairs: &[CommandWord]) -> Result<Command, Memory>
