@@ -71,15 +71,6 @@ marks-aged codes old cur (b ∷ bs) = rw (mark-aged codes old cur b, marks-aged 
 
 -- a change
 
--- what a change makes of a mark's value now, where `v` is whether the code is the mark's, and `e` whether that is an event
-put-now : (at : Bool → Mark) (v e ticks one dumped : Bool) (cur old : Option Bool)
-    → cond v (cond e (at (cond e ticks (stands (option_or cur old)) || not dumped)) (at one)) (at (cond e ticks (stands (option_or cur old))))
-    ≡ at (cond e (ticks || (v && not dumped)) (stands (option_or (cond v (Some one) cur) old)))
-put-now at true true ticks one dumped cur old = refl
-put-now at true false ticks one dumped cur old = refl
-put-now at false true ticks one dumped cur old = ap at (sym (or-false ticks))
-put-now at false false ticks one dumped cur old = refl
-
 mark-put : (codes : List (List ℕ)) (old cur : List Change) (c : Change) (n m : ℕ) (b : Bound) → number_of c.code codes ≡ Some n
     → number_of b.code codes ≡ Some m
     → put n c.one c.dumped (mark_of codes old cur b) ≡ mark_of codes old (cur ++ c ∷ []) b
@@ -91,14 +82,23 @@ mark-put codes old cur c n m b e f =
       code = unwrap_or (number_of b.code codes) 0;
       event = b.event;
       now = now;
-      before = cond b.event false (stands (last_value b.code old));
+      before =
+          cond b.event false (stands (last_value b.code old));
     } in
-    let now : Bool = cond b.event (event_ticks b.code cur) (stands (option_or (last_value b.code cur) (last_value b.code old))) in
-    ap (λ v. cond v (cond b.event (at (now || not c.dumped)) (at c.one)) (at now)) same
-    ∙ put-now at (bytes_eq c.code b.code) b.event (event_ticks b.code cur) c.one c.dumped (last_value b.code cur) (last_value b.code old)
-    ∙ ap (λ w. at (cond b.event w (stands (option_or (cond (bytes_eq c.code b.code) (Some c.one) (last_value b.code cur)) (last_value b.code old)))))
-        (sym (event-more b.code cur c))
-    ∙ ap (λ o. at (cond b.event (event_ticks b.code (cur ++ c ∷ [])) (stands (option_or o (last_value b.code old))))) (sym (last-more b.code cur c))
+    let now : Bool → Bool = λ w. cond w (event_ticks b.code cur) (stands (option_or (last_value b.code cur) (last_value b.code old))) in
+    rw (same, last-more b.code cur c, event-more b.code cur c) (
+    elim (bytes_eq c.code b.code) as (λ v. cond v (cond b.event (at (now b.event || not c.dumped)) (at c.one)) (at (now b.event))
+    ≡ at (cond b.event (event_ticks b.code cur || (v && not c.dumped))
+    (stands (option_or (cond v (Some c.one) (last_value b.code cur)) (last_value b.code old))))) [
+      | true ↦ elim b.event as (λ w. cond w (at (now w || not c.dumped)) (at c.one) ≡ at
+          (cond w (event_ticks b.code cur || not c.dumped) (stands (option_or (Some c.one) (last_value b.code old))))) [ true ↦ refl | false ↦ refl ]
+      | false ↦ elim b.event as (λ w. at (now w) ≡ at
+          (cond w (event_ticks b.code cur || false) (stands (option_or (last_value b.code cur) (last_value b.code old))))) [
+            | true ↦ ap at
+                (sym (or-false (event_ticks b.code cur)))
+            | false ↦ refl
+          ]
+    ])
 
 found : (o : Option ℕ) → Rattle.std.specs.Prelude.is_some o ≡ true → (m : ℕ) × (o ≡ Some m)
 found (Some m) h = (m, refl)
