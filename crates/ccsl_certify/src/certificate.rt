@@ -3,9 +3,11 @@
 ghost use Rattle.std.specs.Prelude.{◌≡◌, ℕ, List, Ok, IfOk, IfErr};
 ghost use Rattle.ccsl_base.specs.declared.rows.Row.{Row};
 ghost use Rattle.ccsl_edge.specs.declared.slot.Slot.TheVariants as slots;
+ghost use Rattle.ccsl_edge.specs.World.{State};
 ghost use Rattle.ccsl_edge.specs.Calls.{ReadsAll};
 ghost use Rattle.ccsl_refute.specs.Reading.{reading};
 ghost use Rattle.ccsl_certify.specs.declared.answer.CertifyFault.TheVariants as faults;
+ghost use Rattle.ccsl_certify.specs.Replaying.{IsTrace};
 ghost use Rattle.ccsl_certify.specs.Replaying as replaying;
 ghost use Rattle.ccsl_certify.specs.Certified.{Answers, IsCertified, IsUncertified};
 
@@ -46,6 +48,45 @@ fn check_lines(
     }
 }
 
+// Checks lines behind what a trace is.
+fn check_replayed(
+    alloc: Global,
+    system: &System,
+    replayed: Replayed<'_>,
+    lines: &[Line],
+) -> Result<CertVerdict, CertifyFault>
+    requires { (bound : List ℕ) × (rows : List Row)
+        × replaying.Answers system.now bound rows replayed }
+    ensures answers { IfOk result (λ v. (bound : List ℕ) (rows : List Row) →
+        replaying.Answers system.now bound rows replayed.entry →
+        Answers system.now bound rows lines.now v) }
+    ensures memory { IfErr result (λ fault. fault ≡ faults.Memory) }
+{
+    match replayed {
+        Replayed::NotRun(violation) => Ok(CertVerdict::NotRun(violation)),
+        Replayed::Run { steps, states } => check_lines(alloc, system, steps, &states, lines),
+    }
+}
+
+// Reads the certificate behind a trace.
+fn read_certificate<W: World>(
+    alloc: Global,
+    world: &mut W,
+    system: &System,
+    limits: &Limits,
+) -> Result<Vec<Line>, CertifyFault>
+    ensures reads { IfOk result (λ lines. (text : List ℕ)
+        × ReadsAll W.told slots.Cert limits.now.bytes text (W.state world.old) (W.state world.new)
+        × (reading system.now.names text ≡ Ok lines.items)) }
+    ensures uncertified { IfErr result (λ fault.
+        (start : State) (bound : List ℕ) (rows : List Row) →
+        IsTrace W.told system.now limits.now start (W.state world.old) bound rows →
+        IsUncertified W.told system.now limits.now start (W.state world.new) fault) }
+{
+    let text = read_all(alloc, world, Slot::Cert, limits.bytes)?;
+    Ok(read(alloc, &text, system.names())?)
+}
+
 /// Reads the trace to its end, then the certificate, and says whether the trace is a run and the lines of the certificate show that no
 /// step is left after it. The certificate has at most as many bytes as the limits allow a trace.
 pub fn certify<W: World>(
@@ -61,10 +102,11 @@ pub fn certify<W: World>(
         IsUncertified W.told system.now limits.now (W.state world.old) (W.state world.new) fault) }
 {
     let replayed = replay(alloc, keys, world, system, limits)?;
-    let text = read_all(alloc, world, Slot::Cert, limits.bytes)?;
-    let lines = read(alloc, &text, system.names())?;
-    match replayed {
-        Replayed::NotRun(violation) => Ok(CertVerdict::NotRun(violation)),
-        Replayed::Run { steps, states } => { check_lines(alloc, system, steps, &states, &lines) }
+    match read_certificate(alloc, world, system, limits) {
+        Ok(lines) => check_replayed(alloc, system, replayed, &lines),
+        Err(fault) => {
+            drop(replayed);
+            Err(fault)
+        }
     }
 }
