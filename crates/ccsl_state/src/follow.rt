@@ -159,8 +159,9 @@ fn first(set: &ClockSet) -> Option<u32>
     set.members().next()
 }
 
-/// Goes on by the full step that the declared ticks in `step` give, which has all ticks behind it: visits the definitions that wait, in ascending order, with those that begin to
-/// wait meanwhile.
+/// Goes on by the full step that the declared ticks in `step` give, which has all ticks behind it: visits the definitions that wait, in
+/// ascending order, with those that begin to wait meanwhile.
+#[inline(always)]
 pub fn follow(
     lay: &Layout<'_>,
     readers: &Readers,
