@@ -19,7 +19,7 @@ extended-none : (ls ys : List ℕ) → extended (extended ls []) ys ≡ extended
 extended-none [] ys = refl
 extended-none (a ∷ front) ys = ap (λ xs. extended xs ys) (append-nil (a ∷ front))
 
-extended-nil : (ls : List ℕ) → extended ls [] ≡ ls
+pub extended-nil : (ls : List ℕ) → extended ls [] ≡ ls
 extended-nil [] = refl
 extended-nil (a ∷ front) = append-nil (a ∷ front)
 
@@ -64,6 +64,13 @@ some_if false d v e = absurd (cc)
 
 pub hex-some : (d v : ℕ) → Some v ≡ hex_digit d → (is_hex d ≡ true) × (v ≡ hex_value d)
 hex-some d v e = some_if (is_hex d) d v e
+
+none_if : (b : Bool) (d : ℕ) → None ≡ cond b (Some (hex_value d)) None → b ≡ false
+none_if true d e = absurd (cc)
+none_if false d e = refl
+
+pub hex-none : (d : ℕ) → None ≡ hex_digit d → is_hex d ≡ false
+hex-none d e = none_if (is_hex d) d e
 
 pub extended-end : (c i n : ℕ) (ls : List ℕ) → c ≤ i → extended ls (bits (c - i) n) ≡ ls
 unfolding bits

@@ -1,7 +1,7 @@
 -- What a byte at the front of a text says of its tokens.
 use Rattle.std.proofs.Common.{◌≡◌, ◌<◌, ◌≤◌, ◌+◌, ◌-◌, ℕ, zero, suc, List, [], ◌∷◌, length, get_or, take, drop, Bool, true, false, not, Some, refl, sym, ap}
-use Rattle.std.proofs.Common.{◌∙◌, cond, ◌==◌, arith, rules, tests, add-one, length-drop}
-use Rattle.std.proofs.lemmas.Bool.{false≢true}
+use Rattle.std.proofs.Common.{◌∙◌, cond, ◌==◌, arith, eq-eqb, eqb-true, add-one, length-drop}
+use Rattle.std.proofs.lemmas.Bool.{false≢true, ne_eqb}
 use Rattle.ccsl_event_file.specs.Tokens.{Placed, placed, Amid, remark, token, tokens_in, piece_at, begins_remark, is_white, is_word_byte, is_letter}
 use Rattle.ccsl_event_file.specs.Tokens.{begins_with, up_to}
 use Rattle.ccsl_event_file.specs.Tokens as tokens
@@ -91,7 +91,7 @@ pub ends : (whole text : List ℕ) (is_remark : Bool) → (length text == 0) ≡
     → IsBehindBlank whole text
 unfolding tokens_in
 ends whole [] is_remark over same shorter = record { same = λ len. same len; bare = refl; shorter = shorter }
-ends whole (b ∷ bs) is_remark over same shorter = absurd (search (rules, tests))
+ends whole (b ∷ bs) is_remark over same shorter = absurd (let none : length (b ∷ bs) ≡ 0 = eqb-true (length (b ∷ bs)) 0 over in omega (arith, none))
 
 pub shorter : (text tail : List ℕ) → tail ≡ drop 1 text → length tail ≤ length text
 shorter text tail cut = omega (arith, ap length cut, length-drop 1 text)
@@ -115,7 +115,7 @@ pub letters_behind : (first : ℕ) (bs text rest : List ℕ) → is_word_byte fi
 unfolding piece_at
 letters_behind first [] text rest w q l b t r = absurd (false≢true b)
 letters_behind first (c ∷ bs) text rest w q l b t r =
-    let quote : (first == 34) ≡ false = search (rules, tests) in
-    let tick : (first == 39) ≡ true = search (rules, tests) in
+    let quote : (first == 34) ≡ false = ne_eqb first 34 q in
+    let tick : (first == 39) ≡ true = eq-eqb first 39 l in
     rw (w, quote, tick, b) (r ∙ ap (λ x. drop (up_to (λ c. not (is_letter c)) x) x) t
     ∙ ap (λ n. drop n (c ∷ bs)) (sym (add-one (up_to (λ c. not (is_letter c)) bs))))
