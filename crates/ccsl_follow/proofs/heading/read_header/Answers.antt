@@ -25,3 +25,15 @@ loop-preserved g c = record {
   reads = only-then _ _ _ c.loop.invariant.reads c.read_on.ensures.reads;
   calm = SameCounts-then _ _ _ c.loop.invariant.calm c.in_ok-count.ensures.calm;
 }
+
+pub loop-init : goal.loop-init
+loop-init g c = record { reads = c.open_file.ensures.reads; calm = c.in_ok-open_file.ensures.calm }
+
+pub returns-in_err-buffer-clause-reads : goal.returns-in_err-buffer-clause-reads
+returns-in_err-buffer-clause-reads g c = c.open_file.ensures.reads
+
+pub returns-clause-reads : goal.returns-clause-reads
+returns-clause-reads g c = c.loop.invariant.reads
+
+pub returns-clause-calm : goal.returns-clause-calm
+returns-clause-calm g c = c.loop.invariant.calm

@@ -9,6 +9,12 @@ returns-in_err-count-clause-reads g c = only-then _ _ _ c.loop.invariant.reads c
 pub returns-in_err-take-clause-reads : goal.returns-in_err-take-clause-reads
 returns-in_err-take-clause-reads g c = only-then _ _ _ c.loop.invariant.reads c.read_on.ensures.reads
 
+pub returns-in_err-buffer-clause-reads : goal.returns-in_err-buffer-clause-reads
+returns-in_err-buffer-clause-reads g c = c.open_file.ensures.reads
+
+pub loop-init : goal.loop-init
+loop-init g c = record { reads = c.open_file.ensures.reads; calm = c.in_ok-open_file.ensures.calm }
+
 pub loop-preserved : goal.loop-preserved
 loop-preserved g c = record {
   reads = only-then _ _ _ c.loop.invariant.reads c.read_on.ensures.reads;
