@@ -1,5 +1,5 @@
 -- What a trace and a certificate are answered where one of the two is not read.
-use Rattle.std.proofs.Common.{ℕ, List, Err, inl, inr}
+use Rattle.std.proofs.Common.{◌≡◌, ℕ, List, Err, Vec, Global, inl, inr}
 use Rattle.ccsl_base.specs.declared.rows.Row.{Row}
 use Rattle.ccsl_edge.specs.declared.slot.Slot.TheVariants.{Cert}
 use Rattle.ccsl_edge.specs.declared.whole.ReadFault.{ReadFault}
@@ -40,10 +40,11 @@ module _ (told : Told) (K : System) (limits : Limits) (old between new : State) 
   for-memory text all =
       inr (record { bound = bound; rows = rows; between = between; trace = trace; reads = record { bytes = text; within = all.within; reads = all.reads } })
 
-  pub lines-unread : {A : Type 0} (lines : A → List Line) (text : List ℕ) (fault : CertFault) → ReadsAll told Cert limits.bytes text between new
-      → Reads lines (reading K.names text) (Err fault) → IsUncertified told K limits old new (of_text fault)
-  lines-unread lines text texts.Memory all e = for-memory text all
-  lines-unread lines text (texts.Syntax at) all e =
-      record { bound = bound; rows = rows; text = text; read = record { between = between; trace = trace; certificate = all }; reads_as = e }
-  lines-unread lines text (texts.UnknownName at) all e =
-      record { bound = bound; rows = rows; text = text; read = record { between = between; trace = trace; certificate = all }; reads_as = e }
+  pub lines-unread : (names : List (List ℕ)) (bytes text : List ℕ) (fault : CertFault) → names ≡ K.names → bytes ≡ text
+      → ReadsAll told Cert limits.bytes text between new
+      → Reads {A = Vec Line Global} (λ v. v.items) (reading names bytes) (Err fault) → IsUncertified told K limits old new (of_text fault)
+  lines-unread names bytes text texts.Memory own same all e = for-memory text all
+  lines-unread names bytes text (texts.Syntax at) own same all e =
+      record { bound = bound; rows = rows; text = text; read = record { between = between; trace = trace; certificate = all }; reads_as = cc }
+  lines-unread names bytes text (texts.UnknownName at) own same all e =
+      record { bound = bound; rows = rows; text = text; read = record { between = between; trace = trace; certificate = all }; reads_as = cc }
