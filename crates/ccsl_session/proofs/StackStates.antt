@@ -1,15 +1,17 @@
 -- The states behind the sets of a stack, and their copies, behind one set more and behind one set less.
 use Rattle.std.proofs.Common.{◌≡◌, ℕ, ◌+◌, ◌-◌, ◌*◌, ◌/◌, ◌%◌, ◌^◌, ◌<◌, ◌≤◌, List, [], ◌∷◌, ◌++◌, length, take, drop, get_or, slice_get, Some, sym, ap, ◌∙◌}
-use Rattle.std.proofs.Common.{subst, ⊎_elim, arith, length-append, length-take}
+use Rattle.std.proofs.Common.{refl, subst, ⊎_elim, arith, length-append, length-take}
 use Rattle.std.proofs.lemmas.Bool.{cases_lt}
 use Rattle.std.proofs.lemmas.List.{take_all, take-append-le, take-append-drop, take-take, take_more, get_or-take, get_or_append_left, get_or_push}
 use Rattle.std.proofs.lemmas.Option.{slice_get_within, slice_get-get_or, get_or_from_slice_get}
 use Rattle.ccsl_kernel.specs.Syntax.{System}
 use Rattle.ccsl_kernel.specs.Lives.{Step}
+use Rattle.ccsl_kernel.specs.Accepted.{IsAccepted}
 use Rattle.ccsl_kernel.specs.Runs.{full_step, completed_after, completed}
 use Rattle.ccsl_kernel.proofs.Completion.{completed-append, length-completed}
 use Rattle.ccsl_state.specs.Held.{Held, StandsFor}
-use Rattle.ccsl_session.specs.Stack.{AreBehind, AreCopies}
+use Rattle.ccsl_session.specs.declared.stack.Stack.{Stack}
+use Rattle.ccsl_session.specs.Stack.{AreBehind, AreCopies, Stands}
 use Rattle.ccsl_session.proofs.Stacks.{completed-snoc}
 
 -- what a call of `advance` says of the states
@@ -70,6 +72,27 @@ at_end xs y k x P e before here =
     let last : k ≡ length xs = omega (arith, within, length-append xs (y ∷ [])) in
     here last (sym (get_or_push xs y x k (sym last)) ∙ there))
     (cases_lt k (length xs))
+
+copies-first : (K : System) (h : Held) → AreBehind K [] h → AreCopies K [] (h ∷ [])
+copies-first K h behind = record {
+  count = refl;
+  each = λ k g at. at_end [] h k g (AreBehind K (take (k * 256) []) g) at
+      (λ l there. absurd (omega arith))
+      (λ last one. subst (λ S. AreBehind K S g) (sym (take_all (k * 256) [] (omega arith))) (subst (AreBehind K []) one behind));
+}
+
+pub stands-none : (stack : Stack) → IsAccepted stack.system.now → stack.sets.items ≡ [] → AreBehind stack.system.now [] stack.states
+    → stack.copies.items ≡ stack.states ∷ [] → Stands stack
+stands-none stack ok none behind one =
+    let K = stack.system.now in
+    record {
+      accepted = ok;
+      few = rw none (omega arith);
+      states = subst (λ R. AreBehind K R stack.states) (sym none) behind;
+      copies =
+          subst (λ R. AreCopies K R stack.copies.items) (sym none)
+          (subst (λ (copies : List Held). AreCopies K [] copies) (sym one) (copies-first K stack.states behind));
+    }
 
 -- behind a further stride of sets there is a copy more
 pub copies-more : (K : System) (R : List Step) (s : Step) (copies : List Held) (h : Held) → AreCopies K R copies → AreBehind K (R ++ s ∷ []) h
