@@ -1,6 +1,7 @@
 -- An item over rows that are steps by themselves.
 use Rattle.std.proofs.lemmas.Grind.{common_steps}
-use Rattle.std.proofs.Common.{add-one, ◌≡◌, ℕ, zero, suc, ◌+◌, ◌<◌, ◌≤◌, List, [], ◌∷◌, length, take, drop, slice_get, Option, Some, None, Bool, true, false, not, refl, sym, ap, ap₂, ◌∙◌, arith}
+use Rattle.std.proofs.Common.{add-one, ◌≡◌, ℕ, zero, suc, ◌+◌, ◌<◌, ◌≤◌, List, [], ◌∷◌, length, take, drop, slice_get, Option}
+use Rattle.std.proofs.Common.{Some, None, Bool, true, false, not, refl, sym, ap, ap₂, ◌∙◌, arith}
 use Rattle.ccsl_base.specs.declared.rows.Row.{Row}
 use Rattle.std.specs.Bool.{beq}
 use Rattle.std.specs.Prelude.{All, IfSome, IfNone}

@@ -77,4 +77,5 @@ module _ (rows steps : List Row) (old : List Watched) where
     pub done-none : (first : Option Failure) → IsSoFar now i end first → IfNone first (All (ObeysUpTo rows steps (length steps)) old)
     done-none (Some v) f = tt
     done-none None f = λ k d l.
-        subst (ObeysUpTo rows steps (length steps)) (get_or_default old k Nothing d l) (λ n b. f.before k (omega (arith, l, whole)) n (omega (arith, b, f.none.whole)))
+        subst (ObeysUpTo rows steps (length steps)) (get_or_default old k Nothing d l)
+        (λ n b. f.before k (omega (arith, l, whole)) n (omega (arith, b, f.none.whole)))

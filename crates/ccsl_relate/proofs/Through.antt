@@ -1,6 +1,7 @@
 -- A monitor that takes some rows item by item, with what is known of their steps.
 use Rattle.std.proofs.lemmas.Grind.{common_steps}
-use Rattle.std.proofs.Common.{◌≡◌, ℕ, zero, suc, ◌+◌, ◌<◌, ◌^◌, List, [], ◌∷◌, ◌++◌, length, map, get_or, slice_get, Option, Some, None, true, false, refl, sym, ap}
+use Rattle.std.proofs.Common.{◌≡◌, ℕ, zero, suc, ◌+◌, ◌<◌, ◌^◌, List, [], ◌∷◌, ◌++◌, length, map}
+use Rattle.std.proofs.Common.{get_or, slice_get, Option, Some, None, true, false, refl, sym, ap}
 use Rattle.std.proofs.Common.{ap₂, ◌∙◌, subst, arith, append_assoc}
 use Rattle.std.specs.Prelude.{All, IfSome, IfNone}
 use Rattle.std.proofs.lemmas.Bool.{and_parts}
@@ -47,7 +48,8 @@ module _ (K : System) (recorded : List ℕ) (start : ℕ) where
         keeps-room-for K s.accepted recorded (start + k) rows n few (get_or kept k d)
         (each_at (Keeps K recorded (completed_rows K rows)) start kept k d l (s.follows refl).keeps)
 
-    module _ (row step : Row) (held' : Option HeldPart) (c : IsCompleted K (completed_rows K rows) held row step held') (sorted : is_ascending row.ticks ≡ true) where
+    module _ (row step : Row) (held' : Option HeldPart) (c : IsCompleted K (completed_rows K rows) held row step held')
+        (sorted : is_ascending row.ticks ≡ true) where
       abbrev known : Step
       known = step_known K held (completed_rows K rows) row.ticks
 
@@ -133,7 +135,8 @@ module _ (K : System) (recorded : List ℕ) (start : ℕ) where
         row = omega (arith, f.row);
         place = omega (arith, f.place, kept-count);
         fails = ap (λ w. fails_at block completed w row) (at-next y.ticks kept place) ∙ f.fails;
-        earlier = λ k l n m. ap (λ w. fails_at block completed w n) (at-next y.ticks kept k) ∙ f.earlier k (omega (arith, l, kept-count)) (suc n) (omega (arith, m));
+        earlier = λ k l n m. ap (λ w. fails_at block completed w n) (at-next y.ticks kept k)
+            ∙ f.earlier k (omega (arith, l, kept-count)) (suc n) (omega (arith, m));
         lower = λ k l. ap (λ w. fails_at block completed w row) (at-next y.ticks kept k) ∙ f.lower k l;
       }) in
       let a : steps + 1 + length block ≡ steps + suc (length block) = omega arith in
@@ -148,7 +151,8 @@ items-have-room recorded v rows none s n few =
     (subst (λ u. StandsFor recorded u rows) (ap (λ first. record v { first = first }) none) s) n few
 
 -- A MONITOR before a violation, and with some rows more, whose steps are known
-module _ (recorded : List ℕ) (v w : Watching) (rows block completed : List Row) (held' : Option HeldPart) (none : v.first ≡ None) (s : StandsFor recorded v rows)
+module _ (recorded : List ℕ) (v w : Watching) (rows block completed : List Row) (held' : Option HeldPart) (none : v.first ≡ None)
+    (s : StandsFor recorded v rows)
     (chain : AreAfter v.system v.states (completed_rows v.system rows) → Completes v.system (completed_rows v.system rows) v.states block completed held')
     (sets : are_sets block ≡ true) where
   as-going : StandsFor recorded (going v.system recorded v.start v.states v.kept v.steps) rows

@@ -30,4 +30,5 @@ loop-i-preserved c =
     ]
 
 pub returns-clause-none : goal.returns-clause-none
-returns-clause-none c = done-none (drop c.args.from c.args.block.now.rows) c.args.steps.now.rows c.args.kept.now c.loop-i.kept c.loop-i.i c.loop-i.end (omega arith) c.loop-i.first c.loop-i.invariant
+returns-clause-none c = done-none (drop c.args.from c.args.block.now.rows) c.args.steps.now.rows c.args.kept.now c.loop-i.kept c.loop-i.i
+    c.loop-i.end (omega arith) c.loop-i.first c.loop-i.invariant

@@ -17,7 +17,8 @@ loop-i-preserved c =
     let old = Relation c.args.related.now in
     let i = c.loop-i.i in
     let here : fails_at rows rows old i ≡ false =
-    fails-here rows rows old i row row c.row.ensures c.row.ensures ∙ ap (fails_in row.ticks row.ticks) (sym c.loop-i.invariant.gone) ∙ sym c.fails.ensures.fails ∙ c.if-fails.false in
+    fails-here rows rows old i row row c.row.ensures c.row.ensures ∙ ap (fails_in row.ticks row.ticks) (sym c.loop-i.invariant.gone)
+    ∙ sym c.fails.ensures.fails ∙ c.if-fails.false in
     record {
       gone = ap Relation c.fails.ensures.next ∙ ap (next_in row.ticks) c.loop-i.invariant.gone ∙ sym (after-more rows old i row c.row.ensures);
       obeys = below_more (λ (n : ℕ). fails_at rows rows old n ≡ false) i c.loop-i.invariant.obeys here;

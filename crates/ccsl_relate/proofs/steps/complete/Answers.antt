@@ -24,7 +24,10 @@ loop-i-preserved c = record {
       let h = c.loop-i.invariant.completes K T after few in
       let before = with_steps K T (take i rows) in
       let more : take (i + 1) rows ≡ take i rows ++ row ∷ [] = take-more rows i row (get-behind c.args.block.now.rows c.args.from i ∙ c.row-row.ensures) in
-      let short : length before + 1 < 2 ^ 64 = omega (arith, with-length K T (take i rows), length-take-le i rows (omega (arith, length-drop c.args.from c.args.block.now.rows, c.requires.inside)), few) in
+      let short : length before + 1 < 2 ^ 64 = (
+      let behind = length-drop c.args.from c.args.block.now.rows in
+      omega (arith, with-length K T (take i rows), length-take-le i rows (omega (arith, behind, c.requires.inside)), few)
+      ) in
       let pushed : c.push_difference.new.self.rows ≡ c.loop-i.completed.rows ++ step ∷ [] = ap (λ (b : RowList). b.rows) c.push_difference.ensures in
       let one : IsCompleted K before c.loop-i.states row step c.next_known.new.states = record {
         step_is = ap (difference c.next_known.new.step) c.empty-none.ensures ∙ difference-none c.next_known.new.step ∙ c.next_known.ensures.step K before h.1;

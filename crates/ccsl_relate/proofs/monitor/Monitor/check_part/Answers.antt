@@ -33,7 +33,8 @@ returns-then-is_some-clause-stands c = λ recorded rows s few.
     let fits : n ≤ length (drop c.args.from block) =
     (let most = c.min-count.ensures in let len = c.len.ensures in let behind = length-drop c.args.from block in omega arith) in
     rests recorded v _ rows (take n (drop c.args.from block)) x.0 (subst (λ u. StandsFor recorded u rows) (sym c.self.view_is) s)
-    (sets-within block c.args.from n c.rows_are_sets.ensures) x.1 (ap (λ m. record v { steps = v.steps + m }) (sym (length-take-le n (drop c.args.from block) fits)))
+    (sets-within block c.args.from n c.rows_are_sets.ensures) x.1
+    (ap (λ m. record v { steps = v.steps + m }) (sym (length-take-le n (drop c.args.from block) fits)))
 
 pub returns-clause-stands : goal.returns-clause-stands
 returns-clause-stands c = λ recorded rows s few.

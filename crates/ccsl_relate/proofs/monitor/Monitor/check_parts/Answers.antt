@@ -13,8 +13,10 @@ check_part-from-requires-clause-stands c =
     )
 
 pub parts-preserved : goal.parts-preserved
-parts-preserved c = taken-part c.args.self.now c.parts.self c.check_part-from.new.self c.args.block.now.rows c.parts.from c.check_part-from.result c.parts.invariant
-    c.check_part-from.ensures.inside c.check_part-from.ensures.system c.check_part-from.ensures.start c.check_part-from.ensures.count c.check_part-from.ensures.stands
+parts-preserved c = taken-part c.args.self.now c.parts.self c.check_part-from.new.self c.args.block.now.rows c.parts.from
+    c.check_part-from.result c.parts.invariant
+    c.check_part-from.ensures.inside c.check_part-from.ensures.system c.check_part-from.ensures.start
+    c.check_part-from.ensures.count c.check_part-from.ensures.stands
 
 pub returns-clause-stands : goal.returns-clause-stands
 returns-clause-stands c = taken-all c.args.self.now c.parts.self c.args.block.now.rows c.parts.from c.parts.invariant (omega arith)
