@@ -84,9 +84,9 @@ def damaged(draw, tokens):
     return joined(draw, parts) if by_token else ''.join(parts).encode('latin-1')
 
 
-def dump(draw, history, lengths=(4, 8, 12), most=None):
-    """The dump of a run that is drawn step by step, now and then with a step that is none, or with a tick that is not shown. At a step
-    no more than so many declared clocks tick, where that is given."""
+def dump(draw, history, lengths=(4, 8, 12), most=None, slips=1):
+    """The dump of a run that is drawn step by step, now and then with a step that is none, or with a tick that is not shown: as often as
+    `slips` says. At a step no more than so many declared clocks tick, where that is given."""
     system = history.system
     declared, written = range(len(system.declared)), range(len(system.declared) + len(system.defined))
     shown = [clock for clock in written if clock in declared or draw.random() < 0.8]
@@ -94,8 +94,8 @@ def dump(draw, history, lengths=(4, 8, 12), most=None):
     for _ in range(draw.choice(lengths)):
         steps = [history.completed(draw.sample(declared, draw.randint(1, most or len(declared)))) for _ in range(8 if most is None else 1)]
         fitting = [step for step in steps if history.first_failing(step) is None]
-        step = draw.choice(fitting if fitting and draw.random() < 0.97 else steps)
-        ticks = [clock for clock in shown if clock in step and draw.random() < 0.995]
+        step = draw.choice(fitting if fitting and draw.random() >= 0.03 * slips else steps)
+        ticks = [clock for clock in shown if clock in step and draw.random() >= 0.005 * slips]
         lines += [f'#{time}', *(f'1{chr(33 + clock)}' for clock in ticks)]
         time += draw.choice([1, 1, 4])
         history.steps.append(step)
