@@ -258,15 +258,6 @@ module _ (calls calls' : List (Known Callee)) (more : (name : List ℕ) (k : Kno
       both-empty _ _ (block-more H H' home b (g home (omega arith)) (r home (omega arith)) (left-empty _ (blocks_faults calls H (home + 1) bs) e))
       (blocks-more H H' most g r (home + 1) bs (omega arith) (right-empty (block_faults calls H home b) _ e))
 
-pub blocks-append : (calls : List (Known Callee)) (heights : Heights) (home : ℕ) (bs cs : List PlainDefinition) → blocks_faults calls heights home bs ≡ []
-    → blocks_faults calls heights (home + length bs) cs ≡ [] →
-    blocks_faults calls heights home (bs ++ cs) ≡ []
-blocks-append calls H home [] cs e f = let z : home + 0 ≡ home = omega arith in subst (λ n. blocks_faults calls H n cs ≡ []) z f
-blocks-append calls H home (b ∷ bs) cs e f =
-    let z : home + suc (length bs) ≡ home + 1 + length bs = omega arith in
-    both-empty _ _ (left-empty _ (blocks_faults calls H (home + 1) bs) e)
-    (blocks-append calls H (home + 1) bs cs (right-empty (block_faults calls H home b) _ e) (subst (λ n. blocks_faults calls H n cs ≡ []) z f))
-
 -- the levels of all definitions
 abbrev pub heights_of : List PlainDefinition → Heights
 heights_of bs = let calls = calls_space 0 0 bs in record { groups = levels groups calls [] bs; relations = levels relations calls [] bs }

@@ -77,10 +77,6 @@ there-right groups K home [] cs a = let z : home ≡ home + 0 = omega arith in s
 there-right groups K home (b ∷ bs) cs a =
     let z : home + 1 + length bs ≡ home + suc (length bs) = omega arith in subst (λ n. AreThere groups K n cs) z (there-right groups K (home + 1) bs cs a.1)
 
-flat-append : {X Y : Type 0} (f : X → List Y) (xs ys : List X) → flat_map f (xs ++ ys) ≡ flat_map f xs ++ flat_map f ys
-flat-append f [] ys = refl
-flat-append f (x ∷ xs) ys = ap (λ l. f x ++ l) (flat-append f xs ys) ∙ sym (append_assoc (f x) (flat_map f xs) (flat_map f ys))
-
 -- ## The count of definitions up to a line
 
 abbrev defs : ℕ → List SLine → ℕ

@@ -19,10 +19,6 @@ pub number-digit : (most n d : ℕ) (ds : List ℕ) → is_digit d ≡ true → 
 number-digit most n d ds e =
     ap (λ b. cond (b && list_all is_digit ds && nat_le (value_behind n (d ∷ ds)) most) (Some (value_behind n (d ∷ ds))) None) e
 
-pub number-other : (most n d : ℕ) (ds : List ℕ) → is_digit d ≡ false → number_behind most n (d ∷ ds) ≡ None
-number-other most n d ds e =
-    ap (λ b. cond (b && list_all is_digit ds && nat_le (value_behind n (d ∷ ds)) most) (Some (value_behind n (d ∷ ds))) None) e
-
 grows : (n : ℕ) (ds : List ℕ) → n ≤ value_behind n ds
 grows n [] = omega arith
 grows n (d ∷ ds) = omega (arith, grows (n * 10 + (d - 48)) ds)

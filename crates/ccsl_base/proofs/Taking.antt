@@ -30,9 +30,6 @@ without-one (y ∷ set) rest x h =
     (and_parts (nat_lt y x) (list_all (nat_lt y) rest) parts.1).1)
     (without-one set rest x w.1)
 
-pub taking-first : (bound : ℕ) (ticks : List ℕ) → is_ascending ticks ≡ true → IsTaking bound ticks [] ticks
-taking-first bound ticks h = record { whole = refl; order = h }
-
 -- one below the bound is taken
 pub taking-in : (bound : ℕ) (ticks set rest : List ℕ) (x : ℕ) → x < bound → IsTaking bound ticks set (x ∷ rest) → IsTaking bound ticks (with_clock x set) rest
 taking-in bound ticks set rest x l t =

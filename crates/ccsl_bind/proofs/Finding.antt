@@ -3,7 +3,7 @@ use Rattle.std.proofs.Common.{◌≡◌, ℕ, suc, ◌+◌, ◌≤◌, List, [],
 use Rattle.std.proofs.Common.{◌∙◌, arith, length-append}
 use Rattle.std.specs.Prelude.{bytes_eq, fold}
 use Rattle.std.specs.Option.{option_map}
-use Rattle.std.specs.List.{list_any, position, position_or_len}
+use Rattle.std.specs.List.{position, position_or_len}
 use Rattle.std.proofs.lemmas.Bool.{lt-ltb, or_parts}
 use Rattle.std.proofs.lemmas.Grind.{fold-append}
 use Rattle.ccsl_base.specs.Names.{is_among}
@@ -57,9 +57,6 @@ put-there x t n e = ap (λ w. cond w t (t ++ x ∷ [])) (among-found x t ∙ ap 
 
 pub not-among : (x : List ℕ) (t : List (List ℕ)) → number_of x t ≡ None → is_among x t ≡ false
 not-among x t e = among-found x t ∙ ap Rattle.std.specs.Prelude.is_some e
-
-pub put-new : (x : List ℕ) (t : List (List ℕ)) → is_among x t ≡ false → put_code t x ≡ t ++ x ∷ []
-put-new x t e = ap (λ w. cond w t (t ++ x ∷ [])) e
 
 -- numbers stay as codes are added
 pub put-grow : (x y : List ℕ) (t : List (List ℕ)) (i : ℕ) → number_of x t ≡ Some i → number_of x (put_code t y) ≡ Some i

@@ -40,9 +40,6 @@ least-more x (y ∷ ys) d = ap (min x.depth) (least-more y ys d) ∙ assoc x.dep
     assoc : (a b c : ℕ) → min a (min b c) ≡ min (min a b) c
     assoc a b c = omega arith
 
-at_depth : ℕ → Declaration → Bool
-at_depth m e = nat_eq e.depth m
-
 none-at : (m n : ℕ) (ds : List Declaration) → m < n → Deep n ds → filter (λ e. nat_eq e.depth m) ds ≡ []
 none-at m n [] h a = refl
 none-at m n (d ∷ ds) h a = rw (not-eq' m d.depth (omega (arith, a.0))) (none-at m n ds h a.1)
@@ -180,9 +177,6 @@ all-grow t u g ds (name ∷ names) [] s = absurd s
 all-grow t u g ds (name ∷ names) (o ∷ os) s = (sums-grow t u g (candidates name ds) o s.0, all-grow t u g ds names os s.1)
 
 -- A declaration that qualifies for a name or does not.
-
-qualifies-is : (name : List ℕ) (d : Declaration) → qualifies name d ≡ (bytes_eq d.reference name && may_bind d.kind d.size)
-qualifies-is name d = refl
 
 candidates-more : (name : List ℕ) (ds : List Declaration) (d : Declaration) (w : Bool) → qualifies name d ≡ w
     → candidates name (ds ++ d ∷ []) ≡ outermost (filter (qualifies name) ds ++ cond w (d ∷ []) [])

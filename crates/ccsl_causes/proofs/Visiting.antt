@@ -33,9 +33,6 @@ other c x rest apart = by (nat_eq x c) refl
     by true e = absurd (apart (eqb-true x c e))
     by false e = ap (λ t. t || ticks_in x rest) e
 
-pub visiting-first : {A : Type 0} (f : ℕ → A → A) (d : A) (step : List ℕ) (old : List A) → is_ascending step ≡ true → IsVisiting f d step old step old
-visiting-first f d step old order = record { items = refl; order = order; visits = λ _ _. refl }
-
 module _ {A : Type 0} (f : ℕ → A → A) (d : A) (step rest : List ℕ) (old now : List A) (c : ℕ) (is : IsVisiting f d step old (c ∷ rest) now) where
   later : is_ascending rest ≡ true
   later = (and_parts (list_all (nat_lt c) rest) (is_ascending rest) is.order).1

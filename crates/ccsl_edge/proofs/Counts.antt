@@ -1,11 +1,9 @@
 -- The counts of faults: a call that succeeds leaves them all, and none of them ever falls.
 use Rattle.std.proofs.Common.{◌≡◌, ◌≢◌, ℕ, ◌≤◌, List, inl, inr, refl, sym, ap, ◌∙◌, arith}
 use Rattle.ccsl_edge.specs.declared.slot.Slot.{Slot}
-use Rattle.ccsl_edge.specs.declared.whole.ReadFault.{ReadFault}
-use Rattle.ccsl_edge.specs.declared.whole.ReadFault.TheVariants.{Fault, TooLong, Memory}
 use Rattle.ccsl_edge.specs.World.{State, SlotState, Told}
 use Rattle.ccsl_edge.specs.Counts.{SameCounts, NoCountFalls}
-use Rattle.ccsl_edge.specs.Calls.{ChangesOnly, Fails, OpensIn, Reads, ReadsThenFails, OpensOut, Adds, AddsFront, Closes, ReadsUntil}
+use Rattle.ccsl_edge.specs.Calls.{Fails, OpensIn, Reads, OpensOut, Adds, AddsFront, Closes}
 use Rattle.ccsl_edge.proofs.Slots.{slot_cases}
 
 pub SameCounts-none : (s : State) → SameCounts s s
@@ -59,25 +57,6 @@ Adds-SameCounts told slot bytes s t p = same_by_slot slot s t p.only.others (ap 
 pub Fails-NoCountFalls : (slot : Slot) (s t : State) → Fails slot s t → NoCountFalls s t
 Fails-NoCountFalls slot s t p = rises_by_slot slot s t p.only.others p.rose.0
 
-pub ReadsThenFails-NoCountFalls : (told : Told) (slot : Slot) (bytes : List ℕ) (s t : State)
-    → ReadsThenFails told slot bytes s t → NoCountFalls s t
-ReadsThenFails-NoCountFalls told slot bytes s t p = rises_by_slot slot s t p.only.others p.rose.0
-
 pub AddsFront-NoCountFalls : (told : Told) (slot : Slot) (bytes : List ℕ) (s t : State)
     → AddsFront told slot bytes s t → NoCountFalls s t
 AddsFront-NoCountFalls told slot bytes s t p = rises_by_slot slot s t p.only.others p.rose.0
-
--- reading that was given up changed no other slot, and no count fell
-pub ReadsUntil-ChangesOnly : (fault : ReadFault) (told : Told) (slot : Slot) (limit : ℕ) (s t : State)
-    → ReadsUntil fault told slot limit s t → ChangesOnly slot s t
-ReadsUntil-ChangesOnly Fault told slot limit s t p = p.fails.only
-ReadsUntil-ChangesOnly TooLong told slot limit s t p = p.reads.only
-ReadsUntil-ChangesOnly Memory told slot limit s t p = p.reads.only
-
-pub ReadsUntil-NoCountFalls : (fault : ReadFault) (told : Told) (slot : Slot) (limit : ℕ) (s t : State)
-    → ReadsUntil fault told slot limit s t → NoCountFalls s t
-ReadsUntil-NoCountFalls Fault told slot limit s t p = ReadsThenFails-NoCountFalls told slot p.bytes s t p.fails
-ReadsUntil-NoCountFalls TooLong told slot limit s t p =
-    SameCounts-NoCountFalls s t (Reads-SameCounts told slot p.bytes s t p.reads)
-ReadsUntil-NoCountFalls Memory told slot limit s t p =
-    SameCounts-NoCountFalls s t (Reads-SameCounts told slot p.bytes s t p.reads)

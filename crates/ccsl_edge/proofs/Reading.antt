@@ -1,9 +1,9 @@
 -- Reads in a row: what they take goes on, and a failure leaves what was taken.
-use Rattle.std.proofs.Common.{◌≡◌, ℕ, ◌+◌, ◌<◌, ◌≤◌, List, [], ◌++◌, length, take, IsTrue, ◌∙◌, sym, ap, subst, refl, arith, append_assoc, append-nil}
+use Rattle.std.proofs.Common.{◌≡◌, ℕ, ◌+◌, ◌≤◌, List, [], ◌++◌, length, take, ◌∙◌, sym, ap, refl, arith, append_assoc}
 use Rattle.std.proofs.Common.{length-append, length-take-le}
 use Rattle.ccsl_edge.specs.declared.slot.Slot.{Slot}
-use Rattle.ccsl_edge.specs.World.{State, SlotState, Told, held}
-use Rattle.ccsl_edge.specs.Calls.{Fails, OpensIn, Reads, Takes, ReadsThenFails, ReadsAll, ReadsTooMuch, ReadsIntoFault, ReadsPart}
+use Rattle.ccsl_edge.specs.World.{State, SlotState, Told}
+use Rattle.ccsl_edge.specs.Calls.{Fails, Reads, Takes, ReadsThenFails, ReadsTooMuch, ReadsPart}
 use Rattle.ccsl_edge.proofs.Frames.{ChangesOnly-same, ChangesOnly-then, Rose-after_same}
 
 pub Reads-none : (told : Told) (slot : Slot) (s : State) → Reads told slot [] s s
@@ -37,9 +37,6 @@ pub record IsReading (told : Told) (slot : Slot) (limit : ℕ) (all : List ℕ) 
   pub within : length all ≤ limit
   pub reads : Reads told slot all s t
 
-pub IsReading-none : (told : Told) (slot : Slot) (limit : ℕ) (s : State) → IsReading told slot limit [] s s
-IsReading-none told slot limit s = record { within = omega arith; reads = Reads-none told slot s }
-
 pub IsReading-more : (told : Told) (slot : Slot) (limit : ℕ) (all buf : List ℕ) (count : ℕ) (s t u : State)
     → IsReading told slot limit all s t → Takes told slot count t u buf → length all + count ≤ limit
     → IsReading told slot limit (all ++ take count buf) s u
@@ -47,29 +44,6 @@ IsReading-more told slot limit all buf count s t u p q le = record {
   within = rw length-append (rw (length-take-le count buf q.within) le);
   reads = Reads-append told slot all (take count buf) s t u p.reads q.reads;
 }
-
-pub IsReading-fails : (told : Told) (slot : Slot) (limit : ℕ) (all : List ℕ) (s t u : State)
-    → IsReading told slot limit all s t → Fails slot t u → ReadsIntoFault told slot limit s u
-IsReading-fails told slot limit all s t u p q = record {
-  bytes = all;
-  within = p.within;
-  fails = Reads-fails told slot all s t u p.reads q;
-}
-
--- a read of nothing ends the reading
-pub IsReading-ends : (told : Told) (slot : Slot) (limit : ℕ) (all buf : List ℕ) (s t u : State)
-    → IsReading told slot limit all s t → Takes told slot 0 t u buf → ReadsAll told slot limit all s u
-IsReading-ends told slot limit all buf s t u p q =
-    let reads : Reads told slot all s u =
-    let P : List ℕ → Type 0 = λ w. Reads told slot w s u in
-    subst P (append-nil all) (Reads-append told slot all [] s t u p.reads q.reads) in
-    let ended = λ (tells : IsTrue told.left). sym (q.reads.taken tells) ∙ q.ended tells refl in
-    record {
-      within = p.within;
-      reads = reads;
-      whole = λ tells. reads.taken tells ∙ ap (λ w. all ++ w) (ended tells) ∙ append-nil all;
-      ended = ended;
-    }
 
 pub IsReading-past : (told : Told) (slot : Slot) (limit : ℕ) (all buf : List ℕ) (count : ℕ) (s t u : State)
     → IsReading told slot limit all s t → Takes told slot count t u buf → length all + count ≡ limit + 1
@@ -89,17 +63,3 @@ IsReading-past told slot limit all buf count s t u p q sum =
 pub IsReading-part : (told : Told) (slot : Slot) (limit : ℕ) (all : List ℕ) (s t : State)
     → IsReading told slot limit all s t → ReadsPart told slot limit s t
 IsReading-part told slot limit all s t p = record { bytes = all; within = p.within; reads = p.reads }
-
--- what a whole read of an opened file gives is what is held under its name
-pub ReadsAll-opened : (told : Told) (slot : Slot) (name all : List ℕ) (limit : ℕ) (s t u : State)
-    → OpensIn told slot name s t → ReadsAll told slot limit all t u
-    → IsTrue told.files → IsTrue told.left → held s.files name ≡ all
-ReadsAll-opened told slot name all limit s t u p q tells_files tells_left =
-    sym (p.bytes tells_files tells_left) ∙ q.whole tells_left
-
--- where reading an opened file was too much, more is held under its name
-pub ReadsTooMuch-opened : (told : Told) (slot : Slot) (name : List ℕ) (limit : ℕ) (s t u : State)
-    → OpensIn told slot name s t → ReadsTooMuch told slot limit t u
-    → IsTrue told.files → IsTrue told.left → limit < length (held s.files name)
-ReadsTooMuch-opened told slot name limit s t u p q tells_files tells_left =
-    rw (← p.bytes tells_files tells_left) (q.more tells_left)

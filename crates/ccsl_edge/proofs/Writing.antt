@@ -1,17 +1,10 @@
 -- Writes in a row: what they add goes on, and a failure leaves a front.
-use Rattle.std.proofs.Common.{◌≡◌, ℕ, ◌+◌, List, [], ◌++◌, length, take, drop, ◌∙◌, sym, ap, subst, refl, append_assoc, append-nil, take-append-drop}
+use Rattle.std.proofs.Common.{◌≡◌, ℕ, ◌+◌, List, ◌++◌, length, take, drop, ◌∙◌, sym, ap, subst, append_assoc, append-nil, take-append-drop}
 use Rattle.std.proofs.Math.Seq.{take-append-add}
 use Rattle.ccsl_edge.specs.declared.slot.Slot.{Slot}
 use Rattle.ccsl_edge.specs.World.{State, SlotState, Told}
 use Rattle.ccsl_edge.specs.Calls.{Fails, Adds, AddsFront}
-use Rattle.ccsl_edge.proofs.Frames.{ChangesOnly-same, ChangesOnly-then, Rose-after_same}
-
-pub Adds-none : (told : Told) (slot : Slot) (s : State) → Adds told slot [] s s
-Adds-none told slot s = record {
-  only = ChangesOnly-same slot s;
-  here = refl;
-  end = λ _. sym (append-nil (s.slot_of slot).written);
-}
+use Rattle.ccsl_edge.proofs.Frames.{ChangesOnly-then, Rose-after_same}
 
 pub Adds-append : (told : Told) (slot : Slot) (a b : List ℕ) (s t u : State)
     → Adds told slot a s t → Adds told slot b t u → Adds told slot (a ++ b) s u
@@ -74,9 +67,3 @@ IsAdding-fails told slot whole rest s t u p q =
     let P : List ℕ → Type 0 = λ w. AddsFront told slot w s u in
     subst P (sym p.parts)
     (Adds-AddsFront told slot p.done rest s t u p.adds (Fails-AddsFront told slot rest t u q))
-
-pub IsAdding-all : (told : Told) (slot : Slot) (whole : List ℕ) (s t : State)
-    → IsAdding told slot whole [] s t → Adds told slot whole s t
-IsAdding-all told slot whole s t p =
-    let P : List ℕ → Type 0 = λ w. Adds told slot w s t in
-    subst P (sym (append-nil p.done) ∙ sym p.parts) p.adds

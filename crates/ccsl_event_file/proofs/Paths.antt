@@ -1,17 +1,16 @@
 -- How a token leads on in a path or a condition.
-use Rattle.std.proofs.Common.{◌≡◌, ℕ, List, [], ◌∷◌, ◌++◌, Bool, true, false, Option, Some, None, is_some, cond, refl, sym, ap, ◌∙◌, subst}
-use Rattle.std.specs.Option.{unwrap_or}
+use Rattle.std.proofs.Common.{◌≡◌, ℕ, List, [], ◌∷◌, ◌++◌, Bool, true, false, Option, Some, None, is_some, cond, refl, sym, ap, ◌∙◌}
 use Rattle.std.proofs.lemmas.Bool.{false≢true}
 use Rattle.ccsl_scopes.specs.declared.select.Select.{Select}
 use Rattle.ccsl_scopes.specs.declared.select.Select.TheVariants.{Whole, Bit, Range}
 use Rattle.ccsl_event_file.specs.declared.fault.EventFault.{EventFault}
 use Rattle.ccsl_event_file.specs.declared.fault.EventFault.TheVariants as faults
-use Rattle.ccsl_event_file.specs.Tokens.{Token, Placed}
+use Rattle.ccsl_event_file.specs.Tokens.{Placed}
 use Rattle.ccsl_event_file.specs.Values.{value_of}
 use Rattle.ccsl_event_file.specs.File.{Path, Condition, path, Draft, Use, trigger_of, becoming, condition_of, first_part, part, behind_part, left, behind_left}
 use Rattle.ccsl_event_file.specs.File.{right, bracket, behind_path, value, behind, Said, goes, syntax, expects, is_mark, part_of, with_part, index_of}
 use Rattle.ccsl_event_file.specs.File.{with_left, with_right, comparison_of, compares, path_says, with_condition, with_value, says, story}
-use Rattle.ccsl_event_file.specs.Parsing.{place_of, next_is, next_value, TakesOne, ReadsOne, next_token, behind_next, part_seen, value_seen, PutsPart}
+use Rattle.ccsl_event_file.specs.Parsing.{place_of, next_is, TakesOne, ReadsOne, PutsPart}
 use Rattle.ccsl_event_file.specs.Parsing.{IsValueFault, IsFault, is_condition}
 use Rattle.ccsl_event_file.proofs.Story.{taken, same, ExpectsAt, expected, unexpected, valued, unvalued}
 
@@ -170,30 +169,6 @@ pub not_closed : (d : Draft) (at : ℕ) (parts : List ℕ) (select : Select) (f 
 not_closed d at parts select f len old h =
     unexpected f len (bracket d (path at parts select)) (behind_path d (path at parts select)) (is_mark 93) old (λ _. refl) (at_bracket d at parts select) h
 
-puts_from : (parts now : List ℕ) (t : Placed) (ts : List Placed) (o : Option (List ℕ)) → part_of t.token ≡ o → true ≡ is_some o → now ≡ parts ++ unwrap_or o []
-    → PutsPart parts now (t ∷ ts) ts
-puts_from parts now t ts None e h n = absurd (false≢true (sym h))
-puts_from parts now t ts (Some text) e h n = record { next = t; text = text; is = refl; value = e; put = n }
-
-pub puts_part : (parts now : List ℕ) (old new : List Placed) (found : Option Token) → found ≡ next_token old → true ≡ is_some (part_seen found)
-    → now ≡ parts ++ unwrap_or (part_seen found) [] → new ≡ behind_next old → PutsPart parts now old new
-puts_part parts now [] new found e h n a = absurd (false≢true (sym (h ∙ ap (λ o. is_some (part_seen o)) e)))
-puts_part parts now (t ∷ ts) new found e h n a =
-    subst (λ x. PutsPart parts now (t ∷ ts) x) (sym a)
-    (puts_from parts now t ts (part_of t.token) refl (h ∙ ap (λ o. is_some (part_seen o)) e) (n ∙ ap (λ o. parts ++ unwrap_or (part_seen o) []) e))
-
 none_if : {X : Type 0} (o : Option X) → false ≡ is_some o → o ≡ None
 none_if None h = refl
 none_if (Some x) h = absurd (false≢true h)
-
-pub puts_none : (old : List Placed) (found : Option Token) → found ≡ next_token old → false ≡ is_some (part_seen found) → next_value part_of old ≡ None
-puts_none [] found e h = refl
-puts_none (t ∷ ts) found e h = none_if (part_of t.token) (h ∙ ap (λ o. is_some (part_seen o)) e)
-
-pub reads_letters : (ls : List ℕ) (old new : List Placed) → Some ls ≡ value_seen (next_token old) → new ≡ behind_next old → ReadsOne value_of ls old new
-reads_letters ls [] new e a = absurd (cc)
-reads_letters ls (t ∷ ts) new e a = subst (λ x. ReadsOne value_of ls (t ∷ ts) x) (sym a) (record { next = t; is = refl; value = sym e })
-
-pub reads_no_letters : (old : List Placed) → None ≡ value_seen (next_token old) → next_value value_of old ≡ None
-reads_no_letters [] e = refl
-reads_no_letters (t ∷ ts) e = sym e

@@ -245,29 +245,6 @@ keeps-set plan views old new code letters dumped first k tables names is readers
             (unread code letters dumped (slice_get plan.variables n) (views n) (readers n ∙ h))
             (k.quiet n (was (ticks_in n old.touched.items) refl))
 
-keeps-alike : (plan : Plan) (views views' : ℕ → View) (v : Values) → Keeps plan views v → ((n : ℕ) → views n ≡ views' n) → Keeps plan views' v
-keeps-alike plan views views' v k same = record {
-  watches = k.watches;
-  few = k.few;
-  none = k.none;
-  users = k.users;
-  codes = k.codes;
-  sizes = k.sizes;
-  seen = λ n. k.seen n ∙ same n;
-  quiet = λ n e. alike n (k.quiet n e);
-  sole = k.sole;
-  recorded = λ name e. let was = k.recorded name e in record {
-    variable = was.variable;
-    sole = was.sole;
-    heard = sym (ap (λ w. w.heard) (same was.variable)) ∙ was.heard;
-  };
-  flags = k.flags;
-}
-  where
-    alike : (n : ℕ) → IsQuiet (views n) ⊎ IsNamed v.sole_names.items v.names n → IsQuiet (views' n) ⊎ IsNamed v.sole_names.items v.names n
-    alike n (inl q) = inl (subst IsQuiet (same n) q)
-    alike n (inr is) = inr is
-
 -- a record of a variable for which one name waits
 
 chain-ends : (most : ℕ) (hs : List Held) (first : Option ℕ) → first ≡ None → chain most first hs ≡ []

@@ -28,9 +28,6 @@ past [] i h l = refl
 past (g ∷ hs) zero h l = absurd (omega (arith, l))
 past (g ∷ hs) (suc i) h l = ap (λ gs. g ∷ gs) (past hs i h (omega (arith, l)))
 
-pub replaced-past : (f : Held → Held) (hs : List Held) (i : ℕ) → length hs ≤ i → hs ≡ replaced i f hs
-replaced-past f hs i l = past hs i (f (held_at hs i)) l
-
 -- one value was taken
 pub one-set : (ss : List Signal) (i : ℕ) (old new : Signal) (touched touched' : List ℕ) (letters : List ℕ) (dumped : Bool) → i < length ss
     → old ≡ get_or ss i old →

@@ -32,10 +32,6 @@ undeclared zero i = refl
 undeclared (suc k) zero = refl
 undeclared (suc k) (suc i) = undeclared k i
 
--- of any length
-pub all-undeclared : (k : ℕ) (table : List Entry) → table ≡ replicate k Undeclared → (i : ℕ) → slice_index_or table i Undeclared ≡ Undeclared
-all-undeclared k table e i = ap (λ t. slice_index_or t i Undeclared) e ∙ undeclared k i
-
 below-none : (entries : List Entry) (o : Option ℕ) → Undeclared ≡ known_below 0 entries o
 below-none entries None = refl
 below-none entries (Some k) = rw (le-ltb k 0 (omega arith)) refl

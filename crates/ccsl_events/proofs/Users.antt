@@ -1,17 +1,17 @@
 -- Events that are users of the variables that their triggers read.
-use Rattle.std.proofs.Common.{◌≡◌, ℕ, zero, suc, ◌+◌, ◌<◌, ◌≤◌, List, [], ◌∷◌, ◌++◌, length, Bool, true, false, Option, Some, None, nat_lt, if◌then◌else◌}
+use Rattle.std.proofs.Common.{◌≡◌, ℕ, zero, suc, ◌+◌, ◌<◌, ◌≤◌, List, [], ◌∷◌, ◌++◌, length, Bool, true, false, Option, Some, None, if◌then◌else◌}
 use Rattle.std.proofs.Common.{slice_get, get_or}
 use Rattle.std.proofs.Common.{slice_index_or, refl, sym, ap, subst, ◌∙◌, ⊎_elim, arith, eq-eqb}
 use Rattle.std.specs.Prelude.{◌==◌}
 use Rattle.std.specs.declared.vec.Vec.{Vec}
 use Rattle.std.specs.declared.alloc.Global.{Global}
-use Rattle.std.proofs.lemmas.Bool.{and_parts, cases_eq, cases_lt, ltb-true}
+use Rattle.std.proofs.lemmas.Bool.{cases_eq, cases_lt}
 use Rattle.std.proofs.lemmas.Option.{slice_get_within}
 use Rattle.ccsl_base.specs.Clocks.{ticks_in}
 use Rattle.ccsl_triggers.specs.declared.watch.Watch.{Watch}
 use Rattle.ccsl_triggers.specs.Triggers.{variable_of}
 use Rattle.ccsl_events.specs.Keeping.{users_of, AreUsers, IsSoleOf, sole_at, AreSole}
-use Rattle.ccsl_events.specs.Links.{are_within, with_user}
+use Rattle.ccsl_events.specs.Links.{with_user}
 use Rattle.ccsl_events.proofs.Chains.{ticks_in-append, ticks_in-last}
 
 -- the first events are
@@ -19,23 +19,10 @@ pub record AreFirstUsers (count done : ℕ) (watches : List Watch) (users : List
   pub len : length users ≡ count
   pub each : (name : ℕ) (w : Watch) → name < done → slice_get watches name ≡ Some w → ticks_in name (users_of users (variable_of w.trigger)) ≡ true
 
-pub first-none : (count : ℕ) (watches : List Watch) (users : List (Vec ℕ Global)) → length users ≡ count → AreFirstUsers count 0 watches users
-first-none count watches users l = record { len = l; each = λ name w low e. absurd (omega (arith, low)) }
-
 pub got-watch : (ws : List Watch) (i : ℕ) (w : Watch) → i < length ws → w ≡ get_or ws i w → slice_get ws i ≡ Some w
 got-watch [] i w l g = absurd (omega (arith, l))
 got-watch (v ∷ ws) zero w l g = ap (λ u. Some u) (sym g)
 got-watch (v ∷ ws) (suc i) w l g = got-watch ws i w (omega (arith, l)) g
-
-pub one-within : (count : ℕ) (ws : List Watch) (i : ℕ) (w : Watch) → are_within count ws ≡ true → slice_get ws i ≡ Some w → variable_of w.trigger < count
-one-within count [] i w a e = absurd (cc)
-one-within count (v ∷ ws) zero w a e =
-    let both = and_parts (nat_lt (variable_of v.trigger) count) (are_within count ws) a in
-    let same : v ≡ w = cc in
-    ltb-true (variable_of w.trigger) count (ap (λ u. nat_lt (variable_of u.trigger) count) (sym same) ∙ both.0)
-one-within count (v ∷ ws) (suc i) w a e =
-    let both = and_parts (nat_lt (variable_of v.trigger) count) (are_within count ws) a in
-    one-within count ws i w both.1 e
 
 kept-user : (number name n k : ℕ) (users : List (Vec ℕ Global)) → ticks_in k (users_of users n) ≡ true → ticks_in k (with_user number name users n) ≡ true
 kept-user number name n k users e = by (n == number)

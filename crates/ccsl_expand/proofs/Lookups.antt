@@ -3,7 +3,6 @@ use Rattle.std.proofs.Common.{◌≡◌, ℕ, zero, suc, ◌+◌, ◌<◌, ◌�
 use Rattle.std.proofs.Common.{if◌then◌else◌, map, length, slice_get, bytes_eq, refl, sym, ap, ◌∙◌, arith, ltb-true, ltb-false}
 use Rattle.std.specs.List.{zip, position_or_len}
 use Rattle.std.specs.Option.{option_map}
-use Rattle.std.proofs.lemmas.Slice.Eq.{bytes_eq-Decides}
 use Rattle.std.proofs.lemmas.Option.{slice_get_past}
 use Rattle.ccsl_base.specs.Names.{find_name}
 use Rattle.ccsl_rules.specs.Settings.{Atom, ANumber, snd_of, atom_of}
@@ -14,12 +13,6 @@ use Rattle.ccsl_spaces.proofs.Places.{first-added, first-kept}
 use Rattle.ccsl_expand.specs.Seen.{atom_or_zero}
 use Rattle.ccsl_base.proofs.Tables.{bytes_eq-comm}
 use Rattle.ccsl_base.proofs.Cases.{some-same}
-
-bytes-turned : (b c : Bool) (xs ys : List ℕ) → bytes_eq xs ys ≡ b → bytes_eq ys xs ≡ c → b ≡ c
-bytes-turned true true xs ys p q = refl
-bytes-turned false false xs ys p q = refl
-bytes-turned true false xs ys p q = sym ((bytes_eq-Decides ys xs).1 (sym ((bytes_eq-Decides xs ys).0 p))) ∙ q
-bytes-turned false true xs ys p q = sym p ∙ (bytes_eq-Decides xs ys).1 (sym ((bytes_eq-Decides ys xs).0 q))
 
 found-step : (b c : Bool) → b ≡ c → (n : List ℕ) (a : Atom) (as' : List Atom) (m : ℕ) (rest : Option (List ℕ × Atom))
     → snd_of rest ≡ atom_or_zero (slice_get as' m) →
@@ -77,11 +70,6 @@ within-step false m n h = omega arith
 place-within : (ns : List (List ℕ)) (name : List ℕ) → position_or_len (bytes_eq name) ns ≤ length ns
 place-within [] name = omega arith
 place-within (n ∷ ns) name = within-step (not (bytes_eq name n)) (position_or_len (bytes_eq name) ns) (length ns) (place-within ns name)
-
--- the number of a clock by its whole name
-pub number-found : (ns : List (List ℕ)) (name : List ℕ) (i : ℕ) → find_name name ns ≡ Some i → i ≡ position_or_len (λ x. bytes_eq x name) ns
-number-found ns name i e =
-    sym (place-some (nat_lt (position_or_len (bytes_eq name) ns) (length ns)) (position_or_len (bytes_eq name) ns) i e) ∙ place-turned ns name
 
 pub number-missing : (ns : List (List ℕ)) (name : List ℕ) → find_name name ns ≡ None → length ns ≡ position_or_len (λ x. bytes_eq x name) ns
 number-missing ns name e =

@@ -26,9 +26,6 @@ file-read Report h = absurd h
 file-read TraceOut h = absurd h
 file-read CertOut h = absurd h
 
-pub only-none : (s : State) → OnlyReads s s
-only-none s = record { files = refl; others = λ _ _. refl; here = λ _. refl; rises = λ _. omega arith }
-
 pub only-then : (s t u : State) → OnlyReads s t → OnlyReads t u → OnlyReads s u
 only-then s t u p q = record {
   files = q.files ∙ p.files;

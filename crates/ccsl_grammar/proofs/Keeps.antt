@@ -23,7 +23,6 @@ use Rattle.ccsl_ast.specs.declared.term.Argument.{Argument}
 use Rattle.ccsl_ast.specs.declared.term.Argument.TheVariants as arg
 use Rattle.ccsl_ast.specs.declared.line.Relation.{Relation}
 use Rattle.ccsl_ast.specs.declared.line.Relation.TheVariants as rel
-use Rattle.ccsl_ast.specs.declared.definition.Kind.{Kind}
 use Rattle.ccsl_ast.specs.declared.definition.Kind.TheVariants as kind
 use Rattle.ccsl_ast.specs.declared.definition.Param.{Param}
 use Rattle.ccsl_ast.specs.Trees.{PlainFile, relop_in}
@@ -100,12 +99,6 @@ arg_keeps : (a : Argument) → kept (arg_spelled a) ≡ true → arg_kept a ≡ 
 arg_keeps (arg.Term t) h = term_keeps t h
 arg_keeps (arg.Text at bytes) h = one_more (text_kept bytes) h
 arg_keeps (arg.Tail x) h = one_more (spot_kept x) h
-
--- a parameter's kind is a word, and any word is kept
-kind_keeps : (k : Kind) → terminal_kept (kind_spelled k) ≡ true
-kind_keeps kind.Clock = refl
-kind_keeps kind.Number = refl
-kind_keeps kind.Word = refl
 
 param_keeps : (p : Param) → kept (param_spelled p) ≡ true → param_kept p ≡ true
 param_keeps p h = one_more (spot_kept p.name) (next (kind_spelled p.kind) (name p.name ∷ []) h).1

@@ -9,7 +9,7 @@ use Rattle.ccsl_relate.specs.Violations.{AreObeyed, IsFirst, Finds}
 use Rattle.ccsl_relate.specs.Watching.{StandsFor}
 use Rattle.ccsl_judge.specs.declared.share.Share.{Share}
 use Rattle.ccsl_judge.specs.Shares.{earlier}
-use Rattle.ccsl_judge.specs.Divided.{Follow, FollowAll}
+use Rattle.ccsl_judge.specs.Divided.{Follow}
 
 module _ (K : System) (bound : List ℕ) (rows : List Row) (low high : ℕ) where
   -- what holds of the lower items and of the higher ones
@@ -68,9 +68,6 @@ pub record Found (K : System) (bound : List ℕ) (rows : List Row) (shares : Lis
   pub upto : ℕ
   pub finds : Finds K bound rows 0 upto first
   pub rest : Follow K bound rows upto shares (item_count K)
-
-pub found-none : (K : System) (bound : List ℕ) (rows : List Row) (shares : List Share) → FollowAll K bound rows shares → Found K bound rows shares None
-found-none K bound rows shares f = record { upto = 0; finds = λ n j l a b. absurd (omega (arith, b)); rest = f }
 
 -- one share more
 pub found-more : (K : System) (bound : List ℕ) (rows : List Row) (s : Share) (shares : List Share) (v w : Option Violation) → Found K bound rows (s ∷ shares) v

@@ -1,7 +1,7 @@
 -- Counts of cells that stop at the greatest number of 32 bits are the counts, as far as they go.
 use Rattle.std.proofs.Common.{◌≡◌, ℕ, zero, suc, ◌+◌, ◌/◌, ◌<◌, List, [], ◌∷◌, ◌++◌, length, get_or, take, map, max, sum, refl, sym, ap, ap₂, ◌∙◌, arith}
 use Rattle.std.proofs.lemmas.List.{take_more, map_push}
-use Rattle.std.proofs.lemmas.List.Sums.{sum_by_push, sum_by-cons}
+use Rattle.std.proofs.lemmas.List.Sums.{sum_by-cons}
 use Rattle.ccsl_kernel.specs.declared.expr.ExprOp.{ExprOp}
 use Rattle.ccsl_kernel.specs.declared.expr.ExprOp.TheVariants as op
 use Rattle.ccsl_kernel.specs.Syntax.{Expression, EName, ECall, ENever, EBinary, EDelay, EAwait, EFilter, EDelayed, EIf, Body}
@@ -13,17 +13,6 @@ pub most_more : {A B : Type 0} (g : A → B) (f : B → ℕ) (xs : List A) (i : 
     → most ≡ saturated (greatest (map f (map g (take i xs)))) →
     here ≡ saturated (f (g (get_or xs i d))) → next ≡ max most here → next ≡ saturated (greatest (map f (map g (take (i + 1) xs))))
 most_more g f xs i d most here next l e e' e'' = omega (arith, e, e', e'', greatest_more g f xs i d l)
-
-sum_push : (ns : List ℕ) (n : ℕ) → sum (ns ++ n ∷ []) ≡ sum ns + n
-sum_push ns n = sum_by_push (λ (x : ℕ). x) ns n
-
-pub sum_more : {A B : Type 0} (g : A → B) (f : B → ℕ) (xs : List A) (i : ℕ) (d : A) → i < length xs
-    → sum (map f (map g (take (i + 1) xs))) ≡ sum (map f (map g (take i xs))) + f (g (get_or xs i d))
-sum_more g f xs i d l =
-    ap (λ r. sum (map f (map g r))) (take_more xs i d l)
-    ∙ ap (λ r. sum (map f r)) (map_push g (take i xs) (get_or xs i d))
-    ∙ ap sum (map_push f (map g (take i xs)) (g (get_or xs i d)))
-    ∙ sum_push (map f (map g (take i xs))) (f (g (get_or xs i d)))
 
 -- CAPPED counts of earlier groups are enough
 capped_at : (ns : List ℕ) (i : ℕ) → get_or (map saturated ns) i 0 ≡ saturated (get_or ns i 0)

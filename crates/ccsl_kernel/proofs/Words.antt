@@ -1,7 +1,7 @@
 -- Words from an offset on.
-use Rattle.std.proofs.Common.{◌≡◌, ℕ, suc, ◌+◌, ◌-◌, ◌%◌, ◌<◌, ◌≤◌, ⊎_elim, length, get_or, Bool, true, false, ◌&&◌, cond, refl, sym, ap, ap₂, ◌∙◌, arith}
-use Rattle.std.proofs.Common.{nat_le, nat_eq, le-leb, eq-eqb}
-use Rattle.std.proofs.lemmas.Bool.{cases_Bool, cases_lt, cases_eq, lt-leb, ne_eqb, le-ltb}
+use Rattle.std.proofs.Common.{◌≡◌, ℕ, suc, ◌+◌, ◌-◌, ◌%◌, ◌<◌, ◌≤◌, ⊎_elim, length, get_or, Bool, true, false, ◌&&◌, refl, sym, ap, ◌∙◌, arith}
+use Rattle.std.proofs.Common.{nat_le, le-leb, eq-eqb}
+use Rattle.std.proofs.lemmas.Bool.{cases_Bool, cases_lt, cases_eq, lt-leb, ne_eqb}
 use Rattle.std.proofs.Math.Nat.{add-mod_left}
 use Rattle.ccsl_words.specs.Word.{BinaryWord, letter, rest, is_finite}
 use Rattle.ccsl_words.proofs.Letters.{past_infinite, past_finite, rest_cases}
@@ -40,21 +40,3 @@ letter-rest w o k = ⊎_elim finite infinite (cases_Bool (is_finite w))
 -- whether a word has ended at an offset
 abbrev pub past : BinaryWord → ℕ → Bool
 past w o = is_finite w && nat_le (length w.prefix) o
-
-pub past-rest : (w : BinaryWord) (o k : ℕ) → past w (rest w o + k) ≡ past w (o + suc k)
-past-rest w o k = ⊎_elim finite infinite (cases_Bool (is_finite w))
-  where
-    onward : rest w o ≡ o + 1 → past w (rest w o + k) ≡ past w (o + suc k)
-    onward e = ap (λ r. past w (r + k)) e ∙ ap (past w) (omega arith)
-
-    finite : is_finite w ≡ true → past w (rest w o + k) ≡ past w (o + suc k)
-    finite fin =
-        ⊎_elim
-        (λ (l : o < length w.prefix). onward (rest_cases w o true false _ fin (lt-leb (length w.prefix) o l) refl))
-        (λ (l : length w.prefix ≤ o).
-        ap (λ r. past w (r + k)) (rest_cases w o true true _ fin (le-leb (length w.prefix) o l) refl)
-        ∙ ap (λ c. is_finite w && c) (le-leb (length w.prefix) (length w.prefix + k) (omega arith) ∙ sym (le-leb (length w.prefix) (o + suc k) (omega arith))))
-        (cases_lt o (length w.prefix))
-
-    infinite : is_finite w ≡ false → past w (rest w o + k) ≡ past w (o + suc k)
-    infinite fin = ap (λ c. c && nat_le (length w.prefix) (rest w o + k)) fin ∙ sym (ap (λ c. c && nat_le (length w.prefix) (o + suc k)) fin)

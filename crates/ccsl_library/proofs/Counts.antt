@@ -1,10 +1,9 @@
 -- Counts of ticks over a stretch of steps, and clocks that are gone.
-use Rattle.std.proofs.Common.{◌≡◌, ℕ, suc, ◌+◌, ◌<◌, ◌≤◌, length, List, [], ◌∷◌, ◌++◌, map, Bool, true, false, refl, ap, ◌∙◌, arith, if◌then◌else◌}
+use Rattle.std.proofs.Common.{◌≡◌, ℕ, ◌+◌, ◌<◌, ◌≤◌, length, List, [], ◌∷◌, ◌++◌, map, Bool, true, false, refl, ap, ◌∙◌, arith}
 use Rattle.ccsl_kernel.specs.Ticks.{count, ever}
 use Rattle.ccsl_kernel.specs.Lives.{Step, steps}
 use Rattle.ccsl_kernel.proofs.Silent.{AreGoneQuiet}
-use Rattle.ccsl_kernel.proofs.Steps.{map-steps-suc, steps-empty, steps-split, from_birth}
-use Rattle.ccsl_kernel.proofs.Quiet.{count-snoc}
+use Rattle.ccsl_kernel.proofs.Steps.{steps-empty, steps-split, from_birth}
 use Rattle.ccsl_kernel.proofs.Counts.{count_from}
 
 pub count-first : (t : ℕ → Bool) (b : ℕ) → count_from t b b ≡ 0
@@ -29,11 +28,6 @@ pub ever-count : (ts : List Bool) → ever ts ≡ true → 1 ≤ count ts
 ever-count [] h = let z : ⊥ = cc in absurd z
 ever-count (true ∷ ts) h = omega arith
 ever-count (false ∷ ts) h = ever-count ts h
-
-pub never-count : (ts : List Bool) → ever ts ≡ false → count ts ≡ 0
-never-count [] h = refl
-never-count (true ∷ ts) h = let z : ⊥ = cc in absurd z
-never-count (false ∷ ts) h = never-count ts h
 
 pub count-ever : (ts : List Bool) → 1 ≤ count ts → ever ts ≡ true
 count-ever [] h = let z : ⊥ = omega arith in absurd z

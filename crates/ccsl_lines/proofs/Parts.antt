@@ -53,9 +53,6 @@ pub all-last : (front : List ℕ) → HasNoLineFeed front → (front ≡ [] → 
 all-last [] h some = absurd (some refl)
 all-last (b ∷ bs) h some = ap all_lines (slice_split_none is_line_feed (b ∷ bs) h)
 
-pub AreLines-none : AreLines [] []
-AreLines-none = record { closed = []; split = λ more. refl; lines_are = refl }
-
 -- one part more, which ends at a line feed
 pub AreLines-more : (closed part : List ℕ) (lines : List Line) (line : Line) → AreLines closed lines → HasNoLineFeed part → line ≡ line_of part
     → AreLines (closed ++ (part ++ 10 ∷ [])) (lines ++ line ∷ [])

@@ -25,10 +25,6 @@ as_number-le : (b : Bool) → as_number b ≤ 1
 as_number-le true = omega arith
 as_number-le false = omega arith
 
-pub ones-le : (w : BinaryWord) (k : ℕ) → ones w k ≤ k
-ones-le w zero = omega arith
-ones-le w (suc k) = omega (arith, ones-suc w k, ones-le w k, as_number-le (letter w k))
-
 pub ones-mono : (w : BinaryWord) (j n : ℕ) → ones w j ≤ ones w (j + n)
 ones-mono w j zero = omega (arith, ap (ones w) (let s : j + 0 ≡ j = omega arith in s))
 ones-mono w j (suc n) =

@@ -17,11 +17,6 @@ count-is_count_by = is_count_by count (λ t. t) refl one
     one true ts = omega arith
     one false ts = refl
 
-pub count-within : (ts : List Bool) → count ts ≤ length ts
-count-within [] = omega arith
-count-within (true ∷ ts) = let h = count-within ts in omega arith
-count-within (false ∷ ts) = let h = count-within ts in omega arith
-
 count-cons : (t : Bool) (ts : List Bool) → count (t ∷ ts) ≡ (if t then count ts + 1 else count ts)
 count-cons true ts = omega arith
 count-cons false ts = refl

@@ -6,36 +6,17 @@ use Rattle.ccsl_formula.specs.Truth.{Part, with_value}
 use Rattle.ccsl_refute.specs.declared.line.Lit.{Lit}
 use Rattle.ccsl_refute.specs.declared.line.Line.{Line}
 use Rattle.ccsl_refute.specs.Literals.{lit_value, all_false, unit}
-use Rattle.ccsl_refute.specs.Validity.{clause, fails_at, unit_at, closes, unit_line}
+use Rattle.ccsl_refute.specs.Validity.{clause, unit_at, closes, unit_line}
 use Rattle.ccsl_refute.specs.Below.{AreBelow, ClausesBelow}
 use Rattle.ccsl_refute.proofs.Lists.{drop-read}
-
-pub closes-last : (d : ℕ) (lines : List Line) (p : Part) (j : ℕ) (js : List ℕ) → length js ≡ 0 → closes d lines p (j ∷ js) ≡ fails_at d lines p j
-closes-last d lines p j [] e = refl
-closes-last d lines p j (k ∷ js) e = absurd (omega arith)
 
 pub closes-unit : (d : ℕ) (lines : List Line) (p : Part) (j : ℕ) (js : List ℕ) (l : Lit) → (length js ≡ 0 → ⊥) → unit_at d lines p j ≡ Some l →
     closes d lines p (j ∷ js) ≡ closes d lines (with_value p l.clock l.positive) js
 closes-unit d lines p j [] l n e = absurd (n refl)
 closes-unit d lines p j (k ∷ js) l n e = ap (λ o. elim o [ None ↦ false | Some m ↦ closes d lines (with_value p m.clock m.positive) (k ∷ js) ]) e
 
-pub closes-none : (d : ℕ) (lines : List Line) (p : Part) (j : ℕ) (js : List ℕ) → (length js ≡ 0 → ⊥) → unit_at d lines p j ≡ None →
-    closes d lines p (j ∷ js) ≡ false
-closes-none d lines p j [] n e = absurd (n refl)
-closes-none d lines p j (k ∷ js) n e = ap (λ o. elim o [ None ↦ false | Some m ↦ closes d lines (with_value p m.clock m.positive) (k ∷ js) ]) e
-
-pub closes-at_end : (d : ℕ) (lines : List Line) (p : Part) (hs : List ℕ) (i k : ℕ) → i < length hs → k ≡ suc i → k ≡ length hs →
-    closes d lines p (drop i hs) ≡ fails_at d lines p (get_or hs i 0)
-closes-at_end d lines p hs i k l e f =
-    ap (closes d lines p) (drop-read hs i k 0 l e) ∙ closes-last d lines p (get_or hs i 0) (drop k hs) (length-drop k hs ∙ omega arith)
-
 left : (hs : List ℕ) (k : ℕ) → k ≤ length hs → (k ≡ length hs → ⊥) → length (drop k hs) ≡ 0 → ⊥
 left hs k l n e = omega (arith, length-drop k hs)
-
-pub closes-at_none : (d : ℕ) (lines : List Line) (p : Part) (hs : List ℕ) (i k : ℕ) → i < length hs → k ≡ suc i → (k ≡ length hs → ⊥) →
-    unit_at d lines p (get_or hs i 0) ≡ None → closes d lines p (drop i hs) ≡ false
-closes-at_none d lines p hs i k l e f u =
-    ap (closes d lines p) (drop-read hs i k 0 l e) ∙ closes-none d lines p (get_or hs i 0) (drop k hs) (left hs k (omega arith) f) u
 
 pub closes-at_unit : (d : ℕ) (lines : List Line) (p : Part) (hs : List ℕ) (i k : ℕ) (lit : Lit) → i < length hs → k ≡ suc i → (k ≡ length hs → ⊥) →
     unit_at d lines p (get_or hs i 0) ≡ Some lit → closes d lines p (drop i hs) ≡ closes d lines (with_value p lit.clock lit.positive) (drop k hs)

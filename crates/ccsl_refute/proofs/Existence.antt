@@ -80,10 +80,6 @@ unnamed-open x (l ∷ ls) e =
     let q = or_parts (nat_eq x l.clock) (names x ls) e in
     ap (λ c. cond c (known_as (not l.positive)) (falsified ls x)) q.0 ∙ unnamed-open x ls q.1
 
--- a literal over clock m, and its value where the clock has the other one
-of-clock : ℕ → Bool → Lit
-of-clock m b = record { clock = m; positive = b }
-
 false-here : (p : Part) (m : ℕ) (b : Bool) → is_no (lit_value (with_value p m (not b)) (record { clock = m; positive = b })) ≡ true
 false-here p m true = ap (λ c. is_no (cond c No (p m))) (eq-eqb m m refl)
 false-here p m false = ap (λ c. is_no (not3 (cond c Yes (p m)))) (eq-eqb m m refl)

@@ -1,28 +1,20 @@
 -- Members that are read one after another.
-use Rattle.std.proofs.Common.{◌≡◌, List, [], ◌∷◌, ◌++◌, Some, Ok, Err, refl, sym, ap, append_assoc, append-nil}
+use Rattle.std.proofs.Common.{◌≡◌, List, [], ◌∷◌, ◌++◌, Ok, Err, refl, sym, ap, append_assoc}
 use Rattle.std.specs.declared.result.Result.{Result}
 use Rattle.ccsl_refute.specs.declared.fault.CertFault.{CertFault}
 use Rattle.ccsl_refute.specs.declared.fault.CertFault.TheVariants.{Syntax, UnknownName, Memory}
 use Rattle.ccsl_refute.specs.declared.line.Line.{Line}
 use Rattle.ccsl_refute.specs.Read.{Reads}
-use Rattle.ccsl_refute.specs.Reading.{read_first, read_more}
+use Rattle.ccsl_refute.specs.Reading.{read_more}
 
 -- what was read before, in front of what is read
 abbrev pub put_before : {A : Type 0} → List A → Result (List A) CertFault → Result (List A) CertFault
 put_before xs (Ok ys) = Ok (xs ++ ys)
 put_before xs (Err fault) = Err fault
 
-pub put_before-first : {A : Type 0} (xs : List A) (x : A) (fault : CertFault) (rest : Result (List A) CertFault) →
-    put_before xs (read_first fault (Some x) rest) ≡ put_before (xs ++ x ∷ []) rest
-put_before-first xs x fault (Ok ys) = ap Ok (sym (append_assoc xs (x ∷ []) ys))
-put_before-first xs x fault (Err later) = refl
-
 pub put_before-more : (xs : List Line) (x : Line) (rest : Result (List Line) CertFault) → put_before xs (read_more (Ok x) rest) ≡ put_before (xs ++ x ∷ []) rest
 put_before-more xs x (Ok ys) = ap Ok (sym (append_assoc xs (x ∷ []) ys))
 put_before-more xs x (Err later) = refl
-
-pub put_before-last : {A : Type 0} (xs : List A) → put_before xs (Ok []) ≡ Ok xs
-put_before-last xs = ap Ok (append-nil xs)
 
 -- a fault that one reading has, another has too
 pub Reads-fault : {A B C D : Type 0} (f : A → B) (g : C → D) (this : Result B CertFault) (that : Result D CertFault) (fault : CertFault) →

@@ -1,12 +1,11 @@
 -- Reading, and then a report that goes on.
-use Rattle.std.proofs.Common.{◌≡◌, ◌≢◌, ◌≤◌, ◌⊎◌, ℕ, List, [], ◌++◌, take, Bool, true, false, IsTrue, inl, inr, Result, Ok, Err, refl, sym, ap, ◌∙◌, subst}
-use Rattle.std.proofs.Common.{arith, append-nil}
+use Rattle.std.proofs.Common.{◌≡◌, ◌≢◌, ℕ, List, ◌++◌, take, true, false, Result, Ok, Err, refl, sym, ap, ◌∙◌}
+use Rattle.std.proofs.Common.{arith}
 use Rattle.std.specs.Prelude.{OnOk}
 use Rattle.std.specs.Result.{is_ok}
 use Rattle.ccsl_edge.specs.declared.slot.Slot.{Slot}
 use Rattle.ccsl_edge.specs.declared.slot.Slot.TheVariants.{Report}
 use Rattle.ccsl_edge.specs.World.{State, SlotState, Told}
-use Rattle.ccsl_edge.specs.Counts.{SameCounts, NoCountFalls}
 use Rattle.ccsl_edge.specs.Calls.{Adds, AddsFront}
 use Rattle.ccsl_edge.proofs.Counts.{Adds-SameCounts, AddsFront-NoCountFalls, SameCounts-NoCountFalls}
 use Rattle.ccsl_follow.specs.OnlyReads.{OnlyReads, is_file_read}
@@ -40,16 +39,6 @@ module _ (told : Told) (bytes : List ℕ) (s t : State) where
     read = λ slot reads. slot-read _ _ (p.only.others slot (is-other slot reads));
     rises = (AddsFront-NoCountFalls told Report bytes s t p).rises;
   }
-
-pub follows-none : (told : Told) (s : State) → Follows told s s
-follows-none told s = record {
-  report = λ _. ([], sym (append-nil (s.slot_of Report).written));
-  reported = refl;
-  files = refl;
-  others = λ _ _ _. refl;
-  read = λ _ _. refl;
-  rises = λ _. omega arith;
-}
 
 pub follows-reads : (told : Told) (s t u : State) → OnlyReads s t → Follows told t u → Follows told s u
 follows-reads told s t u p q =

@@ -95,13 +95,6 @@ module _ (none-bad : NoBadLine) (K : System) (trace cert : List ℕ) where
         of-answer (NotRun v) a = sym (ap (rows_outcome K rows lines) a)
         of-answer (BadLine j) a = sym (ap (rows_outcome K rows lines) a.0.1 ∙ ap (lines_outcome a.0.0) a.1)
 
--- READING both files
-both-trace : both Trace ≡ true
-both-trace = refl
-
-both-cert : both Cert ≡ true
-both-cert = refl
-
 module _ (a b : Slot → Bool) (within : (slot : Slot) → a slot ≡ true → b slot ≡ true) (x y : State) where
   uses-within : Uses a x y → Uses b x y
   uses-within u = record {

@@ -1,6 +1,6 @@
 -- A session, as an answer to words that mean it.
-use Rattle.std.proofs.Common.{◌≡◌, ◌≢◌, ◌⊎◌, ℕ, ◌+◌, ◌<◌, ◌≤◌, List, [], ◌∷◌, ◌++◌, length, take, true, false, Contains, ◌||◌, ◌&&◌, Result, Ok, Err, IsTrue}
-use Rattle.std.proofs.Common.{⊎_elim, inl, inr, refl, sym, ap, ◌∙◌, subst, arith, append_assoc, take_all, le_refl}
+use Rattle.std.proofs.Common.{◌≡◌, ◌≢◌, ◌⊎◌, ℕ, ◌+◌, ◌<◌, ◌≤◌, List, [], ◌∷◌, ◌++◌, length, take, true, false, Contains, ◌||◌, ◌&&◌, Result, Ok, IsTrue}
+use Rattle.std.proofs.Common.{⊎_elim, inr, refl, sym, ap, ◌∙◌, subst, arith, append_assoc, take_all, le_refl}
 use Rattle.std.proofs.lemmas.Bool.{cases_lt, or_parts, both_ways}
 use Rattle.std.proofs.lemmas.List.{take-append-le}
 use Rattle.std.proofs.Math.Seq.{take-append-add}
@@ -62,9 +62,6 @@ by-slot Q i r other slot = by-test (is_slot Input slot)
     (λ no. by-test (is_slot Report slot)
     (λ yes. subst Q (is_slot-same Report slot yes) r)
     (λ n. other slot (is_slot-differs Input slot no) (is_slot-differs Report slot n)))
-
-report-apart : Report ≢ Input
-report-apart = is_slot-differs Input Report refl
 
 input-apart : Input ≢ Report
 input-apart = is_slot-differs Report Input refl

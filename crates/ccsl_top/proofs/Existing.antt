@@ -1,5 +1,5 @@
 -- Words, files and standard input have an outcome.
-use Rattle.std.proofs.Common.{◌≡◌, ◌↔◌, ◌⊎◌, ℕ, ◌+◌, ◌<◌, ◌≤◌, List, [], ◌∷◌, All, length, false, Option, Some, None, Result, Ok, Err, refl, sym, ap, ◌∙◌}
+use Rattle.std.proofs.Common.{◌≡◌, ◌↔◌, ◌⊎◌, ℕ, ◌+◌, ◌<◌, ◌≤◌, List, [], length, false, Option, Some, None, Result, Ok, Err, refl}
 use Rattle.std.proofs.Common.{⊎_elim, arith}
 use Rattle.std.proofs.lemmas.Bool.{cases_lt}
 use Rattle.ccsl_base.specs.declared.limits.TheConstants.{MAX_LETTERS}
@@ -51,10 +51,6 @@ use Rattle.ccsl_top.specs.Converse.{session_outcome}
 use Rattle.ccsl_top.specs.Program.{IsSpecOutcome, refused, accepted, usage_outcome, IsCommandOutcome, IsOutcomeOf}
 use Rattle.ccsl_top.specs.Laws.{OutcomesExist}
 use Rattle.ccsl_top.proofs.Meant.{IsFine, HasFineWords, MeansFine, meaning-fine}
-
--- an outcome of which this holds
-abbrev Some-outcome : (Outcome → Type 0) → Type 0
-Some-outcome Is = (o : Outcome) × Is o
 
 -- ONE ON A SPECIFICATION, where there is one on each accepted system
 module _ (read : SystemOrRefusal) (systems : SystemsAreAccepted) where

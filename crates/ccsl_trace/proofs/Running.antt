@@ -1,5 +1,5 @@
 -- A feed from one step to the next.
-use Rattle.std.proofs.Common.{◌≡◌, ℕ, ◌+◌, ◌*◌, min, ◌≤◌, ◌<◌, ◌^◌, List, [], ◌∷◌, ◌++◌, length, take, drop, Bool, true, false, Option, Some, None, refl, sym}
+use Rattle.std.proofs.Common.{◌≡◌, ℕ, ◌+◌, ◌≤◌, ◌<◌, ◌^◌, List, [], ◌∷◌, ◌++◌, length, take, drop, Bool, true, false, Option, Some, None, refl, sym}
 use Rattle.std.proofs.Common.{ap, ◌∙◌, subst, append_assoc, arith, length-append, length-take, length-drop}
 use Rattle.std.specs.Prelude.{is_some, IfNone}
 use Rattle.std.proofs.lemmas.List.{append-nil, take-append-drop}
@@ -49,18 +49,6 @@ some-of (Some c) e = (c, refl)
 nil-of : (a b : List Row) → a ++ b ≡ [] → a ≡ []
 nil-of [] b e = refl
 nil-of (x ∷ a) b e = absurd (cc)
-
--- what comes nearer to the end of the bytes comes nearer to the end
-pub nearer-of : (old new : Feeding) → old.ended ≡ None → new.ended ≡ None → left_of new < left_of old → calls_left new < calls_left old
-nearer-of old new e e' h =
-    subst (λ o. calls_left new < calls_left_from o old) (sym e) (subst (λ o. calls_left_from o new < calls_left_from None old) (sym e') (omega (arith, h)))
-
--- and so does what hands out rows that wait
-pub nearer-rows : (old new : Feeding) → old.ended ≡ None → old.handed ≡ false → 0 < length old.block.rows → new ≡ record old { handed = true }
-    → calls_left new < calls_left old
-nearer-rows old new e fresh some same =
-    subst (λ x. calls_left x < calls_left old) (sym same) (subst (λ o. calls_left_from o (record old { handed = true }) < calls_left_from o old) (sym e)
-    (subst (λ b. 1 + 2 * left_of old + 0 < 1 + 2 * left_of old + min 1 (length (waiting_in b old.block.rows))) (sym fresh) (omega (arith, some))))
 
 -- and what tells the end
 pub nearer-end : (old new : Feeding) (n : Counts) → old.ended ≡ None → new.ended ≡ Some n → calls_left new < calls_left old

@@ -106,9 +106,6 @@ not-end text e = rw e (go (bytes_eq text (codes "$var")) (bytes_eq text (codes "
     go false false false false true = tt
     go false false false false false = tt
 
-pub is-end : (text : List ℕ) → bytes_eq text (codes "$end") ≡ true → d.header_word text ≡ d.end_command
-is-end text e = rw e refl
-
 inside-goes : (wanted : Wanted) (limits : Limits) (hd : p.Header) (head : Token) (words : List Token) (t : Token) (w : d.HeaderWord) → NotEnd w
     → d.inside_says wanted limits hd head words t w ≡ cond (d.word_fits (d.header_word head.text) words t)
     (p.goes (p.header (record hd { among = p.inside head (words ++ t ∷ []) })) []) (p.refused (faults.BadHeader t.at))

@@ -1,10 +1,8 @@
 -- Marks that are kept as sets of clocks.
-use Rattle.std.proofs.Common.{◌≡◌, ◌≢◌, ℕ, zero, suc, ◌+◌, ◌<◌, length, take, get_or, List, [], ◌∷◌, ◌++◌, Bool, true, false, not, ◌||◌, ◌&&◌, nat_eq, nat_lt}
-use Rattle.std.proofs.Common.{cond, fold, map, filter, refl, sym, ap, ap₂, ◌∙◌, arith, eq-eqb, ⊎_elim}
-use Rattle.std.specs.Prelude.{slice_get}
+use Rattle.std.proofs.Common.{◌≡◌, ◌≢◌, ℕ, zero, suc, ◌+◌, ◌<◌, length, get_or, List, [], ◌∷◌, ◌++◌, Bool, true, false, not, ◌||◌, ◌&&◌, nat_eq, nat_lt}
+use Rattle.std.proofs.Common.{cond, map, filter, refl, sym, ap, ap₂, ◌∙◌, arith, eq-eqb}
 use Rattle.std.specs.List.{list_all, AllByRecursion}
-use Rattle.std.proofs.lemmas.List.{take_more}
-use Rattle.std.proofs.lemmas.Bool.{and_parts, ne_eqb, ltb-true, eqb-true, cases_eq}
+use Rattle.std.proofs.lemmas.Bool.{and_parts, ne_eqb, ltb-true, eqb-true}
 use Rattle.std.proofs.Math.Bool.{or-true, or-false, and-false}
 use Rattle.ccsl_base.specs.declared.limits.TheConstants.{MAX_CLOCKS}
 use Rattle.ccsl_base.specs.Clocks.{ticks_in, with_clock, is_ascending, are_below}
@@ -15,7 +13,7 @@ use Rattle.ccsl_vcd_read.specs.declared.users.Slot.{Slot}
 use Rattle.ccsl_vcd_read.specs.declared.users.User.{User}
 use Rattle.ccsl_vcd_read.specs.declared.users.User.TheVariants.{Nobody, One, Many}
 use Rattle.ccsl_vcd_read.specs.Marks.{put, aged, is_ticking, ticking}
-use Rattle.ccsl_vcd_read.specs.Users.{with_slot, user_of, user_in, IsMore}
+use Rattle.ccsl_vcd_read.specs.Users.{with_slot, user_of, IsMore}
 use Rattle.ccsl_vcd_read.specs.Kept.{mark_in, clocks_of, put_in, put_each, put_all, AreKept}
 use Rattle.ccsl_base.proofs.Ascending.{part-ascends, same-members, no-member}
 
@@ -246,16 +244,6 @@ marks-age now before later former events (s ∷ ss) e h g =
     ap (λ w. ticks_in s.clock now && not w) e.0 ∙ and-swap (ticks_in s.clock now) (not s.event) in
     ap₂ (λ (m : Mark) (ms : List Mark). m ∷ ms) (ap₂ at (h s.clock ∙ v) (g s.clock ∙ v)) (marks-age now before later former events ss e.1 h g)
 
-pub age-kept : (slots : List Slot) (users : List User) (events now later : List ℕ) → AreKept slots users events now
-    → ((x : ℕ) → ticks_in x later ≡ (ticks_in x now && not (ticks_in x events))) → AreKept slots users events later
-age-kept slots users events now later k h = record {
-  ascending = k.ascending;
-  below = k.below;
-  marked = k.marked;
-  inside = λ x t. k.inside x ((and_parts (ticks_in x now) (not (ticks_in x events)) (sym (h x) ∙ t)).0);
-  known = k.known;
-}
-
 -- A change keeps them.
 
 pub put-kept : (code : ℕ) (one dumped : Bool) (slots : List Slot) (users : List User) (events now : List ℕ) → AreKept slots users events now
@@ -353,16 +341,6 @@ push-kept slots users more events now before s k m l a =
       known = λ code. m code ∙ ap (λ u. cond (nat_eq s.code code) (with_slot u s) u) (k.known code) ∙ sym (user-more code slots s);
     }
 
-pub same-kept : (slots : List Slot) (users more : List User) (events now : List ℕ) → AreKept slots users events now
-    → ((n : ℕ) → user_in (slice_get more n) ≡ user_in (slice_get users n)) → AreKept slots more events now
-same-kept slots users more events now k h = record {
-  ascending = k.ascending;
-  below = k.below;
-  marked = k.marked;
-  inside = k.inside;
-  known = λ code. h code ∙ k.known code;
-}
-
 -- Those of a loop.
 
 pub clock-below : (bound : ℕ) (slots : List Slot) (i : ℕ) (d : Slot) → are_below bound (clocks_of slots) ≡ true → i < length slots
@@ -370,16 +348,6 @@ pub clock-below : (bound : ℕ) (slots : List Slot) (i : ℕ) (d : Slot) → are
 clock-below bound [] i d h l = absurd (omega arith)
 clock-below bound (s ∷ ss) zero d h l = ltb-true s.clock bound ((and_parts (nat_lt s.clock bound) (are_below bound (clocks_of ss)) h).0)
 clock-below bound (s ∷ ss) (suc i) d h l = clock-below bound ss i d ((and_parts (nat_lt s.clock bound) (are_below bound (clocks_of ss)) h).1) (omega arith)
-
-fold-one : (code : ℕ) (one dumped : Bool) (slots : List Slot) (s : Slot) (now : List ℕ)
-    → put_all code one dumped (slots ++ s ∷ []) now ≡ put_each code one dumped (put_all code one dumped slots now) s
-fold-one code one dumped [] s now = refl
-fold-one code one dumped (t ∷ ts) s now = fold-one code one dumped ts s (put_each code one dumped now t)
-
-pub put-more : (code : ℕ) (one dumped : Bool) (slots : List Slot) (i : ℕ) (d : Slot) (now : List ℕ) → i < length slots
-    → put_all code one dumped (take (i + 1) slots) now ≡ put_each code one dumped (put_all code one dumped (take i slots) now) (get_or slots i d)
-put-more code one dumped slots i d now l =
-    ap (λ ss. put_all code one dumped ss now) (take_more slots i d l) ∙ fold-one code one dumped (take i slots) (get_or slots i d) now
 
 pub pushed : (slots all : List Slot) (users more : List User) (events marked ones before earlier : List ℕ) (s : Slot) → AreKept slots users events ones
     → all ≡ slots ++ s ∷ []

@@ -1,12 +1,11 @@
 -- Times that are heard where they lie.
-use Rattle.std.proofs.Common.{◌≡◌, ℕ, ◌+◌, ◌-◌, ◌^◌, ◌<◌, ◌≤◌, List, ◌∷◌, length, take, drop, get_or, true, not, Some, Result, Ok, Err, refl, sym, ap, ◌∙◌}
+use Rattle.std.proofs.Common.{◌≡◌, ℕ, ◌+◌, ◌-◌, ◌^◌, ◌<◌, ◌≤◌, List, ◌∷◌, length, take, drop, get_or, true, not, Some, Ok, sym, ap, ◌∙◌}
 use Rattle.std.proofs.Common.{subst, arith, length-drop, length-take-le}
 use Rattle.std.specs.List.{list_all}
 use Rattle.std.proofs.lemmas.Bool.{le-leb}
 use Rattle.ccsl_base.specs.declared.rows.Row.{Row}
 use Rattle.ccsl_vcd_lex.specs.Tokens.{is_white}
 use Rattle.ccsl_vcd_lex.specs.Lexing.{is_dark}
-use Rattle.ccsl_vcd.specs.declared.fault.VcdFault.{VcdFault}
 use Rattle.ccsl_base.specs.Decimal.{value_behind}
 use Rattle.ccsl_vcd.specs.Words.{number}
 use Rattle.ccsl_vcd.specs.Reading.{is_changes}
@@ -50,14 +49,6 @@ time-heard b c at k value bytes x y a first some d fits inside few white says =
       }),
       (λ z. absurd (omega (arith, z))),
     )
-
-pub refused-time : (r : Result (Body × List Row) VcdFault) (f : VcdFault) (b c : Body) (at : ℕ) (bytes : List ℕ) (x y : List Row) → Says r (Err f) b c x y
-    → Front b c at bytes 0 x y
-refused-time (Ok p) f b c at bytes x y s = absurd s
-refused-time (Err g) f b c at bytes x y s = ((λ h. absurd (omega (arith, h))), (λ _. (s.1, s.2)))
-
-pub nothing-heard : (b : Body) (at : ℕ) (bytes : List ℕ) (x : List Row) → Front b b at bytes 0 x x
-nothing-heard b at bytes x = ((λ h. absurd (omega (arith, h))), (λ _. (refl, refl)))
 
 pub front-heard : (b c : Body) (at n : ℕ) (bytes : List ℕ) (x y : List Row) → Front b c at bytes n x y → 0 < n → Runs b c at (take (n + 1) bytes) x y
 front-heard b c at n bytes x y h some =

@@ -9,7 +9,7 @@ use Rattle.ccsl_vcd.specs.declared.fault.VcdFault.{VcdFault}
 use Rattle.ccsl_vcd.specs.declared.fault.VcdFault.TheVariants as faults
 use Rattle.ccsl_vcd.specs.declared.limits.Limits.{Limits}
 use Rattle.ccsl_vcd.specs.Words as w
-use Rattle.ccsl_vcd.specs.Binding.{Wanted, bind}
+use Rattle.ccsl_vcd.specs.Binding.{Wanted}
 use Rattle.ccsl_vcd.specs.Places as p
 use Rattle.ccsl_vcd.specs.Header as d
 use Rattle.ccsl_vcd.specs.Reading.{Story, next, told}
@@ -27,7 +27,7 @@ use Rattle.ccsl_vcd_read.specs.Meant.{amid_of}
 use Rattle.ccsl_vcd_read.specs.Marks.{put, aged, is_ticking, ticking}
 use Rattle.ccsl_vcd_read.specs.Step.{row_of, time_says, changed_says, put_number, skipped_says, pass_number, word_says, hear_at, hear_of, Says}
 use Rattle.ccsl_vcd_read.specs.Picture.{place_of, Shows}
-use Rattle.ccsl_vcd_read.specs.Heading.{HeadShows, Closes, Refuses, Caused}
+use Rattle.ccsl_vcd_read.specs.Heading.{Closes, Refuses, Caused}
 use Rattle.ccsl_vcd_read.specs.Opening.{IsOpened}
 use Rattle.ccsl_vcd_read.specs.Staging.{Heard, Begins}
 use Rattle.ccsl_vcd_read.proofs.BodyPictures.{Hears, hears, at_time}
@@ -157,19 +157,6 @@ body-refused wanted limits b c st at text f old new h s = go (hear_of b at text)
 
 -- A token of the header.
 
-pub head-heard : (wanted : Wanted) (limits : Limits) (h g : Heading) (st next : Story) (rows : List Row) → HeadShows wanted limits h st
-    → HeadShows wanted limits g next → Heard wanted limits (stage.Header h) (stage.Header g) false st next rows rows
-head-heard wanted limits h g st next rows s t = record {
-  pictures = t;
-  pushed = [];
-  rows = ap complete t.told ∙ sym (ap complete s.told) ∙ sym (append-nil (complete st));
-  block = sym (append-nil rows);
-  few = omega arith;
-  none = λ _. refl;
-  stays = λ e. absurd (cc);
-  ends = refl;
-}
-
 -- The end of the header.
 
 opened-told : (wanted : Wanted) (h : Heading) (st next : Story) (c : Closes wanted h st next) (b : Body) → IsOpened wanted c.declared b
@@ -204,16 +191,6 @@ begins wanted h st next c b o = record {
   };
   rows = ap complete (opened-told wanted h st next c b o) ∙ sym (ap complete c.told);
 }
-
-pub bind-refused : (wanted : Wanted) (h : Heading) (st next : Story) (c : Closes wanted h st next) (f : VcdFault) → bind wanted c.declared ≡ Err f
-    → Refuses f st next
-bind-refused wanted h st next c f e =
-    let t : next ≡ told [] (p.header c.before) (p.refused f) = c.ends ∙ ap (λ r. told [] (p.header c.before) (d.opens c.declared r)) e in
-    record {
-      fault = ap (λ (x : Story). x.fault) t;
-      place = ap (λ (x : Story). x.place) t ∙ sym (ap (λ (x : Story). x.place) c.told);
-      rows = ap complete t ∙ sym (ap complete c.told);
-    }
 
 -- the body began at a token
 pub begun : (wanted : Wanted) (limits : Limits) (h : Heading) (s : Stage) (st next : Story) (rows : List Row) → Begins s st next

@@ -1,15 +1,14 @@
 -- Ascending clocks, and those that tick among them.
-use Rattle.std.proofs.Common.{◌≡◌, ℕ, ◌+◌, ◌<◌, List, [], ◌∷◌, ◌++◌, length, take, drop, get_or, drop-cons, add-one, Bool, true, false, not, nat_lt, nat_eq}
-use Rattle.std.proofs.Common.{◌||◌, cond, filter, map, refl, sym, ap, ◌∙◌, subst}
+use Rattle.std.proofs.Common.{◌≡◌, ℕ, ◌+◌, ◌<◌, List, [], ◌∷◌, ◌++◌, length, take, drop, get_or, drop-cons, add-one, true, false, nat_lt}
+use Rattle.std.proofs.Common.{cond, filter, map, refl, sym, ap, ◌∙◌, subst}
 use Rattle.std.specs.List.{list_all}
 use Rattle.std.proofs.lemmas.Bool.{ltb-true, and_parts}
-use Rattle.std.proofs.lemmas.List.{take_more, map-append, take-append-drop, append-nil, length-map}
+use Rattle.std.proofs.lemmas.List.{take_more, map-append, take-append-drop, length-map}
 use Rattle.std.proofs.Math.Seq.{take-append_seam}
-use Rattle.std.proofs.lemmas.List.Elements.{filter-append}
-use Rattle.ccsl_base.specs.Clocks.{with_clock, is_ascending, are_below}
-use Rattle.ccsl_bind.proofs.Above.{AllBelow, with_clock-last}
+use Rattle.ccsl_base.specs.Clocks.{is_ascending, are_below}
+use Rattle.ccsl_bind.proofs.Above.{AllBelow}
 use Rattle.ccsl_vcd_read.specs.declared.marks.Mark.{Mark}
-use Rattle.ccsl_vcd_read.specs.Marks.{is_ticking, ticking, put}
+use Rattle.ccsl_vcd_read.specs.Marks.{is_ticking, ticking}
 
 -- the last of ascending numbers is above the others
 last-above : (xs : List ℕ) (y : ℕ) (ys : List ℕ) → is_ascending (xs ++ y ∷ ys) ≡ true → AllBelow y xs
@@ -29,12 +28,6 @@ ticking-below y (m ∷ ms) h =
       | true ↦ (h.0, ticking-below y ms h.1)
       | false ↦ ticking-below y ms h.1
     ]
-
-pub ticking-more : (ms : List Mark) (m : Mark) → ticking (ms ++ m ∷ []) ≡ ticking ms ++ cond (is_ticking m) (m.clock ∷ []) []
-ticking-more ms m =
-    ap (map (λ x. x.clock)) (filter-append is_ticking ms (m ∷ [])) ∙ map-append (λ (x : Mark). x.clock) (filter is_ticking ms) (filter is_ticking (m ∷ []))
-    ∙ ap (λ zs. ticking ms ++ zs)
-    (elim (is_ticking m) as (λ w. map (λ x. x.clock) (cond w (m ∷ []) []) ≡ cond w (m.clock ∷ []) []) [ true ↦ refl | false ↦ refl ])
 
 -- the mark at a place, behind those before it
 pub record At (bound : ℕ) (ms : List Mark) (i : ℕ) (m : Mark) : Type 0 where
@@ -65,34 +58,11 @@ at-place bound ms i d h asc low =
       more = take_more ms i d h;
     }
 
-ticks-so : (m : Mark) → m.now ≡ true → m.before ≡ false → is_ticking m ≡ true
-ticks-so m n b = rw (n, b) refl
-
--- one more mark that ticks, and one that does not
-pub tick-more : (bound : ℕ) (ms : List Mark) (i : ℕ) (m : Mark) (ticks : List ℕ) → At bound ms i m → ticks ≡ ticking (take i ms) → m.now ≡ true
-    → m.before ≡ false → with_clock m.clock ticks ≡ ticking (take (i + 1) ms)
-tick-more bound ms i m ticks a e n b =
-    ap (with_clock m.clock) e ∙ with_clock-last m.clock (ticking (take i ms)) a.above
-    ∙ ap (λ w. ticking (take i ms) ++ cond w (m.clock ∷ []) []) (sym (ticks-so m n b)) ∙ sym (ticking-more (take i ms) m) ∙ ap ticking (sym a.more)
-
-pub tick-none : (bound : ℕ) (ms : List Mark) (i : ℕ) (m : Mark) (ticks : List ℕ) → At bound ms i m → ticks ≡ ticking (take i ms) → is_ticking m ≡ false
-    → ticks ≡ ticking (take (i + 1) ms)
-tick-none bound ms i m ticks a e n =
-    e ∙ sym (append-nil (ticking (take i ms))) ∙ ap (λ w. ticking (take i ms) ++ cond w (m.clock ∷ []) []) (sym n) ∙ sym (ticking-more (take i ms) m)
-    ∙ ap ticking (sym a.more)
-
 -- Marks keep their clocks.
 
 pub same-clocks : (f : Mark → Mark) → ((m : Mark) → (f m).clock ≡ m.clock) → (ms : List Mark) → map (λ m. m.clock) (map f ms) ≡ map (λ m. m.clock) ms
 same-clocks f h [] = refl
 same-clocks f h (m ∷ ms) = rw (h m, same-clocks f h ms) refl
-
-pub put-clock : (code : ℕ) (one dumped : Bool) (m : Mark) → (put code one dumped m).clock ≡ m.clock
-put-clock code one dumped m =
-    elim (nat_eq m.code code) as (λ w. (cond w (cond m.event (record m { now = m.now || not dumped }) (record m { now = one })) m).clock ≡ m.clock) [
-      | true ↦ elim m.event as (λ w. (cond w (record m { now = m.now || not dumped }) (record m { now = one })).clock ≡ m.clock) [ true ↦ refl | false ↦ refl ]
-      | false ↦ refl
-    ]
 
 -- what a slice of marks was written over
 pub kept : (P : List ℕ → Type 0) (f : Mark → Mark) (old now new : List Mark) (n : ℕ) → ((m : Mark) → (f m).clock ≡ m.clock) → now ≡ old → length now ≡ n

@@ -85,9 +85,6 @@ short_some v w e =
     (λ (many : nat_le (word_len v) 4096 ≡ false). absurd (let s : None ≡ Some w = sym (ap (λ (c : Bool). cond c (Some v) None) many) ∙ e in cc))
     (cases_Bool (nat_le (word_len v) 4096))
 
-none_given : {A : Type 0} {x : A} → None ≡ Some x → ⊥
-none_given e = cc
-
 given : {A : Type 0} {x : A} (c : Bool) (o : Option A) → cond c o None ≡ Some x → (c ≡ true) × (o ≡ Some x)
 given true o e = (refl, e)
 given false o e = absurd (cc)
