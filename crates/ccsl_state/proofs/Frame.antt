@@ -60,40 +60,32 @@ module _ (K : System) (earlier : List ℕ) (calls : ℕ → List ℕ → Tree)
     Same e ρ = (xs ys : List ℕ) → cells_in earlier e ≤ MAX_CELLS → take (cells_in earlier e) xs ≡ take (cells_in earlier e) ys
         → read_in K earlier calls e ρ xs ≡ read_in K earlier calls e ρ ys
 
-    binary_same : (o : ExprOp) (a d : Expression) (ρ : List Actual) → Same a ρ → Same d ρ → Same (EBinary o a d) ρ
-    binary_same o a d ρ same_a same_d xs ys l e = on (is_then o) refl
-      where
-        then_same : (o : ExprOp) → is_then o ≡ true → cells_in earlier (EBinary o a d) ≤ MAX_CELLS
-            → take (cells_in earlier (EBinary o a d)) xs ≡ take (cells_in earlier (EBinary o a d)) ys →
-            read_in K earlier calls (EBinary o a d) ρ xs ≡ read_in K earlier calls (EBinary o a d) ρ ys
-        then_same op.Then is l e =
-            let m = cells_in earlier a in
-            let n = cells_in earlier d in
-            ap₂ (λ late t. then_at late t (read_in K earlier calls d ρ (drop 1 xs)) d ρ)
-            (ap flag_of (cell_same (1 + max m n) 0 xs ys e (omega arith)))
-            (same_a (drop 1 xs) (drop 1 ys) (omega arith) (within (1 + max m n) 1 m xs ys e (omega arith)))
-            ∙ ap (λ t. then_at (flag_at ys) (read_in K earlier calls a ρ (drop 1 ys)) t d ρ)
-            (same_d (drop 1 xs) (drop 1 ys) (omega arith) (within (1 + max m n) 1 n xs ys e (omega arith)))
-        then_same o is l e = let z : ⊥ = cc in absurd z
+    then_same : (a d : Expression) (ρ : List Actual) → Same a ρ → Same d ρ → Same (EBinary op.Then a d) ρ
+    then_same a d ρ same_a same_d xs ys l e =
+        let m = cells_in earlier a in
+        let n = cells_in earlier d in
+        ap₂ (λ late t. then_at late t (read_in K earlier calls d ρ (drop 1 xs)) d ρ)
+        (ap flag_of (cell_same (1 + max m n) 0 xs ys e (omega arith)))
+        (same_a (drop 1 xs) (drop 1 ys) (omega arith) (within (1 + max m n) 1 m xs ys e (omega arith)))
+        ∙ ap (λ t. then_at (flag_at ys) (read_in K earlier calls a ρ (drop 1 ys)) t d ρ)
+        (same_d (drop 1 xs) (drop 1 ys) (omega arith) (within (1 + max m n) 1 n xs ys e (omega arith)))
 
-        on : (t : Bool) → is_then o ≡ t → read_in K earlier calls (EBinary o a d) ρ xs ≡ read_in K earlier calls (EBinary o a d) ρ ys
-        on true is = then_same o is l e
-        on false is =
-            let m = cells_in earlier a in
-            let n = cells_in earlier d in
-            let c = cells_pair o m n is in
-            let total = own_cells o + m + n in
-            let e' : take total xs ≡ take total ys = subst (λ k. take k xs ≡ take k ys) c e in
-            let l' : total ≤ MAX_CELLS = subst (λ k. k ≤ MAX_CELLS) c l in
-            let A = λ (zs : List ℕ). read_in K earlier calls a ρ (drop (own_cells o) zs) in
-            let D = λ (zs : List ℕ). read_in K earlier calls d ρ (drop (own_cells o + m) zs) in
-            let X = λ (zs : List ℕ). then_at (flag_at zs) (read_in K earlier calls a ρ (drop 1 zs)) (read_in K earlier calls d ρ (drop 1 zs)) d ρ in
-            binary_pair o xs is (A xs) (D xs) (X xs)
-            ∙ ap (λ o'. pair_at o' (A xs) (D xs)) (two_same o xs ys (fewer total (own_cells o) xs ys e' (omega arith)))
-            ∙ ap₂ (pair_at (two_at o ys))
-            (same_a (drop (own_cells o) xs) (drop (own_cells o) ys) (omega arith) (within total (own_cells o) m xs ys e' (omega arith)))
-            (same_d (drop (own_cells o + m) xs) (drop (own_cells o + m) ys) (omega arith) (within total (own_cells o + m) n xs ys e' (omega arith)))
-            ∙ sym (binary_pair o ys is (A ys) (D ys) (X ys))
+    pair_same : (o : ExprOp) → is_then o ≡ false → (a d : Expression) (ρ : List Actual) → Same a ρ → Same d ρ → Same (EBinary o a d) ρ
+    pair_same o is a d ρ same_a same_d xs ys l e =
+        let m = cells_in earlier a in
+        let n = cells_in earlier d in
+        let c = cells_pair o m n is in
+        let total = own_cells o + m + n in
+        let e' : take total xs ≡ take total ys = subst (λ k. take k xs ≡ take k ys) c e in
+        let l' : total ≤ MAX_CELLS = subst (λ k. k ≤ MAX_CELLS) c l in
+        let A = λ (zs : List ℕ). read_in K earlier calls a ρ (drop (own_cells o) zs) in
+        let D = λ (zs : List ℕ). read_in K earlier calls d ρ (drop (own_cells o + m) zs) in
+        binary_pair o xs is (A xs) (D xs) _
+        ∙ ap (λ o'. pair_at o' (A xs) (D xs)) (two_same o xs ys (fewer total (own_cells o) xs ys e' (omega arith)))
+        ∙ ap₂ (pair_at (two_at o ys))
+        (same_a (drop (own_cells o) xs) (drop (own_cells o) ys) (omega arith) (within total (own_cells o) m xs ys e' (omega arith)))
+        (same_d (drop (own_cells o + m) xs) (drop (own_cells o + m) ys) (omega arith) (within total (own_cells o + m) n xs ys e' (omega arith)))
+        ∙ sym (binary_pair o ys is (A ys) (D ys) _)
 
     lag_same : (a : Expression) (m : ℕ) (d : Expression) (ρ : List Actual) → Same a ρ → Same d ρ → Same (EDelayed a m d) ρ
     lag_same a m d ρ same_a same_d xs ys l e =
@@ -118,7 +110,8 @@ module _ (K : System) (earlier : List ℕ) (calls : ℕ → List ℕ → Tree)
         on true is = calls_same group xs ys (ltb-true group (length earlier) is) l e
         on false is = refl
     read_in_same ENever ρ xs ys l e = refl
-    read_in_same (EBinary o a d) ρ xs ys l e = binary_same o a d ρ (λ xs ys l e. read_in_same a ρ xs ys l e) (λ xs ys l e. read_in_same d ρ xs ys l e) xs ys l e
+    read_in_same (EBinary op.Then a d) ρ xs ys l e = then_same a d ρ (read_in_same a ρ) (read_in_same d ρ) xs ys l e
+    read_in_same (EBinary o a d) ρ xs ys l e = pair_same o refl a d ρ (read_in_same a ρ) (read_in_same d ρ) xs ys l e
     read_in_same (EDelay a m) ρ xs ys l e =
         ap₂ (λ n t. TOne (Delaying (number_of m ρ) (count_of n)) t) (cell_same (1 + cells_in earlier a) 0 xs ys e (omega arith))
         (read_in_same a ρ (drop 1 xs) (drop 1 ys) (omega arith) (within (1 + cells_in earlier a) 1 (cells_in earlier a) xs ys e (omega arith)))
@@ -129,7 +122,7 @@ module _ (K : System) (earlier : List ℕ) (calls : ℕ → List ℕ → Tree)
         let v = word_of K.words (suffix_of K.words w ρ).word in
         ap₂ (λ n t. TOne (Filtering v (offset_of v n)) t) (cell_same (1 + cells_in earlier a) 0 xs ys e (omega arith))
         (read_in_same a ρ (drop 1 xs) (drop 1 ys) (omega arith) (within (1 + cells_in earlier a) 1 (cells_in earlier a) xs ys e (omega arith)))
-    read_in_same (EDelayed a m d) ρ xs ys l e = lag_same a m d ρ (λ xs ys l e. read_in_same a ρ xs ys l e) (λ xs ys l e. read_in_same d ρ xs ys l e) xs ys l e
+    read_in_same (EDelayed a m d) ρ xs ys l e = lag_same a m d ρ (read_in_same a ρ) (read_in_same d ρ) xs ys l e
     read_in_same (EIf q a d) ρ xs ys l e =
         let total = 1 + max (cells_in earlier a) (cells_in earlier d) in
         ap₂ (λ s t. if test_of K.words q ρ then s else t)

@@ -1,8 +1,9 @@
 -- What a node keeps is what its row counts over all ticks, in fewer steps than a count can hold.
 use Rattle.std.proofs.lemmas.Grind.{common_steps}
-use Rattle.std.proofs.Common.{◌≡◌, ℕ, zero, suc, ◌+◌, ◌-◌, ◌<◌, ◌≤◌, List, [], ◌∷◌, ◌++◌, map, length, get_or, le-ltb, lt-ltb, Bool, true}
+use Rattle.std.proofs.Common.{◌≡◌, ℕ, zero, suc, ◌+◌, ◌-◌, ◌<◌, ◌≤◌, List, [], ◌∷◌, ◌++◌, map, length, take, get_or, Bool, true}
 use Rattle.std.proofs.Common.{false, not, ◌&&◌, ◌||◌, refl, sym, ap, ap₂, ◌∙◌, arith, nat_lt, nat_eq, nat_le, zero-add, replicate, if◌then◌else◌}
-use Rattle.std.proofs.lemmas.Bool.{ne_eqb}
+use Rattle.std.proofs.lemmas.List.{get_or-replicate, length-replicate}
+use Rattle.std.proofs.Math.Seq.{take-length}
 use Rattle.std.proofs.Math.Bool.{or_assoc, or-false}
 use Rattle.ccsl_formula.specs.Formula.{Formula, FFalse}
 use Rattle.ccsl_words.specs.Word.{BinaryWord, letter, rest, is_finite}
@@ -56,13 +57,14 @@ less : (c : ℕ) (t : Bool) (k : ℕ) → c + suc k ≤ most → bumped t c + k 
 less c true k h = omega (arith, h)
 less c false k h = omega (arith, h)
 
-pub awaiting : (m c : ℕ) (t : ℕ → Bool) (is : List ℕ) → c + length is ≤ most → one_after (Awaiting m c) t is ≡ Awaiting m (c + count (map t is))
-awaiting m c t [] h = ap (Awaiting m) (omega arith)
-awaiting m c t (i ∷ is) h = awaiting m (bumped (t i) c) t is (less c (t i) (length is) h) ∙ ap (Awaiting m) (counted c (t i) (count (map t is)) (length is) h)
-
-pub delaying : (m c : ℕ) (t : ℕ → Bool) (is : List ℕ) → c + length is ≤ most → one_after (Delaying m c) t is ≡ Delaying m (c + count (map t is))
-delaying m c t [] h = ap (Delaying m) (omega arith)
-delaying m c t (i ∷ is) h = delaying m (bumped (t i) c) t is (less c (t i) (length is) h) ∙ ap (Delaying m) (counted c (t i) (count (map t is)) (length is) h)
+-- one that counts the ticks of its operand
+counting : (node : ℕ → One) → ((c : ℕ) (t : Bool) → one_next (node c) t ≡ node (bumped t c)) → (c : ℕ) (t : ℕ → Bool) (is : List ℕ) → c + length is ≤ most
+    → one_after (node c) t is ≡ node (c + count (map t is))
+counting node next c t [] h = ap node (omega arith)
+counting node next c t (i ∷ is) h =
+    ap (λ o. one_after o t is) (next c (t i))
+    ∙ counting node next (bumped (t i) c) t is (less c (t i) (length is) h)
+    ∙ ap node (counted c (t i) (count (map t is)) (length is) h)
 
 -- a filter's offset stands for the place of its next letter
 filtered : (w : BinaryWord) (o k : ℕ) (t : ℕ → Bool) (is : List ℕ) →
@@ -105,10 +107,10 @@ filtering w o t [] = refl
 filtering w o t (i ∷ is) = filtering w (if t i then rest w o else o) t is
 
 pub await_is : (m : ℕ) → IsOne (Awaiting m 0) (await_row m)
-await_is m = grind (arith, common_steps, awaiting, zero-add, more_one)
+await_is m = grind (arith, common_steps, counting (Awaiting m) (λ c t. refl), zero-add, more_one)
 
 pub delay_is : (m : ℕ) → IsOne (Delaying m 0) (delay_row m)
-delay_is m = grind (arith, common_steps, delaying, zero-add)
+delay_is m = grind (arith, common_steps, counting (Delaying m) (λ c t. refl), zero-add)
 
 pub filter_is : (w : BinaryWord) (o : ℕ) → IsOne (Filtering w o) (filter_row w o)
 filter_is w o = record {
@@ -119,60 +121,47 @@ filter_is w o = record {
       (where_finite (is_finite w) _ _ (ended w o t is));
 }
 
-pub uniting : (t u : ℕ → Bool) (is : List ℕ) → two_after Uniting t u is ≡ Uniting
-uniting t u [] = refl
-uniting t u (i ∷ is) = uniting t u is
+-- a node that keeps nothing
+unchanged : (o : Two) → ((t u : Bool) → two_next o t u ≡ o) → (t u : ℕ → Bool) (is : List ℕ) → two_after o t u is ≡ o
+unchanged o next t u [] = refl
+unchanged o next t u (i ∷ is) = ap (λ o. two_after o t u is) (next (t i) (u i)) ∙ unchanged o next t u is
 
 pub union_is : IsTwo Uniting union_row
-union_is = record { at = λ t u is f g x y h. ap (λ o. record { formula = two_formula o f g; dead = two_dead o x y }) (uniting t u is) }
-
-pub meeting : (t u : ℕ → Bool) (is : List ℕ) → two_after Meeting t u is ≡ Meeting
-meeting t u [] = refl
-meeting t u (i ∷ is) = meeting t u is
+union_is = grind (arith, common_steps, unchanged Uniting (λ t u. refl))
 
 pub inter_is : IsTwo Meeting inter_row
-inter_is = record { at = λ t u is f g x y h. ap (λ o. record { formula = two_formula o f g; dead = two_dead o x y }) (meeting t u is) }
-
-pub lessening : (t u : ℕ → Bool) (is : List ℕ) → two_after Lessening t u is ≡ Lessening
-lessening t u [] = refl
-lessening t u (i ∷ is) = lessening t u is
+inter_is = grind (arith, common_steps, unchanged Meeting (λ t u. refl))
 
 pub minus_is : IsTwo Lessening minus_row
-minus_is = record { at = λ t u is f g x y h. ap (λ o. record { formula = two_formula o f g; dead = two_dead o x y }) (lessening t u is) }
+minus_is = grind (arith, common_steps, unchanged Lessening (λ t u. refl))
 
-pub leading : (a d : ℕ) (t u : ℕ → Bool) (is : List ℕ) → a + length is ≤ most → d + length is ≤ most
-    → two_after (Leading a d) t u is ≡ Leading (a + count (map t is)) (d + count (map u is))
-leading a d t u [] h k = ap₂ Leading (omega arith) (omega arith)
-leading a d t u (i ∷ is) h k =
-    leading (bumped (t i) a) (bumped (u i) d) t u is (less a (t i) (length is) h) (less d (u i) (length is) k)
-    ∙ ap₂ Leading (counted a (t i) (count (map t is)) (length is) h) (counted d (u i) (count (map u is)) (length is) k)
+-- one that counts the ticks of both operands
+both_counting : (node : ℕ → ℕ → Two) → ((a d : ℕ) (t u : Bool) → two_next (node a d) t u ≡ node (bumped t a) (bumped u d)) → (a d : ℕ) (t u : ℕ → Bool)
+    (is : List ℕ) → a + length is ≤ most → d + length is ≤ most → two_after (node a d) t u is ≡ node (a + count (map t is)) (d + count (map u is))
+both_counting node next a d t u [] h k = ap₂ node (omega arith) (omega arith)
+both_counting node next a d t u (i ∷ is) h k =
+    ap (λ o. two_after o t u is) (next a d (t i) (u i))
+    ∙ both_counting node next (bumped (t i) a) (bumped (u i) d) t u is (less a (t i) (length is) h) (less d (u i) (length is) k)
+    ∙ ap₂ node (counted a (t i) (count (map t is)) (length is) h) (counted d (u i) (count (map u is)) (length is) k)
 
 pub inf_is : IsTwo (Leading 0 0) inf_row
-inf_is = grind (arith, common_steps, leading, zero-add)
-
-pub trailing : (a d : ℕ) (t u : ℕ → Bool) (is : List ℕ) → a + length is ≤ most → d + length is ≤ most
-    → two_after (Trailing a d) t u is ≡ Trailing (a + count (map t is)) (d + count (map u is))
-trailing a d t u [] h k = ap₂ Trailing (omega arith) (omega arith)
-trailing a d t u (i ∷ is) h k =
-    trailing (bumped (t i) a) (bumped (u i) d) t u is (less a (t i) (length is) h) (less d (u i) (length is) k)
-    ∙ ap₂ Trailing (counted a (t i) (count (map t is)) (length is) h) (counted d (u i) (count (map u is)) (length is) k)
+inf_is = grind (arith, common_steps, both_counting Leading (λ a d t u. refl), zero-add)
 
 pub sup_is : IsTwo (Trailing 0 0) sup_row
-sup_is = grind (arith, common_steps, trailing, zero-add)
+sup_is = grind (arith, common_steps, both_counting Trailing (λ a d t u. refl), zero-add)
 
-pub ending : (s : Bool) (t u : ℕ → Bool) (is : List ℕ) → two_after (Ending s) t u is ≡ Ending (s || ever (map u is))
-ending s t u [] = ap Ending (elim s as (λ s. s ≡ (s || false)) [ true ↦ refl | false ↦ refl ])
-ending s t u (i ∷ is) = ending (s || u i) t u is ∙ ap Ending (or_assoc s (u i) (ever (map u is)))
+-- one that is ended by a tick of its right operand
+ending : (node : Bool → Two) → ((s t u : Bool) → two_next (node s) t u ≡ node (s || u)) → (s : Bool) (t u : ℕ → Bool) (is : List ℕ)
+    → two_after (node s) t u is ≡ node (s || ever (map u is))
+ending node next s t u [] = ap node (sym (or-false s))
+ending node next s t u (i ∷ is) =
+    ap (λ o. two_after o t u is) (next s (t i) (u i)) ∙ ending node next (s || u i) t u is ∙ ap node (or_assoc s (u i) (ever (map u is)))
 
 pub upto_is : IsTwo (Ending false) upto_row
-upto_is = record { at = λ t u is f g x y h. ap (λ o. record { formula = two_formula o f g; dead = two_dead o x y }) (ending false t u is) }
-
-pub ending_weakly : (s : Bool) (t u : ℕ → Bool) (is : List ℕ) → two_after (EndingWeakly s) t u is ≡ EndingWeakly (s || ever (map u is))
-ending_weakly s t u [] = ap EndingWeakly (elim s as (λ s. s ≡ (s || false)) [ true ↦ refl | false ↦ refl ])
-ending_weakly s t u (i ∷ is) = ending_weakly (s || u i) t u is ∙ ap EndingWeakly (or_assoc s (u i) (ever (map u is)))
+upto_is = grind (arith, common_steps, ending Ending (λ s t u. refl))
 
 pub upto_weakly_is : IsTwo (EndingWeakly false) upto_weakly_row
-upto_weakly_is = record { at = λ t u is f g x y h. ap (λ o. record { formula = two_formula o f g; dead = two_dead o x y }) (ending_weakly false t u is) }
+upto_weakly_is = grind (arith, common_steps, ending EndingWeakly (λ s t u. refl))
 
 -- w: the flag before, t and u: whether a and d tick now, e: whether d ticks later, v: whether a later tick of a waits in the end
 sampled_flag : (w t u e v : Bool) → (v || ((t || (w && not u)) && not e)) ≡ (((t && not e) || v) || (w && not (u || e)))
@@ -215,134 +204,65 @@ length-shifted : (f : Bool) (q : List Bool) → length (shifted f q) ≡ length 
 length-shifted f [] = refl
 length-shifted f (x ∷ q) = ap suc (length-shifted x q)
 
-length-set_first : (t : Bool) (q : List Bool) → length (set_first t q) ≡ length q
-length-set_first t [] = refl
-length-set_first t (x ∷ q) = refl
-
-length-marked : (t u : Bool) (q : List Bool) → length (set_first t (if u then shifted false q else q)) ≡ length q
-length-marked t true q = length-set_first t (shifted false q) ∙ length-shifted false q
-length-marked t false q = length-set_first t q
-
-eqb-suc : (a b : ℕ) → nat_eq (suc a) (suc b) ≡ nat_eq a b
-eqb-suc a b = grind (arith, common_steps)
-
-eqb_zero_suc : (j : ℕ) → nat_eq 0 (suc j) ≡ false
-eqb_zero_suc j = ne_eqb 0 (suc j) (λ e. omega arith)
-
-eqb_suc_zero : (j : ℕ) → nat_eq (suc j) 0 ≡ false
-eqb_suc_zero j = ne_eqb (suc j) 0 (λ e. omega arith)
-
-ltb-suc : (a b : ℕ) → nat_lt (suc a) (suc b) ≡ nat_lt a b
-ltb-suc a b = grind (arith, common_steps)
-
--- as many places further
-abbrev falses : ℕ → List Bool → List Bool
-falses zero q = q
-falses (suc c) q = false ∷ falses c q
-
 get_shifted : (f : Bool) (q : List Bool) (j : ℕ) → j < length q → get_or (shifted f q) j false ≡ get_or (f ∷ q) j false
 get_shifted f [] j l = let z : ⊥ = omega arith in absurd z
 get_shifted f (x ∷ q) zero l = refl
 get_shifted f (x ∷ q) (suc j) l = get_shifted x q j (omega arith)
 
-get_set_first : (t : Bool) (q : List Bool) (j : ℕ) → j < length q → get_or (set_first t q) j false ≡ ((t && nat_eq 0 j) || get_or q j false)
-get_set_first t [] j l = let z : ⊥ = omega arith in absurd z
-get_set_first true (x ∷ q) zero l = refl
-get_set_first true (x ∷ q) (suc j) l = ap (λ e. e || get_or q j false) (sym (eqb_zero_suc j))
-get_set_first false (x ∷ q) zero l = refl
-get_set_first false (x ∷ q) (suc j) l = refl
+any_shifted : (f : Bool) (q : List Bool) (n : ℕ) → n ≤ length q → any_set (take n (shifted f q)) ≡ any_set (take n (f ∷ q))
+any_shifted f q zero l = refl
+any_shifted f [] (suc n) l = absurd (omega (arith, l))
+any_shifted f (x ∷ q) (suc n) l = ap (λ y. f || y) (any_shifted x q n (omega (arith, l)))
 
-get_marked : (t u : Bool) (q : List Bool) (c j : ℕ) → j < length q
-    → get_or (falses c (set_first t (if u then shifted false q else q))) j false ≡ ((t && nat_eq c j) || get_or (falses (if u then suc c else c) q) j false)
-get_marked t true q zero j l =
-    get_set_first t (shifted false q) j (omega (arith, length-shifted false q)) ∙ ap (λ x. (t && nat_eq 0 j) || x) (get_shifted false q j l)
-get_marked t false q zero j l = get_set_first t q j l
-get_marked true u q (suc c) zero l =
-    elim u as (λ u. false ≡ get_or (falses (if u then suc (suc c) else suc c) q) 0 false) [ true ↦ refl | false ↦ refl ]
-    ∙ ap (λ e. e || get_or (falses (if u then suc (suc c) else suc c) q) 0 false) (sym (eqb_suc_zero c))
-get_marked false u q (suc c) zero l = elim u as (λ u. false ≡ get_or (falses (if u then suc (suc c) else suc c) q) 0 false) [ true ↦ refl | false ↦ refl ]
-get_marked t true q (suc c) (suc j) l = get_marked t true q c j (omega arith) ∙ ap (λ e. (t && e) || get_or (falses (suc c) q) j false) (sym (eqb-suc c j))
-get_marked t false q (suc c) (suc j) l = get_marked t false q c j (omega arith) ∙ ap (λ e. (t && e) || get_or (falses c q) j false) (sym (eqb-suc c j))
+-- the marks after one step
+abbrev marked : Bool → Bool → List Bool → List Bool
+marked t u q = set_first t (if u then shifted false q else q)
 
-or_swap : (w a f : Bool) → (w || (a || f)) ≡ ((a || w) || f)
-or_swap w a f = grind arith
+length-marked : (t u : Bool) (q : List Bool) → length (marked t u q) ≡ length q
+length-marked t u [] = elim u as (λ u. length (marked t u []) ≡ 0) [ true ↦ refl | false ↦ refl ]
+length-marked t true (x ∷ q) = ap suc (length-shifted x q)
+length-marked t false (x ∷ q) = refl
 
-get_marks : (q : List Bool) (t u : ℕ → Bool) (is : List ℕ) (j : ℕ) → j < length q
-    → get_or (marks_after q t u is) j false ≡ (waits_since j (map t is) (map u is) || get_or (falses (count (map u is)) q) j false)
-get_marks q t u [] j l = refl
-get_marks q t u (i ∷ is) j l =
-    get_marks (set_first (t i) (if u i then shifted false q else q)) t u is j (omega (arith, length-marked (t i) (u i) q))
-    ∙ ap (λ x. waits_since j (map t is) (map u is) || x) (get_marked (t i) (u i) q (count (map u is)) j l)
-    ∙ or_swap (waits_since j (map t is) (map u is)) (t i && nat_eq (count (map u is)) j)
-    (get_or (falses (if u i then suc (count (map u is)) else count (map u is)) q) j false)
+later : (t : Bool) (k : ℕ) (at : ℕ → Bool) → at k ≡ ((t && nat_eq (suc k) 0) || (nat_lt 0 (suc k) && at (suc k - 1)))
+later t k at = grind (arith, common_steps)
+
+-- a mark that stood so many places before: the first place is marked where a ticks
+get_marked : (t u : Bool) (q : List Bool) (k : ℕ) → k < length q
+    → get_or (marked t u q) k false ≡ ((t && nat_eq k 0) || (if u then nat_lt 0 k && get_or q (k - 1) false else get_or q k false))
+get_marked t u [] k l = absurd (omega (arith, l))
+get_marked true true (x ∷ q) zero l = refl
+get_marked false true (x ∷ q) zero l = refl
+get_marked t true (x ∷ q) (suc k) l = get_shifted x q k (omega (arith, l)) ∙ later t k (λ k. get_or (x ∷ q) k false)
+get_marked true false (x ∷ q) zero l = refl
+get_marked false false (x ∷ q) zero l = refl
+get_marked t false (x ∷ q) (suc k) l = grind (arith, common_steps)
+
+any_marked : (t u : Bool) (q : List Bool) (n : ℕ) → n ≤ length q
+    → any_set (take n (marked t u q)) ≡ ((t && nat_lt 0 n) || any_set (take (if u then n - 1 else n) q))
+any_marked t u q zero l = grind (arith, common_steps)
+any_marked t u [] (suc n) l = absurd (omega (arith, l))
+any_marked t true (x ∷ q) (suc n) l = grind (arith, common_steps, any_shifted)
+any_marked t false (x ∷ q) (suc n) l = grind (arith, common_steps)
 
 length-marks : (q : List Bool) (t u : ℕ → Bool) (is : List ℕ) → length (marks_after q t u is) ≡ length q
 length-marks q t u [] = refl
-length-marks q t u (i ∷ is) = length-marks (set_first (t i) (if u i then shifted false q else q)) t u is ∙ length-marked (t i) (u i) q
+length-marks q t u (i ∷ is) = length-marks (marked (t i) (u i) q) t u is ∙ length-marked (t i) (u i) q
 
-none_set : (c m j : ℕ) → get_or (falses c (replicate m false)) j false ≡ false
-none_set zero zero j = refl
-none_set zero (suc m) zero = refl
-none_set zero (suc m) (suc j) = none_set zero m j
-none_set (suc c) m zero = refl
-none_set (suc c) m (suc j) = none_set c m j
+-- a place is marked by a tick of a since the birth, or by a mark from before
+get_marks : (q : List Bool) (t u : ℕ → Bool) (is : List ℕ) (j : ℕ) → j < length q → get_or (marks_after q t u is) j false
+    ≡ (waits_since j (map t is) (map u is) || (nat_le (count (map u is)) j && get_or q (j - count (map u is)) false))
+get_marks q t u [] j l = grind (arith, common_steps)
+get_marks q t u (i ∷ is) j l = grind (arith, common_steps, get_marks (marked (t i) (u i) q) t u is j, get_marked, length-marked)
 
-length-falses : (m : ℕ) → length (replicate m false) ≡ m
-length-falses zero = refl
-length-falses (suc m) = ap suc (length-falses m)
+any_marks : (q : List Bool) (t u : ℕ → Bool) (is : List ℕ)
+    → any_set (marks_after q t u is) ≡ (waits_below (length q) (map t is) (map u is) || any_set (take (length q - count (map u is)) q))
+any_marks q t u [] = grind (arith, common_steps, take-length)
+any_marks q t u (i ∷ is) = grind (arith, common_steps, any_marks (marked (t i) (u i) q) t u is, any_marked, length-marked)
 
--- whether one of the first m is true
-abbrev any_below : ℕ → (ℕ → Bool) → Bool
-any_below zero g = false
-any_below (suc m) g = g 0 || any_below m (λ j. g (suc j))
-
-any_below-set : (q : List Bool) (g : ℕ → Bool) → ((j : ℕ) → j < length q → get_or q j false ≡ g j) → any_set q ≡ any_below (length q) g
-any_below-set [] g h = refl
-any_below-set (x ∷ q) g h = ap₂ (λ x y. x || y) (h 0 (omega arith)) (any_below-set q (λ j. g (suc j)) (λ j l. h (suc j) (omega arith)))
-
-any_below-same : (m : ℕ) (g h : ℕ → Bool) → ((j : ℕ) → g j ≡ h j) → any_below m g ≡ any_below m h
-any_below-same zero g h e = refl
-any_below-same (suc m) g h e = ap₂ (λ x y. x || y) (e 0) (any_below-same m (λ j. g (suc j)) (λ j. h (suc j)) (λ j. e (suc j)))
-
-any_below-none : (m : ℕ) → any_below m (λ j. false) ≡ false
-any_below-none zero = refl
-any_below-none (suc m) = any_below-none m
-
-or_both : (a b c d : Bool) → ((a || b) || (c || d)) ≡ ((a || c) || (b || d))
-or_both a b c d = grind arith
-
-any_below-or : (m : ℕ) (g h : ℕ → Bool) → any_below m (λ j. g j || h j) ≡ (any_below m g || any_below m h)
-any_below-or zero g h = refl
-any_below-or (suc m) g h =
-    ap (λ x. (g 0 || h 0) || x) (any_below-or m (λ j. g (suc j)) (λ j. h (suc j)))
-    ∙ or_both (g 0) (h 0) (any_below m (λ j. g (suc j))) (any_below m (λ j. h (suc j)))
-
-any_below-one : (m c : ℕ) (t : Bool) → any_below m (λ j. t && nat_eq c j) ≡ (t && nat_lt c m)
-any_below-one zero c true = sym (le-ltb c 0 (omega arith))
-any_below-one zero c false = refl
-any_below-one (suc m) c false = any_below-none m
-any_below-one (suc m) zero true = sym (lt-ltb 0 (suc m) (omega arith))
-any_below-one (suc m) (suc c) true =
-    ap (λ e. e || any_below m (λ j. nat_eq (suc c) (suc j))) (eqb_suc_zero c)
-    ∙ any_below-same m (λ j. nat_eq (suc c) (suc j)) (λ j. nat_eq c j) (λ j. eqb-suc c j) ∙ any_below-one m c true ∙ sym (ltb-suc c m)
-
-any_below-waits : (m : ℕ) (t u : ℕ → Bool) (is : List ℕ) → any_below m (λ j. waits_since j (map t is) (map u is)) ≡ waits_below m (map t is) (map u is)
-any_below-waits m t u [] = any_below-none m
-any_below-waits m t u (i ∷ is) =
-    any_below-or m (λ j. t i && nat_eq (count (map u is)) j) (λ j. waits_since j (map t is) (map u is))
-    ∙ ap₂ (λ x y. x || y) (any_below-one m (count (map u is)) (t i)) (any_below-waits m t u is)
+any_none : (n m : ℕ) → any_set (take n (replicate m false)) ≡ false
+any_none zero m = refl
+any_none (suc n) zero = refl
+any_none (suc n) (suc m) = any_none n m
 
 pub delayed_is : (m : ℕ) → 1 ≤ m → IsTwo (Lagging m (replicate m false)) (delayed_row m)
-delayed_is m pos = record {
-  at = λ t u is f g x y h.
-      let q = marks_after (replicate m false) t u is in
-      let len : length q ≡ m = length-marks (replicate m false) t u is ∙ length-falses m in
-      let mark : (j : ℕ) → j < m → get_or q j false ≡ waits_since j (map t is) (map u is) = λ j l.
-      get_marks (replicate m false) t u is j (omega (arith, length-falses m))
-      ∙ ap (λ z. waits_since j (map t is) (map u is) || z) (none_set (count (map u is)) m j)
-      ∙ or-false (waits_since j (map t is) (map u is)) in
-      ap (λ o. record { formula = two_formula o f g; dead = two_dead o x y }) (lagging m (replicate m false) t u is)
-      ∙ ap₂ (λ (l e : Bool). record { formula = if l then g else FFalse; dead = y || (x && not e) }) (mark (m - 1) (omega (arith, pos)))
-      (any_below-set q (λ j. waits_since j (map t is) (map u is)) (λ j l. mark j (omega (arith, len)))
-      ∙ ap (λ k. any_below k (λ j. waits_since j (map t is) (map u is))) len ∙ any_below-waits m t u is);
-}
+delayed_is m pos = grind (arith, common_steps, lagging, get_marks, any_marks, any_none, get_or-replicate, length-replicate)

@@ -2,39 +2,72 @@
 use Rattle.std.proofs.lemmas.Grind.{common_steps}
 use Rattle.std.proofs.Common.{◌≡◌, ℕ, zero, suc, ◌+◌, ◌-◌, ◌*◌, ◌<◌, ◌≤◌, ◌^◌, List, [], ◌∷◌, ◌++◌, length, drop, replicate, map, Bool, true, false, Option}
 use Rattle.std.proofs.Common.{Some, None, option_map, slice_get, slice_index, nat_eq, nat_le, if◌then◌else◌, refl, sym, ap, ap₂, subst, ◌∙◌, arith, ⊎_elim}
-use Rattle.std.proofs.Common.{eqb-true, length-append}
+use Rattle.std.proofs.Common.{eqb-true, length-append, nat_lt, slice_index_or}
 use Rattle.std.proofs.Math.Seq.{take-length}
-use Rattle.std.proofs.lemmas.Bool.{or_cases}
+use Rattle.std.proofs.lemmas.Bool.{or_cases, cases_lt}
 use Rattle.std.proofs.lemmas.List.{map_push}
-use Rattle.std.proofs.lemmas.Option.{slice_get_within, slice_get_past, get_or_from_slice_get}
-use Rattle.ccsl_base.specs.Clocks.{ticks_in}
-use Rattle.ccsl_formula.specs.Formula.{Formula, FTrue, FVar, FIff, FNot, FOr}
+use Rattle.std.proofs.lemmas.Option.{slice_get_within, slice_get_past, get_or_from_slice_get, slice_get-get_or}
+use Rattle.ccsl_base.specs.Clocks.{ticks_in, are_below}
+use Rattle.ccsl_formula.specs.Formula.{Formula, FTrue, FVar, FIff, FNot, FOr, FFalse, FAnd, eval}
 use Rattle.ccsl_formula.specs.Variables.{reads, ReadsBelow}
 use Rattle.ccsl_kernel.specs.declared.constraint.Constraint.{Constraint}
 use Rattle.ccsl_kernel.specs.declared.constraint.RelationKind.{RelationKind}
 use Rattle.ccsl_kernel.specs.declared.constraint.RelationKind.TheVariants.{Subclock, Coincides, Excludes, Precedes, PrecedesWeakly, PrecedesWithin}
-use Rattle.ccsl_kernel.specs.Syntax.{Expression, System, definition_of}
+use Rattle.ccsl_kernel.specs.Syntax.{Expression, System, definition_of, ENever}
 use Rattle.ccsl_kernel.specs.Cells.{cells_in}
-use Rattle.ccsl_kernel.specs.Lives.{Step}
+use Rattle.ccsl_kernel.specs.Lives.{Step, step_at}
 use Rattle.ccsl_kernel.specs.Ticks.{count}
 use Rattle.ccsl_kernel.specs.Deaths.{dead_at}
 use Rattle.ccsl_kernel.specs.Items.{clock_count, relation_formula, constraint_or_true, item_or_constraint, item_formula}
-use Rattle.ccsl_kernel.specs.Runs.{full_step}
+use Rattle.ccsl_kernel.specs.Runs.{full_step, ObeysDefinitions}
 use Rattle.ccsl_kernel.specs.Accepted.{IsConstraint, IsAccepted}
-use Rattle.ccsl_kernel.proofs.Definitions.{definitions-are}
-use Rattle.ccsl_kernel.proofs.AcceptedParts.{accepted_guarded}
+use Rattle.ccsl_kernel.proofs.Definitions.{definitions-are, step_at-front, step_at-last, definition_allowed, dead_below-same}
+use Rattle.ccsl_kernel.proofs.AcceptedParts.{accepted_guarded, accepted_scoped}
 use Rattle.ccsl_kernel.proofs.Bounded.{clocks_bounded}
 use Rattle.ccsl_kernel.proofs.Quiet.{count-snoc}
-use Rattle.ccsl_kernel.proofs.Scope.{ReadsOnly, reads_only}
-use Rattle.ccsl_state.specs.Tree.{bumped, Tree, formula_of}
+use Rattle.ccsl_kernel.proofs.Scope.{ReadsOnly, reads_only, chosen}
+use Rattle.ccsl_state.specs.Tree.{bumped, Tree, formula_of, TName, TNever, TOne, TTwo, TThen, One, Delaying, Awaiting, Filtering, Two, Uniting, Meeting}
+use Rattle.ccsl_state.specs.Tree.{Lessening, Leading, Trailing, Ending, EndingWeakly, Sampling, SamplingWeakly, Lagging, one_formula, two_formula}
 use Rattle.ccsl_state.specs.Layout.{count_of}
 use Rattle.ccsl_state.specs.States.{trees_in, next_all, derived_in, tree_after, trees_from, trees_after, opened_all}
 use Rattle.ccsl_state.specs.Below.{TreeBelow, TreesBelow}
 use Rattle.ccsl_state.specs.Held.{Held, trees_of, is_dead, derived_by, counts_of, left_count, right_count, counted_formula, tree_or_constraint, formula_in}
 use Rattle.ccsl_state.specs.Held.{Advances, StandsFor}
-use Rattle.ccsl_state.proofs.BelowLaws.{tree_reads}
 use Rattle.ccsl_state.proofs.StateLaws.{states_opened, states_step, states_dead, states_mean, states_derive}
 use Rattle.ccsl_kernel.specs.Table.{Now}
+use Rattle.ccsl_words.specs.Word.{letter}
+use Rattle.ccsl_kernel.specs.Meaning.{dead_below, formula_at}
+use Rattle.ccsl_kernel.proofs.Completion.{asked_before, full_obeys}
+use Rattle.ccsl_kernel.proofs.Silent.{obeying_silent}
+use Rattle.ccsl_kernel.proofs.TableHolds.{first_steps_matter}
+use Rattle.ccsl_state.specs.Laws.{StaySilent}
+
+-- The formula of a tree that names clocks below a bound reads these only.
+
+module _ (X : ℕ) where
+  one_reads : (o : One) (f : Formula) → ReadsOnly X f → ReadsOnly X (one_formula o f)
+  one_reads (Delaying m ticks) f r = chosen X (nat_le m ticks) f FFalse r tt
+  one_reads (Awaiting m ticks) f r = chosen X (nat_eq (ticks + 1) m) f FFalse r tt
+  one_reads (Filtering w o) f r = chosen X (letter w o) f FFalse r tt
+
+  two_reads : (o : Two) (f g : Formula) → ReadsOnly X f → ReadsOnly X g → ReadsOnly X (two_formula o f g)
+  two_reads Uniting f g r r' = (r, r')
+  two_reads Meeting f g r r' = (r, r')
+  two_reads Lessening f g r r' = (r, r')
+  two_reads (Leading a d) f g r r' = chosen X (nat_lt d a) f (if nat_lt a d then g else FOr f g) r (chosen X (nat_lt a d) g (FOr f g) r' (r, r'))
+  two_reads (Trailing a d) f g r r' = chosen X (nat_lt a d) f (if nat_lt d a then g else FAnd f g) r (chosen X (nat_lt d a) g (FAnd f g) r' (r, r'))
+  two_reads (Ending seen) f g r r' = chosen X seen FFalse (FAnd f (FNot g)) tt (r, r')
+  two_reads (EndingWeakly seen) f g r r' = chosen X seen FFalse f tt r
+  two_reads (Sampling waiting) f g r r' = chosen X waiting g FFalse r' tt
+  two_reads (SamplingWeakly waiting) f g r r' = chosen X waiting g (FAnd g f) r' (r', r)
+  two_reads (Lagging m waiting) f g r r' = chosen X (slice_index_or waiting (m - 1) false) g FFalse r' tt
+
+  pub tree_reads : (t : Tree) → TreeBelow X t → ReadsOnly X (formula_of t)
+  tree_reads (TName x) h = h
+  tree_reads TNever h = tt
+  tree_reads (TOne o a) h = one_reads o (formula_of a) (tree_reads a h)
+  tree_reads (TTwo o a d) h = two_reads o (formula_of a) (formula_of d) (tree_reads a h.0) (tree_reads d h.1)
+  tree_reads (TThen a d ρ) h = tree_reads a h.0
 
 -- the tree of a definition after a list of steps
 pub get_tree : (K : System) (T : List Step) (x : ℕ) (es : List Expression) (i : ℕ)
@@ -145,18 +178,14 @@ module _ (h : Held) (ok : IsAccepted h.system) where
       ∙ ap (counted_formula (left_count h j) (right_count h j)) at
 
   -- WHAT THE FORMULAS READ
-  if_reads : (X : ℕ) (c : Bool) (f : Formula) → ReadsOnly X f → ReadsOnly X (if c then f else FTrue)
-  if_reads X true f r = r
-  if_reads X false f r = tt
-
   relation_reads : (X : ℕ) (kind : RelationKind) (a b m n : ℕ) → a < X → b < X → ReadsOnly X (relation_formula kind a b m n)
   relation_reads X Subclock a b m n p q = (p, q)
   relation_reads X Coincides a b m n p q = (p, q)
   relation_reads X Excludes a b m n p q = (p, q)
-  relation_reads X Precedes a b m n p q = if_reads X (nat_eq m n) (FNot (FVar b)) q
-  relation_reads X PrecedesWeakly a b m n p q = if_reads X (nat_eq m n) (FOr (FNot (FVar b)) (FVar a)) (q, p)
+  relation_reads X Precedes a b m n p q = chosen X (nat_eq m n) (FNot (FVar b)) FTrue q tt
+  relation_reads X PrecedesWeakly a b m n p q = chosen X (nat_eq m n) (FOr (FNot (FVar b)) (FVar a)) FTrue (q, p) tt
   relation_reads X (PrecedesWithin k) a b m n p q =
-      (if_reads X (nat_eq m n) (FNot (FVar b)) q, if_reads X (nat_le (n + k) m) (FOr (FNot (FVar a)) (FVar b)) (p, q))
+      (chosen X (nat_eq m n) (FNot (FVar b)) FTrue q tt, chosen X (nat_le (n + k) m) (FOr (FNot (FVar a)) (FVar b)) FTrue (p, q) tt)
 
   tree_at : (x : ℕ) (ts : List Tree) (i : ℕ) (t : Tree) → TreesBelow x ts → slice_get ts i ≡ Some t → TreeBelow (x + i) t
   tree_at x [] i t b at = let z : ⊥ = cc in absurd z
@@ -189,3 +218,63 @@ module _ (h : Held) (ok : IsAccepted h.system) where
           reads_only (h.system.declared + i) (formula_of t) (tree_reads (h.system.declared + i) t (tree_at h.system.declared (trees_of h) i t below at)) v
           e in omega (arith, within, all, same, low))
           (or_cases (nat_eq v (h.system.declared + i)) (reads (formula_of t) v) r)
+
+-- A definition that is dead neither ticks in the next full step nor comes back.
+
+module _ (K : System) (ok : IsAccepted K) (T : List Step) (s : Step) (obeys : ObeysDefinitions K T) (low : are_below K.declared s ≡ true) where
+  longer : length (T ++ full_step K T s ∷ []) ≡ suc (length T)
+  longer = omega (arith, length-append T (full_step K T s ∷ []))
+
+  -- the list with the full step obeys the definitions too
+  next_obeys : ObeysDefinitions K (T ++ full_step K T s ∷ [])
+  next_obeys x e n is u =
+      let f = full_step K T s in
+      ⊎_elim
+      (λ (l : n < length T).
+      ap (ticks_in x) (step_at-front T f n l) ∙ obeys x e n is l
+      ∙ sym (ap₂ eval (asked_before K (accepted_guarded K ok) (accepted_scoped K ok) T f x e n is (omega arith)) (step_at-front T f n l)))
+      (λ (l : length T ≤ n).
+      let at : n ≡ length T = omega (arith, longer) in
+      let last : step_at (T ++ f ∷ []) n ≡ f = ap (step_at (T ++ f ∷ [])) at ∙ step_at-last T f in
+      ap (ticks_in x) last ∙ full_obeys K (accepted_guarded K ok) (accepted_scoped K ok) T s low x e is
+      ∙ sym (ap₂ eval (ap (formula_at K (T ++ f ∷ []) x e [] 0) at
+      ∙ asked_before K (accepted_guarded K ok) (accepted_scoped K ok) T f x e (length T) is (omega arith)) last))
+      (cases_lt n (length T))
+
+  -- a definition that was dead there does not tick in that step, and is dead after it
+  pub next_silent : (x : ℕ) (e : Expression) → definition_of K x ≡ Some e → dead_at K T x e [] 0 (length T) ≡ true →
+      (ticks_in x (full_step K T s) ≡ false) × (dead_at K (T ++ full_step K T s ∷ []) x e [] 0 (length (T ++ full_step K T s ∷ [])) ≡ true)
+  next_silent x e is dead =
+      let f = full_step K T s in
+      let g = accepted_guarded K ok in
+      let n = length T in
+      let allowed = definition_allowed K g x e is in
+      let front : (i : ℕ) → i < n → step_at (T ++ f ∷ []) i ≡ step_at T i = λ i l. step_at-front T f i l in
+      let within : n ≤ length (T ++ f ∷ []) = omega (arith, longer) in
+      let was : dead_at K (T ++ f ∷ []) x e [] 0 n ≡ true =
+      ap (λ (now : Now). now.dead)
+      (first_steps_matter K (T ++ f ∷ []) T (dead_below K (T ++ f ∷ []) x) (dead_below K T x) g.bodies e [] 0 n allowed (omega arith) within (omega arith) front
+      (λ i y l. dead_below-same K g (T ++ f ∷ []) T n within (omega arith) front x i y l))
+      ∙ dead in
+      let w = (obeying_silent K (T ++ f ∷ []) g next_obeys x e [] 0 allowed (omega arith)).at n (omega arith) (omega (arith, longer)) in (
+        full_obeys K g (accepted_scoped K ok) T s low x e is
+            ∙ sym (ap₂ eval (asked_before K g (accepted_scoped K ok) T f x e n is (omega arith)) (step_at-last T f))
+            ∙ w.quiet was,
+        ap (dead_at K (T ++ f ∷ []) x e [] 0) longer ∙ w.stays was,
+      )
+
+pub stay_silent : (h : Held) (ok : IsAccepted h.system) (T : List Step) (stands : StandsFor h T) (s : Step) (h' : Held) → ObeysDefinitions h.system T →
+    are_below h.system.declared s ≡ true → length T + 1 < 2 ^ 64 → Advances h (derived_by h s) h' → StaySilent h (derived_by h s) h'
+stay_silent h ok T stands s h' obeys low short next i l dead =
+    let K = h.system in
+    let x = K.declared + i in
+    let e = slice_index_or K.definitions i ENever in
+    let is : definition_of K x ≡ Some e = sym (definitions-are K i) ∙ slice_get-get_or K.definitions i ENever l in
+    let was : dead_at K T x e [] 0 (length T) ≡ true = sym (stands_dead h ok T stands i e is) ∙ dead in
+    let silent = next_silent K ok T s obeys low x e is was in
+    let T' = T ++ full_step K T s ∷ [] in
+    let there = stands_dead h' (subst IsAccepted (sym next.system) ok) T' (stands_next h ok T stands s h' next short) i e
+    (ap (λ (K' : System). definition_of K' (K'.declared + i)) next.system ∙ is) in (
+      ap (ticks_in x) (stands_derived h ok T stands s) ∙ silent.0,
+      there ∙ ap (λ (K' : System). dead_at K' T' (K'.declared + i) e [] 0 (length T')) next.system ∙ silent.1,
+    )

@@ -2,7 +2,7 @@
 use Rattle.std.proofs.lemmas.Grind.{common_steps}
 use Rattle.std.proofs.Common.{◌≡◌, ℕ, zero, suc, ◌≤◌, List, [], ◌∷◌, ◌++◌, find, length, replicate, Bool, true, false, Option, Some, None, refl, sym, ap, ap₂}
 use Rattle.std.proofs.Common.{◌∙◌, arith, nat_le, le-leb, if◌then◌else◌, length-append}
-use Rattle.std.proofs.lemmas.Bool.{lt-leb}
+use Rattle.std.proofs.lemmas.Bool.{lt-leb, cond_both}
 use Rattle.ccsl_kernel.specs.declared.expr.ExprOp.{ExprOp}
 use Rattle.ccsl_kernel.specs.declared.actual.Actual.{Actual}
 use Rattle.ccsl_kernel.specs.declared.expr.ExprOp.TheVariants as op
@@ -77,13 +77,13 @@ module _ (K : System) (T : List Step) (gone : ℕ → ℕ → Bool) where
   abbrev now_of : ℕ → Tree → Now
   now_of n t = record { formula = formula_of t; dead = dead_of (gone n) t }
 
-  one_life : (o : One) (row : Operand → Now) → IsOne o row → (a : Tree) (b n : ℕ) → b ≤ n → n ≤ most
+  one_life : {o : One} {row : Operand → Now} → IsOne o row → (a : Tree) (b n : ℕ) → b ≤ n → n ≤ most
       → life_of K T gone (TOne o a) b n ≡ over_one T row (life_of K T gone a) b n
-  one_life o row h a b n l u = grind (arith, common_steps, grown-one, steps_len)
+  one_life h a b n l u = grind (arith, common_steps, grown-one, steps_len)
 
-  two_life : (o : Two) (row : Operand → Operand → Now) → IsTwo o row → (a d : Tree) (b n : ℕ) → b ≤ n → n ≤ most
+  two_life : {o : Two} {row : Operand → Operand → Now} → IsTwo o row → (a d : Tree) (b n : ℕ) → b ≤ n → n ≤ most
       → life_of K T gone (TTwo o a d) b n ≡ over_two T row (life_of K T gone a) (life_of K T gone d) b n
-  two_life o row h a d b n l u = grind (arith, common_steps, grown-two, steps_len)
+  two_life h a d b n l u = grind (arith, common_steps, grown-two, steps_len)
 
   -- the step at which a state dies, seen at one more step
   end-first : (a : Tree) (b : ℕ) → end_of (life_of K T gone a) b b ≡ None
@@ -133,54 +133,43 @@ module _ (K : System) (T : List Step) (gone : ℕ → ℕ → Bool) where
       at None = refl
       at (Some k) = refl
 
-  pub grown-name : (x : ℕ) (b n : ℕ) → b ≤ n → grown K T gone (TName x) b n ≡ TName x
-  grown-name x b n l = from_birth (λ n. grown K T gone (TName x) b n ≡ TName x) b (grown-first (TName x) b b (omega arith))
-      (λ n l ih. grown-suc (TName x) b n l ∙ ap (next K (step_at T n) (gone (suc n))) ih) n l
+  -- a tree that no step changes
+  grown-still : (t : Tree) → ((s : Step) (gone' : ℕ → Bool) → next K s gone' t ≡ t) → (b n : ℕ) → grown K T gone t b n ≡ t
+  grown-still t still b zero = refl
+  grown-still t still b (suc n) = cond_both (nat_le b n) _ _ (λ u. u ≡ t)
+      (λ _. ap (next K (step_at T n) (gone (suc n))) (grown-still t still b n) ∙ still (step_at T n) (gone (suc n))) (λ _. refl)
 
-  pub grown-never : (b n : ℕ) → b ≤ n → grown K T gone TNever b n ≡ TNever
-  grown-never b n l = from_birth (λ n. grown K T gone TNever b n ≡ TNever) b (grown-first TNever b b (omega arith))
-      (λ n l ih. grown-suc TNever b n l ∙ ap (next K (step_at T n) (gone (suc n))) ih) n l
-
-  leaf_life : (v : Actual) (b n : ℕ) → b ≤ n → life_of K T gone (leaf v) b n ≡ named K T gone v b n
-  leaf_life (actual.Clock x) b n l = ap (now_of n) (grown-name x b n l)
-  leaf_life (actual.Number k) b n l = ap (now_of n) (grown-never b n l)
-  leaf_life (actual.Word w o) b n l = ap (now_of n) (grown-never b n l)
+  leaf_life : (v : Actual) (b n : ℕ) → life_of K T gone (leaf v) b n ≡ named K T gone v b n
+  leaf_life (actual.Clock x) b n = ap (now_of n) (grown-still (TName x) (λ s g. refl) b n)
+  leaf_life v b n = ap (now_of n) (grown-still TNever (λ s g. refl) b n)
 
   binary_life : (o : ExprOp) (a d : Expression) (ρ : List Actual) (b n : ℕ) → b ≤ n → n ≤ most →
       grown_meaning K T gone (EBinary o a d) ρ b n ≡ joined T o (grown_meaning K T gone a ρ) (grown_meaning K T gone d ρ) b n
-  binary_life op.Union a d ρ b n l u = two_life Uniting union_row union_is (opening K a ρ) (opening K d ρ) b n l u
-  binary_life op.Inter a d ρ b n l u = two_life Meeting inter_row inter_is (opening K a ρ) (opening K d ρ) b n l u
-  binary_life op.Minus a d ρ b n l u = two_life Lessening minus_row minus_is (opening K a ρ) (opening K d ρ) b n l u
-  binary_life op.Inf a d ρ b n l u = two_life (Leading 0 0) inf_row inf_is (opening K a ρ) (opening K d ρ) b n l u
-  binary_life op.Sup a d ρ b n l u = two_life (Trailing 0 0) sup_row sup_is (opening K a ρ) (opening K d ρ) b n l u
-  binary_life op.Upto a d ρ b n l u = two_life (Ending false) upto_row upto_is (opening K a ρ) (opening K d ρ) b n l u
-  binary_life op.UptoWeakly a d ρ b n l u = two_life (EndingWeakly false) upto_weakly_row upto_weakly_is (opening K a ρ) (opening K d ρ) b n l u
+  binary_life op.Union a d ρ b n l u = two_life union_is (opening K a ρ) (opening K d ρ) b n l u
+  binary_life op.Inter a d ρ b n l u = two_life inter_is (opening K a ρ) (opening K d ρ) b n l u
+  binary_life op.Minus a d ρ b n l u = two_life minus_is (opening K a ρ) (opening K d ρ) b n l u
+  binary_life op.Inf a d ρ b n l u = two_life inf_is (opening K a ρ) (opening K d ρ) b n l u
+  binary_life op.Sup a d ρ b n l u = two_life sup_is (opening K a ρ) (opening K d ρ) b n l u
+  binary_life op.Upto a d ρ b n l u = two_life upto_is (opening K a ρ) (opening K d ρ) b n l u
+  binary_life op.UptoWeakly a d ρ b n l u = two_life upto_weakly_is (opening K a ρ) (opening K d ρ) b n l u
   binary_life op.Then a d ρ b n l u = then_life (opening K a ρ) d ρ b n l
-  binary_life op.Sampled a d ρ b n l u = two_life (Sampling false) sampled_row sampled_is (opening K a ρ) (opening K d ρ) b n l u
-  binary_life op.SampledWeakly a d ρ b n l u = two_life (SamplingWeakly false) sampled_weakly_row sampled_weakly_is (opening K a ρ) (opening K d ρ) b n l u
+  binary_life op.Sampled a d ρ b n l u = two_life sampled_is (opening K a ρ) (opening K d ρ) b n l u
+  binary_life op.SampledWeakly a d ρ b n l u = two_life sampled_weakly_is (opening K a ρ) (opening K d ρ) b n l u
 
   -- THE ROWS HOLD OF THE STATE TREE
   pub grown_rows : length T ≤ most → IsTable K T gone (grown_meaning K T gone)
   grown_rows few = record {
-    name = λ x ρ b n l u. leaf_life (place_of x ρ) b n l;
-    never = λ ρ b n l u. ap (now_of n) (grown-never b n l);
+    name = λ x ρ b n l u. leaf_life (place_of x ρ) b n;
+    never = λ ρ b n l u. ap (now_of n) (grown-still TNever (λ s g. refl) b n);
     binary = λ o a d ρ b n l u. binary_life o a d ρ b n l (omega (arith, u, few));
-    delay = λ a m ρ b n l u. one_life (Delaying (number_of m ρ) 0) (delay_row (number_of m ρ)) (delay_is (number_of m ρ)) (opening K a ρ) b n l
-        (omega (arith, u, few));
-    await = λ a m ρ b n l u. one_life (Awaiting (number_of m ρ) 0) (await_row (number_of m ρ)) (await_is (number_of m ρ)) (opening K a ρ) b n l
-        (omega (arith, u, few));
-    filter = λ a w ρ b n l u. let s =
-        suffix_of K.words w ρ in
-        one_life (Filtering (word_of K.words s.word) s.offset) (filter_row (word_of K.words s.word) s.offset) (filter_is (word_of K.words s.word) s.offset)
-        (opening K a ρ) b n l (omega (arith, u, few));
-    delayed = λ a m d ρ pos b n l u. two_life (Lagging m (replicate m false)) (delayed_row m) (delayed_is m pos) (opening K a ρ) (opening K d ρ) b n l
-        (omega (arith, u, few));
-    choice = λ q a d ρ b n l u. choose (test_of K.words q ρ) (opening K a ρ) (opening K d ρ) b n;
+    delay = λ a m ρ b n l u. one_life (delay_is (number_of m ρ)) (opening K a ρ) b n l (omega (arith, u, few));
+    await = λ a m ρ b n l u. one_life (await_is (number_of m ρ)) (opening K a ρ) b n l (omega (arith, u, few));
+    filter = λ a w ρ b n l u. let s = suffix_of K.words w ρ in
+        one_life (filter_is (word_of K.words s.word) s.offset) (opening K a ρ) b n l (omega (arith, u, few));
+    delayed = λ a m d ρ pos b n l u. two_life (delayed_is m pos) (opening K a ρ) (opening K d ρ) b n l (omega (arith, u, few));
+    choice = λ q a d ρ b n l u. elim (test_of K.words q ρ) as (λ t. life_of K T gone (if t then opening K a ρ else opening K d ρ) b n
+        ≡ (if t then grown_meaning K T gone a ρ b n else grown_meaning K T gone d ρ b n)) [ true ↦ refl | false ↦ refl ];
   }
-    where
-      choose : (t : Bool) (a d : Tree) (b n : ℕ) → life_of K T gone (if t then a else d) b n ≡ (if t then life_of K T gone a b n else life_of K T gone d b n)
-      choose true a d b n = refl
-      choose false a d b n = refl
 
 module _ (K : System) (guarded_bodies : AreGuarded K) where
   -- THE ROW OF CALLS HOLDS OF THE STATE TREE

@@ -1,13 +1,13 @@
 -- The whole row of an accepted system: there is room for its regions, and what the trees and the counts become in a step.
 use Rattle.std.proofs.lemmas.Grind.{common_steps}
-use Rattle.std.proofs.Common.{◌≡◌, ℕ, suc, ◌+◌, ◌-◌, ◌*◌, ◌<◌, ◌≤◌, List, [], ◌∷◌, ◌++◌, length, take, drop, slice_get, refl, sym, ap}
-use Rattle.std.proofs.Common.{ap₂, subst, ◌∙◌, arith, length-append}
+use Rattle.std.proofs.Common.{◌≡◌, ℕ, suc, ◌+◌, ◌-◌, ◌*◌, ◌<◌, ◌≤◌, List, [], ◌∷◌, ◌++◌, length, take, drop, slice_get, refl, sym, ap, ap₂, subst, ◌∙◌, arith}
+use Rattle.std.proofs.Common.{length-append, zero, map, max, sum, slice_index, slice_index_or, Some, None, append_assoc}
 use Rattle.std.proofs.Math.Seq.{take-length}
 use Rattle.ccsl_base.specs.declared.limits.TheConstants.{MAX_CELLS}
 use Rattle.ccsl_base.specs.Clocks.{ticks_in}
 use Rattle.ccsl_formula.specs.Formula.{eval}
-use Rattle.ccsl_kernel.specs.Syntax.{Expression, System, definition_of}
-use Rattle.ccsl_kernel.specs.Cells.{cells_in, cells}
+use Rattle.ccsl_kernel.specs.Syntax.{Expression, System, definition_of, Body}
+use Rattle.ccsl_kernel.specs.Cells.{cells_in, cells, greatest, group_cells, groups_cells, saturated}
 use Rattle.ccsl_kernel.specs.Lives.{Step}
 use Rattle.ccsl_kernel.specs.Accepted.{IsAccepted}
 use Rattle.ccsl_kernel.proofs.Definitions.{definitions-are}
@@ -22,10 +22,77 @@ use Rattle.ccsl_state.specs.declared.layout.Layout.{Layout}
 use Rattle.ccsl_state.specs.Whole.{IsWhole}
 use Rattle.ccsl_state.specs.Ready.{HasRegions}
 use Rattle.ccsl_state.specs.Held.{calls_of, trees_of, deaths_of, counts_of, derived_by, CellsCount, Advances}
-use Rattle.ccsl_state.proofs.TableLaws.{table_len, table_enough, table_room}
 use Rattle.ccsl_state.proofs.WithinLaws.{opening_within, next_within, next_same}
 use Rattle.ccsl_state.proofs.Frame.{read_same}
 use Rattle.ccsl_state.proofs.Regions.{behind_head, front_head, within, fewer}
+use Rattle.std.proofs.lemmas.List.{append-nil, get_or_at, get_or-map, length-map, take-map, take_at}
+use Rattle.std.proofs.lemmas.Option.{slice_get-get_or}
+use Rattle.std.proofs.lemmas.List.Sums.{sum_by-cons}
+use Rattle.ccsl_kernel.proofs.CellCounts.{capped_cells_in, capped_all}
+
+-- The table of the cells of calls is enough.
+
+-- the greatest one is no less than any
+pub greatest_at : {A : Type 0} (f : A → ℕ) (xs : List A) (i : ℕ) (x : A) → slice_get xs i ≡ Some x → f x ≤ greatest (map f xs)
+greatest_at f [] i x e = let z : ⊥ = cc in absurd z
+greatest_at f (y ∷ xs) zero x e = let s : y ≡ x = cc in subst (λ z. f z ≤ max (f y) (greatest (map f xs))) s (omega arith)
+greatest_at f (y ∷ xs) (suc i) x e = let r = greatest_at f xs i x e in omega arith
+
+-- the table of the first groups stays
+groups_front : (earlier : List ℕ) (gs : List (List Body)) → (more : List ℕ) × (groups_cells earlier gs ≡ earlier ++ more) × (length more ≡ length gs)
+groups_front earlier [] = ([], sym (append-nil earlier), refl)
+groups_front earlier (g ∷ gs) =
+    let r = groups_front (earlier ++ group_cells earlier g ∷ []) gs in
+    (group_cells earlier g ∷ r.0, r.1 ∙ append_assoc earlier (group_cells earlier g ∷ []) r.0, ap suc r.2)
+
+-- each entry is the count of its group, from those before it
+groups_at : (earlier : List ℕ) (gs : List (List Body)) (j k : ℕ) (members : List Body) → slice_get gs j ≡ Some members → k ≡ length earlier + j →
+    slice_index (groups_cells earlier gs) k ≡ group_cells (take k (groups_cells earlier gs)) members
+groups_at earlier [] j k members e at = let z : ⊥ = cc in absurd z
+groups_at earlier (g ∷ gs) zero k members e at =
+    let same : g ≡ members = cc in
+    let here = group_cells earlier g in
+    let r = groups_front (earlier ++ here ∷ []) gs in
+    let is : groups_cells earlier (g ∷ gs) ≡ earlier ++ here ∷ r.0 = r.1 ∙ append_assoc earlier (here ∷ []) r.0 in
+    let len : length earlier ≡ k = omega (arith, at) in
+    ap (λ ns. slice_index ns k) is ∙ get_or_at earlier here r.0 0 k len ∙ ap₂ group_cells (sym (take_at earlier (here ∷ r.0) k len) ∙ ap (take k) (sym is)) same
+groups_at earlier (g ∷ gs) (suc j) k members e at =
+    groups_at (earlier ++ group_cells earlier g ∷ []) gs j k members e (let l = length-append earlier (group_cells earlier g ∷ []) in omega (arith, l, at))
+
+pub table_len : (gs : List (List Body)) → length (map saturated (groups_cells [] gs)) ≡ length gs
+table_len gs = let r = groups_front [] gs in length-map (groups_cells [] gs) saturated ∙ ap length r.1 ∙ r.2
+
+pub table_enough : (K : System) → IsEnough K (map saturated (groups_cells [] K.groups))
+table_enough K g l =
+    let full = groups_cells [] K.groups in
+    let few : g < length full = omega (arith, l, length-map full saturated) in
+    let members = slice_index_or K.groups g [] in
+    let has = slice_get-get_or K.groups g [] (omega (arith, l, table_len K.groups)) in
+    let at : slice_index full g ≡ group_cells (take g full) members = groups_at [] K.groups g g members has (omega arith) in
+    let entry = get_or-map saturated full g 0 0 few in (
+      omega (arith, entry, at),
+      λ m b is.
+          let member : slice_get members m ≡ Some b = sym (ap (λ o. elim o [ None ↦ None | Some members ↦ slice_get members m ]) has) ∙ is in
+          let p = greatest_at (λ (b : Body). length b.params) members m b member in
+          let q = greatest_at (λ (b : Body). cells_in (take g full) b.root) members m b member in
+          let c : saturated (cells_in (take g (map saturated full)) b.root) ≡ saturated (cells_in (take g full) b.root) =
+          ap (λ ns. saturated (cells_in ns b.root)) (take-map saturated g full) ∙ capped_cells_in (take g full) b.root in
+          omega (arith, entry, at, p, q, c),
+    )
+
+-- and the cells of all definitions by it are no more than the system's
+sum_is : (earlier : List ℕ) (es : List Expression) → cells_from earlier es ≡ sum (map (cells_in earlier) es)
+sum_is earlier [] = refl
+sum_is earlier (e ∷ es) =
+    ap (λ n. cells_in earlier e + n) (sum_is earlier es) ∙ sym (sum_by-cons (λ (x : ℕ). x) (cells_in earlier e) (map (cells_in earlier) es))
+
+pub table_room : (K : System) → IsAccepted K → cells_from (map saturated (groups_cells [] K.groups)) K.definitions + 2 * length K.constraints ≤ cells K
+table_room K ok =
+    let full = groups_cells [] K.groups in
+    let c = capped_all full K.definitions in
+    let s = sum_is (map saturated full) K.definitions in
+    let few = ok.few_cells in
+    omega (arith, c, s, few)
 
 -- the trees don't depend on what lies behind their regions
 pub trees_same : (K : System) (earlier : List ℕ) (es : List Expression) (n : ℕ) (xs ys : List ℕ) → IsEnough K earlier → cells_from earlier es ≤ n
@@ -77,52 +144,8 @@ passed_is K ok s known x (t ∷ ts) h =
     (passed_is K ok (put (eval (formula_of t) s) x s) (put (dead_of (gone_in known) (next K s (gone_in known) t)) x known) (suc x) ts h.1
     ∙ ap (λ t'. next_all K s' (put (dead_of (gone_in known) t') x known) (suc x) ts) here)
 
--- A ROW AFTER A STEP, from its two parts
-pub record RowAdvanced (K : System) (row : List ℕ) (declared step gone : List ℕ) (row' : List ℕ) : Type 0 where
-  pub derived : step ≡ derived_by (record { system = K; row = row }) declared
-  pub next : Advances (record { system = K; row = row }) step (record { system = K; row = row' })
-  pub deaths : gone ≡ deaths_of (record { system = K; row = row' })
-  pub below : TreesBelow K.declared (trees_of (record { system = K; row = row' }))
-
 pub counts_behind : (front counts : List ℕ) (n : ℕ) → length counts ≡ n → drop (length (front ++ counts) - n) (front ++ counts) ≡ counts
 counts_behind front counts n l = behind_head (length (front ++ counts) - n) front counts (omega (arith, l, length-append front counts))
-
-module _ (K : System) (ok : IsAccepted K) where
-  -- the trees are those of the front
-  pub trees_front : (front counts : List ℕ) → length counts ≡ 2 * length K.constraints → length (front ++ counts) ≡ cells K →
-      trees_in K (calls_of K) K.definitions (front ++ counts) ≡ trees_in K (calls_of K) K.definitions front
-  trees_front front counts l whole = grind (arith, common_steps, table_room, trees_same, table_enough, length-append, front_head, take-length)
-
-  pub row_advances : (declared step gone front counts front' counts' : List ℕ) → length front' ≡ length front → length counts ≡ 2 * length K.constraints
-      → length counts' ≡ length counts →
-      length (front ++ counts) ≡ cells K → TreesBelow K.declared (trees_in K (calls_of K) K.definitions (front ++ counts)) →
-      trees_in K (calls_of K) K.definitions front' ≡ passed_all K declared [] K.declared (trees_in K (calls_of K) K.definitions front) →
-      step ≡ derived_in (trees_in K (calls_of K) K.definitions front) K.declared declared →
-      gone ≡ deaths_from [] K.declared (trees_in K (calls_of K) K.definitions front') →
-      CellsCount K.constraints step counts counts' → RowAdvanced K (front ++ counts) declared step gone (front' ++ counts')
-  row_advances declared step gone front counts front' counts' same few same' whole below trees step_is gone_is counted =
-      let C = calls_of K in
-      let D = K.definitions in
-      let whole' : length (front' ++ counts') ≡ cells K = omega (arith, same, same', whole, length-append front counts, length-append front' counts') in
-      let old = trees_front front counts few whole in
-      let new = trees_front front' counts' (same' ∙ few) whole' in
-      let derived : step ≡ derived_in (trees_in K C D (front ++ counts)) K.declared declared =
-      step_is ∙ ap (λ ts. derived_in ts K.declared declared) (sym old) in
-      let nexts : trees_in K C D (front' ++ counts') ≡ next_all K step [] K.declared (trees_in K C D (front ++ counts)) =
-      new ∙ trees ∙ ap (passed_all K declared [] K.declared) (sym old) ∙ passed_is K ok declared [] K.declared (trees_in K C D (front ++ counts)) below
-      ∙ ap (λ s. next_all K s [] K.declared (trees_in K C D (front ++ counts))) (sym derived) in
-      record {
-        derived = derived;
-        next = record {
-          system = refl;
-          trees = nexts;
-          counts = subst (λ xs. CellsCount K.constraints step xs (counts_of (record { system = K; row = front' ++ counts' })))
-              (sym (counts_behind front counts (2 * length K.constraints) few))
-              (subst (CellsCount K.constraints step counts) (sym (counts_behind front' counts' (2 * length K.constraints) (same' ∙ few))) counted);
-        };
-        deaths = gone_is ∙ ap (deaths_from [] K.declared) (sym new);
-        below = subst (TreesBelow K.declared) (sym nexts) (nexts_below K ok step [] K.declared (trees_in K C D (front ++ counts)) below);
-      }
 
 -- WHAT THE TABLE OF CALLS OWES, where it is the system's
 pub record HasCells (K : System) (C : List ℕ) : Type 0 where
@@ -144,35 +167,60 @@ whole_regions lay row front ok whole most least =
     let size = whole.size in
     record { table = ready.table; groups = ready.groups; within = omega arith; room = omega arith; few = omega arith }
 
-module _ (K : System) (ok : IsAccepted K) (C : List ℕ) (is : C ≡ calls_of K) (x : ℕ) (at : x ≡ K.declared) where
-  pub row_goes_on : (declared step gone front counts front' counts' row row' : List ℕ) → row ≡ front ++ counts → row' ≡ front' ++ counts' →
-      length front' ≡ length front → length counts ≡ 2 * length K.constraints → length counts' ≡ length counts → length row ≡ cells K →
-      TreesBelow K.declared (trees_in K (calls_of K) K.definitions row) →
-      trees_in K C K.definitions front' ≡ passed_all K declared [] x (trees_in K C K.definitions front) →
-      step ≡ derived_in (trees_in K C K.definitions front) x declared →
-      gone ≡ deaths_from [] x (trees_in K C K.definitions front') →
-      CellsCount K.constraints step counts counts' → RowAdvanced K row declared step gone row'
-  row_goes_on declared step gone front counts front' counts' row row' row_is row_is' same few same' whole below trees step_is gone_is counted =
-      let D = K.definitions in
-      let here = λ (C : List ℕ) (x : ℕ). (trees_in K C D front' ≡ passed_all K declared [] x (trees_in K C D front))
-      × ((step ≡ derived_in (trees_in K C D front) x declared) × (gone ≡ deaths_from [] x (trees_in K C D front'))) in
-      let all : here (calls_of K) K.declared = subst (λ x. here (calls_of K) x) at (subst (λ C. here C x) is (trees, (step_is, gone_is))) in
-      subst (λ r. RowAdvanced K row declared step gone r) (sym row_is')
-      (subst (λ r. RowAdvanced K r declared step gone (front' ++ counts')) (sym row_is)
-      (row_advances K ok declared step gone front counts front' counts' same few same' (ap length (sym row_is) ∙ whole)
-      (subst (λ r. TreesBelow K.declared (trees_in K (calls_of K) D r)) row_is below) all.0 all.1.0 all.1.1 counted))
+-- A ROW AFTER A STEP AND AT THE OPENING, from its two parts
+pub record RowAdvanced (K : System) (row : List ℕ) (declared step gone : List ℕ) (row' : List ℕ) : Type 0 where
+  pub derived : step ≡ derived_by (record { system = K; row = row }) declared
+  pub next : Advances (record { system = K; row = row }) step (record { system = K; row = row' })
+  pub deaths : gone ≡ deaths_of (record { system = K; row = row' })
+  pub below : TreesBelow K.declared (trees_of (record { system = K; row = row' }))
 
--- A ROW AT THE OPENING
 pub record RowOpened (K : System) (row gone row' : List ℕ) : Type 0 where
   pub trees : trees_of (record { system = K; row = row' }) ≡ opened_all K K.definitions
   pub counts : counts_of (record { system = K; row = row' }) ≡ counts_of (record { system = K; row = row })
   pub deaths : gone ≡ deaths_of (record { system = K; row = row' })
   pub below : TreesBelow K.declared (trees_of (record { system = K; row = row' }))
 
-module _ (K : System) (ok : IsAccepted K) (C : List ℕ) (is : C ≡ calls_of K) (x : ℕ) (at : x ≡ K.declared) where
+module _ (K : System) (ok : IsAccepted K) (C : List ℕ) (is : C ≡ calls_of K) where
+  -- the trees are those of the front
+  pub trees_front : (front counts : List ℕ) → length counts ≡ 2 * length K.constraints → length (front ++ counts) ≡ cells K →
+      trees_in K (calls_of K) K.definitions (front ++ counts) ≡ trees_in K C K.definitions front
+  trees_front front counts l whole = grind (arith, common_steps, table_room, trees_same, table_enough, length-append, front_head, take-length)
+
+  pub row_advances : (declared step gone front counts front' counts' row : List ℕ) → row ≡ front ++ counts → length front' ≡ length front
+      → length counts ≡ 2 * length K.constraints → length counts' ≡ length counts → length row ≡ cells K
+      → TreesBelow K.declared (trees_in K (calls_of K) K.definitions row) →
+      trees_in K C K.definitions front' ≡ passed_all K declared [] K.declared (trees_in K C K.definitions front) →
+      step ≡ derived_in (trees_in K C K.definitions front) K.declared declared → gone ≡ deaths_from [] K.declared (trees_in K C K.definitions front') →
+      CellsCount K.constraints step counts counts' → RowAdvanced K row declared step gone (front' ++ counts')
+  row_advances declared step gone front counts front' counts' row row_is same few same' whole below trees step_is gone_is counted =
+      let old : trees_in K (calls_of K) K.definitions row ≡ trees_in K C K.definitions front =
+      ap (trees_in K (calls_of K) K.definitions) row_is ∙ trees_front front counts few (ap length (sym row_is) ∙ whole) in
+      let new = trees_front front' counts' (same' ∙ few)
+      (let r = ap length row_is in omega (arith, same, same', whole, r, length-append front counts, length-append front' counts')) in
+      let derived : step ≡ derived_in (trees_in K (calls_of K) K.definitions row) K.declared declared =
+      step_is ∙ ap (λ ts. derived_in ts K.declared declared) (sym old) in
+      let nexts : trees_in K (calls_of K) K.definitions (front' ++ counts')
+      ≡ next_all K step [] K.declared (trees_in K (calls_of K) K.definitions row) =
+      new ∙ trees ∙ ap (passed_all K declared [] K.declared) (sym old)
+      ∙ passed_is K ok declared [] K.declared (trees_in K (calls_of K) K.definitions row) below
+      ∙ ap (λ s. next_all K s [] K.declared (trees_in K (calls_of K) K.definitions row)) (sym derived) in
+      let counts_at = λ (cells : List ℕ). drop (length cells - 2 * length K.constraints) cells in
+      record {
+        derived = derived;
+        next = record {
+          system = refl;
+          trees = nexts;
+          counts = subst (λ xs. CellsCount K.constraints step xs (counts_at (front' ++ counts')))
+              (sym (ap counts_at row_is ∙ counts_behind front counts (2 * length K.constraints) few))
+              (subst (CellsCount K.constraints step counts) (sym (counts_behind front' counts' (2 * length K.constraints) (same' ∙ few))) counted);
+        };
+        deaths = gone_is ∙ ap (deaths_from [] K.declared) (sym new);
+        below = subst (TreesBelow K.declared) (sym nexts) (nexts_below K ok step [] K.declared (trees_in K (calls_of K) K.definitions row) below);
+      }
+
   pub row_opens : (gone front counts front' row : List ℕ) → row ≡ front ++ counts → length front' ≡ length front → length counts ≡ 2 * length K.constraints
       → length row ≡ cells K →
-      trees_in K C K.definitions front' ≡ opened_all K K.definitions → gone ≡ deaths_from [] x (opened_all K K.definitions)
+      trees_in K C K.definitions front' ≡ opened_all K K.definitions → gone ≡ deaths_from [] K.declared (opened_all K K.definitions)
       → RowOpened K row gone (front' ++ counts)
   row_opens gone front counts front' row row_is same few whole trees gone_is =
       grind (arith, common_steps, length-append, trees_front, counts_behind, opened_below)

@@ -4,9 +4,8 @@ use Rattle.std.proofs.Math.Seq.{take-append_seam}
 use Rattle.ccsl_kernel.specs.Plain.{plain_body}
 use Rattle.ccsl_kernel.specs.Fit.{ActualsFit}
 use Rattle.ccsl_state.specs.Layout.{actual_of}
-use Rattle.ccsl_state.proofs.Calls.{first_cell}
+use Rattle.ccsl_state.proofs.Calls.{first_cell, call_body_is}
 use Rattle.ccsl_state.proofs.Places.{few_params}
-use Rattle.ccsl_state.proofs.CallBodies.{call_body_is}
 use Rattle.ccsl_state.proofs.call.call_body.Goals as goal
 
 pub split_at-requires-2 : goal.split_at-requires-2

@@ -1,5 +1,5 @@
 -- Two clocks behind the operator's own cells.
-use Rattle.ccsl_state.proofs.Flats.{two_flat}
+use Rattle.ccsl_state.proofs.Operands.{two_flat}
 use Rattle.ccsl_state.proofs.flat.advance_flat.Goals as goal
 
 pub returns-in-Two-clause-moved : goal.returns-in-Two-clause-moved

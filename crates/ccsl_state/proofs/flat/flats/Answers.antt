@@ -2,7 +2,7 @@
 use Rattle.std.proofs.Common.{arith}
 use Rattle.std.proofs.lemmas.Grind.{common_steps}
 use Rattle.ccsl_kernel.specs.Plain.{plain_expr}
-use Rattle.ccsl_state.proofs.Flats.{flats_more}
+use Rattle.ccsl_state.proofs.Operands.{flats_more}
 use Rattle.ccsl_state.proofs.flat.flats.Goals as goal
 
 pub loop-i-preserved : goal.loop-i-preserved

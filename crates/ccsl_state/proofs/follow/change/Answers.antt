@@ -1,6 +1,6 @@
 -- A set that is as it is to be stays.
 use Rattle.std.proofs.Common.{rules}
-use Rattle.ccsl_state.proofs.Entering.{put_already}
+use Rattle.ccsl_state.proofs.Visiting.{put_already}
 use Rattle.ccsl_state.proofs.follow.change.Goals as goal
 
 pub returns-else-was-member : goal.returns-else-was-member

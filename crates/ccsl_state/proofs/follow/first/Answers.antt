@@ -1,5 +1,5 @@
 -- The members are in ascending order.
-use Rattle.ccsl_state.proofs.Entering.{first_is}
+use Rattle.ccsl_state.proofs.Visiting.{first_is}
 use Rattle.ccsl_state.proofs.follow.first.Goals as goal
 
 pub returns-clause-least : goal.returns-clause-least

@@ -6,11 +6,11 @@ use Rattle.ccsl_formula.specs.declared.scope.Scope.{Scope}
 use Rattle.ccsl_state.specs.Regions.{trees_from}
 use Rattle.ccsl_state.specs.Passing.{IsFollowed}
 use Rattle.ccsl_state.specs.Visits.{IsEntered}
-use Rattle.ccsl_state.proofs.PlaceLaws.{places_len}
+use Rattle.ccsl_state.proofs.Each.{places_len}
 use Rattle.ccsl_state.proofs.WholeLaws.{whole_regions}
 use Rattle.ccsl_state.proofs.StandLaws.{trees_len}
-use Rattle.ccsl_state.proofs.Visiting.{begins, ends, one_more, later, reader}
-use Rattle.ccsl_state.proofs.Entering.{visit_is, lowest_below, lowest_above, lowest_most, unsettled_wait, readers_wait, followed_wait}
+use Rattle.ccsl_state.proofs.Visiting.{begins, ends, one_more, later, reader, visit_is, lowest_below, lowest_above, lowest_most, unsettled_wait, readers_wait}
+use Rattle.ccsl_state.proofs.Visiting.{followed_wait}
 use Rattle.ccsl_state.proofs.follow.follow.Goals as goal
 
 pub visits-init : goal.visits-init

@@ -1,8 +1,7 @@
 -- What waits is untouched, and what does not is done; a visit makes the first that waits a later one.
 use Rattle.std.proofs.Common.{◌-◌, length}
 use Rattle.ccsl_state.specs.Regions.{trees_from}
-use Rattle.ccsl_state.proofs.Visiting.{IsGoing}
-use Rattle.ccsl_state.proofs.Entering.{lowest}
+use Rattle.ccsl_state.proofs.Visiting.{IsGoing, lowest}
 use Rattle.ccsl_state.proofs.follow.follow.Given as goal
 
 abbrev pub invariant-visits : goal.invariant-visits

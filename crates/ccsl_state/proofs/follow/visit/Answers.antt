@@ -5,8 +5,7 @@ use Rattle.ccsl_base.specs.declared.limits.TheConstants.{MAX_CELLS}
 use Rattle.ccsl_kernel.specs.Plain.{plain_expr}
 use Rattle.ccsl_state.specs.States.{cells_from}
 use Rattle.ccsl_state.specs.Flats.{IsFlatly}
-use Rattle.ccsl_state.proofs.Each.{placed_region}
-use Rattle.ccsl_state.proofs.PartRegions.{visited_is}
+use Rattle.ccsl_state.proofs.Each.{placed_region, visited_is}
 use Rattle.ccsl_state.proofs.follow.visit.Goals as goal
 
 pub split_at_mut-region-requires : goal.split_at_mut-region-requires

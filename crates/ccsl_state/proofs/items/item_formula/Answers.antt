@@ -2,7 +2,7 @@
 use Rattle.std.proofs.lemmas.Grind.{common_steps}
 use Rattle.std.proofs.Common.{arith}
 use Rattle.std.proofs.lemmas.Option.{slice_get-get_or}
-use Rattle.ccsl_state.proofs.PlaceLaws.{places_len}
+use Rattle.ccsl_state.proofs.Each.{places_len}
 use Rattle.ccsl_state.proofs.items.item_formula.Goals as goal
 
 pub bounds-places-item : goal.bounds-places-item

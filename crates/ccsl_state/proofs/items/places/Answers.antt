@@ -1,7 +1,7 @@
 -- One place more.
 use Rattle.std.proofs.Common.{arith}
 use Rattle.ccsl_kernel.specs.Plain.{plain_expr}
-use Rattle.ccsl_state.proofs.PlaceLaws.{next_place, more_places}
+use Rattle.ccsl_state.proofs.Each.{next_place, more_places}
 use Rattle.ccsl_state.proofs.items.places.Goals as goal
 
 pub size_of-requires : goal.size_of-requires

@@ -1,5 +1,5 @@
 -- The places so far.
-use Rattle.ccsl_state.proofs.PlaceLaws.{PlacesSoFar}
+use Rattle.ccsl_state.proofs.Each.{PlacesSoFar}
 use Rattle.ccsl_state.proofs.items.places.Given as goal
 
 abbrev pub invariant-loop-i : goal.invariant-loop-i

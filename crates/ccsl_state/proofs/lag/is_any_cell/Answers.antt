@@ -1,6 +1,6 @@
 -- A cell that is not 0, and one that is.
 use Rattle.std.proofs.Common.{arith}
-use Rattle.ccsl_state.proofs.AnyBit.{none_more, one_is}
+use Rattle.ccsl_state.proofs.Bits.{none_more, one_is}
 use Rattle.ccsl_state.proofs.lag.is_any_cell.Goals as goal
 
 pub returns-then-cells-i-ne0 : goal.returns-then-cells-i-ne0

@@ -2,8 +2,7 @@
 use Rattle.std.proofs.lemmas.Grind.{common_steps}
 use Rattle.std.proofs.Common.{sym, ◌∙◌, arith}
 use Rattle.ccsl_state.specs.Layout.{bits_of}
-use Rattle.ccsl_state.proofs.Bits.{bits_of_len}
-use Rattle.ccsl_state.proofs.Rings.{any_at, any_more}
+use Rattle.ccsl_state.proofs.Bits.{bits_of_len, any_at, any_more}
 use Rattle.ccsl_state.proofs.lag.is_any_from.Goals as goal
 
 pub returns-then-bit_at : goal.returns-then-bit_at

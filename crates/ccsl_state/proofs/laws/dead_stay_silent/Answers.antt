@@ -1,4 +1,4 @@
-use Rattle.ccsl_state.proofs.SilentLaws.{stay_silent}
+use Rattle.ccsl_state.proofs.StandLaws.{stay_silent}
 use Rattle.ccsl_state.proofs.laws.dead_stay_silent.Goals as goal
 
 pub returns : goal.returns

@@ -15,10 +15,8 @@ use Rattle.ccsl_state.specs.Moves.{gone_in}
 use Rattle.ccsl_state.specs.Standing.{is_own}
 use Rattle.ccsl_state.specs.Regions.{size, lag_node}
 use Rattle.std.proofs.lemmas.Bool.{leb-false}
-use Rattle.ccsl_state.proofs.CallSites.{site, birth_site}
-use Rattle.ccsl_state.proofs.CallBodies.{body_ready}
+use Rattle.ccsl_state.proofs.Calls.{site, birth_site, body_ready, call_at, call_opens, small_mod}
 use Rattle.ccsl_state.proofs.Frame.{two_front, lag_node_front}
-use Rattle.ccsl_state.proofs.Calls.{call_at, call_opens, small_mod}
 use Rattle.ccsl_state.proofs.Operands.{pair_opened}
 use Rattle.ccsl_state.proofs.Places.{call_params, inner_not_own, inner_stands, ready_body}
 use Rattle.ccsl_state.proofs.Regions.{rest_one}

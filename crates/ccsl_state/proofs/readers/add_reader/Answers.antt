@@ -1,7 +1,7 @@
 -- One clock more.
 use Rattle.std.proofs.Common.{arith}
 use Rattle.std.proofs.lemmas.Grind.{common_steps}
-use Rattle.ccsl_state.proofs.Entering.{adding_more, adding_within}
+use Rattle.ccsl_state.proofs.Visiting.{adding_more, adding_within}
 use Rattle.ccsl_state.proofs.readers.add_reader.Goals as goal
 
 pub bounds-sets-clock : goal.bounds-sets-clock

@@ -1,5 +1,5 @@
 -- The clocks that are left.
-use Rattle.ccsl_state.proofs.Entering.{IsAdding}
+use Rattle.ccsl_state.proofs.Visiting.{IsAdding}
 use Rattle.ccsl_state.proofs.readers.add_reader.Given as goal
 
 abbrev pub invariant-loop-clock : goal.invariant-loop-clock

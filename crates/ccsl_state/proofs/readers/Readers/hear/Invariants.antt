@@ -1,5 +1,5 @@
 -- The clocks that are left.
-use Rattle.ccsl_state.proofs.Entering.{IsHearing}
+use Rattle.ccsl_state.proofs.Visiting.{IsHearing}
 use Rattle.ccsl_state.proofs.readers.Readers.hear.Given as goal
 
 abbrev pub invariant-loop-clock : goal.invariant-loop-clock

@@ -1,7 +1,7 @@
 -- One definition more.
 use Rattle.std.proofs.Common.{arith}
 use Rattle.std.proofs.lemmas.Grind.{common_steps}
-use Rattle.ccsl_state.proofs.Entering.{numbers_more}
+use Rattle.ccsl_state.proofs.Visiting.{numbers_more}
 use Rattle.ccsl_state.proofs.readers.Readers.numbers.Goals as goal
 
 pub loop-i-preserved : goal.loop-i-preserved

@@ -4,7 +4,7 @@ use Rattle.std.proofs.Common.{arith}
 use Rattle.std.proofs.lemmas.Option.{slice_get_within}
 use Rattle.ccsl_kernel.specs.Plain.{plain_expr}
 use Rattle.ccsl_state.proofs.ReachLaws.{names_few, definition_names, definition_at}
-use Rattle.ccsl_state.proofs.Entering.{named_alone, read_all}
+use Rattle.ccsl_state.proofs.Visiting.{named_alone, read_all}
 use Rattle.ccsl_state.proofs.readers.Readers.open.Goals as goal
 
 pub add_named-requires : goal.add_named-requires

@@ -1,6 +1,6 @@
 -- The definitions before number i stand in the table.
 use Rattle.std.proofs.Common.{◌≡◌, ◌+◌, length}
-use Rattle.ccsl_state.proofs.Entering.{ReadBefore}
+use Rattle.ccsl_state.proofs.Visiting.{ReadBefore}
 use Rattle.ccsl_state.proofs.readers.Readers.open.Given as goal
 
 abbrev pub invariant-loop-i : goal.invariant-loop-i

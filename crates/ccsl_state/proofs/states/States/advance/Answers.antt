@@ -3,8 +3,7 @@ use Rattle.std.proofs.Common.{arith, subst}
 use Rattle.std.proofs.lemmas.Grind.{common_steps}
 use Rattle.ccsl_kernel.specs.Accepted.{IsAccepted}
 use Rattle.ccsl_state.specs.Held.{Held}
-use Rattle.ccsl_state.proofs.StandLaws.{stands_next}
-use Rattle.ccsl_state.proofs.SilentLaws.{stay_silent}
+use Rattle.ccsl_state.proofs.StandLaws.{stands_next, stay_silent}
 use Rattle.ccsl_state.proofs.states.States.advance.Goals as goal
 
 pub returns-clause-row : goal.returns-clause-row
