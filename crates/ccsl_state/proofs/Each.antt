@@ -1,6 +1,6 @@
 -- A definition's region, and those behind it.
 use Rattle.std.proofs.lemmas.Grind.{common_steps}
-use Rattle.std.proofs.Common.{rules, ◌≡◌, ℕ, zero, suc, ◌+◌, ◌<◌, ◌≤◌, List, [], ◌∷◌, ◌++◌, length, drop, true, false, Some, slice_get, sym, ap, ap₂, subst}
+use Rattle.std.proofs.Common.{rules, drop-cons, ◌≡◌, ℕ, zero, suc, ◌+◌, ◌<◌, ◌≤◌, List, [], ◌∷◌, ◌++◌, length, drop, true, false, Some, slice_get, sym, ap, ap₂, subst}
 use Rattle.std.proofs.Common.{◌∙◌, arith, ◌-◌, take, refl, Bool, not, slice_set}
 use Rattle.std.proofs.lemmas.Option.{slice_get_within, get_or_from_slice_get}
 use Rattle.ccsl_base.specs.declared.limits.TheConstants.{MAX_CELLS}
@@ -100,9 +100,7 @@ module _ (earlier : List ℕ) where
   more_places es i e places place size is before at = grind (arith, common_steps, places_more, next_place)
 
 at_place : (es : List Expression) (i : ℕ) (e : Expression) → slice_get es i ≡ Some e → drop i es ≡ e ∷ drop (i + 1) es
-at_place [] i e h = let z : ⊥ = cc in absurd z
-at_place (e' ∷ es) zero e h = let s : e' ≡ e = cc in ap (λ x. x ∷ es) s
-at_place (e' ∷ es) (suc i) e h = at_place es i e h ∙ ap (λ k. e ∷ drop k (e' ∷ es)) (let n : suc (i + 1) ≡ suc i + 1 = omega arith in n)
+at_place es i e h = drop-cons es i e (slice_get_within es i e h) ∙ ap₂ (λ x k. x ∷ drop k es) (get_or_from_slice_get es i e e h) (let n : suc i ≡ i + 1 = omega arith in n)
 
 -- a definition's tree is passed, and then those behind it
 pub passes : (K : System) (s : Step) (known : List ℕ) (x : ℕ) (t t' : Tree) (ts ts' : List Tree) (s' known' : List ℕ) → t' ≡ next K s (gone_in known) t →
@@ -111,22 +109,11 @@ pub passes : (K : System) (s : Step) (known : List ℕ) (x : ℕ) (t t' : Tree) 
 passes K s known x t t' ts ts' s' known' here ticks dies there =
     ap₂ (λ t ts. t ∷ ts) here (there ∙ ap₂ (λ s known. passed_all K s known (suc x) ts) ticks (dies ∙ ap (λ t. put (dead_of (gone_in known) t) x known) here))
 
--- what a definition owes
-record IsDefinitionReady (K : System) (e : Expression) : Type 0 where
-  pub shallow : deep e ≤ 129
-  pub offsets : ExprFits K.words e
-  pub stands : Stands K (length K.groups) true e
-
-ready_definition : (K : System) (i : ℕ) (e : Expression) → IsAccepted K → slice_get K.definitions i ≡ Some e → IsDefinitionReady K e
-ready_definition K i e ok is =
-    let d = each_at K.declared K.definitions i ok.definitions is in
-    let r = definition_ready K (K.declared + i) e d in
-    record { shallow = r.1; offsets = r.0; stands = definition_stands K (K.declared + i) e ok d }
-  where
-    each_at : (x : ℕ) (es : List Expression) (i : ℕ) → Each (IsDefinition K) x es → slice_get es i ≡ Some e → IsDefinition K (x + i) e
-    each_at x [] i h is = let z : ⊥ = cc in absurd z
-    each_at x (e' ∷ es) zero h is = let s : e' ≡ e = cc in let n : x ≡ x + 0 = omega arith in subst (λ k. IsDefinition K k e) n (subst (IsDefinition K x) s h.0)
-    each_at x (e' ∷ es) (suc i) h is = let n : suc x + i ≡ x + suc i = omega arith in subst (λ k. IsDefinition K k e) n (each_at (suc x) es i h.1 is)
+each_at : (K : System) (x : ℕ) (es : List Expression) (i : ℕ) (e : Expression) → Each (IsDefinition K) x es → slice_get es i ≡ Some e
+    → IsDefinition K (x + i) e
+each_at K x [] i e h is = let z : ⊥ = cc in absurd z
+each_at K x (e' ∷ es) zero e h is = let s : e' ≡ e = cc in let n : x ≡ x + 0 = omega arith in subst (λ k. IsDefinition K k e) n (subst (IsDefinition K x) s h.0)
+each_at K x (e' ∷ es) (suc i) e h is = let n : suc x + i ≡ x + suc i = omega arith in subst (λ k. IsDefinition K k e) n (each_at K (suc x) es i e h.1 is)
 
 -- THE REGION OF A DEFINITION, and those behind it
 pub outside : (lay : Layout) (own : ℕ) (e : Expr) (ρ : List Actual) (row : List ℕ) → IsReady lay true own e ρ row → IsReady lay false own e ρ row
@@ -136,13 +123,15 @@ definition_region : (lay : Layout) (i : ℕ) (e : Expr) (row : List ℕ) → Has
     → IsAccepted lay.system.now → slice_get lay.system.now.definitions i ≡ Some (plain_expr e) → size lay e ≤ length row → length row ≤ MAX_CELLS
     → IsReady lay true 0 e [] row
 definition_region lay i e row table groups ok is room few =
-    let ready = ready_definition lay.system.now i (plain_expr e) ok is in
+    let K = lay.system.now in
+    let d = each_at K K.declared K.definitions i (plain_expr e) ok.definitions is in
+    let r = definition_ready K (K.declared + i) (plain_expr e) d in
     record {
       table = table;
       groups = omega arith;
-      shallow = ready.shallow;
-      offsets = ready.offsets;
-      stands = subst (λ k. Stands lay.system.now k true (plain_expr e)) (sym groups) ready.stands;
+      shallow = r.1;
+      offsets = r.0;
+      stands = subst (λ k. Stands K k true (plain_expr e)) (sym groups) (definition_stands K (K.declared + i) (plain_expr e) ok d);
       actuals = search rules;
       room = omega arith;
       few = few;

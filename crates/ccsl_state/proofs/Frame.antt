@@ -32,13 +32,7 @@ binary_pair op.Then row e a d t = let z : ⊥ = cc in absurd z
 binary_pair o row e a d t = refl
 
 pub two_same : (o : ExprOp) (xs ys : List ℕ) → take (own_cells o) xs ≡ take (own_cells o) ys → two_at o xs ≡ two_at o ys
-two_same op.Inf xs ys e = ap₂ (λ a d. Some (Leading (count_of a) (count_of d))) (cell_same 2 0 xs ys e (omega arith)) (cell_same 2 1 xs ys e (omega arith))
-two_same op.Sup xs ys e = ap₂ (λ a d. Some (Trailing (count_of a) (count_of d))) (cell_same 2 0 xs ys e (omega arith)) (cell_same 2 1 xs ys e (omega arith))
-two_same op.Upto xs ys e = ap (λ n. Some (Ending (flag_of n))) (cell_same 1 0 xs ys e (omega arith))
-two_same op.UptoWeakly xs ys e = ap (λ n. Some (EndingWeakly (flag_of n))) (cell_same 1 0 xs ys e (omega arith))
-two_same op.Sampled xs ys e = ap (λ n. Some (Sampling (flag_of n))) (cell_same 1 0 xs ys e (omega arith))
-two_same op.SampledWeakly xs ys e = ap (λ n. Some (SamplingWeakly (flag_of n))) (cell_same 1 0 xs ys e (omega arith))
-two_same o xs ys e = refl
+two_same o xs ys e = grind (arith, common_steps, cell_same)
 
 -- a delayed's own cells
 pub lag_front : (m : ℕ) (head rest : List ℕ) → length head ≡ 2 + words_of m → lag_at m (head ++ rest) ≡ lag_at m head

@@ -1,5 +1,6 @@
 -- A tree that hears nothing tells nothing and stays, for each operator.
-use Rattle.std.proofs.Common.{◌≡◌, ℕ, ◌+◌, ◌-◌, List, [], ◌∷◌, length, Bool, true, false, not, ◌&&◌, Some, slice_get, slice_index_or, nat_eq, nat_le}
+use Rattle.std.proofs.lemmas.Grind.{common_steps}
+use Rattle.std.proofs.Common.{arith, ◌≡◌, ℕ, ◌+◌, ◌-◌, List, [], ◌∷◌, length, Bool, true, false, not, ◌&&◌, Some, slice_get, slice_index_or, nat_eq, nat_le}
 use Rattle.std.proofs.Common.{nat_lt, if◌then◌else◌, refl, sym, ap, ap₂, ◌∙◌}
 use Rattle.std.proofs.lemmas.Bool.{and_parts, and_from, not-true}
 use Rattle.std.proofs.Math.Bool.{and-false, or-false, and-true}
@@ -21,46 +22,21 @@ use Rattle.ccsl_state.specs.Quiet.{named_by, reads, ReadsNoMore, IsUnheard, is_s
 use Rattle.ccsl_state.proofs.Evals.{one_eval, two_eval}
 use Rattle.ccsl_state.proofs.WithinLaws.{names_within, opening_within, grown_within, dead_same}
 
-both : (c : Bool) → (if c then false else false) ≡ false
-both true = refl
-both false = refl
-
 one_silent : (o : One) → one_ticks o false ≡ false
-one_silent (Delaying m ticks) = and-false (nat_le m ticks)
-one_silent (Awaiting m ticks) = and-false (nat_eq (ticks + 1) m)
-one_silent (Filtering w o) = and-false (letter w o)
-
-three : (c d : Bool) → (if c then false else if d then false else false) ≡ false
-three true d = refl
-three false d = both d
+one_silent o = grind (arith, common_steps)
 
 two_silent : (o : Two) → two_ticks o false false ≡ false
-two_silent Uniting = refl
-two_silent Meeting = refl
-two_silent Lessening = refl
-two_silent (Leading a d) = three (nat_lt d a) (nat_lt a d)
-two_silent (Trailing a d) = three (nat_lt a d) (nat_lt d a)
-two_silent (Ending seen) = both seen
-two_silent (EndingWeakly seen) = both seen
-two_silent (Sampling waiting) = both waiting
-two_silent (SamplingWeakly waiting) = both waiting
-two_silent (Lagging m waiting) = both (slice_index_or waiting (m - 1) false)
+two_silent o = grind (arith, common_steps)
 
 one_still : (o : One) → one_next o false ≡ o
-one_still (Filtering w o) = refl
-one_still o = refl
+one_still o = grind (arith, common_steps)
 
 unmarked : (waiting : List Bool) → set_first false waiting ≡ waiting
 unmarked [] = refl
 unmarked (x ∷ xs) = refl
 
 two_still : (o : Two) → two_next o false false ≡ o
-two_still (Ending seen) = ap Ending (or-false seen)
-two_still (EndingWeakly seen) = ap EndingWeakly (or-false seen)
-two_still (Sampling waiting) = ap Sampling (and-true waiting)
-two_still (SamplingWeakly waiting) = ap SamplingWeakly (and-true waiting)
-two_still (Lagging m waiting) = ap (Lagging m) (unmarked waiting)
-two_still o = refl
+two_still o = grind (arith, common_steps, unmarked)
 
 -- NOTHING HEARD, NOTHING TOLD
 pub tells_nothing : (s : Step) (t : Tree) → IsUnheard s t → eval (formula_of t) s ≡ false

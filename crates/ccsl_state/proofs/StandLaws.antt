@@ -5,7 +5,7 @@ use Rattle.std.proofs.Common.{Some, None, option_map, slice_get, slice_index, na
 use Rattle.std.proofs.Common.{eqb-true, length-append, nat_lt, slice_index_or}
 use Rattle.std.proofs.Math.Seq.{take-length}
 use Rattle.std.proofs.lemmas.Bool.{or_cases, cases_lt}
-use Rattle.std.proofs.lemmas.List.{map_push}
+use Rattle.std.proofs.lemmas.List.{map_push, get_or-drop, get_or-replicate, get_or_past, length-replicate}
 use Rattle.std.proofs.lemmas.Option.{slice_get_within, slice_get_past, get_or_from_slice_get, slice_get-get_or}
 use Rattle.ccsl_base.specs.Clocks.{ticks_in, are_below}
 use Rattle.ccsl_formula.specs.Formula.{Formula, FTrue, FVar, FIff, FNot, FOr, FFalse, FAnd, eval}
@@ -98,11 +98,7 @@ trees_len K earlier [] row = refl
 trees_len K earlier (e ∷ es) row = ap suc (trees_len K earlier es (drop (cells_in earlier e) row))
 
 pub zeros : (n m k : ℕ) → slice_index (drop m (replicate n 0)) k ≡ 0
-zeros zero zero k = refl
-zeros zero (suc m) k = refl
-zeros (suc n) zero zero = refl
-zeros (suc n) zero (suc k) = zeros n zero k
-zeros (suc n) (suc m) k = zeros n m k
+zeros n m k = grind (arith, common_steps, get_or-drop, get_or-replicate, get_or_past, length-replicate)
 
 module _ (h : Held) (ok : IsAccepted h.system) where
   -- THE OPENING

@@ -1,4 +1,5 @@
 -- The trees of a system after one more step, and that they give the meaning.
+use Rattle.std.proofs.lemmas.Grind.{common_steps}
 use Rattle.std.proofs.Common.{◌≡◌, ℕ, zero, suc, ◌+◌, ◌-◌, ◌<◌, ◌≤◌, ⊎_elim, List, [], ◌∷◌, ◌++◌, length, Bool, true, false, Some, None, slice_get}
 use Rattle.std.proofs.Common.{if◌then◌else◌, refl, sym, ap, ap₂, ◌∙◌, arith, length-append, eq-eqb, lt-ltb}
 use Rattle.std.proofs.lemmas.Bool.{cases_eq, ne_eqb}
@@ -25,12 +26,7 @@ grown_same : (K : System) (T T' : List Step) (gone gone' : ℕ → ℕ → Bool)
     ((i : ℕ) → i < n → step_at T i ≡ step_at T' i) → ((i : ℕ) → i ≤ n → gone i ≡ gone' i) → grown K T gone t b n ≡ grown K T' gone' t b n
 grown_same K T T' gone gone' t b n l same same_gone =
     from_birth (λ n. ((i : ℕ) → i < n → step_at T i ≡ step_at T' i) → ((i : ℕ) → i ≤ n → gone i ≡ gone' i) → grown K T gone t b n ≡ grown K T' gone' t b n) b
-    (λ _ _. grown-first K T gone t b b (omega arith) ∙ sym (grown-first K T' gone' t b b (omega arith)))
-    (λ n l ih same same_gone.
-    grown-suc K T gone t b n l
-    ∙ ap₂ (λ s g. next K s g (grown K T gone t b n)) (same n (omega arith)) (same_gone (suc n) (omega arith))
-    ∙ ap (next K (step_at T' n) (gone' (suc n))) (ih (λ i h. same i (omega arith)) (λ i h. same_gone i (omega arith)))
-    ∙ sym (grown-suc K T' gone' t b n l))
+    (λ _ _. grind (arith, common_steps, grown-first)) (λ n l ih same same_gone. grind (arith, common_steps, grown-suc))
     n l same same_gone
 
 -- a clock that is put, and any other
@@ -95,9 +91,6 @@ module _ (K : System) (ok : IsGuarded K) where
       ap₂ (λ t' known. t' ∷ next_all K s known (suc x) (trees_from K T (suc x) es)) here dies
       ∙ ap (λ ts. tree_after K (T ++ s ∷ []) x e ∷ ts) (next-from T s (suc x) es few (λ j. h (suc j) ∙ ap (definition_of K) (omega arith)))
     where
-      T' : List Step
-      T' = T ++ s ∷ []
-
       reads : gone_in (table (T ++ s ∷ []) (length (T ++ s ∷ [])) x) ≡ dead_below K (T ++ s ∷ []) x (length (T ++ s ∷ []))
       reads = fun_ext (table-reads (T ++ s ∷ []) (length (T ++ s ∷ [])) x)
 

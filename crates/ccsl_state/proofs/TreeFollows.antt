@@ -50,29 +50,13 @@ module _ (K : System) (T : List Step) (gone : ℕ → ℕ → Bool) where
   pub grown-one : (o : One) (a : Tree) (b n : ℕ) → b ≤ n → grown K T gone (TOne o a) b n ≡ TOne (one_after o (tick a b) (steps b n)) (grown K T gone a b n)
   grown-one o a b n l =
       from_birth (λ n. grown K T gone (TOne o a) b n ≡ TOne (one_after o (tick a b) (steps b n)) (grown K T gone a b n)) b
-      (grown-first (TOne o a) b b (omega arith) ∙ ap₂ TOne (ap (one_after o (tick a b)) (sym (steps-empty b b (omega arith))))
-      (sym (grown-first a b b (omega arith))))
-      (λ n l ih.
-      grown-suc (TOne o a) b n l
-      ∙ ap (next K (step_at T n) (gone (suc n))) ih
-      ∙ ap₂ TOne (sym (ap (one_after o (tick a b)) (steps-suc b n l) ∙ one_after-snoc o (tick a b) (steps b n) n)) (sym (grown-suc a b n l)))
-      n l
+      (grind (arith, common_steps, grown-first, steps-empty)) (λ n l ih. grind (arith, common_steps, grown-suc, steps-suc, one_after-snoc)) n l
 
   pub grown-two : (o : Two) (a d : Tree) (b n : ℕ) → b ≤ n
       → grown K T gone (TTwo o a d) b n ≡ TTwo (two_after o (tick a b) (tick d b) (steps b n)) (grown K T gone a b n) (grown K T gone d b n)
   grown-two o a d b n l =
       from_birth (λ n. grown K T gone (TTwo o a d) b n ≡ TTwo (two_after o (tick a b) (tick d b) (steps b n)) (grown K T gone a b n) (grown K T gone d b n)) b
-      (grown-first (TTwo o a d) b b (omega arith)
-      ∙ ap (λ is. TTwo (two_after o (tick a b) (tick d b) is) a d) (sym (steps-empty b b (omega arith)))
-      ∙ ap₂ (λ a' d'. TTwo (two_after o (tick a b) (tick d b) (steps b b)) a' d') (sym (grown-first a b b (omega arith)))
-      (sym (grown-first d b b (omega arith))))
-      (λ n l ih.
-      grown-suc (TTwo o a d) b n l
-      ∙ ap (next K (step_at T n) (gone (suc n))) ih
-      ∙ ap (λ o'. TTwo o' (next K (step_at T n) (gone (suc n)) (grown K T gone a b n)) (next K (step_at T n) (gone (suc n)) (grown K T gone d b n)))
-      (sym (ap (two_after o (tick a b) (tick d b)) (steps-suc b n l) ∙ two_after-snoc o (tick a b) (tick d b) (steps b n) n))
-      ∙ ap₂ (λ a' d'. TTwo (two_after o (tick a b) (tick d b) (steps b (suc n))) a' d') (sym (grown-suc a b n l)) (sym (grown-suc d b n l)))
-      n l
+      (grind (arith, common_steps, grown-first, steps-empty)) (λ n l ih. grind (arith, common_steps, grown-suc, steps-suc, two_after-snoc)) n l
 
   abbrev now_of : ℕ → Tree → Now
   now_of n t = record { formula = formula_of t; dead = dead_of (gone n) t }

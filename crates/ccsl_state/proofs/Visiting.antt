@@ -175,14 +175,10 @@ module _ (K : System) (ok : IsAccepted K) (F : List ℕ) where
                   dead = gone_other (K.declared + i) apart ∙ u.dead;
                 };
             followed = λ m h. (waits m h).0;
-            few = λ m h. ⊎_elim
-                (λ (e : m ≡ j). subst (IsFollowed K F) (sym e) mine)
-                (λ (ne : m ≡ j → ⊥). g.few m (sym (ticks_in-put_other j (not settled) m unsettled ne) ∙ sym (v.unsettled_is m) ∙ h))
-                (cases_eq m j);
-            declared = λ y l. step_other y (λ e. omega (arith, e, l)) ∙ g.declared y l;
-            outside = λ i none. step_other (K.declared + i) (λ e. none (subst (IsFollowed K F) (let z : j ≡ i = omega (arith, e) in z) mine))
-                ∙ g.outside i none;
-            alive = λ y l. gone_other y (λ e. omega (arith, e, l)) ∙ g.alive y l;
+            few = λ m h. grind (arith, common_steps, ticks_in-put_other, mine);
+            declared = λ y l. grind (arith, common_steps, step_other);
+            outside = λ i none. grind (arith, common_steps, step_other, mine);
+            alive = λ y l. grind (arith, common_steps, gone_other);
             ascends = ap is_ascending v.step_is ∙ put_ascends tick (K.declared + j) step g.ascends;
           }
 

@@ -33,6 +33,7 @@ pub struct Passage {
 
 /// Makes a number a member of a set, or takes it out; `was` tells whether it is one. It seldom is not yet as it is to be.
 #[inline(always)]
+#[tactic(auto, using(crate::proofs::Visiting::put_already))]
 fn change(set: &mut ClockSet, number: u32, was: bool, member: bool)
     requires number { number < MAX_CLOCKS }
     requires was { was ≡ ticks_in number set.old }

@@ -58,6 +58,7 @@ pub fn definition_formula(
 }
 
 /// The formula of a definition: its clock ticks where the formula of its expression holds.
+#[tactic(auto, using(crate::proofs::WholeLaws::whole_regions))]
 fn definition_item(
     alloc: Global,
     lay: &Layout<'_>,

@@ -40,6 +40,7 @@ pub fn definitions_read_no_more()
 {}
 
 /// Nothing heard, nothing told: what hears none of its clocks does not tick.
+#[tactic(auto, using(crate::proofs::QuietLaws::tells_nothing))]
 pub fn nothing_heard_nothing_told()
     ensures { (t : Tree) (s : Step) → TellsNothing s t }
 {}
@@ -52,6 +53,7 @@ pub fn nothing_heard_nothing_moved()
 {}
 
 /// Unsettled lasts one step: after it only what was born in it may be unsettled.
+#[tactic(auto, using(crate::proofs::QuietLaws::settles))]
 pub fn unsettled_lasts_one_step()
     ensures { (K : System) (t : Tree) (s : Step) (gone : ℕ → Bool) → Settles K s gone t }
 {}

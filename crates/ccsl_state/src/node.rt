@@ -110,23 +110,11 @@ pub fn two_ticks(op: ExprOp, head: &[u64], t: bool, u: bool) -> bool
         ExprOp::Minus => t && !u,
         ExprOp::Inf => {
             let (a, d) = (count_at(head[0]), count_at(head[1]));
-            if d < a {
-                t
-            } else if a < d {
-                u
-            } else {
-                t || u
-            }
+            (t && d <= a) || (u && a <= d)
         }
         ExprOp::Sup => {
             let (a, d) = (count_at(head[0]), count_at(head[1]));
-            if a < d {
-                t
-            } else if d < a {
-                u
-            } else {
-                t && u
-            }
+            (t || d < a) && (u || a < d)
         }
         ExprOp::Upto => head[0] == 0 && t && !u,
         ExprOp::UptoWeakly => head[0] == 0 && t,

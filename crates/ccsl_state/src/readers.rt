@@ -18,6 +18,7 @@ pub struct Readers {
 }
 
 /// Definition number `i` reads some clocks.
+#[tactic(auto, using(std::proofs::lemmas::Grind::common_steps, crate::proofs::Visiting::adding_more, crate::proofs::Visiting::adding_within))]
 fn add_reader(clocks: &ClockSet, i: u32, sets: &mut [ClockSet])
     requires within { (y : ℕ) → ticks_in y clocks.now ≡ true → y < length sets.old }
     requires number { i < MAX_CLOCKS }
@@ -61,6 +62,7 @@ impl Readers {
     }
 
     /// The numbers of the followed definitions.
+    #[tactic(auto, using(std::proofs::lemmas::Grind::common_steps, crate::proofs::Visiting::numbers_more))]
     pub fn numbers(&self, system: &System) -> ClockSet
         ensures { (i : ℕ) → ticks_in i result ≡
             (nat_lt i (length system.now.definitions)

@@ -107,6 +107,7 @@ impl<'s> States<'s> {
     }
 
     /// Whether a definition is dead: it will not tick again.
+    #[tactic(auto, using(std::proofs::lemmas::Grind::common_steps, crate::proofs::StandLaws::stands_dead))]
     pub fn dead(&self, definition: u32) -> bool
         requires { definition < length self.now.system.definitions }
         ensures row { result ≡ is_dead self.now definition }

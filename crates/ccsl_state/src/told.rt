@@ -1,4 +1,5 @@
 //! The formula of an expression, from its region.
+#![tactic(auto, using(crate::proofs::Places::inner_stands))]
 
 ghost use Rattle.std.specs.Prelude.{◌≡◌, ◌≤◌, ◌+◌, false, true, length, IfOk, if◌then◌else◌};
 ghost use Rattle.ccsl_formula.specs.Formula.{Formula as Plain, FFalse};
@@ -94,13 +95,7 @@ fn joined(
                 and(alloc, f, not(alloc, g)?)
             }
         }
-        ExprOp::UptoWeakly => {
-            if head[0] != 0 {
-                Ok(Formula::False)
-            } else {
-                Ok(f)
-            }
-        }
+        ExprOp::UptoWeakly => Ok(through(head[0] == 0, f)),
         ExprOp::Then => Ok(Formula::False),
         ExprOp::Sampled => Ok(through(head[0] != 0, g)),
         ExprOp::SampledWeakly => {

@@ -46,6 +46,7 @@ pub fn open_row(lay: &Layout<'_>, row: &mut [u64]) -> ClockSet
 }
 
 /// The full step that declared ticks give.
+#[tactic(auto, using(crate::proofs::WholeLaws::whole_regions))]
 pub fn derive_row(lay: &Layout<'_>, row: &[u64], declared: &ClockSet) -> ClockSet
     requires accepted { IsAccepted lay.now.system.now }
     requires whole { IsWhole lay.now row.now }
