@@ -1,7 +1,7 @@
 -- A definition's region, and those behind it.
 use Rattle.std.proofs.lemmas.Grind.{common_steps}
-use Rattle.std.proofs.Common.{rules, drop-cons, ◌≡◌, ℕ, zero, suc, ◌+◌, ◌<◌, ◌≤◌, List, [], ◌∷◌, ◌++◌, length, drop, true, false, Some, slice_get, sym, ap, ap₂, subst}
-use Rattle.std.proofs.Common.{◌∙◌, arith, ◌-◌, take, refl, Bool, not, slice_set}
+use Rattle.std.proofs.Common.{rules, drop-cons, add-one, ◌≡◌, ℕ, zero, suc, ◌+◌, ◌<◌, ◌≤◌, List, [], ◌∷◌, ◌++◌, length, drop, true, false, Some, slice_get, sym, ap, ap₂}
+use Rattle.std.proofs.Common.{subst, ◌∙◌, arith, ◌-◌, take, refl, Bool, not, slice_set}
 use Rattle.std.proofs.lemmas.Option.{slice_get_within, get_or_from_slice_get}
 use Rattle.ccsl_base.specs.declared.limits.TheConstants.{MAX_CELLS}
 use Rattle.ccsl_formula.specs.Formula.{eval}
@@ -10,8 +10,6 @@ use Rattle.ccsl_kernel.specs.declared.expr.Expr.{Expr}
 use Rattle.ccsl_kernel.specs.Syntax.{Expression, System}
 use Rattle.ccsl_kernel.specs.Plain.{plain_expr}
 use Rattle.ccsl_kernel.specs.Accepted.{IsAccepted, IsDefinition, Each}
-use Rattle.ccsl_kernel.specs.Deep.{deep}
-use Rattle.ccsl_kernel.specs.Fitting.{ExprFits}
 use Rattle.ccsl_kernel.specs.Lives.{Step}
 use Rattle.ccsl_kernel.proofs.AcceptedParts.{definition_ready}
 use Rattle.ccsl_state.specs.declared.layout.Layout.{Layout}
@@ -100,7 +98,7 @@ module _ (earlier : List ℕ) where
   more_places es i e places place size is before at = grind (arith, common_steps, places_more, next_place)
 
 at_place : (es : List Expression) (i : ℕ) (e : Expression) → slice_get es i ≡ Some e → drop i es ≡ e ∷ drop (i + 1) es
-at_place es i e h = drop-cons es i e (slice_get_within es i e h) ∙ ap₂ (λ x k. x ∷ drop k es) (get_or_from_slice_get es i e e h) (let n : suc i ≡ i + 1 = omega arith in n)
+at_place es i e h = rw (add-one, drop-cons es i e (slice_get_within es i e h), get_or_from_slice_get es i e e h)
 
 -- a definition's tree is passed, and then those behind it
 pub passes : (K : System) (s : Step) (known : List ℕ) (x : ℕ) (t t' : Tree) (ts ts' : List Tree) (s' known' : List ℕ) → t' ≡ next K s (gone_in known) t →

@@ -1,11 +1,9 @@
 -- Whether a node ticks, from whether its operands do.
 use Rattle.std.proofs.lemmas.Grind.{common_steps}
-use Rattle.std.proofs.Common.{◌≡◌, ℕ, ◌-◌, ◌+◌, List, Bool, true, false, Option, Some, None, nat_eq, nat_lt, nat_le, slice_index_or, refl, arith, if◌then◌else◌, ◌&&◌}
-use Rattle.ccsl_formula.specs.Formula.{Formula, FFalse, FNot, FAnd, FOr, eval}
-use Rattle.ccsl_words.specs.Word.{letter}
-use Rattle.ccsl_state.specs.Tree.{One, Delaying, Awaiting, Filtering, Two, Uniting, Meeting, Lessening, Leading, Trailing, Ending, EndingWeakly, Sampling}
-use Rattle.ccsl_state.specs.Tree.{SamplingWeakly, Lagging, Tree, one_formula, one_ticks, two_formula, two_ticks, formula_of, dead_of}
-use Rattle.ccsl_state.specs.Nodes.{pair_at, node_ticks, node_formula, node_dead}
+use Rattle.std.proofs.Common.{◌≡◌, ℕ, List, Bool, Option, Some, None, refl, arith}
+use Rattle.ccsl_formula.specs.Formula.{Formula, eval}
+use Rattle.ccsl_state.specs.Tree.{One, Two, Tree, one_formula, one_ticks, two_formula, two_ticks, formula_of, dead_of}
+use Rattle.ccsl_state.specs.Nodes.{pair_at, node_ticks, node_dead}
 
 module _ (s : List ℕ) where
   pub one_eval : (o : One) (f : Formula) → eval (one_formula o f) s ≡ one_ticks o (eval f s)

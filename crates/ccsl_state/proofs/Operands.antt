@@ -44,7 +44,8 @@ pub pair_next : (K : System) (s : Step) (gone : ℕ → Bool) (o : Option Two) (
 pair_next K s gone None a d = refl
 pair_next K s gone (Some o) a d = refl
 
-pub pair_settled : (gone : ℕ → Bool) (o : Option Two) (a d : Tree) → is_settled gone a ≡ true → is_settled gone d ≡ true → is_settled gone (pair_at o a d) ≡ true
+pub pair_settled : (gone : ℕ → Bool) (o : Option Two) (a d : Tree) → is_settled gone a ≡ true → is_settled gone d ≡ true
+    → is_settled gone (pair_at o a d) ≡ true
 pair_settled gone None a d p q = refl
 pair_settled gone (Some o) a d p q = ap₂ (λ x y. x && y) p q
 

@@ -1,8 +1,7 @@
 -- What has gone on by its own ticks has gone on by the full step: by induction over the clocks, since a definition reads lower ones.
 use Rattle.std.proofs.lemmas.Grind.{common_steps}
-use Rattle.std.proofs.Common.{◌≡◌, ℕ, zero, suc, ◌+◌, ◌-◌, ◌<◌, ◌≤◌, ◌^◌, ⊎_elim, List, [], ◌∷◌, ◌++◌, length, filter, Bool, true, false, ◌&&◌, Option}
-use Rattle.std.proofs.Common.{Some, None, option_map, slice_get, slice_index_or, nat_lt, if◌then◌else◌, refl, sym, ap, ap₂, subst, ◌∙◌, arith}
-use Rattle.std.proofs.Common.{length-append, lt-ltb}
+use Rattle.std.proofs.Common.{◌≡◌, ℕ, zero, suc, ◌+◌, ◌-◌, ◌<◌, ◌≤◌, ◌^◌, ⊎_elim, List, [], ◌∷◌, ◌++◌, length, filter, Bool, true, false, ◌&&◌, Option, Some}
+use Rattle.std.proofs.Common.{None, option_map, slice_get, slice_index_or, nat_lt, if◌then◌else◌, refl, sym, ap, ap₂, subst, ◌∙◌, arith, length-append, lt-ltb}
 use Rattle.std.proofs.lemmas.Bool.{cases_lt, and_parts, and_from, ltb-true, or_left, or_right}
 use Rattle.std.proofs.lemmas.Option.{get_or_from_slice_get, slice_get-get_or, slice_get_past}
 use Rattle.ccsl_base.specs.Clocks.{ticks_in, is_ascending, are_below}
@@ -144,7 +143,8 @@ module _ (p : HeldPart) (T : List Step) (s : Step) (ok : IsAccepted p.system) (c
         let f : IsFollowed K F i = (l, followed) in
         let is : definition_of K x ≡ Some e = definition_at K ok i e at in
         passed.tick i f
-        ∙ tick_same (λ y. reads K i y ≡ true) step full (λ y r. lower y (reads_below K ok F i y r) (known i y followed r)) (tree_number old i) (kept₀.within i f)
+        ∙ tick_same (λ y. reads K i y ≡ true) step full (λ y r. lower y (reads_below K ok F i y r) (known i y followed r)) (tree_number old i)
+        (kept₀.within i f)
         ∙ ap (λ t. eval (formula_of t) full) (before i e f at)
         ∙ ap (λ (now : Now). eval now.formula full) (states_mean K (accepted_guarded K ok) T x e few is)
         ∙ sym (full_obeys K (accepted_guarded K ok) (accepted_scoped K ok) T s low x e is))
@@ -257,7 +257,8 @@ module _ (p : HeldPart) (T : List Step) (s : Step) (ok : IsAccepted p.system) (c
     part_stands p' short system followed same = record {
       trees = λ i is.
           same i
-          ∙ trees_are (omega (arith, short, length-append T (full ∷ []))) i (ap₂ (λ (K : System) F. ticks_in (K.declared + i) F) (sym system) (sym followed) ∙ is)
+          ∙ trees_are (omega (arith, short, length-append T (full ∷ []))) i
+          (ap₂ (λ (K : System) F. ticks_in (K.declared + i) F) (sym system) (sym followed) ∙ is)
           ∙ ap (λ K. slice_get (trees_after K more) i) (sym system);
       few = omega (arith, short, length-append T (full ∷ []));
     }

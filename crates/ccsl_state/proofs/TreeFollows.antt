@@ -1,7 +1,7 @@
 -- The state tree follows the meaning: its life obeys each row of the table, and so is the meaning.
 use Rattle.std.proofs.lemmas.Grind.{common_steps}
-use Rattle.std.proofs.Common.{◌≡◌, ℕ, zero, suc, ◌≤◌, List, [], ◌∷◌, ◌++◌, find, length, replicate, Bool, true, false, Option, Some, None, refl, sym, ap, ap₂}
-use Rattle.std.proofs.Common.{◌∙◌, arith, nat_le, le-leb, if◌then◌else◌, length-append}
+use Rattle.std.proofs.Common.{◌≡◌, ℕ, zero, suc, ◌≤◌, List, [], ◌∷◌, ◌++◌, find, length, Bool, true, false, Option, Some, None, refl, sym, ap, ◌∙◌, arith}
+use Rattle.std.proofs.Common.{nat_le, le-leb, if◌then◌else◌, length-append}
 use Rattle.std.proofs.lemmas.Bool.{lt-leb, cond_both}
 use Rattle.ccsl_kernel.specs.declared.expr.ExprOp.{ExprOp}
 use Rattle.ccsl_kernel.specs.declared.actual.Actual.{Actual}
@@ -9,8 +9,7 @@ use Rattle.ccsl_kernel.specs.declared.expr.ExprOp.TheVariants as op
 use Rattle.ccsl_kernel.specs.declared.actual.Actual.TheVariants as actual
 use Rattle.ccsl_kernel.specs.Syntax.{Expression, EBinary, System}
 use Rattle.ccsl_kernel.specs.Actuals.{place_of, number_of, suffix_of, test_of, word_of}
-use Rattle.ccsl_kernel.specs.Table.{Now, Operand, union_row, inter_row, minus_row, inf_row, sup_row, upto_row, upto_weakly_row, sampled_row, sampled_weakly_row}
-use Rattle.ccsl_kernel.specs.Table.{delay_row, await_row, filter_row, delayed_row}
+use Rattle.ccsl_kernel.specs.Table.{Now, Operand}
 use Rattle.ccsl_kernel.specs.Lives.{Step, steps, step_at, ticks_at, over_one, over_two, end_of, at_end, followed_by, joined}
 use Rattle.ccsl_kernel.specs.Meaning.{named, life_given}
 use Rattle.ccsl_kernel.specs.Guarded.{IsAllowed}
@@ -19,8 +18,7 @@ use Rattle.ccsl_kernel.specs.Rows.{IsTable, CallsAreBodies}
 use Rattle.ccsl_kernel.proofs.Steps.{steps-suc, steps-empty, find-steps-suc, find-within, from_birth, or_else, if_at}
 use Rattle.ccsl_kernel.proofs.Agree.{unique}
 use Rattle.ccsl_kernel.proofs.TableHolds.{meaning_rows, meaning_calls}
-use Rattle.ccsl_state.specs.Tree.{most, leaf, Tree, TName, TNever, TOne, TTwo, TThen, One, Two, Delaying, Awaiting, Filtering, Uniting, Meeting, Lessening}
-use Rattle.ccsl_state.specs.Tree.{Leading, Trailing, Ending, EndingWeakly, Sampling, SamplingWeakly, Lagging, opening, then_or_right, next, formula_of, dead_of}
+use Rattle.ccsl_state.specs.Tree.{most, leaf, Tree, TName, TNever, TOne, TTwo, TThen, One, Two, opening, then_or_right, next, formula_of, dead_of}
 use Rattle.ccsl_state.specs.Grown.{grown, life_of, grown_meaning}
 use Rattle.ccsl_state.proofs.Opening.{opening_call}
 use Rattle.ccsl_state.proofs.Keeping.{one_after, two_after, one_after-snoc, two_after-snoc, IsOne, IsTwo, await_is, delay_is, filter_is, union_is, inter_is}

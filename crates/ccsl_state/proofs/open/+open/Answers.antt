@@ -1,6 +1,5 @@
 -- The parts of a region, each of which was opened.
-use Rattle.std.proofs.Common.{rules, ◌≡◌, ◌<◌, ◌≤◌, ◌+◌, ◌%◌, ◌^◌, length, map, Some, ◌++◌, slice_set, refl, sym, ap, subst, ◌∙◌}
-use Rattle.std.proofs.Common.{arith}
+use Rattle.std.proofs.Common.{rules, ◌≡◌, ◌<◌, ◌≤◌, ◌+◌, ◌%◌, ◌^◌, length, map, Some, ◌++◌, slice_set, refl, sym, ap, subst, ◌∙◌, arith}
 use Rattle.std.proofs.lemmas.List.{length-set, get_or-set_same}
 use Rattle.ccsl_kernel.specs.Syntax.{body_of}
 use Rattle.ccsl_kernel.specs.Plain.{plain_expr, plain_body}

@@ -45,5 +45,5 @@ returns-clause-stands c = λ T stands short.
     let same : (i : ℕ) → followed_tree next i ≡ slice_get trees i =
     λ i. ap₂ (λ C row. slice_get (trees_in h.system C h.system.definitions row) i) (sym calls_are) is in
     subst (λ (p : HeldPart). PartStandsFor p T → PartStandsFor next (T ++ full_step p.system T s ∷ [])) c.self.view_is
-    (λ st. part_stands h T s c.self.invariant.accepted c.self.invariant.closed low ascends old.gone old.unsettled c.self.invariant.kept trees c.follow.new.step new.gone
-    new.unsettled passed c.follow.ensures.kept st next short refl refl same) stands
+    (λ st. part_stands h T s c.self.invariant.accepted c.self.invariant.closed low ascends old.gone old.unsettled c.self.invariant.kept trees
+    c.follow.new.step new.gone new.unsettled passed c.follow.ensures.kept st next short refl refl same) stands
