@@ -175,17 +175,7 @@ module _ (p : HeldPart) (T : List Step) (s : Step) (ok : IsAccepted p.system) (c
         (λ y. at y (is_within K F y) refl ∙ and_comm (is_within K F y) (ticks_in y full) ∙ sym (ticks_in-filter (is_within K F) y full))
       where
         at : (y : ℕ) (t : Bool) → is_within K F y ≡ t → ticks_in y step ≡ (is_within K F y && ticks_in y full)
-        at y true w = tick_below (suc y) y (omega arith) w ∙ ap (λ t. t && ticks_in y full) (sym w)
-        at y false w = ⊎_elim
-            (λ (m : y < K.declared). let z : ⊥ =
-            (let e : true ≡ false = sym (or_left (nat_lt y K.declared) (ticks_in y F) (lt-ltb y K.declared m)) ∙ w in cc) in absurd z)
-            (λ (m : K.declared ≤ y).
-            let n = numbered y m in
-            ap (λ k. ticks_in k step) n.1
-            ∙ passed.outside n.0 (λ (f : IsFollowed K F n.0).
-            let z : ⊥ = (let e : true ≡ false = sym (or_right (nat_lt y K.declared) (ticks_in y F) (ap (λ k. ticks_in k F) n.1 ∙ f.1)) ∙ w in cc) in z)
-            ∙ sym (ap (λ t. t && ticks_in y full) w))
-            (cases_lt y K.declared)
+        at y t w = grind (arith, common_steps, tick_below (suc y) y, passed.outside (y - K.declared))
 
     abbrev len : ℕ
     len = length (T ++ full_step K T s ∷ [])

@@ -50,15 +50,7 @@ module _ (K : System) (ok : IsGuarded K) where
 
   pub table-reads : (T : List Step) (n x y : ℕ) → gone_in (table T n x) y ≡ dead_below K T x n y
   table-reads T n zero y = refl
-  table-reads T n (suc x) y = ⊎_elim
-      (λ (e : y ≡ x). ap (λ k. ticks_in k (table T n (suc x))) e ∙ put_same here x (table T n x) (table-past T n x x (omega arith))
-      ∙ sym (ap (λ t. choice t here (dead_below K T x n y)) (eq-eqb y x e)))
-      (λ (ne : y ≡ x → ⊥). put_other here x y (table T n x) ne ∙ table-reads T n x y
-      ∙ sym (ap (λ t. choice t here (dead_below K T x n y)) (ne_eqb y x ne)))
-      (cases_eq y x)
-    where
-      here : Bool
-      here = definition_dead K T (dead_below K T x) n (definition_of K x)
+  table-reads T n (suc x) y = grind (arith, common_steps, put_same, put_other, table-past, table-reads T n x y)
 
   -- the tree of a definition after one more step
   pub tree_step : (T : List Step) (s : Step) (x : ℕ) (e : Expression) →

@@ -225,10 +225,7 @@ lowest n (x ∷ xs) = min x (lowest n xs)
 
 pub lowest_below : (n : ℕ) (xs : List ℕ) (x : ℕ) → ticks_in x xs ≡ true → lowest n xs ≤ x
 lowest_below n [] x is = let z : ⊥ = cc in absurd z
-lowest_below n (y ∷ xs) x is = ⊎_elim
-    (λ (e : nat_eq x y ≡ true). let same = eqb-true x y e in omega (arith, same))
-    (λ (r : ticks_in x xs ≡ true). let l = lowest_below n xs x r in omega (arith, l))
-    (or_cases (nat_eq x y) (ticks_in x xs) is)
+lowest_below n (y ∷ xs) x is = grind (arith, common_steps, lowest_below n xs x)
 
 pub lowest_above : (n j : ℕ) (xs : List ℕ) → j < n → ((m : ℕ) → ticks_in m xs ≡ true → j < m) → j < lowest n xs
 lowest_above n j [] l h = l
@@ -244,10 +241,7 @@ lowest_most n (x ∷ xs) = let l = lowest_most n xs in omega (arith, l)
 -- WHO READS a clock that ticks
 any_member : (p : ℕ → Bool) (xs : List ℕ) (x : ℕ) → ticks_in x xs ≡ true → p x ≡ true → list_any p xs ≡ true
 any_member p [] x is h = let z : ⊥ = cc in absurd z
-any_member p (y ∷ xs) x is h = ⊎_elim
-    (λ (e : nat_eq x y ≡ true). or_left (p y) (list_any p xs) (ap p (sym (eqb-true x y e)) ∙ h))
-    (λ (r : ticks_in x xs ≡ true). or_right (p y) (list_any p xs) (any_member p xs x r h))
-    (or_cases (nat_eq x y) (ticks_in x xs) is)
+any_member p (y ∷ xs) x is h = grind (arith, common_steps, any_member p xs x)
 
 member_any : (p : ℕ → Bool) (xs : List ℕ) → list_any p xs ≡ true → (x : ℕ) × (p x ≡ true)
 member_any p [] h = let z : ⊥ = cc in absurd z
@@ -317,10 +311,7 @@ read_all K F sets n all count before = record { count = count; tell = λ y p. gr
 -- what is as it is to be stays so
 pub put_already : (number : ℕ) (member : Bool) (set : List ℕ) → ticks_in number set ≡ member → (x : ℕ)
     → ticks_in x set ≡ ticks_in x (put_clock number member set)
-put_already number member set is x = ⊎_elim
-    (λ (e : x ≡ number). ap (λ k. ticks_in k set) e ∙ is ∙ sym (ap (λ k. ticks_in k (put_clock number member set)) e ∙ ticks_in-put_same number member set))
-    (λ (ne : x ≡ number → ⊥). sym (ticks_in-put_other number member x set ne))
-    (cases_eq x number)
+put_already number member set is x = grind (arith, common_steps, ticks_in-put_same, ticks_in-put_other)
 
 -- A VISIT, as the program makes it and enters it
 pub visit_is : (lay : Layout) (i clock : ℕ) (sets : List (List ℕ)) (row row' : List ℕ) (v : Stepped) (s s' : Step)
@@ -329,21 +320,7 @@ pub visit_is : (lay : Layout) (i clock : ℕ) (sets : List (List ℕ)) (row row'
     → (e : IsEntered sets i clock v s s' middle new)
     → IsVisit lay.system.now sets (trees_from lay 0 row) (trees_from lay 0 row') s s' old.gone new.gone old.waiting new.waiting old.unsettled
     new.unsettled i v.tick v.dead is.known e.news
-visit_is lay i clock sets row row' v s s' old middle new at is same e =
-    let gone : middle.gone ≡ old.gone = ap (λ (p : Passage). p.gone) same in
-    let waiting : middle.waiting ≡ old.waiting = ap (λ (p : Passage). p.waiting) same in
-    record {
-      trees_are = is.trees;
-      tick_is = is.tick;
-      dead_is = is.dead;
-      settled_is = is.settled;
-      told_is = λ h. let n = e.none h in (n.0, n.1 ∙ ap₂ ticks_in at gone);
-      step_is = e.step ∙ ap (λ k. put v.tick k s) at;
-      gone_is = λ x. e.gone x ∙ ap₂ (λ k set. ticks_in x (put_clock k v.dead set)) at gone;
-      unsettled_is = λ p. ap (ticks_in p) e.unsettled ∙ is.entered p;
-      waiting_is = λ p. e.waiting p
-          ∙ ap₂ (λ set k. (ticks_in p set && not (nat_eq i p)) || (e.news && ticks_in p (slice_index_or sets k []))) waiting at;
-    }
+visit_is lay i clock sets row row' v s s' old middle new at is same e = grind (arith, common_steps)
 
 -- THE NUMBERS of the followed definitions, one more
 pub numbers_more : (D i : ℕ) (F set set' : List ℕ) (one : Bool) → ((p : ℕ) → ticks_in p set ≡ (nat_lt p i && ticks_in (D + p) F)) → set' ≡ put_clock i one set

@@ -117,30 +117,3 @@ opened-returns-in-Call t c =
       dead = c.call_opened.ensures.dead ∙ ap (dead_of (gone_in c.args.gone.now)) b.born;
       size = search rules;
     }
-
-pub two_opened-opened-left-requires : goal.two_opened-opened-left-requires
-two_opened-opened-left-requires t c = grind (arith, inner_stands, inner_not_own)
-
-pub two_opened-opened-right-requires : goal.two_opened-opened-right-requires
-two_opened-opened-right-requires t c = grind (arith, inner_stands, inner_not_own)
-
-pub lag_opened-opened-left-requires : goal.lag_opened-opened-left-requires
-lag_opened-opened-left-requires t c = grind (arith, inner_stands, inner_not_own)
-
-pub lag_opened-opened-right-requires : goal.lag_opened-opened-right-requires
-lag_opened-opened-right-requires t c = grind (arith, inner_stands, inner_not_own)
-
-pub one_opened-opened-born-requires : goal.one_opened-opened-born-requires
-one_opened-opened-born-requires t c = grind (arith, inner_stands, inner_not_own)
-
-pub then_opened-opened-born-requires : goal.then_opened-opened-born-requires
-then_opened-opened-born-requires t c = grind (arith, inner_stands, inner_not_own)
-
-pub then_opened-returns : goal.then_opened-returns
-then_opened-returns t c = grind (arith, rest_one)
-
-pub opened-returns-then-holds : goal.opened-returns-then-holds
-opened-returns-then-holds t c = grind (arith, rest_one)
-
-pub opened-returns-else-holds : goal.opened-returns-else-holds
-opened-returns-else-holds t c = grind (arith, rest_one)
