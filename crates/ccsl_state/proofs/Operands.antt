@@ -1,8 +1,8 @@
 -- The region of an operator behind its own cells, from those of its operands.
 use Rattle.std.proofs.lemmas.Grind.{common_steps}
 use Rattle.std.proofs.Common.{◌≡◌, ℕ, ◌≤◌, List, ◌++◌, length, drop, Bool, true, ◌&&◌, Option, Some, None, option_map, refl, sym, ap, ap₂, subst, ◌∙◌, arith}
-use Rattle.std.proofs.Common.{zero, suc, ⊎_elim, [], ◌∷◌, false, slice_get, slice_index_or}
-use Rattle.std.proofs.lemmas.Bool.{and_parts, cases_eq}
+use Rattle.std.proofs.Common.{zero, suc, [], ◌∷◌, false, slice_get, slice_index_or}
+use Rattle.std.proofs.lemmas.Bool.{and_parts}
 use Rattle.ccsl_base.specs.declared.limits.TheConstants.{MAX_CELLS}
 use Rattle.ccsl_formula.specs.Formula.{eval}
 use Rattle.ccsl_kernel.specs.declared.actual.Actual.{Actual}
@@ -13,11 +13,11 @@ use Rattle.ccsl_kernel.specs.Lives.{Step}
 use Rattle.ccsl_state.specs.declared.layout.Layout.{Layout}
 use Rattle.ccsl_state.specs.declared.moved.Born.{Born}
 use Rattle.ccsl_state.specs.declared.moved.Moved.{Moved}
-use Rattle.ccsl_state.specs.Tree.{Tree, Two, two_next, next, formula_of, dead_of, TName}
+use Rattle.ccsl_state.specs.Tree.{Tree, Two, two_next, next, formula_of, dead_of}
 use Rattle.ccsl_state.specs.Moves.{gone_in, Outcome}
 use Rattle.ccsl_state.specs.Nodes.{pair_at, node_ticks, node_dead}
 use Rattle.ccsl_state.specs.Quiet.{is_settled}
-use Rattle.ccsl_state.specs.Regions.{tree, size, newborn, newborn_pair, pair_tree, pair_size, left_tree, right_tree, after}
+use Rattle.ccsl_state.specs.Regions.{tree, size, newborn, newborn_pair, pair_tree, pair_size, left_tree, right_tree}
 use Rattle.ccsl_state.specs.Ready.{IsReady}
 use Rattle.ccsl_state.specs.Walks.{IsOpened, IsAdvanced, IsRewritten}
 use Rattle.ccsl_state.proofs.Evals.{pair_eval, pair_dead}
@@ -30,7 +30,7 @@ use Rattle.ccsl_kernel.specs.declared.expr.ExprOp.{ExprOp}
 use Rattle.ccsl_state.specs.declared.flat.Flat.{Flat}
 use Rattle.ccsl_state.specs.declared.moved.Stepped.{Stepped}
 use Rattle.ccsl_state.specs.Standing.{is_then}
-use Rattle.ccsl_state.specs.Layout.{two_at, read}
+use Rattle.ccsl_state.specs.Layout.{two_at}
 use Rattle.ccsl_state.specs.Flats.{clock_name, IsFlatly, IsFlatAt}
 
 -- where it came to no call of the own group

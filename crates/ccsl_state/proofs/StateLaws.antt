@@ -1,8 +1,7 @@
 -- The trees of a system after one more step, and that they give the meaning.
 use Rattle.std.proofs.lemmas.Grind.{common_steps}
-use Rattle.std.proofs.Common.{◌≡◌, ℕ, zero, suc, ◌+◌, ◌-◌, ◌<◌, ◌≤◌, ⊎_elim, List, [], ◌∷◌, ◌++◌, length, Bool, true, false, Some, None, slice_get}
-use Rattle.std.proofs.Common.{if◌then◌else◌, refl, sym, ap, ap₂, ◌∙◌, arith, length-append, eq-eqb, lt-ltb}
-use Rattle.std.proofs.lemmas.Bool.{cases_eq, ne_eqb}
+use Rattle.std.proofs.Common.{◌≡◌, ℕ, zero, suc, ◌+◌, ◌-◌, ◌<◌, ◌≤◌, List, [], ◌∷◌, ◌++◌, length, Bool, true, false, Some, None, slice_get}
+use Rattle.std.proofs.Common.{if◌then◌else◌, refl, sym, ap, ap₂, ◌∙◌, arith, length-append, lt-ltb}
 use mathlib.Core.Path.{fun_ext}
 use Rattle.ccsl_base.specs.Clocks.{ticks_in, with_clock}
 use Rattle.ccsl_kernel.specs.Syntax.{Expression, System, definition_of}
@@ -13,7 +12,7 @@ use Rattle.ccsl_kernel.proofs.GuardedCalls.{IsGuarded}
 use Rattle.ccsl_kernel.proofs.Steps.{from_birth}
 use Rattle.ccsl_kernel.specs.Runs.{derived_from as kernel_derived, full_step}
 use Rattle.ccsl_formula.specs.Formula.{eval}
-use Rattle.ccsl_kernel.proofs.Definitions.{choice, step_at-front, step_at-last, definitions-are, dead_below-at, definition_allowed, dead_below-same}
+use Rattle.ccsl_kernel.proofs.Definitions.{step_at-front, step_at-last, definitions-are, dead_below-at, definition_allowed, dead_below-same}
 use Rattle.ccsl_base.proofs.Sets.{ticks_in-with_same, ticks_in-with_other}
 use Rattle.ccsl_state.specs.Tree.{most, Tree, opening, next, formula_of, dead_of}
 use Rattle.ccsl_state.specs.Grown.{grown}

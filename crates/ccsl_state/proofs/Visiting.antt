@@ -1,7 +1,7 @@
 -- A STEP THAT VISITS ONLY WHAT HEARS SOMETHING: a definition that waits for its visit is untouched, and one that does not is done.
 use Rattle.std.proofs.Common.{◌≡◌, ℕ, ◌+◌, ◌<◌, ◌≤◌, ⊎_elim, List, [], length, Bool, true, false, not, ◌&&◌, ◌||◌, slice_set, slice_index_or, nat_eq, sym, ap}
-use Rattle.std.proofs.Common.{subst, ◌∙◌, arith, ◌∷◌, Option, Some, None, min, nat_lt, refl, ap₂, eq-eqb, eqb-true}
-use Rattle.std.proofs.lemmas.Bool.{cases_eq, not-false, or_cases, or_left, or_right}
+use Rattle.std.proofs.Common.{subst, ◌∙◌, arith, ◌∷◌, Option, Some, None, min, nat_lt, refl, eq-eqb}
+use Rattle.std.proofs.lemmas.Bool.{cases_eq, not-false, or_cases, or_right}
 use Rattle.std.proofs.lemmas.List.{length-set, get_or-set_same, get_or-set_other, get_or_default}
 use Rattle.std.proofs.lemmas.Option.{slice_get_within, slice_get_past}
 use Rattle.ccsl_base.specs.Clocks.{ticks_in, is_ascending, are_below, with_clock}

@@ -17,7 +17,7 @@ use Rattle.std.proofs.lemmas.Bool.{leb-false}
 use Rattle.ccsl_state.proofs.Calls.{site, birth_site, body_ready, call_at, call_opens, small_mod}
 use Rattle.ccsl_state.proofs.Frame.{two_front, lag_node_front}
 use Rattle.ccsl_state.proofs.Operands.{pair_opened}
-use Rattle.ccsl_state.proofs.Places.{call_params, inner_not_own, inner_stands, ready_body}
+use Rattle.ccsl_state.proofs.Places.{call_params, ready_body}
 use Rattle.ccsl_state.proofs.Regions.{rest_one}
 use Rattle.ccsl_state.proofs.open.+open.Goals as goal
 
