@@ -1,7 +1,7 @@
 -- What is followed for some items: the clocks that they read, and all that these lead to.
 use Rattle.std.proofs.lemmas.Grind.{common_steps}
-use Rattle.std.proofs.Common.{◌≡◌, ℕ, ◌+◌, ◌<◌, List, [], ◌∷◌, Bool, true, false, ◌||◌, All, Some, nat_eq, nat_lt, length, slice_get, get_or, refl}
-use Rattle.std.proofs.Common.{sym, ap, ◌∙◌, subst, arith, eq-eqb, lt-ltb, le-ltb}
+use Rattle.std.proofs.Common.{◌≡◌, ℕ, ◌+◌, ◌<◌, List, [], ◌∷◌, Bool, true, false, ◌||◌, All, Some, nat_eq, nat_lt, filter, length, slice_get, get_or, refl}
+use Rattle.std.proofs.Common.{ap, subst, arith, eq-eqb, lt-ltb}
 use Rattle.std.specs.List.{list_all, list_any}
 use Rattle.std.proofs.lemmas.Bool.{and_from, or_left, or_right}
 use Rattle.std.proofs.lemmas.Option.{slice_get_within, get_or_from_slice_get}
@@ -11,9 +11,10 @@ use Rattle.ccsl_kernel.specs.declared.constraint.Constraint.{Constraint}
 use Rattle.ccsl_kernel.specs.Syntax.{System}
 use Rattle.ccsl_kernel.specs.Accepted.{IsAccepted, IsConstraint, Each}
 use Rattle.ccsl_kernel.specs.Lives.{Step}
+use Rattle.ccsl_base.specs.Changes.{difference}
+use Rattle.ccsl_base.proofs.Sets.{ticks_in-difference, ticks_in-filter}
 use Rattle.ccsl_kernel.proofs.EachOne.{each_at}
 use Rattle.ccsl_kernel.proofs.Sets.{ticks_in-with_clock}
-use Rattle.ccsl_state.specs.Reach.{Includes, is_within}
 use Rattle.ccsl_relate.specs.declared.watched.Related.{Related}
 use Rattle.ccsl_relate.specs.declared.watched.Watched.{Watched}
 use Rattle.ccsl_relate.specs.declared.watched.Watched.TheVariants.{Nothing, Definition, Relation}
@@ -60,18 +61,16 @@ module _ (q : ℕ → Bool) where
       (reads-from w (λ x t. h x (or_left (ticks_in x (clocks_of w)) (is_read x kept) t)))
       (read-from kept (λ x t. h x (or_right (ticks_in x (clocks_of w)) (is_read x kept) t)))
 
--- what is followed has the clocks that the items read
-pub read-within : (K : System) (clocks followed : List ℕ) (kept : List Watched) → ((x : ℕ) → ticks_in x clocks ≡ is_read x kept)
-    → ((x : ℕ) → ticks_in x clocks ≡ true → ticks_in x followed ≡ true)
-    → list_all (reads_only (is_within K followed)) kept ≡ true
-read-within K clocks followed kept are has =
-    read-from (is_within K followed) kept (λ x t. or_right (nat_lt x K.declared) (ticks_in x followed) (has x (are x ∙ t)))
-
--- a set that has the clocks that the items read
-pub read-includes : (K : System) (clocks set : List ℕ) (kept : List Watched) → ((x : ℕ) → ticks_in x clocks ≡ is_read x kept)
-    → list_all (reads_only (is_within K set)) kept ≡ true → Includes K set clocks
-read-includes K clocks set kept are h x low t =
-    sym (ap (λ b. b || ticks_in x set) (le-ltb x K.declared low)) ∙ read-each (is_within K set) kept x h (sym (are x) ∙ t)
+-- clocks that are all below a number
+pub subset-below : (clocks : List ℕ) (bound x : ℕ) → difference clocks (filter (λ y. nat_lt y bound) clocks) ≡ [] → ticks_in x clocks ≡ true
+    → nat_lt x bound ≡ true
+subset-below clocks bound x e t = grind (
+  arith,
+  common_steps,
+  ap (ticks_in x) e,
+  ticks_in-difference clocks (filter (λ y. nat_lt y bound) clocks) x,
+  ticks_in-filter (λ y. nat_lt y bound) x clocks,
+)
 
 -- THE CLOCKS OF AN ITEM of an accepted system
 module _ (K : System) (ok : IsAccepted K) where

@@ -1,6 +1,6 @@
 -- The completion of the rows of a trace, one row more.
 use Rattle.std.proofs.lemmas.Grind.{common_steps}
-use Rattle.std.proofs.Common.{◌≡◌, ℕ, suc, ◌+◌, ◌-◌, ◌<◌, ◌≤◌, List, [], ◌∷◌, ◌++◌, length, map, slice_get, true}
+use Rattle.std.proofs.Common.{◌≡◌, ℕ, zero, suc, ◌+◌, ◌-◌, ◌<◌, ◌≤◌, List, [], ◌∷◌, ◌++◌, length, map, slice_get, true}
 use Rattle.std.proofs.Common.{if◌then◌else◌, Option, Some, None, refl, sym, ap, ap₂, ◌∙◌, arith, length-append}
 use Rattle.std.specs.List.{list_all}
 use Rattle.std.proofs.Math.Seq.{take-length}
@@ -30,6 +30,14 @@ use Rattle.ccsl_kernel.proofs.Sets.{below-ascending, below-below, ticks_in-below
 
 pub sets-snoc : (rows : List Row) (row : Row) → are_sets rows ≡ true → is_ascending row.ticks ≡ true → are_sets (rows ++ row ∷ []) ≡ true
 sets-snoc rows row h r = grind (arith, common_steps, list_all-append)
+
+some-within : {A : Type 0} (xs : List A) (i : ℕ) → i < length xs → slice_get xs i ≡ None → ⊥
+some-within [] i l e = omega arith
+some-within (x ∷ xs) zero l e = cc
+some-within (x ∷ xs) (suc i) l e = some-within xs i (omega arith) e
+
+pub one-set : (row : Row) → is_ascending row.ticks ≡ true → are_sets (row ∷ []) ≡ true
+one-set row e = rw e refl
 
 module _ (K : System) where
   abbrev X : List Row → List Step
@@ -101,7 +109,7 @@ module _ (K : System) where
         obeys = completion_obeys K (accepted_guarded K ok) (accepted_scoped K ok) (map (λ r. declared_part K r.ticks) rows) (declared-sets rows h)
 
         by-definition : (o : Option Expression) → slice_get K.definitions i ≡ o → holds_at K (X rows) n i ≡ true
-        by-definition None e = absurd (Rattle.ccsl_relate.proofs.Within.some-within K.definitions i d e)
+        by-definition None e = absurd (some-within K.definitions i d e)
         by-definition (Some e) is =
             let here : ticks_in (K.declared + i) (step_at (X rows) n) ≡ eval (formula_at K (X rows) (K.declared + i) e [] 0 n) (step_at (X rows) n) =
             obeys (K.declared + i) e n (sym (definitions-are K i) ∙ is) (omega (arith, X-length rows)) in

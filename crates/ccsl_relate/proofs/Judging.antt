@@ -15,7 +15,7 @@ use Rattle.ccsl_kernel.proofs.Bounded.{clocks_bounded}
 use Rattle.ccsl_relate.specs.declared.watched.Related.{Related}
 use Rattle.ccsl_relate.specs.declared.watched.Watched.{Watched}
 use Rattle.ccsl_relate.specs.declared.watched.Watched.TheVariants.{Nothing, Definition, Relation}
-use Rattle.ccsl_relate.specs.Few.{HasRoom, HasRoomFor}
+use Rattle.ccsl_relate.specs.Few.{HasRoomFor}
 use Rattle.ccsl_relate.specs.Watching.{are_sets, IsRelation, Keeps, counted, counted_on, related_formula, fails_in, next_in}
 use Rattle.ccsl_relate.proofs.History.{X-more, X-length, last-step, last-row, sets-snoc, definition-holds, constraint-holds, count-more}
 
@@ -88,8 +88,3 @@ module _ (K : System) (ok : IsAccepted K) (recorded : List ℕ) (i : ℕ) (rows 
   keeps-on Nothing f = f
   keeps-on (Definition clock) f = f
   keeps-on (Relation r) f = relation-goes-on r f
-
-  pub keeps-room : length rows + 1 < 2 ^ 64 → (w : Watched) → Keeps K recorded T i w → HasRoom w
-  keeps-room l Nothing f = tt
-  keeps-room l (Definition clock) f = tt
-  keeps-room l (Relation r) f = keeps-room-for K ok recorded i rows 1 l (Relation r) f

@@ -4,6 +4,7 @@ use Rattle.std.proofs.Common.{arith, ◌≡◌, ℕ, ◌+◌, ◌<◌, List, [],
 use Rattle.std.proofs.Common.{Some, None, refl, sym, ap, ap₂, ◌∙◌}
 use Rattle.std.specs.List.{list_all}
 use Rattle.std.proofs.lemmas.Bool.{and_parts, ltb-true}
+use Rattle.std.proofs.lemmas.List.Sums.{AllPass-from_list_all}
 use Rattle.ccsl_base.specs.Clocks.{ticks_in}
 use Rattle.ccsl_formula.specs.Formula.{FTrue, FVar, FNot, FOr, eval, same}
 use Rattle.ccsl_kernel.specs.declared.constraint.RelationKind.{RelationKind}
@@ -21,7 +22,6 @@ use Rattle.ccsl_relate.specs.declared.watched.Watched.TheVariants.{Nothing, Defi
 use Rattle.ccsl_relate.specs.Watching.{counted_on, related_formula, fails_in, next_in, reads_only, is_known, Suffice}
 use Rattle.ccsl_relate.specs.Watching.{step_known}
 use Rattle.ccsl_relate.proofs.History.{declared-ticks}
-use Rattle.ccsl_relate.proofs.Within.{list_all_at}
 
 -- A RELATION READS ITS TWO CLOCKS ALONE: where two steps tell the same of them, it holds in both or in neither
 module _ (s t : Step) where
@@ -92,7 +92,7 @@ module _ (K : System) (T : List Step) (ticks : Step) (held : Option HeldPart) wh
   -- a list of items
   pub fails-known : (given : List ℕ) (kept : List Watched) (k : ℕ) (d : Watched) → Suffice K held kept → k < length kept
       → fails_in given known (get_or kept k d) ≡ fails_in given whole (get_or kept k d)
-  fails-known given kept k d e l = fails-one given (get_or kept k d) (list_all_at reads kept k d e l)
+  fails-known given kept k d e l = fails-one given (get_or kept k d) (AllPass-from_list_all reads kept e k d l)
 
   pub next-known : (kept : List Watched) → Suffice K held kept → map (next_in known) kept ≡ map (next_in whole) kept
   next-known [] e = refl
@@ -112,5 +112,3 @@ module _ (p q : ℕ → Bool) (e : (x : ℕ) → p x ≡ q x) (s : Step) where
 pub suffice-on : (K : System) (held held' : Option HeldPart) (s : Step) (kept : List Watched) → ((x : ℕ) → is_known K held' x ≡ is_known K held x)
     → Suffice K held kept → Suffice K held' (map (next_in s) kept)
 suffice-on K held held' s kept same e = reads-on (is_known K held') (is_known K held) same s kept ∙ e
-
--- the clocks that are not declared, as the states have it

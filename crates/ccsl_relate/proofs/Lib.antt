@@ -1,5 +1,4 @@
 pub mod DeclaredTicks
-pub mod Within
 pub mod History
 pub mod Judging
 pub mod Known

@@ -1,8 +1,10 @@
--- A monitor that takes a row more.
-use Rattle.std.proofs.lemmas.Grind.{common_steps}
-use Rattle.std.proofs.Common.{◌≡◌, ℕ, ◌+◌, ◌<◌, ◌^◌, List, [], ◌∷◌, ◌++◌, length, map, get_or, Option, Some, None, true, false, refl, sym, ◌∙◌, subst}
+-- A monitor that takes a row more, and the step that it completes.
+use Rattle.std.proofs.Common.{◌≡◌, ℕ, ◌+◌, ◌<◌, ◌≤◌, ◌^◌, List, [], ◌∷◌, ◌++◌, length, map, get_or, Option, Some, None, true, false, refl, sym, ap, ◌∙◌, subst}
 use Rattle.std.proofs.Common.{arith, length-append}
 use Rattle.std.specs.Prelude.{All}
+use Rattle.std.specs.Vec.{with_items}
+use Rattle.std.specs.declared.vec.Vec.{Vec}
+use Rattle.std.proofs.lemmas.List.{length-map}
 use Rattle.ccsl_base.specs.Clocks.{is_ascending}
 use Rattle.ccsl_base.specs.declared.rows.Row.{Row}
 use Rattle.ccsl_kernel.specs.Syntax.{System}
@@ -10,81 +12,71 @@ use Rattle.ccsl_kernel.specs.Lives.{Step}
 use Rattle.ccsl_kernel.specs.Runs.{full_step, declared_part}
 use Rattle.ccsl_kernel.specs.Verdict.{is_violated, completed_rows}
 use Rattle.ccsl_kernel.proofs.EachOne.{each_at, each_made_from}
+use Rattle.ccsl_state.specs.Part.{HeldPart}
 use Rattle.ccsl_relate.specs.declared.violation.Violation.{Violation}
 use Rattle.ccsl_relate.specs.declared.watched.Watched.{Watched}
 use Rattle.ccsl_relate.specs.declared.watched.Watched.TheVariants.{Nothing}
-use Rattle.ccsl_relate.specs.Few.{EachHasRoom}
+use Rattle.ccsl_relate.specs.Few.{HasRoomFor}
 use Rattle.ccsl_relate.specs.Violations.{AreObeyed, Finds}
-use Rattle.ccsl_relate.specs.Watching.{Watching, Keeps, fails_in, next_in, FailsFirst, AreAfter, is_known, step_known, Follows, StandsFor, IsNext}
-use Rattle.ccsl_relate.proofs.Finding.{first-stays, first-here, obeyed-on}
+use Rattle.ccsl_relate.specs.Watching.{Watching, Keeps, fails_in, next_in, FailsFirst, Follows, StandsFor}
+use Rattle.ccsl_relate.specs.Reading.{TakeStep}
+use Rattle.ccsl_relate.specs.Completed.{IsCompleted, TakeTicks}
+use Rattle.ccsl_relate.specs.Taking.{MayTake, Takes}
+use Rattle.ccsl_relate.proofs.Finding.{first-here, obeyed-on}
 use Rattle.ccsl_relate.proofs.History.{X-more, X-length, sets-snoc}
-use Rattle.ccsl_relate.proofs.Judging.{fails-where-violated, keeps-on, keeps-room}
+use Rattle.ccsl_relate.proofs.Judging.{fails-where-violated, keeps-on, keeps-room-for}
 use Rattle.ccsl_relate.proofs.Known.{fails-known, next-known, suffice-on}
+use Rattle.ccsl_relate.proofs.Ranges.{same-count, come-back}
 
-module _ (recorded : List ℕ) (v : Watching) (rows : List Row) (row : Row) (s : StandsFor recorded v rows) (sorted : is_ascending row.ticks ≡ true) where
+-- what a monitor finds at a row, where the item at a place fails
+abbrev pub violation_at : Watching → Row → Option ℕ → Option Violation
+violation_at v row None = None
+violation_at v row (Some place) = Some (record { step = v.steps; time = row.time; item = v.start + place })
+
+module _ (recorded : List ℕ) (v : Watching) (rows : List Row) (s : StandsFor recorded v rows) (none : v.first ≡ None) where
   abbrev K : System
   K = v.system
 
   abbrev T : List Step
   T = completed_rows K rows
 
-  abbrev more : List Row
-  more = rows ++ row ∷ []
+  follows : Follows K recorded v.start v.kept v.states T
+  follows = s.follows none
 
-  abbrev whole : Step
-  whole = full_step K T (declared_part K row.ticks)
+  keeps-at : (k : ℕ) (d : Watched) → k < length v.kept → Keeps K recorded T (v.start + k) (get_or v.kept k d)
+  keeps-at k d l = each_at (Keeps K recorded T) v.start v.kept k d l follows.keeps
 
-  -- where an item was violated, the monitor rests
-  pub next-resting : (x : Violation) → v.first ≡ Some x → IsNext recorded v v rows row v.first
-  next-resting x e = record {
-    same = refl;
-    none_before = λ n. n;
-    count = refl;
-    sets = sets-snoc rows row s.sets sorted;
-    first_is = subst (Finds K recorded more v.start (length v.kept)) (sym e)
-        (first-stays K s.accepted recorded rows row s.sets sorted v.start (length v.kept) x (subst (Finds K recorded rows v.start (length v.kept)) e s.first));
-    follows = λ n. absurd (let z : None ≡ Some x = sym n ∙ e in cc);
-  }
+  each-has-room : (n : ℕ) → length rows + n < 2 ^ 64 → All (HasRoomFor n) v.kept
+  each-has-room n few k d l = keeps-room-for K s.accepted recorded (v.start + k) rows n few (get_or v.kept k d) (keeps-at k d l)
 
-  module _ (none : v.first ≡ None) where
-    follows : Follows K recorded v.start v.kept v.states T
-    follows = s.follows none
+  module _ (row : Row) (sorted : is_ascending row.ticks ≡ true) where
+    abbrev more : List Row
+    more = rows ++ row ∷ []
+
+    abbrev whole : Step
+    whole = full_step K T (declared_part K row.ticks)
 
     obeyed : AreObeyed K recorded rows v.start (length v.kept)
     obeyed = subst (Finds K recorded rows v.start (length v.kept)) none s.first
 
-    keeps-at : (k : ℕ) (d : Watched) → k < length v.kept → Keeps K recorded T (v.start + k) (get_or v.kept k d)
-    keeps-at k d l = each_at (Keeps K recorded T) v.start v.kept k d l follows.keeps
+    module _ (step : Step) (held' : Option HeldPart) (c : IsCompleted K T v.states row.ticks step held') where
+      -- what is asked of an item is whether the row violates it
+      asked : (k : ℕ) (d : Watched) → k < length v.kept
+          → fails_in row.ticks step (get_or v.kept k d) ≡ is_violated K recorded more (length rows) (v.start + k)
+      asked k d l =
+          ap (λ s. fails_in row.ticks s (get_or v.kept k d)) c.step_is
+          ∙ fails-known K T row.ticks v.states row.ticks v.kept k d follows.suffice l
+          ∙ fails-where-violated K s.accepted recorded (v.start + k) rows row s.sets sorted (get_or v.kept k d) (keeps-at k d l)
 
-    pub states-after : AreAfter K v.states T
-    states-after = follows.states
-
-    pub each-has-room : length rows + 1 < 2 ^ 64 → EachHasRoom v.kept
-    each-has-room few k d l = keeps-room K s.accepted recorded (v.start + k) rows row s.sets sorted few (get_or v.kept k d) (keeps-at k d l)
-
-    pub few-steps : length rows + 1 < 2 ^ 64 → length T + 1 < 2 ^ 64
-    few-steps few = omega (arith, X-length K rows, few)
-
-    -- what is read of the row's step
-    abbrev step : Step
-    step = step_known K v.states T row.ticks
-
-    -- what is asked of an item is whether the row violates it
-    asked : (k : ℕ) (d : Watched) → k < length v.kept → fails_in row.ticks step (get_or v.kept k d) ≡ is_violated K recorded more (length rows) (v.start + k)
-    asked k d l =
-        fails-known K T row.ticks v.states row.ticks v.kept k d follows.suffice l
-        ∙ fails-where-violated K s.accepted recorded (v.start + k) rows row s.sets sorted (get_or v.kept k d) (keeps-at k d l)
-
-    module _ (w : Watching) (same : w ≡ record v { kept = w.kept; states = w.states }) (count : length w.kept ≡ length v.kept) where
-      -- AN ITEM FAILS at the row
-      pub next-violated : (place : ℕ) → FailsFirst row.ticks step v.kept place
-          → IsNext recorded v w rows row (Some (record { step = v.steps; time = row.time; item = v.start + place }))
-      next-violated place f = record {
-        same = same;
-        none_before = λ n. absurd (cc n);
-        count = count;
+      -- AN ITEM FAILS at the row: of what is kept then no more is asked than how much it is
+      pub row-violated : (end : Option HeldPart) (new : List Watched) (place : ℕ) → length new ≡ length v.kept → FailsFirst row.ticks step v.kept place
+          → StandsFor recorded (record v { kept = new; states = end; steps = v.steps + 1; first = violation_at v row (Some place) }) more
+      row-violated end new place count f = record {
+        accepted = s.accepted;
+        items = omega (arith, s.items, count);
         sets = sets-snoc rows row s.sets sorted;
-        first_is = rw s.steps
+        steps = omega (arith, s.steps, length-append rows (row ∷ []));
+        first = rw (count, s.steps)
             (first-here K s.accepted recorded rows row s.sets sorted v.start (length v.kept) place obeyed f.inside
             (sym (asked place Nothing f.inside) ∙ f.fails Nothing)
             (λ k l. sym (asked k Nothing (omega (arith, l, f.inside))) ∙ f.before k Nothing l));
@@ -92,29 +84,51 @@ module _ (recorded : List ℕ) (v : Watching) (rows : List Row) (row : Row) (s :
       }
 
       -- NO ITEM FAILS at the row, and all go on
-      pub next-obeyed : All (λ x. fails_in row.ticks step x ≡ false) v.kept → w.kept ≡ map (next_in step) v.kept
-          → ((x : ℕ) → is_known K w.states x ≡ is_known K v.states x) → AreAfter K w.states (T ++ whole ∷ []) → IsNext recorded v w rows row None
-      next-obeyed obeys next known after = record {
-        same = same;
-        none_before = λ n. none;
-        count = count;
+      pub row-obeyed : All (λ x. fails_in row.ticks step x ≡ false) v.kept
+          → StandsFor recorded (record v { kept = map (next_in step) v.kept; states = held'; steps = v.steps + 1 }) more
+      row-obeyed obeys = rw kept-is (record {
+        accepted = s.accepted;
+        items = omega (arith, s.items, length-map v.kept (next_in whole));
         sets = sets-snoc rows row s.sets sorted;
-        first_is = obeyed-on K s.accepted recorded rows row s.sets sorted v.start (length v.kept) obeyed
-            (λ k l. sym (asked k Nothing l) ∙ obeys k Nothing l);
+        steps = omega (arith, s.steps, length-append rows (row ∷ []));
+        first = rw (length-map v.kept (next_in whole), none)
+            (obeyed-on K s.accepted recorded rows row s.sets sorted v.start (length v.kept) obeyed (λ k l. sym (asked k Nothing l) ∙ obeys k Nothing l));
         follows = λ _. record {
-          keeps = rw kept-is
-              (each_made_from (Keeps K recorded (completed_rows K more)) (next_in whole) v.start v.kept
-              (λ k d l. keeps-on K s.accepted recorded (v.start + k) rows row s.sets sorted (get_or v.kept k d) (keeps-at k d l)));
-          suffice = rw kept-is (suffice-on K v.states w.states whole v.kept known follows.suffice);
-          states = rw X-more after;
+          keeps = each_made_from (Keeps K recorded (completed_rows K more)) (next_in whole) v.start v.kept
+              (λ k d l. keeps-on K s.accepted recorded (v.start + k) rows row s.sets sorted (get_or v.kept k d) (keeps-at k d l));
+          suffice = suffice-on K v.states held' whole v.kept c.known follows.suffice;
+          states = rw X-more c.after;
         };
-      }
+      })
         where
-          kept-is : w.kept ≡ map (next_in whole) v.kept
-          kept-is = next ∙ next-known K T row.ticks v.states v.kept follows.suffice
+          kept-is : map (next_in step) v.kept ≡ map (next_in whole) v.kept
+          kept-is = ap (λ s. map (next_in s) v.kept) c.step_is ∙ next-known K T row.ticks v.states v.kept follows.suffice
 
--- the next row was taken
-pub row-taken : (recorded : List ℕ) (v w : Watching) (rows : List Row) (row : Row) (first : Option Violation) (w' : Watching) → StandsFor recorded v rows
-    → IsNext recorded v w rows row first
-    → w' ≡ record v { kept = w.kept; states = w.states; first = first; steps = v.steps + 1 } → StandsFor recorded w' (rows ++ row ∷ [])
-row-taken recorded v w rows row first w' s n e = grind (arith, common_steps, length-append)
+      row-stands : (new : List Watched) (place : Option ℕ) → TakeStep row.ticks step v.kept new place
+          → StandsFor recorded (record v { kept = new; states = held'; steps = v.steps + 1; first = violation_at v row place }) more
+      row-stands new None t = rw (t.next, ← none) (row-obeyed t.none)
+      row-stands new (Some place) t = row-violated held' new place (same-count v.kept new t.clocks) t.fails
+
+-- A ROW IS TAKEN by a monitor u that is v, and in which nothing was violated yet: it lends its items
+pub row-taken : {Z : Type 0} (kept : Vec Watched Z) {u v : Watching} {given new : List Watched} {held' : Option HeldPart} {row : Row} (place : Option ℕ)
+    → kept.items ≡ u.kept → given ≡ kept.items → u ≡ v → u.first ≡ None → is_ascending row.ticks ≡ true
+    → TakeTicks row.ticks u.states held' given new place
+    → Takes v (record u { kept = (with_items kept new).items; states = held'; steps = u.steps + 1; first = violation_at u row place }) (row ∷ [])
+row-taken kept {u} {v} {given} {new} {held'} {row} place at value same none sorted t =
+    let p = rw (value ∙ at) at t in
+    subst (λ x. Takes x (record u { kept = (with_items kept new).items; states = held'; steps = u.steps + 1; first = violation_at u row place }) (row ∷ []))
+    same
+    (rw (come-back kept new at p.items.clocks) (record {
+      system = refl;
+      start = refl;
+      count = same-count u.kept new p.items.clocks;
+      stands = λ recorded rows s few.
+          row-stands recorded u rows s none row sorted p.step held'
+          (p.completed u.system (completed_rows u.system rows) (s.follows none).states (omega (arith, few, X-length u.system rows))) new place p.items;
+    }))
+
+-- there is room for more ticks of each item
+pub items-have-room : {u v : Watching} {given : List Watched} (n m : ℕ) → n ≤ m → given ≡ u.kept → u ≡ v → u.first ≡ None → MayTake v m
+    → All (HasRoomFor n) given
+items-have-room {u} {v} {given} n m l value same none w =
+    rw value (each-has-room w.0 u w.1 (subst (λ x. StandsFor w.0 x w.1) (sym same) w.2) none n (omega (arith, l, w.3)))

@@ -45,13 +45,13 @@ module _ (s : Step) where
   holds-quiet PrecedesWeakly a b m n e d = not-asked-with (nat_eq m n) b a d
   holds-quiet (PrecedesWithin k) a b m n e d = ap₂ (λ x y. x && y) (not-asked (nat_eq m n) b d) (not-asked-with (nat_le (n + k) m) a b e)
 
-  module _ (ticks clocks : List ℕ) (all : (x : ℕ) → ticks_in x clocks ≡ (ticks_in x ticks || ticks_in x s)) where
-    module _ (w : Watched) (h : meet clocks (clocks_of w) ≡ false) where
-      rests : (x : ℕ) → ticks_in x (clocks_of w) ≡ true → (ticks_in x ticks ≡ false) × (ticks_in x s ≡ false)
-      rests x t = grind (arith, common_steps, not-among)
+  module _ (ticks others : List ℕ) (all : (x : ℕ) → ticks_in x s ≡ false → ticks_in x others ≡ false → ticks_in x ticks ≡ false) where
+    rests : (w : Watched) → (meet s (clocks_of w) || meet others (clocks_of w)) ≡ false → (x : ℕ) → ticks_in x (clocks_of w) ≡ true
+        → (ticks_in x ticks ≡ false) × (ticks_in x s ≡ false)
+    rests w h x t = grind (arith, common_steps, not-among s (clocks_of w) x, not-among others (clocks_of w) x, all x)
 
     -- AN ITEM THAT READS NO CLOCK THAT TICKS
-    pub quiet-unread : (w : Watched) → meet clocks (clocks_of w) ≡ false → IsQuiet ticks s w
+    pub quiet-unread : (w : Watched) → (meet s (clocks_of w) || meet others (clocks_of w)) ≡ false → IsQuiet ticks s w
     quiet-unread Nothing h = record { obeys = refl; stays = refl }
     quiet-unread (Definition clock) h =
         let r = rests (Definition clock) h clock (ap (λ b. b || false) (eq-eqb clock clock refl)) in

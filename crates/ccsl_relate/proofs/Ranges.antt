@@ -1,21 +1,36 @@
 -- Items that go on by a step, from one place to another.
 use Rattle.std.proofs.lemmas.Grind.{common_steps}
-use Rattle.std.proofs.Common.{◌≡◌, ◌≢◌, ℕ, ◌+◌, ◌<◌, ◌≤◌, List, Bool, true, false, map, length, get_or, slice_set, nat_lt, nat_eq, refl}
-use Rattle.std.proofs.Common.{sym, ap, ◌∙◌, subst, arith, eq-eqb}
+use Rattle.std.proofs.Common.{◌≡◌, ◌≢◌, ℕ, ◌+◌, ◌<◌, ◌≤◌, List, [], ◌∷◌, Bool, true, false, map, length, get_or, slice_set, nat_lt, nat_eq, refl}
+use Rattle.std.proofs.Common.{sym, ap, ap₂, ◌∙◌, subst, arith, eq-eqb, ⊎_elim, None}
+use Rattle.std.specs.Vec.{with_items}
+use Rattle.std.specs.declared.vec.Vec.{Vec}
 use Rattle.std.proofs.Math.Seq.{map-set_same}
-use Rattle.std.proofs.lemmas.Bool.{ltb-true, ltb-false}
-use Rattle.std.proofs.lemmas.List.{get_or_default, get_or-map, get_or-set_same, get_or-set_other, length-map, length-set, same_lists}
+use Rattle.std.proofs.lemmas.Bool.{ltb-true, ltb-false, cases_lt}
+use Rattle.std.proofs.lemmas.List.{get_or_default, get_or-map, get_or-set_same, get_or-set_other, length-map, length-set, same_lists, with_items_is}
 use Rattle.ccsl_kernel.specs.Lives.{Step}
 use Rattle.ccsl_relate.specs.declared.watched.Watched.{Watched}
 use Rattle.ccsl_relate.specs.declared.watched.Watched.TheVariants.{Nothing, Definition, Relation}
-use Rattle.ccsl_relate.specs.Watching.{fails_in, next_in}
-use Rattle.ccsl_relate.specs.Reading.{clocks_of, IsQuiet, FailsFrom, GoesOn}
+use Rattle.ccsl_relate.specs.Watching.{fails_in, next_in, FailsFirst}
+use Rattle.ccsl_relate.specs.Reading.{clocks_of, IsQuiet, FailsFrom, GoesOn, TakeStep}
 
 -- a step changes none of the clocks that an item reads
 pub clocks_of-next : (s : Step) (w : Watched) → clocks_of (next_in s w) ≡ clocks_of w
 clocks_of-next s Nothing = refl
 clocks_of-next s (Definition clock) = refl
 clocks_of-next s (Relation r) = refl
+
+pub clocks-next : (s : Step) (kept : List Watched) → map clocks_of (map (next_in s) kept) ≡ map clocks_of kept
+clocks-next s [] = refl
+clocks-next s (w ∷ kept) = ap₂ (λ x xs. x ∷ xs) (clocks_of-next s w) (clocks-next s kept)
+
+-- as many items as before
+pub same-count : (old new : List Watched) → map clocks_of new ≡ map clocks_of old → length new ≡ length old
+same-count old new e = omega (arith, ap length e, length-map new clocks_of, length-map old clocks_of)
+
+-- a list takes them back
+pub come-back : {Z : Type 0} (kept : Vec Watched Z) {old : List Watched} (new : List Watched) → kept.items ≡ old → map clocks_of new ≡ map clocks_of old
+    → (with_items kept new).items ≡ new
+come-back kept {old} new at same = with_items_is kept new (same-count old new same ∙ sym (ap length at) ∙ sym kept.ok.0)
 
 pub clocks-set : (s : Step) (kept : List Watched) (i : ℕ) (d w : Watched) → w ≡ next_in s (get_or kept i d)
     → map clocks_of (slice_set kept i w) ≡ map clocks_of kept
@@ -74,12 +89,28 @@ module _ (ticks : List ℕ) (s : Step) where
           h.gone k d m b (omega (arith, l, g.count)) ∙ ap (next_in s) (g.rest k d m)
 
   -- ALL ITEMS went on
-  pub on-all : (end : ℕ) (old new : List Watched) → GoesOn ticks s 0 end old new → length old ≤ end → new ≡ map (next_in s) old
-  on-all end old new g l = grind (arith, common_steps, same_lists, length-map, get_or-map)
+  pub on-all : (end : ℕ) (old new : List Watched) → GoesOn ticks s 0 end old new → length old ≤ end → map clocks_of new ≡ map clocks_of old
+      → TakeStep ticks s old new None
+  on-all end old new g l same = record {
+    clocks = same;
+    fails = tt;
+    none = λ k d m. g.obeys k d (omega arith) (omega (arith, l, m)) m;
+    next = grind (arith, common_steps, same_lists, length-map, get_or-map, g.count, g.gone);
+  }
 
   -- THE FIRST that fails
   pub fails-here : (start end : ℕ) (old now : List Watched) → GoesOn ticks s start end old now → start ≤ end → end < length old
       → fails (get_or now end Nothing) ≡ true → FailsFrom ticks s start old end
   fails-here start end old now g low inside e = grind (arith, common_steps, get_or_default)
 
--- an answer that says more
+  -- it is the first of all, where those before went on
+  pub fails-behind : (mid place : ℕ) (old now : List Watched) → GoesOn ticks s 0 mid old now → FailsFrom ticks s mid now place → FailsFirst ticks s old place
+  fails-behind mid place old now g f = record {
+    inside = omega (arith, f.inside, g.count);
+    fails = λ d. sym (ap fails (g.rest place d f.low)) ∙ f.fails d;
+    before = λ k d l.
+        ⊎_elim
+        (λ (m : k < mid). g.obeys k d (omega arith) m (omega (arith, l, f.inside, g.count)))
+        (λ (m : mid ≤ k). sym (ap fails (g.rest k d m)) ∙ f.before k d m l)
+        (cases_lt k mid);
+  }

@@ -1,12 +1,12 @@
 -- What the sets of a group tell.
 use Rattle.std.proofs.lemmas.Grind.{common_steps}
-use Rattle.std.proofs.Common.{◌≡◌, ℕ, ◌+◌, ◌*◌, ◌<◌, List, [], ◌∷◌, ◌++◌, Bool, true, false, ◌||◌, ◌&&◌, nat_eq, nat_lt, map, length, get_or}
+use Rattle.std.proofs.Common.{◌≡◌, ℕ, ◌+◌, ◌*◌, ◌<◌, List, [], ◌∷◌, Bool, true, false, ◌||◌, ◌&&◌, nat_eq, nat_lt, map, length, get_or}
 use Rattle.std.proofs.Common.{slice_set, refl, sym, ap, ap₂, ◌∙◌, arith}
 use Rattle.std.specs.List.{list_any}
 use Rattle.std.proofs.Common.{not}
-use Rattle.std.proofs.Math.Bool.{or_comm, or_assoc}
-use Rattle.std.proofs.lemmas.List.Folds.{list_any-append}
-use Rattle.std.proofs.lemmas.List.{get_or_default, get_or_past, get_or-map, get_or-set_same, get_or-set_other, length-map}
+use Rattle.std.proofs.Math.Bool.{or-false, and-false}
+use Rattle.std.proofs.Math.ListN.{get_or-map}
+use Rattle.std.proofs.lemmas.List.{get_or_default, get_or_past, get_or-set_same, get_or-set_other, length-map}
 use Rattle.ccsl_base.specs.declared.limits.TheConstants.{MAX_CLOCKS}
 use Rattle.ccsl_base.specs.Clocks.{ticks_in, with_clock}
 use Rattle.ccsl_base.specs.Changes.{difference}
@@ -25,10 +25,8 @@ told group c p = ticks_in p (get_or group c [])
 told-with : (place p : ℕ) (s : List ℕ) → ticks_in p (with_clock place s) ≡ (ticks_in p s || nat_eq p place)
 told-with place p s = grind (arith, common_steps, ticks_in-with_same, ticks_in-with_other)
 
-pub without : (a b : Bool) → (a || (b && false)) ≡ a
-without true b = refl
-without false true = refl
-without false false = refl
+without : (a b : Bool) → (a || (b && false)) ≡ a
+without a b = simp (and-false, or-false)
 
 -- with one place more at one clock
 pub told-more : (old mid : List (List ℕ)) (clock place : ℕ) (was now : List ℕ) → ((c : ℕ) → get_or mid c [] ≡ get_or old c []) → clock < length mid
@@ -40,14 +38,12 @@ told-more old mid clock place was now same l at is c p = grind (arith, common_st
 pub record TellsBefore (start place : ℕ) (group read : List (List ℕ)) : Type 0 where
   pub tell : (c p : ℕ) → told group c p ≡ (nat_lt p place && ticks_in c (get_or read (start + p) []))
 
--- all items of a group are told
 -- GROUPS, one more
 pub record AreSoFar (start : ℕ) (groups : List (List (List ℕ))) (read : List (List ℕ)) : Type 0 where
   pub start_is : start ≡ length groups * MAX_CLOCKS
   pub few : start < length read + MAX_CLOCKS
   pub tell : (i : ℕ) → i < length groups → TellsFrom (i * MAX_CLOCKS) (get_or groups i []) read
 
--- what a group of these tells
 -- THE PLACES THAT ARE TOLD at some clocks
 abbrev pub told_at : List (List ℕ) → List ℕ → ℕ → Bool
 told_at group clocks p = list_any (λ c. told group c p) clocks
@@ -66,50 +62,44 @@ meet-none : (clocks : List ℕ) → meet clocks [] ≡ false
 meet-none [] = refl
 meet-none (c ∷ clocks) = meet-none clocks
 
-pub touches-told : (ticks : List ℕ) (s : Step) (clocks : List ℕ) (start : ℕ) (group : List (List ℕ)) (touched : List ℕ) (kept : List Watched)
-    → ((x : ℕ) → ticks_in x clocks ≡ (ticks_in x ticks || ticks_in x s))
-    → TellsFrom start group (map clocks_of kept) → ((p : ℕ) → ticks_in p touched ≡ told_at group clocks p) → Touches ticks s touched start kept
-touches-told ticks s clocks start group touched kept all t h = record {
-  inside = λ p l e. grind (arith, met p l, get_or_past read (start + p) [], length-map kept clocks_of, meet-none clocks);
-  quiet = λ p l e. quiet-unread s ticks clocks all (get_or kept (start + p) Nothing) (sym (met p l ∙ ap (meet clocks) (at p)) ∙ e);
+-- those that read one of the step's clocks, or one of others, which have with the step's all that tick in the row
+touches-told : (ticks : List ℕ) (s : Step) (others : List ℕ) (start : ℕ) (group : List (List ℕ)) (touched : List ℕ) (kept : List Watched)
+    → ((x : ℕ) → ticks_in x s ≡ false → ticks_in x others ≡ false → ticks_in x ticks ≡ false)
+    → TellsFrom start group (map clocks_of kept) → ((p : ℕ) → ticks_in p touched ≡ (told_at group s p || told_at group others p))
+    → Touches ticks s touched start kept
+touches-told ticks s others start group touched kept all t h = record {
+  inside = λ p l e. grind (arith, met p l, get_or_past read (start + p) [], length-map kept clocks_of, meet-none s, meet-none others);
+  quiet = λ p l e.
+      let w = get_or kept (start + p) Nothing in
+      let none : (meet s (clocks_of w) || meet others (clocks_of w)) ≡ false =
+      ap (λ cs. meet s cs || meet others cs) (sym (at p)) ∙ sym (met p l) ∙ e in
+      quiet-unread s ticks others all w none;
 }
   where
     read : List (List ℕ)
     read = map clocks_of kept
 
-    met : (p : ℕ) → p < MAX_CLOCKS → ticks_in p touched ≡ meet clocks (get_or read (start + p) [])
-    met p l = h p ∙ told-meet start group read t clocks p l
+    met : (p : ℕ) → p < MAX_CLOCKS → ticks_in p touched ≡ (meet s (get_or read (start + p) []) || meet others (get_or read (start + p) []))
+    met p l = h p ∙ ap₂ (λ x y. x || y) (told-meet start group read t s p l) (told-meet start group read t others p l)
 
     at : (p : ℕ) → get_or read (start + p) [] ≡ clocks_of (get_or kept (start + p) Nothing)
-    at p = grind (
-      arith,
-      get_or-map clocks_of kept (start + p) Nothing [],
-      get_or_past read (start + p) [],
-      get_or_past kept (start + p) Nothing,
-      length-map kept clocks_of,
-    )
+    at p = get_or-map clocks_of kept (start + p) Nothing
 
--- what ticks in the row ticks in the step, so that the step's clocks are all
-within : (a b : Bool) → (a && not b) ≡ false → b ≡ (a || b)
-within true true h = refl
-within true false h = absurd (cc h)
-within false b h = refl
-
+-- what ticks in the row ticks in the step
 pub touches-alike : (ticks : List ℕ) (s : Step) (start : ℕ) (group : List (List ℕ)) (touched : List ℕ) (kept : List Watched) → difference ticks s ≡ []
     → TellsFrom start group (map clocks_of kept) → ((p : ℕ) → ticks_in p touched ≡ told_at group s p) → Touches ticks s touched start kept
-touches-alike ticks s start group touched kept alike =
-    touches-told ticks s s start group touched kept
-    (λ x. within (ticks_in x ticks) (ticks_in x s) (sym (ticks_in-difference ticks s x) ∙ ap (ticks_in x) alike))
+touches-alike ticks s start group touched kept alike t h =
+    touches-told ticks s [] start group touched kept
+    (λ x r _. within (ticks_in x ticks) (ticks_in x s) (sym (ticks_in-difference ticks s x) ∙ ap (ticks_in x) alike) r) t
+    (λ p. h p ∙ sym (or-false (told_at group s p)))
+  where
+    within : (a b : Bool) → (a && not b) ≡ false → b ≡ false → a ≡ false
+    within true b h e = cc (ap not e)
+    within false b h e = refl
 
--- or both are gone through, one behind the other
-ticks-append : (x : ℕ) (xs ys : List ℕ) → ticks_in x (xs ++ ys) ≡ (ticks_in x xs || ticks_in x ys)
-ticks-append x [] ys = grind (arith, common_steps)
-ticks-append x (z ∷ xs) ys = grind (arith, common_steps, or_assoc, ticks-append x xs ys)
-
+-- or the row's clocks are gone through too, behind the step's
 pub touches-both : (ticks : List ℕ) (s : Step) (start : ℕ) (group : List (List ℕ)) (mid touched : List ℕ) (kept : List Watched)
     → TellsFrom start group (map clocks_of kept) → ((p : ℕ) → ticks_in p mid ≡ told_at group s p)
     → ((p : ℕ) → ticks_in p touched ≡ (ticks_in p mid || told_at group ticks p)) → Touches ticks s touched start kept
-touches-both ticks s start group mid touched kept tells first second =
-    touches-told ticks s (s ++ ticks) start group touched kept
-    (λ x. ticks-append x s ticks ∙ or_comm (ticks_in x s) (ticks_in x ticks)) tells
-    (λ p. second p ∙ ap (λ b. b || told_at group ticks p) (first p) ∙ sym (list_any-append (λ c. told group c p) s ticks))
+touches-both ticks s start group mid touched kept t first second =
+    touches-told ticks s ticks start group touched kept (λ x _ r. r) t (λ p. second p ∙ ap (λ b. b || told_at group ticks p) (first p))

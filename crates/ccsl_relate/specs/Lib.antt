@@ -3,5 +3,6 @@ pub mod Few
 pub mod Watching
 pub mod Reading
 pub mod Following
-pub mod Alone
+pub mod Stretch
 pub mod Completed
+pub mod Taking

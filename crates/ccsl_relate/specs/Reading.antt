@@ -1,12 +1,12 @@
 -- WHICH ITEMS READ A CLOCK, and what becomes of items that read none that ticks.
-use Rattle.std.specs.Prelude.{◌≡◌, ℕ, ◌+◌, ◌*◌, ◌<◌, ◌≤◌, List, [], ◌∷◌, true, false, Option, map, length, slice_index_or}
+use Rattle.std.specs.Prelude.{◌≡◌, ℕ, ◌+◌, ◌*◌, ◌<◌, ◌≤◌, List, [], ◌∷◌, true, false, Option, map, length, slice_index_or, All, IfSome, IfNone}
 use Rattle.std.specs.Option.{ForSome}
 use Rattle.ccsl_base.specs.declared.limits.TheConstants.{MAX_CLOCKS}
 use Rattle.ccsl_base.specs.Clocks.{ticks_in}
 use Rattle.ccsl_kernel.specs.Lives.{Step}
 use Rattle.ccsl_relate.specs.declared.watched.Watched.{Watched}
 use Rattle.ccsl_relate.specs.declared.watched.Watched.TheVariants.{Nothing, Definition, Relation}
-use Rattle.ccsl_relate.specs.Watching.{fails_in, next_in}
+use Rattle.ccsl_relate.specs.Watching.{fails_in, next_in, FailsFirst}
 
 -- the clocks that an item reads
 abbrev pub clocks_of : Watched → List ℕ
@@ -53,3 +53,10 @@ pub record GoesOn (ticks : List ℕ) (s : Step) (start end : ℕ) (old new : Lis
   pub gone : (k : ℕ) (d : Watched) → start ≤ k → k < end → k < length old → slice_index_or new k d ≡ next_in s (slice_index_or old k d)
   pub front : (k : ℕ) (d : Watched) → k < start → slice_index_or new k d ≡ slice_index_or old k d
   pub rest : (k : ℕ) (d : Watched) → end ≤ k → slice_index_or new k d ≡ slice_index_or old k d
+
+-- SOME ITEMS TAKE A STEP: the first place of one that fails, or that none does and all go on by the step
+pub record TakeStep (ticks : List ℕ) (s : Step) (old new : List Watched) (place : Option ℕ) : Type 0 where
+  pub clocks : map clocks_of new ≡ map clocks_of old
+  pub fails : IfSome place (FailsFirst ticks s old)
+  pub none : IfNone place (All (λ w. fails_in ticks s w ≡ false) old)
+  pub next : IfNone place (new ≡ map (next_in s) old)

@@ -1,5 +1,5 @@
 -- What a monitor stands for: the rows that it has taken.
-use Rattle.std.specs.Prelude.{◌≡◌, ℕ, ◌+◌, ◌-◌, ◌<◌, ◌≤◌, List, [], ◌∷◌, ◌++◌, Bool, true, false, not, ◌&&◌, nat_lt, if◌then◌else◌, Option, Some, None, length}
+use Rattle.std.specs.Prelude.{◌≡◌, ℕ, ◌+◌, ◌-◌, ◌<◌, ◌≤◌, List, Bool, true, false, not, ◌&&◌, nat_lt, if◌then◌else◌, Option, Some, None, length}
 use Rattle.std.specs.Prelude.{slice_get, slice_index_or}
 use Rattle.std.specs.List.{list_all}
 use Rattle.ccsl_base.specs.declared.limits.TheConstants.{MAX_CLOCKS}
@@ -137,12 +137,3 @@ pub record StandsFor (recorded : List ℕ) (v : Watching) (rows : List Row) : Ty
   pub steps : v.steps ≡ length rows
   pub first : Finds v.system recorded rows v.start (length v.kept) v.first
   pub follows : v.first ≡ None → Follows v.system recorded v.start v.kept v.states (completed_rows v.system rows)
-
--- the first violation with a row more, and until there is one the items go on by the row
-pub record IsNext (recorded : List ℕ) (old new : Watching) (rows : List Row) (row : Row) (first : Option Violation) : Type 0 where
-  pub same : new ≡ record old { kept = new.kept; states = new.states }
-  pub none_before : first ≡ None → old.first ≡ None
-  pub count : length new.kept ≡ length old.kept
-  pub sets : are_sets (rows ++ row ∷ []) ≡ true
-  pub first_is : Finds old.system recorded (rows ++ row ∷ []) old.start (length old.kept) first
-  pub follows : first ≡ None → Follows old.system recorded old.start new.kept new.states (completed_rows old.system (rows ++ row ∷ []))

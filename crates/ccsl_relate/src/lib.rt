@@ -11,12 +11,12 @@
 //! memory.
 #![tactic(auto)]
 
-mod alone;
 pub mod monitor;
 mod readers;
 mod relation;
 mod states;
 mod steps;
+mod stretch;
 mod touched;
 pub mod violation;
 pub mod watched;

@@ -1,18 +1,19 @@
 //! Monitors of neighbouring items.
 
-ghost use Rattle.std.specs.Prelude.{◌≡◌, ℕ, ◌+◌, ◌-◌, ◌<◌, ◌≤◌, ◌^◌, List, [], ◌∷◌, ◌++◌, length, take, drop, None, IfOk, IsSome};
+ghost use Rattle.std.specs.Prelude.{◌≡◌, ℕ, ◌+◌, ◌-◌, ◌<◌, ◌≤◌, ◌^◌, List, [], ◌∷◌, ◌++◌, length, None, IfOk, IsSome};
 ghost use Rattle.ccsl_base.specs.declared.rows.Row.{Row};
 ghost use Rattle.ccsl_kernel.specs.Syntax.{item_count};
 ghost use Rattle.ccsl_relate.specs.Violations.{Finds};
-ghost use Rattle.ccsl_relate.specs.Watching.{StandsFor, IsNext};
+ghost use Rattle.ccsl_relate.specs.Watching.{StandsFor};
+ghost use Rattle.ccsl_relate.specs.Stretch.{stretch};
+ghost use Rattle.ccsl_relate.specs.Taking.{MayTake, Takes};
 ghost use Rattle.ccsl_relate.specs.Following.{FollowsNoMore};
 ghost use Rattle.ccsl_relate.specs.declared.monitor.TheConstants.{PART_ROWS};
 
-use crate::alone::first_violation;
 use crate::readers::Readers;
 use crate::states::states_for;
 use crate::steps::{complete, first_violated, rows_are_sets, undeclared};
-use crate::touched::readers_of;
+use crate::stretch::first_violation;
 use crate::violation::Violation;
 use crate::watched::{Watched, open_all};
 use ccsl_base::{Block, ClockSet, Memory, Row};
@@ -117,10 +118,10 @@ impl<'s> Monitor<'s> {
         ensures follows { IfOk result (λ m. FollowsNoMore m.system m.states m.kept) }
     {
         let kept = open_all(alloc, system, start, count, recorded)?;
-        let readers = readers_of(alloc, kept.as_slice())?;
+        let readers = Readers::open(alloc, kept.as_slice())?;
+        let completed = Block::with_room(alloc, PART_ROWS)?;
         system.is_accepted();
         let states = states_for(alloc, system, kept.as_slice())?;
-        let completed = Block::with_room(alloc, PART_ROWS)?;
         Ok(Monitor {
             system,
             start,
@@ -135,14 +136,14 @@ impl<'s> Monitor<'s> {
         })
     }
 
-    // The first violation, with this row taken too.
+    // The first violation, with this row taken too, which is not counted yet.
     #[inline(always)]
     fn first_with(&mut self, row: &Row) -> Option<Violation>
-        requires { (recorded : List ℕ) × (rows : List Row) × StandsFor recorded self.old rows
-            × (length rows + 1 < 2 ^ 64) }
-        ensures { (recorded : List ℕ) (rows : List Row) → StandsFor recorded self.old rows →
-            length rows + 1 < 2 ^ 64 →
-            IsNext recorded self.old self.new rows row.now result }
+        requires { MayTake self.old 1 }
+        ensures steps { self.new.steps ≡ self.old.steps }
+        ensures none { result ≡ None → self.new.first ≡ None }
+        ensures takes { Takes self.old
+            (record self.new { steps = self.new.steps + 1; first = result }) (row.now ∷ []) }
     {
         row.ticks.ascends();
         if self.first.is_some() {
@@ -167,14 +168,8 @@ impl<'s> Monitor<'s> {
     // The next row.
     #[inline(always)]
     fn check_row(&mut self, row: &Row)
-        requires { (recorded : List ℕ) × (rows : List Row) × StandsFor recorded self.old rows
-            × (length rows + 1 < 2 ^ 64) }
-        ensures system { self.new.system ≡ self.old.system }
-        ensures start { self.new.start ≡ self.old.start }
-        ensures count { length self.new.kept ≡ length self.old.kept }
-        ensures stands { (recorded : List ℕ) (rows : List Row) → StandsFor recorded self.old rows →
-            length rows + 1 < 2 ^ 64 →
-            StandsFor recorded self.new (rows ++ row.now ∷ []) }
+        requires { MayTake self.old 1 }
+        ensures { Takes self.old self.new (row.now ∷ []) }
     {
         let found = self.first_with(row);
         keep(&mut self.first, found);
@@ -184,14 +179,8 @@ impl<'s> Monitor<'s> {
     // Takes the rows of a block as the next ones behind a violation: they change no answer.
     fn rest(&mut self, block: &Block)
         requires violated { IsSome self.old.first }
-        requires stands { (recorded : List ℕ) × (rows : List Row) × StandsFor recorded self.old rows
-            × (length rows + length block.now.rows < 2 ^ 64) }
-        ensures system { self.new.system ≡ self.old.system }
-        ensures start { self.new.start ≡ self.old.start }
-        ensures count { length self.new.kept ≡ length self.old.kept }
-        ensures stands { (recorded : List ℕ) (rows : List Row) → StandsFor recorded self.old rows →
-            length rows + length block.now.rows < 2 ^ 64 →
-            StandsFor recorded self.new (rows ++ block.now.rows) }
+        requires few { MayTake self.old (length block.now.rows) }
+        ensures { Takes self.old self.new block.now.rows }
     {
         rows_are_sets(block);
         self.steps += block.len() as u64;
@@ -200,15 +189,9 @@ impl<'s> Monitor<'s> {
     // Takes the rows of a block as the next ones, item by item: they are steps by themselves.
     fn check_items(&mut self, block: &Block)
         requires none { self.old.first ≡ None }
-        requires alone { self.old.states ≡ None }
-        requires stands { (recorded : List ℕ) × (rows : List Row) × StandsFor recorded self.old rows
-            × (length rows + length block.now.rows < 2 ^ 64) }
-        ensures system { self.new.system ≡ self.old.system }
-        ensures start { self.new.start ≡ self.old.start }
-        ensures count { length self.new.kept ≡ length self.old.kept }
-        ensures stands { (recorded : List ℕ) (rows : List Row) → StandsFor recorded self.old rows →
-            length rows + length block.now.rows < 2 ^ 64 →
-            StandsFor recorded self.new (rows ++ block.now.rows) }
+        requires stateless { self.old.states ≡ None }
+        requires few { MayTake self.old (length block.now.rows) }
+        ensures { Takes self.old self.new block.now.rows }
     {
         rows_are_sets(block);
         let rows = block.len() as u64;
@@ -222,16 +205,12 @@ impl<'s> Monitor<'s> {
     // many rows these are.
     fn check_part(&mut self, block: &Block, from: usize) -> usize
         requires inside { from < length block.now.rows }
-        requires stands { (recorded : List ℕ) × (rows : List Row) × StandsFor recorded self.old rows
-            × (length rows + (length block.now.rows - from) < 2 ^ 64) }
+        requires states { IsSome self.old.states }
+        requires few { MayTake self.old (length block.now.rows - from) }
         ensures some { 0 < result }
         ensures inside { from + result ≤ length block.now.rows }
-        ensures system { self.new.system ≡ self.old.system }
-        ensures start { self.new.start ≡ self.old.start }
-        ensures count { length self.new.kept ≡ length self.old.kept }
-        ensures stands { (recorded : List ℕ) (rows : List Row) → StandsFor recorded self.old rows →
-            length rows + (length block.now.rows - from) < 2 ^ 64 →
-            StandsFor recorded self.new (rows ++ take result (drop from block.now.rows)) }
+        ensures states { IsSome self.new.states }
+        ensures takes { Takes self.old self.new (stretch from result block.now.rows) }
     {
         rows_are_sets(block);
         let count = (block.len() - from).min(PART_ROWS);
@@ -239,7 +218,9 @@ impl<'s> Monitor<'s> {
             self.steps += count as u64;
             return count;
         }
-        let (states, completed) = (&mut self.states, &mut self.completed);
+        let Some(states) = &mut self.states else {
+            unreachable!();
+        };
         complete(
             states,
             &self.undeclared,
@@ -247,7 +228,7 @@ impl<'s> Monitor<'s> {
             from,
             count,
             &mut self.step,
-            completed,
+            &mut self.completed,
         );
         let kept = self.kept.as_mut_slice();
         let first = first_violation(kept, block, from, &self.completed, self.steps, self.start);
@@ -258,14 +239,9 @@ impl<'s> Monitor<'s> {
 
     // Takes the rows of a block as the next ones, part by part.
     fn check_parts(&mut self, block: &Block)
-        requires { (recorded : List ℕ) × (rows : List Row) × StandsFor recorded self.old rows
-            × (length rows + length block.now.rows < 2 ^ 64) }
-        ensures system { self.new.system ≡ self.old.system }
-        ensures start { self.new.start ≡ self.old.start }
-        ensures count { length self.new.kept ≡ length self.old.kept }
-        ensures stands { (recorded : List ℕ) (rows : List Row) → StandsFor recorded self.old rows →
-            length rows + length block.now.rows < 2 ^ 64 →
-            StandsFor recorded self.new (rows ++ block.now.rows) }
+        requires states { IsSome self.old.states }
+        requires few { MayTake self.old (length block.now.rows) }
+        ensures { Takes self.old self.new block.now.rows }
     {
         let mut from = 0;
         'parts: while from < block.len() {

@@ -4,12 +4,15 @@ ghost use Rattle.std.specs.Prelude.{◌≡◌, ℕ, ◌+◌, ◌*◌, ◌<◌, �
 ghost use Rattle.std.specs.List.{list_any};
 ghost use Rattle.ccsl_base.specs.declared.limits.TheConstants.{MAX_CLOCKS};
 ghost use Rattle.ccsl_base.specs.Clocks.{ticks_in};
-ghost use Rattle.ccsl_relate.specs.Reading.{clocks_of, TellsFrom, AreReaders};
+ghost use Rattle.ccsl_relate.specs.Reading.{clocks_of, TellsFrom, Fit};
 
 use crate::watched::Watched;
 use ccsl_base::{ClockSet, MAX_CLOCKS, Memory};
 use std::alloc::Global;
 use std::marker::Model;
+
+/// Fewer items are sooner looked at one by one.
+const FEWEST: usize = 32;
 
 /// The number of items of a group: a set of clocks has room for so many places.
 pub(crate) const GROUP: usize = MAX_CLOCKS as usize;
@@ -30,9 +33,15 @@ impl Model for Group {
 }
 
 /// The groups of some neighbouring items, in their order.
-#[derive(Drop)]
 pub(crate) struct Readers {
     groups: Vec<Group>,
+}
+
+// By hand and not derived: to the prover, an early return then drops them by a single call.
+impl Drop for Readers {
+    fn drop(self) {
+        let Readers { groups: _groups } = self;
+    }
 }
 
 impl Model for Readers {
@@ -43,25 +52,15 @@ impl Model for Readers {
     ghost view = { λ r. r.groups.items };
 }
 
-// Has so many sets at least.
-fn grow(places: &mut Vec<ClockSet>, count: usize) -> Result<(), Memory>
-    ensures count { OnOk result (count ≤ length places.new.items) }
-    ensures same { OnOk result ((clock : ℕ) →
-        slice_index_or places.new.items clock [] ≡ slice_index_or places.old.items clock []) }
-{
-    while places.len() < count {
-        places.push(ClockSet::empty())?;
-    }
-    Ok(())
-}
-
 // The item at a place reads a clock.
 fn enter_clock(places: &mut Vec<ClockSet>, clock: u32, place: u32) -> Result<(), Memory>
     requires { place < MAX_CLOCKS }
     ensures { OnOk result ((c p : ℕ) → ticks_in p (slice_index_or places.new.items c []) ≡
         (ticks_in p (slice_index_or places.old.items c []) || (nat_eq p place && nat_eq c clock))) }
 {
-    grow(places, clock as usize + 1)?;
+    while places.len() <= clock as usize {
+        places.push(ClockSet::empty())?;
+    }
     places[clock as usize].insert(place);
     Ok(())
 }
@@ -113,17 +112,21 @@ impl Group {
 }
 
 impl Readers {
-    pub(crate) fn open(alloc: Global, kept: &[Watched]) -> Result<Readers, Memory>
+    /// Those of some items, where they are enough to gain by it.
+    pub(crate) fn open(alloc: Global, kept: &[Watched]) -> Result<Option<Readers>, Memory>
         requires { length kept.now < 2 ^ 32 }
-        ensures { IfOk result (λ readers. AreReaders readers (map clocks_of kept.now)) }
+        ensures { IfOk result (λ readers. Fit readers kept.now) }
     {
+        if kept.len() < FEWEST {
+            return Ok(None);
+        }
         let mut groups = Vec::new(alloc);
         let mut start = 0;
         while start < kept.len() {
             groups.push(Group::open(alloc, kept, start)?)?;
             start += GROUP;
         }
-        Ok(Readers { groups })
+        Ok(Some(Readers { groups }))
     }
 
     #[inline(always)]

@@ -7,7 +7,7 @@ ghost use Rattle.ccsl_relate.specs.Watching.{Suffice, AreAfter};
 ghost use Rattle.ccsl_relate.specs.Reading.{clocks_of};
 ghost use Rattle.ccsl_relate.specs.Following.{ReadsClocks, FollowsNoMore};
 
-use crate::watched::{Watched, read_declared};
+use crate::watched::Watched;
 use ccsl_base::{ClockSet, Memory};
 use ccsl_kernel::System;
 use ccsl_state::Part;
@@ -52,10 +52,10 @@ pub(crate) fn states_for<'s>(
     ensures after { IfOk result (λ held. AreAfter system.now held []) }
     ensures least { IfOk result (λ held. FollowsNoMore system.now held kept.now) }
 {
-    if read_declared(kept, system.scope().declared) {
+    let clocks = clocks_read(kept);
+    if clocks.is_subset(&clocks.below(system.scope().declared)) {
         return Ok(None);
     }
-    let clocks = clocks_read(kept);
     let part = Part::open(alloc, system, &clocks)?;
     Ok(Some(part))
 }

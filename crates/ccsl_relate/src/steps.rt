@@ -1,14 +1,15 @@
 //! The step that a row completes, and the items that fail in it.
 
-ghost use Rattle.std.specs.Prelude.{◌≡◌, ℕ, ◌+◌, ◌<◌, ◌≤◌, ◌^◌, List, [], ◌∷◌, ◌++◌, false, length, map, take, drop, Some, All, IsTrue, IfSome, IfNone};
+ghost use Rattle.std.specs.Prelude.{◌≡◌, ◌+◌, ◌<◌, ◌≤◌, ◌^◌, List, length, Some, IsTrue};
 ghost use Rattle.std.specs.Option.{ForSome};
 ghost use Rattle.ccsl_kernel.specs.Syntax.{System};
 ghost use Rattle.ccsl_kernel.specs.Lives.{Step};
-ghost use Rattle.ccsl_kernel.specs.Runs.{full_step, declared_part};
+ghost use Rattle.ccsl_kernel.specs.Runs.{declared_part};
 ghost use Rattle.ccsl_relate.specs.Few.{EachHasRoom};
 ghost use Rattle.ccsl_relate.specs.Reading.{Fit};
-ghost use Rattle.ccsl_relate.specs.Completed.{Completes};
-ghost use Rattle.ccsl_relate.specs.Watching.{IsUndeclared, AreAfter, are_sets, is_known, step_known, fails_in, next_in, FailsFirst};
+ghost use Rattle.ccsl_relate.specs.Stretch.{stretch};
+ghost use Rattle.ccsl_relate.specs.Completed.{IsCompleted, Completes, TakeTicks};
+ghost use Rattle.ccsl_relate.specs.Watching.{IsUndeclared, AreAfter, are_sets};
 
 use crate::readers::Readers;
 use crate::touched::first_read;
@@ -53,45 +54,18 @@ fn put_declared(declared: &mut ClockSet, ticks: &ClockSet, undeclared: &ClockSet
 fn next_step(states: &mut Part<'_>, undeclared: &ClockSet, ticks: &ClockSet, step: &mut ClockSet)
     requires { IsUndeclared states.old.system undeclared.now }
     ensures system { states.new.system ≡ states.old.system }
-    ensures known { (K : System) (x : ℕ) →
-        is_known K (Some states.new) x ≡ is_known K (Some states.old) x }
-    ensures step { (K : System) (T : List Step) → AreAfter K (Some states.old) T →
-        step.new ≡ step_known K (Some states.old) T ticks.now }
-    ensures after { (K : System) (T : List Step) →
+    ensures completed { (K : System) (T : List Step) →
         AreAfter K (Some states.old) T → length T + 1 < 2 ^ 64 →
-        AreAfter K (Some states.new) (T ++ full_step K T (declared_part K ticks.now) ∷ []) }
+        IsCompleted K T (Some states.old) ticks.now step.new (Some states.new) }
 {
     put_declared(step, ticks, undeclared);
     states.go_on(step);
 }
 
-// The same where there may be no states: a row's ticks are then all that is known of its step.
-#[inline(always)]
-fn next_known(
-    states: &mut Option<Part<'_>>,
-    undeclared: &ClockSet,
-    ticks: &ClockSet,
-    step: &mut ClockSet,
-)
-    requires { ForSome states.old (λ p. IsUndeclared p.system undeclared.now) }
-    ensures undeclared { ForSome states.new (λ p. IsUndeclared p.system undeclared.now) }
-    ensures known { (K : System) (x : ℕ) → is_known K states.new x ≡ is_known K states.old x }
-    ensures step { (K : System) (T : List Step) → AreAfter K states.old T →
-        step.new ≡ step_known K states.old T ticks.now }
-    ensures after { (K : System) (T : List Step) → AreAfter K states.old T →
-        length T + 1 < 2 ^ 64 →
-        AreAfter K states.new (T ++ full_step K T (declared_part K ticks.now) ∷ []) }
-{
-    match states {
-        Some(states) => next_step(states, undeclared, ticks, step),
-        None => step.copy_from(ticks),
-    }
-}
-
 /// Puts what is known of the steps that so many rows of a block complete, from row `from` on, into a block of their own. The states go
 /// on by them.
 pub(crate) fn complete(
-    states: &mut Option<Part<'_>>,
+    states: &mut Part<'_>,
     undeclared: &ClockSet,
     block: &Block,
     from: usize,
@@ -99,21 +73,22 @@ pub(crate) fn complete(
     step: &mut ClockSet,
     completed: &mut Block,
 )
-    requires undeclared { ForSome states.old (λ p. IsUndeclared p.system undeclared.now) }
+    requires undeclared { IsUndeclared states.old.system undeclared.now }
     requires inside { from + count ≤ length block.now.rows }
     requires small { length block.now.rows < 2 ^ 64 }
     requires room { count ≤ completed.old.room }
     ensures count { length completed.new.rows ≡ count }
     ensures room { completed.new.room ≡ completed.old.room }
-    ensures completes { (K : System) (T : List Step) → AreAfter K states.old T →
-        length T + count < 2 ^ 64 →
-        Completes K T states.old (take count (drop from block.now.rows)) completed.new.rows states.new }
+    ensures completed { (K : System) (T : List Step) →
+        AreAfter K (Some states.old) T → length T + count < 2 ^ 64 →
+        Completes K T (Some states.old) (stretch from count block.now.rows) completed.new.rows
+        (Some states.new) }
 {
     let none = ClockSet::empty();
     completed.clear();
     for i in 0..count {
         let row = block.row(from + i);
-        next_known(states, undeclared, &row.ticks, step);
+        next_step(states, undeclared, &row.ticks, step);
         completed.push_difference(row.time, step, &none);
     }
 }
@@ -134,18 +109,7 @@ pub(crate) fn first_violated(
     requires readers { Fit readers.now kept.old }
     requires few { length kept.old < 2 ^ 32 }
     requires room { EachHasRoom kept.old }
-    ensures readers { Fit readers.now kept.new }
-    ensures count { length kept.new ≡ length kept.old }
-    ensures fails { (K : System) (T : List Step) → AreAfter K states.old T →
-        IfSome result (FailsFirst ticks.now (step_known K states.old T ticks.now) kept.old) }
-    ensures none { (K : System) (T : List Step) → AreAfter K states.old T →
-        IfNone result (All (λ w. fails_in ticks.now (step_known K states.old T ticks.now) w ≡ false)
-        kept.old) }
-    ensures next { (K : System) (T : List Step) → AreAfter K states.old T →
-        IfNone result (kept.new ≡ map (next_in (step_known K states.old T ticks.now)) kept.old) }
-    ensures after { (K : System) (T : List Step) → AreAfter K states.old T → length T + 1 < 2 ^ 64 →
-        AreAfter K states.new (T ++ full_step K T (declared_part K ticks.now) ∷ []) }
-    ensures known { (K : System) (x : ℕ) → is_known K states.new x ≡ is_known K states.old x }
+    ensures { TakeTicks ticks.now states.old states.new kept.old kept.new result }
 {
     match states {
         Some(states) => {

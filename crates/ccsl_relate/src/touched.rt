@@ -1,19 +1,14 @@
 //! The items that read a clock that ticks, and no others: only these can fail or change in a step.
 
-ghost use Rattle.std.specs.Prelude.{◌≡◌, ℕ, ◌+◌, ◌<◌, ◌≤◌, ◌^◌, List, [], false, length, map, slice_index_or, All, IfOk, IfSome, IfNone};
+ghost use Rattle.std.specs.Prelude.{◌≡◌, ℕ, ◌+◌, ◌<◌, ◌≤◌, ◌^◌, List, [], length, map, slice_index_or, IfSome, IfNone};
 ghost use Rattle.ccsl_base.specs.declared.limits.TheConstants.{MAX_CLOCKS};
 ghost use Rattle.ccsl_relate.specs.Few.{HasRoom, EachHasRoom};
-ghost use Rattle.ccsl_relate.specs.Watching.{fails_in, next_in, FailsFirst};
 ghost use Rattle.ccsl_relate.specs.declared.watched.Watched.{Watched};
-ghost use Rattle.ccsl_relate.specs.Reading.{clocks_of, TellsFrom, AreReaders, Fit, Touches, FailsFrom, GoesOn};
+ghost use Rattle.ccsl_relate.specs.Reading.{clocks_of, TellsFrom, AreReaders, Fit, Touches, FailsFrom, GoesOn, TakeStep};
 
 use crate::readers::{GROUP, Group, Readers};
 use crate::watched::{Watched, first_failing};
-use ccsl_base::{ClockSet, Memory};
-use std::alloc::Global;
-
-/// Fewer items are sooner looked at one by one.
-const FEWEST: usize = 32;
+use ccsl_base::ClockSet;
 
 /// So many items are looked at in the time that it takes to gather the places of a clock that ticks, and of those that it makes tick.
 const ITEMS_A_CLOCK: usize = 8;
@@ -70,10 +65,7 @@ fn first_touched(
     requires readers { AreReaders readers.now (map clocks_of kept.old) }
     requires few { length kept.old < 2 ^ 32 }
     requires room { EachHasRoom kept.old }
-    ensures clocks { map clocks_of kept.new ≡ map clocks_of kept.old }
-    ensures fails { IfSome result (FailsFirst ticks.now step.now kept.old) }
-    ensures none { IfNone result (All (λ w. fails_in ticks.now step.now w ≡ false) kept.old) }
-    ensures next { IfNone result (kept.new ≡ map (next_in step.now) kept.old) }
+    ensures { TakeStep ticks.now step.now kept.old kept.new result }
 {
     let groups = readers.groups();
     for i in 0..groups.len() {
@@ -85,17 +77,6 @@ fn first_touched(
         }
     }
     None
-}
-
-/// Which of some items read a clock, where they are enough to gain by it.
-pub(crate) fn readers_of(alloc: Global, kept: &[Watched]) -> Result<Option<Readers>, Memory>
-    requires { length kept.now < 2 ^ 32 }
-    ensures { IfOk result (λ readers. Fit readers kept.now) }
-{
-    if kept.len() < FEWEST {
-        return Ok(None);
-    }
-    Ok(Some(Readers::open(alloc, kept)?))
 }
 
 /// The place of the first item that fails in the step that a row with these ticks completes, as `first_failing` tells it. Where it is
@@ -110,11 +91,7 @@ pub(crate) fn first_read(
     requires readers { Fit readers.now kept.old }
     requires few { length kept.old < 2 ^ 32 }
     requires room { EachHasRoom kept.old }
-    ensures readers { Fit readers.now kept.new }
-    ensures count { length kept.new ≡ length kept.old }
-    ensures fails { IfSome result (FailsFirst ticks.now step.now kept.old) }
-    ensures none { IfNone result (All (λ w. fails_in ticks.now step.now w ≡ false) kept.old) }
-    ensures next { IfNone result (kept.new ≡ map (next_in step.now) kept.old) }
+    ensures { TakeStep ticks.now step.now kept.old kept.new result }
 {
     match readers {
         Some(readers) if (ticks.len() as usize) < kept.len() / ITEMS_A_CLOCK => {

@@ -1,12 +1,11 @@
 //! What is kept of items from row to row.
 
-ghost use Rattle.std.specs.Prelude.{◌≡◌, ℕ, ◌+◌, ◌-◌, ◌<◌, nat_lt, ◌≤◌, ◌^◌, List, [], false, not, length, map, All, IfOk, IfSome, IfNone};
-ghost use Rattle.std.specs.List.{list_all, AllPass};
-ghost use Rattle.ccsl_kernel.specs.Syntax.{System, item_count};
+ghost use Rattle.std.specs.Prelude.{◌≡◌, ◌+◌, ◌<◌, ◌≤◌, ◌^◌, [], not, length, IfOk};
+ghost use Rattle.ccsl_kernel.specs.Syntax.{item_count};
 ghost use Rattle.ccsl_kernel.specs.Accepted.{Each};
 ghost use Rattle.ccsl_relate.specs.Few.{HasRoom, EachHasRoom};
-ghost use Rattle.ccsl_relate.specs.Watching.{Keeps, related_formula, fails_in, counted_on, next_in, FailsFirst, reads_only};
-ghost use Rattle.ccsl_relate.specs.Reading.{clocks_of};
+ghost use Rattle.ccsl_relate.specs.Watching.{Keeps, related_formula, fails_in, counted_on, next_in};
+ghost use Rattle.ccsl_relate.specs.Reading.{TakeStep};
 
 use crate::relation::holds;
 use ccsl_base::{ClockSet, Memory};
@@ -74,17 +73,6 @@ impl Watched {
         })
     }
 
-    /// Whether it needs no defined clock.
-    fn reads_declared(&self, declared: u32) -> bool
-        ensures { result ≡ reads_only (λ x. nat_lt x declared) self.now }
-    {
-        match self {
-            Watched::Nothing => true,
-            Watched::Definition(clock) => *clock < declared,
-            Watched::Relation(related) => related.left < declared && related.right < declared,
-        }
-    }
-
     /// Whether the item fails in the step that a row with these ticks completes. It goes on by the step.
     #[inline(always)]
     pub(crate) fn fails(&mut self, ticks: &ClockSet, step: &ClockSet) -> bool
@@ -120,23 +108,12 @@ pub(crate) fn open_all(
     Ok(kept)
 }
 
-/// Whether each item needs no defined clock.
-pub(crate) fn read_declared(kept: &[Watched], declared: u32) -> bool
-    ensures { result ≡ list_all (reads_only (λ x. nat_lt x declared)) kept.now }
-{
-    kept.iter().all(|watched| watched.reads_declared(declared))
-}
-
 /// The place of the first item that fails in the step that a row with these ticks completes. Where none does, all go on by the step.
 #[inline(always)]
 pub(crate) fn first_failing(kept: &mut [Watched], ticks: &ClockSet, step: &ClockSet) -> Option<u32>
     requires few { length kept.old < 2 ^ 32 }
     requires room { EachHasRoom kept.old }
-    ensures count { length kept.new ≡ length kept.old }
-    ensures clocks { map clocks_of kept.new ≡ map clocks_of kept.old }
-    ensures fails { IfSome result (FailsFirst ticks.now step.now kept.old) }
-    ensures none { IfNone result (All (λ w. fails_in ticks.now step.now w ≡ false) kept.old) }
-    ensures next { IfNone result (kept.new ≡ map (next_in step.now) kept.old) }
+    ensures { TakeStep ticks.now step.now kept.old kept.new result }
 {
     for i in 0..kept.len() {
         if kept[i].fails(ticks, step) {

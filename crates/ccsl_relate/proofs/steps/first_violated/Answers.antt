@@ -1,9 +1,12 @@
-use Rattle.std.proofs.Common.{sym, ap, ◌∙◌, subst}
-use Rattle.ccsl_relate.specs.Watching.{AreAfter, is_known}
+use Rattle.std.proofs.Common.{refl}
 use Rattle.ccsl_relate.proofs.steps.first_violated.Goals as goal
 
-pub returns-in-Some-clause-after : goal.returns-in-Some-clause-after
-returns-in-Some-clause-after c = λ K T after few. c.next_step.ensures.after K T (subst (λ o. AreAfter K o T) c.in-Some.is after) few
+pub returns-in-Some : goal.returns-in-Some
+returns-in-Some c = rw c.in-Some.is (record { step = c.next_step.new.step; completed = c.next_step.ensures.completed; items = c.first_read.ensures })
 
-pub returns-in-Some-clause-known : goal.returns-in-Some-clause-known
-returns-in-Some-clause-known c = λ K x. c.next_step.ensures.known K x ∙ ap (λ o. is_known K o x) (sym c.in-Some.is)
+pub returns-in-None : goal.returns-in-None
+returns-in-None c = rw c.in-None.is (record {
+  step = c.args.ticks.now;
+  completed = λ K T after few. record { step_is = refl; known = λ x. refl; after = tt };
+  items = c.first_read-in-None.ensures;
+})

@@ -1,5 +1,6 @@
-use Rattle.ccsl_relate.proofs.Blocks.{Taken}
+use Rattle.std.proofs.Common.{take}
+use Rattle.ccsl_relate.specs.Taking.{Takes}
 use Rattle.ccsl_relate.proofs.monitor.Monitor.check_block.Given as goal
 
 abbrev pub invariant-loop-i : goal.invariant-loop-i
-invariant-loop-i l = Taken l.fn.self l.self l.block.rows l.i
+invariant-loop-i l = Takes l.fn.self l.self (take l.i l.block.rows)

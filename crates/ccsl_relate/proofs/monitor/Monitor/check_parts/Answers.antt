@@ -1,22 +1,21 @@
-use Rattle.std.proofs.Common.{◌++◌, take, arith}
-use Rattle.ccsl_relate.proofs.Blocks.{few-others, taken-part, taken-all}
+use Rattle.std.proofs.Common.{◌-◌, length, arith, length-take-le}
+use Rattle.std.proofs.Math.Seq.{take-add}
+use Rattle.std.proofs.lemmas.List.{take_all}
+use Rattle.ccsl_relate.proofs.Blocks.{takes-both, may-take-on}
 use Rattle.ccsl_relate.proofs.monitor.Monitor.check_parts.Goals as goal
 
-pub check_part-from-requires-clause-stands : goal.check_part-from-requires-clause-stands
-check_part-from-requires-clause-stands c =
-    let w = c.requires in
-    let t = c.parts.invariant in (
-      w.0,
-      w.1 ++ take c.parts.from c.args.block.now.rows,
-      t.stands w.0 w.1 w.2 w.3,
-      few-others c.args.block.now.rows c.parts.from w.1 t.within w.3,
-    )
+pub check_part-from-requires-clause-few : goal.check_part-from-requires-clause-few
+check_part-from-requires-clause-few c =
+    let t = c.parts.invariant in
+    may-take-on _ (length c.args.block.now.rows - c.parts.from) c.requires.few t.takes
+    (omega (arith, length-take-le c.parts.from c.args.block.now.rows t.within, t.within))
 
 pub parts-preserved : goal.parts-preserved
-parts-preserved c = taken-part c.args.self.now c.parts.self c.check_part-from.new.self c.args.block.now.rows c.parts.from
-    c.check_part-from.result c.parts.invariant
-    c.check_part-from.ensures.inside c.check_part-from.ensures.system c.check_part-from.ensures.start
-    c.check_part-from.ensures.count c.check_part-from.ensures.stands
+parts-preserved c = record {
+  within = c.check_part-from.ensures.inside;
+  states = c.check_part-from.ensures.states;
+  takes = rw (take-add c.parts.from c.check_part-from.result c.args.block.now.rows) (takes-both c.parts.invariant.takes c.check_part-from.ensures.takes);
+}
 
-pub returns-clause-stands : goal.returns-clause-stands
-returns-clause-stands c = taken-all c.args.self.now c.parts.self c.args.block.now.rows c.parts.from c.parts.invariant (omega arith)
+pub returns : goal.returns
+returns c = rw (take_all c.parts.from c.args.block.now.rows (omega arith)) at c.parts.invariant.takes

@@ -1,7 +1,7 @@
 use Rattle.std.proofs.Common.{◌≡◌, take}
 use Rattle.ccsl_relate.specs.declared.watched.Watched.TheVariants.{Relation}
-use Rattle.ccsl_relate.specs.Alone.{after_steps, ObeysUpTo}
-use Rattle.ccsl_relate.proofs.alone.first_row_as.Given as goal
+use Rattle.ccsl_relate.specs.Stretch.{after_steps, ObeysUpTo}
+use Rattle.ccsl_relate.proofs.stretch.first_row_as.Given as goal
 
 -- the relation went on by the rows so far, and failed at none
 abbrev pub invariant-loop-i : goal.invariant-loop-i
