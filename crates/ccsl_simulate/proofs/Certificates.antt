@@ -1,9 +1,7 @@
 -- A simulation that ends early has a certificate.
-use Rattle.std.proofs.Common.{◌≡◌, ℕ, ◌+◌, ◌<◌, ◌≤◌, List, All, length, true, sym, ap, ◌∙◌, subst, arith}
+use Rattle.std.proofs.Common.{◌≡◌, ◌+◌, ◌≤◌, List, length, true, ap, ◌∙◌, arith}
 use Rattle.std.proofs.lemmas.Bool.{and_from}
 use Rattle.ccsl_base.specs.Clocks.{is_ascending, are_below}
-use Rattle.ccsl_formula.specs.Formula.{Formula, in_set}
-use Rattle.ccsl_formula.specs.Variables.{ReadsBelow}
 use Rattle.ccsl_refute.specs.Existence.{HasCertificate, IsUnsolved, UnsolvedHaveCertificates}
 use Rattle.ccsl_kernel.specs.Syntax.{System}
 use Rattle.ccsl_kernel.specs.Accepted.{IsAccepted}

@@ -1,5 +1,5 @@
 -- Each step of a simulation: its declared members were chosen, under min or max the least or the most of those that are admissible.
-use Rattle.std.proofs.Common.{◌≡◌, ◌≢◌, ℕ, ◌<◌, ◌≤◌, List, length, take, Bool, true, false, not, Some, refl, sym, ap, ◌∙◌, subst, ⊎_elim, arith}
+use Rattle.std.proofs.Common.{◌≡◌, ℕ, ◌<◌, List, length, take, sym, ap, ◌∙◌, subst, ⊎_elim, arith}
 use Rattle.std.proofs.lemmas.Bool.{and_parts}
 use Rattle.ccsl_base.specs.Clocks.{ticks_in, is_ascending, are_below}
 use Rattle.ccsl_formula.specs.Formula.{in_set}

@@ -5,7 +5,7 @@ use Rattle.std.proofs.lemmas.Bool.{cases_lt}
 use Rattle.std.proofs.lemmas.List.{take_all, take-append-le}
 use Rattle.ccsl_edge.specs.declared.slot.Slot.{Slot}
 use Rattle.ccsl_edge.specs.declared.slot.Slot.TheVariants.{TraceOut, CertOut}
-use Rattle.ccsl_edge.specs.World.{State, SlotState, Told}
+use Rattle.ccsl_edge.specs.World.{State, Told}
 use Rattle.ccsl_edge.specs.Calls.{Adds, AddsFront}
 use Rattle.ccsl_edge.proofs.Writing.{Adds-append, Adds-AddsFront}
 use Rattle.ccsl_refute.specs.declared.line.Line.{Line}
@@ -35,8 +35,8 @@ trace-append K S more = ap (λ bs. header_text K ++ bs) (steps-append 0 K S more
     ∙ sym (append_assoc (header_text K) (steps_text 0 K S) (steps_text (0 + length S) K more))
 
 -- a front of some bytes is a front of more
-front-more : (told : Told) (slot : Slot) (a rest : List ℕ) (s u : State) → AddsFront told slot a s u → AddsFront told slot (a ++ rest) s u
-front-more told slot a rest s u q = record {
+front-more : {told : Told} {slot : Slot} {a : List ℕ} (rest : List ℕ) {s u : State} → AddsFront told slot a s u → AddsFront told slot (a ++ rest) s u
+front-more {slot} {a} rest {s} q = record {
   only = q.only;
   here = q.here;
   count = min q.count (length a);
@@ -54,15 +54,14 @@ front-more told slot a rest s u q = record {
         (cases_lt n (length a))
 
 -- an output slot stays open while bytes are added to the trace
-pub trace-open : (told : Told) (bytes : List ℕ) (s t : State) → Adds told TraceOut bytes s t → IsTrue (s.slot_of TraceOut).is_open
-    → IsTrue (t.slot_of TraceOut).is_open
-trace-open told bytes s t p o = subst (λ (x : SlotState). IsTrue x.is_open) (sym p.here) o
+module _ {told : Told} {bytes : List ℕ} {s t : State} (p : Adds told TraceOut bytes s t) where
+  pub trace-open : IsTrue (s.slot_of TraceOut).is_open → IsTrue (t.slot_of TraceOut).is_open
+  trace-open o = rw p.here o
 
-pub cert-open : (told : Told) (bytes : List ℕ) (s t : State) → Adds told TraceOut bytes s t → IsTrue (s.slot_of CertOut).is_open
-    → IsTrue (t.slot_of CertOut).is_open
-cert-open told bytes s t p o = subst (λ (x : SlotState). IsTrue x.is_open) (sym (p.only.others CertOut (λ e. cc))) o
+  pub cert-open : IsTrue (s.slot_of CertOut).is_open → IsTrue (t.slot_of CertOut).is_open
+  cert-open o = rw (p.only.others CertOut (λ e. cc)) o
 
-module _ (told : Told) (K : System) (policy : Policy) (seed steps : ℕ) (s : State) where
+module _ (K : System) (policy : Policy) (seed steps : ℕ) where
   abbrev run : ℕ → List Step
   run n = simulation K policy seed n
 
@@ -73,23 +72,19 @@ module _ (told : Told) (K : System) (policy : Policy) (seed steps : ℕ) (s : St
       (steps_text (0 + length (run n)) K q.0, ap (vcd_text K) q.1 ∙ trace-append K (run n) q.0)
 
   -- the header was not written
-  pub header-fails : (u : State) → AddsFront told TraceOut (header_text K) s u → AddsFront told TraceOut (vcd_text K (run steps)) s u
-  header-fails u q = front-more told TraceOut (header_text K) (steps_text 0 K (run steps)) s u q
+  pub header-fails : {told : Told} {s u : State} → AddsFront told TraceOut (header_text K) s u → AddsFront told TraceOut (vcd_text K (run steps)) s u
+  header-fails q = front-more (steps_text 0 K (run steps)) q
 
   -- the header alone is the text of no steps
-  pub header-adds : (t : State) → Adds told TraceOut (header_text K) s t → Adds told TraceOut (vcd_text K (run 0)) s t
-  header-adds t q =
-      subst (λ bs. Adds told TraceOut bs s t)
-      (sym (ap (vcd_text K) (run-zero K policy seed) ∙ append-nil (header_text K))) q
+  pub header-adds : {told : Told} {s t : State} → Adds told TraceOut (header_text K) s t → Adds told TraceOut (vcd_text K (run 0)) s t
+  header-adds q = rw (run-zero K policy seed, append-nil (header_text K)) q
 
   -- with all its steps the run is whole
-  pub full-there : (n : ℕ) → n ≡ steps → length (run n) ≡ n → (t : State) → Adds told TraceOut (vcd_text K (run n)) s t → IsFull told K policy seed steps s t
-  full-there n e size t q = record {
-    count = ap (λ k. length (run k)) (sym e) ∙ size ∙ e;
-    trace = subst (λ k. Adds told TraceOut (vcd_text K (run k)) s t) e q;
-  }
+  pub full-there : (n : ℕ) → n ≡ steps → length (run n) ≡ n → {told : Told} {s t : State} → Adds told TraceOut (vcd_text K (run n)) s t
+      → IsFull told K policy seed steps s t
+  full-there n e size q = record { count = ap (λ k. length (run k)) (sym e) ∙ size ∙ e; trace = rw e at q }
 
-  module _ (n : ℕ) (l : n < steps) (size : length (run n) ≡ n) (t u : State) (p : Adds told TraceOut (vcd_text K (run n)) s t) where
+  module _ (n : ℕ) (l : n < steps) (size : length (run n) ≡ n) {told : Told} {s t : State} (p : Adds told TraceOut (vcd_text K (run n)) s t) (u : State) where
     -- the text with one more step
     text-next : (step : Step) → run (suc n) ≡ run n ++ step ∷ [] → vcd_text K (run (suc n)) ≡ vcd_text K (run n) ++ step_text n K step
     text-next step e = ap (vcd_text K) e ∙ trace-snoc K (run n) step ∙ ap (λ k. vcd_text K (run n) ++ step_text k K step) size
@@ -103,7 +98,7 @@ module _ (told : Told) (K : System) (policy : Policy) (seed steps : ℕ) (s : St
     step-fails q =
         let r = text-front (suc n) (omega arith) in
         subst (λ bs. AddsFront told TraceOut bs s u) (sym (r.1 ∙ ap (λ bs. bs ++ r.0) (text-next q.step q.next)))
-        (front-more told TraceOut (vcd_text K (run n) ++ step_text n K q.step) r.0 s u
+        (front-more r.0
         (Adds-AddsFront told TraceOut (vcd_text K (run n)) (step_text n K q.step) s t u p q.adds))
 
     blocked : (lines : List Line) → IsStopped told K policy seed n lines → IsBlocked told K policy seed steps s u n lines t
