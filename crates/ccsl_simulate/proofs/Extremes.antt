@@ -1,5 +1,5 @@
 -- Each step of a simulation: its declared members were chosen, under min or max the least or the most of those that are admissible.
-use Rattle.std.proofs.Common.{◌≡◌, ℕ, ◌<◌, List, length, take, sym, ap, ◌∙◌, subst, ⊎_elim, arith}
+use Rattle.std.proofs.Common.{◌≡◌, ℕ, ◌<◌, List, length, take, not, sym, ap, ◌∙◌, subst, ⊎_elim, arith}
 use Rattle.std.proofs.lemmas.Bool.{and_parts}
 use Rattle.ccsl_base.specs.Clocks.{ticks_in, is_ascending, are_below}
 use Rattle.ccsl_formula.specs.Formula.{in_set}
@@ -11,6 +11,7 @@ use Rattle.ccsl_items.specs.Laws.{IsNamedRun}
 use Rattle.ccsl_items.proofs.Solutions.{admissible_solution, solution_full}
 use Rattle.ccsl_policy.specs.declared.policies.Policy.{Policy}
 use Rattle.ccsl_policy.specs.declared.policies.Policy.TheVariants.{Min, Max}
+use Rattle.ccsl_policy.specs.Priority.{word_of, preferred}
 use Rattle.ccsl_policy.proofs.First.{IsFirst, first-or-same, both-ways, from-not}
 use Rattle.ccsl_simulate.specs.Simulation.{words_of_step, simulation}
 use Rattle.ccsl_simulate.specs.Laws.{IsBest, IsSimulation}
@@ -24,35 +25,26 @@ set-below K T s a = let d = and_parts (is_ascending s) (are_below K.declared s) 
 
 -- an admissible set that is part of the best one under min is that one, and so is one that it is part of under max
 module _ (K : System) (words : List ℕ) (T : List Step) (r s : Step) (a : IsAdmissible K T r) where
-  least-is : IsBest K Min words T s → IsPart r s → r ≡ s
-  least-is b h = one_set K.declared r s (set-below K T r a) (set-below K T s b.admissible)
+  best-is : (policy : Policy) → IsBest K policy words T s →
+      ((c : ℕ) → ticks_in c r ≡ not (ticks_in c s) → ticks_in c r ≡ preferred policy (word_of words c)) → r ≡ s
+  best-is policy b preferred = one_set K.declared r s (set-below K T r a) (set-below K T s b.admissible)
       (⊎_elim
       (λ (f : IsFirst K.declared words (in_set r) (in_set s)).
       absurd (b.best r a (record {
         clock = f.clock;
         declared = f.below;
         differ = f.differ;
-        preferred =
-            both-ways (ticks_in f.clock r) (ticks_in f.clock s) (h f.clock) f.differ;
+        preferred = preferred f.clock f.differ;
         before = f.before;
       })))
       (λ same. same)
       (first-or-same K.declared words (in_set r) (in_set s)))
 
+  least-is : IsBest K Min words T s → IsPart r s → r ≡ s
+  least-is b h = best-is Min b (λ c. both-ways (ticks_in c r) (ticks_in c s) (h c))
+
   most-is : IsBest K Max words T s → IsPart s r → r ≡ s
-  most-is b h = one_set K.declared r s (set-below K T r a) (set-below K T s b.admissible)
-      (⊎_elim
-      (λ (f : IsFirst K.declared words (in_set r) (in_set s)).
-      absurd (b.best r a (record {
-        clock = f.clock;
-        declared = f.below;
-        differ = f.differ;
-        preferred =
-            from-not (ticks_in f.clock r) (ticks_in f.clock s) (h f.clock) f.differ;
-        before = f.before;
-      })))
-      (λ same. same)
-      (first-or-same K.declared words (in_set r) (in_set s)))
+  most-is b h = best-is Max b (λ c. from-not (ticks_in c r) (ticks_in c s) (h c))
 
 -- the declared members of a step are the set that was chosen for it
 module _ (K : System) (ok : IsAccepted K) (policy : Policy) (seed steps n : ℕ) (l : n < length (simulation K policy seed steps)) where
