@@ -1,10 +1,8 @@
 -- Sets with one more clock: the order of insertion does not matter, and they stay sets.
-use Rattle.std.proofs.Common.{◌≡◌, ◌≢◌, ◌⊎◌, inl, inr, ℕ, ◌<◌, List, [], ◌∷◌, Bool, true, nat_lt, nat_eq, if◌then◌else◌, refl, sym, ap, ◌∙◌, ⊎_elim, arith}
+use Rattle.std.proofs.Common.{◌≡◌, ◌≢◌, ◌⊎◌, inl, inr, ℕ, ◌<◌, List, [], ◌∷◌, nat_eq, if◌then◌else◌, sym, ap, ◌∙◌, ⊎_elim, arith}
 use Rattle.std.proofs.Common.{lt-ltb, le-ltb, eq-eqb}
-use Rattle.std.specs.List.{list_all}
-use Rattle.std.proofs.lemmas.Bool.{cases_order, ne_eqb, and_parts, and_from, ltb-true}
-use Rattle.ccsl_base.specs.Clocks.{with_clock, is_ascending}
-use Rattle.ccsl_base.proofs.Ascending.{all-above, all-with, with_clock-ascends}
+use Rattle.std.proofs.lemmas.Bool.{cases_order, ne_eqb}
+use Rattle.ccsl_base.specs.Clocks.{with_clock}
 
 with-before : (x y : ℕ) (s : List ℕ) → x < y → with_clock x (y ∷ s) ≡ x ∷ (y ∷ s)
 with-before x y s l = ap (λ t. if t then x ∷ (y ∷ s) else if nat_eq x y then y ∷ s else y ∷ with_clock x s) (lt-ltb x y l)

@@ -48,10 +48,6 @@ nothing-read (b ∷ bs) rest e = absurd (cc)
 front-of : (front rest whole : List ℕ) → whole ≡ front ++ rest → (n : ℕ) × (front ≡ take n whole)
 front-of front rest whole e = (length front, sym (ap (take (length front)) e ∙ take_at front rest (length front) refl))
 
--- what holds of a system, a policy and a seed
-pub at-task : (P : System → Policy → ℕ → Type 0) (K K' : System) (p p' : Policy) (s s' : ℕ) → K ≡ K' → p ≡ p' → s ≡ s' → P K p s → P K' p' s'
-at-task P K K' p p' s s' a b c h = subst (λ (x : System). P x p' s') a (subst (λ (x : Policy). P K x s') b (subst (λ x. P K p x) c h))
-
 module _ (told : Told) (K : System) (policy : Policy) (seed limit : ℕ) (old : State) where
   -- BEFORE THE FIRST LINE
   pub opens : (h : Held) → h.limit ≡ limit → StandsFor h [] [] → h.ended ≡ false → Goes told K policy seed limit old old h [] []
@@ -80,13 +76,13 @@ module _ (told : Told) (K : System) (policy : Policy) (seed limit : ℕ) (old : 
     rest = λ t. rest-none limit (old.slot_of Input).left;
   }
 
--- what lines are worth
-pub record LinesLaws : Type 0 where
+-- what lines are worth to a session that began so
+pub record LinesLaws (told : Told) (K : System) (policy : Policy) (seed limit : ℕ) (old : State) : Type 0 where
   pub taken : GivenLinesAreTaken
   pub few : FewBytesAreRead
   pub search : SearchEndsNoLine
 
-module _ (told : Told) (K : System) (policy : Policy) (seed limit : ℕ) (old : State) (laws : LinesLaws) where
+module _ {told : Told} {K : System} {policy : Policy} {seed limit : ℕ} {old : State} (laws : LinesLaws told K policy seed limit old) where
   abbrev GoesTo : State → Held → List Step → List Line → Type 0
   GoesTo now h R waiting = Goes told K policy seed limit old now h R waiting
 
@@ -102,7 +98,7 @@ module _ (told : Told) (K : System) (policy : Policy) (seed limit : ℕ) (old : 
   abbrev all_lines : List Line
   all_lines = lines_taken limit (old.slot_of Input).left
 
-  module _ (now : State) (h : Held) (R : List Step) (waiting : List Line) (g : GoesTo now h R waiting) where
+  module _ {now : State} {h : Held} {R : List Step} {waiting : List Line} (g : GoesTo now h R waiting) where
     -- the lines taken of the whole input are those that were handed out, and more
     pub lines-are : IsTrue told.left → (behind : List Line) × (all_lines ≡ g.given ++ (waiting ++ behind))
     lines-are t =
@@ -131,7 +127,7 @@ module _ (told : Told) (K : System) (policy : Policy) (seed limit : ℕ) (old : 
       rest = λ t. record { bytes = g.bytes; taken = g.left t; asked_for = g.asked_for t };
     }
 
-  module _ (now : State) (h : Held) (R : List Step) (g : GoesTo now h R []) where
+  module _ {now : State} {h : Held} {R : List Step} (g : GoesTo now h R []) where
     -- the lines that were handed out stand for the bytes read
     stands-for : StandsFor h g.bytes g.given
     stands-for = subst (StandsFor h g.bytes) (append-nil g.given) g.stands
@@ -142,7 +138,7 @@ module _ (told : Told) (K : System) (policy : Policy) (seed limit : ℕ) (old : 
       text = g.text;
       says = says-read told K policy seed limit old now later g.text g.says b.fails.only b.fails.here;
       cause = read-fails told K policy seed limit old now later g.counts b.bytes b.fails;
-      front = text-front now h R [] g;
+      front = text-front g;
       rest = λ t. record {
         bytes = g.bytes ++ (b.bytes ++ []);
         taken =
@@ -156,7 +152,7 @@ module _ (told : Told) (K : System) (policy : Policy) (seed limit : ℕ) (old : 
       };
     }
 
-    module _ (later : State) (h' : Held) (found : Next) (gives : Gives told now later h h' found) where
+    module _ {later : State} {h' : Held} {found : Next} (gives : Gives told now later h h' found) where
       left-behind : IsTrue told.left → (old.slot_of Input).left ≡ (g.bytes ++ gives.bytes) ++ (later.slot_of Input).left
       left-behind t =
           g.left t ∙ ap (λ bs. g.bytes ++ bs) (gives.reads.taken t) ∙ sym (append_assoc g.bytes gives.bytes (later.slot_of Input).left)
@@ -220,17 +216,15 @@ module _ (told : Told) (K : System) (policy : Policy) (seed limit : ℕ) (old : 
         rest = λ t. record { bytes = g.bytes ++ gives.bytes; taken = left-behind t; asked_for = asked-on t g.given s };
       }
 
-    pub input-ends : (later : State) (h' : Held) → Gives told now later h h' next.Ended → Ends later EndOfInput
-    input-ends later h' gives =
-        ends later h' next.Ended gives EndOfInput (follows later h' next.Ended gives).0
-        (λ t. whole t (follows later h' next.Ended gives).0 (follows later h' next.Ended gives).1)
+    input-ends : {later : State} {h' : Held} → Gives told now later h h' next.Ended → Ends later EndOfInput
+    input-ends {later} {h'} gives = ends gives EndOfInput (follows gives).0 (λ t. whole t (follows gives).0 (follows gives).1)
       where
         whole : IsTrue told.left → StandsFor h' (g.bytes ++ gives.bytes) g.given → h'.ended ≡ true →
             (all_lines ≡ g.given) × (EndOfInput ≡ (if nat_lt limit (length (old.slot_of Input).left) then TooLong else EndOfInput))
         whole t (going runs goes) e = absurd (cc)
         whole t (ended end all) e =
             let input : (old.slot_of Input).left ≡ g.bytes ++ gives.bytes =
-            left-behind later h' next.Ended gives t ∙ ap (λ bs. (g.bytes ++ gives.bytes) ++ bs) (no-more later h' next.Ended gives e t)
+            left-behind gives t ∙ ap (λ bs. (g.bytes ++ gives.bytes) ++ bs) (no-more gives e t)
             ∙ append-nil (g.bytes ++ gives.bytes) in
             let most : h'.limit ≡ limit = gives.limit ∙ g.limit_is in (
               ap (lines_taken limit) input ∙ ap (λ n. lines_taken n (g.bytes ++ gives.bytes)) (sym most) ∙ all.lines_are,
@@ -239,21 +233,21 @@ module _ (told : Told) (K : System) (policy : Policy) (seed limit : ℕ) (old : 
                   (ap (λ bs. nat_lt limit (length bs)) input ∙ le-ltb limit (length (g.bytes ++ gives.bytes)) (omega (arith, all.few, most)))),
             )
 
-    pub input-too-long : (later : State) (h' : Held) → Gives told now later h h' next.TooLong → Ends later TooLong
-    input-too-long later h' gives =
-        let f = follows later h' next.TooLong gives in
+    input-too-long : {later : State} {h' : Held} → Gives told now later h h' next.TooLong → Ends later TooLong
+    input-too-long {later} {h'} gives =
+        let f = follows gives in
         let most : h'.limit ≡ limit = gives.limit ∙ g.limit_is in
         let rest = (later.slot_of Input).left in
-        ends later h' next.TooLong gives TooLong f.2
+        ends gives TooLong f.2
         (λ t. (
-          ap (lines_taken limit) (left-behind later h' next.TooLong gives t) ∙ ap (λ n. lines_taken n ((g.bytes ++ gives.bytes) ++ rest)) (sym most) ∙ f.1 rest,
+          ap (lines_taken limit) (left-behind gives t) ∙ ap (λ n. lines_taken n ((g.bytes ++ gives.bytes) ++ rest)) (sym most) ∙ f.1 rest,
           sym
               (ap (λ (b : Bool). if b then TooLong else EndOfInput)
-              (ap (λ bs. nat_lt limit (length bs)) (left-behind later h' next.TooLong gives t)
+              (ap (λ bs. nat_lt limit (length bs)) (left-behind gives t)
               ∙ lt-ltb limit (length ((g.bytes ++ gives.bytes) ++ rest)) (omega (arith, f.0, most, length-append (g.bytes ++ gives.bytes) rest)))),
         ))
 
-  module _ (now : State) (h : Held) (R : List Step) (line : Line) (g : GoesTo now h R (line ∷ [])) where
+  module _ {now : State} {h : Held} {R : List Step} {line : Line} (g : GoesTo now h R (line ∷ [])) where
     abbrev reply : List ℕ
     reply = answer K policy seed R (asked K line)
 
@@ -262,10 +256,10 @@ module _ (told : Told) (K : System) (policy : Policy) (seed limit : ℕ) (old : 
 
     -- the text of the session goes on by the answer
     goes-on-by : IsTrue told.left → (more : List ℕ) × (session_text K policy seed limit (old.slot_of Input).left ≡ g.text ++ (reply ++ more))
-    goes-on-by t = let q = text-is now h R (line ∷ []) g t in (behind_it q.0, q.1)
+    goes-on-by t = let q = text-is g t in (behind_it q.0, q.1)
 
     -- A WRITE FAILS
-    pub write-cut : (later : State) → AddsFront told Report reply now later → Cut later Fault
+    write-cut : (later : State) → AddsFront told Report reply now later → Cut later Fault
     write-cut later w =
         let part = take w.count reply in
         let rest = drop w.count reply in
@@ -287,9 +281,9 @@ module _ (told : Told) (K : System) (policy : Policy) (seed limit : ℕ) (old : 
           };
         }
 
-    module _ (later : State) (w : Adds told Report reply now later) where
+    module _ {later : State} (w : Adds told Report reply now later) where
       -- IT IS ANSWERED
-      pub replies : is_quit (asked K line) ≡ false → GoesTo later h (after K policy seed R (asked K line)) []
+      replies : is_quit (asked K line) ≡ false → GoesTo later h (after K policy seed R (asked K line)) []
       replies not_quit = record {
         bytes = g.bytes;
         given = g.given ++ line ∷ [];
@@ -313,19 +307,19 @@ module _ (told : Told) (K : System) (policy : Policy) (seed limit : ℕ) (old : 
       }
 
       -- IT IS ANSWERED AND ENDS THE SESSION
-      pub quits-there : is_quit (asked K line) ≡ true → Ends later Quit
+      quits-there : is_quit (asked K line) ≡ true → Ends later Quit
       quits-there quit = record {
         text = g.text ++ reply;
         says = says-write told K policy seed limit old now later g.text g.says reply w.only (adds-only told reply now later w) w.end;
         counts = counts-write told K policy seed limit old now later g.counts reply w;
         all = λ t.
-            let q = text-is now h R (line ∷ []) g t in
+            let q = text-is g t in
             sym
             (q.1
             ∙ ap (λ (b : Bool). g.text ++ (reply ++ (if b then [] else over (after K policy seed R (asked K line)) q.0))) quit
             ∙ ap (λ bs. g.text ++ bs) (append-nil reply));
         by = λ t.
-            let q = lines-are now h R (line ∷ []) g t in
+            let q = lines-are g t in
             sym
             (ap (λ (b : Bool). if b then Quit else if nat_lt limit (length (old.slot_of Input).left) then TooLong else EndOfInput)
             (ap (list_any (quits_at told K policy seed limit old)) q.1
@@ -339,51 +333,49 @@ module _ (told : Told) (K : System) (policy : Policy) (seed limit : ℕ) (old : 
         };
       }
 
-  module _ (now later : State) (h h' : Held) (R : List Step) where
+  module _ {now mid : State} {h h' : Held} {R : List Step} where
     -- WHAT IS HEARD is a line that waits, or the end
-    pub heard-line : (found : Found) → Hears told K now later h h' (Asks found) → GoesTo now h R []
-        → (line : Line) × (plain found ≡ asked K line) × GoesTo later h' R (line ∷ [])
-    heard-line found q g = on q.found q.gives q.is
+    heard-line : {found : Found} → Hears told K now mid h h' (Asks found) → GoesTo now h R []
+        → (line : Line) × (plain found ≡ asked K line) × GoesTo mid h' R (line ∷ [])
+    heard-line {found} q g = on q.found q.gives q.is
       where
-        on : (n : Next) → Gives told now later h h' n → IsHeard K h' n (Asks found)
-            → (line : Line) × (plain found ≡ asked K line) × GoesTo later h' R (line ∷ [])
-        on next.Line gives is = (Whole h'.line, is, hears now h R g later h' next.Line gives (Whole h'.line) (follows now h R g later h' next.Line gives))
-        on next.Long gives is = (lines.Long, is, hears now h R g later h' next.Long gives lines.Long (follows now h R g later h' next.Long gives))
+        on : (n : Next) → Gives told now mid h h' n → IsHeard K h' n (Asks found)
+            → (line : Line) × (plain found ≡ asked K line) × GoesTo mid h' R (line ∷ [])
+        on next.Line gives is = (Whole h'.line, is, hears g gives (Whole h'.line) (follows g gives))
+        on next.Long gives is = (lines.Long, is, hears g gives lines.Long (follows g gives))
         on next.Ended gives is = absurd is
         on next.TooLong gives is = absurd is
 
-    pub heard-end : (e : Ended) → Hears told K now later h h' (heard.Ends e) → GoesTo now h R [] → Ends later e
-    heard-end e q g = on q.found q.gives q.is
+    pub heard-end : {e : Ended} → Hears told K now mid h h' (heard.Ends e) → GoesTo now h R [] → Ends mid e
+    heard-end {e} q g = on q.found q.gives q.is
       where
-        on : (n : Next) → Gives told now later h h' n → IsHeard K h' n (heard.Ends e) → Ends later e
+        on : (n : Next) → Gives told now mid h h' n → IsHeard K h' n (heard.Ends e) → Ends mid e
         on next.Line gives is = absurd is
         on next.Long gives is = absurd is
-        on next.Ended gives is = subst (λ (x : Ended). Ends later x) (sym is) (input-ends now h R g later h' gives)
-        on next.TooLong gives is = subst (λ (x : Ended). Ends later x) (sym is) (input-too-long now h R g later h' gives)
+        on next.Ended gives is = rw is (input-ends g gives)
+        on next.TooLong gives is = rw is (input-too-long g gives)
 
-    -- A LINE THAT WAITS IS ANSWERED
-    pub answered : (line : Line) (S : List Step) (end : Option Ended) → GoesTo now h' R (line ∷ [])
-        → Adds told Report (answer K policy seed R (asked K line)) now later →
-        S ≡ after K policy seed R (asked K line) → end ≡ (if is_quit (asked K line) then Some Quit else None)
+    -- THE LINE IS ANSWERED
+    pub answered : {found : Found} → Hears told K now mid h h' (Asks found) → GoesTo now h R [] → {later : State} {S : List Step} {end : Option Ended}
+        → Adds told Report (answer K policy seed R (plain found)) mid later →
+        S ≡ after K policy seed R (plain found) → end ≡ (if is_quit (plain found) then Some Quit else None)
         → Turns told K policy seed limit old later h' S end
-    answered line S end g w sets ends =
-        by_case (is_quit (asked K line)) _
-        (λ quit.
-        subst (λ (x : Option Ended). Turns told K policy seed limit old later h' S x) (sym (ends ∙ ap (λ (b : Bool). if b then Some Quit else None) quit))
-        (quits-there now h' R line g later w quit))
-        (λ not_quit.
-        subst (λ (x : Option Ended). Turns told K policy seed limit old later h' S x) (sym (ends ∙ ap (λ (b : Bool). if b then Some Quit else None) not_quit))
-        (subst (λ T. GoesTo later h' T []) (sym sets) (replies now h' R line g later w not_quit)))
+    answered q g {later} {S} w sets ends =
+        let x = heard-line q g in
+        let line = x.0 in
+        let write = rw x.1 at w in
+        subst (λ (x : Option Ended). Turns told K policy seed limit old later h' S x) (sym (rw x.1 at ends))
+        (by_case (is_quit (asked K line)) _ (λ quit. rw quit (quits-there x.2 write quit)) (λ not_quit. rw (not_quit, sets, x.1) (replies x.2 write not_quit)))
 
-    pub unanswered : (line : Line) (fault : Stop) → GoesTo now h' R (line ∷ []) → NotWritten told (answer K policy seed R (asked K line)) now later fault
-        → Cut later fault
-    unanswered line Fault g w = write-cut now h' R line g later w
-    unanswered line Memory g e = subst (λ s. Cut s Memory) (sym e) (memory-cut now h' R (line ∷ []) g)
+    pub unanswered : {found : Found} → Hears told K now mid h h' (Asks found) → GoesTo now h R [] → (later : State) (fault : Stop)
+        → NotWritten told (answer K policy seed R (plain found)) mid later fault → Cut later fault
+    unanswered q g later Fault w = let x = heard-line q g in write-cut x.2 later (rw x.1 at w)
+    unanswered q g later Memory e = rw e (memory-cut (heard-line q g).2)
 
 -- what is asked is what some line asks
-pub heard-asked : (told : Told) (K : System) (now later : State) (h h' : Held) (found : Found) → Hears told K now later h h' (Asks found)
+pub heard-asked : {told : Told} {K : System} {now later : State} {h h' : Held} {found : Found} → Hears told K now later h h' (Asks found)
     → (line : Line) × (plain found ≡ asked K line)
-heard-asked told K now later h h' found q = on q.found q.is
+heard-asked {K} {h'} {found} q = on q.found q.is
   where
     on : (n : Next) → IsHeard K h' n (Asks found) → (line : Line) × (plain found ≡ asked K line)
     on next.Line is = (Whole h'.line, is)

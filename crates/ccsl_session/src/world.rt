@@ -66,11 +66,7 @@ fn reply<W: World>(
     let quits = asked.is_quit();
     session.answer(asked)?;
     write_all(world, Slot::Report, &session.text)?;
-    if quits {
-        Ok(Some(Ended::Quit))
-    } else {
-        Ok(None)
-    }
+    Ok(quits.then_some(Ended::Quit))
 }
 
 // Answers the next line, or tells how the session has ended.

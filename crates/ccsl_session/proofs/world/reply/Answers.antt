@@ -1,37 +1,18 @@
-use Rattle.std.proofs.Common.{◌∙◌, List, ℕ, Bool, Some, None, sym, ap, subst, if◌then◌else◌}
-use Rattle.ccsl_edge.specs.declared.slot.Slot.TheVariants.{Report}
-use Rattle.ccsl_edge.specs.Calls.{Adds}
+use Rattle.std.proofs.Common.{◌≡◌, ◌∙◌, Bool, true, false, Some, None, if◌then◌else◌, refl, ap}
+use Rattle.std.specs.Bool.{then_some}
 use Rattle.ccsl_session.specs.declared.answer.Ended.TheVariants.{Quit}
 use Rattle.ccsl_session.proofs.world.reply.Goals as goal
 
-pub returns-then-quits-clause-replies : goal.returns-then-quits-clause-replies
-returns-then-quits-clause-replies g c =
-    let session = c.args.session.now in
-    let done = c.in_ok-answer.ensures.answers in
-    record {
-      adds =
-          subst (λ (bs : List ℕ). Adds g.W.World.told Report bs (g.W.World.state c.args.world.now) (g.W.World.state c.write_all.new.world))
-          (c.deref.ensures.value ∙ done.text) c.in_ok-write_all.ensures.ok;
-      sets = done.sets;
-      stands = done.stands;
-      ends =
-          sym
-          (ap (λ (b : Bool). if b then Some Quit else None)
-          (sym c.is_quit-quits.ensures ∙ c.if-quits.true));
-    }
+if-quits : (b : Bool) → then_some b Quit ≡ (if b then Some Quit else None)
+if-quits true = refl
+if-quits false = refl
 
-pub returns-else-quits-clause-replies : goal.returns-else-quits-clause-replies
-returns-else-quits-clause-replies g c =
-    let session = c.args.session.now in
+pub returns-clause-replies : goal.returns-clause-replies
+returns-clause-replies g c =
     let done = c.in_ok-answer.ensures.answers in
     record {
-      adds =
-          subst (λ (bs : List ℕ). Adds g.W.World.told Report bs (g.W.World.state c.args.world.now) (g.W.World.state c.write_all.new.world))
-          (c.deref.ensures.value ∙ done.text) c.in_ok-write_all.ensures.ok;
+      adds = rw (← done.text, ← c.deref.ensures.value) c.in_ok-write_all.ensures.ok;
       sets = done.sets;
       stands = done.stands;
-      ends =
-          sym
-          (ap (λ (b : Bool). if b then Some Quit else None)
-          (sym c.is_quit-quits.ensures ∙ c.if-quits.false));
+      ends = c.then_some.ensures ∙ if-quits c.is_quit-quits.result ∙ ap (λ b. if b then Some Quit else None) c.is_quit-quits.ensures;
     }
