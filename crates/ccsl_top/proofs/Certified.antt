@@ -4,6 +4,7 @@ use Rattle.std.proofs.Common.{cond, refl, sym, ap, ◌∙◌, subst, arith, leng
 use Rattle.std.specs.List.{AllByRecursion}
 use Rattle.std.proofs.lemmas.Bool.{and_parts, le-leb, both_ways}
 use Rattle.std.proofs.lemmas.List.{length-map}
+use Rattle.std.proofs.lemmas.Option.{slice_get_within}
 use Rattle.std.proofs.lemmas.List.Elements.{All-from_recursion}
 use Rattle.ccsl_base.specs.declared.limits.TheConstants.{MAX_FILE_BYTES}
 use Rattle.ccsl_base.specs.declared.rows.Row.{Row}
@@ -29,6 +30,7 @@ use Rattle.ccsl_refute.specs.Validity.{ends_empty, is_certificate}
 use Rattle.ccsl_refute.specs.Writing.{line_text, lines_text}
 use Rattle.ccsl_refute.specs.LineLiterals.{literals}
 use Rattle.ccsl_refute.specs.Reading as certificates
+use Rattle.ccsl_solve.proofs.Lines.{line-within}
 use Rattle.ccsl_certify.specs.declared.answer.CertVerdict.TheVariants.{Yes}
 use Rattle.ccsl_vcd.specs.declared.fault.VcdFault.{VcdFault}
 use Rattle.ccsl_vcd.specs.Reading.{reading}
@@ -46,29 +48,20 @@ use Rattle.ccsl_top.proofs.Certifying.{NoBadLine, verdict-outcome}
 
 -- THE NUMBERS of a certificate are those of its items and of its lines
 
-get-below : {A : Type 0} (xs : List A) (i : ℕ) (x : A) → slice_get xs i ≡ Some x → i < length xs
-get-below [] i x e = absurd (cc)
-get-below (y ∷ ys) zero x e = omega arith
-get-below (y ∷ ys) (suc i) x e = let l = get-below ys i x e in omega (arith, l)
-
-at-below : (lines : List Line) (j : ℕ) (line : Line) → line_at lines j ≡ Some line → j ≤ length lines
-at-below lines zero line e = omega arith
-at-below lines (suc i) line e = let l = get-below lines i line e in omega (arith, l)
-
 module _ (declared : ℕ) (lines : List Line) where
   fails-below : (p : Part) (j : ℕ) → fails_at declared lines p j ≡ true → j ≤ length lines
   fails-below p j e = of-line (line_at lines j) refl e
     where
       of-line : (found : Option Line) → line_at lines j ≡ found → fails_line declared p found ≡ true → j ≤ length lines
       of-line None is e = absurd (both_ways false refl e)
-      of-line (Some line) is e = at-below lines j line is
+      of-line (Some line) is e = line-within lines j line is
 
   unit-below : (p : Part) (j : ℕ) (l : Lit) → unit_at declared lines p j ≡ Some l → j ≤ length lines
   unit-below p j l e = of-line (line_at lines j) refl e
     where
       of-line : (found : Option Line) → line_at lines j ≡ found → unit_line declared p found ≡ Some l → j ≤ length lines
       of-line None is e = absurd (cc)
-      of-line (Some line) is e = at-below lines j line is
+      of-line (Some line) is e = line-within lines j line is
 
   hints-below : (n : ℕ) → length lines < n → (p : Part) (hints : List ℕ) → closes declared lines p hints ≡ true → AllBelow n hints
   hints-below n few p [] e = tt
@@ -86,7 +79,7 @@ item-below formulas item lits e = of-formula (slice_get formulas item) refl e
   where
     of-formula : (found : Option Formula) → slice_get formulas item ≡ found → is_refuted (falsified lits) found ≡ true → item < length formulas
     of-formula None is e = absurd (both_ways false refl e)
-    of-formula (Some f) is e = get-below formulas item f is
+    of-formula (Some f) is e = slice_get_within formulas item f is
 
 module _ (scope : Scope) (formulas : List Formula) (few : length formulas < 2 ^ 32) where
   line-fits : (earlier : List Line) → length earlier < 2 ^ 64 → (line : Line) → is_valid scope formulas earlier line ≡ true → NumbersFit line

@@ -1,5 +1,5 @@
 -- A certificate that `simulate` writes is one that `certify` accepts.
-use Rattle.std.proofs.Common.{◌≡◌, ℕ, ◌<◌, ◌≤◌, List, Ok, All, length, true, sym, ap, ◌∙◌, subst, arith}
+use Rattle.std.proofs.Common.{◌≡◌, ℕ, ◌<◌, ◌≤◌, List, Ok, All, length, true, sym, subst, arith}
 use Rattle.ccsl_base.specs.declared.limits.TheConstants.{MAX_FILE_BYTES, MAX_STEPS}
 use Rattle.ccsl_base.specs.Names.{are_distinct}
 use Rattle.ccsl_base.specs.Name.{are_cert_names}
@@ -7,7 +7,6 @@ use Rattle.ccsl_formula.specs.declared.scope.Scope.{Scope}
 use Rattle.ccsl_formula.specs.Formula.{Formula}
 use Rattle.ccsl_kernel.specs.Syntax.{System}
 use Rattle.ccsl_kernel.specs.Lives.{Step}
-use Rattle.ccsl_kernel.specs.Verdict.{completed_rows}
 use Rattle.ccsl_kernel.specs.Accepted.{IsAccepted}
 use Rattle.ccsl_items.specs.Formulas.{item_formulas, scope_of}
 use Rattle.ccsl_policy.specs.declared.policies.Policy.{Policy}

@@ -1,5 +1,5 @@
 -- A yes of `certify` is a deadlock.
-use Rattle.std.proofs.Common.{◌≡◌, ℕ, List, Bool, true, false, cond, length, Option, Some, None, Result, Ok, Err, nat_lt, refl, sym, ap, ◌∙◌, subst}
+use Rattle.std.proofs.Common.{◌≡◌, ℕ, List, Bool, true, false, cond, length, Option, Some, None, Result, Ok, Err, nat_lt, refl}
 use Rattle.ccsl_base.specs.declared.limits.TheConstants.{MAX_FILE_BYTES}
 use Rattle.ccsl_base.specs.declared.rows.Row.{Row}
 use Rattle.ccsl_formula.specs.declared.scope.Scope.{Scope}
@@ -17,7 +17,7 @@ use Rattle.ccsl_vcd.specs.Rows.{recorded}
 use Rattle.ccsl_bind.specs.Collected.{wanted_of}
 use Rattle.ccsl_items.specs.Formulas.{item_formulas, scope_of}
 use Rattle.ccsl_kernel.specs.Verdict as kernel
-use Rattle.ccsl_report.specs.Texts.{cert_valid_text, cert_too_long_text}
+use Rattle.ccsl_report.specs.Texts.{cert_too_long_text}
 use Rattle.ccsl_top.specs.Outcome.{Outcome, outcome}
 use Rattle.ccsl_vcd.specs.declared.limits.TheConstants.{LIMITS}
 use Rattle.ccsl_top.specs.Judge.{clocks_in, judged, behind_fault}

@@ -1,5 +1,5 @@
 -- What is explained behind a run, and behind a trace.
-use Rattle.std.proofs.Common.{◌≡◌, ℕ, List, ◌++◌, length, Result, Ok, Err, IfOk, IfErr, IsTrue, inl, inr, refl, sym, ap, ap₂, ◌∙◌, subst, arith}
+use Rattle.std.proofs.Common.{◌≡◌, ℕ, List, ◌++◌, length, Result, Ok, Err, IfOk, IfErr, IsTrue, inl, inr, refl, sym, ap, ap₂, ◌∙◌, subst}
 use Rattle.std.specs.Prelude.{codes}
 use Rattle.ccsl_base.specs.declared.rows.Row.{Row}
 use Rattle.ccsl_edge.specs.declared.slot.Slot.TheVariants.{Trace}

@@ -1,5 +1,5 @@
 -- Commands that name a specification: what each answers on its system, and where the reading ends.
-use Rattle.std.proofs.Common.{◌≡◌, ◌≢◌, ℕ, List, [], ◌∷◌, Option, Some, None, Result, Ok, IfOk, IfErr, IsTrue, sym, ap, ◌∙◌, subst}
+use Rattle.std.proofs.Common.{◌≡◌, ◌≢◌, ℕ, List, [], ◌∷◌, Option, Some, None, Ok, IsTrue, sym, ap, ◌∙◌, subst}
 use Rattle.ccsl_edge.specs.declared.slot.Slot.{Slot}
 use Rattle.ccsl_edge.specs.declared.slot.Slot.TheVariants.{Spec}
 use Rattle.ccsl_edge.specs.declared.stop.Stop.{Stop}
@@ -22,7 +22,7 @@ use Rattle.ccsl_top.specs.Program.{IsSpecOutcome, IsOutcomeOf}
 use Rattle.ccsl_top.specs.Opening.{AreAllowed}
 use Rattle.ccsl_top.specs.Changes.{Reads}
 use Rattle.ccsl_top.specs.Reading.{only, IsStop}
-use Rattle.ccsl_top.specs.Specified.{spec_of, IsSpecified}
+use Rattle.ccsl_top.specs.Specified.{spec_of}
 use Rattle.ccsl_top.specs.Answered.{AnswersTo, StopsAt}
 use Rattle.ccsl_top.proofs.Behind.{with_spec, spec-refused, reading-stops}
 
@@ -91,13 +91,3 @@ module _ (told : Told) (c : Command) (spec : List ℕ) (named : spec_of c ≡ So
       (IsTrue told.files → IsTrue told.left → IsRefusedWith (held s.files spec) reply.line.items) → AnswersTo told c reply s t
   refused reads reply status is = λ words means.
       spec-refused told words c means spec (behind_of c) (opens-behind c spec named) (IsAnswerOn c) (outcome-on c spec named) s t reads reply status is
-
--- what is answered to a command is answered to one that is the same
-module _ (told : Told) (K : System) (now new : State) (r : Result Reply Stop) (c d : Command) (is : c ≡ d) where
-  pub answers-on : ((start : State) → IsSpecified told d K start now → IfOk r (λ reply. AnswersTo told d reply start new)) →
-      (start : State) → IsSpecified told c K start now → IfOk r (λ reply. AnswersTo told c reply start new)
-  answers-on p = rw is p
-
-  pub stops-on : ((start : State) → IsSpecified told d K start now → IfErr r (λ stop. StopsAt told d stop start new)) →
-      (start : State) → IsSpecified told c K start now → IfErr r (λ stop. StopsAt told c stop start new)
-  stops-on p = rw is p

@@ -1,5 +1,5 @@
 -- What the parts of `certify` answer and leave.
-use Rattle.std.specs.Prelude.{◌≡◌, ◌≢◌, ◌⊎◌, ℕ, ◌<◌, Bool, ◌||◌, Result, Ok, Err, IfOk, IfErr, IsTrue, List, codes}
+use Rattle.std.specs.Prelude.{◌≡◌, ◌⊎◌, ℕ, ◌<◌, Bool, ◌||◌, Result, Ok, Err, IfOk, IfErr, IsTrue, List, codes}
 use Rattle.ccsl_edge.specs.declared.slot.Slot.{Slot}
 use Rattle.ccsl_edge.specs.declared.slot.Slot.TheVariants.{Trace, Cert}
 use Rattle.ccsl_edge.specs.World.{State, Told, held}

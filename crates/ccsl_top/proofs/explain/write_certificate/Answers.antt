@@ -4,25 +4,13 @@ use Rattle.ccsl_top.proofs.explain.write_certificate.Goals as goal
 
 pub returns-in_err-write_all-clause-breaks : goal.returns-in_err-write_all-clause-breaks
 returns-in_err-write_all-clause-breaks g c =
-    let r = c.from_residual-in_err-write_all in
-    let p = err_from_is_err_and r.result r.ensures.1 in
-    rw p.1
-    (unwritten-breaks g.W.World.told c.args.cert.now c.args.text.now (g.W.World.state c.args.world.now) (g.W.World.state c.open_out.new.self)
-    c.in_ok-open_out.ensures.ok
-    (g.W.World.state c.write_all.new.world) c.in_err-write_all.ensures.err)
+    let p = err_from_is_err_and c.from_residual-in_err-write_all.result c.from_residual-in_err-write_all.ensures.1 in
+    rw p.1 (unwritten-breaks c.in_ok-open_out.ensures.ok c.in_err-write_all.ensures.err)
 
 pub returns-clause-whole : goal.returns-clause-whole
 returns-clause-whole g c =
-    on_ok_weaker c.close_out.result
-    (λ closes. closed-whole g.W.World.told c.args.cert.now c.args.text.now (g.W.World.state c.args.world.now) (g.W.World.state c.open_out.new.self)
-    c.in_ok-open_out.ensures.ok
-    (g.W.World.state c.write_all.new.world) c.in_ok-write_all.ensures.ok (g.W.World.state c.close_out.new.self) closes)
-    c.close_out.ensures.ok
+    on_ok_weaker c.close_out.result (λ closes. closed-whole c.in_ok-open_out.ensures.ok c.in_ok-write_all.ensures.ok closes) c.close_out.ensures.ok
 
 pub returns-clause-breaks : goal.returns-clause-breaks
 returns-clause-breaks g c =
-    on_err_weaker c.close_out.result
-    (λ fails. unclosed-breaks g.W.World.told c.args.cert.now c.args.text.now (g.W.World.state c.args.world.now) (g.W.World.state c.open_out.new.self)
-    c.in_ok-open_out.ensures.ok
-    (g.W.World.state c.write_all.new.world) c.in_ok-write_all.ensures.ok (g.W.World.state c.close_out.new.self) fails)
-    c.close_out.ensures.err
+    on_err_weaker c.close_out.result (λ fails. unclosed-breaks c.in_ok-open_out.ensures.ok c.in_ok-write_all.ensures.ok fails) c.close_out.ensures.err
