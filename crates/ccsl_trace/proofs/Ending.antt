@@ -30,12 +30,12 @@ pub record Finished (wanted : Wanted) (limits : Limits) (bytes : List ℕ) (befo
   pub shows_are : shows after.reading ≡ shown_at (reading wanted limits bytes).place
 
 -- the reader's word on the bytes that it took, where none are pending
-pub finished : (wanted : Wanted) (limits : Limits) (bytes : List ℕ) (feed feed' : Feeding) (rows : List Row) (n : Counts)
+pub finished : {wanted : Wanted} {limits : Limits} {bytes : List ℕ} {feed feed' : Feeding} {rows : List Row} {n : Counts}
     (r : Runs wanted limits bytes feed rows) → feed.pending ≡ [] → (reading wanted feed.reading.limits r.taken).fault ≡ None
     → Pushes (done wanted feed.reading.limits r.taken) (recorded wanted feed.reading.limits r.taken) feed.block.rows feed'.block.rows
     → AreCounts wanted feed.reading.limits r.taken n.rows n.bytes
     → shows feed'.reading ≡ shown_at (reading wanted feed.reading.limits r.taken).place → Finished wanted limits bytes feed feed' n
-finished wanted limits bytes feed feed' rows n r none fine pushes counts shown =
+finished {wanted} {limits} {feed} {feed'} {n} r none fine pushes counts shown =
     subst (λ xs. Finished wanted limits xs feed feed' n) (sym (r.all ∙ ap (λ xs. r.taken ++ xs) none ∙ append-nil r.taken))
     (subst (λ (x : Limits). Finished wanted x r.taken feed feed' n) r.limits_are (record { fine = fine; pushes = pushes; counts = counts; shows_are = shown }))
 
@@ -55,7 +55,7 @@ pub is-shown : {A : Type 0} (f : A → List ℕ) (o : Option A) (shown : Option 
     → (bound : List ℕ) × (shown ≡ Some bound)
 is-shown f o shown e h = some-of shown (sym (ap is_some e) ∙ is_some-map f o ∙ h)
 
-module _ (wanted : Wanted) (limits : Limits) (bytes : List ℕ) (feed feed' : Feeding) (rows : List Row) (n : Counts) (small : n.rows < 2 ^ 64)
+module _ {wanted : Wanted} {limits : Limits} {bytes : List ℕ} {feed feed' : Feeding} {rows : List Row} (n : Counts) (small : n.rows < 2 ^ 64)
     (r : Runs wanted limits bytes feed rows) (fresh : feed.handed ≡ false) (none : feed.pending ≡ []) (q : Finished wanted limits bytes feed feed' n) where
   pub all-taken : bytes ≡ r.taken
   all-taken = r.all ∙ ap (λ xs. r.taken ++ xs) none ∙ append-nil r.taken

@@ -69,7 +69,7 @@ none-left told count old new piece r none tells =
     let whole : piece ≡ r.bytes = r.piece_is ∙ take_all (2 ^ 64 - 1) r.bytes (omega (arith, r.count_is, r.few)) in
     r.ended tells (sym r.count_is ∙ ap length (sym whole) ∙ ap length none)
 
-module _ (told : Told) (wanted : Wanted) (limits : Limits) (start now : State) (feed : Feeding) (rows : List Row)
+module _ {told : Told} {wanted : Wanted} {limits : Limits} {start now : State} {feed : Feeding} {rows : List Row}
     (f : Feeds told wanted limits start now feed rows) where
   -- a trace that has not ended is still running
   pub runs-of : feed.ended ≡ None → Runs wanted limits f.bytes feed rows

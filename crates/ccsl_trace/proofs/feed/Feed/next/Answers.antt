@@ -5,8 +5,7 @@ use Rattle.ccsl_trace.proofs.feed.Feed.next.Goals as goal
 
 pub returns-in-Some-clause-gives : goal.returns-in-Some-clause-gives
 returns-in-Some-clause-gives g c = λ wanted limits start rows f.
-    ends-after g.W.World.told wanted limits start (g.W.World.state c.args.world.now) c.args.self.now rows f c.in-Some.counts
-    (sym (ap (λ (x : Feeding). x.ended) c.self.view_is) ∙ c.in-Some.is)
+    ends-after f c.in-Some.counts (sym (ap (λ (x : Feeding). x.ended) c.self.view_is) ∙ c.in-Some.is)
 
 pub step-requires-clause-feeds : goal.step-requires-clause-feeds
 step-requires-clause-feeds g c =

@@ -1,16 +1,13 @@
-use Rattle.std.proofs.Common.{sym, ap, ◌∙◌, subst, refl}
+use Rattle.std.proofs.Common.{ap, ◌∙◌, refl}
 use Rattle.std.proofs.lemmas.Bool.{not-false}
-use Rattle.ccsl_trace.specs.Feeding.{Feeding, Feeds}
+use Rattle.ccsl_trace.specs.Feeding.{Feeding}
 use Rattle.ccsl_trace.proofs.Stepping.{refilled, none-left}
 use Rattle.ccsl_trace.proofs.feed.Feed.refill.Goals as goal
 
 pub returns-clause-feeds : goal.returns-clause-feeds
 returns-clause-feeds g c = λ wanted limits start rows f.
-    let ended = ap (λ (x : Feeding). x.ended) c.self.view_is ∙ c.requires.ended in
-    let none = c.is_empty.ensures.0 c.if-not-is_empty.false in
-    let s = subst (λ x. Feeds g.W.World.told wanted limits start (g.W.World.state c.args.world.now) x rows) (sym c.self.view_is) f in
-    refilled g.W.World.told wanted limits start (g.W.World.state c.args.world.now) _ rows s (g.W.World.state c.refill.new.world) _ _ ended none refl
-    c.in-Ok.ensures.ok
+    refilled (rw (← c.self.view_is) at f) (g.W.World.state c.refill.new.world) _ _ (ap (λ (x : Feeding). x.ended) c.self.view_is ∙ c.requires.ended)
+    (c.is_empty.ensures.0 c.if-not-is_empty.false) refl c.in-Ok.ensures.ok
 
 pub returns-clause-left : goal.returns-clause-left
 returns-clause-left g c = λ empty tells. none-left _ _ _ _ _ c.in-Ok.ensures.ok (c.is_empty-2.ensures.0 (not-false c.is_empty-2.result empty)) tells
