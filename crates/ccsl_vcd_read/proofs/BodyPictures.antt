@@ -46,36 +46,6 @@ row-given b st s =
     ticking-marks b.binding.codes s.old s.cur b.binding.bound ∙ ap ticking (sym s.marks) in
     ap (λ (ts : List ℕ). filter has_ticks (record { time = b.present; ticks = ts } ∷ [])) e
 
--- a refusal
-refuses : (b : Body) (st : Story) (s : Shows b st) (f : VcdFault) → Hears st (told (s.old ++ s.cur) (p.body (place_of b s.declared)) (p.refused f)) (Err f)
-refuses b st s f = (refl, ap (λ (t : Story). t.place) (sym s.told), ap complete (sym s.told))
-
-same-rows : (b c : Body) (st next : Story) (s : Shows b st) (t : Shows c next) → c.binding ≡ b.binding → t.old ≡ s.old → complete next ≡ complete st ++ []
-same-rows b c st next s t e f =
-    complete-is c next t ∙ ap (λ v. rows v.bound t.old) e ∙ ap (rows b.binding.bound) f ∙ sym (complete-is b st s) ∙ sym (append-nil (complete st))
-
--- a token without a change, at the same time
-quiet : (b : Body) (st : Story) (s : Shows b st) (a : Amid) (d : Bool)
-    → Shows (record b { amid = a; dumping = d })
-    (told (s.old ++ s.cur) (p.body (place_of b s.declared)) (p.goes (p.body (place_of (record b { amid = a; dumping = d }) s.declared)) []))
-quiet b st s a d = record {
-  declared = s.declared;
-  old = s.old;
-  cur = s.cur;
-  told = ap (λ cs. tale cs (record b { amid = a; dumping = d }) s.declared) (append-nil (s.old ++ s.cur));
-  earlier = s.earlier;
-  current = s.current;
-  codes = s.codes;
-  bound = s.bound;
-  marks = s.marks;
-}
-
-goes-quiet : (b : Body) (st : Story) (s : Shows b st) (a : Amid) (d : Bool)
-    → Hears st (told (s.old ++ s.cur) (p.body (place_of b s.declared)) (p.goes (p.body (place_of (record b { amid = a; dumping = d }) s.declared)) []))
-    (Ok (record b { amid = a; dumping = d }, []))
-unfolding quiet
-goes-quiet b st s a d = (quiet b st s a d, same-rows b _ st _ s (quiet b st s a d) refl refl)
-
 now-more : (now : ℕ) (cur : List p.Change) (c : p.Change) → Now now cur → c.time ≡ now → Now now (cur ++ c ∷ [])
 now-more now [] c n e = (e, tt)
 now-more now (d ∷ cur) c n e = (n.0, now-more now cur c n.1 e)
@@ -88,200 +58,207 @@ earlier-more : (now n : ℕ) (old cur : List p.Change) → now < n → Earlier n
 earlier-more now n [] cur h e k = now-earlier now n cur h k
 earlier-more now n (c ∷ old) cur h e k = (omega (arith, e.0), earlier-more now n old cur h e.1 k)
 
--- a change of a code that is declared
-abbrev change_at : Body → List ℕ → Bool → p.Change
-change_at b code one = record { time = b.present; code = code; one = one; dumped = b.dumping }
-
-abbrev after_change : Body → ℕ → Bool → Body
-after_change b n one = record b { amid = Changes; marks = map (put n one b.dumping) b.marks }
-
-change : (b : Body) (st : Story) (s : Shows b st) (code : List ℕ) (one : Bool) (n : ℕ) → number_of code b.binding.codes ≡ Some n
-    → Shows (after_change b n one)
-    (told (s.old ++ s.cur) (p.body (place_of b s.declared))
-    (p.goes (p.body (record (place_of b s.declared) { amid = p.changes })) (change_at b code one ∷ [])))
-change b st s code one n e = record {
-  declared = s.declared;
-  old = s.old;
-  cur = s.cur ++ change_at b code one ∷ [];
-  told = ap (λ cs. tale cs (after_change b n one) s.declared) (append_assoc s.old s.cur (change_at b code one ∷ []));
-  earlier = s.earlier;
-  current = now-more b.present s.cur (change_at b code one) s.current refl;
-  codes = s.codes;
-  bound = s.bound;
-  marks = ap (map (put n one b.dumping)) s.marks ∙ marks-put b.binding.codes s.old s.cur (change_at b code one) n b.binding.bound e s.bound;
-}
-
--- whether a code is declared, by its number
-declared-so : (b : Body) (st : Story) (s : Shows b st) (code : List ℕ) → is_declared s.declared code ≡ is_some (number_of code b.binding.codes)
-declared-so b st s code = declared-number s.declared code ∙ ap (λ cs. is_some (number_of code cs)) (sym s.codes)
-
-changed : (b : Body) (st : Story) (s : Shows b st) (at : ℕ) (text code : List ℕ) (one : Bool)
-    → Hears st (told (s.old ++ s.cur) (p.body (place_of b s.declared)) (Rattle.ccsl_vcd.specs.Body.changed (place_of b s.declared) (token at text) code one))
-    (changed_says b at code one)
-unfolding change
-changed b st s at text code one =
-    (elim (number_of code b.binding.codes) as (λ o. number_of code b.binding.codes ≡ o
-    → Hears st (told (s.old ++ s.cur) (p.body (place_of b s.declared))
-    (Rattle.ccsl_vcd.specs.Body.changed (place_of b s.declared) (token at text) code one)) (put_number b at one o)) [
-      | Some n ↦ λ e. rw (declared-so b st s code ∙ ap is_some e) (some n e)
-      | None ↦ λ e. rw (declared-so b st s code ∙ ap is_some e) (refuses b st s (faults.UnknownCode at))
-    ]) refl
-  where
-    some : (n : ℕ) → number_of code b.binding.codes ≡ Some n
-        → Hears st (told (s.old ++ s.cur) (p.body (place_of b s.declared))
-        (p.goes (p.body (record (place_of b s.declared) { amid = p.changes })) (change_at b code one ∷ []))) (Ok (after_change b n one, []))
-    some n e = (change b st s code one n e, same-rows b _ st _ s (change b st s code one n e) refl refl)
-
-skipped : (b : Body) (st : Story) (s : Shows b st) (at : ℕ) (code : List ℕ)
-    → Hears st (told (s.old ++ s.cur) (p.body (place_of b s.declared)) (body_says (place_of b s.declared) (token at code) p.code_skipped))
-    (skipped_says b at code)
-skipped b st s at code =
-    (elim (number_of code b.binding.codes) as (λ o. number_of code b.binding.codes ≡ o
-    → Hears st (told (s.old ++ s.cur) (p.body (place_of b s.declared)) (body_says (place_of b s.declared) (token at code) p.code_skipped))
-    (pass_number b at o)) [
-      | Some n ↦ λ e. rw (declared-so b st s code ∙ ap is_some e) (goes-quiet b st s Changes b.dumping)
-      | None ↦ λ e. rw (declared-so b st s code ∙ ap is_some e) (refuses b st s (faults.UnknownCode at))
-    ]) refl
-
--- a greater time
 abbrev pub at_time : Body → ℕ → Body
 at_time b n = record b { marks = map aged b.marks; present = n }
 
-later : (b : Body) (st : Story) (s : Shows b st) (n : ℕ) → b.present < n
-    → Shows (at_time b n) (told (s.old ++ s.cur) (p.body (place_of b s.declared)) (p.goes (p.body (record (place_of b s.declared) { now = n })) []))
-later b st s n h = record {
-  declared = s.declared;
-  old = s.old ++ s.cur;
-  cur = [];
-  told = refl;
-  earlier = earlier-more b.present n s.old s.cur h s.earlier s.current;
-  current = tt;
-  codes = s.codes;
-  bound = s.bound;
-  marks = ap (map aged) s.marks ∙ marks-aged b.binding.codes s.old s.cur b.binding.bound;
-}
+module _ (b : Body) (st : Story) (s : Shows b st) where
+  abbrev place : p.Body
+  place = place_of b s.declared
 
-later-rows : (b : Body) (st : Story) (s : Shows b st) (n : ℕ) → b.present < n
-    → complete (told (s.old ++ s.cur) (p.body (place_of b s.declared)) (p.goes (p.body (record (place_of b s.declared) { now = n })) [])) ≡ complete st
-    ++ row_of b
-unfolding later
-later-rows b st s n h =
-    complete-is (at_time b n) _ (later b st s n h) ∙ rows-all b.binding.bound b.present s.old s.cur s.earlier s.current
-    ∙ ap (λ rs. rows b.binding.bound s.old ++ rs) (row-given b st s) ∙ ap (λ rs. rs ++ row_of b) (sym (complete-is b st s))
+  -- the story behind a token
+  abbrev behind : p.Said → Story
+  behind said = told (s.old ++ s.cur) (p.body place) said
 
--- the present time once more
-again : (b : Body) (st : Story) (s : Shows b st) (n : ℕ) → n ≡ b.present
-    → Shows b (told (s.old ++ s.cur) (p.body (place_of b s.declared)) (p.goes (p.body (record (place_of b s.declared) { now = n })) []))
-again b st s n e = record {
-  declared = s.declared;
-  old = s.old;
-  cur = s.cur;
-  told = ap (λ cs. record { changes = cs; place = p.body (record (place_of b s.declared) { now = n }); fault = None }) (append-nil (s.old ++ s.cur))
-      ∙ ap (λ m. record { changes = s.old ++ s.cur; place = p.body (record (place_of b s.declared) { now = m }); fault = None }) e;
-  earlier = s.earlier;
-  current = s.current;
-  codes = s.codes;
-  bound = s.bound;
-  marks = s.marks;
-}
+  abbrev Said : p.Said → Result (Body × List Row) VcdFault → Type 0
+  Said said made = Hears st (behind said) made
 
-timed : (b : Body) (st : Story) (s : Shows b st) (at : ℕ) (text : List ℕ) (n : ℕ)
-    → Hears st (told (s.old ++ s.cur) (p.body (place_of b s.declared)) (change_says (place_of b s.declared) (token at text) (w.time n))) (time_says b at n)
-unfolding again
-timed b st s at text n =
-    (elim (nat_lt n b.present) as (λ v. nat_lt n b.present ≡ v
-    → Hears st (told (s.old ++ s.cur) (p.body (place_of b s.declared))
-    (cond v (p.refused (faults.TimeBack at b.present n)) (p.goes (p.body (record (place_of b s.declared) { now = n })) [])))
-    (cond v (Err (faults.TimeBack at b.present n)) (cond (nat_lt b.present n) (Ok (at_time b n, row_of b)) (Ok (b, []))))) [
-      | true ↦ λ _. refuses b st s (faults.TimeBack at b.present n)
-      | false ↦ λ e. onward e
-    ]) refl
-  where
-    same : n ≡ b.present → Hears st (told (s.old ++ s.cur) (p.body (place_of b s.declared)) (p.goes (p.body (record (place_of b s.declared) { now = n })) []))
-        (Ok (b, []))
-    same e = (again b st s n e, same-rows b b st _ s (again b st s n e) refl refl)
+  -- a refusal
+  refuses : (f : VcdFault) → Said (p.refused f) (Err f)
+  refuses f = (refl, ap (λ (t : Story). t.place) (sym s.told), ap complete (sym s.told))
 
-    onward : nat_lt n b.present ≡ false
-        → Hears st (told (s.old ++ s.cur) (p.body (place_of b s.declared)) (p.goes (p.body (record (place_of b s.declared) { now = n })) []))
-        (cond (nat_lt b.present n) (Ok (at_time b n, row_of b)) (Ok (b, [])))
-    onward e =
-        (elim (nat_lt b.present n) as (λ v. nat_lt b.present n ≡ v
-        → Hears st (told (s.old ++ s.cur) (p.body (place_of b s.declared)) (p.goes (p.body (record (place_of b s.declared) { now = n })) []))
-        (cond v (Ok (at_time b n, row_of b)) (Ok (b, [])))) [
-          | true ↦ λ g. (later b st s n (ltb-true _ _ g), later-rows b st s n (ltb-true _ _ g))
-          | false ↦ λ g.
-              let above : b.present ≤ n = ltb-false n b.present e in
-              let below : n ≤ b.present = ltb-false b.present n g in
-              let eq : n ≡ b.present = omega arith in
-              same eq
-        ]) refl
+  same-rows : (c : Body) (next : Story) (t : Shows c next) → c.binding ≡ b.binding → t.old ≡ s.old → complete next ≡ complete st ++ []
+  same-rows c next t e f =
+      complete-is c next t ∙ ap (λ v. rows v.bound t.old) e ∙ ap (rows b.binding.bound) f ∙ sym (complete-is b st s) ∙ sym (append-nil (complete st))
 
--- a dump block opens or closes
-opened : (b : Body) (st : Story) (s : Shows b st) (at : ℕ) (text : List ℕ)
-    → Hears st (told (s.old ++ s.cur) (p.body (place_of b s.declared)) (change_says (place_of b s.declared) (token at text) w.dump)) (word_says b at w.dump)
-opened b st s at text =
-    elim b.dumping as (λ d. Hears st
-    (told (s.old ++ s.cur) (p.body (place_of b s.declared))
-    (cond d (p.refused (faults.UnknownCommand at)) (p.goes (p.body (record (place_of b s.declared) { dumping = true })) [])))
-    (cond d (Err (faults.UnknownCommand at)) (Ok (record b { dumping = true }, [])))) [
-      | true ↦ refuses b st s (faults.UnknownCommand at)
-      | false ↦ goes-quiet b st s b.amid true
-    ]
+  -- a token without a change, at the same time
+  quiet : (a : Amid) (d : Bool)
+      → Shows (record b { amid = a; dumping = d }) (behind (p.goes (p.body (place_of (record b { amid = a; dumping = d }) s.declared)) []))
+  quiet a d = record {
+    declared = s.declared;
+    old = s.old;
+    cur = s.cur;
+    told = ap (λ cs. tale cs (record b { amid = a; dumping = d }) s.declared) (append-nil (s.old ++ s.cur));
+    earlier = s.earlier;
+    current = s.current;
+    codes = s.codes;
+    bound = s.bound;
+    marks = s.marks;
+  }
 
-closed : (b : Body) (st : Story) (s : Shows b st) (at : ℕ) (text : List ℕ)
-    → Hears st (told (s.old ++ s.cur) (p.body (place_of b s.declared)) (change_says (place_of b s.declared) (token at text) w.close)) (word_says b at w.close)
-closed b st s at text =
-    elim b.dumping as (λ d. Hears st
-    (told (s.old ++ s.cur) (p.body (place_of b s.declared))
-    (cond d (p.goes (p.body (record (place_of b s.declared) { dumping = false })) []) (p.refused (faults.UnknownCommand at))))
-    (cond d (Ok (record b { dumping = false }, [])) (Err (faults.UnknownCommand at)))) [
-      | true ↦ goes-quiet b st s b.amid false
-      | false ↦ refuses b st s (faults.UnknownCommand at)
-    ]
+  goes-quiet : (a : Amid) (d : Bool)
+      → Said (p.goes (p.body (place_of (record b { amid = a; dumping = d }) s.declared)) []) (Ok (record b { amid = a; dumping = d }, []))
+  unfolding quiet
+  goes-quiet a d = (quiet a d, same-rows _ _ (quiet a d) refl refl)
 
-gap : (b : Body) (st : Story) (s : Shows b st) (at : ℕ) (text : List ℕ)
-    → Hears st (told (s.old ++ s.cur) (p.body (place_of b s.declared)) (change_says (place_of b s.declared) (token at text) w.gap)) (word_says b at w.gap)
-gap b st s at text =
-    elim b.dumping as (λ d. Hears st
-    (told (s.old ++ s.cur) (p.body (place_of b s.declared)) (cond d (p.refused (faults.UnknownCommand at)) (p.refused (faults.Gap at))))
-    (cond d (Err (faults.UnknownCommand at)) (Err (faults.Gap at)))) [
-      | true ↦ refuses b st s (faults.UnknownCommand at)
-      | false ↦ refuses b st s (faults.Gap at)
-    ]
+  -- a change of a code that is declared
+  abbrev change_at : List ℕ → Bool → p.Change
+  change_at code one = record { time = b.present; code = code; one = one; dumped = b.dumping }
 
-says-word : (b : Body) (st : Story) (s : Shows b st) (at : ℕ) (text : List ℕ) (x : w.Word)
-    → Hears st (told (s.old ++ s.cur) (p.body (place_of b s.declared)) (change_says (place_of b s.declared) (token at text) x)) (word_says b at x)
-says-word b st s at text (w.time n) = timed b st s at text n
-says-word b st s at text (w.scalar one code) = changed b st s at text code one
-says-word b st s at text (w.vector one) = goes-quiet b st s (Code one) b.dumping
-says-word b st s at text w.skipped = goes-quiet b st s CodeSkipped b.dumping
-says-word b st s at text w.comment = goes-quiet b st s Remark b.dumping
-says-word b st s at text w.dump = opened b st s at text
-says-word b st s at text w.gap = gap b st s at text
-says-word b st s at text w.close = closed b st s at text
-says-word b st s at text w.bad_time = refuses b st s (faults.BadTime at)
-says-word b st s at text w.bad_change = refuses b st s (faults.BadChange at)
-says-word b st s at text w.unknown = refuses b st s (faults.UnknownCommand at)
+  abbrev after_change : ℕ → Bool → Body
+  after_change n one = record b { amid = Changes; marks = map (put n one b.dumping) b.marks }
 
-says-remark : (b : Body) (st : Story) (s : Shows b st) (at : ℕ) (text : List ℕ)
-    → Hears st (told (s.old ++ s.cur) (p.body (place_of b s.declared))
-    (cond (bytes_eq text (codes "$end")) (p.goes (p.body (record (place_of b s.declared) { amid = p.changes })) [])
-    (p.goes (p.body (place_of b s.declared)) []))) (remark_says b text)
-says-remark b st s at text =
-    elim (bytes_eq text (codes "$end")) as (λ v. Hears st
-    (told (s.old ++ s.cur) (p.body (place_of b s.declared))
-    (cond v (p.goes (p.body (record (place_of b s.declared) { amid = p.changes })) []) (p.goes (p.body (place_of b s.declared)) [])))
-    (cond v (Ok (record b { amid = Changes }, [])) (Ok (b, [])))) [
-      | true ↦ goes-quiet b st s Changes b.dumping
-      | false ↦ goes-quiet b st s b.amid b.dumping
-    ]
+  change : (code : List ℕ) (one : Bool) (n : ℕ) → number_of code b.binding.codes ≡ Some n
+      → Shows (after_change n one) (behind (p.goes (p.body (record place { amid = p.changes })) (change_at code one ∷ [])))
+  change code one n e = record {
+    declared = s.declared;
+    old = s.old;
+    cur = s.cur ++ change_at code one ∷ [];
+    told = ap (λ cs. tale cs (after_change n one) s.declared) (append_assoc s.old s.cur (change_at code one ∷ []));
+    earlier = s.earlier;
+    current = now-more b.present s.cur (change_at code one) s.current refl;
+    codes = s.codes;
+    bound = s.bound;
+    marks = ap (map (put n one b.dumping)) s.marks ∙ marks-put b.binding.codes s.old s.cur (change_at code one) n b.binding.bound e s.bound;
+  }
 
-hears-amid : (b : Body) (st : Story) (s : Shows b st) (at : ℕ) (text : List ℕ) (a : Amid)
-    → Hears st (told (s.old ++ s.cur) (p.body (place_of b s.declared)) (body_says (place_of b s.declared) (token at text) (amid_of a))) (hear_at b at text a)
-hears-amid b st s at text Changes = says-word b st s at text (w.word_of text)
-hears-amid b st s at text Remark = says-remark b st s at text
-hears-amid b st s at text (Code one) = changed b st s at text text one
-hears-amid b st s at text CodeSkipped = skipped b st s at text
+  -- whether a code is declared, by its number
+  declared-so : (code : List ℕ) → is_declared s.declared code ≡ is_some (number_of code b.binding.codes)
+  declared-so code = declared-number s.declared code ∙ ap (λ cs. is_some (number_of code cs)) (sym s.codes)
+
+  changed : (at : ℕ) (text code : List ℕ) (one : Bool) → Said (Rattle.ccsl_vcd.specs.Body.changed place (token at text) code one) (changed_says b at code one)
+  unfolding change
+  changed at text code one =
+      (elim (number_of code b.binding.codes) as (λ o. number_of code b.binding.codes ≡ o
+      → Said (Rattle.ccsl_vcd.specs.Body.changed place (token at text) code one) (put_number b at one o)) [
+        | Some n ↦ λ e. rw (declared-so code ∙ ap is_some e) (some n e)
+        | None ↦ λ e. rw (declared-so code ∙ ap is_some e) (refuses (faults.UnknownCode at))
+      ]) refl
+    where
+      some : (n : ℕ) → number_of code b.binding.codes ≡ Some n
+          → Said (p.goes (p.body (record place { amid = p.changes })) (change_at code one ∷ [])) (Ok (after_change n one, []))
+      some n e = (change code one n e, same-rows _ _ (change code one n e) refl refl)
+
+  skipped : (at : ℕ) (code : List ℕ) → Said (body_says place (token at code) p.code_skipped) (skipped_says b at code)
+  skipped at code =
+      (elim (number_of code b.binding.codes) as (λ o. number_of code b.binding.codes ≡ o
+      → Said (body_says place (token at code) p.code_skipped) (pass_number b at o)) [
+        | Some n ↦ λ e. rw (declared-so code ∙ ap is_some e) (goes-quiet Changes b.dumping)
+        | None ↦ λ e. rw (declared-so code ∙ ap is_some e) (refuses (faults.UnknownCode at))
+      ]) refl
+
+  -- a greater time
+  later : (n : ℕ) → b.present < n → Shows (at_time b n) (behind (p.goes (p.body (record place { now = n })) []))
+  later n h = record {
+    declared = s.declared;
+    old = s.old ++ s.cur;
+    cur = [];
+    told = refl;
+    earlier = earlier-more b.present n s.old s.cur h s.earlier s.current;
+    current = tt;
+    codes = s.codes;
+    bound = s.bound;
+    marks = ap (map aged) s.marks ∙ marks-aged b.binding.codes s.old s.cur b.binding.bound;
+  }
+
+  later-rows : (n : ℕ) → b.present < n → complete (behind (p.goes (p.body (record place { now = n })) [])) ≡ complete st ++ row_of b
+  unfolding later
+  later-rows n h =
+      complete-is (at_time b n) _ (later n h) ∙ rows-all b.binding.bound b.present s.old s.cur s.earlier s.current
+      ∙ ap (λ rs. rows b.binding.bound s.old ++ rs) (row-given b st s) ∙ ap (λ rs. rs ++ row_of b) (sym (complete-is b st s))
+
+  -- the present time once more
+  again : (n : ℕ) → n ≡ b.present → Shows b (behind (p.goes (p.body (record place { now = n })) []))
+  again n e = record {
+    declared = s.declared;
+    old = s.old;
+    cur = s.cur;
+    told = ap (λ cs. record { changes = cs; place = p.body (record place { now = n }); fault = None }) (append-nil (s.old ++ s.cur))
+        ∙ ap (λ m. record { changes = s.old ++ s.cur; place = p.body (record place { now = m }); fault = None }) e;
+    earlier = s.earlier;
+    current = s.current;
+    codes = s.codes;
+    bound = s.bound;
+    marks = s.marks;
+  }
+
+  timed : (at : ℕ) (text : List ℕ) (n : ℕ) → Said (change_says place (token at text) (w.time n)) (time_says b at n)
+  unfolding again
+  timed at text n =
+      (elim (nat_lt n b.present) as (λ v. nat_lt n b.present ≡ v
+      → Said (cond v (p.refused (faults.TimeBack at b.present n)) (p.goes (p.body (record place { now = n })) []))
+      (cond v (Err (faults.TimeBack at b.present n)) (cond (nat_lt b.present n) (Ok (at_time b n, row_of b)) (Ok (b, []))))) [
+        | true ↦ λ _. refuses (faults.TimeBack at b.present n)
+        | false ↦ λ e. onward e
+      ]) refl
+    where
+      same : n ≡ b.present → Said (p.goes (p.body (record place { now = n })) []) (Ok (b, []))
+      same e = (again n e, same-rows _ _ (again n e) refl refl)
+
+      onward : nat_lt n b.present ≡ false
+          → Said (p.goes (p.body (record place { now = n })) []) (cond (nat_lt b.present n) (Ok (at_time b n, row_of b)) (Ok (b, [])))
+      onward e =
+          (elim (nat_lt b.present n) as (λ v. nat_lt b.present n ≡ v
+          → Said (p.goes (p.body (record place { now = n })) []) (cond v (Ok (at_time b n, row_of b)) (Ok (b, [])))) [
+            | true ↦ λ g. (later n (ltb-true _ _ g), later-rows n (ltb-true _ _ g))
+            | false ↦ λ g.
+                let above : b.present ≤ n = ltb-false n b.present e in
+                let below : n ≤ b.present = ltb-false b.present n g in
+                let eq : n ≡ b.present = omega arith in
+                same eq
+          ]) refl
+
+  -- a dump block opens or closes
+  opened : (at : ℕ) (text : List ℕ) → Said (change_says place (token at text) w.dump) (word_says b at w.dump)
+  opened at text =
+      elim b.dumping as (λ d. Said (cond d (p.refused (faults.UnknownCommand at)) (p.goes (p.body (record place { dumping = true })) []))
+      (cond d (Err (faults.UnknownCommand at)) (Ok (record b { dumping = true }, [])))) [
+        | true ↦ refuses (faults.UnknownCommand at)
+        | false ↦ goes-quiet b.amid true
+      ]
+
+  closed : (at : ℕ) (text : List ℕ) → Said (change_says place (token at text) w.close) (word_says b at w.close)
+  closed at text =
+      elim b.dumping as (λ d. Said (cond d (p.goes (p.body (record place { dumping = false })) []) (p.refused (faults.UnknownCommand at)))
+      (cond d (Ok (record b { dumping = false }, [])) (Err (faults.UnknownCommand at)))) [
+        | true ↦ goes-quiet b.amid false
+        | false ↦ refuses (faults.UnknownCommand at)
+      ]
+
+  gap : (at : ℕ) (text : List ℕ) → Said (change_says place (token at text) w.gap) (word_says b at w.gap)
+  gap at text =
+      elim b.dumping as (λ d. Said (cond d (p.refused (faults.UnknownCommand at)) (p.refused (faults.Gap at)))
+      (cond d (Err (faults.UnknownCommand at)) (Err (faults.Gap at)))) [
+        | true ↦ refuses (faults.UnknownCommand at)
+        | false ↦ refuses (faults.Gap at)
+      ]
+
+  says-word : (at : ℕ) (text : List ℕ) (x : w.Word) → Said (change_says place (token at text) x) (word_says b at x)
+  says-word at text (w.time n) = timed at text n
+  says-word at text (w.scalar one code) = changed at text code one
+  says-word at text (w.vector one) = goes-quiet (Code one) b.dumping
+  says-word at text w.skipped = goes-quiet CodeSkipped b.dumping
+  says-word at text w.comment = goes-quiet Remark b.dumping
+  says-word at text w.dump = opened at text
+  says-word at text w.gap = gap at text
+  says-word at text w.close = closed at text
+  says-word at text w.bad_time = refuses (faults.BadTime at)
+  says-word at text w.bad_change = refuses (faults.BadChange at)
+  says-word at text w.unknown = refuses (faults.UnknownCommand at)
+
+  says-remark : (text : List ℕ)
+      → Said (cond (bytes_eq text (codes "$end")) (p.goes (p.body (record place { amid = p.changes })) []) (p.goes (p.body place) [])) (remark_says b text)
+  says-remark text =
+      elim (bytes_eq text (codes "$end")) as (λ v. Said (cond v (p.goes (p.body (record place { amid = p.changes })) []) (p.goes (p.body place) []))
+      (cond v (Ok (record b { amid = Changes }, [])) (Ok (b, [])))) [
+        | true ↦ goes-quiet Changes b.dumping
+        | false ↦ goes-quiet b.amid b.dumping
+      ]
+
+  hears-amid : (at : ℕ) (text : List ℕ) (a : Amid) → Said (body_says place (token at text) (amid_of a)) (hear_at b at text a)
+  hears-amid at text Changes = says-word at text (w.word_of text)
+  hears-amid at text Remark = says-remark text
+  hears-amid at text (Code one) = changed at text text one
+  hears-amid at text CodeSkipped = skipped at text
 
 -- Each token makes of what is kept what it makes of the story.
 pub hears : (wanted : Wanted) (limits : Limits) (b : Body) (st : Story) (s : Shows b st) (at : ℕ) (text : List ℕ)

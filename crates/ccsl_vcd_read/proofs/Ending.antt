@@ -116,7 +116,7 @@ rows-left wanted limits (stage.Body b) st x =
     ∙ ap (λ rs. rs ++ row_left (stage.Body b)) (sym (complete-is b st x))
 rows-left wanted limits stage.Unbound st x = absurd x
 
-module _ (wanted : Wanted) (v w : Reading) (bytes : List ℕ) (old mid : List Row) (a : AtEnd wanted v w bytes old mid) where
+module _ {wanted : Wanted} {v w : Reading} {bytes : List ℕ} {old mid : List Row} (a : AtEnd wanted v w bytes old mid) where
   whole-told : reading wanted v.limits bytes ≡ ends_at (length bytes) (story wanted v.limits (heard bytes))
   whole-told = reading-within wanted v.limits bytes a.within
 

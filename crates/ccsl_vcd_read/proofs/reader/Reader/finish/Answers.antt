@@ -33,13 +33,13 @@ returns-then-not-may_end-clause-refuses c =
     let e : ends_well c.last_token.new.self.stage ≡ false =
     ap (λ (x : Reading). ends_well x.stage) (sym c.self-in-Ok.view_is) ∙ sym c.may_end.ensures ∙ c.if-not-may_end.true in
     let n = ap (λ (x : Reading). x.taken) c.self.view_is ∙ a.taken in
-    truncated wanted c.args.self.now c.last_token.new.self bytes _ _ a e ∙ ap (λ k. Rattle.std.proofs.Common.Some (faults.Truncated k)) (sym n)
+    truncated a e ∙ ap (λ k. Rattle.std.proofs.Common.Some (faults.Truncated k)) (sym n)
     ∙ ap (λ f. Rattle.std.proofs.Common.Some f) (sym c.fail.ensures.result))
 
 pub returns-then-not-may_end-clause-completes : goal.returns-then-not-may_end-clause-completes
 returns-then-not-may_end-clause-completes c =
     when-none c.args.self.now.fault (λ _. weaken c.fail.result (λ (wanted : Wanted) (bytes : List ℕ) (t : StandsFor wanted c.args.self.now bytes).
-    cut-pushes wanted c.args.self.now c.last_token.new.self bytes _ _ (c.in-Ok.ensures.ends wanted bytes t)))
+    cut-pushes (c.in-Ok.ensures.ends wanted bytes t)))
 
 pub overflow_sub-result : goal.overflow_sub-result
 overflow_sub-result c =
@@ -56,16 +56,16 @@ pub returns-else-not-may_end-clause-accepts : goal.returns-else-not-may_end-clau
 returns-else-not-may_end-clause-accepts c = λ wanted bytes t.
     let e : ends_well c.last_token.new.self.stage ≡ true =
     ap (λ (x : Reading). ends_well x.stage) (sym c.self-in-Ok.view_is) ∙ sym c.may_end.ensures ∙ c.if-not-may_end.false in
-    accepted wanted c.args.self.now c.last_token.new.self bytes _ _ (c.in-Ok.ensures.ends wanted bytes t) e
+    accepted (c.in-Ok.ensures.ends wanted bytes t) e
 
 pub returns-else-not-may_end-clause-pushes : goal.returns-else-not-may_end-clause-pushes
 returns-else-not-may_end-clause-pushes c = λ wanted bytes t.
-    end-pushes wanted c.args.self.now c.last_token.new.self bytes _ _ (c.in-Ok.ensures.ends wanted bytes t) c.give_left.new.out.rows
+    end-pushes (c.in-Ok.ensures.ends wanted bytes t) c.give_left.new.out.rows
     (ap (λ x. x.rows) c.give_left.ensures ∙ ap (λ (x : Reading). c.last_token.new.out.rows ++ row_left x.stage) c.self-in-Ok.view_is)
 
 pub returns-else-not-may_end-clause-counts : goal.returns-else-not-may_end-clause-counts
 returns-else-not-may_end-clause-counts c = λ wanted bytes t.
-    end-counts wanted c.args.self.now c.last_token.new.self bytes _ _ (c.in-Ok.ensures.ends wanted bytes t) c.give_left.new.out.rows _ _
+    end-counts (c.in-Ok.ensures.ends wanted bytes t) c.give_left.new.out.rows _ _
     (ap (λ x. x.rows) c.give_left.ensures ∙ ap (λ (x : Reading). c.last_token.new.out.rows ++ row_left x.stage) c.self-in-Ok.view_is)
     (ap (λ (x : Reading). x.rows + (c.len.result - c.len-before.result)) c.self-in-Ok.view_is
     ∙ ap (λ k. c.last_token.new.self.rows + (k - c.len-before.result)) c.len.ensures
@@ -79,7 +79,7 @@ returns-in-Err-clause-calm c =
 
 pub returns-else-not-may_end-clause-shows : goal.returns-else-not-may_end-clause-shows
 returns-else-not-may_end-clause-shows c = λ wanted bytes t.
-    end-shown wanted c.args.self.now c.last_token.new.self bytes _ _ (c.in-Ok.ensures.ends wanted bytes t)
+    end-shown (c.in-Ok.ensures.ends wanted bytes t)
 
 pub returns-in-Err-clause-unpushed : goal.returns-in-Err-clause-unpushed
 returns-in-Err-clause-unpushed c = λ e. c.in-Err.ensures.kept.0

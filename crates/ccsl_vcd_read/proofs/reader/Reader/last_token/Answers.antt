@@ -29,9 +29,8 @@ returns-in-Ok-clause-ends c = λ wanted bytes t.
     let s = enter wanted _ _ bytes c.self.view_is c.requires.ready.runs t in
     let e = c.in-Some.ensures.all bytes s.lexes in
     let h = c.in-Ok.ensures.heard wanted (story wanted c.self.inside.limits (settled bytes)) s.pictures in
-    subst (λ (x : Reading). AtEnd wanted x c.hear_token.new.self bytes c.args.out.now.rows c.hear_token.new.out.rows) c.self.view_is
-    (word-end wanted _ bytes c.in-Some.span.at c.finish.new.self.inner.last s e c.hear_token.new.self.stage _ c.args.out.now.rows c.hear_token.new.out.rows
-    c.hear_token.new.self h refl
+    rw (← c.self.view_is)
+    (word-end wanted _ bytes c.in-Some.span.at c.finish.new.self.inner.last s e c.hear_token.new.self.stage _ _ _ c.hear_token.new.self h refl
     (ap (λ (x : Reading). x.rows) c.in-Ok.ensures.counts))
 
 pub returns-in-Ok-clause-few : goal.returns-in-Ok-clause-few
@@ -47,29 +46,15 @@ pub returns-in-Err-clause-refuses : goal.returns-in-Err-clause-refuses
 returns-in-Err-clause-refuses c =
     caused-map c.in-Err.fault (λ r. λ (wanted : Wanted) (bytes : List ℕ) (t : StandsFor wanted c.args.self.now bytes).
     let s = enter wanted _ _ bytes c.self.view_is c.requires.ready.runs t in
-    let e = c.in-Some.ensures.all bytes s.lexes in
-    let q : Refuses c.in-Err.fault (story wanted c.self.inside.limits (settled bytes))
-    (next wanted c.self.inside.limits (story wanted c.self.inside.limits (settled bytes)) (word (token c.in-Some.span.at c.finish.new.self.inner.last))) =
-    r wanted (story wanted c.self.inside.limits (settled bytes)) s.pictures in
-    subst (λ (x : Reading). Refused wanted x bytes c.in-Err.fault) c.self.view_is
-    (word-refused wanted _ bytes c.in-Some.span.at c.finish.new.self.inner.last s e c.in-Err.fault q))
+    rw (← c.self.view_is)
+    (word-refused wanted _ bytes c.in-Some.span.at c.finish.new.self.inner.last s (c.in-Some.ensures.all bytes s.lexes) c.in-Err.fault
+    (r wanted (story wanted c.self.inside.limits (settled bytes)) s.pictures)))
     c.in-Err.ensures.refuses
 
 pub returns-in-None-clause-ends : goal.returns-in-None-clause-ends
 returns-in-None-clause-ends c = λ wanted bytes t.
     let s = enter wanted _ _ bytes c.self.view_is c.requires.ready.runs t in
-    let e = c.in-None.ensures.all bytes s.lexes in
-    let new : Reading = record {
-      lexing = c.finish.new.self;
-      limits = c.self.inside.limits;
-      taken = c.self.inside.taken;
-      rows = c.self.inside.rows;
-      stage =
-          c.self.inside.stage;
-      fault = c.self.inside.fault;
-    } in
-    subst (λ (x : Reading). AtEnd wanted x new bytes c.args.out.now.rows c.args.out.now.rows) c.self.view_is
-    (quiet-end wanted _ new bytes c.args.out.now.rows s e refl refl)
+    rw (← c.self.view_is) (quiet-end wanted _ _ bytes c.args.out.now.rows s (c.in-None.ensures.all bytes s.lexes) refl refl)
 
 pub returns-in-None-clause-few : goal.returns-in-None-clause-few
 returns-in-None-clause-few c =
