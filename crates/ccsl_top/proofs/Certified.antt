@@ -30,7 +30,6 @@ use Rattle.ccsl_refute.specs.Validity.{ends_empty, is_certificate}
 use Rattle.ccsl_refute.specs.Writing.{line_text, lines_text}
 use Rattle.ccsl_refute.specs.LineLiterals.{literals}
 use Rattle.ccsl_refute.specs.Reading as certificates
-use Rattle.ccsl_solve.proofs.Lines.{line-within}
 use Rattle.ccsl_certify.specs.declared.answer.CertVerdict.TheVariants.{Yes}
 use Rattle.ccsl_vcd.specs.declared.fault.VcdFault.{VcdFault}
 use Rattle.ccsl_vcd.specs.Reading.{reading}
@@ -48,20 +47,24 @@ use Rattle.ccsl_top.proofs.Certifying.{NoBadLine, verdict-outcome}
 
 -- THE NUMBERS of a certificate are those of its items and of its lines
 
+at-below : (lines : List Line) (j : ℕ) (line : Line) → line_at lines j ≡ Some line → j ≤ length lines
+at-below lines zero line e = omega arith
+at-below lines (suc i) line e = let l = at-below lines i line e in omega (arith, l)
+
 module _ (declared : ℕ) (lines : List Line) where
   fails-below : (p : Part) (j : ℕ) → fails_at declared lines p j ≡ true → j ≤ length lines
   fails-below p j e = of-line (line_at lines j) refl e
     where
       of-line : (found : Option Line) → line_at lines j ≡ found → fails_line declared p found ≡ true → j ≤ length lines
       of-line None is e = absurd (both_ways false refl e)
-      of-line (Some line) is e = line-within lines j line is
+      of-line (Some line) is e = at-below lines j line is
 
   unit-below : (p : Part) (j : ℕ) (l : Lit) → unit_at declared lines p j ≡ Some l → j ≤ length lines
   unit-below p j l e = of-line (line_at lines j) refl e
     where
       of-line : (found : Option Line) → line_at lines j ≡ found → unit_line declared p found ≡ Some l → j ≤ length lines
       of-line None is e = absurd (cc)
-      of-line (Some line) is e = line-within lines j line is
+      of-line (Some line) is e = at-below lines j line is
 
   hints-below : (n : ℕ) → length lines < n → (p : Part) (hints : List ℕ) → closes declared lines p hints ≡ true → AllBelow n hints
   hints-below n few p [] e = tt
