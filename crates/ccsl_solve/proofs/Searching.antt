@@ -1,5 +1,5 @@
 -- The steps of the search, as values of all clocks before and after them.
-use Rattle.std.proofs.Common.{◌≡◌, ◌<◌, ℕ, List, true, ap, ◌∙◌}
+use Rattle.std.proofs.Common.{◌≡◌, ◌<◌, ℕ, List, ◌++◌, append_assoc, true, ap, ◌∙◌}
 use Rattle.ccsl_formula.specs.declared.truth3.Truth3.TheVariants.{Open}
 use Rattle.ccsl_formula.specs.Truth.{Part}
 use Rattle.ccsl_formula.specs.Known.{with_truth}
@@ -27,6 +27,16 @@ refutes-more : (q : Problem) (lines new : List Line) (p : Part) (r : Reason) →
     refutes q lines p r ≡ true → refutes q new p r ≡ true
 refutes-more q lines new p (Item k) x h = h
 refutes-more q lines new p (Clause j) x h = fails-extended q.scope.declared lines new p j x h
+
+-- lines that are added behind added ones
+pub adds-more : {q : Problem} {lines mid new : List Line} → AddsLines q lines mid → AddsLines q mid new → AddsLines q lines new
+adds-more {lines} a b = record {
+  extends = record {
+    added = a.extends.added ++ b.extends.added;
+    is = b.extends.is ∙ ap (λ l. l ++ b.extends.added) a.extends.is ∙ append_assoc lines a.extends.added b.extends.added;
+  };
+  valid = b.valid;
+}
 
 -- what holds of some values holds after a search that adds lines and leaves the values
 pub sound-after : {q : Problem} {lines new : List Line} {p m : Part} → AddsLines q lines new → m ≡ p → IsSound q lines p → IsSound q new m

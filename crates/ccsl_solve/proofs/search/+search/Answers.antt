@@ -1,4 +1,4 @@
-use Rattle.std.proofs.Common.{◌<◌, ◌+◌, ◌*◌, ◌∙◌, not, sym, ap, arith}
+use Rattle.std.proofs.Common.{◌<◌, ◌+◌, ◌*◌, ◌∙◌, not, sym, ap, arith, Result, Ok, Err, OnOk}
 use Rattle.ccsl_formula.specs.Known.{known}
 use Rattle.ccsl_solve.specs.Under.{open_count}
 use Rattle.ccsl_solve.proofs.Tests.{open-test, not-open-test}
@@ -7,8 +7,12 @@ use Rattle.ccsl_solve.proofs.Clauses.{clause-more}
 use Rattle.ccsl_solve.proofs.Conflicts.{without-value}
 use Rattle.ccsl_solve.proofs.Best.{first-best, second-best}
 use Rattle.ccsl_solve.proofs.Guided.{valid-named}
-use Rattle.ccsl_solve.proofs.Searching.{back-of, sound-after, forced-after, onward}
+use Rattle.ccsl_solve.proofs.Searching.{back-of, adds-more, sound-after, forced-after, onward}
 use Rattle.ccsl_solve.proofs.search.+search.Goals as goal
+
+where-ok : {X E : Type 0} (r : Result X E) {P Q : Type 0} → (P → Q) → OnOk r P → OnOk r Q
+where-ok (Ok x) f h = f h
+where-ok (Err e) f h = h
 
 -- ## The search
 
@@ -122,3 +126,12 @@ pub search_with-returns-clause-finds : goal.search_with-returns-clause-finds
 search_with-returns-clause-finds t c =
     let found = rw c.in-Some.is at c.in_ok-conflict.ensures.finds in
     (back-of c.args.lit (found.0 ∙ c.set.ensures) c.forget.ensures c.requires.free, rw c.set.ensures at found.1)
+
+pub search_against-returns-clause-lines : goal.search_against-returns-clause-lines
+search_against-returns-clause-lines t c = adds-more c.in_ok-line.ensures.lines c.in_ok-second.ensures.lines
+
+pub search_both-returns-in-Some-by-clause-lines : goal.search_both-returns-in-Some-by-clause-lines
+search_both-returns-in-Some-by-clause-lines t c = adds-more c.in_ok-first.ensures.lines c.in_ok-conflict.ensures.lines
+
+pub search_both-returns-clause-lines : goal.search_both-returns-clause-lines
+search_both-returns-clause-lines t c = where-ok c.search_against.result (adds-more c.in_ok-first.ensures.lines) c.search_against.ensures.lines
