@@ -3,9 +3,6 @@ use Rattle.std.specs.Int.{w64}
 use Rattle.std.proofs.lemmas.Nat.Bits.{bit_at-trailing_zeros}
 use Rattle.ccsl_base.proofs.members.lowest.Goals as goal
 
-pub returns-clause-inside : goal.returns-clause-inside
-returns-clause-inside c = (bit_at-trailing_zeros w64 c.args.word c.requires c.ranges.word.fits).0
-
 pub returns-clause-here : goal.returns-clause-here
 returns-clause-here c = ap (λ b. nat_eq b 1) (bit_at-trailing_zeros w64 c.args.word c.requires c.ranges.word.fits).1
 

@@ -1,10 +1,7 @@
-use Rattle.std.proofs.Common.{◌≡◌, true, get_or, sym, ◌∙◌, rules, arith}
+use Rattle.std.proofs.Common.{◌≡◌, true, get_or, sym, ◌∙◌, rules}
 use Rattle.ccsl_base.specs.Letters.{is_digit}
-use Rattle.ccsl_base.proofs.Digits.{number-over, number-done, number-some}
+use Rattle.ccsl_base.proofs.Digits.{number-over}
 use Rattle.ccsl_base.proofs.numeral.decimal.Goals as goal
-
-pub digits-init : goal.digits-init
-digits-init c = record { fits = omega arith; same = number-some c.args.most c.args.text.now (sym c.is_empty.ensures ∙ c.if-is_empty.false) }
 
 pub returns-in_err-value : goal.returns-in_err-value
 returns-in_err-value c =
@@ -12,6 +9,3 @@ returns-in_err-value c =
     c.from_residual.ensures
     ∙ sym (number-over c.args.most c.digits.value c.digits.rest.now c.in-len1-up.len_at_least digit c.in_err-value.ensures)
     ∙ c.digits.invariant.same
-
-pub returns : goal.returns
-returns c = sym (number-done c.args.most c.digits.value c.digits.rest.now c.in_default.len_below c.digits.invariant.fits) ∙ c.digits.invariant.same

@@ -1,19 +1,10 @@
-use Rattle.std.proofs.Common.{◌≡◌, ◌<◌, ◌+◌, ◌-◌, ◌*◌, arith, sym, ap, ap₂, ◌∙◌, subst, refl, min}
+use Rattle.std.proofs.Common.{◌≡◌, ◌<◌, ◌+◌, ◌-◌, ◌*◌, arith, sym, ap, ap₂, ◌∙◌, subst, min}
 use Rattle.std.specs.Int.{div_ceil}
 use Rattle.ccsl_periodic.specs.Turns.{overtaken_at}
 use Rattle.ccsl_periodic.proofs.Counts.{ones-next, byte-le}
-use Rattle.ccsl_periodic.proofs.Failing.{IsSoFar, at_start, one_rests, one_ticks, so_far_is_first, so_far_is_small}
+use Rattle.ccsl_periodic.proofs.Failing.{IsSoFar, one_rests, one_ticks, so_far_is_first}
 use Rattle.ccsl_periodic.proofs.failure.first_in_turns.Goals as goal
 use Rattle.ccsl_periodic.proofs.failure.first_in_turns.Goals.{After-from-right_ones, then-right_ticks, else-right_ticks}
-
-pub loop-k-init : goal.loop-k-init
-loop-k-init c = record {
-  left = c.ones-left_ones.ensures.ones;
-  right = c.ones-right_ones.ensures.ones;
-  left_few = c.ones-left_ones.ensures.few;
-  right_few = c.ones-right_ones.ensures.few;
-  so_far = at_start c.args.left.now c.args.right.now c.args.turn.now _ refl;
-}
 
 so_far : (c : After-from-right_ones) → IsSoFar c.args.left.now c.args.right.now c.args.turn.now c.if-right_ticks.first (c.loop-k.k + 1)
 so_far c =
@@ -46,9 +37,4 @@ loop-k-preserved c = record {
 pub returns-clause-fails : goal.returns-clause-fails
 returns-clause-fails c =
     so_far_is_first c.args.left.now c.args.right.now c.args.turn.now c.loop-k.first c.loop-k.k c.requires.turn c.requires.gains c.requires.before (omega arith)
-    c.loop-k.invariant.so_far
-
-pub returns-clause-small : goal.returns-clause-small
-returns-clause-small c =
-    so_far_is_small c.args.left.now c.args.right.now c.args.turn.now c.loop-k.first c.loop-k.k c.requires.turn c.requires.gains (omega arith)
     c.loop-k.invariant.so_far

@@ -14,9 +14,6 @@ long c = ap length (c.as_slice.ensures.value ∙ c.in_ok-letters.ensures)
 pub word_of-requires-clause-prefix : goal.word_of-requires-clause-prefix
 word_of-requires-clause-prefix c = omega (arith, long c)
 
-pub word_of-requires-clause-some : goal.word_of-requires-clause-some
-word_of-requires-clause-some c = omega (arith, long c, c.requires.some)
-
 pub word_of-requires-clause-few : goal.word_of-requires-clause-few
 word_of-requires-clause-few c = omega (arith, long c, c.requires.few)
 

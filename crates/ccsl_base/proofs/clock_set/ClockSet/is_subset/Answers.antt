@@ -1,6 +1,6 @@
 use Rattle.std.proofs.Common.{◌≡◌, true, false, refl, ◌∙◌, sym, ap₂, arith}
 use Rattle.ccsl_base.specs.Changes.{difference}
-use Rattle.ccsl_base.proofs.Differences.{within-none, within-next, within-all, not-within}
+use Rattle.ccsl_base.proofs.Differences.{within-all, not-within}
 use Rattle.ccsl_base.proofs.clock_set.ClockSet.is_subset.Goals as goal
 
 pub returns-then-first-ne0 : goal.returns-then-first-ne0
@@ -10,11 +10,6 @@ returns-then-first-ne0 c = (
       c.word_without-first.ensures.bits
       (ap₂ difference c.self.view_is c.other.view_is ∙ none))),
 )
-
-pub loop-i-init : goal.loop-i-init
-loop-i-init c =
-    within-next 0 c.word_without-first.result c.self.inside.words c.other.inside.words (within-none c.self.inside.words c.other.inside.words)
-    (omega (arith, c.if-first-ne0.false)) c.word_without-first.ensures.bits
 
 pub returns-then-word_without-ne0 : goal.returns-then-word_without-ne0
 returns-then-word_without-ne0 c = (

@@ -1,7 +1,7 @@
 use Rattle.std.proofs.Common.{refl, sym, ◌∙◌}
 use Rattle.ccsl_base.specs.declared.reserved.Reserved.TheVariants as w
 use Rattle.ccsl_base.specs.ReservedWords.{reserved}
-use Rattle.ccsl_base.proofs.ReservedWords.{found_at, passed_at, none_behind}
+use Rattle.ccsl_base.proofs.ReservedWords.{found_at, passed_at}
 use Rattle.ccsl_base.proofs.reserved.Reserved.spelled.Goals as goal
 
 pub loop-word-init : goal.loop-word-init
@@ -16,6 +16,3 @@ pub loop-word-preserved : goal.loop-word-preserved
 loop-word-preserved c = sym
     (passed_at c.args.text.now c.loop-word.word-index w.Ccsl c.loop-word-test.true (rw (← c.spelling.ensures) (sym c.eq.ensures ∙ c.if-eq.false)))
     ∙ c.loop-word.invariant
-
-pub returns : goal.returns
-returns c = sym (none_behind c.args.text.now c.loop-word.word-index c.loop-word-test.false) ∙ c.loop-word.invariant

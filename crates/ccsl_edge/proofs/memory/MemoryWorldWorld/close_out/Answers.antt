@@ -2,11 +2,6 @@ use Rattle.std.proofs.Common.{◌≡◌, length, arith}
 use Rattle.ccsl_edge.proofs.OneSlot.{Fails-at}
 use Rattle.ccsl_edge.proofs.memory.MemoryWorldWorld.close_out.Goals as goal
 
-pub returns-then-is_due-clause-err : goal.returns-then-is_due-clause-err
-returns-then-is_due-clause-err c =
-    let long : length c.self.inside.slots ≡ 7 = omega arith in
-    rw (← c.self.view_is) (Fails-at _ _ c.args.slot _ _ _ c.index.ensures long c.fail.ensures.after c.fail.ensures.rose)
-
 pub returns-in_default-clause-err : goal.returns-in_default-clause-err
 returns-in_default-clause-err c =
     let long : length c.self.inside.slots ≡ 7 = omega arith in

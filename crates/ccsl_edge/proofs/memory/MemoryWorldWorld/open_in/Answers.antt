@@ -2,17 +2,6 @@ use Rattle.std.proofs.Common.{◌≡◌, length, arith}
 use Rattle.ccsl_edge.proofs.OneSlot.{Fails-at}
 use Rattle.ccsl_edge.proofs.memory.MemoryWorldWorld.open_in.Goals as goal
 
-pub returns-then-is_due-clause-err : goal.returns-then-is_due-clause-err
-returns-then-is_due-clause-err c =
-    let long : length c.self.inside.slots ≡ 7 = omega arith in
-    rw (← c.self.view_is) (Fails-at _ _ c.args.slot _ _ _ c.index.ensures long c.fail.ensures.after c.fail.ensures.rose)
-
-pub returns-in_default-clause-err : goal.returns-in_default-clause-err
-returns-in_default-clause-err c =
-    let long : length c.self.inside.slots ≡ 7 = omega arith in
-    rw (← c.self.view_is)
-    (Fails-at _ _ c.args.slot _ _ _ c.index.ensures long c.fail-in_default.ensures.after c.fail-in_default.ensures.rose)
-
 pub returns-in_default-from_slice-clause-err : goal.returns-in_default-from_slice-clause-err
 returns-in_default-from_slice-clause-err c =
     let long : length c.self.inside.slots ≡ 7 = omega arith in

@@ -1,12 +1,7 @@
 use Rattle.std.proofs.Common.{◌≡◌, length, arith}
 use Rattle.ccsl_edge.specs.Memory.{tells_all}
-use Rattle.ccsl_edge.proofs.OneSlot.{Fails-at, Takes-at}
+use Rattle.ccsl_edge.proofs.OneSlot.{Takes-at}
 use Rattle.ccsl_edge.proofs.memory.MemoryWorldWorld.read.Goals as goal
-
-pub returns-then-is_due-clause-err : goal.returns-then-is_due-clause-err
-returns-then-is_due-clause-err c =
-    let long : length c.self.inside.slots ≡ 7 = omega arith in
-    rw (← c.self.view_is) (Fails-at _ _ c.args.slot _ _ _ c.index.ensures long c.fail.ensures.after c.fail.ensures.rose)
 
 pub returns-clause-ok : goal.returns-clause-ok
 returns-clause-ok c =

@@ -1,6 +1,6 @@
 use Rattle.std.proofs.Common.{ap₂, ◌∙◌}
 use Rattle.ccsl_formula.specs.Known.{known, joined}
-use Rattle.ccsl_formula.proofs.Kept.{known-joined, within-joined}
+use Rattle.ccsl_formula.proofs.Kept.{known-joined}
 use Rattle.ccsl_formula.proofs.partial.Partial.join.Goals as goal
 
 pub returns : goal.returns
@@ -9,9 +9,3 @@ returns c =
     c.insert_all-2.new.self
     c.insert_all.ensures c.remove_all.ensures c.insert_all-2.ensures c.other.invariant
     ∙ ap₂ (λ p q. joined (known p) (known q)) c.self.view_is c.other.view_is
-
-pub invariant_of-self : goal.invariant_of-self
-invariant_of-self c =
-    within-joined c.self.inside.valued c.self.inside.truth c.other.inside.valued c.other.inside.truth c.insert_all.new.self c.remove_all.new.self
-    c.insert_all-2.new.self
-    c.insert_all.ensures c.remove_all.ensures c.insert_all-2.ensures c.self.invariant c.other.invariant
