@@ -10,7 +10,7 @@ use Rattle.ccsl_kernel.specs.Actuals.{value_of}
 use Rattle.ccsl_kernel.proofs.GuardedCalls.{AreGuarded}
 use Rattle.ccsl_state.specs.Tree.{opening, formula_of, dead_of}
 use Rattle.ccsl_state.specs.Layout.{actual_of, read, region_of, read_body, read_call}
-use Rattle.ccsl_state.proofs.Opening.{opening_call}
+use Rattle.ccsl_state.proofs.TreeFollows.{opening_call}
 use Rattle.ccsl_state.proofs.Regions.{behind_head, front_head, cell_same, front_kept, rest_one, within}
 use Rattle.ccsl_base.specs.declared.limits.TheConstants.{MAX_CELLS}
 use Rattle.ccsl_formula.specs.Formula.{eval}

@@ -96,24 +96,13 @@ module _ (K : System) (earlier : List ℕ) (calls : ℕ → List ℕ → Tree)
         → take (cells_in earlier e) xs ≡ take (cells_in earlier e) ys →
         read_in K earlier calls e ρ xs ≡ read_in K earlier calls e ρ ys
     read_in_same (EName x) ρ xs ys l e = refl
-    read_in_same (ECall group member args) ρ xs ys l e = on (nat_lt group (length earlier)) refl
-      where
-        on : (t : Bool) → nat_lt group (length earlier) ≡ t → (if t then calls group xs else TNever) ≡ (if t then calls group ys else TNever)
-        on true is = calls_same group xs ys (ltb-true group (length earlier) is) l e
-        on false is = refl
+    read_in_same (ECall group member args) ρ xs ys l e = grind (arith, common_steps, calls_same)
     read_in_same ENever ρ xs ys l e = refl
     read_in_same (EBinary op.Then a d) ρ xs ys l e = then_same a d ρ (read_in_same a ρ) (read_in_same d ρ) xs ys l e
     read_in_same (EBinary o a d) ρ xs ys l e = pair_same o refl a d ρ (read_in_same a ρ) (read_in_same d ρ) xs ys l e
-    read_in_same (EDelay a m) ρ xs ys l e =
-        ap₂ (λ n t. TOne (Delaying (number_of m ρ) (count_of n)) t) (cell_same (1 + cells_in earlier a) 0 xs ys e (omega arith))
-        (read_in_same a ρ (drop 1 xs) (drop 1 ys) (omega arith) (within (1 + cells_in earlier a) 1 (cells_in earlier a) xs ys e (omega arith)))
-    read_in_same (EAwait a m) ρ xs ys l e =
-        ap₂ (λ n t. TOne (Awaiting (number_of m ρ) (count_of n)) t) (cell_same (1 + cells_in earlier a) 0 xs ys e (omega arith))
-        (read_in_same a ρ (drop 1 xs) (drop 1 ys) (omega arith) (within (1 + cells_in earlier a) 1 (cells_in earlier a) xs ys e (omega arith)))
-    read_in_same (EFilter a w) ρ xs ys l e =
-        let v = word_of K.words (suffix_of K.words w ρ).word in
-        ap₂ (λ n t. TOne (Filtering v (offset_of v n)) t) (cell_same (1 + cells_in earlier a) 0 xs ys e (omega arith))
-        (read_in_same a ρ (drop 1 xs) (drop 1 ys) (omega arith) (within (1 + cells_in earlier a) 1 (cells_in earlier a) xs ys e (omega arith)))
+    read_in_same (EDelay a m) ρ xs ys l e = grind (arith, common_steps, cell_same, within, read_in_same a ρ)
+    read_in_same (EAwait a m) ρ xs ys l e = grind (arith, common_steps, cell_same, within, read_in_same a ρ)
+    read_in_same (EFilter a w) ρ xs ys l e = grind (arith, common_steps, cell_same, within, read_in_same a ρ)
     read_in_same (EDelayed a m d) ρ xs ys l e = lag_same a m d ρ (read_in_same a ρ) (read_in_same d ρ) xs ys l e
     read_in_same (EIf q a d) ρ xs ys l e =
         let total = 1 + max (cells_in earlier a) (cells_in earlier d) in

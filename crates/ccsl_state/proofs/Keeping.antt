@@ -89,14 +89,7 @@ ended_rest w o c fin = grind (arith, common_steps, rest_before_end, rest_at_end)
 ended : (w : BinaryWord) (o : ℕ) (t : ℕ → Bool) (is : List ℕ) → is_finite w ≡ true →
     nat_le (length w.prefix) (offset_after w o (map t is)) ≡ nat_le (length w.prefix) (o + count (map t is))
 ended w o t [] fin = ap (nat_le (length w.prefix)) (omega arith)
-ended w o t (i ∷ is) fin = on (t i) (ended w (rest w o) t is fin) (ended w o t is fin)
-  where
-    on : (x : Bool) → nat_le (length w.prefix) (offset_after w (rest w o) (map t is)) ≡ nat_le (length w.prefix) (rest w o + count (map t is)) →
-        nat_le (length w.prefix) (offset_after w o (map t is)) ≡ nat_le (length w.prefix) (o + count (map t is))
-        → nat_le (length w.prefix) (offset_after w (if x then rest w o else o) (map t is)) ≡ nat_le (length w.prefix)
-        (o + (if x then suc (count (map t is)) else count (map t is)))
-    on true ticked still = ticked ∙ ended_rest w o (count (map t is)) fin
-    on false ticked still = still
+ended w o t (i ∷ is) fin = grind (arith, common_steps, ended w o t is fin, ended w (rest w o) t is fin, ended_rest)
 
 where_finite : (fin x y : Bool) → (fin ≡ true → x ≡ y) → (fin && x) ≡ (fin && y)
 where_finite true x y h = h refl
@@ -172,12 +165,8 @@ pub sampling : (w : Bool) (t u : ℕ → Bool) (is : List ℕ)
 sampling w t u [] = ap Sampling (elim w as (λ w. w ≡ (false || (w && true))) [ true ↦ refl | false ↦ refl ])
 sampling w t u (i ∷ is) = sampling (t i || (w && not (u i))) t u is ∙ ap Sampling (sampled_flag w (t i) (u i) (ever (map u is)) (waits (map t is) (map u is)))
 
-no_flag : (v e : Bool) → (v || (false && e)) ≡ v
-no_flag true e = refl
-no_flag false e = refl
-
 pub sampled_is : IsTwo (Sampling false) sampled_row
-sampled_is = grind (arith, common_steps, sampling, no_flag)
+sampled_is = grind (arith, common_steps, sampling, or-false)
 
 weak_flag : (w t u e v : Bool) → (v || (((t || w) && not u) && not e)) ≡ (((t && not (u || e)) || v) || (w && not (u || e)))
 weak_flag w t u e v = grind arith
@@ -189,7 +178,7 @@ sampling_weakly w t u (i ∷ is) =
     sampling_weakly ((t i || w) && not (u i)) t u is ∙ ap SamplingWeakly (weak_flag w (t i) (u i) (ever (map u is)) (waits_weakly (map t is) (map u is)))
 
 pub sampled_weakly_is : IsTwo (SamplingWeakly false) sampled_weakly_row
-sampled_weakly_is = grind (arith, common_steps, sampling_weakly, no_flag)
+sampled_weakly_is = grind (arith, common_steps, sampling_weakly, or-false)
 
 -- the places of a row of marks after steps
 abbrev pub marks_after : List Bool → (ℕ → Bool) → (ℕ → Bool) → List ℕ → List Bool

@@ -1,10 +1,8 @@
-pub mod Opening
 pub mod Places
 pub mod Regions
 pub mod Frame
 pub mod Calls
 pub mod Operands
-pub mod Evals
 pub mod Bits
 pub mod Keeping
 pub mod TreeFollows

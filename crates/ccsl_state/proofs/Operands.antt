@@ -20,7 +20,7 @@ use Rattle.ccsl_state.specs.Quiet.{is_settled}
 use Rattle.ccsl_state.specs.Regions.{tree, size, newborn, newborn_pair, pair_tree, pair_size, left_tree, right_tree}
 use Rattle.ccsl_state.specs.Ready.{IsReady}
 use Rattle.ccsl_state.specs.Walks.{IsOpened, IsAdvanced, IsRewritten}
-use Rattle.ccsl_state.proofs.Evals.{pair_eval, pair_dead}
+use Rattle.ccsl_state.proofs.WithinLaws.{pair_eval, pair_dead}
 use Rattle.ccsl_state.proofs.Frame.{read_same, binary_pair}
 use Rattle.ccsl_state.proofs.Regions.{two_regions}
 use Rattle.std.proofs.lemmas.List.{get_or_push}

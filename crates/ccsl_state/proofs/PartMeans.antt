@@ -156,15 +156,7 @@ module _ (p : HeldPart) (T : List Step) (s : Step) (ok : IsAccepted p.system) (c
     tick_below (suc b) y l w = at (λ z m v. tick_below b z (omega (arith, l, m)) v)
       where
         at : ((z : ℕ) → z < y → is_within K F z ≡ true → ticks_in z step ≡ ticks_in z full) → ticks_in y step ≡ ticks_in y full
-        at lower = ⊎_elim
-            (λ (m : y < K.declared). passed.declared y m ∙ sym
-            (ap (ticks_in y) (sym (states_derive K (accepted_guarded K ok) T s few)) ∙ derived-keeps (trees_after K T) K.declared s y m))
-            (λ (m : K.declared ≤ y).
-            let n = numbered y m in
-            ap (λ k. ticks_in k step) n.1
-            ∙ defined_tick n.0 (within_followed y n.0 n.1 w) (λ z q v. lower z (let e = n.1 in omega (arith, q, e)) v)
-            ∙ ap (λ k. ticks_in k full) (sym n.1))
-            (cases_lt y K.declared)
+        at lower = grind (arith, common_steps, passed.declared, states_derive, accepted_guarded, derived-keeps, defined_tick (y - K.declared), within_followed)
 
     -- THE STEP is that part of the full one
     pub part_step : is_ascending step ≡ true → step ≡ part_of p full

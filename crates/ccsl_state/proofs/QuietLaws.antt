@@ -15,8 +15,7 @@ use Rattle.ccsl_state.specs.Tree.{next, formula_of, dead_of}
 use Rattle.ccsl_state.specs.Within.{TreeWithin}
 use Rattle.ccsl_state.specs.Reach.{names_clock}
 use Rattle.ccsl_state.specs.Quiet.{named_by, reads, ReadsNoMore, IsUnheard, is_settled, IsQuiet, StaysAsItIs, BearsSettled}
-use Rattle.ccsl_state.proofs.Evals.{one_eval, two_eval}
-use Rattle.ccsl_state.proofs.WithinLaws.{names_within, opening_within, grown_within, dead_same}
+use Rattle.ccsl_state.proofs.WithinLaws.{one_eval, two_eval, names_within, opening_within, grown_within, dead_same}
 
 one_silent : (o : One) → one_ticks o false ≡ false
 one_silent o = grind (arith, common_steps)
@@ -48,13 +47,8 @@ module _ (K : System) (s : Step) (gone : ℕ → Bool) where
   stays (TName x) h settled = refl
   stays TNever h settled = refl
   stays (TOne o a) h settled = ap₂ TOne (ap (one_next o) (tells_nothing s a h) ∙ one_still o) (stays a h settled)
-  stays (TTwo o a d) h settled =
-      let w = and_parts (is_settled gone a) (is_settled gone d) settled in
-      ap (λ o'. TTwo o' (next K s gone a) (next K s gone d)) (ap₂ (two_next o) (tells_nothing s a h.0) (tells_nothing s d h.1) ∙ two_still o)
-      ∙ ap₂ (TTwo o) (stays a h.0 w.0) (stays d h.1 w.1)
-  stays (TThen a d ρ) h settled =
-      let w = and_parts (not (dead_of gone a)) (is_settled gone a) settled in
-      ap (λ a'. then_or_right K (dead_of gone a') a' d ρ) (stays a h.0 w.1) ∙ ap (λ c. then_or_right K c a d ρ) (not-true (dead_of gone a) w.0)
+  stays (TTwo o a d) h settled = grind (arith, common_steps, tells_nothing, two_still, stays a, stays d)
+  stays (TThen a d ρ) h settled = grind (arith, common_steps, stays a)
 
   -- UNSETTLED LASTS ONE STEP
   pub settles : (t : Tree) → BearsSettled K gone t → is_settled gone (next K s gone t) ≡ true
@@ -62,12 +56,7 @@ module _ (K : System) (s : Step) (gone : ℕ → Bool) where
   settles TNever h = refl
   settles (TOne o a) h = settles a h
   settles (TTwo o a d) h = and_from (is_settled gone (next K s gone a)) (is_settled gone (next K s gone d)) (settles a h.0) (settles d h.1)
-  settles (TThen a d ρ) h = on (dead_of gone (next K s gone a)) refl (settles a h.0)
-    where
-      on : (c : Bool) → dead_of gone (next K s gone a) ≡ c → is_settled gone (next K s gone a) ≡ true
-          → is_settled gone (then_or_right K c (next K s gone a) d ρ) ≡ true
-      on true is left = h.1
-      on false is left = and_from (not (dead_of gone (next K s gone a))) (is_settled gone (next K s gone a)) (ap not is) left
+  settles (TThen a d ρ) h = grind (arith, common_steps, settles a)
 
 module _ (P : ℕ → Type 0) (gone gone' : ℕ → Bool) (same : (x : ℕ) → P x → gone x ≡ gone' x) where
   pub settled_same : (t : Tree) → TreeWithin P t → is_settled gone t ≡ is_settled gone' t

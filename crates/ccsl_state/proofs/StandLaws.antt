@@ -103,11 +103,7 @@ zeros n m k = grind (arith, common_steps, get_or-drop, get_or-replicate, get_or_
 module _ (h : Held) (ok : IsAccepted h.system) where
   -- THE OPENING
   pub stands_opened : trees_of h ≡ opened_all h.system h.system.definitions → ((k : ℕ) → slice_index (counts_of h) k ≡ 0) → StandsFor h []
-  stands_opened trees zeros = record {
-    trees = trees ∙ states_opened h.system (accepted_guarded h.system ok);
-    counts = λ j c is. (ap count_of (zeros (2 * j)), ap count_of (zeros (2 * j + 1)));
-    few = omega arith;
-  }
+  stands_opened trees zeros = grind (arith, common_steps, states_opened, accepted_guarded)
 
   module _ (T : List Step) (stands : StandsFor h T) where
     few : length T ≤ 2 ^ 64 - 1

@@ -1,37 +1,71 @@
 -- The state tree follows the meaning: its life obeys each row of the table, and so is the meaning.
 use Rattle.std.proofs.lemmas.Grind.{common_steps}
 use Rattle.std.proofs.Common.{◌≡◌, ℕ, zero, suc, ◌≤◌, List, [], ◌∷◌, ◌++◌, find, length, Bool, true, false, Option, Some, None, refl, sym, ap, ◌∙◌, arith}
-use Rattle.std.proofs.Common.{nat_le, le-leb, if◌then◌else◌, length-append}
+use Rattle.std.proofs.Common.{nat_le, le-leb, if◌then◌else◌, length-append, ◌<◌, inl, inr, map, replicate, ap₂}
 use Rattle.std.proofs.lemmas.Bool.{lt-leb, cond_both}
 use Rattle.ccsl_kernel.specs.declared.expr.ExprOp.{ExprOp}
 use Rattle.ccsl_kernel.specs.declared.actual.Actual.{Actual}
 use Rattle.ccsl_kernel.specs.declared.expr.ExprOp.TheVariants as op
 use Rattle.ccsl_kernel.specs.declared.actual.Actual.TheVariants as actual
-use Rattle.ccsl_kernel.specs.Syntax.{Expression, EBinary, System}
-use Rattle.ccsl_kernel.specs.Actuals.{place_of, number_of, suffix_of, test_of, word_of}
+use Rattle.ccsl_kernel.specs.Syntax.{Expression, EBinary, System, EName, ECall, ENever, EDelay, EAwait, EFilter, EDelayed, EIf, root_of}
+use Rattle.ccsl_kernel.specs.Actuals.{place_of, number_of, suffix_of, test_of, word_of, value_of}
 use Rattle.ccsl_kernel.specs.Table.{Now, Operand}
 use Rattle.ccsl_kernel.specs.Lives.{Step, steps, step_at, ticks_at, over_one, over_two, end_of, at_end, followed_by, joined}
 use Rattle.ccsl_kernel.specs.Meaning.{named, life_given}
-use Rattle.ccsl_kernel.specs.Guarded.{IsAllowed}
-use Rattle.ccsl_kernel.proofs.GuardedCalls.{AreGuarded}
+use Rattle.ccsl_kernel.specs.Guarded.{IsAllowed, Allowed}
+use Rattle.ccsl_kernel.proofs.GuardedCalls.{AreGuarded, tail_guarded, inner_guarded}
 use Rattle.ccsl_kernel.specs.Rows.{IsTable, CallsAreBodies}
 use Rattle.ccsl_kernel.proofs.Steps.{steps-suc, steps-empty, find-steps-suc, find-within, from_birth, or_else, if_at}
 use Rattle.ccsl_kernel.proofs.Agree.{unique}
 use Rattle.ccsl_kernel.proofs.TableHolds.{meaning_rows, meaning_calls}
-use Rattle.ccsl_state.specs.Tree.{most, leaf, Tree, TName, TNever, TOne, TTwo, TThen, One, Two, opening, then_or_right, next, formula_of, dead_of}
+use Rattle.ccsl_state.specs.Tree.{most, leaf, Tree, TName, TNever, TOne, TTwo, TThen, One, Two, opening, then_or_right, next, formula_of, dead_of, Delaying}
+use Rattle.ccsl_state.specs.Tree.{Awaiting, Filtering, Lagging, over, two_opened, open_with, open_bodies}
 use Rattle.ccsl_state.specs.Grown.{grown, life_of, grown_meaning}
-use Rattle.ccsl_state.proofs.Opening.{opening_call}
 use Rattle.ccsl_state.proofs.Keeping.{one_after, two_after, one_after-snoc, two_after-snoc, IsOne, IsTwo, await_is, delay_is, filter_is, union_is, inter_is}
 use Rattle.ccsl_state.proofs.Keeping.{minus_is, inf_is, sup_is, upto_is, upto_weakly_is, sampled_is, sampled_weakly_is, delayed_is}
+use Rattle.ccsl_kernel.specs.declared.expr.Value.{Value}
+use Rattle.ccsl_kernel.specs.declared.position.Position.{Position}
+use Rattle.ccsl_kernel.specs.declared.position.Position.TheVariants.{Inner, Tail, Guarded}
+
+-- Opening a call: its body, under what its arguments stand for.
+
+-- Opening an expression that is in no guarded tail position opens members of earlier groups alone.
+module _ (K : System) (calls calls' : ℕ → ℕ → List Actual → Tree) (g : ℕ)
+    (same : (group member : ℕ) (ρ : List Actual) → group < g → calls group member ρ ≡ calls' group member ρ) where
+  pub open_same : (e : Expression) (p : Position) (ρ : List Actual) → Allowed g p e → (p ≡ Guarded → ⊥) → open_with K calls e ρ ≡ open_with K calls' e ρ
+  open_same (EName x) p ρ ok nog = refl
+  open_same (ECall group member args) p ρ (inl l) nog = same group member (map (value_of K.words ρ) args) l
+  open_same (ECall group member args) p ρ (inr h) nog = absurd (nog h.1)
+  open_same ENever p ρ ok nog = refl
+  open_same (EBinary op.Then a d) p ρ ok nog = ap (λ t. TThen t d ρ) (open_same a Inner ρ ok.0 inner_guarded)
+  open_same (EBinary o a d) p ρ ok nog =
+      ap₂ (λ a' d'. over (two_opened o) a' d' d ρ) (open_same a Inner ρ ok.0 inner_guarded) (open_same d Inner ρ ok.1 inner_guarded)
+  open_same (EDelay a m) p ρ ok nog = ap (λ a'. TOne (Delaying (number_of m ρ) 0) a') (open_same a Inner ρ ok inner_guarded)
+  open_same (EAwait a m) p ρ ok nog = ap (λ a'. TOne (Awaiting (number_of m ρ) 0) a') (open_same a Inner ρ ok inner_guarded)
+  open_same (EFilter a w) p ρ ok nog = let s =
+      suffix_of K.words w ρ in ap (λ a'. TOne (Filtering (word_of K.words s.word) s.offset) a') (open_same a Inner ρ ok inner_guarded)
+  open_same (EDelayed a m d) p ρ ok nog =
+      ap₂ (λ a' d'. TTwo (Lagging m (replicate m false)) a' d') (open_same a Inner ρ ok.2 inner_guarded) (open_same d Inner ρ ok.3 inner_guarded)
+  open_same (EIf q a d) p ρ ok nog = ap₂ (λ s t. if test_of K.words q ρ then s else t) (open_same a p ρ ok.0 nog) (open_same d p ρ ok.1 nog)
+
+module _ (K : System) (guarded_bodies : AreGuarded K) where
+  -- levels enough are as good as any
+  pub open_levels : (f f' g member : ℕ) (ρ : List Actual) → g < f → g < f' → open_bodies K f g member ρ ≡ open_bodies K f' g member ρ
+  open_levels zero f' g member ρ h h' = let z : ⊥ = omega arith in absurd z
+  open_levels (suc f) zero g member ρ h h' = let z : ⊥ = omega arith in absurd z
+  open_levels (suc f) (suc f') g member ρ h h' =
+      open_same K (open_bodies K f) (open_bodies K f') g (λ group m v l. open_levels f f' group m v (omega arith) (omega arith)) (root_of K g member) Tail ρ
+      (guarded_bodies g member) tail_guarded
+
+  -- a call of any group opens its member
+  pub opening_call : (g member : ℕ) (args : List Value) (ρ : List Actual) → g < length K.groups →
+      opening K (ECall g member args) ρ ≡ opening K (root_of K g member) (map (value_of K.words ρ) args)
+  opening_call g member args ρ l = open_levels (length K.groups) (suc (length K.groups)) g member (map (value_of K.words ρ) args) l (omega arith)
 
 -- so many steps at most
 steps_len : (b n : ℕ) → length (steps b n) ≤ n
 steps_len b zero = omega arith
-steps_len b (suc n) = on (nat_le b n) (steps_len b n)
-  where
-    on : (t : Bool) → length (steps b n) ≤ n → length (if t then steps b n ++ n ∷ [] else []) ≤ suc n
-    on true r = let a = length-append (steps b n) (n ∷ []) in omega (arith, a, r)
-    on false r = omega arith
+steps_len b (suc n) = grind (arith, common_steps, length-append, steps_len b n)
 
 module _ (K : System) (T : List Step) (gone : ℕ → ℕ → Bool) where
   pub grown-suc : (t : Tree) (b n : ℕ) → b ≤ n → grown K T gone t b (suc n) ≡ next K (step_at T n) (gone (suc n)) (grown K T gone t b n)

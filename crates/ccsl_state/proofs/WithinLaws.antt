@@ -1,11 +1,11 @@
 -- An expression and a tree that name clocks with P only. What is born of them and what a step makes of them names no others, and
 -- steps and deaths that are the same for these clocks are all one to them.
 use Rattle.std.proofs.lemmas.Grind.{common_steps}
-use Rattle.std.proofs.Common.{◌≡◌, ℕ, zero, suc, ◌<◌, List, [], ◌∷◌, map, length, Bool, true, false, ◌||◌, Option, Some, None, nat_le, refl, sym, ap}
-use Rattle.std.proofs.Common.{ap₂, subst, ◌∙◌, arith, ⊎_elim, eqb-true, eq-eqb}
+use Rattle.std.proofs.Common.{◌≡◌, ℕ, zero, suc, ◌<◌, List, [], ◌∷◌, map, length, Bool, true, false, ◌||◌, Option, Some, None, nat_le, refl, sym, ap, ap₂}
+use Rattle.std.proofs.Common.{subst, ◌∙◌, arith, ⊎_elim, eqb-true, eq-eqb}
 use Rattle.std.proofs.lemmas.Bool.{or_cases, or_left, or_right, cond_both}
 use Rattle.ccsl_base.specs.Clocks.{ticks_in}
-use Rattle.ccsl_formula.specs.Formula.{eval}
+use Rattle.ccsl_formula.specs.Formula.{eval, Formula}
 use Rattle.ccsl_kernel.specs.declared.expr.Place.{Place}
 use Rattle.ccsl_kernel.specs.declared.expr.Value.{Value}
 use Rattle.ccsl_kernel.specs.declared.expr.Place.TheVariants as place
@@ -19,11 +19,29 @@ use Rattle.ccsl_kernel.specs.Within.{PlaceWithin, ArgsWithin, NamesWithin, Actua
 use Rattle.ccsl_kernel.proofs.Scoped.{NamesBelow}
 use Rattle.ccsl_kernel.proofs.WithinLaws.{ActualWithin, names_more, place_within as place_in, args_within}
 use Rattle.ccsl_state.specs.Tree.{Tree, TName, TNever, TOne, TTwo, TThen, Two, one_next, one_ticks, one_dead, two_next, two_ticks, two_dead, leaf, over}
-use Rattle.ccsl_state.specs.Tree.{two_opened, open_with, open_bodies, opening, then_or_right, next, formula_of, dead_of}
+use Rattle.ccsl_state.specs.Tree.{two_opened, open_with, open_bodies, opening, then_or_right, next, formula_of, dead_of, One, one_formula, two_formula}
 use Rattle.ccsl_state.specs.Grown.{grown}
 use Rattle.ccsl_state.specs.Within.{TreeWithin}
 use Rattle.ccsl_state.specs.Reach.{place_names, arguments_name, names_clock}
-use Rattle.ccsl_state.proofs.Evals.{one_eval, two_eval}
+use Rattle.ccsl_state.specs.Nodes.{pair_at, node_ticks, node_dead}
+
+-- Whether a node ticks, from whether its operands do.
+
+module _ (s : List ℕ) where
+  pub one_eval : (o : One) (f : Formula) → eval (one_formula o f) s ≡ one_ticks o (eval f s)
+  one_eval o f = grind (arith, common_steps)
+
+  pub two_eval : (o : Two) (f g : Formula) → eval (two_formula o f g) s ≡ two_ticks o (eval f s) (eval g s)
+  two_eval o f g = grind (arith, common_steps)
+
+  pub pair_eval : (o : Option Two) (a d : Tree) → eval (formula_of (pair_at o a d)) s ≡ node_ticks o (eval (formula_of a) s) (eval (formula_of d) s)
+  pair_eval None a d = refl
+  pair_eval (Some o) a d = two_eval o (formula_of a) (formula_of d)
+
+-- and its death, from theirs
+pub pair_dead : (gone : ℕ → Bool) (o : Option Two) (a d : Tree) → node_dead o (dead_of gone a) (dead_of gone d) ≡ dead_of gone (pair_at o a d)
+pair_dead gone None a d = refl
+pair_dead gone (Some o) a d = refl
 
 module _ (P : ℕ → Type 0) where
   -- AN EXPRESSION names clocks with P only where each clock that it names has P

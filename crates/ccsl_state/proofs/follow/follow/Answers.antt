@@ -19,8 +19,8 @@ visits-init c =
     let F = c.args.readers.now.followed in
     let sets = c.args.readers.now.sets.items in
     let p = c.args.passage.now in
-    begins K c.requires.accepted F sets c.requires.readers c.args.step.now p.gone (trees_from c.args.lay.now 0 c.args.row.now) c.requires.kept.within p.unsettled
-    p.waiting (trees_len K c.args.lay.now.earlier.now K.definitions c.args.row.now) c.requires.low c.requires.ascends c.requires.kept
+    begins K c.requires.accepted F sets c.requires.readers c.args.step.now p.gone (trees_from c.args.lay.now 0 c.args.row.now) c.requires.kept.within
+    p.unsettled p.waiting (trees_len K c.args.lay.now.earlier.now K.definitions c.args.row.now) c.requires.low c.requires.ascends c.requires.kept
     (unsettled_wait sets p.unsettled c.args.step.now p.waiting c.requires.waiting)
     (readers_wait sets p.unsettled c.args.step.now p.waiting c.requires.waiting)
     (followed_wait sets p.unsettled c.args.step.now p.waiting c.requires.waiting (IsFollowed K F) c.requires.kept.few
@@ -30,7 +30,7 @@ pub bounds-places-i : goal.bounds-places-i
 bounds-places-i c = grind (arith, common_steps, places_len)
 
 pub bounds-flats-i : goal.bounds-flats-i
-bounds-flats-i c = let within = (c.visits.invariant.followed c.in-Some.i c.in-Some.ensures.member).0 in let count = c.requires.flats.count in omega arith
+bounds-flats-i c = grind (arith, common_steps)
 
 pub visit-visited-requires : goal.visit-visited-requires
 visit-visited-requires c = grind (arith, common_steps, places_len, whole_regions, slice_get-get_or)
