@@ -41,14 +41,7 @@ module _ (K : System) (earlier : List ℕ) where
       (place + cells_in earlier e ≤ k + cells_from earlier es)
       × ((d : ℕ) → place ≡ k + d → slice_get (trees_in K earlier es row) i ≡ Some (read K earlier e [] (drop d row))) × (k ≤ place)
   placed [] i k e place row is at = let z : ⊥ = cc in absurd z
-  placed (e' ∷ es) zero k e place row is at =
-      let same : e' ≡ e = cc in
-      let here : k ≡ place = cc in (
-        subst (λ x. place + cells_in earlier x ≤ k + (cells_in earlier e' + cells_from earlier es)) same (omega arith),
-        (λ d l. ap (λ x. Some (read K earlier x [] row)) same
-            ∙ ap (λ n. Some (read K earlier e [] (drop n row))) (let z : 0 ≡ d = omega (arith, here, l) in z)),
-        omega (arith, here),
-      )
+  placed (e' ∷ es) zero k e place row is at = grind (arith, common_steps)
   placed (e' ∷ es) (suc i) k e place row is at =
       let r = placed es i (k + cells_in earlier e') e place (drop (cells_in earlier e') row) is at in (
         (let a = r.0 in omega arith),
@@ -75,22 +68,14 @@ module _ (earlier : List ℕ) where
       (cells_from earlier (take (i + 1) es) ≡ cells_from earlier (take i es) + cells_in earlier e)
       × (cells_from earlier (take i es) + cells_in earlier e ≤ cells_from earlier es)
   next_place [] i e is = let z : ⊥ = cc in absurd z
-  next_place (e' ∷ es) zero e is = let same : e' ≡ e =
-      cc in (
-        subst (λ x. cells_from earlier (take 1 (e' ∷ es)) ≡ 0 + cells_in earlier x) same (omega arith),
-        subst (λ x. 0 + cells_in earlier x ≤ cells_in earlier e' + cells_from earlier es) same (omega arith),
-      )
-  next_place (e' ∷ es) (suc i) e is = let r = next_place es i e is in let n : suc i + 1 ≡ suc (i + 1) =
-      omega arith in (ap (λ k. cells_from earlier (take k (e' ∷ es))) n ∙ (let a = r.0 in omega arith), (let b = r.1 in omega arith))
+  next_place (e' ∷ es) zero e is = grind (arith, common_steps)
+  next_place (e' ∷ es) (suc i) e is = grind (arith, common_steps, next_place es i e is)
 
   pub places_more : (es : List Expression) (i k : ℕ) (e : Expression) → slice_get es i ≡ Some e →
       places_from earlier k (take (i + 1) es) ≡ places_from earlier k (take i es) ++ (k + cells_from earlier (take i es)) ∷ []
   places_more [] i k e is = let z : ⊥ = cc in absurd z
   places_more (e' ∷ es) zero k e is = ap (λ n. n ∷ []) (omega arith)
-  places_more (e' ∷ es) (suc i) k e is =
-      ap (λ n. places_from earlier k (take n (e' ∷ es))) (let n : suc i + 1 ≡ suc (i + 1) = omega arith in n)
-      ∙ ap (λ xs. k ∷ xs) (places_more es i (k + cells_in earlier e') e is)
-      ∙ ap (λ n. k ∷ (places_from earlier (k + cells_in earlier e') (take i es) ++ n ∷ [])) (omega arith)
+  places_more (e' ∷ es) (suc i) k e is = grind (arith, common_steps, places_more es i (k + cells_in earlier e') e is)
 
   pub more_places : (es : List Expression) (i : ℕ) (e : Expression) (places : List ℕ) (place size : ℕ) → slice_get es i ≡ Some e → PlacesSoFar es i places place
       → size ≡ cells_in earlier e →

@@ -111,10 +111,7 @@ module _ (p : HeldPart) (T : List Step) (s : Step) (ok : IsAccepted p.system) (c
       where
         on : (o : Option Expression) → slice_get K.definitions i ≡ o → named_by o y ≡ true → is_within K F y ≡ true
         on None is n = let z : ⊥ = cc in absurd z
-        on (Some e) is n = ⊎_elim
-            (λ (l : y < K.declared). or_left (nat_lt y K.declared) (ticks_in y F) (lt-ltb y K.declared l))
-            (λ (l : K.declared ≤ y). or_right (nat_lt y K.declared) (ticks_in y F) (closed (K.declared + i) y e (definition_at K ok i e is) followed n l))
-            (cases_lt y K.declared)
+        on (Some e) is n = grind (arith, common_steps, closed (K.declared + i) y e (definition_at K ok i e is) followed n)
 
     before : (i : ℕ) (e : Expression) → IsFollowed K F i → slice_get K.definitions i ≡ Some e → tree_number old i ≡ tree_after K T (K.declared + i) e
     before i e f is = get_or_from_slice_get old i (tree_after K T (K.declared + i) e) TNever (stands.trees i f.1 ∙ tree_get K T K.declared K.definitions i e is)

@@ -115,9 +115,7 @@ module _ (K : System) (T : List Step) (gone : ℕ → ℕ → Bool) where
   grown-then a d ρ b n l =
       from_birth (λ n. grown K T gone (TThen a d ρ) b n ≡ at_end (end_of (life_of K T gone a) b n) (TThen (grown K T gone a b n) d ρ)
       (λ k. grown K T gone (opening K d ρ) k n)) b
-      (grown-first (TThen a d ρ) b b (omega arith)
-      ∙ ap (λ t. TThen t d ρ) (sym (grown-first a b b (omega arith)))
-      ∙ ap (λ o. at_end o (TThen (grown K T gone a b b) d ρ) (λ k. grown K T gone (opening K d ρ) k b)) (sym (end-first a b)))
+      (grind (arith, common_steps, grown-first, end-first))
       (λ n l ih.
       grown-suc (TThen a d ρ) b n l
       ∙ ap (next K (step_at T n) (gone (suc n))) ih

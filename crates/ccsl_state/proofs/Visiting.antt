@@ -229,10 +229,7 @@ lowest_below n (y ∷ xs) x is = grind (arith, common_steps, lowest_below n xs x
 
 pub lowest_above : (n j : ℕ) (xs : List ℕ) → j < n → ((m : ℕ) → ticks_in m xs ≡ true → j < m) → j < lowest n xs
 lowest_above n j [] l h = l
-lowest_above n j (x ∷ xs) l h =
-    let here = h x (ap (λ t. t || ticks_in x xs) (eq-eqb x x refl)) in
-    let rest = lowest_above n j xs l (λ m is. h m (or_right (nat_eq m x) (ticks_in m xs) is)) in
-    omega (arith, here, rest)
+lowest_above n j (x ∷ xs) l h = grind (arith, common_steps, lowest_above n j xs l, h x)
 
 pub lowest_most : (n : ℕ) (xs : List ℕ) → lowest n xs ≤ n
 lowest_most n [] = omega arith
