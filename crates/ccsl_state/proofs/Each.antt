@@ -1,7 +1,7 @@
 -- A definition's region, and those behind it.
 use Rattle.std.proofs.lemmas.Grind.{common_steps}
-use Rattle.std.proofs.Common.{rules, drop-cons, add-one, ◌≡◌, ℕ, zero, suc, ◌+◌, ◌<◌, ◌≤◌, List, [], ◌∷◌, ◌++◌, length, drop, true, false, Some, slice_get, sym, ap, ap₂}
-use Rattle.std.proofs.Common.{subst, ◌∙◌, arith, ◌-◌, take, refl, Bool, not, slice_set}
+use Rattle.std.proofs.Common.{rules, drop-cons, add-one, ◌≡◌, ℕ, zero, suc, ◌+◌, ◌<◌, ◌≤◌, List, [], ◌∷◌, ◌++◌, length, drop, true, false, Some, slice_get, sym}
+use Rattle.std.proofs.Common.{ap, ap₂, subst, ◌∙◌, arith, ◌-◌, take, refl, Bool, not, slice_set}
 use Rattle.std.proofs.lemmas.Option.{slice_get_within, get_or_from_slice_get}
 use Rattle.ccsl_base.specs.declared.limits.TheConstants.{MAX_CELLS}
 use Rattle.ccsl_formula.specs.Formula.{eval}

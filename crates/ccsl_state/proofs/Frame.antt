@@ -1,7 +1,7 @@
 -- The tree that a region holds depends on its own cells alone.
 use Rattle.std.proofs.lemmas.Grind.{common_steps}
-use Rattle.std.proofs.Common.{◌≡◌, ℕ, zero, suc, ◌+◌, ◌<◌, ◌≤◌, List, ◌++◌, length, map, take, drop, slice_index, max, Bool, true, false, Option, Some, None}
-use Rattle.std.proofs.Common.{nat_lt, if◌then◌else◌, refl, sym, ap, ap₂, subst, ◌∙◌, arith, ltb-true, ◌%◌, ◌^◌}
+use Rattle.std.proofs.Common.{◌≡◌, ℕ, zero, suc, ◌+◌, ◌<◌, ◌≤◌, List, ◌++◌, length, map, take, drop, slice_index, max, false, Option, Some, None}
+use Rattle.std.proofs.Common.{if◌then◌else◌, refl, sym, ap, ap₂, subst, ◌∙◌, arith, ◌%◌, ◌^◌}
 use Rattle.std.proofs.lemmas.Bool.{eqb-false}
 use Rattle.std.proofs.lemmas.List.{length-take-le, take-take, get_or-take}
 use Rattle.ccsl_base.specs.declared.limits.TheConstants.{MAX_CELLS}
@@ -9,10 +9,10 @@ use Rattle.ccsl_kernel.specs.declared.expr.ExprOp.{ExprOp}
 use Rattle.ccsl_kernel.specs.declared.expr.ExprOp.TheVariants as op
 use Rattle.ccsl_kernel.specs.declared.actual.Actual.{Actual}
 use Rattle.ccsl_kernel.specs.Syntax.{Expression, EName, ECall, ENever, EBinary, EDelay, EAwait, EFilter, EDelayed, EIf, Body, System, body_of}
-use Rattle.ccsl_kernel.specs.Actuals.{number_of, suffix_of, test_of, word_of}
+use Rattle.ccsl_kernel.specs.Actuals.{test_of}
 use Rattle.ccsl_kernel.specs.Cells.{cells_in, cells_of_two}
-use Rattle.ccsl_state.specs.Tree.{Tree, TNever, TOne, TTwo, Delaying, Awaiting, Filtering, Lagging}
-use Rattle.ccsl_state.specs.Layout.{binary_at, count_of, offset_of, flag_of, flag_at, bits_of, rotated, own_cells, two_at, then_at, words_of, lag_at, actual_of}
+use Rattle.ccsl_state.specs.Tree.{Tree, TTwo, Lagging}
+use Rattle.ccsl_state.specs.Layout.{binary_at, flag_of, flag_at, bits_of, rotated, own_cells, two_at, then_at, words_of, lag_at, actual_of}
 use Rattle.ccsl_state.specs.Layout.{read_in, read_body, read_call, read, region_of}
 use Rattle.ccsl_state.specs.Standing.{is_then, IsEnough}
 use Rattle.ccsl_state.specs.Nodes.{pair_at}

@@ -50,12 +50,10 @@ offset_after w o [] = o
 offset_after w o (t ∷ ts) = offset_after w (if t then rest w o else o) ts
 
 counted : (c : ℕ) (t : Bool) (n k : ℕ) → c + suc k ≤ most → bumped t c + n ≡ c + (if t then suc n else n)
-counted c true n k h = omega (arith, h)
-counted c false n k h = refl
+counted c t n k h = grind (arith, common_steps)
 
 less : (c : ℕ) (t : Bool) (k : ℕ) → c + suc k ≤ most → bumped t c + k ≤ most
-less c true k h = omega (arith, h)
-less c false k h = omega (arith, h)
+less c t k h = grind (arith, common_steps)
 
 -- one that counts the ticks of its operand
 counting : (node : ℕ → One) → ((c : ℕ) (t : Bool) → one_next (node c) t ≡ node (bumped t c)) → (c : ℕ) (t : ℕ → Bool) (is : List ℕ) → c + length is ≤ most

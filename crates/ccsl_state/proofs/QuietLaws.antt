@@ -1,7 +1,7 @@
 -- A tree that hears nothing tells nothing and stays, for each operator.
 use Rattle.std.proofs.lemmas.Grind.{common_steps}
 use Rattle.std.proofs.Common.{arith, ◌≡◌, ℕ, List, [], ◌∷◌, length, Bool, true, false, not, ◌&&◌, Some, slice_get, refl, sym, ap, ap₂, ◌∙◌}
-use Rattle.std.proofs.lemmas.Bool.{and_parts, and_from, not-true}
+use Rattle.std.proofs.lemmas.Bool.{and_from}
 use Rattle.ccsl_formula.specs.Formula.{eval}
 use Rattle.ccsl_kernel.specs.Syntax.{Expression, System, root_of}
 use Rattle.ccsl_kernel.specs.Lives.{Step}
@@ -10,8 +10,8 @@ use Rattle.ccsl_kernel.specs.Accepted.{IsAccepted}
 use Rattle.ccsl_kernel.proofs.Scoped.{NamesBelow}
 use Rattle.ccsl_kernel.proofs.AcceptedParts.{accepted_scoped}
 use Rattle.ccsl_kernel.proofs.WithinLaws.{names_more, actuals_more}
-use Rattle.ccsl_state.specs.Tree.{One, Two, Tree, TName, TNever, TOne, TTwo, TThen, one_ticks, one_next, two_ticks, two_next, set_first, opening, then_or_right}
-use Rattle.ccsl_state.specs.Tree.{next, formula_of, dead_of}
+use Rattle.ccsl_state.specs.Tree.{One, Two, Tree, TName, TNever, TOne, TTwo, TThen, one_ticks, one_next, two_ticks, two_next, set_first, opening}
+use Rattle.ccsl_state.specs.Tree.{next, formula_of}
 use Rattle.ccsl_state.specs.Within.{TreeWithin}
 use Rattle.ccsl_state.specs.Reach.{names_clock}
 use Rattle.ccsl_state.specs.Quiet.{named_by, reads, ReadsNoMore, IsUnheard, is_settled, IsQuiet, StaysAsItIs, BearsSettled}

@@ -1,6 +1,6 @@
 -- What states that stand for a list of steps tell, and for which list they stand after one step more.
 use Rattle.std.proofs.lemmas.Grind.{common_steps}
-use Rattle.std.proofs.Common.{◌≡◌, ℕ, zero, suc, ◌+◌, ◌-◌, ◌*◌, ◌<◌, ◌≤◌, ◌^◌, List, [], ◌∷◌, ◌++◌, length, drop, replicate, map, Bool, true, false, Option}
+use Rattle.std.proofs.Common.{◌≡◌, ℕ, zero, suc, ◌+◌, ◌-◌, ◌<◌, ◌≤◌, ◌^◌, List, [], ◌∷◌, ◌++◌, length, drop, replicate, map, Bool, true, false, Option}
 use Rattle.std.proofs.Common.{Some, None, option_map, slice_get, slice_index, nat_eq, nat_le, if◌then◌else◌, refl, sym, ap, ap₂, subst, ◌∙◌, arith, ⊎_elim}
 use Rattle.std.proofs.Common.{eqb-true, length-append, nat_lt, slice_index_or}
 use Rattle.std.proofs.Math.Seq.{take-length}
@@ -28,7 +28,6 @@ use Rattle.ccsl_kernel.proofs.Quiet.{count-snoc}
 use Rattle.ccsl_kernel.proofs.Scope.{ReadsOnly, reads_only, chosen}
 use Rattle.ccsl_state.specs.Tree.{bumped, Tree, formula_of, TName, TNever, TOne, TTwo, TThen, One, Delaying, Awaiting, Filtering, Two, Uniting, Meeting}
 use Rattle.ccsl_state.specs.Tree.{Lessening, Leading, Trailing, Ending, EndingWeakly, Sampling, SamplingWeakly, Lagging, one_formula, two_formula}
-use Rattle.ccsl_state.specs.Layout.{count_of}
 use Rattle.ccsl_state.specs.States.{trees_in, next_all, derived_in, tree_after, trees_from, trees_after, opened_all}
 use Rattle.ccsl_state.specs.Below.{TreeBelow, TreesBelow}
 use Rattle.ccsl_state.specs.Held.{Held, trees_of, is_dead, derived_by, counts_of, left_count, right_count, counted_formula, tree_or_constraint, formula_in}
@@ -80,11 +79,7 @@ get_tree K T x (e ∷ es) (suc i) = get_tree K T (suc x) es i ∙ ap (λ k. opti
 count_more : (T : List Step) (s : Step) (x : ℕ) → length T < 2 ^ 64 - 1
     → clock_count (T ++ s ∷ []) x (length (T ++ s ∷ [])) ≡ bumped (ticks_in x s) (clock_count T x (length T))
 count_more T s x few =
-    ap (λ U. count (map (ticks_in x) U)) (take-length (T ++ s ∷ []))
-    ∙ ap count (map_push (ticks_in x) T s)
-    ∙ count-snoc (map (ticks_in x) T) (ticks_in x s)
-    ∙ on (ticks_in x s)
-    ∙ ap (λ U. bumped (ticks_in x s) (count (map (ticks_in x) U))) (sym (take-length T))
+    rw (take-length (T ++ s ∷ []), take-length T, map_push (ticks_in x) T s, count-snoc (map (ticks_in x) T) (ticks_in x s)) (on (ticks_in x s))
   where
     bound : count (map (ticks_in x) T) ≤ length T
     bound = let b = clocks_bounded T x (length T) in let e = ap (λ U. count (map (ticks_in x) U)) (take-length T) in omega arith
@@ -165,9 +160,7 @@ module _ (h : Held) (ok : IsAccepted h.system) where
   constraint_is same j c at =
       let n = length h.system.definitions in
       let place : n + j - n ≡ j = omega arith in
-      ap (tree_or_constraint h (n + j)) (slice_get_past (trees_of h) (n + j) (omega (arith, same)))
-      ∙ ap (λ k. counted_formula (left_count h k) (right_count h k) (slice_get h.system.constraints k)) place
-      ∙ ap (counted_formula (left_count h j) (right_count h j)) at
+      rw (slice_get_past (trees_of h) (n + j) (omega (arith, same)), place, at)
 
   -- WHAT THE FORMULAS READ
   relation_reads : (X : ℕ) (kind : RelationKind) (a b m n : ℕ) → a < X → b < X → ReadsOnly X (relation_formula kind a b m n)

@@ -79,7 +79,9 @@ module _ (K : System) (ok : IsGuarded K) where
       next_all K s (table (T ++ s ∷ []) (length (T ++ s ∷ [])) x) x (trees_from K T x es) ≡ trees_from K (T ++ s ∷ []) x es
   next-from T s x [] few h = refl
   next-from T s x (e ∷ es) few h =
-      ap₂ (λ t' known. t' ∷ next_all K s known (suc x) (trees_from K T (suc x) es)) here dies
+      ap₂ (λ t' known. t' ∷ next_all K s known (suc x) (trees_from K T (suc x) es)) here
+      (ap (λ v. put v x (table (T ++ s ∷ []) (length (T ++ s ∷ [])) x)) (ap₂ (λ g t. dead_of g t) reads here
+      ∙ tree_dead (T ++ s ∷ []) x e few (sym (h 0 ∙ ap (definition_of K) (let z : x + 0 ≡ x = omega arith in z)))))
       ∙ ap (λ ts. tree_after K (T ++ s ∷ []) x e ∷ ts) (next-from T s (suc x) es few (λ j. h (suc j) ∙ ap (definition_of K) (omega arith)))
     where
       reads : gone_in (table (T ++ s ∷ []) (length (T ++ s ∷ [])) x) ≡ dead_below K (T ++ s ∷ []) x (length (T ++ s ∷ []))
@@ -89,16 +91,6 @@ module _ (K : System) (ok : IsGuarded K) where
       here =
           ap (λ g. next K s g (tree_after K T x e)) (reads ∙ ap (dead_below K (T ++ s ∷ []) x) (length-step T s))
           ∙ sym (tree_step T s x e)
-
-      is : definition_of K x ≡ Some e
-      is = sym (h 0 ∙ ap (definition_of K) (omega arith))
-
-      dies : put (dead_of (gone_in (table (T ++ s ∷ []) (length (T ++ s ∷ [])) x))
-          (next K s (gone_in (table (T ++ s ∷ []) (length (T ++ s ∷ [])) x)) (tree_after K T x e))) x (table (T ++ s ∷ []) (length (T ++ s ∷ [])) x) ≡ table
-          (T ++ s ∷ []) (length (T ++ s ∷ [])) (suc x)
-      dies =
-          ap (λ v. put v x (table (T ++ s ∷ []) (length (T ++ s ∷ [])) x))
-          (ap₂ (λ g t. dead_of g t) reads here ∙ tree_dead (T ++ s ∷ []) x e few is)
 
   -- the dead clocks, from the trees
   deaths-from : (T : List Step) (x : ℕ) (es : List Expression) → length T ≤ most → ((j : ℕ) → slice_get es j ≡ definition_of K (x + j)) →

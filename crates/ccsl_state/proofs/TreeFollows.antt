@@ -1,6 +1,6 @@
 -- The state tree follows the meaning: its life obeys each row of the table, and so is the meaning.
 use Rattle.std.proofs.lemmas.Grind.{common_steps}
-use Rattle.std.proofs.Common.{◌≡◌, ℕ, zero, suc, ◌≤◌, List, [], ◌∷◌, ◌++◌, find, length, Bool, true, false, Option, Some, None, refl, sym, ap, ◌∙◌, arith}
+use Rattle.std.proofs.Common.{◌≡◌, ℕ, zero, suc, ◌≤◌, List, find, length, Bool, true, false, Option, Some, None, refl, sym, ap, ◌∙◌, arith}
 use Rattle.std.proofs.Common.{nat_le, le-leb, if◌then◌else◌, length-append, ◌<◌, inl, inr, map, replicate, ap₂}
 use Rattle.std.proofs.lemmas.Bool.{lt-leb, cond_both}
 use Rattle.ccsl_kernel.specs.declared.expr.ExprOp.{ExprOp}
