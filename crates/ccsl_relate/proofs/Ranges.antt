@@ -1,7 +1,8 @@
 -- Items that go on by a step, from one place to another.
 use Rattle.std.proofs.lemmas.Grind.{common_steps}
 use Rattle.std.proofs.Common.{◌≡◌, ◌≢◌, ℕ, ◌+◌, ◌<◌, ◌≤◌, List, [], ◌∷◌, Bool, true, false, map, length, get_or, slice_set, nat_lt, nat_eq, refl}
-use Rattle.std.proofs.Common.{sym, ap, ap₂, ◌∙◌, subst, arith, eq-eqb, ⊎_elim, None}
+use Rattle.std.proofs.Common.{sym, ap, ap₂, ◌∙◌, subst, arith, eq-eqb, ⊎_elim, Option, None}
+use Rattle.std.specs.Option.{ForSome}
 use Rattle.std.specs.Vec.{with_items}
 use Rattle.std.specs.declared.vec.Vec.{Vec}
 use Rattle.std.proofs.Math.Seq.{map-set_same}
@@ -11,7 +12,7 @@ use Rattle.ccsl_kernel.specs.Lives.{Step}
 use Rattle.ccsl_relate.specs.declared.watched.Watched.{Watched}
 use Rattle.ccsl_relate.specs.declared.watched.Watched.TheVariants.{Nothing, Definition, Relation}
 use Rattle.ccsl_relate.specs.Watching.{fails_in, next_in, FailsFirst}
-use Rattle.ccsl_relate.specs.Reading.{clocks_of, IsQuiet, FailsFrom, GoesOn, TakeStep}
+use Rattle.ccsl_relate.specs.Reading.{clocks_of, AreReaders, Fit, IsQuiet, FailsFrom, GoesOn, TakeStep}
 
 -- a step changes none of the clocks that an item reads
 pub clocks_of-next : (s : Step) (w : Watched) → clocks_of (next_in s w) ≡ clocks_of w
@@ -31,6 +32,13 @@ same-count old new e = omega (arith, ap length e, length-map new clocks_of, leng
 pub come-back : {Z : Type 0} (kept : Vec Watched Z) {old : List Watched} (new : List Watched) → kept.items ≡ old → map clocks_of new ≡ map clocks_of old
     → (with_items kept new).items ≡ new
 come-back kept {old} new at same = with_items_is kept new (same-count old new same ∙ sym (ap length at) ∙ sym kept.ok.0)
+
+-- and each of them reads what it read
+pub fit-on : {Z : Type 0} (kept : Vec Watched Z) (readers : Option (List (List (List ℕ)))) {old : List Watched} (new : List Watched) → old ≡ kept.items
+    → map clocks_of new ≡ map clocks_of old → Fit readers kept.items → Fit readers (with_items kept new).items
+fit-on kept readers new at same f =
+    rw (come-back kept new (sym at) same)
+    (subst (λ read. ForSome readers (λ groups. AreReaders groups read)) (sym (same ∙ ap (map clocks_of) at)) f)
 
 pub clocks-set : (s : Step) (kept : List Watched) (i : ℕ) (d w : Watched) → w ≡ next_in s (get_or kept i d)
     → map clocks_of (slice_set kept i w) ≡ map clocks_of kept

@@ -5,6 +5,7 @@ use Rattle.ccsl_relate.specs.Completed.{Completes}
 use Rattle.ccsl_relate.specs.Watching.{Watching}
 use Rattle.ccsl_relate.proofs.Completing.{completes-itself}
 use Rattle.ccsl_relate.proofs.Passing.{items-have-room}
+use Rattle.ccsl_relate.proofs.Ranges.{fit-on}
 use Rattle.ccsl_relate.proofs.Through.{rows-taken}
 use Rattle.ccsl_relate.proofs.monitor.Monitor.check_items.Goals as goal
 
@@ -23,3 +24,11 @@ returns c =
     (ap (λ (u : Watching). u.first) c.self.view_is ∙ c.requires.none) c.rows_are_sets.ensures c.len-rows.ensures
     (λ T after few. subst (λ h. Completes K T h block block h) (sym stateless) (completes-itself K T block))
     (rw take-length at c.first_violation-first.ensures)
+
+pub invariant_of-self : goal.invariant_of-self
+invariant_of-self c = (
+  c.self.invariant.0,
+  fit-on c.self.inside.kept c.self.inside.readers c.first_violation-first.new.kept c.as_mut_slice-kept.ensures.value c.first_violation-first.ensures.clocks
+      c.self.invariant.1,
+  c.self.invariant.2,
+)

@@ -4,6 +4,7 @@ use Rattle.ccsl_base.proofs.Cases.{none-of}
 use Rattle.ccsl_relate.specs.Stretch.{stretch, TakeRows}
 use Rattle.ccsl_relate.specs.Watching.{Watching}
 use Rattle.ccsl_relate.proofs.Passing.{items-have-room}
+use Rattle.ccsl_relate.proofs.Ranges.{fit-on}
 use Rattle.ccsl_relate.proofs.Resting.{rests, sets-within}
 use Rattle.ccsl_relate.proofs.Through.{rows-taken}
 use Rattle.ccsl_relate.proofs.Undeclared.{some-of}
@@ -43,3 +44,11 @@ returns-clause-takes c =
     (λ T after few. rw c.in-Some.is (c.complete.ensures.completed i.system.now T (rw c.in-Some.is at after) (omega (arith, few, many))))
     (subst (λ m. TakeRows (stretch c.args.from m block) completed i.steps i.start c.as_mut_slice-kept.result.now found.new.kept found.result)
     c.complete.ensures.count found.ensures)
+
+pub invariant_of-self-2 : goal.invariant_of-self-2
+invariant_of-self-2 c = (
+  c.self.invariant.0,
+  fit-on c.self.inside.kept c.self.inside.readers c.first_violation-first.new.kept c.as_mut_slice-kept.ensures.value c.first_violation-first.ensures.clocks
+      c.self.invariant.1,
+  c.complete.ensures.room ∙ c.self.invariant.2,
+)

@@ -3,6 +3,7 @@ use Rattle.ccsl_base.proofs.Cases.{none-of}
 use Rattle.ccsl_relate.specs.Watching.{Watching}
 use Rattle.ccsl_relate.proofs.History.{one-set}
 use Rattle.ccsl_relate.proofs.Passing.{row-taken, items-have-room}
+use Rattle.ccsl_relate.proofs.Ranges.{fit-on}
 use Rattle.ccsl_relate.proofs.Resting.{rests}
 use Rattle.ccsl_relate.proofs.Undeclared.{some-of}
 use Rattle.ccsl_relate.proofs.monitor.Monitor.first_with.Goals as goal
@@ -34,3 +35,19 @@ returns-in_err-place-clause-takes c =
     rw c.from_residual.ensures
     (row-taken c.self.inside.kept None refl c.as_mut_slice-kept.ensures.value c.self.view_is
     (none (goal.at.returns-in_err-place-clause-takes c).Else-is_some) c.ascends.ensures.ascending c.in_err-place.ensures)
+
+pub invariant_of-self : goal.invariant_of-self
+invariant_of-self c = (
+  c.self.invariant.0,
+  fit-on c.self.inside.kept c.self.inside.readers c.first_violated.new.kept c.as_mut_slice-kept.ensures.value c.first_violated.ensures.items.clocks
+      c.self.invariant.1,
+  c.self.invariant.2,
+)
+
+pub invariant_of-self-2 : goal.invariant_of-self-2
+invariant_of-self-2 c = (
+  c.self.invariant.0,
+  fit-on c.self.inside.kept c.self.inside.readers c.first_violated.new.kept c.as_mut_slice-kept.ensures.value c.first_violated.ensures.items.clocks
+      c.self.invariant.1,
+  c.self.invariant.2,
+)
