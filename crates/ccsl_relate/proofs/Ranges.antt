@@ -1,7 +1,7 @@
 -- Items that go on by a step, from one place to another.
 use Rattle.std.proofs.lemmas.Grind.{common_steps}
 use Rattle.std.proofs.Common.{◌≡◌, ◌≢◌, ℕ, ◌+◌, ◌<◌, ◌≤◌, List, [], ◌∷◌, Bool, true, false, map, length, get_or, slice_set, nat_lt, nat_eq, refl}
-use Rattle.std.proofs.Common.{sym, ap, ap₂, ◌∙◌, subst, arith, eq-eqb, ⊎_elim, Option, None}
+use Rattle.std.proofs.Common.{sym, ap, ap₂, ◌∙◌, subst, arith, eq-eqb, ⊎_elim, Option, Some, None}
 use Rattle.std.specs.Option.{ForSome}
 use Rattle.std.specs.Vec.{with_items}
 use Rattle.std.specs.declared.vec.Vec.{Vec}
@@ -11,7 +11,7 @@ use Rattle.std.proofs.lemmas.List.{get_or_default, get_or-map, get_or-set_same, 
 use Rattle.ccsl_kernel.specs.Lives.{Step}
 use Rattle.ccsl_relate.specs.declared.watched.Watched.{Watched}
 use Rattle.ccsl_relate.specs.declared.watched.Watched.TheVariants.{Nothing, Definition, Relation}
-use Rattle.ccsl_relate.specs.Watching.{fails_in, next_in, FailsFirst}
+use Rattle.ccsl_relate.specs.Watching.{fails_in, next_in}
 use Rattle.ccsl_relate.specs.Reading.{clocks_of, AreReaders, Fit, IsQuiet, FailsFrom, GoesOn, TakeStep}
 
 -- a step changes none of the clocks that an item reads
@@ -47,17 +47,14 @@ clocks-set s kept i d w e = map-set_same clocks_of kept i w d (ap clocks_of e �
 other : (k n : ℕ) → nat_eq k n ≡ false → k ≢ n
 other k n e q = let z : false ≡ true = sym e ∙ eq-eqb k n q in cc
 
-module _ (ticks : List ℕ) (s : Step) where
-  abbrev fails : Watched → Bool
-  fails w = fails_in ticks s w
-
-  pub on-none : (start : ℕ) (kept : List Watched) → GoesOn ticks s start start kept kept
-  on-none start kept = grind (arith, common_steps)
+module _ {ticks : List ℕ} {s : Step} where
+  pub on-none : {start : ℕ} {kept : List Watched} → GoesOn ticks s start start kept kept
+  on-none {start} {kept} = grind (arith, common_steps)
 
   -- the next items are quiet
-  pub on-skip : (start end next : ℕ) (old now : List Watched) → GoesOn ticks s start end old now → start ≤ end → end ≤ next
+  pub on-skip : {start end : ℕ} (next : ℕ) {old now : List Watched} → GoesOn ticks s start end old now → start ≤ end → end ≤ next
       → ((k : ℕ) → end ≤ k → k < next → k < length old → IsQuiet ticks s (get_or old k Nothing)) → GoesOn ticks s start next old now
-  on-skip start end next old now g low up quiet = record {
+  on-skip {start} {end} next {old} {now} g low up quiet = record {
     count = g.count;
     obeys = λ k d a b l. grind (arith, quiet-at k d, g.obeys k d);
     gone = λ k d a b l. grind (arith, quiet-at k d, g.gone k d, g.rest k d);
@@ -69,14 +66,15 @@ module _ (ticks : List ℕ) (s : Step) where
       quiet-at k d a b l = subst (IsQuiet ticks s) (get_or_default old k Nothing d l) (quiet k a b l)
 
   -- the next item does not fail, and goes on
-  pub on-more : (start end : ℕ) (old now : List Watched) (w : Watched) → GoesOn ticks s start end old now → start ≤ end → end < length old
-      → fails (get_or now end Nothing) ≡ false → w ≡ next_in s (get_or now end Nothing) → GoesOn ticks s start (end + 1) old (slice_set now end w)
-  on-more start end old now w g low inside obeyed is = grind (arith, common_steps, length-set, get_or-set_other, get_or_default, other, get_or-set_same)
+  pub on-more : {start end : ℕ} {old now : List Watched} (w : Watched) → GoesOn ticks s start end old now → start ≤ end → end < length old
+      → fails_in ticks s (get_or now end Nothing) ≡ false → w ≡ next_in s (get_or now end Nothing)
+      → GoesOn ticks s start (end + 1) old (slice_set now end w)
+  on-more {start} {end} {old} {now} w g low inside obeyed is = grind (arith, common_steps, length-set, get_or-set_other, get_or_default, other, get_or-set_same)
 
   -- one range behind the other
-  pub on-both : (start mid end : ℕ) (old now new : List Watched) → GoesOn ticks s start mid old now → GoesOn ticks s mid end now new → start ≤ mid → mid ≤ end
+  pub on-both : {start mid end : ℕ} {old now new : List Watched} → GoesOn ticks s start mid old now → GoesOn ticks s mid end now new → start ≤ mid → mid ≤ end
       → GoesOn ticks s start end old new
-  on-both start mid end old now new g h low up = record {
+  on-both {start} {mid} {end} {old} {now} {new} g h low up = record {
     count = h.count ∙ g.count;
     obeys = λ k d a b l. obeys k d a b l (nat_lt k mid) refl;
     gone = λ k d a b l. gone k d a b l (nat_lt k mid) refl;
@@ -84,11 +82,11 @@ module _ (ticks : List ℕ) (s : Step) where
     rest = λ k d l. h.rest k d l ∙ g.rest k d (omega (arith, l, up));
   }
     where
-      obeys : (k : ℕ) (d : Watched) → start ≤ k → k < end → k < length old → (b : Bool) → nat_lt k mid ≡ b → fails (get_or old k d) ≡ false
+      obeys : (k : ℕ) (d : Watched) → start ≤ k → k < end → k < length old → (b : Bool) → nat_lt k mid ≡ b → fails_in ticks s (get_or old k d) ≡ false
       obeys k d a b l true e = g.obeys k d a (ltb-true k mid e) l
       obeys k d a b l false e =
           let m : mid ≤ k = ltb-false k mid e in
-          sym (ap fails (g.rest k d m)) ∙ h.obeys k d m b (omega (arith, l, g.count))
+          sym (ap (fails_in ticks s) (g.rest k d m)) ∙ h.obeys k d m b (omega (arith, l, g.count))
 
       gone : (k : ℕ) (d : Watched) → start ≤ k → k < end → k < length old → (b : Bool) → nat_lt k mid ≡ b → get_or new k d ≡ next_in s (get_or old k d)
       gone k d a b l true e = h.front k d (ltb-true k mid e) ∙ g.gone k d a (ltb-true k mid e) l
@@ -97,9 +95,9 @@ module _ (ticks : List ℕ) (s : Step) where
           h.gone k d m b (omega (arith, l, g.count)) ∙ ap (next_in s) (g.rest k d m)
 
   -- ALL ITEMS went on
-  pub on-all : (end : ℕ) (old new : List Watched) → GoesOn ticks s 0 end old new → length old ≤ end → map clocks_of new ≡ map clocks_of old
+  pub on-all : {end : ℕ} {old new : List Watched} → GoesOn ticks s 0 end old new → length old ≤ end → map clocks_of new ≡ map clocks_of old
       → TakeStep ticks s old new None
-  on-all end old new g l same = record {
+  on-all {end} {old} {new} g l same = record {
     clocks = same;
     fails = tt;
     none = λ k d m. g.obeys k d (omega arith) (omega (arith, l, m)) m;
@@ -107,18 +105,24 @@ module _ (ticks : List ℕ) (s : Step) where
   }
 
   -- THE FIRST that fails
-  pub fails-here : (start end : ℕ) (old now : List Watched) → GoesOn ticks s start end old now → start ≤ end → end < length old
-      → fails (get_or now end Nothing) ≡ true → FailsFrom ticks s start old end
-  fails-here start end old now g low inside e = grind (arith, common_steps, get_or_default)
+  pub fails-here : {start end : ℕ} {old now : List Watched} → GoesOn ticks s start end old now → start ≤ end → end < length old
+      → fails_in ticks s (get_or now end Nothing) ≡ true → FailsFrom ticks s start old end
+  fails-here {start} {end} {old} {now} g low inside e = grind (arith, common_steps, get_or_default)
 
   -- it is the first of all, where those before went on
-  pub fails-behind : (mid place : ℕ) (old now : List Watched) → GoesOn ticks s 0 mid old now → FailsFrom ticks s mid now place → FailsFirst ticks s old place
-  fails-behind mid place old now g f = record {
-    inside = omega (arith, f.inside, g.count);
-    fails = λ d. sym (ap fails (g.rest place d f.low)) ∙ f.fails d;
-    before = λ k d l.
-        ⊎_elim
-        (λ (m : k < mid). g.obeys k d (omega arith) m (omega (arith, l, f.inside, g.count)))
-        (λ (m : mid ≤ k). sym (ap fails (g.rest k d m)) ∙ f.before k d m l)
-        (cases_lt k mid);
+  pub stops-at : {mid place : ℕ} {old now new : List Watched} → GoesOn ticks s 0 mid old now → FailsFrom ticks s mid now place
+      → map clocks_of new ≡ map clocks_of old → TakeStep ticks s old new (Some place)
+  stops-at {mid} {place} {old} {now} g f same = record {
+    clocks = same;
+    fails = record {
+      inside = omega (arith, f.inside, g.count);
+      fails = λ d. sym (ap (fails_in ticks s) (g.rest place d f.low)) ∙ f.fails d;
+      before = λ k d l.
+          ⊎_elim
+          (λ (m : k < mid). g.obeys k d (omega arith) m (omega (arith, l, f.inside, g.count)))
+          (λ (m : mid ≤ k). sym (ap (fails_in ticks s) (g.rest k d m)) ∙ f.before k d m l)
+          (cases_lt k mid);
+    };
+    none = tt;
+    next = tt;
   }

@@ -27,7 +27,7 @@ pub record Walks (ticks : List ℕ) (s : Step) (start : ℕ) (touched rest : Lis
   pub sorted : is_ascending rest ≡ true
   pub below : are_below MAX_CLOCKS touched ≡ true
 
-module _ (ticks : List ℕ) (s : Step) (start : ℕ) (touched : List ℕ) (old now : List Watched) (t : Touches ticks s touched start old) where
+module _ {ticks : List ℕ} {s : Step} {start : ℕ} {touched : List ℕ} {old : List Watched} (t : Touches ticks s touched start old) where
   -- an item at which the walk does not stop is quiet
   quiet-between : (next : ℕ) (stop : ℕ) → start ≤ next → stop ≤ start + MAX_CLOCKS
       → ((p : ℕ) → next ≤ start + p → start + p < stop → ticks_in p touched ≡ false)
@@ -38,7 +38,7 @@ module _ (ticks : List ℕ) (s : Step) (start : ℕ) (touched : List ℕ) (old n
       subst (λ (i : ℕ). IsQuiet ticks s (get_or old i Nothing)) at
       (t.quiet p (omega (arith, at, b, high)) (none p (omega (arith, at, a)) (omega (arith, at, b))))
 
-  module _ (m : ℕ) (rest : List ℕ) (w : Walks ticks s start touched (m ∷ rest) old now) where
+  module _ {now : List Watched} {m : ℕ} {rest : List ℕ} (w : Walks ticks s start touched (m ∷ rest) old now) where
     parts : (list_all (nat_lt m) rest ≡ true) × (is_ascending rest ≡ true)
     parts = and_parts (list_all (nat_lt m) rest) (is_ascending rest) w.sorted
 
@@ -63,10 +63,10 @@ module _ (ticks : List ℕ) (s : Step) (start : ℕ) (touched : List ℕ) (old n
 
     -- the walk comes to the next place
     comes : GoesOn ticks s start (start + m) old now
-    comes = on-skip ticks s start w.next (start + m) old now w.on w.low from (quiet-between w.next (start + m) w.low (omega (arith, small)) none-between)
+    comes = on-skip (start + m) w.on w.low from (quiet-between w.next (start + m) w.low (omega (arith, small)) none-between)
 
     pub walk-fails : fails_in ticks s (get_or now (start + m) Nothing) ≡ true → FailsFrom ticks s start old (start + m)
-    walk-fails e = fails-here ticks s start (start + m) old now comes (omega arith) walk-inside e
+    walk-fails e = fails-here comes (omega arith) walk-inside e
 
     pub walk-more : (x : Watched) → fails_in ticks s (get_or now (start + m) Nothing) ≡ false → x ≡ next_in s (get_or now (start + m) Nothing)
         → Walks ticks s start touched rest old (slice_set now (start + m) x)
@@ -74,7 +74,7 @@ module _ (ticks : List ℕ) (s : Step) (start : ℕ) (touched : List ℕ) (old n
       next = start + m + 1;
       low = omega arith;
       high = omega (arith, small);
-      on = on-more ticks s start (start + m) old now x comes (omega arith) walk-inside e is;
+      on = on-more x comes (omega arith) walk-inside e is;
       left = λ p a h. grind (arith, common_steps, w.left p, from, later p);
       behind = λ p h. let l : m < p = above m rest p parts.0 h in omega (arith, l);
       within = λ p h. w.within p (or_right (nat_eq p m) (ticks_in p rest) h);
@@ -83,8 +83,8 @@ module _ (ticks : List ℕ) (s : Step) (start : ℕ) (touched : List ℕ) (old n
     }
 
   -- the walk is over
-  pub walk-done : Walks ticks s start touched [] old now → GoesOn ticks s start (start + MAX_CLOCKS) old now
-  walk-done w = on-skip ticks s start w.next (start + MAX_CLOCKS) old now w.on w.low w.high (quiet-between w.next (start + MAX_CLOCKS) w.low (omega arith) none)
+  pub walk-done : {now : List Watched} → Walks ticks s start touched [] old now → GoesOn ticks s start (start + MAX_CLOCKS) old now
+  walk-done w = on-skip (start + MAX_CLOCKS) w.on w.low w.high (quiet-between w.next (start + MAX_CLOCKS) w.low (omega arith) none)
     where
       none : (p : ℕ) → w.next ≤ start + p → start + p < start + MAX_CLOCKS → ticks_in p touched ≡ false
       none p a b = grind (arith, common_steps, w.left p)

@@ -3,7 +3,7 @@ use Rattle.ccsl_relate.specs.declared.watched.Watched.TheVariants.{Nothing}
 use Rattle.ccsl_relate.proofs.Ranges.{clocks-set}
 use Rattle.ccsl_relate.proofs.Walking.{Walks, walk-inside, walk-fails, walk-more, walk-done}
 use Rattle.ccsl_relate.proofs.touched.first_at.Goals as goal
-use Rattle.ccsl_relate.proofs.touched.first_at.Goals.{In-Some, After-fails}
+use Rattle.ccsl_relate.proofs.touched.first_at.Goals.{In-Some}
 
 -- the walk comes to the next place
 walks : (c : In-Some) → Walks c.args.ticks.now c.args.step.now c.args.start c.args.touched.now (c.in-Some.place ∷ c.next.new.self) c.args.kept.now
@@ -13,8 +13,7 @@ walks c =
     c.loop-place.invariant.walk
 
 inside : (c : In-Some) → c.args.start + c.in-Some.place < length c.args.kept.now
-inside c = walk-inside c.args.ticks.now c.args.step.now c.args.start c.args.touched.now c.args.kept.now c.loop-place.kept c.requires.touched c.in-Some.place
-    c.next.new.self (walks c)
+inside c = walk-inside c.requires.touched (walks c)
 
 pub overflow_add-at : goal.overflow_add-at
 overflow_add-at c = omega (arith, inside c, c.requires.few)
@@ -31,22 +30,18 @@ returns-then-fails-clause-clocks c =
 
 pub returns-then-fails-clause-fails : goal.returns-then-fails-clause-fails
 returns-then-fails-clause-fails c =
-    walk-fails c.args.ticks.now c.args.step.now c.args.start c.args.touched.now c.args.kept.now c.loop-place.kept c.requires.touched c.in-Some.place
-    c.next.new.self
-    (walks (goal.at.returns-then-fails-clause-fails c).In-Some) (sym c.fails.ensures.fails ∙ c.if-fails.true)
+    walk-fails c.requires.touched (walks (goal.at.returns-then-fails-clause-fails c).In-Some) (sym c.fails.ensures.fails ∙ c.if-fails.true)
 
 pub loop-place-preserved : goal.loop-place-preserved
 loop-place-preserved c = record {
   walk =
-      walk-more c.args.ticks.now c.args.step.now c.args.start c.args.touched.now c.args.kept.now c.loop-place.kept c.requires.touched c.in-Some.place
-      c.next.new.self
-      (walks (goal.at.loop-place-preserved c).In-Some) c.fails.new.self (sym c.fails.ensures.fails ∙ c.if-fails.false) c.fails.ensures.next;
+      walk-more c.requires.touched (walks (goal.at.loop-place-preserved c).In-Some) c.fails.new.self (sym c.fails.ensures.fails ∙ c.if-fails.false)
+      c.fails.ensures.next;
   clocks = clocks-set c.args.step.now c.loop-place.kept (c.args.start + c.in-Some.place) Nothing c.fails.new.self c.fails.ensures.next
       ∙ c.loop-place.invariant.clocks;
 }
 
 pub returns-clause-none : goal.returns-clause-none
-returns-clause-none c =
-    walk-done c.args.ticks.now c.args.step.now c.args.start c.args.touched.now c.args.kept.now c.loop-place.kept c.requires.touched
+returns-clause-none c = walk-done c.requires.touched
     (subst (λ rest. Walks c.args.ticks.now c.args.step.now c.args.start c.args.touched.now rest c.args.kept.now c.loop-place.kept) c.in-None.ensures.steps.0
     c.loop-place.invariant.walk)
