@@ -1,7 +1,7 @@
 -- The rows of a block, taken some at a time.
 use Rattle.std.proofs.Common.{◌≡◌, ℕ, ◌+◌, ◌<◌, ◌≤◌, ◌^◌, List, [], ◌∷◌, ◌++◌, length, take, slice_get, Some, refl, ◌∙◌, subst, arith}
 use Rattle.std.proofs.Common.{append_assoc, length-append, length-take-le}
-use Rattle.std.proofs.lemmas.List.{append-nil, take_more}
+use Rattle.std.proofs.lemmas.List.{take_more}
 use Rattle.std.proofs.lemmas.Option.{slice_get_within, get_or_from_slice_get}
 use Rattle.ccsl_base.specs.declared.rows.Row.{Row}
 use Rattle.ccsl_relate.specs.Watching.{Watching, StandsFor}
@@ -13,9 +13,6 @@ take-more block i row e = rw (take_more block i row (slice_get_within block i ro
 pub few-rows : (block : List Row) (i : ℕ) (rows : List Row) → i < length block → length rows + length block < 2 ^ 64
     → length (rows ++ take i block) + 1 < 2 ^ 64
 few-rows block i rows l h = omega (arith, length-append rows (take i block), length-take-le i block (omega (arith, l)), l, h)
-
-pub takes-none : (v : Watching) → Takes v v []
-takes-none v = record { system = refl; start = refl; count = refl; stands = λ recorded rows s few. rw (append-nil rows) s }
 
 -- some rows, and some behind them
 pub takes-both : {old mid new : Watching} {xs ys : List Row} → Takes old mid xs → Takes mid new ys → Takes old new (xs ++ ys)

@@ -83,7 +83,8 @@ module _ {rows steps : List Row} {others start : ℕ} {old now : List Watched} {
   pub all-taken : length old ≤ i → TakeRows rows steps others start old now first
   all-taken whole = by first f.found f.none
     where
-      by : (o : Option Violation) → IfSome o (IsFound rows steps others start old i end) → IfNone o (HaveGone rows steps others start old now i end) → TakeRows rows steps others start old now o
+      by : (o : Option Violation) → IfSome o (IsFound rows steps others start old i end)
+          → IfNone o (HaveGone rows steps others start old now i end) → TakeRows rows steps others start old now o
       by None h n = record {
         clocks = f.clocks;
         fails = tt;

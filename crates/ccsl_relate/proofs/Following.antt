@@ -1,6 +1,6 @@
 -- What is followed for some items: the clocks that they read, and all that these lead to.
 use Rattle.std.proofs.lemmas.Grind.{common_steps}
-use Rattle.std.proofs.Common.{◌≡◌, ℕ, ◌+◌, ◌<◌, List, [], ◌∷◌, Bool, true, false, ◌||◌, All, Some, nat_eq, nat_lt, filter, length, slice_get, get_or, refl}
+use Rattle.std.proofs.Common.{◌≡◌, ℕ, ◌+◌, ◌<◌, List, [], ◌∷◌, Bool, true, ◌||◌, All, Some, nat_eq, nat_lt, filter, length, slice_get, get_or, refl}
 use Rattle.std.proofs.Common.{ap, subst, arith, eq-eqb, lt-ltb}
 use Rattle.std.specs.List.{list_all, list_any}
 use Rattle.std.proofs.lemmas.Bool.{and_from, or_left, or_right}
@@ -29,10 +29,6 @@ is_read x kept = list_any (λ w. ticks_in x (clocks_of w)) kept
 -- a member that is found, or one behind it
 first-or : {P : Type 0} (x y : ℕ) (rest : Bool) → (nat_eq x y || rest) ≡ true → (x ≡ y → P) → (rest ≡ true → P) → P
 first-or {P} x y rest t here there = grind (arith, common_steps)
-
-either : {P : Type 0} (a b : Bool) → (a || b) ≡ true → (a ≡ true → P) → (b ≡ true → P) → P
-either true b h left right = grind (arith, common_steps)
-either false b h left right = grind (arith, common_steps)
 
 itself : (x : ℕ) (rest : Bool) → (nat_eq x x || rest) ≡ true
 itself x rest = or_left (nat_eq x x) rest (eq-eqb x x refl)

@@ -7,17 +7,6 @@ module _ {A : Type 0} (f : A → A) where
   abbrev pub partly : ℕ → List A → List A
   partly n xs = map f (take n xs) ++ drop n xs
 
-  pub partly-length : (n : ℕ) (xs : List A) → length (partly n xs) ≡ length xs
-  partly-length zero xs = refl
-  partly-length (suc n) [] = refl
-  partly-length (suc n) (x ∷ xs) = ap suc (partly-length n xs)
-
-  -- the next one is as it was
-  pub partly-at : (n : ℕ) (xs : List A) (d : A) → n < length xs → get_or (partly n xs) n d ≡ get_or xs n d
-  partly-at zero xs d l = refl
-  partly-at (suc n) [] d l = absurd (omega (arith, l))
-  partly-at (suc n) (x ∷ xs) d l = partly-at n xs d (omega (arith, l))
-
   -- it goes on
   pub partly-more : (n : ℕ) (xs : List A) (d : A) → n < length xs → slice_set (partly n xs) n (f (get_or xs n d)) ≡ partly (suc n) xs
   partly-more zero [] d l = absurd (omega (arith, l))
