@@ -70,19 +70,7 @@ pub parts-whole : (words : List BinaryWord) (calls : List (Known Callee)) (block
     definitions ≡ map (item_definition (record { names = names; words = words; calls = calls })) (filter_map written_item items ++ filter_map hidden_item items)
     → constraints ≡ filter_map (constraint_of names) items →
     system_of W names d w groups definitions constraints ≡ expanded words calls blocks declared items
-parts-whole words calls blocks declared items W names d w groups definitions constraints eW en ed ew eg ef ec =
-    let K : List (List ℕ) → Tables = λ n. record { names = n; words = words; calls = calls } in
-    let all = filter_map written_item items ++ filter_map hidden_item items in
-    ap (λ x. system_of x names d w groups definitions constraints) eW
-    ∙ (ap (λ x. system_of words names x w groups definitions constraints) ed
-    ∙ (ap (λ x. system_of words names (length declared) x groups definitions constraints) ew
-    ∙ (ap (λ x. system_of words names (length declared) (length declared + length (filter_map written_item items)) x definitions constraints) eg
-    ∙ (ap (λ x. system_of words names (length declared) (length declared + length (filter_map written_item items)) (numbered_groups (K names) blocks) x
-    constraints) ef
-    ∙ (ap (λ x. system_of words names (length declared) (length declared + length (filter_map written_item items)) (numbered_groups (K names) blocks)
-    (map (item_definition (K names)) all) x) ec
-    ∙ ap (λ n. system_of words n (length declared) (length declared + length (filter_map written_item items)) (numbered_groups (K n) blocks)
-    (map (item_definition (K n)) all) (filter_map (constraint_of n) items)) en)))))
+parts-whole words calls blocks declared items W names d w groups definitions constraints eW en ed ew eg ef ec = rw (eW, ed, ew, eg, ef, ec, en)
 
 -- the expansion, from what is read
 pub expand-whole : (library file : PlainFile) (words : List BinaryWord) (calls : List (Known Callee)) (blocks : List NumberedDefinition) (start : ℕ)
@@ -98,10 +86,6 @@ expand-whole library file words calls blocks start lines ew ec eb es el =
     let declared = flat_map declared_names file.lines in
     let body : Unfoldings → List Item = λ R. unfold_body W C R [] (own_clocks [] file.lines) S 0 file.lines in
     let K : Tables = record { names = names_of declared (items_of library file); words = W; calls = C } in
-    ap (λ x. expanded_texts calls words blocks start x) el
-    ∙ (ap (λ x. expanded_texts calls x blocks start file.lines) ew
-    ∙ (ap (λ x. expanded_texts x W blocks start file.lines) ec
-    ∙ (ap (λ x. expanded_texts C W x start file.lines) eb
-    ∙ (ap (λ x. expanded_texts C W B x file.lines) es
-    ∙ (ap (λ R. expanded W C B declared (body R)) (unfoldings-whole W C library file)
-    ∙ ap (λ g. record (expand library file) { groups = g }) (groups-whole K library file))))))
+    rw (el, ew, ec, eb, es)
+    (ap (λ R. expanded W C B declared (body R)) (unfoldings-whole W C library file)
+    ∙ ap (λ g. record (expand library file) { groups = g }) (groups-whole K library file))
