@@ -1,5 +1,5 @@
 -- A world that tells no content, in which one slot has changed.
-use Rattle.std.proofs.Common.{◌≡◌, ℕ, ◌≤◌, List, [], true, false, length, get_or, set, IsTrue, refl}
+use Rattle.std.proofs.Common.{◌≡◌, ℕ, ◌<◌, ◌≤◌, List, [], true, false, length, get_or, set, IsTrue, refl}
 use Rattle.ccsl_edge.specs.declared.slot.Slot.{Slot}
 use Rattle.ccsl_edge.specs.Order.{index_of}
 use Rattle.ccsl_edge.specs.World.{SlotState}
@@ -7,6 +7,11 @@ use Rattle.ccsl_edge.specs.Calls.{OpensIn, Takes, OpensOut, Adds, Closes}
 use Rattle.ccsl_edge.specs.SlotTable.{file_state}
 use Rattle.ccsl_files.specs.FileSystem.{tells_nothing}
 use Rattle.ccsl_edge.proofs.OneSlot.{SetsSlot-at}
+use Rattle.ccsl_edge.proofs.Slots.{index_of-lt}
+
+-- the place of a slot is one of seven
+pub slot-within : (slot : Slot) {i n : ℕ} → i ≡ index_of slot → n ≡ 7 → i < n
+slot-within slot at long = rw (at, long) (index_of-lt slot)
 
 -- what is not told says nothing
 untold : {P : Type 0} → IsTrue false → P

@@ -1,27 +1,22 @@
-use Rattle.std.proofs.Common.{◌≡◌, [], length, arith}
+use Rattle.std.proofs.Common.{[], refl, arith}
 use Rattle.std.proofs.lemmas.Grind.{common_steps}
 use Rattle.ccsl_edge.proofs.OneSlot.{Fails-at}
-use Rattle.ccsl_edge.proofs.Slots.{index_of-lt}
-use Rattle.ccsl_files.proofs.Untold.{OpensIn-untold}
+use Rattle.ccsl_files.proofs.Untold.{slot-within, OpensIn-untold}
 use Rattle.ccsl_files.proofs.file_world.FileWorldWorld.open_in.Goals as goal
 
 pub offset_bounds-self-inside-index : goal.offset_bounds-self-inside-index
 offset_bounds-self-inside-index g c = grind (arith, common_steps)
 
 pub bounds-self-inside-index : goal.bounds-self-inside-index
-bounds-self-inside-index g c = rw c.index.ensures (index_of-lt c.args.slot)
+bounds-self-inside-index g c = slot-within c.args.slot c.index.ensures refl
 
 pub listed : goal.listed
-listed g c =
-    let long : length c.self.inside.slots ≡ 7 = omega arith in
-    rw (c.index.ensures, long) (index_of-lt c.args.slot)
+listed g c = slot-within c.args.slot c.index.ensures (omega arith)
 
 pub returns-in_default-clause-err : goal.returns-in_default-clause-err
 returns-in_default-clause-err g c =
-    let long : length c.self.inside.slots ≡ 7 = omega arith in
-    rw (← c.self.view_is) (Fails-at [] _ c.args.slot _ _ _ c.index.ensures long c.fail.ensures.after c.fail.ensures.rose)
+    rw (← c.self.view_is) (Fails-at [] c.self.inside.slots c.args.slot _ _ _ c.index.ensures (omega arith) c.fail.ensures.after c.fail.ensures.rose)
 
 pub returns-clause-ok : goal.returns-clause-ok
 returns-clause-ok g c =
-    let long : length c.self.inside.slots ≡ 7 = omega arith in
-    rw (← c.self.view_is) (OpensIn-untold _ c.args.slot _ _ _ _ c.index.ensures long c.open_in.ensures)
+    rw (← c.self.view_is) (OpensIn-untold c.self.inside.slots c.args.slot _ _ _ _ c.index.ensures (omega arith) c.open_in.ensures)

@@ -1,10 +1,9 @@
-use Rattle.std.proofs.Common.{◌≡◌, ◌≤◌, ◌∙◌, sym, [], length, get_or, arith}
+use Rattle.std.proofs.Common.{◌≡◌, ◌≤◌, ◌∙◌, sym, [], length, get_or, refl, arith}
 use Rattle.std.specs.Counts.{IsPrefixLen}
 use Rattle.std.proofs.lemmas.Result.{IfOk-at_ok}
 use Rattle.std.proofs.lemmas.Grind.{common_steps}
 use Rattle.ccsl_edge.proofs.OneSlot.{Fails-at}
-use Rattle.ccsl_edge.proofs.Slots.{index_of-lt}
-use Rattle.ccsl_files.proofs.Untold.{Takes-untold}
+use Rattle.ccsl_files.proofs.Untold.{slot-within, Takes-untold}
 use Rattle.ccsl_files.proofs.file_world.FileWorldWorld.read.Goals as goal
 use Rattle.ccsl_files.proofs.file_world.FileWorldWorld.read.Goals.{in-Input, in_default}
 
@@ -12,25 +11,21 @@ pub offset_bounds-self-inside-index : goal.offset_bounds-self-inside-index
 offset_bounds-self-inside-index g c = grind (arith, common_steps)
 
 pub bounds-self-inside-index : goal.bounds-self-inside-index
-bounds-self-inside-index g c = rw c.index.ensures (index_of-lt c.args.slot)
+bounds-self-inside-index g c = slot-within c.args.slot c.index.ensures refl
 
 pub listed : goal.listed
-listed g c =
-    let long : length c.self.inside.slots ≡ 7 = omega arith in
-    rw (c.index.ensures, long) (index_of-lt c.args.slot)
+listed g c = slot-within c.args.slot c.index.ensures (omega arith)
 
 pub returns-in_default-answer-clause-err : goal.returns-in_default-answer-clause-err
 returns-in_default-answer-clause-err g c =
-    let long : length c.self.inside.slots ≡ 7 = omega arith in
     let same = elim c.match-slot.branch as (λ _. c.match-slot.channel ≡ get_or c.self.inside.slots c.index.result c.index-self-index.result)
     [ in-Input w ↦ w.channel-is | in_default w ↦ w.channel-is ∙ w.read-answer-in_default.ensures.same ] in
     rw (← c.self.view_is)
-    (Fails-at [] _ c.args.slot _ _ _ c.index.ensures long (rw same at c.fail.ensures.after)
+    (Fails-at [] c.self.inside.slots c.args.slot _ _ _ c.index.ensures (omega arith) (rw same at c.fail.ensures.after)
     (rw same at c.fail.ensures.rose))
 
 pub returns-clause-ok : goal.returns-clause-ok
 returns-clause-ok g c =
-    let long : length c.self.inside.slots ≡ 7 = omega arith in
     let same = elim c.match-slot.branch as (λ _. c.match-slot.channel ≡ get_or c.self.inside.slots c.index.result c.index-self-index.result)
     [ in-Input w ↦ w.channel-is | in_default w ↦ w.channel-is ∙ w.read-answer-in_default.ensures.same ] in
     let within = elim c.match-slot.branch as (λ _. c.in-Ok.count ≤ length c.match-slot.buf) [
@@ -42,4 +37,4 @@ returns-clause-ok g c =
           (IfOk-at_ok (λ n. n ≤ length w.read-answer-in_default.new.buf) (sym w.answer-is ∙ c.in-Ok.is)
           w.read-answer-in_default.ensures.within)
     ] in
-    rw (← c.self.view_is) (Takes-untold _ c.args.slot _ _ _ _ _ c.index.ensures long same within)
+    rw (← c.self.view_is) (Takes-untold c.self.inside.slots c.args.slot _ _ _ _ _ c.index.ensures (omega arith) same within)
