@@ -1,5 +1,6 @@
 use Rattle.std.proofs.Common.{ℕ, inl, refl, arith, add-one}
 use Rattle.std.proofs.lemmas.Result.{err_from_is_err_and}
+use Rattle.ccsl_vcd_write.specs.Text.{step_text}
 use Rattle.ccsl_simulate.specs.Going.{Stands, WritesStep, WritesLines, TurnFails}
 use Rattle.ccsl_simulate.proofs.Standing.{same-task, run-size, of-task}
 use Rattle.ccsl_simulate.proofs.Writing.{trace-open, cert-open, header-fails, header-adds, full-there, step-adds, ends-there, undone-there}
@@ -68,8 +69,8 @@ loop-n-preserved g c =
     let q = writes w.0 w.1 in
     record {
       task = same-task task c.turn.ensures.task;
-      trace = trace-open q.adds c.loop-n.invariant.trace;
-      cert = cert-open q.adds c.loop-n.invariant.cert;
+      trace = trace-open {bytes = step_text n old.system.now q.step} q.adds c.loop-n.invariant.trace;
+      cert = cert-open {bytes = step_text n old.system.now q.step} q.adds c.loop-n.invariant.cert;
       stands = λ seed s. rw (add-one n) (c.in_ok-turn.ensures.stands seed c.in-Goes.is (c.loop-n.invariant.stands seed s));
       adds = λ seed s. rw (add-one n)
           (step-adds old.system.now old.policy seed c.args.steps n c.loop-n-test.true (run-size task (c.loop-n.invariant.stands seed s))
