@@ -134,9 +134,6 @@ module _ (told : Told) (words : List (List ℕ)) (c : Command) (means : meaning 
             IsAnswer (held s.files) (input_of s) K (plain_reply reply) → Answered told words reply s t
         spec-answered none reply known is = spec-replied reply known (closed-none none (code_of reply.status) t) (λ f l. accepted K (system f l) is)
 
-        pub is-accepted : IsTrue told.files → IsTrue told.left → IsSystemOf (held s.files spec) K
-        is-accepted = system
-
         -- more slots are read behind it
         module _ (more : Slot → Bool) (within : (slot : Slot) → more slot ≡ true → opens behind slot ≡ true)
             (inputs : (slot : Slot) → more slot ≡ true → is_output slot ≡ false) (u : State) where

@@ -104,10 +104,6 @@ uses-stay told opened used old new uses = record {
 
 -- WRITES to the output slots of the files
 
--- nothing was written
-pub alone-none : (s : State) → WritesAlone s s
-alone-none s = record { others = λ slot _. refl; rises = λ slot. omega arith }
-
 pub alone-then : (old mid new : State) → WritesAlone old mid → WritesAlone mid new → WritesAlone old new
 alone-then old mid new p q = record {
   others = λ slot no. q.others slot no ∙ p.others slot no;

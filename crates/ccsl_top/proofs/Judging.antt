@@ -1,66 +1,29 @@
--- A trace that was opened and judged.
-use Rattle.std.proofs.Common.{◌≡◌, ◌⊎◌, ℕ, List, [], ◌∷◌, true, false, Result, Ok, Err, IfOk, IfErr, IsTrue, ⊎_elim, inr, refl, sym, ap, ◌∙◌, subst}
+-- The command `judge`, as an answer to words that mean it.
+use Rattle.std.proofs.Common.{◌≡◌, ◌⊎◌, ℕ, List, [], ◌∷◌, true, false, Result, Ok, Err, IfOk, IfErr, IsTrue, ⊎_elim, refl, sym, ap, ◌∙◌, subst}
 use Rattle.std.proofs.lemmas.Bool.{or_left}
 use Rattle.ccsl_edge.specs.declared.slot.Slot.{Slot}
 use Rattle.ccsl_edge.specs.declared.slot.Slot.TheVariants.{Spec, Trace}
 use Rattle.ccsl_edge.specs.World.{State, Told, held}
-use Rattle.ccsl_edge.specs.Calls.{OpensIn}
 use Rattle.ccsl_command.specs.declared.command.Command.{Command}
 use Rattle.ccsl_command.specs.declared.command.Command.TheVariants as command
 use Rattle.ccsl_command.specs.Opened.{Opened}
 use Rattle.ccsl_kernel.specs.Syntax.{System}
 use Rattle.ccsl_spec.specs.Specifications.{IsSystemOf}
-use Rattle.ccsl_vcd.specs.declared.fault.VcdFault.{VcdFault}
-use Rattle.ccsl_bind.specs.Collected.{wanted_of}
-use Rattle.ccsl_trace.specs.Traces.{IsRefused, IsNearHeader, Fails}
-use Rattle.ccsl_judge.specs.declared.verdict.Verdict.{Verdict}
-use Rattle.ccsl_judge.specs.Judged.{IsJudged, plain}
-use Rattle.ccsl_report.specs.Texts.{trace_text}
-use Rattle.ccsl_top.specs.Outcome.{Outcome, outcome}
-use Rattle.ccsl_vcd.specs.declared.limits.TheConstants.{LIMITS}
-use Rattle.ccsl_top.specs.Judge.{judged, judge_outcome, verdict_outcome, behind_fault}
+use Rattle.ccsl_top.specs.Outcome.{Outcome}
+use Rattle.ccsl_top.specs.Judge.{judge_outcome}
 use Rattle.ccsl_top.specs.Changes.{Reads}
-use Rattle.ccsl_top.specs.Reading.{only, Breaks}
+use Rattle.ccsl_top.specs.Reading.{only}
 use Rattle.ccsl_edge.specs.declared.stop.Stop.{Stop}
 use Rattle.ccsl_edge.specs.declared.stop.Stop.TheVariants as stop
 use Rattle.ccsl_top.specs.declared.reply.Reply.{Reply}
 use Rattle.ccsl_top.specs.Opening.{is_slot, is_output, opens}
 use Rattle.ccsl_top.specs.Headline.{EndsNearHeader, LeavesTrace, unopened, near_header}
-use Rattle.ccsl_top.specs.Judging.{StarvesAt, IsTraceStop}
+use Rattle.ccsl_top.specs.Judging.{IsTraceStop}
 use Rattle.ccsl_top.specs.Answered.{code_of, plain_reply, IsReadStatus, AnswersTo, StopsAt}
 use Rattle.ccsl_top.proofs.Slots.{is_slot-self, same-input}
 use Rattle.ccsl_top.proofs.Reaching.{read-known}
 use Rattle.ccsl_top.proofs.Writing.{on-output}
-use Rattle.ccsl_top.proofs.Opened.{opened-reads, opened-breaks, opened-taken}
 use Rattle.ccsl_top.proofs.Behind.{closed-none, read-answered, read-faulted, read-starved}
-
-module _ (told : Told) (K : System) (trace : List ℕ) (s t u : State) (opens : OpensIn told Trace trace s t) where
-  module _ (v : Verdict) (is : IsJudged told K LIMITS t u v) where
-    pub judged-reads : Reads (only Trace) s u
-    judged-reads = opened-reads told Trace trace s t u opens is.bytes is.reads
-
-    pub judged-outcome : (o : Outcome) → o ≡ verdict_outcome K (plain v) → IsTrue told.files → IsTrue told.left → o ≡ judge_outcome K (held s.files trace)
-    judged-outcome o e f l =
-        e ∙ ap (verdict_outcome K) is.judged ∙ sym (ap (λ f. behind_fault K f (verdict_outcome K (judged K is.bytes))) is.fine)
-        ∙ ap (judge_outcome K) (sym (is.whole l) ∙ opens.bytes f l)
-
-  module _ (f : VcdFault) (is : IsRefused told (wanted_of K) LIMITS t u f) where
-    pub refused-reads : Reads (only Trace) s u
-    refused-reads = opened-reads told Trace trace s t u opens is.bytes is.reads
-
-    pub refused-outcome : (o : Outcome) → o ≡ outcome 4 (trace_text f K) → IsTrue told.files → IsTrue told.left → o ≡ judge_outcome K (held s.files trace)
-    refused-outcome o e tells_files tells_left =
-        e ∙ sym (ap (λ f. behind_fault K f (verdict_outcome K (judged K (t.slot_of Trace).left))) (is.whole tells_left))
-        ∙ ap (judge_outcome K) (opens.bytes tells_files tells_left)
-
-  pub failed-breaks : Fails told (wanted_of K) LIMITS t u → Breaks Trace s u
-  failed-breaks is = opened-breaks told Trace trace s t u opens is.bytes is.reads
-
-  pub near-starves : IsNearHeader told (wanted_of K) LIMITS t u → StarvesAt told K trace s u
-  near-starves is = record {
-    reads = opened-reads told Trace trace s t u opens is.bytes is.reads;
-    early = λ f l. inr (record { bytes = is.bytes; taken = opened-taken told Trace trace s t u opens is.bytes is.reads f l; near = is.near });
-  }
 
 -- THE WHOLE COMMAND behind an accepted specification
 module _ (told : Told) (spec trace : List ℕ) (workers : ℕ) (s t : State) (reads : Reads (only Spec) s t)

@@ -1,5 +1,5 @@
 -- A file that was opened and read.
-use Rattle.std.proofs.Common.{◌≡◌, ℕ, ◌<◌, List, ◌++◌, length, Some, None, IsTrue, sym, ap, ◌∙◌, subst}
+use Rattle.std.proofs.Common.{◌≡◌, ℕ, List, ◌++◌, Some, IsTrue, sym, ap, ◌∙◌}
 use Rattle.ccsl_edge.specs.declared.slot.Slot.{Slot}
 use Rattle.ccsl_edge.specs.World.{State, SlotState, Told, held}
 use Rattle.ccsl_edge.specs.Calls.{ChangesOnly, Fails, OpensIn, ReadsThenFails, ReadsAll, ReadsTooMuch}
@@ -37,9 +37,6 @@ module _ (told : Told) (slot : Slot) (name : List ℕ) (s t u : State) (opens : 
 
   pub whole-file : (limit : ℕ) (all : List ℕ) → ReadsAll told slot limit all t u → IsFile told s.files name limit (Some all)
   whole-file limit all r = (r.within, λ f l. sym (r.whole l) ∙ opens.bytes f l)
-
-  pub long-file : (limit : ℕ) → ReadsTooMuch told slot limit t u → IsFile told s.files name limit None
-  long-file limit r = λ f l. subst (λ bytes. limit < length bytes) (opens.bytes f l) (r.more l)
 
   -- what was read of the file, and what is left of it
   pub opened-taken : (bytes : List ℕ) → edge.Reads told slot bytes t u → IsTrue told.files → IsTrue told.left →

@@ -1,7 +1,7 @@
 -- How far a run with a status reaches, and which statuses come.
 use Rattle.std.proofs.Common.{◌≡◌, ◌≢◌, ℕ, suc, List, [], ◌∷◌, Bool, true, false, not, ◌||◌, ◌&&◌, nat_eq, cond, Contains, Ok, refl, ap, ◌∙◌}
 use Rattle.std.proofs.Common.{arith}
-use Rattle.std.proofs.lemmas.Bool.{ne_eqb, and_from, or_left, both_ways}
+use Rattle.std.proofs.lemmas.Bool.{ne_eqb, and_from, or_left}
 use Rattle.ccsl_edge.specs.declared.slot.Slot.{Slot}
 use Rattle.ccsl_edge.specs.declared.slot.Slot.TheVariants.{Spec, Input}
 use Rattle.ccsl_command.specs.declared.command.Command.{Command}
@@ -39,10 +39,6 @@ module _ (words : List (List ℕ)) (slot : Slot) where
     pub reach-read : status ≢ 3 → is_output slot ≡ false → uses words slot ≡ true → may_change words status slot ≡ true
     reach-read three out u = and_from (uses words slot) (reaches status slot) u
         (behind-spec three ∙ ap (λ o. not ((nat_eq status 1 || nat_eq status 4) && o)) out ∙ never-and (nat_eq status 1 || nat_eq status 4))
-
-    pub unused-all : status ≢ 1 → status ≢ 3 → status ≢ 4 → may_change words status slot ≡ false → uses words slot ≡ false
-    unused-all one three four e =
-        by-test (uses words slot) (λ yes. absurd (both_ways (may_change words status slot) e (reach-all one three four yes))) (λ no. no)
 
 -- the specification, behind every status
 pub reach-spec : (words : List (List ℕ)) (status : ℕ) → opens (files_opened words) Spec ≡ true → may_change words status Spec ≡ true

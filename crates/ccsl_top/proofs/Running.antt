@@ -17,12 +17,8 @@ use Rattle.ccsl_explain.specs.declared.explanation.Explained.{Explained}
 use Rattle.ccsl_explain.specs.declared.explanation.Explained.TheVariants.{Blocked}
 use Rattle.ccsl_explain.specs.Explained.{IsExplained}
 use Rattle.ccsl_explain.specs.Explains.{Explains}
-use Rattle.ccsl_vcd.specs.declared.fault.VcdFault.{VcdFault}
-use Rattle.ccsl_bind.specs.Collected.{wanted_of}
-use Rattle.ccsl_trace.specs.Traces.{IsRefused, IsNearHeader}
-use Rattle.ccsl_trace.specs.Traces as traces
 use Rattle.ccsl_certify.specs.Replaying.{IsTrace, AreAfter}
-use Rattle.ccsl_report.specs.Texts.{trace_text, broken_text, explain_blocked_text}
+use Rattle.ccsl_report.specs.Texts.{broken_text, explain_blocked_text}
 use Rattle.ccsl_edge.specs.declared.stop.Stop.{Stop}
 use Rattle.ccsl_edge.specs.declared.stop.Stop.TheVariants as stop
 use Rattle.ccsl_top.specs.declared.reply.Reply.{Reply}
@@ -33,20 +29,20 @@ use Rattle.ccsl_top.specs.Explain as explain
 use Rattle.ccsl_top.specs.Changes.{Reads}
 use Rattle.ccsl_top.specs.Reading.{only}
 use Rattle.ccsl_top.specs.Answered.{plain_reply}
-use Rattle.ccsl_top.specs.Explaining.{BlockedAnswers, WritesBreak, IsWriteStop, RunAnswers, possible, blocked, IsRunStop, TraceAnswers, unwritten, written}
+use Rattle.ccsl_top.specs.Explaining.{BlockedAnswers, IsWriteStop, RunAnswers, possible, blocked, IsRunStop, TraceAnswers, unwritten, written}
 use Rattle.ccsl_top.specs.Explaining.{IsTraceStop}
-use Rattle.ccsl_top.proofs.Opened.{opened-reads, opened-breaks}
+use Rattle.ccsl_top.proofs.Opened.{opened-reads}
 
 -- BEHIND A RUN: what is answered on an explanation
 module _ (told : Told) (K : System) (cert : List ℕ) (steps : ℕ) (now : State) where
-  module _ (core core' : List ℕ) (lines lines' : List Line) (without without' : List (List ℕ)) (core_is : core' ≡ core) (lines_are : lines' ≡ lines)
-      (without_is : without' ≡ without) (explained : Explained) (is : explained ≡ Blocked core lines without) (report : List ℕ) (next : State) where
-    pub run-blocked : report ≡ explain_blocked_text steps (length core') ++ member_lines K core' without' →
+  module _ {core core' : List ℕ} {lines lines' : List Line} {without without' : List (List ℕ)} (core_is : core' ≡ core) (lines_are : lines' ≡ lines)
+      (without_is : without' ≡ without) {explained : Explained} (is : explained ≡ Blocked core lines without) (next : State) where
+    pub run-blocked : {report : List ℕ} → report ≡ explain_blocked_text steps (length core') ++ member_lines K core' without' →
         (r : Result Reply Stop) → IfOk r (λ reply. BlockedAnswers told (cert_output K cert lines') report reply now next) →
         IfOk r (λ reply. (F : List Formula) → Explains (scope_of K) F explained → RunAnswers told K cert steps F now next reply)
     run-blocked report_is (Ok reply) a = λ F x.
-        let why : IsExplained (scope_of K) F core lines without = subst (λ (e : Explained). Explains (scope_of K) F e) is x in
-        let b = subst (λ (ls : List Line). BlockedAnswers told (cert_output K cert ls) report reply now next) lines_are a in
+        let why : IsExplained (scope_of K) F core lines without = rw is at x in
+        let b = rw lines_are at a in
         blocked core lines without why
         b.status (b.report_is ∙ report_is ∙ ap₂ (λ c w. explain_blocked_text steps (length c) ++ member_lines K c w) core_is without_is) b.writes
     run-blocked report_is (Err reason) a = a
@@ -58,8 +54,8 @@ module _ (told : Told) (K : System) (cert : List ℕ) (steps : ℕ) (now : State
       core = core;
       lines = lines;
       without = without;
-      why = subst (λ (e : Explained). Explains (scope_of K) F e) is x;
-      writes = subst (λ (ls : List Line). WritesBreak told (cert_output K cert ls) now next) lines_are a;
+      why = rw is at x;
+      writes = rw lines_are at a;
     }
     run-breaks (Err stop.Memory) a = λ F x. a
 
@@ -81,17 +77,17 @@ module _ (told : Told) (K : System) (cert : List ℕ) (steps : ℕ) (now : State
   module _ (F : List Formula) (Stand : List Step → Type 0) (same : (T : List Step) → Stand T → F ≡ item_formulas K T) (next : State) where
     pub run-answered : (r : Result Reply Stop) → IfOk r (λ reply. RunAnswers told K cert steps F now next reply) →
         IfOk r (λ reply. (T : List Step) → Stand T → RunAnswers told K cert steps (item_formulas K T) now next reply)
-    run-answered (Ok reply) a = λ T t. subst (λ (fs : List Formula). RunAnswers told K cert steps fs now next reply) (same T t) a
+    run-answered (Ok reply) a = λ T t. rw (← same T t) a
     run-answered (Err reason) a = a
 
     pub run-stopped : (r : Result Reply Stop) → IfErr r (λ reason. IsRunStop told K cert F now next reason) →
         IfErr r (λ reason. (T : List Step) → Stand T → IsRunStop told K cert (item_formulas K T) now next reason)
     run-stopped (Ok reply) a = a
-    run-stopped (Err reason) a = λ T t. subst (λ (fs : List Formula). IsRunStop told K cert fs now next reason) (same T t) a
+    run-stopped (Err reason) a = λ T t. rw (← same T t) a
 
 -- BEHIND A TRACE that was opened and read
-module _ (told : Told) (K : System) (cert trace : List ℕ) (s t : State) (opens : OpensIn told Trace trace s t) (u : State) where
-  module _ (bound : List ℕ) (rows : List Row) (is : IsTrace told K LIMITS t u bound rows) where
+module _ (cert : List ℕ) {told : Told} {K : System} {trace : List ℕ} {s t : State} (opens : OpensIn told Trace trace s t) {u : State} where
+  module _ {bound : List ℕ} {rows : List Row} (is : IsTrace told K LIMITS t u bound rows) where
     pub trace-reads : Reads (only Trace) s u
     trace-reads = opened-reads told Trace trace s t u opens is.is_read.bytes is.is_read.reads
 
@@ -102,18 +98,17 @@ module _ (told : Told) (K : System) (cert trace : List ℕ) (s t : State) (opens
         (subst (λ m. IsReadExplained K cert is.is_read.bytes m o) (sym is.is_read.ends.fine) (rw (is.is_read.ends.bound_are, is.is_read.ends.rows_are) at a))
 
     -- it is no run
-    pub trace-no-run : (step time item : ℕ) → verdict K bound rows ≡ kernel.Violated step time item → (reply : Reply) →
+    pub trace-no-run : {step time item : ℕ} → verdict K bound rows ≡ kernel.Violated step time item → (reply : Reply) →
         plain_reply reply ≡ outcome 1 (broken_text (codes "explain: ") step time item K) → TraceAnswers told K cert trace s u reply
-    trace-no-run step time item v reply e =
+    trace-no-run v reply e =
         let status = ap (λ o. o.status) e in
-        unwritten trace-reads (inl status)
-        (trace-explains (plain_reply reply) (subst (λ (w : Verdict). IsVerdictExplained K cert rows w (plain_reply reply)) (sym v) e))
+        unwritten trace-reads (inl status) (trace-explains (plain_reply reply) (rw v e))
 
     -- it is a run
-    module _ (steps : ℕ) (v : verdict K bound rows ≡ kernel.Run steps) (w : State) where
+    module _ {steps : ℕ} (v : verdict K bound rows ≡ kernel.Run steps) (w : State) where
       run-explains : (o : Outcome) → IsRunExplained K cert steps (item_formulas K (completed_rows K rows)) o → IsTrue told.files → IsTrue told.left →
           IsExplainOutcome K cert (held s.files trace) o
-      run-explains o a = trace-explains o (subst (λ (x : Verdict). IsVerdictExplained K cert rows x o) (sym v) a)
+      run-explains o a = trace-explains o (rw v a)
 
       run-answers : (reply : Reply) → RunAnswers told K cert steps (item_formulas K (completed_rows K rows)) u w reply
           → TraceAnswers told K cert trace s w reply
@@ -145,40 +140,15 @@ module _ (told : Told) (K : System) (cert trace : List ℕ) (s t : State) (opens
       })
       run-stops stop.Memory same = subst (Reads (only Trace) s) (sym same) trace-reads
 
-      module _ (h : Held) (after : AreAfter K rows h) (r : Result Reply Stop) where
-        pub trace-answers : IfOk r (λ reply. (T : List Step) → StandsFor h T → RunAnswers told K cert steps (item_formulas K T) u w reply) →
+      module _ {h : Held} (after : AreAfter K rows h) where
+        pub trace-answers : (r : Result Reply Stop) →
+            IfOk r (λ reply. (T : List Step) → StandsFor h T → RunAnswers told K cert steps (item_formulas K T) u w reply) →
             IfOk r (λ reply. TraceAnswers told K cert trace s w reply)
-        trace-answers a = of-ok r a
-          where
-            of-ok : (r : Result Reply Stop) → IfOk r (λ reply. (T : List Step) → StandsFor h T → RunAnswers told K cert steps (item_formulas K T) u w reply) →
-                IfOk r (λ reply. TraceAnswers told K cert trace s w reply)
-            of-ok (Ok reply) a = run-answers reply (a (completed_rows K rows) after.stands)
-            of-ok (Err reason) a = a
+        trace-answers (Ok reply) a = run-answers reply (a (completed_rows K rows) after.stands)
+        trace-answers (Err reason) a = a
 
-        pub trace-stops : IfErr r (λ reason. (T : List Step) → StandsFor h T → IsRunStop told K cert (item_formulas K T) u w reason) →
+        pub trace-stops : (r : Result Reply Stop) →
+            IfErr r (λ reason. (T : List Step) → StandsFor h T → IsRunStop told K cert (item_formulas K T) u w reason) →
             IfErr r (λ reason. IsTraceStop told K cert trace s w reason)
-        trace-stops a = of-err r a
-          where
-            of-err : (r : Result Reply Stop) → IfErr r (λ reason. (T : List Step) → StandsFor h T → IsRunStop told K cert (item_formulas K T) u w reason) →
-                IfErr r (λ reason. IsTraceStop told K cert trace s w reason)
-            of-err (Ok reply) a = a
-            of-err (Err reason) a = run-stops reason (a (completed_rows K rows) after.stands)
-
-  -- it is refused
-  module _ (f : VcdFault) (is : IsRefused told (wanted_of K) LIMITS t u f) where
-    pub refused-reads : Reads (only Trace) s u
-    refused-reads = opened-reads told Trace trace s t u opens is.bytes is.reads
-
-    pub trace-refused : (reply : Reply) → plain_reply reply ≡ outcome 4 (trace_text f K) → TraceAnswers told K cert trace s u reply
-    trace-refused reply e =
-        let status = ap (λ o. o.status) e in
-        unwritten refused-reads (inr status)
-        (λ a l. subst (λ bytes. IsExplainOutcome K cert bytes (plain_reply reply)) (opens.bytes a l)
-        (subst (λ m. IsReadExplained K cert (t.slot_of Trace).left m (plain_reply reply)) (sym (is.whole l)) e))
-
-  -- it was not read to its end
-  pub trace-breaks : traces.Fails told (wanted_of K) LIMITS t u → IsTraceStop told K cert trace s u stop.Fault
-  trace-breaks is = inl (opened-breaks told Trace trace s t u opens is.bytes is.reads)
-
-  pub trace-starves : IsNearHeader told (wanted_of K) LIMITS t u → IsTraceStop told K cert trace s u stop.Memory
-  trace-starves is = opened-reads told Trace trace s t u opens is.bytes is.reads
+        trace-stops (Ok reply) a = a
+        trace-stops (Err reason) a = run-stops reason (a (completed_rows K rows) after.stands)

@@ -1,5 +1,5 @@
 -- The world of a trial, and what its trace is judged to be.
-use Rattle.std.proofs.Common.{◌≡◌, ◌≢◌, ℕ, ◌≤◌, List, [], length, Some, None, Option, unwrap_or, codes, refl, sym, ap, ◌∙◌}
+use Rattle.std.proofs.Common.{◌≡◌, ◌≢◌, ℕ, ◌≤◌, List, [], length, Option, unwrap_or, codes, refl, sym, ap, ◌∙◌}
 use Rattle.ccsl_edge.specs.declared.slot.Slot.TheVariants.{Trace}
 use Rattle.ccsl_edge.specs.World.{State, file_at}
 use Rattle.ccsl_edge.specs.Calls.{OpensIn}
@@ -8,11 +8,7 @@ use Rattle.ccsl_base.specs.declared.limits.TheConstants.{MAX_STEPS}
 use Rattle.ccsl_policy.specs.declared.policies.Policy.TheVariants.{Seeded}
 use Rattle.ccsl_kernel.specs.Syntax.{System}
 use Rattle.ccsl_kernel.specs.Verdict as kernel
-use Rattle.ccsl_vcd.specs.declared.fault.VcdFault.{VcdFault}
-use Rattle.ccsl_vcd.specs.Reading.{reading}
-use Rattle.ccsl_bind.specs.Collected.{wanted_of}
 use Rattle.ccsl_simulate.specs.declared.answer.Done.{Done}
-use Rattle.ccsl_trace.specs.Traces.{IsRefused}
 use Rattle.ccsl_judge.specs.declared.verdict.Verdict.{Verdict}
 use Rattle.ccsl_relate.specs.declared.violation.Violation.{Violation}
 use Rattle.ccsl_judge.specs.declared.verdict.Verdict.TheVariants.{Run, Violated}
@@ -54,10 +50,3 @@ module _ (K : System) (law : SimulatedTracesAreRuns K) (seed steps : ℕ) (few :
     where
       apart : (s t i n : ℕ) → kernel.Violated s t i ≡ kernel.Run n → ⊥
       apart s t i n e = absurd (cc)
-
-  pub never-refused : (f : VcdFault) → IsRefused tells_all (wanted_of K) LIMITS (shown before) now f → ⊥
-  never-refused f is = apart f (sym (law Seeded seed steps few).read
-      ∙ ap (λ bytes. (reading (wanted_of K) LIMITS bytes).fault) (sym holds.left) ∙ is.whole refl)
-    where
-      apart : (f : VcdFault) → (let N : Option VcdFault = None in N) ≡ Some f → ⊥
-      apart f e = absurd (cc)
