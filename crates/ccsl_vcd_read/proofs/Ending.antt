@@ -30,9 +30,9 @@ pub reading-within : (wanted : Wanted) (limits : Limits) (bytes : List ℕ) → 
 unfolding reading
 reading-within wanted limits bytes h = rw (le-ltb limits.bytes (length bytes) h) refl
 
-pub end-shown : (wanted : Wanted) (v new : Reading) (bytes : List ℕ) (old rows : List Row) → AtEnd wanted v new bytes old rows
+pub end-shown : {wanted : Wanted} {v new : Reading} {bytes : List ℕ} {old rows : List Row} → AtEnd wanted v new bytes old rows
     → shown new.stage ≡ shown_at (reading wanted v.limits bytes).place
-end-shown wanted v new bytes old rows a =
+end-shown {wanted} {v} {new} {bytes} a =
     same-shown wanted v.limits new.stage (story wanted v.limits (heard bytes)) a.pictures
     ∙ sym (ap (λ (x : Story). shown_at x.place) (reading-within wanted v.limits bytes a.within))
 

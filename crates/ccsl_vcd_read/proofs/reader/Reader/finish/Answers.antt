@@ -29,17 +29,15 @@ last_token-requires-clause-rows c =
 pub returns-then-not-may_end-clause-refuses : goal.returns-then-not-may_end-clause-refuses
 returns-then-not-may_end-clause-refuses c =
     weaken c.fail.result (λ (wanted : Wanted) (bytes : List ℕ) (t : StandsFor wanted c.args.self.now bytes).
-    let a = c.in-Ok.ensures.ends wanted bytes t in
     let e : ends_well c.last_token.new.self.stage ≡ false =
     ap (λ (x : Reading). ends_well x.stage) (sym c.self-in-Ok.view_is) ∙ sym c.may_end.ensures ∙ c.if-not-may_end.true in
-    let n = ap (λ (x : Reading). x.taken) c.self.view_is ∙ a.taken in
-    truncated a e ∙ ap (λ k. Rattle.std.proofs.Common.Some (faults.Truncated k)) (sym n)
+    let n = ap (λ (x : Reading). x.taken) c.self.view_is ∙ (c.in-Ok.ensures.ends wanted bytes t).taken in
+    truncated (c.in-Ok.ensures.ends wanted bytes t) e ∙ ap (λ k. Rattle.std.proofs.Common.Some (faults.Truncated k)) (sym n)
     ∙ ap (λ f. Rattle.std.proofs.Common.Some f) (sym c.fail.ensures.result))
 
 pub returns-then-not-may_end-clause-completes : goal.returns-then-not-may_end-clause-completes
 returns-then-not-may_end-clause-completes c =
-    when-none c.args.self.now.fault (λ _. weaken c.fail.result (λ (wanted : Wanted) (bytes : List ℕ) (t : StandsFor wanted c.args.self.now bytes).
-    cut-pushes (c.in-Ok.ensures.ends wanted bytes t)))
+    when-none c.args.self.now.fault (λ _. weaken c.fail.result (λ wanted bytes t. cut-pushes (c.in-Ok.ensures.ends wanted bytes t)))
 
 pub overflow_sub-result : goal.overflow_sub-result
 overflow_sub-result c =
@@ -78,8 +76,7 @@ returns-in-Err-clause-calm c =
     calm-of wanted c.args.self.now bytes c.in-Err.fault none t c.in-Err.ensures.calm)
 
 pub returns-else-not-may_end-clause-shows : goal.returns-else-not-may_end-clause-shows
-returns-else-not-may_end-clause-shows c = λ wanted bytes t.
-    end-shown (c.in-Ok.ensures.ends wanted bytes t)
+returns-else-not-may_end-clause-shows c = λ wanted bytes t. end-shown (c.in-Ok.ensures.ends wanted bytes t)
 
 pub returns-in-Err-clause-unpushed : goal.returns-in-Err-clause-unpushed
 returns-in-Err-clause-unpushed c = λ e. c.in-Err.ensures.kept.0

@@ -1,10 +1,9 @@
 use Rattle.std.proofs.Common.{◌<◌, ◌+◌, ◌^◌, ℕ, List, refl, sym, ap, ◌∙◌, subst, arith}
-use Rattle.ccsl_vcd_lex.specs.Tokens.{token, word, settled}
+use Rattle.ccsl_vcd_lex.specs.Tokens.{settled}
 use Rattle.ccsl_vcd.specs.Binding.{Wanted}
-use Rattle.ccsl_vcd.specs.Reading.{story, next}
-use Rattle.ccsl_vcd_read.specs.Heading.{Refuses}
+use Rattle.ccsl_vcd.specs.Reading.{story}
 use Rattle.ccsl_vcd_read.specs.Staging.{shown}
-use Rattle.ccsl_vcd_read.specs.Reading.{Reading, StandsFor, AtEnd, Refused}
+use Rattle.ccsl_vcd_read.specs.Reading.{Reading, StandsFor}
 use Rattle.ccsl_vcd_read.proofs.StagePictures.{caused-map}
 use Rattle.ccsl_vcd_read.proofs.Faults.{enter}
 use Rattle.ccsl_vcd_read.proofs.Ending.{one-left, quiet-end, word-end, word-refused, block-grows}
