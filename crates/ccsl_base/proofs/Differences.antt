@@ -102,22 +102,6 @@ words-difference words one other size made =
 pub record Within (i : ℕ) (words others : List ℕ) : Type 0 where
   pub are : (x : ℕ) → x < 64 * i → (bit_of words x && not (bit_of others x)) ≡ false
 
-pub within-none : (words others : List ℕ) → Within 0 words others
-within-none words others = record { are = λ x l. absurd (omega (arith, l)) }
-
-pub within-next : (i word : ℕ) (words others : List ℕ) → Within i words others → word ≡ 0 →
-    ((k : ℕ) → k < 64 → is_set word k ≡ (is_set (get_or words i 0) k && not (is_set (get_or others i 0) k))) → Within (i + 1) words others
-within-next i word words others within z bits = record {
-  are = λ x l.
-      ⊎_elim
-      (λ (m : x < 64 * i). within.are x m)
-      (λ (m : 64 * i ≤ x).
-      let place : x / 64 ≡ i = omega (arith, l, m) in
-      ap (λ j. is_set (get_or words j 0) (x % 64) && not (is_set (get_or others j 0) (x % 64))) place
-      ∙ sym (bits (x % 64) (omega arith)) ∙ no-bit word (x % 64) z)
-      (cases_lt x (64 * i));
-}
-
 -- a set is another's part where no word in use has such a bit
 pub within-all : (i used : ℕ) (words others : List ℕ) → Within i words others → used ≤ i → EmptyFrom used words
     → difference (members_of words) (members_of others) ≡ []

@@ -1,5 +1,5 @@
 -- The number that digits write, from the left.
-use Rattle.std.proofs.Common.{◌≡◌, ℕ, ◌+◌, ◌*◌, ◌-◌, ◌<◌, ◌≤◌, List, [], ◌∷◌, true, false, cond, ◌&&◌, ◌==◌, Option, Some, None, length, get_or, nat_le, refl}
+use Rattle.std.proofs.Common.{◌≡◌, ℕ, ◌+◌, ◌*◌, ◌-◌, ◌<◌, ◌≤◌, List, [], ◌∷◌, true, false, cond, ◌&&◌, Option, Some, None, length, get_or, nat_le, refl}
 use Rattle.std.proofs.Common.{ap, ap₂, ◌∙◌, ⊎_elim, arith}
 use Rattle.std.specs.List.{list_all}
 use Rattle.std.specs.Char.{digit_value}
@@ -9,7 +9,7 @@ use Rattle.std.proofs.lemmas.Str.Parse.{digit_from_value}
 use Rattle.ccsl_base.specs.Name.{is_visible}
 use Rattle.std.proofs.lemmas.Bool.{cases_lt, le-leb, lt-leb, and_right}
 use Rattle.ccsl_base.specs.Letters.{is_digit}
-use Rattle.ccsl_base.specs.Decimal.{value_behind, number_up_to}
+use Rattle.ccsl_base.specs.Decimal.{value_behind}
 
 -- the number that digits write behind those of n, where it is at most a limit
 abbrev pub number_behind : ℕ → ℕ → List ℕ → Option ℕ
@@ -39,14 +39,6 @@ pub number-over : (most n : ℕ) (ds : List ℕ) → 1 ≤ length ds → is_digi
     None ≡ cond (nat_le (n * 10 + (get_or ds 0 0 - 48)) most) (Some (n * 10 + (get_or ds 0 0 - 48))) None → number_behind most n ds ≡ None
 number-over most n [] l e f = absurd (omega arith)
 number-over most n (d ∷ ds) l e f = number-digit most n d ds e ∙ number-large most (n * 10 + (d - 48)) ds (over-or-none (n * 10 + (d - 48)) most f)
-
-pub number-done : (most n : ℕ) (ds : List ℕ) → length ds < 1 → n ≤ most → number_behind most n ds ≡ Some n
-number-done most n [] e l = number-end most n l
-number-done most n (d ∷ ds) e l = absurd (omega arith)
-
-pub number-some : (most : ℕ) (ds : List ℕ) → (length ds == 0) ≡ false → number_behind most 0 ds ≡ number_up_to most ds
-number-some most [] e = absurd (cc)
-number-some most (d ∷ ds) e = refl
 
 -- the digits of a numeral are digits, and visible
 pub are-digits : (ds : List ℕ) → AllDigits 10 ds → list_all is_digit ds ≡ true

@@ -1,10 +1,10 @@
 -- Reading a reserved word.
-use Rattle.std.proofs.Common.{◌≡◌, ℕ, ◌+◌, ◌<◌, ◌≤◌, Bool, true, false, List, [], ◌∷◌, length, get_or, drop, Option, Some, None, refl, sym, ap, ◌∙◌, map}
+use Rattle.std.proofs.Common.{◌≡◌, ℕ, ◌+◌, ◌<◌, Bool, true, false, List, [], ◌∷◌, length, get_or, drop, Option, Some, None, refl, sym, ap, ◌∙◌, map}
 use Rattle.std.specs.List.{find, list_any}
 use Rattle.std.specs.Option.{is_some}
 use Rattle.std.specs.Str.{bytes_eq}
 use Rattle.std.proofs.lemmas.Slice.Eq.{bytes_eq-Decides}
-use Rattle.std.proofs.lemmas.List.{drop_all, drop_more}
+use Rattle.std.proofs.lemmas.List.{drop_more}
 use Rattle.ccsl_base.specs.declared.reserved.Reserved.{Reserved}
 use Rattle.ccsl_base.specs.declared.reserved.Reserved.TheVariants as w
 use Rattle.ccsl_base.specs.ReservedWords.{spelling, reserved, all_words}
@@ -21,9 +21,6 @@ found_at text i d l h = ap (find (spells text)) (drop_more all_words i d l) ∙ 
 pub passed_at : (text : List ℕ) (i : ℕ) (d : Reserved) → i < length all_words → spells text (get_or all_words i d) ≡ false
     → find (spells text) (drop i all_words) ≡ find (spells text) (drop (i + 1) all_words)
 passed_at text i d l h = ap (find (spells text)) (drop_more all_words i d l) ∙ rw h refl
-
-pub none_behind : (text : List ℕ) (i : ℕ) → length all_words ≤ i → find (spells text) (drop i all_words) ≡ None
-none_behind text i l = rw (drop_all i all_words l) refl
 
 none_any : (text : List ℕ) (words : List Reserved) → find (spells text) words ≡ None → list_any (bytes_eq text) (map spelling words) ≡ false
 none_any text [] h = refl

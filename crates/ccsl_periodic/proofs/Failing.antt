@@ -4,7 +4,6 @@ use Rattle.std.proofs.Common.{arith, ⊎_elim, nat_eq, eqb-true, eq-eqb}
 use Rattle.std.specs.Int.{div_ceil}
 use Rattle.std.proofs.lemmas.Bool.{cases_Bool, cases_lt, and_parts, and_from, false_from_ne_true, both_ways}
 use Rattle.std.proofs.lemmas.Grind.{div_ceil_times}
-use Rattle.std.proofs.lemmas.Nat.{mul-le}
 use Rattle.std.proofs.Math.Nat.{mul-le-mul_left, mul-le-mul_right}
 use Rattle.ccsl_words.specs.Word.{BinaryWord, letter}
 use Rattle.ccsl_periodic.specs.declared.between.Between.{Between}
@@ -187,9 +186,6 @@ ceil_le a D pos =
 
 pub turns_small : (a b D k : ℕ) → 0 < D → a ≤ k → div_ceil (a - b) D ≤ k
 turns_small a b D k pos l = omega (arith, ceil_le (a - b) D pos)
-
-pub jump_small : (turns letters k : ℕ) → turns ≤ k → k ≤ 4096 + 4096 * 4096 → letters ≤ 4096 * 4096 → turns * letters ≤ (4096 + 4096 * 4096) * (4096 * 4096)
-jump_small turns letters k l b c = mul-le turns letters (4096 + 4096 * 4096) (4096 * 4096) (omega arith) c
 
 -- WHAT IS KNOWN of the least place of overtaking so far, the greatest number where there is none, and one more place
 module _ (u v : BinaryWord) (t : Turn) where

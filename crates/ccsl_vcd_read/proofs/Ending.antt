@@ -22,7 +22,7 @@ use Rattle.ccsl_vcd_read.specs.Heading.{Caused, Refuses}
 use Rattle.ccsl_vcd_read.specs.Staging.{Pictures, Heard, row_left, ends_well, shown, shown_at}
 use Rattle.ccsl_vcd_read.specs.Reading.{Reading, Running, Stopped, StandsFor, Pushes, AtEnd, Refused, AreCounts}
 use Rattle.ccsl_vcd_read.proofs.BodyPictures.{complete-is, row-given}
-use Rattle.ccsl_vcd_read.proofs.StagePictures.{caused-map, row-short}
+use Rattle.ccsl_vcd_read.proofs.StagePictures.{caused-map}
 use Rattle.ccsl_vcd_read.proofs.Taking.{stopped-is, done-within, no-fault, same-shown, so_far-within}
 
 pub reading-within : (wanted : Wanted) (limits : Limits) (bytes : List ℕ) → length bytes ≤ limits.bytes
@@ -35,11 +35,6 @@ pub end-shown : {wanted : Wanted} {v new : Reading} {bytes : List ℕ} {old rows
 end-shown {wanted} {v} {new} {bytes} a =
     same-shown wanted v.limits new.stage (story wanted v.limits (heard bytes)) a.pictures
     ∙ sym (ap (λ (x : Story). shown_at x.place) (reading-within wanted v.limits bytes a.within))
-
-pub one-left : (s : Stage) → length (row_left s) ≤ 1
-one-left (stage.Header h) = omega arith
-one-left (stage.Body b) = row-short b
-one-left stage.Unbound = omega arith
 
 -- No token was open.
 pub quiet-end : (wanted : Wanted) (v new : Reading) (bytes : List ℕ) (rows : List Row) → Running wanted v bytes → heard bytes ≡ settled bytes ++ []

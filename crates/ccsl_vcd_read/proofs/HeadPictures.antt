@@ -1,5 +1,5 @@
 -- What is kept of a header, token by token.
-use Rattle.std.proofs.Common.{◌≡◌, ℕ, ◌+◌, ◌-◌, ◌<◌, ◌^◌, List, [], ◌∷◌, ◌++◌, length, take, drop, Bool, true, false, Some, None, Result, Ok, Err, nat_le, cond}
+use Rattle.std.proofs.Common.{◌≡◌, ℕ, ◌+◌, ◌-◌, List, [], ◌∷◌, ◌++◌, length, take, drop, Bool, true, false, Some, None, Result, Ok, Err, nat_le, cond}
 use Rattle.std.proofs.Common.{◌&&◌, refl, sym, ap, ◌∙◌, append_assoc, arith, subst, length-append}
 use Rattle.std.specs.Prelude.{bytes_eq, codes, flat_map, is_some, unwrap_or}
 use Rattle.std.proofs.lemmas.List.{append-nil}
@@ -417,14 +417,6 @@ whole limits h a s =
     (ap (λ n. unwrap_or n 0) s.size_is)
     ∙ sym (declared-same h.depth h.size h.kind s.kind.text h.code s.code.text (reference_in h.reference h.first) (d.reference_of s.first s.more) s.kind_is
     s.code_is r))
-
-pub few-declared : (wanted : Wanted) (limits : Limits) (h : Heading) (st : Story) (s : HeadShows wanted limits h st) → h.command ≡ More → limits.vars < 2 ^ 32
-    → (length s.declared < 4294967295) × (h.vars ≡ length s.declared)
-few-declared wanted limits h st s e n =
-    let m : MoreNext limits h s.among = subst (Stands limits h s.among) e s.stands in
-    let few : h.vars < limits.vars = m.opened.few in
-    let v : h.vars ≡ length s.declared = s.vars in
-    (omega arith, s.vars)
 
 declares-at : (wanted : Wanted) (limits : Limits) (h g : Heading) (ds : List Declaration) (at : ℕ) (text : List ℕ) → h.vars ≡ length ds
     → d.header_word text ≡ d.end_command → (a : p.Among) (m : MoreNext limits h a)

@@ -75,13 +75,6 @@ made-to-more a b c bytes rest more k so on cut =
       rest = cut ∙ ap (drop k) so.rest ∙ drop-drop k n bytes ∙ ap (λ i. drop i bytes) sum;
     }
 
--- where no more was made
-pub made-to-end : (a b c : Body) (bytes rest : List ℕ) (k : ℕ) → MadeTo a b bytes rest → Made b c rest k → k ≡ 0 → Made a c bytes (length bytes - length rest)
-made-to-end a b c bytes rest k so on none_ =
-    let n : ℕ = length bytes - length rest in
-    let same : n + k ≡ n = omega (arith, none_) in
-    subst (Made a c bytes) same (made-both a b c n k bytes rest so.rest so.made on)
-
 -- A change of a bit.
 
 bit-dark : (b : ℕ) → (b ≡ 48) ⊎ (b ≡ 49) → is_dark b ≡ true

@@ -98,21 +98,6 @@ letter-offset_at w (suc n) k =
     ∙ letter-offset_at w n (1 + k)
     ∙ ap (letter w) (let s : n + (1 + k) ≡ suc n + k = omega arith in s)
 
--- BOUNDS
-pub rest_finite_within : (w : BinaryWord) (o : ℕ) → is_finite w ≡ true → rest w o ≤ word_len w
-rest_finite_within w o fin =
-    ⊎_elim
-    (λ (l : o < length w.prefix). omega (arith, rest_before_end w o fin l, finite_len w fin))
-    (λ (l : length w.prefix ≤ o). omega (arith, rest_at_end w o fin l, finite_len w fin))
-    (cases_lt o (length w.prefix))
-
-pub rest_infinite_within : (w : BinaryWord) (o : ℕ) → is_finite w ≡ false → o < word_len w → rest w o < word_len w
-rest_infinite_within w o fin l =
-    ⊎_elim
-    (λ (e : o + 1 ≡ word_len w). omega (arith, rest_turns w o fin e, infinite_len w fin))
-    (λ (ne : o + 1 ≢ word_len w). omega (arith, rest_steps w o fin ne, ne))
-    (cases_eq (o + 1) (word_len w))
-
 -- THE END of a finite word
 offset_before_end : (w : BinaryWord) (n : ℕ) → is_finite w ≡ true → n ≤ length w.prefix → offset_at w n ≡ n
 offset_before_end w zero fin l = refl

@@ -3,10 +3,6 @@ use Rattle.ccsl_bind.specs.Collected.{wanted_of}
 use Rattle.ccsl_trace.proofs.Giving.{first-given}
 use Rattle.ccsl_certify.proofs.trace.follow_header.Goals as goal
 
-pub next-requires : goal.next-requires
-next-requires g c =
-    let now = g.W.World.state c.args.world.now in record { feeds = (wanted_of c.args.system.now, c.requires.feeds.0, now, [], c.requires.feeds.1) }
-
 pub returns-in-Err-clause-unread : goal.returns-in-Err-clause-unread
 returns-in-Err-clause-unread g c = λ limits feeds. c.in-Err.ensures.unread (wanted_of c.args.system.now) limits (g.W.World.state c.args.world.now) [] feeds
 

@@ -1,5 +1,4 @@
-use Rattle.std.proofs.Common.{◌≤◌, map, flat_map, length, subst, sym, ap, ◌∙◌}
-use Rattle.ccsl_base.specs.declared.limits.TheConstants.{MAX_CLOCKS}
+use Rattle.std.proofs.Common.{map, flat_map, sym, ap, ◌∙◌}
 use Rattle.ccsl_ast.specs.Plain.{plain_sline}
 use Rattle.ccsl_kernel.specs.Plain.{plain_expr, plain_group}
 use Rattle.ccsl_rules.specs.Expansion.{declared_names}
@@ -9,12 +8,6 @@ use Rattle.ccsl_expand.specs.Items.{seen_item}
 use Rattle.ccsl_expand.specs.Expanded.{expanded}
 use Rattle.ccsl_expand.proofs.Whole.{parts-whole}
 use Rattle.ccsl_expand.proofs.expand_file.parts.Goals as goal
-
-pub table-requires-clause-new : goal.table-requires-clause-new
-table-requires-clause-new c = λ front back name e. c.requires.new front back name (sym (c.deref.ensures.value ∙ c.in_ok-named.ensures.names) ∙ e)
-
-pub table-requires-clause-few : goal.table-requires-clause-few
-table-requires-clause-few c = subst (λ n. length n ≤ MAX_CLOCKS) (sym (c.deref.ensures.value ∙ c.in_ok-named.ensures.names)) c.requires.few
 
 pub returns : goal.returns
 returns c =

@@ -8,18 +8,6 @@ use Rattle.ccsl_bind.specs.Candidates.{AllSumUp}
 use Rattle.ccsl_bind.proofs.Declaring.{Named, named-more}
 use Rattle.ccsl_bind.proofs.binder.Binder.open.Goals as goal
 
-pub loop-clock-init : goal.loop-clock-init
-loop-clock-init c = record {
-  names_are = c.new-names.ensures;
-  found = subst (λ ns. AllSumUp [] [] ns c.new-found.result.items) (sym c.new-names.ensures)
-      (subst (λ os. AllSumUp [] [] [] os) (sym c.new-found.ensures.items) tt);
-}
-
-pub add-requires : goal.add-requires
-add-requires c =
-    let e : length c.loop-clock.names ≡ length (take c.loop-clock.clock c.args.system.now.names) = ap length c.loop-clock.invariant.names_are in
-    record { room = grind (arith, common_steps, e, c.loop-clock-test.true, c.written-clock-end.type_inv) }
-
 pub loop-clock-preserved : goal.loop-clock-preserved
 loop-clock-preserved c =
     subst (λ os. Named c.add.new.self c.args.system.now.names os (c.loop-clock.clock + 1)) (sym c.in_ok-push.ensures.items)

@@ -1,4 +1,4 @@
-use Rattle.ccsl_vcd_read.proofs.ShortChanges.{made-to-none, made-to-more, made-to-end}
+use Rattle.ccsl_vcd_read.proofs.ShortChanges.{made-to-none, made-to-more}
 use Rattle.ccsl_vcd_read.proofs.body.Body.changes.Goals as goal
 use Rattle.ccsl_base.proofs.Cases.{rest-is}
 
@@ -9,8 +9,3 @@ pub loop-rest-preserved : goal.loop-rest-preserved
 loop-rest-preserved c =
     made-to-more c.args.self.now c.loop-rest.self c.one_change-taken.new.self c.args.bytes.now c.loop-rest.rest.now _ c.one_change-taken.result
     c.loop-rest.invariant c.one_change-taken.ensures (rest-is c.one_change-taken.result c.loop-rest.rest.now)
-
-pub returns-then-taken-eq0 : goal.returns-then-taken-eq0
-returns-then-taken-eq0 c =
-    made-to-end c.args.self.now c.loop-rest.self c.one_change-taken.new.self c.args.bytes.now c.loop-rest.rest.now c.one_change-taken.result
-    c.loop-rest.invariant c.one_change-taken.ensures c.if-taken-eq0.true

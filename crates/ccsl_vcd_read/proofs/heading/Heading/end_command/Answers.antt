@@ -1,17 +1,11 @@
-use Rattle.std.proofs.Common.{◌≡◌, ℕ, List, arith}
+use Rattle.std.proofs.Common.{◌≡◌, ℕ, List}
 use Rattle.ccsl_vcd_lex.specs.Tokens.{token, word}
 use Rattle.ccsl_vcd.specs.Binding.{Wanted}
 use Rattle.ccsl_vcd.specs.Header.{header_word, end_command}
 use Rattle.ccsl_vcd.specs.Reading.{Story, next}
 use Rattle.ccsl_vcd_read.specs.Heading.{end_in, HeadShows, Refuses}
-use Rattle.ccsl_vcd_read.proofs.HeadPictures.{few-declared, closes, declares, ends, goes-by, caused-by, faulty-end}
+use Rattle.ccsl_vcd_read.proofs.HeadPictures.{closes, declares, ends, goes-by, caused-by, faulty-end}
 use Rattle.ccsl_vcd_read.proofs.heading.Heading.end_command.Goals as goal
-
-pub declare-requires : goal.declare-requires
-declare-requires c =
-    let s = c.requires.stands.2 in
-    let few = few-declared c.requires.stands.0 c.args.limits c.args.self.now c.requires.stands.1 s c.in-More.is (omega arith) in
-    (c.requires.stands.0, s.declared, s.binds, few.0, few.1)
 
 pub returns-in-EndDefinitions-clause-goes : goal.returns-in-EndDefinitions-clause-goes
 returns-in-EndDefinitions-clause-goes c = λ wanted st text s e. closes wanted c.args.limits c.args.self.now st c.args.at text s c.in-EndDefinitions.is e

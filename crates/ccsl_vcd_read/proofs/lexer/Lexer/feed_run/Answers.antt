@@ -33,22 +33,6 @@ overflow_add-result-in-Err c =
     settled-place (c.requires.0 ++ y) (settled c.requires.0) _ (settles-more _ c.requires.0 s y (too_long c.in-Err.long.at ∷ []) b.broke) in
     omega (arith, l, c.requires.3, length-append c.requires.0 y, length-take-le (b.taken + 1) c.args.piece.now (omega arith), within)
 
-pub returns-clause-within : goal.returns-clause-within
-returns-clause-within c =
-    elim c.match-feed_run.branch [
-      | in-Ok+in-Some w ↦ rw w.result-is w.in-Ok.ensures.within
-      | in-Ok+in-None w ↦ rw w.result-is w.in-Ok.ensures.within
-      | in-Err w ↦ rw w.result-is tt
-    ]
-
-pub returns-clause-moves : goal.returns-clause-moves
-returns-clause-moves c =
-    elim c.match-feed_run.branch [
-      | in-Ok+in-Some w ↦ rw w.result-is w.in-Ok.ensures.moves
-      | in-Ok+in-None w ↦ rw w.result-is w.in-Ok.ensures.moves
-      | in-Err w ↦ rw w.result-is tt
-    ]
-
 pub returns-clause-stands : goal.returns-clause-stands
 returns-clause-stands c =
     elim c.match-feed_run.branch [

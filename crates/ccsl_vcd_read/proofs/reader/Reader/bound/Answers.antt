@@ -17,6 +17,3 @@ returns-clause-stopped c =
     when-some c.args.self.now.fault _ (λ f e.
     caused-map f (λ h. λ wanted bytes t. c.bound.ensures ∙ ap (λ (x : Reading). shown x.stage) c.self.view_is ∙ h wanted bytes t)
     (stopped-shown c.args.self.now f e))
-
-pub returns-clause-shows : goal.returns-clause-shows
-returns-clause-shows c = c.bound.ensures ∙ ap (λ (x : Reading). shown x.stage) c.self.view_is

@@ -1,12 +1,11 @@
-use Rattle.std.proofs.Common.{◌<◌, ◌+◌, ◌^◌, ℕ, List, refl, sym, ap, ◌∙◌, subst, arith}
+use Rattle.std.proofs.Common.{◌<◌, ◌^◌, ℕ, List, refl, sym, ap, subst, arith}
 use Rattle.ccsl_vcd_lex.specs.Tokens.{settled}
 use Rattle.ccsl_vcd.specs.Binding.{Wanted}
 use Rattle.ccsl_vcd.specs.Reading.{story}
-use Rattle.ccsl_vcd_read.specs.Staging.{shown}
 use Rattle.ccsl_vcd_read.specs.Reading.{Reading, StandsFor}
 use Rattle.ccsl_vcd_read.proofs.StagePictures.{caused-map}
 use Rattle.ccsl_vcd_read.proofs.Faults.{enter}
-use Rattle.ccsl_vcd_read.proofs.Ending.{one-left, quiet-end, word-end, word-refused, block-grows}
+use Rattle.ccsl_vcd_read.proofs.Ending.{quiet-end, word-end, word-refused}
 use Rattle.ccsl_vcd_read.proofs.reader.Reader.last_token.Goals as goal
 
 pub finish-requires : goal.finish-requires
@@ -20,9 +19,6 @@ hear_token-requires-clause-pictures c =
     let s = enter _ _ _ _ c.self.view_is c.requires.ready.runs c.requires.ready.stands.2 in
     (c.requires.ready.stands.0, story c.requires.ready.stands.0 c.self.inside.limits (settled c.requires.ready.stands.1), s.pictures)
 
-pub hear_token-requires-clause-rows : goal.hear_token-requires-clause-rows
-hear_token-requires-clause-rows c = subst (λ (x : Reading). x.rows + 1 < 2 ^ 64) (sym c.self.view_is) c.requires.rows
-
 pub returns-in-Ok-clause-ends : goal.returns-in-Ok-clause-ends
 returns-in-Ok-clause-ends c = λ wanted bytes t.
     let s = enter wanted _ _ bytes c.self.view_is c.requires.ready.runs t in
@@ -31,15 +27,6 @@ returns-in-Ok-clause-ends c = λ wanted bytes t.
     rw (← c.self.view_is)
     (word-end wanted _ bytes c.in-Some.span.at c.finish.new.self.inner.last s e c.hear_token.new.self.stage _ _ _ c.hear_token.new.self h refl
     (ap (λ (x : Reading). x.rows) c.in-Ok.ensures.counts))
-
-pub returns-in-Ok-clause-few : goal.returns-in-Ok-clause-few
-returns-in-Ok-clause-few c =
-    let s = enter _ _ _ _ c.self.view_is c.requires.ready.runs c.requires.ready.stands.2 in
-    let fits : c.self.inside.rows + 1 < 2 ^ 64 = subst (λ (x : Reading). x.rows + 1 < 2 ^ 64) (sym c.self.view_is) c.requires.rows in
-    let grows = block-grows (c.in-Ok.ensures.heard c.requires.ready.stands.0
-    (story c.requires.ready.stands.0 c.self.inside.limits (settled c.requires.ready.stands.1)) s.pictures) in
-    let e = ap (λ (x : Reading). x.rows) c.in-Ok.ensures.counts in
-    omega (arith, fits, grows, e, c.in-Ok.ensures.left)
 
 pub returns-in-Err-clause-refuses : goal.returns-in-Err-clause-refuses
 returns-in-Err-clause-refuses c =
@@ -54,14 +41,3 @@ pub returns-in-None-clause-ends : goal.returns-in-None-clause-ends
 returns-in-None-clause-ends c = λ wanted bytes t.
     let s = enter wanted _ _ bytes c.self.view_is c.requires.ready.runs t in
     rw (← c.self.view_is) (quiet-end wanted _ _ bytes c.args.out.now.rows s (c.in-None.ensures.all bytes s.lexes) refl refl)
-
-pub returns-in-None-clause-few : goal.returns-in-None-clause-few
-returns-in-None-clause-few c =
-    let fits : c.self.inside.rows + 1 < 2 ^ 64 = subst (λ (x : Reading). x.rows + 1 < 2 ^ 64) (sym c.self.view_is) c.requires.rows in
-    let few = one-left c.self.inside.stage in
-    omega (arith, fits, few)
-
-pub returns-in-Err-clause-kept : goal.returns-in-Err-clause-kept
-returns-in-Err-clause-kept c =
-    let kept = c.in-Err.ensures.kept in
-    (kept.0, kept.1 ∙ ap (λ (x : Reading). shown x.stage) c.self.view_is)

@@ -1,14 +1,10 @@
 use Rattle.std.proofs.Common.{◌++◌, take, sym, ◌∙◌, arith}
 use Rattle.std.proofs.lemmas.Grind.{common_steps}
-use Rattle.ccsl_vcd_read.proofs.Feeding.{takes-more, still-ready}
+use Rattle.ccsl_vcd_read.proofs.Feeding.{takes-more}
 use Rattle.ccsl_vcd_read.proofs.Passing.{none-open}
 use Rattle.ccsl_vcd_read.proofs.Racing.{white-last}
 use Rattle.ccsl_vcd_read.proofs.Taking.{running-of}
 use Rattle.ccsl_vcd_read.proofs.reader.Reader.stride.Goals as goal
-
-pub race-more-requires-clause-ready : goal.race-more-requires-clause-ready
-race-more-requires-clause-ready c =
-    still-ready c.requires.ready c.in-Ok.ensures.takes (grind (arith, common_steps, c.is_full.ensures, c.if-is_full.false))
 
 pub race-more-requires-clause-nothing_open : goal.race-more-requires-clause-nothing_open
 race-more-requires-clause-nothing_open c =
