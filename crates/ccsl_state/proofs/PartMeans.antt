@@ -2,7 +2,7 @@
 use Rattle.std.proofs.lemmas.Grind.{common_steps}
 use Rattle.std.proofs.Common.{◌≡◌, ℕ, zero, suc, ◌+◌, ◌-◌, ◌<◌, ◌≤◌, ◌^◌, ⊎_elim, List, [], ◌∷◌, ◌++◌, length, filter, Bool, true, false, ◌&&◌, Option, Some}
 use Rattle.std.proofs.Common.{None, option_map, slice_get, slice_index_or, nat_lt, if◌then◌else◌, refl, sym, ap, ap₂, subst, ◌∙◌, arith, length-append, lt-ltb}
-use Rattle.std.proofs.lemmas.Bool.{cases_lt, and_parts, and_from, ltb-true}
+use Rattle.std.proofs.lemmas.Bool.{cases_lt, and_parts, and_from, ltb-true, or_left, or_right}
 use Rattle.std.proofs.lemmas.Option.{get_or_from_slice_get, slice_get-get_or, slice_get_past}
 use Rattle.ccsl_base.specs.Clocks.{ticks_in, is_ascending, are_below}
 use Rattle.std.proofs.Math.Bool.{and-true, and_comm}
@@ -111,7 +111,10 @@ module _ (p : HeldPart) (T : List Step) (s : Step) (ok : IsAccepted p.system) (c
       where
         on : (o : Option Expression) → slice_get K.definitions i ≡ o → named_by o y ≡ true → is_within K F y ≡ true
         on None is n = let z : ⊥ = cc in absurd z
-        on (Some e) is n = grind (arith, common_steps, closed (K.declared + i) y e (definition_at K ok i e is) followed n)
+        on (Some e) is n = ⊎_elim
+            (λ (l : y < K.declared). or_left (nat_lt y K.declared) (ticks_in y F) (lt-ltb y K.declared l))
+            (λ (l : K.declared ≤ y). or_right (nat_lt y K.declared) (ticks_in y F) (closed (K.declared + i) y e (definition_at K ok i e is) followed n l))
+            (cases_lt y K.declared)
 
     before : (i : ℕ) (e : Expression) → IsFollowed K F i → slice_get K.definitions i ≡ Some e → tree_number old i ≡ tree_after K T (K.declared + i) e
     before i e f is = get_or_from_slice_get old i (tree_after K T (K.declared + i) e) TNever (stands.trees i f.1 ∙ tree_get K T K.declared K.definitions i e is)
@@ -153,7 +156,15 @@ module _ (p : HeldPart) (T : List Step) (s : Step) (ok : IsAccepted p.system) (c
     tick_below (suc b) y l w = at (λ z m v. tick_below b z (omega (arith, l, m)) v)
       where
         at : ((z : ℕ) → z < y → is_within K F z ≡ true → ticks_in z step ≡ ticks_in z full) → ticks_in y step ≡ ticks_in y full
-        at lower = grind (arith, common_steps, passed.declared, states_derive, accepted_guarded, derived-keeps, defined_tick (y - K.declared), within_followed)
+        at lower = ⊎_elim
+            (λ (m : y < K.declared). passed.declared y m ∙ sym
+            (ap (ticks_in y) (sym (states_derive K (accepted_guarded K ok) T s few)) ∙ derived-keeps (trees_after K T) K.declared s y m))
+            (λ (m : K.declared ≤ y).
+            let n = numbered y m in
+            ap (λ k. ticks_in k step) n.1
+            ∙ defined_tick n.0 (within_followed y n.0 n.1 w) (λ z q v. lower z (let e = n.1 in omega (arith, q, e)) v)
+            ∙ ap (λ k. ticks_in k full) (sym n.1))
+            (cases_lt y K.declared)
 
     -- THE STEP is that part of the full one
     pub part_step : is_ascending step ≡ true → step ≡ part_of p full
@@ -164,7 +175,17 @@ module _ (p : HeldPart) (T : List Step) (s : Step) (ok : IsAccepted p.system) (c
         (λ y. at y (is_within K F y) refl ∙ and_comm (is_within K F y) (ticks_in y full) ∙ sym (ticks_in-filter (is_within K F) y full))
       where
         at : (y : ℕ) (t : Bool) → is_within K F y ≡ t → ticks_in y step ≡ (is_within K F y && ticks_in y full)
-        at y t w = grind (arith, common_steps, tick_below (suc y) y, passed.outside (y - K.declared))
+        at y true w = tick_below (suc y) y (omega arith) w ∙ ap (λ t. t && ticks_in y full) (sym w)
+        at y false w = ⊎_elim
+            (λ (m : y < K.declared). let z : ⊥ =
+            (let e : true ≡ false = sym (or_left (nat_lt y K.declared) (ticks_in y F) (lt-ltb y K.declared m)) ∙ w in cc) in absurd z)
+            (λ (m : K.declared ≤ y).
+            let n = numbered y m in
+            ap (λ k. ticks_in k step) n.1
+            ∙ passed.outside n.0 (λ (f : IsFollowed K F n.0).
+            let z : ⊥ = (let e : true ≡ false = sym (or_right (nat_lt y K.declared) (ticks_in y F) (ap (λ k. ticks_in k F) n.1 ∙ f.1)) ∙ w in cc) in z)
+            ∙ sym (ap (λ t. t && ticks_in y full) w))
+            (cases_lt y K.declared)
 
     abbrev len : ℕ
     len = length (T ++ full_step K T s ∷ [])

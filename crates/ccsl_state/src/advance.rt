@@ -1,6 +1,5 @@
 //! The region of an expression after a step. One pass tells the tick in the step, rewrites the cells, and tells the death
 //! after it.
-#![tactic(auto, using(crate::proofs::Places::inner_stands, crate::proofs::Regions::rest_one, crate::proofs::Regions::further))]
 
 ghost use Rattle.std.specs.Prelude.{◌≡◌, ◌≤◌, ◌+◌, ℕ, false, true, drop, None};
 ghost use Rattle.ccsl_state.specs.Layout.{words_of, own_cells, two_at};

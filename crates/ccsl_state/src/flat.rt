@@ -128,7 +128,6 @@ fn two_clocks(
 
 /// A delayed over two clocks.
 #[inline(always)]
-#[tactic(auto, using(std::proofs::lemmas::Grind::common_steps, crate::proofs::Frame::lag_front))]
 fn lag_clocks(m: u32, x: u32, y: u32, row: &mut [u64], step: &ClockSet, gone: &ClockSet) -> Stepped
     requires some { 1 ≤ m }
     requires short { m ≤ MAX_DELAY }

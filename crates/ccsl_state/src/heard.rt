@@ -1,5 +1,4 @@
 //! Whether an expression ticks in a step, from its region.
-#![tactic(auto, using(crate::proofs::Places::inner_stands))]
 
 ghost use Rattle.std.specs.Prelude.{◌≡◌, ◌≤◌, ◌+◌, false, true};
 ghost use Rattle.ccsl_state.specs.Layout.{words_of, own_cells, two_at};

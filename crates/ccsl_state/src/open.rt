@@ -1,5 +1,4 @@
 //! The region of an expression at its birth.
-#![tactic(auto, using(crate::proofs::Places::inner_stands, crate::proofs::Places::inner_not_own, crate::proofs::Regions::rest_one))]
 
 ghost use Rattle.std.specs.Prelude.{◌≡◌, ◌≤◌, ◌+◌, ℕ, false, true, drop, length, replicate, Some};
 ghost use Rattle.ccsl_kernel.specs.Syntax.{ECall};

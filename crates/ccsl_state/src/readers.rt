@@ -18,7 +18,6 @@ pub struct Readers {
 }
 
 /// Definition number `i` reads some clocks.
-#[tactic(auto, using(std::proofs::lemmas::Grind::common_steps, crate::proofs::Visiting::adding_more, crate::proofs::Visiting::adding_within))]
 fn add_reader(clocks: &ClockSet, i: u32, sets: &mut [ClockSet])
     requires within { (y : ℕ) → ticks_in y clocks.now ≡ true → y < length sets.old }
     requires number { i < MAX_CLOCKS }

@@ -1,5 +1,4 @@
 //! The formula of an expression, from its region.
-#![tactic(auto, using(crate::proofs::Places::inner_stands))]
 
 ghost use Rattle.std.specs.Prelude.{◌≡◌, ◌≤◌, ◌+◌, false, true, length, IfOk, if◌then◌else◌};
 ghost use Rattle.ccsl_formula.specs.Formula.{Formula as Plain, FFalse};

@@ -17,7 +17,7 @@ use Rattle.std.proofs.lemmas.Bool.{leb-false}
 use Rattle.ccsl_state.proofs.Calls.{site, birth_site, body_ready, call_at, call_opens, small_mod}
 use Rattle.ccsl_state.proofs.Frame.{two_front, lag_node_front}
 use Rattle.ccsl_state.proofs.Operands.{pair_opened}
-use Rattle.ccsl_state.proofs.Places.{call_params, ready_body}
+use Rattle.ccsl_state.proofs.Places.{call_params, inner_not_own, inner_stands, ready_body}
 use Rattle.ccsl_state.proofs.Regions.{rest_one}
 use Rattle.ccsl_state.proofs.open.+open.Goals as goal
 
@@ -117,3 +117,30 @@ opened-returns-in-Call t c =
       dead = c.call_opened.ensures.dead ∙ ap (dead_of (gone_in c.args.gone.now)) b.born;
       size = search rules;
     }
+
+pub two_opened-opened-left-requires : goal.two_opened-opened-left-requires
+two_opened-opened-left-requires t c = grind (arith, inner_stands, inner_not_own)
+
+pub two_opened-opened-right-requires : goal.two_opened-opened-right-requires
+two_opened-opened-right-requires t c = grind (arith, inner_stands, inner_not_own)
+
+pub lag_opened-opened-left-requires : goal.lag_opened-opened-left-requires
+lag_opened-opened-left-requires t c = grind (arith, inner_stands, inner_not_own)
+
+pub lag_opened-opened-right-requires : goal.lag_opened-opened-right-requires
+lag_opened-opened-right-requires t c = grind (arith, inner_stands, inner_not_own)
+
+pub one_opened-opened-born-requires : goal.one_opened-opened-born-requires
+one_opened-opened-born-requires t c = grind (arith, inner_stands, inner_not_own)
+
+pub then_opened-opened-born-requires : goal.then_opened-opened-born-requires
+then_opened-opened-born-requires t c = grind (arith, inner_stands, inner_not_own)
+
+pub then_opened-returns : goal.then_opened-returns
+then_opened-returns t c = grind (arith, rest_one)
+
+pub opened-returns-then-holds : goal.opened-returns-then-holds
+opened-returns-then-holds t c = grind (arith, rest_one)
+
+pub opened-returns-else-holds : goal.opened-returns-else-holds
+opened-returns-else-holds t c = grind (arith, rest_one)
