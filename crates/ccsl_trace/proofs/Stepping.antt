@@ -9,7 +9,7 @@ use Rattle.ccsl_edge.specs.declared.slot.Slot.TheVariants.{Trace}
 use Rattle.ccsl_edge.specs.World.{State, Told}
 use Rattle.ccsl_edge.specs.Calls.{Reads}
 use Rattle.ccsl_edge.specs.Calls as calls
-use Rattle.ccsl_edge.proofs.Reading.{Reads-none, Reads-append, Reads-fails}
+use Rattle.ccsl_edge.proofs.Reading.{Reads-none, Reads-append}
 use Rattle.ccsl_vcd.specs.declared.limits.Limits.{Limits}
 use Rattle.ccsl_vcd.specs.Binding.{Wanted}
 use Rattle.ccsl_vcd_read.specs.declared.reader.Counts.{Counts}
@@ -19,7 +19,7 @@ use Rattle.ccsl_vcd_read.proofs.Ending.{running-shown}
 use Rattle.ccsl_trace.specs.declared.fault.TraceFault.{TraceFault}
 use Rattle.ccsl_trace.specs.declared.next.Next.{Next}
 use Rattle.ccsl_trace.specs.declared.next.Next.TheVariants.{Bound, Rows, Ended}
-use Rattle.ccsl_trace.specs.Traces.{Ends, Fails, IsUnread}
+use Rattle.ccsl_trace.specs.Traces.{Ends, IsUnread}
 use Rattle.ccsl_trace.specs.Feeding.{Feeding, bound_of, waiting_in, Runs, HasEnded, Holds, Feeds, GivesBound, GivesRows, GivesEnd, Gives}
 use Rattle.ccsl_trace.specs.Stepping.{IsNear, RefusesAll, RefusesIt, EndsLate, EndsNow, Finishes}
 use Rattle.ccsl_trace.proofs.Binding.{bound-none, done-none}
@@ -80,10 +80,6 @@ module _ {told : Told} {wanted : Wanted} {limits : Limits} {start now : State} {
       → Feeds told wanted limits start now feed' rows'
   feeds-on feed' rows' e h =
       record { bytes = f.bytes; reads = f.reads; small = f.small; holds = subst (λ o. Holds told wanted limits start now o f.bytes feed' rows') (sym e) h }
-
-  -- a read failed
-  pub fails-at : (next : State) → calls.Fails Trace now next → Fails told wanted limits start next
-  fails-at next h = record { bytes = f.bytes; reads = Reads-fails told Trace f.bytes start now next f.reads h }
 
   -- a piece was read where none was pending
   pub refilled : (next : State) (feed' : Feeding) (count : ℕ) → feed.ended ≡ None → feed.pending ≡ []
