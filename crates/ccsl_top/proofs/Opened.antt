@@ -1,7 +1,7 @@
 -- A file that was opened and read.
-use Rattle.std.proofs.Common.{◌≡◌, ℕ, List, ◌++◌, Some, IsTrue, sym, ap, ◌∙◌}
+use Rattle.std.proofs.Common.{◌≡◌, ℕ, List, Some, sym, ap, ◌∙◌}
 use Rattle.ccsl_edge.specs.declared.slot.Slot.{Slot}
-use Rattle.ccsl_edge.specs.World.{State, SlotState, Told, held}
+use Rattle.ccsl_edge.specs.World.{State, SlotState, Told}
 use Rattle.ccsl_edge.specs.Calls.{ChangesOnly, Fails, OpensIn, ReadsThenFails, ReadsAll, ReadsTooMuch}
 use Rattle.ccsl_edge.specs.Calls as edge
 use Rattle.ccsl_top.specs.Changes.{Reads}
@@ -14,10 +14,6 @@ only-then slot s t u p q = record { files = q.files ∙ p.files; others = λ oth
 left-then : (a b c : SlotState) → b ≡ record a { left = b.left } → c ≡ record b { left = c.left } → c ≡ record a { left = c.left }
 left-then a b c p q = q ∙ ap (λ (x : SlotState). let S : SlotState = record x { left = c.left } in S) p
 
-faults-then : (a b c : SlotState) → b ≡ record a { left = b.left } → c ≡ record b { left = c.left; faults = c.faults } →
-    c ≡ record a { left = c.left; faults = c.faults }
-faults-then a b c p q = q ∙ ap (λ (x : SlotState). let S : SlotState = record x { left = c.left; faults = c.faults } in S) p
-
 faults-alone : (a b : SlotState) → b ≡ record a { faults = b.faults } → b ≡ record a { left = b.left; faults = b.faults }
 faults-alone a b p = p ∙ sym (ap (λ n. let S : SlotState = record a { left = n; faults = b.faults } in S) (ap (λ s. s.left) p))
 
@@ -29,16 +25,5 @@ module _ (told : Told) (slot : Slot) (name : List ℕ) (s t u : State) (opens : 
   opened-reads bytes r =
       reads-only slot s u (only-then slot s t u opens.only r.only) (left-then (s.slot_of slot) (t.slot_of slot) (u.slot_of slot) opens.here r.here)
 
-  pub opened-breaks : (bytes : List ℕ) → ReadsThenFails told slot bytes t u → Breaks slot s u
-  opened-breaks bytes r =
-      let same : (t.slot_of slot).faults ≡ (s.slot_of slot).faults = ap (λ x. x.faults) opens.here in
-      breaks-only slot s u (only-then slot s t u opens.only r.only) (faults-then (s.slot_of slot) (t.slot_of slot) (u.slot_of slot) opens.here r.here)
-      (rw (sym same) r.rose)
-
   pub whole-file : (limit : ℕ) (all : List ℕ) → ReadsAll told slot limit all t u → IsFile told s.files name limit (Some all)
   whole-file limit all r = (r.within, λ f l. sym (r.whole l) ∙ opens.bytes f l)
-
-  -- what was read of the file, and what is left of it
-  pub opened-taken : (bytes : List ℕ) → edge.Reads told slot bytes t u → IsTrue told.files → IsTrue told.left →
-      held s.files name ≡ bytes ++ (u.slot_of slot).left
-  opened-taken bytes r f l = sym (opens.bytes f l) ∙ r.taken l
