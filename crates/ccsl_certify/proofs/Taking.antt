@@ -12,8 +12,8 @@ use Rattle.ccsl_certify.specs.declared.follower.Follower.{Follower}
 use Rattle.ccsl_certify.specs.Replaying.{Follows, Goes, HasEnded}
 
 -- the follower that took the rows goes on, or has ended with them
-module _ (told : Told) (K : System) (limits : Limits) (start now : State) (before : Option (List ℕ)) (bound : List ℕ) (known : before ≡ Some bound)
-    (feed : Feeding) (rows : List Row) (f : Follower) (follows : Follows K bound (rows ++ feed.block.rows) f) where
+module _ {told : Told} {K : System} {limits : Limits} {start now : State} {before : Option (List ℕ)} {bound : List ℕ} (known : before ≡ Some bound)
+    {feed : Feeding} {rows : List Row} {f : Follower} (follows : Follows K bound (rows ++ feed.block.rows) f) where
   pub goes-on : GivesRows told (wanted_of K) limits start now before feed rows → Goes told K limits start now feed f
   goes-on g = record {
     bound = bound;

@@ -1,7 +1,5 @@
-use Rattle.std.proofs.Common.{◌+◌, ◌<◌, ◌++◌, ◌^◌, length, sym, subst}
 use Rattle.ccsl_bind.specs.Collected.{wanted_of}
 use Rattle.ccsl_trace.proofs.Giving.{given-few, not-bound}
-use Rattle.ccsl_certify.specs.Replaying.{Follows}
 use Rattle.ccsl_certify.proofs.Taking.{goes-on, has-ended}
 use Rattle.ccsl_certify.proofs.trace.Replaying.take_next.Goals as goal
 
@@ -15,7 +13,7 @@ take-requires g c =
     let now = g.W.World.state c.next.new.world in
     let given = c.in-Ok.ensures.gives (wanted_of w.0) w.1 w.2 s.rows s.feeds in
     let few = given-few g.W.World.told (wanted_of w.0) w.1 w.2 now _ s.bound s.shows c.next.new.self s.rows c.in-Ok.next given in
-    (w.0, s.bound, s.rows, s.follows, subst (λ b. length s.rows + length b.rows < 2 ^ 64) (sym c.block.ensures) few)
+    (w.0, s.bound, s.rows, s.follows, rw c.block.ensures few)
 
 pub returns-in-Bound : goal.returns-in-Bound
 returns-in-Bound g c =
@@ -30,15 +28,11 @@ returns-in-Rows-clause-stands g c = λ K limits start s.
     let now = g.W.World.state c.next.new.world in
     let given = c.in-Ok.ensures.gives (wanted_of K) limits start s.rows s.feeds in
     let few = given-few g.W.World.told (wanted_of K) limits start now _ s.bound s.shows c.next.new.self s.rows c.in-Ok.next given in
-    let took = subst (λ b. Follows K s.bound (s.rows ++ b.rows) c.take.new.self) c.block.ensures
-    (c.take.ensures K s.bound s.rows s.follows (subst (λ b. length s.rows + length b.rows < 2 ^ 64) (sym c.block.ensures) few)) in
-    goes-on g.W.World.told K limits start now _ s.bound s.shows c.next.new.self s.rows c.take.new.self took (rw c.in-Rows.is at given)
+    goes-on s.shows (rw c.block.ensures at c.take.ensures K s.bound s.rows s.follows few) (rw c.in-Rows.is at given)
 
 pub returns-in-Ended-clause-stands : goal.returns-in-Ended-clause-stands
 returns-in-Ended-clause-stands g c = λ K limits start s.
     let now = g.W.World.state c.next.new.world in
     let given = c.in-Ok.ensures.gives (wanted_of K) limits start s.rows s.feeds in
     let few = given-few g.W.World.told (wanted_of K) limits start now _ s.bound s.shows c.next.new.self s.rows c.in-Ok.next given in
-    let took = subst (λ b. Follows K s.bound (s.rows ++ b.rows) c.take.new.self) c.block.ensures
-    (c.take.ensures K s.bound s.rows s.follows (subst (λ b. length s.rows + length b.rows < 2 ^ 64) (sym c.block.ensures) few)) in
-    has-ended g.W.World.told K limits start now _ s.bound s.shows c.next.new.self s.rows c.take.new.self took c.in-Ended.counts (rw c.in-Ended.is at given)
+    has-ended s.shows (rw c.block.ensures at c.take.ensures K s.bound s.rows s.follows few) c.in-Ended.counts (rw c.in-Ended.is at given)
