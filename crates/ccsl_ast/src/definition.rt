@@ -28,7 +28,8 @@ pub struct Member {
     pub body: Tree,
 }
 
-/// A defined relation, whose body has at least one line, or a group of expressions that may call each other, at least one.
+/// A defined relation, whose body has at least one line, or a group of expressions that may call each other, at least
+/// one.
 #[derive(Drop)]
 pub enum Definition {
     Relation {

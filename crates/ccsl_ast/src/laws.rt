@@ -1,4 +1,5 @@
-//! What is true of the depth of expressions, and of what a file keeps. Each function does nothing: its contract is the law.
+//! What is true of the depth of expressions, and of what a file keeps. Each function does nothing: its contract is the
+//! law.
 
 ghost use Rattle.std.specs.Prelude.{◌≤◌, IsTrue};
 ghost use Rattle.ccsl_ast.specs.Depth.{file_depth};

@@ -18,7 +18,8 @@ pub enum Primary {
     Name(Spot),
 }
 
-/// The public name of a primary. A type of the name itself stops each crate above, since antt has a module of that name.
+/// The public name of a primary. A type of the name itself stops each crate above, since antt has a module of that
+/// name.
 pub type Prim = Primary;
 
 /// A sum, taken from the left.

@@ -13,7 +13,8 @@ use std::marker::Model;
 const WORDS: usize = 16;
 
 /// A set of clock numbers below [`MAX_CLOCKS`], as the clocks that tick in one step. A set whose members are small is
-/// walked in the words that it uses, not in all of them. Most sets use one word: where it counts that is done before the loop.
+/// walked in the words that it uses, not in all of them. Most sets use one word: where it counts that is done before
+/// the loop.
 #[derive(Drop)]
 pub struct ClockSet {
     // the words from here on are 0; it stands beside the first word, which most walks read next

@@ -4,8 +4,8 @@ ghost use Rattle.core.specs.Hash.DefaultHasher.{with_keys};
 
 use core::hash::{BuildHasher, DefaultHasher, keyed_hasher};
 
-/// The keys by which texts are hashed. Nobody who does not know them can choose texts that collide, so they are to be drawn at
-/// random; no answer depends on them.
+/// The keys by which texts are hashed. Nobody who does not know them can choose texts that collide, so they are to be
+/// drawn at random; no answer depends on them.
 #[derive(Clone, Copy)]
 pub struct HashKeys {
     pub first: u64,

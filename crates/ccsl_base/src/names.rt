@@ -10,8 +10,8 @@ use std::alloc::Global;
 use std::hash::{BuildHasher, BuildHasherDefault, FoldHasher};
 use std::marker::Model;
 
-/// A list of distinct byte texts, each with its number in the order of addition. A look-up takes constant expected time: where a
-/// stranger chooses the texts, by a hasher that he does not know.
+/// A list of distinct byte texts, each with its number in the order of addition. A look-up takes constant expected
+/// time: where a stranger chooses the texts, by a hasher that he does not know.
 pub struct Names<S: BuildHasher = BuildHasherDefault<FoldHasher>> {
     alloc: Global,
     texts: IndexSet<Vec<u8>, S>,
@@ -59,7 +59,8 @@ impl<S: BuildHasher> Names<S> {
         }
     }
 
-    /// Adds a name, and answers its number, or `None` where the name is there. On `None` and on `Memory` the table is as before.
+    /// Adds a name, and answers its number, or `None` where the name is there. On `None` and on `Memory` the table is
+    /// as before.
     pub fn add(&mut self, name: &[u8]) -> Result<Option<u32>, Memory>
         requires room { length self.old < 4294967295 }
         ensures added { IfOk result (λ number. IsAdded self.old self.new name.now number) }

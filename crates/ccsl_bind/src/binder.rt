@@ -54,8 +54,8 @@ fn may_bind(kind: &[u8], size: u32) -> bool
 }
 
 impl Binder {
-    /// A binder before the first declaration, for the written clocks of a system. A stranger chooses the codes, so that their table
-    /// has a hasher with random keys.
+    /// A binder before the first declaration, for the written clocks of a system. A stranger chooses the codes, so that
+    /// their table has a hasher with random keys.
     pub fn open(alloc: Global, keys: HashKeys, system: &System) -> Result<Binder, Memory>
         ensures { IfOk result (λ b. StandsFor (wanted_of system.now) b []) }
     {

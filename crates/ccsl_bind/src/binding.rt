@@ -11,8 +11,8 @@ use crate::candidate::Candidates;
 use ccsl_base::{ClockSet, HashKeys, Names};
 use std::marker::Model;
 
-/// The codes that a header declares, numbered from 0 in the order of first declarations, and the clocks that are bound to
-/// them.
+/// The codes that a header declares, numbered from 0 in the order of first declarations, and the clocks that are bound
+/// to them.
 #[derive(Drop)]
 pub struct Binding {
     codes: Names<HashKeys>,

@@ -3,8 +3,8 @@
 ghost use Rattle.std.specs.Prelude.{◌≡◌};
 ghost use Rattle.ccsl_bind.specs.Candidates.{noted};
 
-/// The candidates of a clock so far: how many scopes they stand in, the number of the first one's code and whether it is an
-/// event, and whether all have its code.
+/// The candidates of a clock so far: how many scopes they stand in, the number of the first one's code and whether it
+/// is an event, and whether all have its code.
 #[derive(Clone, Copy)]
 pub struct Candidates {
     pub depth: u32,

@@ -8,7 +8,8 @@ use ccsl_base::{Block, ClockSet, Memory};
 use std::alloc::Global;
 use std::marker::Model;
 
-/// Where there are no more clocks than so many, a step visits all counts, which costs less than to find those that it raises.
+/// Where there are no more clocks than so many, a step visits all counts, which costs less than to find those that it
+/// raises.
 const FEW: usize = 8;
 
 /// A count of ticks for each clock. Contracts see the list of counts.

@@ -99,8 +99,8 @@ fn is_precedence(kind: RelationKind) -> bool
     }
 }
 
-// The lead of a left clock by a constraint, before the first step. None where that is no precedence of it between clocks that are
-// written in the system.
+// The lead of a left clock by a constraint, before the first step. None where that is no precedence of it between
+// clocks that are written in the system.
 fn lead_by(system: &System, left: u32, constraint: &Constraint) -> Option<Lead>
     ensures { result ≡ lead_by system.now left constraint.now }
 {
@@ -149,8 +149,8 @@ impl Leads {
         Ok(if is_any { Some(Leads { sides }) } else { None })
     }
 
-    /// A step is made, before which the clocks had ticked so often. Only the precedences of the left clocks that tick in it are
-    /// visited: there a lead begins where there was none.
+    /// A step is made, before which the clocks had ticked so often. Only the precedences of the left clocks that tick
+    /// in it are visited: there a lead begins where there was none.
     #[inline]
     pub fn hear(&mut self, step: &ClockSet, time: u64, before: &Counts)
         ensures clocks { length self.new ≡ length self.old }

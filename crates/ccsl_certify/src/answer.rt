@@ -26,14 +26,16 @@ pub enum CertVerdict {
     Yes(u64),
     /// The trace is no run.
     NotRun(Violation),
-    /// The trace is a run, and this line of the certificate, counted from 1, is not valid, or the last clause is not empty.
+    /// The trace is a run, and this line of the certificate, counted from 1, is not valid, or the last clause is not
+    /// empty.
     BadLine(u64),
 }
 
 /// Why a certificate was not checked.
 #[derive(Clone, Copy)]
 pub enum CertifyFault {
-    /// A read of the world failed: the count of the trace's slot or of the certificate's has risen, or stands at its last value.
+    /// A read of the world failed: the count of the trace's slot or of the certificate's has risen, or stands at its
+    /// last value.
     Fault,
     /// The trace is refused, with its fault.
     Refused(VcdFault),

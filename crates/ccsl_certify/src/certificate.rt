@@ -87,8 +87,9 @@ fn read_certificate<W: World>(
     Ok(read(alloc, &text, system.names())?)
 }
 
-/// Reads the trace to its end, then the certificate, and says whether the trace is a run and the lines of the certificate show that no
-/// step is left after it. The certificate has at most as many bytes as the limits allow a trace.
+/// Reads the trace to its end, then the certificate, and says whether the trace is a run and the lines of the
+/// certificate show that no step is left after it. The certificate has at most as many bytes as the limits allow a
+/// trace.
 pub fn certify<W: World>(
     alloc: Global,
     keys: HashKeys,

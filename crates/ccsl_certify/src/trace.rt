@@ -145,8 +145,8 @@ impl<'s> Replaying<'s> {
     }
 }
 
-/// Reads what is left of the trace, to its end, and says whether it is a run of a system. Where it is one, the states after it are
-/// answered; else the least step at which an item is violated, and the least item there.
+/// Reads what is left of the trace, to its end, and says whether it is a run of a system. Where it is one, the states
+/// after it are answered; else the least step at which an item is violated, and the least item there.
 pub fn replay<'s, W: World>(
     alloc: Global,
     keys: HashKeys,

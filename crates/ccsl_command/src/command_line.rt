@@ -23,7 +23,8 @@ const COMMANDS: [CommandName; 8] = [
     CommandName::Session,
 ];
 
-/// The command of a list of words, or what is wrong with them: the first word at fault, then a missing key, then equal file names.
+/// The command of a list of words, or what is wrong with them: the first word at fault, then a missing key, then equal
+/// file names.
 pub fn words(alloc: Global, list: &[CommandWord]) -> Result<Command, Usage>
     ensures meant { IfOk result (λ command. meaning list.now ≡ Ok command) }
     ensures infinite { IfOk result (λ command. HasInfiniteWords command) }

@@ -94,8 +94,8 @@ impl Pending {
         self.from += count;
     }
 
-    /// Reads the next piece in place of what it had, with at most one byte more than may be taken, and tells how many bytes were
-    /// read. That byte is not kept.
+    /// Reads the next piece in place of what it had, with at most one byte more than may be taken, and tells how many
+    /// bytes were read. That byte is not kept.
     pub fn refill<W: World>(&mut self, world: &mut W, slot: Slot, left: u64) -> Result<u64, Failed>
         requires input { IsInput slot }
         ensures ok { IfOk result

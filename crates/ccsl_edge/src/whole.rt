@@ -73,7 +73,8 @@ pub fn read_all<W: World>(
     }
 }
 
-/// Adds all the bytes to an output slot, which is open where it has a file's name. Where a call fails, a front of them was added.
+/// Adds all the bytes to an output slot, which is open where it has a file's name. Where a call fails, a front of them
+/// was added.
 pub fn write_all<W: World>(world: &mut W, slot: Slot, bytes: &[u8]) -> Result<(), Failed>
     requires output { IsOutput slot }
     requires opened { IsOutputFile slot → IsTrue ((W.state world.old).slot_of slot).is_open }

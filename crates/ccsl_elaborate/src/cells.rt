@@ -1,5 +1,5 @@
-//! The cells of expressions and groups as their text has them. What names stand for doesn't change them: a call has those of its
-//! group, and `delayed` has its number in the text. Counts stop at 4,294,967,295.
+//! The cells of expressions and groups as their text has them. What names stand for doesn't change them: a call has
+//! those of its group, and `delayed` has its number in the text. Counts stop at 4,294,967,295.
 
 ghost use Rattle.std.specs.Prelude.{◌≡◌, length, map, OnOk};
 ghost use Rattle.ccsl_ast.specs.Plain.{plain, plain_member, plain_definition};

@@ -1,5 +1,5 @@
-//! The totals of what a file expands to, counted definition by definition before anything is expanded: a nest of calls may stand
-//! for more than memory holds. Sums stop at 4,294,967,295.
+//! The totals of what a file expands to, counted definition by definition before anything is expanded: a nest of calls
+//! may stand for more than memory holds. Sums stop at 4,294,967,295.
 
 ghost use Rattle.std.specs.Prelude.{◌≡◌, [], length, map, flat_map, IfOk, OnOk};
 ghost use Rattle.ccsl_ast.specs.Trees.{SLineOf};

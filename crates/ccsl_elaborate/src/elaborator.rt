@@ -77,8 +77,8 @@ fn judged(alloc: Global, library: &File, file: &File) -> Result<Result<System, R
     }
 }
 
-/// The system that a file stands for behind a library, or the file's refusal: of its faults the one with the least place, and
-/// where it has none the first total above its limit. The library is one that is accepted by itself.
+/// The system that a file stands for behind a library, or the file's refusal: of its faults the one with the least
+/// place, and where it has none the first total above its limit. The library is one that is accepted by itself.
 pub fn elaborate(alloc: Global, file: &File, library: &File) -> Result<System, Refusal>
     requires library { refusal empty (plain_file library.now) ≡ None }
     ensures accepted { OnOk result (refusal (plain_file library.now) (plain_file file.now) ≡ None) }

@@ -29,8 +29,8 @@ fn put_without_blanks(text: &[u8], parts: &mut Vec<u8>) -> Result<(), Memory>
     Ok(())
 }
 
-// Puts the part of a path that a token is behind others, if it is one. Blanks between quotes are left out, since no name in a dump
-// has one.
+// Puts the part of a path that a token is behind others, if it is one. Blanks between quotes are left out, since no
+// name in a dump has one.
 fn put_part(next: Token<'_>, parts: &mut Vec<u8>) -> Result<bool, Memory>
     ensures is { IfOk result (λ put. put ≡ is_some (part_seen (seen next.entry))) }
     ensures put { OnOk result (parts.new.items

@@ -85,8 +85,8 @@ fn has_base(word: &[u8]) -> bool
     word.len() >= 2 && (word[0] == b'0' && word[1] == b'x')
 }
 
-/// The letters of a number, without zeros at its front: a decimal one, or one of base 16 behind `0x`. `None` where the word is no
-/// number below 2^64, or none of base 16.
+/// The letters of a number, without zeros at its front: a decimal one, or one of base 16 behind `0x`. `None` where the
+/// word is no number below 2^64, or none of base 16.
 pub(crate) fn of_word(alloc: Global, word: &[u8]) -> Result<Option<Vec<u8>>, Memory>
     ensures { IfOk result (λ v. option_map (λ letters. letters.items) v ≡ of_word word.now) }
 {

@@ -316,8 +316,8 @@ impl Body {
         }
     }
 
-    // A time at the front of some bytes, behind its `#`. Like the next two it answers how many bytes are taken from the token's
-    // first to the white space behind it, and none where it does nothing.
+    // A time at the front of some bytes, behind its `#`. Like the next two it answers how many bytes are taken from the
+    // token's first to the white space behind it, and none where it does nothing.
     #[inline(always)]
     fn short_time(&mut self, at: u64, bytes: &[u8], out: &mut Vec<u8>) -> Result<usize, VcdFault>
         ensures within { IfOk result (λ taken. taken ≤ length bytes.now + 1) }
@@ -400,8 +400,8 @@ impl Body {
         }
     }
 
-    // Takes whatever stands at the front of some bytes: a byte of white space, or a token and the white space behind it. It
-    // answers how many bytes that are, and none where no token ends there.
+    // Takes whatever stands at the front of some bytes: a byte of white space, or a token and the white space behind
+    // it. It answers how many bytes that are, and none where no token ends there.
     #[inline(never)]
     fn whole_token(&mut self, at: u64, bytes: &[u8], out: &mut Vec<u8>) -> Result<usize, VcdFault>
         ensures within { IfOk result (λ taken. taken ≤ length bytes.now) }
@@ -447,7 +447,8 @@ impl Body {
         self.token(at, bytes, out)
     }
 
-    /// Takes the tokens that lie whole in a piece, and stops where the output is full. It answers how many bytes they have.
+    /// Takes the tokens that lie whole in a piece, and stops where the output is full. It answers how many bytes they
+    /// have.
     #[inline(never)]
     pub(crate) fn run(
         &mut self,

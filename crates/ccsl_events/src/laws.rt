@@ -8,8 +8,8 @@ ghost use Rattle.ccsl_vcd_lex.specs.Tokens.{hear, tokens_from};
 ghost use Rattle.ccsl_events.specs.Run.{Breaks};
 ghost use Rattle.ccsl_events.specs.Fed.{HasTaken};
 
-/// A reader that was fed a body and a line feed stands where the body ends. A fault that it finds is what the body says, and
-/// the rows before the fault are those of the body's tokens.
+/// A reader that was fed a body and a line feed stands where the body ends. A fault that it finds is what the body
+/// says, and the rows before the fault are those of the body's tokens.
 pub fn whole_body()
     ensures ends { (plan : Plan) (start len : ℕ) (bytes : List ℕ) (p : Place) (r : Reader) →
         HasTaken plan start (bytes ++ 10 ∷ []) p r →

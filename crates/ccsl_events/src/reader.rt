@@ -161,7 +161,8 @@ impl Reader {
         self.part(bytes, out)
     }
 
-    /// Takes bytes of a piece, one at least, up to the header's end or to where the output is full. It answers how many.
+    /// Takes bytes of a piece, one at least, up to the header's end or to where the output is full. It answers how
+    /// many.
     pub fn feed(&mut self, piece: &[u8], out: &mut Vec<u8>) -> Result<usize, VcdFault>
         requires { 0 < length piece.now }
         ensures takes { TakesPiece piece.now result self.old self.new out.old.items out.new.items }

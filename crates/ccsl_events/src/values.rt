@@ -253,8 +253,8 @@ impl Values {
         }
     }
 
-    // A record for which one name waits alone, of a variable that is the only one of its code: its name is known at once.
-    // It answers whether this is one.
+    // A record for which one name waits alone, of a variable that is the only one of its code: its name is known at
+    // once. It answers whether this is one.
     #[inline(always)]
     fn record(&mut self, first: u32, letters: &[u8], is_dumped: bool) -> Result<bool, Memory>
         ensures keeps { IfOk result (λ is_record. is_record ≡ true →
@@ -292,7 +292,8 @@ impl Values {
         self.set(first, letters, is_dumped)
     }
 
-    /// A change of the value of a code, of which this is known, to these letters. It answers whether the code is declared.
+    /// A change of the value of a code, of which this is known, to these letters. It answers whether the code is
+    /// declared.
     #[inline(always)]
     pub(crate) fn change_known(
         &mut self,

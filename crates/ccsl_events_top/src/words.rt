@@ -132,7 +132,8 @@ fn first_fault(words: &[CommandWord]) -> Option<Usage>
     None
 }
 
-/// What a list of words means, or what is wrong with it: the first word at fault, then a missing key, then equal file names.
+/// What a list of words means, or what is wrong with it: the first word at fault, then a missing key, then equal file
+/// names.
 pub fn meaning(words: &[CommandWord]) -> Result<Command<'_>, Usage>
     ensures meant { IfOk result (λ command. meaning words.now ≡ Ok (named_by command)) }
     ensures refused { IfErr result (λ fault. meaning words.now ≡ Err fault) }

@@ -3,8 +3,8 @@
 use ccsl_ast::Kind;
 use ccsl_base::Text;
 
-/// What a name of a body stands for: a clock of the system by its whole name, a number, a word of the table with an offset,
-/// or, in the body of an expression, its own parameter with its kind.
+/// What a name of a body stands for: a clock of the system by its whole name, a number, a word of the table with an
+/// offset, or, in the body of an expression, its own parameter with its kind.
 pub enum Atom {
     Clock(Text),
     Number(u32),

@@ -31,8 +31,8 @@ use ccsl_words::Word;
 use std::alloc::Global;
 use std::rc::Rc;
 
-/// The words of all texts, the definitions with the numbers of their first texts, and the number of the first text of the
-/// system's lines.
+/// The words of all texts, the definitions with the numbers of their first texts, and the number of the first text of
+/// the system's lines.
 #[derive(Drop)]
 struct Texts<'a> {
     words: Vec<Word>,
@@ -248,8 +248,8 @@ fn expand_texts<'a>(
     parts(alloc, calls, words, blocks, lines, &items)
 }
 
-/// The parts of the system that a file behind a library stands for. Its texts are to be words: where one is not, `Memory` is
-/// answered.
+/// The parts of the system that a file behind a library stands for. Its texts are to be words: where one is not,
+/// `Memory` is answered.
 pub fn expand(alloc: Global, library: &File, file: &File) -> Result<Parts, Memory>
     requires new { AreNew (expand (plain_file library.now) (plain_file file.now)).names }
     requires few { length (expand (plain_file library.now) (plain_file file.now)).names

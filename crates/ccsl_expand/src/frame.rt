@@ -125,8 +125,8 @@ fn bind_argument(
     }
 }
 
-/// What the parameters of a relation stand for in a call. `next` is the number of the first text of the arguments before, and of
-/// the text behind them after.
+/// What the parameters of a relation stand for in a call. `next` is the number of the first text of the arguments
+/// before, and of the text behind them after.
 pub fn bind_arguments(
     alloc: Global,
     words: &[Word],

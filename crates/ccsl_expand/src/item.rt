@@ -15,7 +15,8 @@ use ccsl_base::{Memory, Text};
 use std::alloc::Global;
 use std::rc::Rc;
 
-/// A line of the system, or of the body of a called relation, with the path of the call and with what its names stand for.
+/// A line of the system, or of the body of a called relation, with the path of the call and with what its names stand
+/// for.
 #[derive(Drop)]
 pub enum Item<'a> {
     /// A clock by its whole name, and its definition, whose first text has the number `start`.

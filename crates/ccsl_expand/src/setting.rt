@@ -11,8 +11,8 @@ use ccsl_spaces::Index;
 use std::alloc::Global;
 use std::marker::Model;
 
-/// What the names of a body stand for, in the order of their declarations; of two entries for a name the first counts. A
-/// look-up takes constant time.
+/// What the names of a body stand for, in the order of their declarations; of two entries for a name the first counts.
+/// A look-up takes constant time.
 pub struct Setting {
     alloc: Global,
     names: Vec<Text>,

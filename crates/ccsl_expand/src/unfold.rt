@@ -99,8 +99,8 @@ fn inner_frame(
     Ok(Frame { path, setting })
 }
 
-/// Adds what the line at place `i` of a body becomes; `home` is the number of the body's definition, `next` the number of the
-/// line's first text before, and of the text behind the line after.
+/// Adds what the line at place `i` of a body becomes; `home` is the number of the body's definition, `next` the number
+/// of the line's first text before, and of the text behind the line after.
 #[cycle(unfolding)]
 fn unfold_line<'a>(
     alloc: Global,
@@ -148,7 +148,8 @@ fn unfold_line<'a>(
     }
 }
 
-/// Adds what the lines of a relation's body become; `home` is the number of its definition, `start` that of its first text.
+/// Adds what the lines of a relation's body become; `home` is the number of its definition, `start` that of its first
+/// text.
 #[cycle(unfolding)]
 fn unfold_lines<'a>(
     alloc: Global,

@@ -1,4 +1,5 @@
-//! Items that are taken out of a list of formulas: `True` stands in their places, so that all others keep their numbers.
+//! Items that are taken out of a list of formulas: `True` stands in their places, so that all others keep their
+//! numbers.
 
 ghost use Rattle.std.specs.Prelude.{◌≡◌, ◌<◌, Some, length, map, slice_get, slice_set};
 ghost use Rattle.ccsl_formula.specs.Plain.{plain};

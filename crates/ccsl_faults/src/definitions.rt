@@ -78,7 +78,8 @@ fn definitions_faults<'a>(
     Ok(worst)
 }
 
-/// The space of the relations and expressions of a library and then of a file, and how many of its names are the library's.
+/// The space of the relations and expressions of a library and then of a file, and how many of its names are the
+/// library's.
 #[derive(Drop)]
 struct Calls<'a> {
     space: Space<'a, Callee<'a>>,
@@ -147,8 +148,8 @@ fn least_fault<'a>(
     parts_faults(alloc, &calls, &heights, library.len(), own, lines)
 }
 
-/// The fault of a file behind a library, if it has any: of all faults the one with the least place, and at one place the first
-/// in the order of [`Cause`](crate::Cause). The library's own uses and declarations are not looked at.
+/// The fault of a file behind a library, if it has any: of all faults the one with the least place, and at one place
+/// the first in the order of [`Cause`](crate::Cause). The library's own uses and declarations are not looked at.
 pub fn first_fault(alloc: Global, file: &File, library: &File) -> Result<Option<Fault>, Memory>
     ensures { IfOk result (λ fault. fault
         ≡ rules.first_fault (plain_file library.now) (plain_file file.now)) }

@@ -4,9 +4,9 @@ use ccsl_ast::Kind;
 use ccsl_spaces::{Callee, Space};
 use std::alloc::Global;
 
-/// Where a use stands: the space of its body and the number of its line, the space of relations and expressions, the number
-/// of its definition (for the system the number of all definitions), and the levels that count for its calls, by number of
-/// definition.
+/// Where a use stands: the space of its body and the number of its line, the space of relations and expressions, the
+/// number of its definition (for the system the number of all definitions), and the levels that count for its calls, by
+/// number of definition.
 #[derive(Clone, Copy)]
 pub(crate) struct Scene<'l, 's, 'a> {
     pub alloc: Global,

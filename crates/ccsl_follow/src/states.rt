@@ -14,8 +14,8 @@ use ccsl_state::Part;
 use std::alloc::Global;
 use std::marker::Model;
 
-/// The states of the definitions that some clocks lead to. Where all of these clocks are declared there are none, and the declared
-/// ticks of a step are all that is followed of it.
+/// The states of the definitions that some clocks lead to. Where all of these clocks are declared there are none, and
+/// the declared ticks of a step are all that is followed of it.
 pub(crate) struct States<'s> {
     system: &'s System,
     clocks: ClockSet,
@@ -101,7 +101,8 @@ impl<'s> States<'s> {
         })
     }
 
-    /// Goes on by the full step that the declared clocks of a set give. Then the set has what of that step is declared or followed.
+    /// Goes on by the full step that the declared clocks of a set give. Then the set has what of that step is declared
+    /// or followed.
     #[inline(always)]
     pub(crate) fn go_on(&mut self, step: &mut ClockSet)
         requires { are_below self.old.system.declared step.old ≡ true }

@@ -1,4 +1,5 @@
-//! Why there is no more to show: a call of the world failed, or a trace reads otherwise than before; or no memory was to be had.
+//! Why there is no more to show: a call of the world failed, or a trace reads otherwise than before; or no memory was
+//! to be had.
 
 pub use ccsl_edge::Stop;
 use ccsl_trace::TraceFault;

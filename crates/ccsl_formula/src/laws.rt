@@ -1,4 +1,5 @@
-//! The laws of formulas, each as a function without a body. A set of clocks is the assignment that is true for its members.
+//! The laws of formulas, each as a function without a body. A set of clocks is the assignment that is true for its
+//! members.
 
 ghost use Rattle.std.specs.Prelude.{◌≡◌, ℕ, Bool, false, true};
 ghost use Rattle.ccsl_formula.specs.declared.truth3.Truth3.TheVariants.{Yes, No};

@@ -7,8 +7,8 @@ pub fn one_tree()
     ensures { OneTree }
 {}
 
-/// The reader answers what the grammar says: the tree, the least place of a fault of syntax, or the first expression that
-/// stands too deep.
+/// The reader answers what the grammar says: the tree, the least place of a fault of syntax, or the first expression
+/// that stands too deep.
 pub fn reader_is_right()
     ensures { ReaderIsRight }
 {}
@@ -23,8 +23,8 @@ pub fn least_depth()
     ensures { LeastDepth }
 {}
 
-/// What each token keeps of names, numbers and quoted texts, the tree of the tokens keeps, and it has no empty list where
-/// the grammar wants a member.
+/// What each token keeps of names, numbers and quoted texts, the tree of the tokens keeps, and it has no empty list
+/// where the grammar wants a member.
 pub fn file_keeps()
     ensures { FileKeeps }
 {}

@@ -26,8 +26,8 @@ pub fn looked(
     }
 }
 
-/// Notes the literals without which the formula can't have the wanted value; none behind a connective whose operands are
-/// not noted. `valued` notes them all, but no contract says so.
+/// Notes the literals without which the formula can't have the wanted value; none behind a connective whose operands
+/// are not noted. `valued` notes them all, but no contract says so.
 fn force(
     formula: &Formula,
     wanted: bool,

@@ -1,4 +1,5 @@
-//! The values of the operands of a formula's connectives, found in one pass. What is read off them is a guess that others check.
+//! The values of the operands of a formula's connectives, found in one pass. What is read off them is a guess that
+//! others check.
 
 use ccsl_base::Memory;
 use ccsl_formula::{Formula, Partial, Truth3};

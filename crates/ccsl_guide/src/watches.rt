@@ -241,7 +241,8 @@ fn lits_of<'a>(problem: &Problem<'a>, lines: &'a [Line], line: u64) -> Option<&'
     Some(clause_in(problem, line))
 }
 
-/// The place of a literal that is best watched, beside one that is watched: one that is not false, or that became false last.
+/// The place of a literal that is best watched, beside one that is watched: one that is not false, or that became false
+/// last.
 fn best_watch(lits: &[Lit], part: &Partial, order: &Order, other: Option<usize>) -> Option<usize>
     requires { All (λ l. l.clock < length order.now.clocks.items) lits.now }
     ensures { MatchOption result ⊤ (λ place. place < length lits.now) }

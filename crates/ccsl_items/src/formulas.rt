@@ -14,7 +14,8 @@ use ccsl_kernel::System;
 use ccsl_state::States;
 use std::alloc::Global;
 
-/// Makes a list that of the formulas of all items at the next step, in the order of the items. After `Memory` it is some list.
+/// Makes a list that of the formulas of all items at the next step, in the order of the items. After `Memory` it is
+/// some list.
 pub fn put_formulas(
     alloc: Global,
     system: &System,

@@ -1,4 +1,5 @@
-//! What the sets that satisfy every item's formula are to the runs of a system. Each function does nothing; its contract is the law.
+//! What the sets that satisfy every item's formula are to the runs of a system. Each function does nothing; its
+//! contract is the law.
 
 ghost use Rattle.ccsl_kernel.specs.Syntax.{System};
 ghost use Rattle.ccsl_kernel.specs.Accepted.{IsAccepted};

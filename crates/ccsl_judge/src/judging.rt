@@ -51,7 +51,8 @@ fn shares_for<'s>(
 }
 
 impl<'s> Judging<'s> {
-    // Reads the header, and opens the shares for the clocks that it binds. A feed goes by calls of `drop`, which are cheap to check.
+    // Reads the header, and opens the shares for the clocks that it binds. A feed goes by calls of `drop`, which are
+    // cheap to check.
     fn begin<W: World>(
         alloc: Global,
         keys: HashKeys,
@@ -149,10 +150,11 @@ impl<'s> Judging<'s> {
     }
 }
 
-/// Judges what is left of the trace against a system. It is read to its end also behind a violation, and a fault of it comes
-/// before a verdict. The items are divided among as many shares as the lesser of `workers` and their number, each of which takes
-/// every block in a part of the work of its own. A share has neighbouring items, and costs about as much as another: the definition of
-/// a clock that is not recorded costs nothing, a constraint between declared clocks little. Memory is taken before the first row.
+/// Judges what is left of the trace against a system. It is read to its end also behind a violation, and a fault of it
+/// comes before a verdict. The items are divided among as many shares as the lesser of `workers` and their number, each
+/// of which takes every block in a part of the work of its own. A share has neighbouring items, and costs about as much
+/// as another: the definition of a clock that is not recorded costs nothing, a constraint between declared clocks
+/// little. Memory is taken before the first row.
 pub fn judge<R: Threads + Sync, W: World, G: Gate>(
     rt: &R,
     alloc: Global,

@@ -16,8 +16,8 @@ use ccsl_relate::Violation;
 use std::alloc::Global;
 use std::thread::Threads;
 
-// Opens so many shares where there are none. The caller holds them: here they are held across no `?`, where their drop is dear to
-// check.
+// Opens so many shares where there are none. The caller holds them: here they are held across no `?`, where their drop
+// is dear to check.
 fn open_into<'s>(
     shares: &mut Vec<Share<'s>>,
     alloc: Global,
@@ -42,8 +42,8 @@ fn open_into<'s>(
     Ok(())
 }
 
-/// Opens as many shares as the lesser of `workers` and the number of items. Each has neighbouring items, one at least, and weighs
-/// about as much as another.
+/// Opens as many shares as the lesser of `workers` and the number of items. Each has neighbouring items, one at least,
+/// and weighs about as much as another.
 pub(crate) fn open_shares<'s>(
     alloc: Global,
     system: &'s System,

@@ -51,8 +51,8 @@ pub(crate) fn weight_of_all(system: &System, bound: &ClockSet) -> u64
     weight
 }
 
-/// The next cut, where so many shares are left behind the last one. The share between them has one item at least, and more until it
-/// weighs its part of what is left of the weight of all.
+/// The next cut, where so many shares are left behind the last one. The share between them has one item at least, and
+/// more until it weighs its part of what is left of the weight of all.
 pub(crate) fn next_cut(system: &System, bound: &ClockSet, cut: Cut, left: u32, all: u64) -> Cut
     requires left { 1 ≤ left }
     requires room { cut.item + left ≤ item_count system.now }

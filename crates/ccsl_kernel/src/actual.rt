@@ -1,7 +1,7 @@
 //! What parameters stand for in one call, and so the numbers, words, tests and arguments that name them.
 //!
-//! The actual parameter number `i` stands at place `i` of a slice. One that is missing, or of another kind, reads as the
-//! number 0, and as the first word of the table from its start; in accepted systems there is none such.
+//! The actual parameter number `i` stands at place `i` of a slice. One that is missing, or of another kind, reads as
+//! the number 0, and as the first word of the table from its start; in accepted systems there is none such.
 
 ghost use Rattle.std.specs.Prelude.{◌≡◌, ◌&&◌, length, nat_le, slice_get};
 ghost use Rattle.ccsl_words.specs.Word.{letter, is_finite, has_ended};

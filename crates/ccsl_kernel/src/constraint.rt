@@ -2,8 +2,8 @@
 
 use ccsl_base::Text;
 
-/// A relation between clocks (CCSL, MARTE Annex C). `PrecedesWithin(m)` is precedence in which the left clock is at most `m` ticks ahead,
-/// a form of this project's own.
+/// A relation between clocks (CCSL, MARTE Annex C). `PrecedesWithin(m)` is precedence in which the left clock is at
+/// most `m` ticks ahead, a form of this project's own.
 #[derive(Clone, Copy)]
 pub enum RelationKind {
     Subclock,

@@ -58,7 +58,8 @@ pub fn runs_complete()
     ensures { (K : System) → IsAccepted K → RunsComplete K }
 {}
 
-/// After a run, what is admissible are the declared members of the sets that satisfy every item's formula, where they have one.
+/// After a run, what is admissible are the declared members of the sets that satisfy every item's formula, where they
+/// have one.
 pub fn admissible_sets_extend()
     ensures { (K : System) → IsAccepted K → AdmissibleSetsExtend K }
 {}

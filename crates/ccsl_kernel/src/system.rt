@@ -54,7 +54,8 @@ impl Model for System {
 }
 
 impl System {
-    /// The system of accepted parts. It takes no memory, and so it is handed the count of cells, as [`Parts::cells`] answers it.
+    /// The system of accepted parts. It takes no memory, and so it is handed the count of cells, as [`Parts::cells`]
+    /// answers it.
     pub fn assemble(parts: Parts, count: u32) -> System
         requires accepted { IsAccepted (plain_system parts) }
         requires cells { count ≡ cells (plain_system parts) }
@@ -119,8 +120,8 @@ impl System {
         (self.parts.definitions.members().len() + self.parts.constraints.members().len()) as u32
     }
 
-    /// The cells of the system's states. They are kept from the assembly on: a count that takes no memory would count each call of
-    /// an expression anew, one within another, and take too long.
+    /// The cells of the system's states. They are kept from the assembly on: a count that takes no memory would count
+    /// each call of an expression anew, one within another, and take too long.
     pub fn cells(&self) -> u32
         ensures { result ≡ cells self.now }
     {

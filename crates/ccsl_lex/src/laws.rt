@@ -6,8 +6,8 @@ ghost use Rattle.ccsl_lex.specs.Laws.{TokensOrFault, NoneLonger, TextAgain};
 
 use crate::token::Token;
 
-/// Every token's name is a name of the grammar, its number is below 2^32, and its quoted text has only bytes that may stand
-/// between quotes.
+/// Every token's name is a name of the grammar, its number is below 2^32, and its quoted text has only bytes that may
+/// stand between quotes.
 pub fn every_token_is_kept(token: &Token)
     ensures { IsTrue (kind_kept token.now.kind) }
 {}

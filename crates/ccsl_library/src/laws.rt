@@ -17,14 +17,14 @@ pub fn library_is_accepted()
     ensures { IsLibrary the_library }
 {}
 
-/// Whatever the file, its expansion behind the library begins with the library's groups, and the library's names stand for
-/// them, and for its relation.
+/// Whatever the file, its expansion behind the library begins with the library's groups, and the library's names stand
+/// for them, and for its relation.
 pub fn library_comes_first()
     ensures { (file : PlainFile) → ComesFirst file }
 {}
 
-/// In every accepted file, `filter_by(c, w)` ticks as `c filter w` does, `skip(c, n)` as `c delay n`, and `periodic(c, n)`
-/// with each tick of `c` since its birth whose number is a multiple of `n`, never for 0.
+/// In every accepted file, `filter_by(c, w)` ticks as `c filter w` does, `skip(c, n)` as `c delay n`, and `periodic(c,
+/// n)` with each tick of `c` since its birth whose number is a multiple of `n`, never for 0.
 pub fn members_tick()
     ensures { LibraryTicks }
 {}

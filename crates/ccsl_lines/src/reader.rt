@@ -27,8 +27,9 @@ pub enum Next {
     TooLong,
 }
 
-/// A reader of the lines of standard input, of which at most so many bytes are taken. A line ends at its line feed, or at the end of the
-/// input where it has at least one byte; a carriage return before its end is dropped. A line is handed out before more is read.
+/// A reader of the lines of standard input, of which at most so many bytes are taken. A line ends at its line feed, or
+/// at the end of the input where it has at least one byte; a carriage return before its end is dropped. A line is
+/// handed out before more is read.
 #[derive(Drop)]
 pub struct LineReader {
     // Only contracts read it.

@@ -19,8 +19,8 @@ pub struct Origin {
     pub at: usize,
 }
 
-/// An item, by how many of its kind come before it in the order of the expansion: a clock that the system's lines define, one that
-/// a relation hides, or a constraint.
+/// An item, by how many of its kind come before it in the order of the expansion: a clock that the system's lines
+/// define, one that a relation hides, or a constraint.
 #[derive(Clone, Copy)]
 pub enum Wanted {
     Written(u32),
@@ -50,8 +50,8 @@ fn system_line(line: &SystemLine) -> Option<&RelationLine> {
     }
 }
 
-/// The lines that an item of a file behind a library comes from: the system's line, then, where that calls a relation, the line of
-/// the relation's body, and so on. None, where there is no such item.
+/// The lines that an item of a file behind a library comes from: the system's line, then, where that calls a relation,
+/// the line of the relation's body, and so on. None, where there is no such item.
 pub fn origins(
     alloc: Global,
     library: &File,

@@ -120,7 +120,8 @@ impl Walk {
         }
     }
 
-    // Whether the wanted item comes from a line of a body, or of the system, which calls definitions before number `limit`.
+    // Whether the wanted item comes from a line of a body, or of the system, which calls definitions before number
+    // `limit`.
     #[cycle(walking)]
     fn is_from(
         &mut self,

@@ -96,8 +96,8 @@ fn put_place(page: &mut Page, file: &str, place: Place) -> Result<(), Memory> {
     page.put_line(&[])
 }
 
-/// Puts the place of a file as `FILE:LINE:COLUMN`, then its line, and under `count` bytes of that from the place on, one at least,
-/// a mark with what is said behind it.
+/// Puts the place of a file as `FILE:LINE:COLUMN`, then its line, and under `count` bytes of that from the place on,
+/// one at least, a mark with what is said behind it.
 pub fn put_line_at(
     page: &mut Page,
     file: &str,

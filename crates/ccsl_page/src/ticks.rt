@@ -140,7 +140,8 @@ fn put_heading(
     put_unit(page, scale)
 }
 
-/// Puts the steps of these columns with the ticks of these clocks, each under its name. The marked step stands in brackets.
+/// Puts the steps of these columns with the ticks of these clocks, each under its name. The marked step stands in
+/// brackets.
 pub fn put_ticks(
     page: &mut Page,
     names: &Names,

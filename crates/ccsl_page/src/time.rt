@@ -16,8 +16,8 @@ pub enum TimeUnit {
     Femtosecond,
 }
 
-/// How long a trace's unit of time is, 1, 10 or 100 of a unit, and the unit in which times are shown, which is so many thousands of
-/// thousands of that one. Without a unit, times are numbers alone.
+/// How long a trace's unit of time is, 1, 10 or 100 of a unit, and the unit in which times are shown, which is so many
+/// thousands of thousands of that one. Without a unit, times are numbers alone.
 #[derive(Clone, Copy)]
 pub struct Scale {
     pub times: u64,

@@ -75,8 +75,8 @@ fn first_overtaking(left: &Word, right: &Word, turn: &Turn) -> u64
     first_in_turns(left, right, turn)
 }
 
-/// As above, where the words don't fail before the turn: each tick of the right word in the turn fails some turns later, as
-/// soon as the lead that the left word has there is lost, and this is the first of these places.
+/// As above, where the words don't fail before the turn: each tick of the right word in the turn fails some turns
+/// later, as soon as the lead that the left word has there is lost, and this is the first of these places.
 fn first_in_turns(left: &Word, right: &Word, turn: &Turn) -> u64
     requires turn { IsTurn left.now right.now turn.now }
     requires gains { turn.now.left < turn.now.right }

@@ -27,7 +27,8 @@ pub enum OnFault {
     Memory,
 }
 
-/// The word that filters as `left` and then `right` do. Prefix and period are as they come, without a search for shorter ones.
+/// The word that filters as `left` and then `right` do. Prefix and period are as they come, without a search for
+/// shorter ones.
 pub fn on(alloc: Global, left: &Word, right: &Word) -> Result<Word, OnFault>
     requires left_infinite { is_finite left.now ≡ false }
     requires right_infinite { is_finite right.now ≡ false }

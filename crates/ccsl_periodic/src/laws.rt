@@ -8,8 +8,8 @@ ghost use Rattle.ccsl_periodic.specs.Filtered.{IsOn};
 ghost use Rattle.ccsl_periodic.specs.Filters.{FiltersAreRelated, FiltersCompose};
 ghost use Rattle.ccsl_periodic.specs.Laws.{CanonicalWordsAreOne, PlainLengthsAreOne, CanonicalWordsExist, RelationsAreDecided, WordsOnWordsExist};
 
-/// Between two filters of a clock the formula of a relation holds at each step before the tick of that clock at which their
-/// words first fail, and fails at that tick; where they never fail it holds at each step.
+/// Between two filters of a clock the formula of a relation holds at each step before the tick of that clock at which
+/// their words first fail, and fails at that tick; where they never fail it holds at each step.
 pub fn filters_are_related()
     ensures until { (relation : Between) (u v : BinaryWord) (k : ℕ) →
         IsFirstFailure relation u v k →

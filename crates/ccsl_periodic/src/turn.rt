@@ -9,8 +9,8 @@ use crate::letters::{period_len, period_ones};
 use crate::text::prefix_len;
 use ccsl_words::Word;
 
-/// From `start` on both words repeat after so many letters, the least common multiple of their periods, of which so many
-/// are ones in the left and in the right word.
+/// From `start` on both words repeat after so many letters, the least common multiple of their periods, of which so
+/// many are ones in the left and in the right word.
 #[derive(Drop)]
 pub struct Turn {
     pub start: u64,

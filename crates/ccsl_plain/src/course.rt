@@ -1,4 +1,5 @@
-//! What is kept of an expression from step to step: its operands, and at which steps since its birth each of them ticked.
+//! What is kept of an expression from step to step: its operands, and at which steps since its birth each of them
+//! ticked.
 
 ghost use Rattle.std.specs.Prelude.{◌≡◌, ℕ, Bool, IfOk};
 ghost use Rattle.ccsl_formula.specs.Plain.{plain};
@@ -13,8 +14,8 @@ use ccsl_kernel::{Actual, Expr};
 use ccsl_words::Word;
 use std::alloc::Global;
 
-/// The course of an expression so far. A call and a choice have none of their own, and a `then` whose left side has died is its
-/// right side.
+/// The course of an expression so far. A call and a choice have none of their own, and a `then` whose left side has
+/// died is its right side.
 #[derive(Drop)]
 pub enum Course<'s> {
     Name(u32),

@@ -14,10 +14,10 @@ use ccsl_formula::Formula;
 use ccsl_kernel::{Constraint, RelationKind, System};
 use std::alloc::Global;
 
-/// The formula of an item at the step after `steps`, as the tables of expressions and of relations give it, with nothing
-/// folded. Each expression is followed from its birth on with all its operands' ticks. At each step it looks once at each
-/// operator that lives then, in the item and in the definitions before it, and at all ticks so far of that operator's
-/// operands: the time goes by the number of these operators and by the square of the number of steps.
+/// The formula of an item at the step after `steps`, as the tables of expressions and of relations give it, with
+/// nothing folded. Each expression is followed from its birth on with all its operands' ticks. At each step it looks
+/// once at each operator that lives then, in the item and in the definitions before it, and at all ticks so far of that
+/// operator's operands: the time goes by the number of these operators and by the square of the number of steps.
 pub fn plain_formula(
     alloc: Global,
     system: &System,

@@ -24,8 +24,8 @@ pub fn ever(ticks: &[bool]) -> bool
     false
 }
 
-/// How the ticks of d may stand to a tick of a that waits: none after it, none at it or after it, just so many after it, or fewer
-/// than so many.
+/// How the ticks of d may stand to a tick of a that waits: none after it, none at it or after it, just so many after
+/// it, or fewer than so many.
 #[derive(Clone, Copy)]
 pub enum Since {
     NoneAfter,

@@ -10,7 +10,8 @@ ghost use Rattle.ccsl_policy.specs.declared.policies.Policy.{Policy};
 ghost use Rattle.ccsl_policy.specs.declared.policies.Policy.TheVariants.{Min, Max};
 ghost use Rattle.ccsl_policy.specs.Chosen.{IsChosen};
 
-/// Under `Min` no admissible set is a proper subset of the chosen one: one whose declared members are all chosen has all chosen ones.
+/// Under `Min` no admissible set is a proper subset of the chosen one: one whose declared members are all chosen has
+/// all chosen ones.
 pub fn min_is_minimal()
     ensures { (scope : Scope) (formulas : List Formula) (words s : List ℕ) (t : Assignment) →
         IsChosen scope formulas Min words s → Solves scope formulas t →
@@ -18,7 +19,8 @@ pub fn min_is_minimal()
         (c : ℕ) → c < scope.declared → ticks_in c s ≡ true → t c ≡ true }
 {}
 
-/// Under `Max` no admissible set is a proper superset of the chosen one: one that has all declared members that are chosen has no other.
+/// Under `Max` no admissible set is a proper superset of the chosen one: one that has all declared members that are
+/// chosen has no other.
 pub fn max_is_maximal()
     ensures { (scope : Scope) (formulas : List Formula) (words s : List ℕ) (t : Assignment) →
         IsChosen scope formulas Max words s → Solves scope formulas t →

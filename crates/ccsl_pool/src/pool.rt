@@ -8,10 +8,10 @@ use crate::{Gate, Piece};
 use ccsl_base::Block;
 use std::thread::{Threads, join_mut};
 
-/// Lets every piece take the block's rows, in as many parts as the lesser of `workers` and the number of pieces.
-/// Each part is a run of neighbours, enters the gate once with its number from the left, and then works. Of two parts and more
-/// each has a thread of its own, and the caller's waits; where none can be started the caller's does that part too. No memory is
-/// taken, and the stack grows by the number of parts.
+/// Lets every piece take the block's rows, in as many parts as the lesser of `workers` and the number of pieces. Each
+/// part is a run of neighbours, enters the gate once with its number from the left, and then works. Of two parts and
+/// more each has a thread of its own, and the caller's waits; where none can be started the caller's does that part
+/// too. No memory is taken, and the stack grows by the number of parts.
 pub fn check_all<R: Threads + Sync, P: Piece, G: Gate>(
     rt: &R,
     pieces: &mut [P],
@@ -56,9 +56,9 @@ fn work_each<P: Piece>(block: &Block, pieces: &mut [P])
     }
 }
 
-// As many parts as `parts`, the leftmost with number `first`. This thread does none of them: the first that it starts often waits on
-// its processor, while others are idle, until it waits itself. And it starts all of them, since a thread that is new and starts
-// another one runs late.
+// As many parts as `parts`, the leftmost with number `first`. This thread does none of them: the first that it starts
+// often waits on its processor, while others are idle, until it waits itself. And it starts all of them, since a thread
+// that is new and starts another one runs late.
 #[cycle(parts)]
 #[tactic(auto, using(crate::proofs::Taking::every_front, crate::proofs::Taking::every_back))]
 fn start_each<R: Threads + Sync, P: Piece, G: Gate>(

@@ -13,8 +13,8 @@ use ccsl_kernel::System;
 use ccsl_state::States;
 use std::alloc::Global;
 
-/// The declared clocks that are members of some admissible set. The solver is asked once a declared clock at most: a set that it finds
-/// answers for all its members.
+/// The declared clocks that are members of some admissible set. The solver is asked once a declared clock at most: a
+/// set that it finds answers for all its members.
 pub fn allowed(alloc: Global, system: &System, states: &States<'_>) -> Result<ClockSet, Memory>
     requires { states.now.system ≡ system.now }
     ensures { IfOk result (λ set. (T : List Step) → StandsFor states.now T →

@@ -62,8 +62,8 @@ fn put_file(page: &mut Page, file: &File) -> Result<(), Memory>
 
 /// The canonical text of the file.
 ///
-/// The first statement, each relation's head line, each line of a body, each closing brace, each group and the system's head
-/// line stand on lines of their own. What the file keeps makes this a text whose tokens have the tree of the file.
+/// The first statement, each relation's head line, each line of a body, each closing brace, each group and the system's
+/// head line stand on lines of their own. What the file keeps makes this a text whose tokens have the tree of the file.
 pub fn print(alloc: Global, file: &File) -> Result<String, Memory>
     ensures text { IfOk result (λ text. string_bytes text ≡ canonical_text (plain_file file.now)) }
     ensures reads_back { IfOk result (λ text. ReadsBack (string_bytes text) (plain_file file.now)) }

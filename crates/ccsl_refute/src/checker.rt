@@ -18,7 +18,8 @@ use std::alloc::Global;
 /// Why lines are no certificate.
 #[derive(Clone, Copy)]
 pub enum CheckFault {
-    /// The first invalid line, from 1; one more than there are lines where all are valid and the last clause is not empty, or there is no line.
+    /// The first invalid line, from 1; one more than there are lines where all are valid and the last clause is not
+    /// empty, or there is no line.
     BadLine(u64),
     Memory,
 }

@@ -25,9 +25,9 @@ use std::marker::Model;
 /// So many rows are taken item by item at one time, where their steps have to be found.
 pub(crate) const PART_ROWS: usize = 64;
 
-/// Follows some neighbouring items of a system over the rows of a trace, up to the first row that violates one of them. The states
-/// of the definitions that its items reach go on once a row, and no others: a definition whose clock was not recorded and a
-/// constraint between declared clocks touch no cell.
+/// Follows some neighbouring items of a system over the rows of a trace, up to the first row that violates one of them.
+/// The states of the definitions that its items reach go on once a row, and no others: a definition whose clock was not
+/// recorded and a constraint between declared clocks touch no cell.
 pub struct Monitor<'s> {
     system: &'s System,
     start: u32,
@@ -101,8 +101,9 @@ fn keep(first: &mut Option<Violation>, found: Option<Violation>)
 }
 
 impl<'s> Monitor<'s> {
-    /// Follows `count` items from number `start` on, where these clocks are bound. It takes the states of the definitions that the
-    /// items reach, where one of them reads a defined clock, and room for the steps of [`PART_ROWS`] rows.
+    /// Follows `count` items from number `start` on, where these clocks are bound. It takes the states of the
+    /// definitions that the items reach, where one of them reads a defined clock, and room for the steps of
+    /// [`PART_ROWS`] rows.
     pub fn open(
         alloc: Global,
         system: &'s System,
@@ -201,8 +202,8 @@ impl<'s> Monitor<'s> {
         self.steps += rows;
     }
 
-    // Takes the next part of a block, from row `from` on, item by item, once the steps that its rows complete are found. It answers how
-    // many rows these are.
+    // Takes the next part of a block, from row `from` on, item by item, once the steps that its rows complete are
+    // found. It answers how many rows these are.
     fn check_part(&mut self, block: &Block, from: usize) -> usize
         requires inside { from < length block.now.rows }
         requires states { IsSome self.old.states }

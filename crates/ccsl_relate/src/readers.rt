@@ -17,8 +17,8 @@ const FEWEST: usize = 32;
 /// The number of items of a group: a set of clocks has room for so many places.
 pub(crate) const GROUP: usize = MAX_CLOCKS as usize;
 
-/// The places of the items of a group that read a clock, at the clock's number. There is a set for each clock up to the greatest
-/// one that is read.
+/// The places of the items of a group that read a clock, at the clock's number. There is a set for each clock up to the
+/// greatest one that is read.
 #[derive(Drop)]
 pub(crate) struct Group {
     places: Vec<ClockSet>,

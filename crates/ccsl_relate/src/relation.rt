@@ -7,8 +7,8 @@ ghost use Rattle.ccsl_kernel.specs.Items.{relation_formula};
 
 use ccsl_kernel::RelationKind;
 
-/// Whether a relation holds in a step, where `left` and `right` tell whether its clocks tick in it, and have ticked `m` and `n`
-/// times before. No test of the two clocks is a branch: they tick as the trace has it.
+/// Whether a relation holds in a step, where `left` and `right` tell whether its clocks tick in it, and have ticked `m`
+/// and `n` times before. No test of the two clocks is a branch: they tick as the trace has it.
 #[inline(always)]
 pub(crate) fn holds(kind: RelationKind, left: bool, right: bool, m: u64, n: u64) -> bool
     ensures { (a b : ℕ) (s : List ℕ) → ticks_in a s ≡ left → ticks_in b s ≡ right →

@@ -62,8 +62,8 @@ fn next_step(states: &mut Part<'_>, undeclared: &ClockSet, ticks: &ClockSet, ste
     states.go_on(step);
 }
 
-/// Puts what is known of the steps that so many rows of a block complete, from row `from` on, into a block of their own. The states go
-/// on by them.
+/// Puts what is known of the steps that so many rows of a block complete, from row `from` on, into a block of their
+/// own. The states go on by them.
 pub(crate) fn complete(
     states: &mut Part<'_>,
     undeclared: &ClockSet,
@@ -93,9 +93,9 @@ pub(crate) fn complete(
     }
 }
 
-/// The place of the first item that fails in the step that a row with these ticks completes. Where none does, all go on by the step,
-/// and the states with them. Where there are none, no step is made: the row's ticks are all that the items read of it. `step` is
-/// room for it, and what it has counts for nothing.
+/// The place of the first item that fails in the step that a row with these ticks completes. Where none does, all go on
+/// by the step, and the states with them. Where there are none, no step is made: the row's ticks are all that the items
+/// read of it. `step` is room for it, and what it has counts for nothing.
 #[inline(always)]
 pub(crate) fn first_violated(
     states: &mut Option<Part<'_>>,

@@ -10,11 +10,12 @@ use crate::readers::{GROUP, Group, Readers};
 use crate::watched::{Watched, first_failing};
 use ccsl_base::ClockSet;
 
-/// So many items are looked at in the time that it takes to gather the places of a clock that ticks, and of those that it makes tick.
+/// So many items are looked at in the time that it takes to gather the places of a clock that ticks, and of those that
+/// it makes tick.
 const ITEMS_A_CLOCK: usize = 8;
 
-// Puts into a set without members the places of the items of a group that read a clock which ticks. A row seldom has a tick that its
-// step lacks.
+// Puts into a set without members the places of the items of a group that read a clock which ticks. A row seldom has a
+// tick that its step lacks.
 #[inline(always)]
 fn touch(group: &Group, ticks: &ClockSet, step: &ClockSet, touched: &mut ClockSet)
     requires { touched.old ≡ [] }
@@ -79,8 +80,9 @@ fn first_touched(
     None
 }
 
-/// The place of the first item that fails in the step that a row with these ticks completes, as `first_failing` tells it. Where it is
-/// known which items read a clock and few clocks tick, no others than those that read one that ticks are looked at.
+/// The place of the first item that fails in the step that a row with these ticks completes, as `first_failing` tells
+/// it. Where it is known which items read a clock and few clocks tick, no others than those that read one that ticks
+/// are looked at.
 #[inline(always)]
 pub(crate) fn first_read(
     kept: &mut [Watched],

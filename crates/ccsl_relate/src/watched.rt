@@ -108,7 +108,8 @@ pub(crate) fn open_all(
     Ok(kept)
 }
 
-/// The place of the first item that fails in the step that a row with these ticks completes. Where none does, all go on by the step.
+/// The place of the first item that fails in the step that a row with these ticks completes. Where none does, all go on
+/// by the step.
 #[inline(always)]
 pub(crate) fn first_failing(kept: &mut [Watched], ticks: &ClockSet, step: &ClockSet) -> Option<u32>
     requires few { length kept.old < 2 ^ 32 }

@@ -103,7 +103,8 @@ pub fn cert_no_run(
     )
 }
 
-/// `certify`: the line of this number, from 1, is not valid; or there are so many lines less 1, and none is the last empty clause.
+/// `certify`: the line of this number, from 1, is not valid; or there are so many lines less 1, and none is the last
+/// empty clause.
 pub fn cert_no_line(alloc: Global, number: u64) -> Result<Vec<u8>, Memory>
     ensures { IfOk result (λ text. text.items ≡ cert_no_line_text number) }
 {

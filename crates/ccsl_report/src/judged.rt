@@ -39,8 +39,8 @@ fn longest_label(system: &System) -> usize
     longest
 }
 
-/// Bytes that are enough for each line that `judge` over this system may report of the trace: the calls below append theirs
-/// within it.
+/// Bytes that are enough for each line that `judge` over this system may report of the trace: the calls below append
+/// theirs within it.
 pub fn judge_room(system: &System) -> usize
     ensures room { result ≡ room system.now }
     ensures least { 64 ≤ result }

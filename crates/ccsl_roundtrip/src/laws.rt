@@ -9,7 +9,8 @@ use ccsl_simulate::laws::{fewer_steps_are_a_front, simulation_is_one, simulation
 use ccsl_vcd::LIMITS;
 use ccsl_vcd_write::laws::{read_back, texts_fit};
 
-/// The trace of a simulation reads without a fault, it is judged to be a run of all its steps, and its rows, completed, are these steps.
+/// The trace of a simulation reads without a fault, it is judged to be a run of all its steps, and its rows, completed,
+/// are these steps.
 pub fn simulated_traces_are_runs(system: &System)
     ensures { SimulatedTracesAreRuns system.now }
 {

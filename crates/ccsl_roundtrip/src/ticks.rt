@@ -18,8 +18,8 @@ fn lines(text: &[u8]) -> u64
     text.iter().filter(|byte| **byte == b'\n').count() as u64
 }
 
-/// How many ticks of clocks that are not hidden a written trace of so many steps has: each step has a line for its time, and one for
-/// each of its ticks.
+/// How many ticks of clocks that are not hidden a written trace of so many steps has: each step has a line for its
+/// time, and one for each of its ticks.
 pub fn ticks_in_text(alloc: Global, system: &System, text: &[u8], steps: u64) -> Result<u64, Memory>
     requires { (T : List Step) × (text.now ≡ vcd_text system.now T) × (length T ≡ steps) }
     ensures { IfOk result (λ ticks. (T : List Step) →

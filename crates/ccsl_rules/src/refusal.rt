@@ -2,9 +2,9 @@
 
 use ccsl_base::Memory;
 
-/// What is wrong with a file. A place counts bytes from 0 in the file's text; a total above 4,294,967,295 is given as that
-/// number. Of several causes the one with the least place is answered, and at one place the first in this order; the three
-/// totals come after all places.
+/// What is wrong with a file. A place counts bytes from 0 in the file's text; a total above 4,294,967,295 is given as
+/// that number. Of several causes the one with the least place is answered, and at one place the first in this order;
+/// the three totals come after all places.
 #[derive(Clone, Copy)]
 pub enum Refusal {
     /// A name is declared that its space already has.
@@ -13,15 +13,15 @@ pub enum Refusal {
     Unknown(usize),
     /// A name is used where its first declaration stands later, or around the use.
     Later(usize),
-    /// A name is no clock, number, word, relation or expression where that is needed, or an argument is of another kind than
-    /// its parameter.
+    /// A name is no clock, number, word, relation or expression where that is needed, or an argument is of another kind
+    /// than its parameter.
     WrongKind(usize),
     /// A call of the own group stands outside guarded tail positions.
     Unguarded(usize),
     /// A call would give the definition in which it stands a level above the limit.
     TooTall(usize),
-    /// A call with another number of arguments than parameters, a parameter past the limit, a number of `delayed` out of its
-    /// range, or a number of `precedes within` that is 0.
+    /// A call with another number of arguments than parameters, a parameter past the limit, a number of `delayed` out
+    /// of its range, or a number of `precedes within` that is 0.
     Arguments(usize),
     /// A word's text does not read.
     BadWord(usize),

@@ -316,8 +316,8 @@ impl HeaderReader {
         Ok(path)
     }
 
-    // The end of a declaration, which is to have four words at least. Its code is declared then; the test of it stands for the fact
-    // that a header keeps of its variables.
+    // The end of a declaration, which is to have four words at least. Its code is declared then; the test of it stands
+    // for the fact that a header keeps of its variables.
     fn declare(&mut self, at: u64) -> Result<(), VcdFault>
         ensures { (limits : Limits) (h : Heading) (head : Token) (words : List Token) →
             StandsIn limits h HeaderWord.Var head words self.old → Counts words self.old →

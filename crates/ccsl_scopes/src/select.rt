@@ -119,8 +119,8 @@ fn place(range: Select, size: u32, i: u32) -> Option<u32>
     }
 }
 
-/// The bits that a path means of a variable: by what stands in brackets behind its name in the header, its size, and what stands
-/// in brackets in the path.
+/// The bits that a path means of a variable: by what stands in brackets behind its name in the header, its size, and
+/// what stands in brackets in the path.
 pub fn bits_of(range: Select, size: u32, wanted: Select) -> Option<Bits>
     ensures { result ≡ bits_of range size wanted }
 {

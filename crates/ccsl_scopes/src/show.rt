@@ -115,8 +115,9 @@ fn is_near(path: &Path, resolution: Resolution, variable: &Variable) -> bool {
     }
 }
 
-/// Appends the full paths and the sizes of at most twenty variables that a path may mean, which means several or none: in the
-/// first case those that it fits, in the other those that differ in the case of letters, or in the last part alone.
+/// Appends the full paths and the sizes of at most twenty variables that a path may mean, which means several or none:
+/// in the first case those that it fits, in the other those that differ in the case of letters, or in the last part
+/// alone.
 pub fn put_candidates(
     path: &Path,
     variables: &[Variable],

@@ -15,7 +15,8 @@ pub enum Kind {
     Other,
 }
 
-/// A declared variable. Its path is the names of its scopes and its own, with a blank between two; no name has one in it.
+/// A declared variable. Its path is the names of its scopes and its own, with a blank between two; no name has one in
+/// it.
 #[derive(Drop)]
 pub struct Variable {
     pub kind: Kind,

@@ -130,9 +130,9 @@ fn run<W: World>(
     }
 }
 
-/// Answers the lines of standard input on the report, until a line `quit`, the end of the input, or more than `limit` bytes. Each answer
-/// is written by one call of [`write_all`](ccsl_edge::write_all), before more input is read. Steps left to the policy take the words of
-/// their own number, also behind steps that were taken back.
+/// Answers the lines of standard input on the report, until a line `quit`, the end of the input, or more than `limit`
+/// bytes. Each answer is written by one call of [`write_all`](ccsl_edge::write_all), before more input is read. Steps
+/// left to the policy take the words of their own number, also behind steps that were taken back.
 pub fn session<W: World>(
     alloc: Global,
     world: &mut W,

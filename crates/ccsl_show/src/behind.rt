@@ -37,7 +37,8 @@ pub struct Asking<'a> {
     pub said: Said<'a>,
 }
 
-/// What is asked for beside the answer: the file of the trace with all computed clocks, that of the drawing, and colours.
+/// What is asked for beside the answer: the file of the trace with all computed clocks, that of the drawing, and
+/// colours.
 #[derive(Clone, Copy)]
 pub struct Own<'a> {
     pub waves: Option<&'a str>,
@@ -194,8 +195,8 @@ fn show_files<W: World, O: World>(
     }
 }
 
-/// Puts on a page what stands behind an answer to a command. The files are read once more from the world, and what is drawn beside
-/// the page is written to the world `out`.
+/// Puts on a page what stands behind an answer to a command. The files are read once more from the world, and what is
+/// drawn beside the page is written to the world `out`.
 pub fn show<W: World, O: World>(
     asking: &Asking<'_>,
     world: &mut W,

@@ -100,7 +100,8 @@ fn ends_operand(previous: Met) -> bool {
     }
 }
 
-// Whether the expression in front of a token has an operator without parentheses: one stands behind the last `=`, `(`, `,` or `;`.
+// Whether the expression in front of a token has an operator without parentheses: one stands behind the last `=`, `(`,
+// `,` or `;`.
 fn follows_operator(tokens: &[Token], index: usize) -> bool {
     let mut depth = 0u32;
     for i in (0..index.min(tokens.len())).rev() {

@@ -161,8 +161,8 @@ fn put_field(page: &mut Page, view: &View, list: &[Drawn], height: u64) -> Resul
     Ok(())
 }
 
-/// Puts the columns and rows of a view as a drawing in SVG. Computed clocks are blue and broken lines, recorded ones dark; the marked
-/// step stands on a field.
+/// Puts the columns and rows of a view as a drawing in SVG. Computed clocks are blue and broken lines, recorded ones
+/// dark; the marked step stands on a field.
 pub(crate) fn put_picture(
     page: &mut Page,
     alloc: Global,

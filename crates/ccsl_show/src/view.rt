@@ -6,7 +6,8 @@ use ccsl_page::{Column, Scale};
 use ccsl_scopes::Header;
 use std::alloc::Global;
 
-/// The clocks and steps that were drawn, with the unit of time of the trace, and the one in which their times were shown.
+/// The clocks and steps that were drawn, with the unit of time of the trace, and the one in which their times were
+/// shown.
 #[derive(Drop)]
 pub(crate) struct View {
     pub(crate) rows: Vec<u32>,

@@ -34,8 +34,8 @@ use std::process::ExitCode;
 use std::time::Instant;
 use std::{env, fs};
 
-/// Says on standard error how far the reading of a trace is, or a simulation, once that has taken two seconds; and what the lines of
-/// a session are, behind one that it does not know.
+/// Says on standard error how far the reading of a trace is, or a simulation, once that has taken two seconds; and what
+/// the lines of a session are, behind one that it does not know.
 #[derive(Drop)]
 struct Progress<'a> {
     rt: &'a HostRuntime,

@@ -126,8 +126,8 @@ impl Outcome {
     }
 }
 
-/// Does all that `ccsl` does with these words, and then shows what stands behind the answer, where the files can be read again. What
-/// is drawn beside it is written to the world `out`.
+/// Does all that `ccsl` does with these words, and then shows what stands behind the answer, where the files can be
+/// read again. What is drawn beside it is written to the world `out`.
 pub fn run<R: Threads + Sync, W: World, O: World, L: Listen, G: Gate>(
     rt: &R,
     alloc: Global,

@@ -9,8 +9,8 @@ ghost use Rattle.ccsl_simulate.specs.Ends.{MinIsMinimal, MaxIsMaximal, Deadlocks
 use ccsl_items::laws::formulas_read_named;
 use ccsl_refute::laws::unsolved_have_certificates;
 
-/// There is one simulation of a policy, a seed and a number of steps: each step is that of the best admissible set, and it ends early
-/// only where no set is admissible.
+/// There is one simulation of a policy, a seed and a number of steps: each step is that of the best admissible set, and
+/// it ends early only where no set is admissible.
 pub fn simulation_is_one()
     ensures { (K : System) (policy : Policy) → SimulationIsOne K policy }
 {}

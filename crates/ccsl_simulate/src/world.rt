@@ -36,9 +36,9 @@ fn run<W: World>(world: &mut W, sim: &mut Simulator<'_>, steps: u64) -> Result<D
     Ok(Done::Full)
 }
 
-/// Simulates a system by a policy, over the words of a seed, for so many steps or until no step is left. The trace goes to
-/// `TraceOut`: the header by one call of [`write_all`], and each step by one more. Where no step is left, a certificate goes to
-/// `CertOut`. The memory that it takes does not grow with the steps.
+/// Simulates a system by a policy, over the words of a seed, for so many steps or until no step is left. The trace goes
+/// to `TraceOut`: the header by one call of [`write_all`], and each step by one more. Where no step is left, a
+/// certificate goes to `CertOut`. The memory that it takes does not grow with the steps.
 pub fn simulate<W: World>(
     alloc: Global,
     world: &mut W,

@@ -6,8 +6,8 @@
 //!         Answer::Refuted(lines) => ..,      // each follows from the formulas and those before it
 //!     }
 //!
-//! Where to look next says ccsl_guide, of whose answers no contract speaks: what it proposes is tested before it counts.
-//! `docs/SOLVER.md` says how it works.
+//! Where to look next says ccsl_guide, of whose answers no contract speaks: what it proposes is tested before it
+//! counts. `docs/SOLVER.md` says how it works.
 #![tactic(auto)]
 
 pub mod conflict;

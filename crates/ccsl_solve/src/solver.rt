@@ -57,7 +57,8 @@ fn ticking(part: &Partial, named: u32) -> ClockSet
     set
 }
 
-/// A set of named clocks with a declared member that agrees with `fixed` and satisfies all formulas, where there is one.
+/// A set of named clocks with a declared member that agrees with `fixed` and satisfies all formulas, where there is
+/// one.
 pub fn solve(
     alloc: Global,
     formulas: &[Formula],
@@ -75,7 +76,8 @@ pub fn solve(
     solve_by(alloc, formulas, scope, fixed, &[])
 }
 
-/// The best such set: of two of them, the better one has what is wished at the first wish for a clock at which they differ.
+/// The best such set: of two of them, the better one has what is wished at the first wish for a clock at which they
+/// differ.
 pub fn solve_by(
     alloc: Global,
     formulas: &[Formula],

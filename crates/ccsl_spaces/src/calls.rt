@@ -66,8 +66,8 @@ fn add_definition<'a>(
     }
 }
 
-/// Adds what definitions declare, from definition number `block` and group number `group` on, and answers the number of the
-/// next group.
+/// Adds what definitions declare, from definition number `block` and group number `group` on, and answers the number of
+/// the next group.
 pub fn add_definitions<'a>(
     space: &mut Space<'a, Callee<'a>>,
     block: usize,

@@ -50,8 +50,8 @@ impl Index {
         self.places.get(name).copied()
     }
 
-    /// Adds a name with its place, and answers whether it was new. Where it is there already it keeps its place, and nothing
-    /// changes; nor does anything on `Memory`.
+    /// Adds a name with its place, and answers whether it was new. Where it is there already it keeps its place, and
+    /// nothing changes; nor does anything on `Memory`.
     pub fn add(&mut self, name: &[u8], place: usize) -> Result<bool, Memory>
         ensures fresh { IfOk result (λ fresh. fresh ≡ is_none (place_of name.now self.old)) }
         ensures added { IfOk result (λ fresh. self.new ≡

@@ -45,8 +45,8 @@ impl<'a, T: Copy> Space<'a, T> {
         }
     }
 
-    /// Adds a declaration, and answers whether its name was new. What other names stand for does not change, nor what this
-    /// one stands for where it was declared before; on `Memory` nothing changes.
+    /// Adds a declaration, and answers whether its name was new. What other names stand for does not change, nor what
+    /// this one stands for where it was declared before; on `Memory` nothing changes.
     pub fn add(&mut self, name: &'a Spot, since: usize, what: T) -> Result<bool, Memory>
         ensures fresh { IfOk result (λ fresh. fresh ≡ is_none (look name.now.name self.old)) }
         ensures added { OnOk result (self.new ≡ self.old ++ declared_as name.now since what ∷ []) }

@@ -91,8 +91,9 @@ fn elaborated(alloc: Global, file: &File) -> Result<Specification, Memory>
     }
 }
 
-/// What a text of at most [`ccsl_base::MAX_SPEC_BYTES`] bytes is: an accepted specification, with its system, or a refused one, with
-/// the line of report: of its first fault of tokens, or of its first fault of syntax, or of its refusal behind the library.
+/// What a text of at most [`ccsl_base::MAX_SPEC_BYTES`] bytes is: an accepted specification, with its system, or a
+/// refused one, with the line of report: of its first fault of tokens, or of its first fault of syntax, or of its
+/// refusal behind the library.
 pub fn read(alloc: Global, text: &[u8]) -> Result<Specification, Memory>
     requires { length text.now ≤ MAX_SPEC_BYTES }
     ensures { IfOk result (λ found. IsRead text.now found) }

@@ -231,10 +231,6 @@ any_marked t u [] (suc n) l = absurd (omega (arith, l))
 any_marked t true (x ∷ q) (suc n) l = grind (arith, common_steps, any_shifted)
 any_marked t false (x ∷ q) (suc n) l = grind (arith, common_steps)
 
-length-marks : (q : List Bool) (t u : ℕ → Bool) (is : List ℕ) → length (marks_after q t u is) ≡ length q
-length-marks q t u [] = refl
-length-marks q t u (i ∷ is) = length-marks (marked (t i) (u i) q) t u is ∙ length-marked (t i) (u i) q
-
 -- a place is marked by a tick of a since the birth, or by a mark from before
 get_marks : (q : List Bool) (t u : ℕ → Bool) (is : List ℕ) (j : ℕ) → j < length q → get_or (marks_after q t u is) j false
     ≡ (waits_since j (map t is) (map u is) || (nat_le (count (map u is)) j && get_or q (j - count (map u is)) false))

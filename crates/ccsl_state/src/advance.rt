@@ -1,5 +1,5 @@
-//! The region of an expression after a step. One pass tells the tick in the step, rewrites the cells, and tells the death
-//! after it.
+//! The region of an expression after a step. One pass tells the tick in the step, rewrites the cells, and tells the
+//! death after it.
 
 ghost use Rattle.std.specs.Prelude.{◌≡◌, ◌≤◌, ◌+◌, ℕ, false, true, drop, None};
 ghost use Rattle.ccsl_state.specs.Layout.{words_of, own_cells, two_at};
@@ -228,8 +228,8 @@ fn advance_then<'s>(
     }
 }
 
-/// The region of a call to the group behind all that `lay` has. Where its body comes to a call of the group, the whole region is
-/// written anew; the parameters were taken from their cells before.
+/// The region of a call to the group behind all that `lay` has. Where its body comes to a call of the group, the whole
+/// region is written anew; the parameters were taken from their cells before.
 #[cycle(advance)]
 fn advance_call(
     lay: &Layout<'_>,

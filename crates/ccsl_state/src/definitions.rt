@@ -21,7 +21,8 @@ pub fn put(set: &mut ClockSet, clock: u32, member: bool)
     }
 }
 
-/// Writes the regions of the definitions from number `i` on at the birth. `gone` has the dead clocks before, and then all.
+/// Writes the regions of the definitions from number `i` on at the birth. `gone` has the dead clocks before, and then
+/// all.
 pub fn open_from(lay: &Layout<'_>, i: u32, row: &mut [u64], gone: &mut ClockSet)
     requires { HasRegions lay.now i row.old }
     ensures trees { trees_from lay.now i row.new ≡
@@ -37,8 +38,8 @@ pub fn open_from(lay: &Layout<'_>, i: u32, row: &mut [u64], gone: &mut ClockSet)
     }
 }
 
-/// Rewrites the regions of the definitions from number `i` on after a step. `step` has the ticks of the clocks before, and then
-/// all; `gone` has those that are dead after it.
+/// Rewrites the regions of the definitions from number `i` on after a step. `step` has the ticks of the clocks before,
+/// and then all; `gone` has those that are dead after it.
 pub fn advance_from(
     lay: &Layout<'_>,
     i: u32,

@@ -24,8 +24,8 @@ use ccsl_kernel::{Expr, ExprOp, Place, System};
 use ccsl_words::Word;
 use std::alloc::Global;
 
-/// An operator over clocks: what a visit asks of such an expression, found once. The numbers are those of clocks, and how many ticks
-/// a delay, an await or a delayed counts.
+/// An operator over clocks: what a visit asks of such an expression, found once. The numbers are those of clocks, and
+/// how many ticks a delay, an await or a delayed counts.
 #[derive(Clone, Copy)]
 pub enum Flat {
     /// An operator but `then`, and its operands.

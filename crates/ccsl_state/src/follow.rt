@@ -22,8 +22,8 @@ use crate::readers::Readers;
 use ccsl_base::{ClockSet, MAX_CLOCKS};
 use ccsl_kernel::Expr;
 
-/// What is found of a step on its way: the clocks that are dead after it, the numbers of the definitions that wait for their visit,
-/// and of those that are to be visited at the next step, whatever ticks.
+/// What is found of a step on its way: the clocks that are dead after it, the numbers of the definitions that wait for
+/// their visit, and of those that are to be visited at the next step, whatever ticks.
 #[derive(Drop)]
 pub struct Passage {
     pub gone: ClockSet,
@@ -31,7 +31,8 @@ pub struct Passage {
     pub unsettled: ClockSet,
 }
 
-/// Makes a number a member of a set, or takes it out; `was` tells whether it is one. It seldom is not yet as it is to be.
+/// Makes a number a member of a set, or takes it out; `was` tells whether it is one. It seldom is not yet as it is to
+/// be.
 #[inline(always)]
 #[tactic(auto, using(crate::proofs::Visiting::put_already))]
 fn change(set: &mut ClockSet, number: u32, was: bool, member: bool)
@@ -67,8 +68,8 @@ fn advance_any(
     }
 }
 
-/// Rewrites the region of definition number `i`, which begins at `place`. `step` has the ticks that its expression may ask for, and
-/// `passage` those clocks that are dead after the step.
+/// Rewrites the region of definition number `i`, which begins at `place`. `step` has the ticks that its expression may
+/// ask for, and `passage` those clocks that are dead after the step.
 #[inline(always)]
 fn visit(
     lay: &Layout<'_>,
@@ -108,7 +109,8 @@ fn visit(
     }
 }
 
-/// Whether others may hear of a visit: the clock ticked, or was dead before the step and is not after it, or the other way round.
+/// Whether others may hear of a visit: the clock ticked, or was dead before the step and is not after it, or the other
+/// way round.
 #[inline(always)]
 fn has_news(visited: Stepped, was_dead: bool) -> bool
     ensures { result ≡ false → (visited.tick ≡ false) × (visited.dead ≡ was_dead) }
@@ -160,8 +162,8 @@ fn first(set: &ClockSet) -> Option<u32>
     set.members().next()
 }
 
-/// Goes on by the full step that the declared ticks in `step` give, which has all ticks behind it: visits the definitions that wait, in
-/// ascending order, with those that begin to wait meanwhile.
+/// Goes on by the full step that the declared ticks in `step` give, which has all ticks behind it: visits the
+/// definitions that wait, in ascending order, with those that begin to wait meanwhile.
 #[inline(always)]
 pub fn follow(
     lay: &Layout<'_>,

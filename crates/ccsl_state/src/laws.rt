@@ -45,8 +45,8 @@ pub fn nothing_heard_nothing_told()
     ensures { (t : Tree) (s : Step) → TellsNothing s t }
 {}
 
-/// Nothing heard, nothing moved: what is settled, hears none of its clocks and sees none of them die stays as it is, and is dead
-/// where it was.
+/// Nothing heard, nothing moved: what is settled, hears none of its clocks and sees none of them die stays as it is,
+/// and is dead where it was.
 pub fn nothing_heard_nothing_moved()
     ensures { (K : System) (t : Tree) (s : Step) (gone gone' : ℕ → Bool) →
         IsQuiet s gone gone' t → StaysAsItIs K s gone gone' t }

@@ -174,8 +174,8 @@ fn then_opened(
     }
 }
 
-/// The region of a call to the group behind all that `lay` has: the member, its parameters, its body. The values are computed before
-/// a cell is written.
+/// The region of a call to the group behind all that `lay` has: the member, its parameters, its body. The values are
+/// computed before a cell is written.
 #[cycle(open)]
 pub fn call_opened(
     lay: &Layout<'_>,

@@ -20,9 +20,10 @@ use ccsl_kernel::System;
 use std::alloc::Global;
 use std::marker::Model;
 
-/// The states of the definitions that some clocks lead to, after some steps. The row has the regions of all definitions, so that each
-/// has its place, but a step visits and rewrites only those followed ones that hear something: a clock that they read ticks or dies,
-/// or they are not settled. It takes no memory. Constraints are not counted.
+/// The states of the definitions that some clocks lead to, after some steps. The row has the regions of all
+/// definitions, so that each has its place, but a step visits and rewrites only those followed ones that hear
+/// something: a clock that they read ticks or dies, or they are not settled. It takes no memory. Constraints are not
+/// counted.
 #[derive(Drop)]
 pub struct Part<'s> {
     system: &'s System,
@@ -55,8 +56,8 @@ impl<'s> Model for Part<'s> {
 }
 
 impl<'s> Part<'s> {
-    /// The states before the first step, of the definitions that these clocks lead to. They take one row of cells, three small
-    /// tables, and a set for each clock.
+    /// The states before the first step, of the definitions that these clocks lead to. They take one row of cells,
+    /// three small tables, and a set for each clock.
     pub fn open(alloc: Global, system: &'s System, clocks: &ClockSet) -> Result<Part<'s>, Memory>
         ensures system { IfOk result (λ p. p.system ≡ system.now) }
         ensures has { IfOk result (λ p. (x : ℕ) →
@@ -93,7 +94,8 @@ impl<'s> Part<'s> {
         })
     }
 
-    /// The clocks whose definitions are followed: those that it was opened with, and all that their definitions lead to.
+    /// The clocks whose definitions are followed: those that it was opened with, and all that their definitions lead
+    /// to.
     pub fn followed(&self) -> &ClockSet
         ensures followed { result.now ≡ self.now.followed }
         ensures closed { IsClosed self.now.system self.now.followed }
@@ -101,7 +103,8 @@ impl<'s> Part<'s> {
         &self.readers.followed
     }
 
-    /// Goes on by the full step that the declared clocks of a set give. Then the set has what of that step is declared or followed.
+    /// Goes on by the full step that the declared clocks of a set give. Then the set has what of that step is declared
+    /// or followed.
     #[inline(always)]
     pub fn go_on(&mut self, step: &mut ClockSet)
         requires { are_below self.old.system.declared step.old ≡ true }

@@ -50,8 +50,8 @@ pub fn add_named(e: &Expr, set: &mut ClockSet)
     }
 }
 
-/// The clocks that some clocks lead to: these, and with each defined clock those that its definition names. A definition names
-/// lower clocks only, so one pass from the last one down finds all.
+/// The clocks that some clocks lead to: these, and with each defined clock those that its definition names. A
+/// definition names lower clocks only, so one pass from the last one down finds all.
 pub fn reached(system: &System, clocks: &ClockSet) -> ClockSet
     ensures has { (x : ℕ) → ticks_in x clocks.now ≡ true → ticks_in x result ≡ true }
     ensures closed { IsClosed system.now result }

@@ -22,8 +22,8 @@ use ccsl_kernel::System;
 use std::alloc::Global;
 use std::marker::Model;
 
-/// The states of a system's definitions and constraints after some steps, in a row of just so many numbers as the system has cells.
-/// The row is taken when the states are opened, and rewritten in place: a step takes no memory.
+/// The states of a system's definitions and constraints after some steps, in a row of just so many numbers as the
+/// system has cells. The row is taken when the states are opened, and rewritten in place: a step takes no memory.
 #[derive(Drop)]
 pub struct States<'s> {
     system: &'s System,

@@ -214,8 +214,8 @@ fn explain_run<W: World>(
     explain_formulas(alloc, world, system, cert, steps, &formulas)
 }
 
-/// Says which items of a system block every step behind the trace of a name, and writes a certificate that cites no other item. It
-/// is opened only where items block.
+/// Says which items of a system block every step behind the trace of a name, and writes a certificate that cites no
+/// other item. It is opened only where items block.
 pub(crate) fn explain<W: World>(
     alloc: Global,
     keys: HashKeys,

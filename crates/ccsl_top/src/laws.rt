@@ -1,5 +1,6 @@
-//! What is true of the program's outcomes. These functions do nothing: each has a law as its contract. Beside the law on all outcomes
-//! stand those on what is simulated: that a written trace reads back, that it is judged to be a run, and that a trial never ends early.
+//! What is true of the program's outcomes. These functions do nothing: each has a law as its contract. Beside the law
+//! on all outcomes stand those on what is simulated: that a written trace reads back, that it is judged to be a run,
+//! and that a trial never ends early.
 
 ghost use Rattle.ccsl_kernel.specs.Accepted.{IsAccepted};
 ghost use Rattle.ccsl_kernel.specs.Syntax.{System};
@@ -63,7 +64,8 @@ pub fn outcomes_exist()
     explanations_exist();
 }
 
-/// A certificate that `simulate` writes is one that `certify` accepts behind the trace that it writes, where it is not too long.
+/// A certificate that `simulate` writes is one that `certify` accepts behind the trace that it writes, where it is not
+/// too long.
 pub fn simulations_certify(system: &System)
     ensures { SimulationsCertify system.now }
 {
@@ -75,7 +77,8 @@ pub fn simulations_certify(system: &System)
     simulated_traces_are_runs(system);
 }
 
-/// Where `certify` answers with status 0, the trace is a run of the steps that it reports, and no set is admissible after it.
+/// Where `certify` answers with status 0, the trace is a run of the steps that it reports, and no set is admissible
+/// after it.
 pub fn certified_runs_end()
     ensures { (K : System) → IsAccepted K → CertifiedRunsEnd K }
 {

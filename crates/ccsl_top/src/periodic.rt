@@ -74,7 +74,8 @@ fn filtered(alloc: Global, left: &Word, right: &Word) -> Result<Reply, Memory>
     }
 }
 
-/// Says whether a relation holds between two periodic filters of one clock, for all lengths, or what a filter of a filter is.
+/// Says whether a relation holds between two periodic filters of one clock, for all lengths, or what a filter of a
+/// filter is.
 pub(crate) fn periodic(
     alloc: Global,
     left: &Word,

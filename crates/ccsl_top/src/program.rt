@@ -199,10 +199,11 @@ fn obey<R: Threads + Sync, W: World, G: Gate>(
     }
 }
 
-/// Does all that the program does, and answers its exit status: 0 where it is done, 1 where a trace is no run, a certificate not valid or
-/// a step possible that was to be explained, 2 to 4 where the words, the specification, or a trace, a certificate or standard input are
-/// refused, 5 where a file failed, 6 where there was no memory, 8 where a simulation ended early. `workers` threads judge a trace, and each
-/// part of their work enters the gate; neither changes the outcome, nor do the keys by which a trace's codes are hashed.
+/// Does all that the program does, and answers its exit status: 0 where it is done, 1 where a trace is no run, a
+/// certificate not valid or a step possible that was to be explained, 2 to 4 where the words, the specification, or a
+/// trace, a certificate or standard input are refused, 5 where a file failed, 6 where there was no memory, 8 where a
+/// simulation ended early. `workers` threads judge a trace, and each part of their work enters the gate; neither
+/// changes the outcome, nor do the keys by which a trace's codes are hashed.
 pub fn run<R: Threads + Sync, W: World, G: Gate>(
     rt: &R,
     alloc: Global,

@@ -174,8 +174,8 @@ fn tried_chain<R: Threads + Sync, G: Gate>(
     tried(machine, &system, steps, seed, workers)
 }
 
-/// Simulates a chain of so many clocks by drawn words into a world in memory, judges what was written, and counts its ticks. A fault of
-/// this world is a want of memory of its own.
+/// Simulates a chain of so many clocks by drawn words into a world in memory, judges what was written, and counts its
+/// ticks. A fault of this world is a want of memory of its own.
 pub(crate) fn trial<R: Threads + Sync, G: Gate>(
     machine: &Machine<'_, R, G>,
     clocks: u32,

@@ -84,8 +84,9 @@ const NOTHING: [&str; 3] = ["", "no file", "no file"];
 
 const DONE: [&str; 3] = ["simulate: done, 2 steps\n", TRACE, ""];
 
-// The calls of a simulation, in their order: each once, and none more. The specification is opened and read; the trace and then the
-// certificate are opened; the header and each step are one write; the trace and then the certificate are closed; the report is one write.
+// The calls of a simulation, in their order: each once, and none more. The specification is opened and read; the trace
+// and then the certificate are opened; the header and each step are one write; the trace and then the certificate are
+// closed; the report is one write.
 const ROWS: &[Row] = &[
     ((CallKind::OpenIn, 1), 5, NOTHING),
     ((CallKind::OpenIn, 2), 0, DONE),

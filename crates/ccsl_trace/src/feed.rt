@@ -228,9 +228,9 @@ impl Feed {
         Ok(None)
     }
 
-    /// Reads on until something is to be handed out: the bound clocks where the header has ended, then each full block, and at
-    /// last the end with the rest of the rows. After the end or a fault no other call is made. Memory is taken while the header
-    /// is read, and where it ends.
+    /// Reads on until something is to be handed out: the bound clocks where the header has ended, then each full block,
+    /// and at last the end with the rest of the rows. After the end or a fault no other call is made. Memory is taken
+    /// while the header is read, and where it ends.
     pub fn next<W: World>(&mut self, world: &mut W) -> Result<Next, TraceFault>
         requires feeds { (wanted : Wanted) × (limits : Limits) × (start : State) × (rows : List Row)
             × Feeds W.told wanted limits start (W.state world.old) self.old rows }

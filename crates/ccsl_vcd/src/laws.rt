@@ -14,8 +14,8 @@ ghost use Rattle.ccsl_vcd.specs.Commands.{Command, IsHeader, header_tokens, decl
 
 use crate::fault::VcdFault;
 
-/// A fault that some bytes decide is the fault of every file that begins with them, and with it stands all that was read
-/// before it.
+/// A fault that some bytes decide is the fault of every file that begins with them, and with it stands all that was
+/// read before it.
 pub fn decided_first()
     ensures whole { (w : Wanted) (l : Limits) (front rest : List ℕ) (f : VcdFault) →
         (so_far w l front).fault ≡ Some f → (reading w l (front ++ rest)).fault ≡ Some f }
@@ -73,8 +73,8 @@ pub fn rows_come_one_by_one()
         length (recorded w l file) ≤ length (done w l file) + 1 }
 {}
 
-/// A fault that names a clock names one that a trace may bind, and where it is that the clock is not bound, one that it has
-/// to bind.
+/// A fault that names a clock names one that a trace may bind, and where it is that the clock is not bound, one that it
+/// has to bind.
 pub fn faults_name_clocks()
     ensures unbound { (w : Wanted) (l : Limits) (file : List ℕ) (clock : ℕ) →
         (reading w l file).fault ≡ Some (Unbound clock) →

@@ -3,7 +3,8 @@
 ghost use Rattle.std.specs.Prelude.{◌≡◌};
 ghost use Rattle.ccsl_vcd.specs.Reading.{is_changes};
 
-/// In a change's place, in a comment, at the code of a value that is 1 or not, or at the code of a value that is skipped.
+/// In a change's place, in a comment, at the code of a value that is 1 or not, or at the code of a value that is
+/// skipped.
 #[derive(Clone, Copy)]
 pub enum Amid {
     Changes,

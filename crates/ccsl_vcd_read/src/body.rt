@@ -176,8 +176,8 @@ impl Body {
         }
     }
 
-    // Makes the change at the front of some bytes, if that is one of a bit to 0 or 1, of a short code that was found before. It
-    // answers how many bytes that are, with the white space behind it, and 0 where it does nothing.
+    // Makes the change at the front of some bytes, if that is one of a bit to 0 or 1, of a short code that was found
+    // before. It answers how many bytes that are, with the white space behind it, and 0 where it does nothing.
     #[inline(always)]
     fn bit_change(&mut self, bytes: &[u8]) -> usize
         ensures { Made self.old self.new bytes.now result }
@@ -195,7 +195,8 @@ impl Body {
         code.len + 2
     }
 
-    // The same of a vector of letters of the values 0 and 1. It is a call, so that the loop over changes of bits stays small.
+    // The same of a vector of letters of the values 0 and 1. It is a call, so that the loop over changes of bits stays
+    // small.
     #[inline(never)]
     fn vector_change(&mut self, bytes: &[u8]) -> usize
         ensures { Made self.old self.new bytes.now result }
@@ -230,7 +231,8 @@ impl Body {
         self.vector_change(bytes)
     }
 
-    // Makes the changes at the front of some bytes, as far as each is one of these. It answers how many bytes they have.
+    // Makes the changes at the front of some bytes, as far as each is one of these. It answers how many bytes they
+    // have.
     #[inline(always)]
     fn changes(&mut self, bytes: &[u8]) -> usize
         ensures { Made self.old self.new bytes.now result }
@@ -289,8 +291,8 @@ impl Body {
         time + 1
     }
 
-    // Hears what stands at the front of some bytes: a byte of white space, or a token and the white space behind it. It answers
-    // how many bytes that are: none where no token ends there, or the token is refused.
+    // Hears what stands at the front of some bytes: a byte of white space, or a token and the white space behind it. It
+    // answers how many bytes that are: none where no token ends there, or the token is refused.
     #[inline(never)]
     fn token(&mut self, at: u64, bytes: &[u8], out: &mut Block) -> usize
         requires room { length out.old.rows < out.old.room }
@@ -312,8 +314,9 @@ impl Body {
         }
     }
 
-    // Hears what stands at the front of some bytes: a time and the changes behind it, or whatever else. It stops behind a time that
-    // fills the block. It answers how many bytes that are: none where no token ends there, or the token is refused.
+    // Hears what stands at the front of some bytes: a time and the changes behind it, or whatever else. It stops behind
+    // a time that fills the block. It answers how many bytes that are: none where no token ends there, or the token is
+    // refused.
     #[inline(always)]
     fn step(&mut self, at: u64, bytes: &[u8], out: &mut Block) -> usize
         requires room { length out.old.rows < out.old.room }
@@ -334,8 +337,8 @@ impl Body {
         self.token(at, bytes, out)
     }
 
-    /// Hears the tokens that lie whole in a piece, from its front up to one that is refused, or where the block became full. It
-    /// answers how many bytes that are.
+    /// Hears the tokens that lie whole in a piece, from its front up to one that is refused, or where the block became
+    /// full. It answers how many bytes that are.
     #[inline(never)]
     pub(crate) fn run(&mut self, at: u64, piece: &[u8], out: &mut Block) -> usize
         requires room { length out.old.rows < out.old.room }

@@ -14,8 +14,8 @@ use std::marker::Model;
 #[derive(Drop)]
 pub(crate) struct Codes {
     binding: Binding,
-    // at the place of a code one more than its number, and 0 before it is found; it has room for all places from the start,
-    // and is as long as the codes that were found ask
+    // at the place of a code one more than its number, and 0 before it is found; it has room for all places from the
+    // start, and is as long as the codes that were found ask
     table: Vec<u32>,
 }
 

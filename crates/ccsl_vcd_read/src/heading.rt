@@ -20,8 +20,8 @@ use ccsl_bind::Binder;
 use ccsl_vcd::{Limits, VcdFault, is_code};
 use std::alloc::Global;
 
-/// What is kept of a header that is being read: the words of the declaration that is open, and of all before it what the
-/// binder keeps.
+/// What is kept of a header that is being read: the words of the declaration that is open, and of all before it what
+/// the binder keeps.
 #[derive(Drop)]
 pub(crate) struct Heading {
     pub binder: Binder,

@@ -10,8 +10,8 @@ use ccsl_base::{Block, ClockSet, MAX_CLOCKS, Memory};
 use std::alloc::Global;
 use std::marker::Model;
 
-/// A bound clock, the number of its code, and its values now and at the last earlier time with a change. An event's value
-/// now is whether it ticks.
+/// A bound clock, the number of its code, and its values now and at the last earlier time with a change. An event's
+/// value now is whether it ticks.
 #[derive(Clone, Copy)]
 pub struct Mark {
     pub clock: u32,

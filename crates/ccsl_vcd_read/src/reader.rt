@@ -83,7 +83,8 @@ impl Model for Reader {
 }
 
 impl Reader {
-    /// A reader before the first byte of a trace, for the written clocks of a system. The trace's codes are hashed by random keys.
+    /// A reader before the first byte of a trace, for the written clocks of a system. The trace's codes are hashed by
+    /// random keys.
     pub fn open(
         alloc: Global,
         keys: HashKeys,
@@ -205,7 +206,8 @@ impl Reader {
         }
     }
 
-    // Hears the tokens of a body that lie whole in a piece, where no token is open, and answers how many bytes that are.
+    // Hears the tokens of a body that lie whole in a piece, where no token is open, and answers how many bytes that
+    // are.
     fn race(&mut self, piece: &[u8], out: &mut Block) -> usize
         requires ready { CanTake self.old out.old }
         requires nothing_open { self.old.lexing.inner.open_text ≡ [] }
@@ -246,8 +248,8 @@ impl Reader {
         })
     }
 
-    /// Takes bytes of a piece of the trace: up to the one that ends the header, or by which the block became full, or all of
-    /// them. Once there was a fault every call answers it.
+    /// Takes bytes of a piece of the trace: up to the one that ends the header, or by which the block became full, or
+    /// all of them. Once there was a fault every call answers it.
     pub fn feed(&mut self, piece: &[u8], out: &mut Block) -> Result<Taken, VcdFault>
         requires room { length out.old.rows < out.old.room }
         requires stands { IfNone self.old.fault
@@ -356,7 +358,8 @@ impl Reader {
         }
     }
 
-    /// Ends the trace: its last token has ended, and the row of the present time is complete. After an Ok no other call is made.
+    /// Ends the trace: its last token has ended, and the row of the present time is complete. After an Ok no other call
+    /// is made.
     pub fn finish(&mut self, out: &mut Block) -> Result<Counts, VcdFault>
         requires room { length out.old.rows < out.old.room }
         requires stands { IfNone self.old.fault

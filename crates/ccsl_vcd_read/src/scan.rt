@@ -21,7 +21,8 @@ fn other_bits(v: u8x16) -> u64
         .to_bitmask()
 }
 
-/// Whether all bytes are letters of the values 0 and 1. The last 16 bytes are looked at together, whatever stands before.
+/// Whether all bytes are letters of the values 0 and 1. The last 16 bytes are looked at together, whatever stands
+/// before.
 #[inline(always)]
 pub(crate) fn are_bits(bytes: &[u8]) -> bool
     ensures { result ≡ list_all is_bit bytes.now }

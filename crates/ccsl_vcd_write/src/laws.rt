@@ -13,8 +13,8 @@ use ccsl_base::{MAX_FILE_BYTES, MAX_STEPS};
 use ccsl_kernel::System;
 use ccsl_vcd::Limits;
 
-/// A written trace that keeps to the limits is read without a fault. Every written clock is bound in it, and its rows are
-/// the steps that were written: row `k` has time `k` and the written clocks of step `k`.
+/// A written trace that keeps to the limits is read without a fault. Every written clock is bound in it, and its rows
+/// are the steps that were written: row `k` has time `k` and the written clocks of step `k`.
 pub fn read_back(system: &System, limits: Limits)
     ensures read { (steps : List (List ℕ)) → IsReadable system.now limits steps →
         IsRead (wanted_of system.now) limits (vcd_text system.now steps) }

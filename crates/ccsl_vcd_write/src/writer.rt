@@ -113,8 +113,8 @@ fn reserve_step(ticks: &ClockSet, out: &mut Vec<u8>) -> Result<(), Memory>
     Ok(())
 }
 
-/// Makes room for the lines of a step. Room for all written clocks is enough, and it is seen at once, where the clocks that
-/// tick have to be counted.
+/// Makes room for the lines of a step. Room for all written clocks is enough, and it is seen at once, where the clocks
+/// that tick have to be counted.
 #[inline(always)]
 fn make_room(ticks: &ClockSet, system: &System, out: &mut Vec<u8>) -> Result<(), Memory>
     requires ascending { IsTrue (is_ascending ticks.now) }
@@ -132,8 +132,8 @@ fn make_room(ticks: &ClockSet, system: &System, out: &mut Vec<u8>) -> Result<(),
     Ok(())
 }
 
-/// Appends the text of step `k`: its time, and a line for each clock below `written` that ticks. That no memory is taken where
-/// there is room for the step, but not for all written clocks, is code, no clause.
+/// Appends the text of step `k`: its time, and a line for each clock below `written` that ticks. That no memory is
+/// taken where there is room for the step, but not for all written clocks, is code, no clause.
 pub fn step(k: u64, ticks: &ClockSet, system: &System, out: &mut Vec<u8>) -> Result<(), Memory>
     ensures text { OnOk result (out.new.items ≡ out.old.items ++ step_text k system.now ticks.now) }
     ensures same { OnErr result (out.new.items ≡ out.old.items) }

@@ -83,8 +83,8 @@ const PUT: Moves = Moves { put: 1, ..MADE };
 
 const REMOVED: Moves = Moves { removed: 1, ..MADE };
 
-/// Whether a file stood there, the byte at which the new one fails, whether its flush, its close or its renaming does, and what a write of
-/// eight bytes gives and comes to.
+/// Whether a file stood there, the byte at which the new one fails, whether its flush, its close or its renaming does,
+/// and what a write of eight bytes gives and comes to.
 const WRITES: &[(bool, usize, bool, bool, bool, Result<(), Failed>, Moves)] = &[
     (false, NEVER, false, false, false, Ok(()), PUT),
     (true, NEVER, false, false, false, Ok(()), PUT),

@@ -1,4 +1,5 @@
-//! How many cells the states of a system have. A count that doesn't fit 32 bits is taken as the greatest number that does.
+//! How many cells the states of a system have. A count that doesn't fit 32 bits is taken as the greatest number that
+//! does.
 
 ghost use Rattle.std.specs.Prelude.{◌≡◌, [], map, length, sum, IfOk};
 ghost use Rattle.ccsl_kernel.specs.Plain.{plain_expr, plain_group, plain_body, plain_system};

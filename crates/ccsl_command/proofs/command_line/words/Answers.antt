@@ -1,4 +1,5 @@
-use Rattle.std.proofs.Common.{◌≡◌, ◌<◌, ◌-◌, ℕ, List, [], ◌∷◌, length, get_or, take, drop, Bool, true, false, cond, Option, Some, None, Ok, Err, sym, ap, ap₂, ◌∙◌, refl, arith}
+use Rattle.std.proofs.Common.{◌≡◌, ◌<◌, ◌-◌, ℕ, List, [], ◌∷◌, length, get_or, take, drop, Bool, true, false, cond, Option, Some, None, Ok, Err, sym, ap, ap₂}
+use Rattle.std.proofs.Common.{◌∙◌, refl, arith}
 use Rattle.std.proofs.lemmas.List.{take_all}
 use Rattle.ccsl_command.specs.declared.table.CommandName.{CommandName}
 use Rattle.ccsl_command.specs.declared.table.Key.{Key}
