@@ -49,7 +49,7 @@ use Rattle.ccsl_top.proofs.Certifying.{NoBadLine, verdict-outcome}
 
 at-below : (lines : List Line) (j : ℕ) (line : Line) → line_at lines j ≡ Some line → j ≤ length lines
 at-below lines zero line e = omega arith
-at-below lines (suc i) line e = let l = at-below lines i line e in omega (arith, l)
+at-below lines (suc i) line e = let within : i < length lines = slice_get_within lines i line e in omega (arith, within)
 
 module _ (declared : ℕ) (lines : List Line) where
   fails-below : (p : Part) (j : ℕ) → fails_at declared lines p j ≡ true → j ≤ length lines
