@@ -110,6 +110,14 @@ impl Block {
         &self.rows[i]
     }
 
+    /// The rows so far, in order.
+    #[inline(always)]
+    pub fn rows(&self) -> &[Row]
+        ensures { result.now ≡ self.now.rows }
+    {
+        &self.rows[..self.len]
+    }
+
     /// Takes the rows out, and keeps the room.
     #[inline(always)]
     pub fn clear(&mut self)
