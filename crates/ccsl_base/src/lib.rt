@@ -42,6 +42,6 @@ pub use name::{is_digit, is_inner, is_letter, is_name, is_quotable, is_reserved,
 pub use names::Names;
 pub use numeral::decimal;
 pub use reserved::Reserved;
-pub use rows::{Block, Row};
+pub use rows::{Block, Row, blank_rows};
 pub use seq::Seq;
 pub use text::{Text, is_text};

@@ -1,6 +1,6 @@
 //! Rows of a trace, and bounded lists of them.
 
-ghost use Rattle.std.specs.Prelude.{◌≡◌, ◌<◌, ◌≤◌, ◌↔◌, [], ◌∷◌, ◌++◌, IsTrue, IfOk, length, slice_get, Some};
+ghost use Rattle.std.specs.Prelude.{◌≡◌, ◌<◌, ◌≤◌, ◌↔◌, [], ◌∷◌, ◌++◌, IsTrue, IfOk, length, vec_len, slice_get, Some};
 ghost use Rattle.ccsl_base.specs.Changes.{difference};
 
 use crate::{ClockSet, Memory};
@@ -12,6 +12,20 @@ use std::marker::Model;
 pub struct Row {
     pub time: u64,
     pub ticks: ClockSet,
+}
+
+/// So many rows without ticks, to be written over.
+pub fn blank_rows(alloc: Global, n: usize) -> Result<Vec<Row>, Memory>
+    ensures { IfOk result (λ rows. vec_len rows ≡ n) }
+{
+    let mut rows = Vec::with_capacity(alloc, n)?;
+    while rows.len() < n {
+        rows.push_reserved(Row {
+            time: 0,
+            ticks: ClockSet::empty(),
+        });
+    }
+    Ok(rows)
 }
 
 /// A list of rows that has room for a fixed number of them. Contracts see its `rows` and its `room`.
@@ -39,13 +53,7 @@ impl Block {
     pub fn with_room(alloc: Global, n: usize) -> Result<Block, Memory>
         ensures { IfOk result (λ b. b ≡ record { rows = []; room = n }) }
     {
-        let mut rows = Vec::with_capacity(alloc, n)?;
-        while rows.len() < n {
-            rows.push_reserved(Row {
-                time: 0,
-                ticks: ClockSet::empty(),
-            });
-        }
+        let rows = blank_rows(alloc, n)?;
         Ok(Block { rows, len: 0 })
     }
 

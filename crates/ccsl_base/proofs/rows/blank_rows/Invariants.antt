@@ -1,5 +1,5 @@
 use Rattle.std.proofs.Common.{◌≤◌, ◌-◌, vec_len, vec_capacity}
-use Rattle.ccsl_base.proofs.rows.Block.with_room.Given as goal
+use Rattle.ccsl_base.proofs.rows.blank_rows.Given as goal
 
 abbrev pub invariant-loop-rows : goal.invariant-loop-rows
 invariant-loop-rows l = (vec_len l.rows ≤ l.n) × (l.n ≤ vec_capacity l.rows)
