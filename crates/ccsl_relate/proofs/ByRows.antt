@@ -1,6 +1,6 @@
 -- An item over rows, each with the step that it completes.
 use Rattle.std.proofs.lemmas.Grind.{common_steps}
-use Rattle.std.proofs.Common.{add-one, ◌≡◌, ℕ, zero, suc, ◌+◌, ◌<◌, ◌≤◌, List, [], ◌∷◌, length, take, drop, slice_get, Option}
+use Rattle.std.proofs.Common.{add-one, ◌≡◌, ℕ, zero, suc, ◌+◌, ◌<◌, ◌≤◌, List, [], ◌∷◌, length, take, get_or, Option}
 use Rattle.std.proofs.Common.{Some, None, Bool, true, false, not, refl, sym, ap, ap₂, ◌∙◌, arith, below_more}
 use Rattle.ccsl_base.specs.declared.rows.Row.{Row}
 use Rattle.std.specs.Bool.{beq}
@@ -13,24 +13,23 @@ use Rattle.ccsl_relate.specs.declared.watched.Watched.TheVariants.{Nothing, Defi
 use Rattle.ccsl_relate.specs.Few.{HasRoom, HasRoomFor}
 use Rattle.ccsl_relate.specs.Watching.{fails_in, next_in, counted_on, related_formula}
 use Rattle.ccsl_relate.specs.Reading.{clocks_of}
-use Rattle.ccsl_relate.specs.Stretch.{stretch, after_steps, fails_at, ObeysUpTo, TakesRows}
+use Rattle.ccsl_relate.specs.Stretch.{after_steps, fails_at, ObeysUpTo, TakesRows}
 use Rattle.ccsl_relate.proofs.Ranges.{clocks_of-next}
 
 -- one row more
-pub after-more : (rows : List Row) (w : Watched) (n : ℕ) (row : Row) → slice_get rows n ≡ Some row
-    → after_steps (take (n + 1) rows) w ≡ next_in row.ticks (after_steps (take n rows) w)
-after-more [] w n row e = absurd (cc)
-after-more (x ∷ rows) w zero row e = ap (λ (y : Row). next_in y.ticks w) (let q : x ≡ row = cc in q)
-after-more (x ∷ rows) w (suc n) row e = simp add-one (simp add-one at (after-more rows (next_in x.ticks w) n row e))
+pub after-more : (rows : List Row) (w : Watched) (n : ℕ) (d : Row) → n < length rows
+    → after_steps (take (n + 1) rows) w ≡ next_in (get_or rows n d).ticks (after_steps (take n rows) w)
+after-more [] w n d l = absurd (omega (arith, l))
+after-more (row ∷ rows) w zero d l = refl
+after-more (row ∷ rows) w (suc n) d l = simp add-one (simp add-one at (after-more rows (next_in row.ticks w) n d (omega (arith, l))))
 
 -- what fails at a row is what is kept up to it
-pub fails-here : (rows steps : List Row) (w : Watched) (n : ℕ) (row step : Row) → slice_get rows n ≡ Some row → slice_get steps n ≡ Some step
-    → fails_at rows steps w n ≡ fails_in row.ticks step.ticks (after_steps (take n steps) w)
-fails-here [] steps w n row step e f = absurd (cc)
-fails-here (x ∷ rows) [] w n row step e f = absurd (cc)
-fails-here (x ∷ rows) (y ∷ steps) w zero row step e f =
-    ap₂ (λ (x' y' : Row). fails_in x'.ticks y'.ticks w) (let q : x ≡ row = cc in q) (let q : y ≡ step = cc in q)
-fails-here (x ∷ rows) (y ∷ steps) w (suc n) row step e f = fails-here rows steps (next_in y.ticks w) n row step e f
+pub fails-here : (rows steps : List Row) (w : Watched) (n : ℕ) (d e : Row) → n < length rows → n < length steps
+    → fails_at rows steps w n ≡ fails_in (get_or rows n d).ticks (get_or steps n e).ticks (after_steps (take n steps) w)
+fails-here [] steps w n d e l m = absurd (omega (arith, l))
+fails-here (row ∷ rows) [] w n d e l m = absurd (omega (arith, m))
+fails-here (row ∷ rows) (step ∷ steps) w zero d e l m = refl
+fails-here (row ∷ rows) (step ∷ steps) w (suc n) d e l m = fails-here rows steps (next_in step.ticks w) n d e (omega (arith, l)) (omega (arith, m))
 
 pub obeys-more : (rows steps : List Row) (w : Watched) (n : ℕ) → ObeysUpTo rows steps n w → fails_at rows steps w n ≡ false → ObeysUpTo rows steps (n + 1) w
 obeys-more rows steps w n = below_more (λ n. fails_at rows steps w n ≡ false) n
@@ -74,21 +73,6 @@ pub definition-stays : (clock : ℕ) (steps : List Row) → Definition clock ≡
 definition-stays clock [] = refl
 definition-stays clock (step ∷ steps) = definition-stays clock steps
 
--- the rows of a stretch
-pub get-behind : (rows : List Row) (from i : ℕ) → slice_get (drop from rows) i ≡ slice_get rows (from + i)
-get-behind rows zero i = let same : i ≡ 0 + i = omega arith in ap (slice_get rows) same
-get-behind [] (suc from) i = refl
-get-behind (x ∷ rows) (suc from) i = let same : suc (from + i) ≡ suc from + i = omega arith in get-behind rows from i ∙ ap (slice_get (x ∷ rows)) same
-
-get-front : (rows : List Row) (n k : ℕ) → k < n → slice_get (take n rows) k ≡ slice_get rows k
-get-front rows zero k l = absurd (omega (arith, l))
-get-front [] (suc n) k l = refl
-get-front (x ∷ rows) (suc n) zero l = refl
-get-front (x ∷ rows) (suc n) (suc k) l = get-front rows n k (omega (arith, l))
-
-pub get-stretch : (block : List Row) (from n k : ℕ) → k < n → slice_get (stretch from n block) k ≡ slice_get block (from + k)
-get-stretch block from n k l = get-front (drop from block) n k l ∙ get-behind block from k
-
 -- whether two differ, as the code asks for it
 not-same : (a b : Bool) → not (same a b) ≡ not (beq a b)
 not-same true true = refl
@@ -97,20 +81,19 @@ not-same false true = refl
 not-same false false = refl
 
 -- a recorded definition fails where the row and its step differ
-pub definition-here : (block steps : List Row) (from clock n : ℕ) {row step : Row} {a b : Bool} → slice_get block (from + n) ≡ Some row
-    → slice_get steps n ≡ Some step → n < length steps → a ≡ ticks_in clock row.ticks → b ≡ ticks_in clock step.ticks
-    → fails_at (stretch from (length steps) block) steps (Definition clock) n ≡ not (beq a b)
-definition-here block steps from clock n {row} {step} {a} {b} e f l p q =
-    fails-here (stretch from (length steps) block) steps (Definition clock) n row step (get-stretch block from (length steps) n l ∙ e) f
-    ∙ ap (fails_in row.ticks step.ticks) (sym (definition-stays clock (take n steps)))
+pub definition-here : (rows steps : List Row) (clock n : ℕ) (d e : Row) {a b : Bool} → n < length rows → n < length steps
+    → a ≡ ticks_in clock (get_or rows n d).ticks → b ≡ ticks_in clock (get_or steps n e).ticks → fails_at rows steps (Definition clock) n ≡ not (beq a b)
+definition-here rows steps clock n d e {a} {b} l m p q =
+    fails-here rows steps (Definition clock) n d e l m
+    ∙ ap (fails_in (get_or rows n d).ticks (get_or steps n e).ticks) (sym (definition-stays clock (take n steps)))
     ∙ ap₂ (λ x y. not (same x y)) (sym p) (sym q)
     ∙ not-same a b
 
 -- a relation that has gone on so far fails in the next step
-pub relation-here : (rows : List Row) (r : Related) (n : ℕ) {now : Related} {row : Row} {b : Bool} → Relation now ≡ after_steps (take n rows) (Relation r)
-    → slice_get rows n ≡ Some row → b ≡ not (related_formula now row.ticks) → fails_at rows rows (Relation r) n ≡ b
-relation-here rows r n {now} {row} gone e is =
-    fails-here rows rows (Relation r) n row row e e ∙ ap (fails_in row.ticks row.ticks) (sym gone) ∙ sym is
+pub relation-here : (rows : List Row) (r : Related) (n : ℕ) (d : Row) {now : Related} {b : Bool} → n < length rows
+    → Relation now ≡ after_steps (take n rows) (Relation r) → b ≡ not (related_formula now (get_or rows n d).ticks) → fails_at rows rows (Relation r) n ≡ b
+relation-here rows r n d {now} l gone is =
+    fails-here rows rows (Relation r) n d d l l ∙ ap (fails_in (get_or rows n d).ticks (get_or rows n d).ticks) (sym gone) ∙ sym is
 
 -- A RELATION reads no more of a row than its step
 relation-alike : (rows steps : List Row) (r : Related) (n : ℕ) → length steps ≤ length rows → fails_at rows steps (Relation r) n

@@ -1,6 +1,5 @@
 -- Rows that complete steps, and one row more.
-use Rattle.std.proofs.Common.{◌≡◌, ◌+◌, List, [], ◌∷◌, ◌++◌, length, Option, None, refl, sym, ap, subst, arith, length-append}
-use Rattle.ccsl_base.specs.Changes.{difference}
+use Rattle.std.proofs.Common.{◌≡◌, ◌+◌, List, [], ◌∷◌, ◌++◌, length, Option, None, refl, sym, subst, arith, length-append}
 use Rattle.ccsl_base.specs.declared.rows.Row.{Row}
 use Rattle.ccsl_kernel.specs.Syntax.{System}
 use Rattle.ccsl_kernel.specs.Lives.{Step}
@@ -36,8 +35,3 @@ completes-more K T held [] (y ∷ steps) middle row step held' none c = absurd n
 completes-more K T held (x ∷ rows) [] middle row step held' none c = absurd none
 completes-more K T held (x ∷ rows) (y ∷ steps) middle row step held' h c =
     (h.0, h.1, completes-more K (with_step K T x.ticks) h.0 rows steps middle row step held' h.2 c)
-
--- a set without the members of none
-pub difference-none : (s : Step) → difference s [] ≡ s
-difference-none [] = refl
-difference-none (x ∷ s) = ap (λ xs. x ∷ xs) (difference-none s)

@@ -1,8 +1,8 @@
 -- Rows behind a violation change no answer.
-use Rattle.std.proofs.Common.{◌≡◌, ℕ, ◌+◌, List, [], ◌∷◌, ◌++◌, length, take, drop, Some}
+use Rattle.std.proofs.Common.{◌≡◌, ℕ, ◌+◌, List, [], ◌∷◌, ◌++◌, length, Some}
 use Rattle.std.proofs.Common.{None, true, refl, sym, ap, ◌∙◌, subst, append_assoc, length-append}
 use Rattle.std.proofs.lemmas.Bool.{and_parts, and_from}
-use Rattle.std.proofs.lemmas.List.{append-nil, take-append-drop}
+use Rattle.std.proofs.lemmas.List.{append-nil}
 use Rattle.std.proofs.lemmas.List.Folds.{list_all-append}
 use Rattle.ccsl_base.specs.Clocks.{is_ascending}
 use Rattle.ccsl_base.specs.declared.rows.Row.{Row}
@@ -11,7 +11,6 @@ use Rattle.ccsl_kernel.specs.Accepted.{IsAccepted}
 use Rattle.ccsl_relate.specs.declared.violation.Violation.{Violation}
 use Rattle.ccsl_relate.specs.Violations.{IsFirst, Finds}
 use Rattle.ccsl_relate.specs.Watching.{Watching, are_sets, StandsFor}
-use Rattle.ccsl_relate.specs.Stretch.{stretch}
 use Rattle.ccsl_relate.specs.Taking.{Takes}
 use Rattle.ccsl_relate.proofs.Finding.{first-stays}
 use Rattle.ccsl_relate.proofs.History.{sets-snoc}
@@ -42,12 +41,3 @@ pub rests : {v w : Watching} {more : List Row} {x : Violation} → v.first ≡ S
     → Takes v w more
 rests {v} {w} {more} {x} e sets is = rw is
     (record { system = refl; start = refl; count = refl; stands = λ recorded rows s few. stands-still recorded v rows more x e sets s })
-
--- some rows of many are sets too
-sets-parts : (n : ℕ) (rows : List Row) → are_sets rows ≡ true → (are_sets (take n rows) ≡ true) × (are_sets (drop n rows) ≡ true)
-sets-parts n rows s =
-    let both = list_all-append (λ (row : Row). is_ascending row.ticks) (take n rows) (drop n rows) in
-    and_parts (are_sets (take n rows)) (are_sets (drop n rows)) (sym both ∙ ap are_sets (take-append-drop n rows) ∙ s)
-
-pub sets-within : (block : List Row) (from n : ℕ) → are_sets block ≡ true → are_sets (stretch from n block) ≡ true
-sets-within block from n s = (sets-parts n (drop from block) (sets-parts from block s).1).0

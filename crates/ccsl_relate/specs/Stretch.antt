@@ -1,6 +1,6 @@
 -- ITEMS OVER A STRETCH OF ROWS, each with what is known of the step that it completes: the row at its place among `steps`. Where the items
 -- read declared clocks alone, a row's ticks are all that they read of its step, and the rows are the steps.
-use Rattle.std.specs.Prelude.{◌≡◌, ℕ, zero, suc, ◌+◌, ◌<◌, List, [], ◌∷◌, Bool, true, false, Option, Some, length, map, take, drop, slice_get}
+use Rattle.std.specs.Prelude.{◌≡◌, ℕ, zero, suc, ◌+◌, ◌<◌, List, [], ◌∷◌, Bool, true, false, Option, Some, length, map, take, slice_get}
 use Rattle.std.specs.Prelude.{slice_index_or, All, IfSome, IfNone}
 use Rattle.ccsl_base.specs.declared.rows.Row.{Row}
 use Rattle.ccsl_relate.specs.declared.violation.Violation.{Violation}
@@ -8,10 +8,6 @@ use Rattle.ccsl_relate.specs.declared.watched.Watched.{Watched}
 use Rattle.ccsl_relate.specs.declared.watched.Watched.TheVariants.{Nothing}
 use Rattle.ccsl_relate.specs.Watching.{fails_in, next_in}
 use Rattle.ccsl_relate.specs.Reading.{clocks_of}
-
--- so many rows of a block, from row `from` on
-abbrev pub stretch : ℕ → ℕ → List Row → List Row
-stretch from n block = take n (drop from block)
 
 -- what is kept of an item after the steps
 abbrev pub after_steps : List Row → Watched → Watched

@@ -5,7 +5,6 @@ ghost use Rattle.ccsl_base.specs.declared.rows.Row.{Row};
 ghost use Rattle.ccsl_kernel.specs.Syntax.{item_count};
 ghost use Rattle.ccsl_relate.specs.Violations.{Finds};
 ghost use Rattle.ccsl_relate.specs.Watching.{StandsFor};
-ghost use Rattle.ccsl_relate.specs.Stretch.{stretch};
 ghost use Rattle.ccsl_relate.specs.Taking.{MayTake, Takes};
 ghost use Rattle.ccsl_relate.specs.Following.{FollowsNoMore};
 ghost use Rattle.ccsl_relate.specs.declared.monitor.TheConstants.{PART_ROWS};
@@ -16,7 +15,7 @@ use crate::steps::{complete, first_violated, rows_are_sets, undeclared};
 use crate::stretch::first_violation;
 use crate::violation::Violation;
 use crate::watched::{Watched, open_all};
-use ccsl_base::{Block, ClockSet, Memory, Row};
+use ccsl_base::{Block, ClockSet, Memory, Row, blank_rows};
 use ccsl_kernel::System;
 use ccsl_state::Part;
 use std::alloc::Global;
@@ -37,9 +36,9 @@ pub struct Monitor<'s> {
     // which of them read a clock
     readers: Option<Readers>,
     states: Option<Part<'s>>,
-    // room for a step, and for those of so many rows
+    // room for a step, and for those of so many rows, whose times count for nothing
     step: ClockSet,
-    completed: Block,
+    completed: Vec<Row>,
     steps: u64,
     first: Option<Violation>,
 }
@@ -71,7 +70,7 @@ impl<'s> Model for Monitor<'s> {
 
     ghost coded = { Prim.hlevel (codes, coded_expression) };
 
-    ghost use Rattle.std.specs.Prelude.{◌≡◌};
+    ghost use Rattle.std.specs.Prelude.{◌≡◌, vec_len};
     ghost use Rattle.ccsl_relate.specs.Watching.{IsUndeclared};
     ghost use Rattle.ccsl_relate.specs.Reading.{Fit};
     ghost use Rattle.ccsl_relate.specs.declared.monitor.TheConstants.{PART_ROWS};
@@ -86,7 +85,7 @@ impl<'s> Model for Monitor<'s> {
     } };
 
     ghost invariant = { λ m. IsUndeclared m.system.now m.undeclared × Fit m.readers m.kept.items
-        × (m.completed.room ≡ PART_ROWS) };
+        × (vec_len m.completed ≡ PART_ROWS) };
 }
 
 // Keeps what was found, where there was nothing before it: most rows write nothing.
@@ -120,7 +119,7 @@ impl<'s> Monitor<'s> {
     {
         let kept = open_all(alloc, system, start, count, recorded)?;
         let readers = Readers::open(alloc, kept.as_slice())?;
-        let completed = Block::with_room(alloc, PART_ROWS)?;
+        let completed = blank_rows(alloc, PART_ROWS)?;
         system.is_accepted();
         let states = states_for(alloc, system, kept.as_slice())?;
         Ok(Monitor {
@@ -177,76 +176,89 @@ impl<'s> Monitor<'s> {
         self.steps += 1;
     }
 
-    // Takes the rows of a block as the next ones behind a violation: they change no answer.
-    fn rest(&mut self, block: &Block)
+    // Takes rows as the next ones behind a violation: they change no answer.
+    fn rest(&mut self, rows: &[Row])
         requires violated { IsSome self.old.first }
-        requires few { MayTake self.old (length block.now.rows) }
-        ensures { Takes self.old self.new block.now.rows }
+        requires few { MayTake self.old (length rows.now) }
+        ensures states { self.new.states ≡ self.old.states }
+        ensures takes { Takes self.old self.new rows.now }
     {
-        rows_are_sets(block);
-        self.steps += block.len() as u64;
+        rows_are_sets(rows);
+        self.steps += rows.len() as u64;
     }
 
-    // Takes the rows of a block as the next ones, item by item: they are steps by themselves.
-    fn check_items(&mut self, block: &Block)
+    // Takes rows as the next ones, item by item: they are steps by themselves.
+    fn check_items(&mut self, rows: &[Row])
         requires none { self.old.first ≡ None }
         requires stateless { self.old.states ≡ None }
-        requires few { MayTake self.old (length block.now.rows) }
-        ensures { Takes self.old self.new block.now.rows }
+        requires few { MayTake self.old (length rows.now) }
+        ensures { Takes self.old self.new rows.now }
     {
-        rows_are_sets(block);
-        let rows = block.len() as u64;
+        rows_are_sets(rows);
         let kept = self.kept.as_mut_slice();
-        let first = first_violation(kept, block, 0, block, self.steps, self.start);
+        let first = first_violation(kept, rows, rows, self.steps, self.start);
         self.first = first;
-        self.steps += rows;
+        self.steps += rows.len() as u64;
     }
 
-    // Takes the next part of a block, from row `from` on, item by item, once the steps that its rows complete are
-    // found. It answers how many rows these are.
-    fn check_part(&mut self, block: &Block, from: usize) -> usize
-        requires inside { from < length block.now.rows }
+    // Takes at most [`PART_ROWS`] rows as the next ones, item by item, once the steps that they complete are found.
+    fn check_part(&mut self, rows: &[Row])
+        requires part { length rows.now ≤ PART_ROWS }
         requires states { IsSome self.old.states }
-        requires few { MayTake self.old (length block.now.rows - from) }
-        ensures some { 0 < result }
-        ensures inside { from + result ≤ length block.now.rows }
+        requires few { MayTake self.old (length rows.now) }
         ensures states { IsSome self.new.states }
-        ensures takes { Takes self.old self.new (stretch from result block.now.rows) }
+        ensures takes { Takes self.old self.new rows.now }
     {
-        rows_are_sets(block);
-        let count = (block.len() - from).min(PART_ROWS);
-        if self.first.is_some() {
-            self.steps += count as u64;
-            return count;
+        if self.first().is_some() {
+            self.rest(rows);
+            return;
         }
+        rows_are_sets(rows);
         let Some(states) = &mut self.states else {
             unreachable!();
         };
-        complete(
-            states,
-            &self.undeclared,
-            block,
-            from,
-            count,
-            &mut self.step,
-            &mut self.completed,
-        );
+        let completed = self.completed.as_mut_slice();
+        complete(states, &self.undeclared, rows, completed);
+        let steps = &self.completed.as_slice()[..rows.len()];
         let kept = self.kept.as_mut_slice();
-        let first = first_violation(kept, block, from, &self.completed, self.steps, self.start);
+        let first = first_violation(kept, rows, steps, self.steps, self.start);
         self.first = first;
-        self.steps += count as u64;
-        count
+        self.steps += rows.len() as u64;
     }
 
-    // Takes the rows of a block as the next ones, part by part.
-    fn check_parts(&mut self, block: &Block)
+    // Takes rows as the next ones, part by part.
+    fn check_parts(&mut self, rows: &[Row])
         requires states { IsSome self.old.states }
-        requires few { MayTake self.old (length block.now.rows) }
-        ensures { Takes self.old self.new block.now.rows }
+        requires few { MayTake self.old (length rows.now) }
+        ensures { Takes self.old self.new rows.now }
     {
         let mut from = 0;
-        'parts: while from < block.len() {
-            from += self.check_part(block, from);
+        'parts: while from < rows.len() {
+            let count = (rows.len() - from).min(PART_ROWS);
+            self.check_part(&rows[from..from + count]);
+            from += count;
+        }
+    }
+
+    // Takes rows as the next ones.
+    fn check_rows(&mut self, rows: &[Row])
+        requires { MayTake self.old (length rows.now) }
+        ensures { Takes self.old self.new rows.now }
+    {
+        if self.first().is_some() {
+            self.rest(rows);
+            return;
+        }
+        if self.readers.is_none() {
+            if self.states.is_none() {
+                self.check_items(rows);
+            } else {
+                self.check_parts(rows);
+            }
+            return;
+        }
+        for i in 0..rows.len() {
+            self.check_row(&rows[i]);
         }
     }
 
@@ -261,21 +273,7 @@ impl<'s> Monitor<'s> {
             length rows + length block.now.rows < 2 ^ 64 →
             StandsFor recorded self.new (rows ++ block.now.rows) }
     {
-        if self.first().is_some() {
-            self.rest(block);
-            return;
-        }
-        if self.readers.is_none() {
-            if self.states.is_none() {
-                self.check_items(block);
-            } else {
-                self.check_parts(block);
-            }
-            return;
-        }
-        for i in 0..block.len() {
-            self.check_row(block.row(i));
-        }
+        self.check_rows(block.rows());
     }
 
     /// The first row so far at which one of the items is violated, and the first item that is violated there.

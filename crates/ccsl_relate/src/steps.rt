@@ -1,20 +1,19 @@
 //! The step that a row completes, and the items that fail in it.
 
-ghost use Rattle.std.specs.Prelude.{◌≡◌, ◌+◌, ◌<◌, ◌≤◌, ◌^◌, List, length, Some, IsTrue};
+ghost use Rattle.std.specs.Prelude.{◌≡◌, ◌+◌, ◌<◌, ◌≤◌, ◌^◌, List, length, take, Some, IsTrue};
 ghost use Rattle.std.specs.Option.{ForSome};
 ghost use Rattle.ccsl_kernel.specs.Syntax.{System};
 ghost use Rattle.ccsl_kernel.specs.Lives.{Step};
 ghost use Rattle.ccsl_kernel.specs.Runs.{declared_part};
 ghost use Rattle.ccsl_relate.specs.Few.{EachHasRoom};
 ghost use Rattle.ccsl_relate.specs.Reading.{Fit};
-ghost use Rattle.ccsl_relate.specs.Stretch.{stretch};
 ghost use Rattle.ccsl_relate.specs.Completed.{IsCompleted, Completes, TakeTicks};
 ghost use Rattle.ccsl_relate.specs.Watching.{IsUndeclared, AreAfter, are_sets};
 
 use crate::readers::Readers;
 use crate::touched::first_read;
 use crate::watched::Watched;
-use ccsl_base::{Block, ClockSet, MAX_CLOCKS};
+use ccsl_base::{ClockSet, MAX_CLOCKS, Row};
 use ccsl_kernel::System;
 use ccsl_state::Part;
 
@@ -29,12 +28,12 @@ pub(crate) fn undeclared(system: &System) -> ClockSet
     clocks
 }
 
-/// Each row of a block is a set.
-pub(crate) fn rows_are_sets(block: &Block)
-    ensures { IsTrue (are_sets block.now.rows) }
+/// Each row is a set.
+pub(crate) fn rows_are_sets(rows: &[Row])
+    ensures { IsTrue (are_sets rows.now) }
 {
-    for i in 0..block.len() {
-        block.row(i).ticks.ascends();
+    for i in 0..rows.len() {
+        rows[i].ticks.ascends();
     }
 }
 
@@ -62,34 +61,24 @@ fn next_step(states: &mut Part<'_>, undeclared: &ClockSet, ticks: &ClockSet, ste
     states.go_on(step);
 }
 
-/// Puts what is known of the steps that so many rows of a block complete, from row `from` on, into a block of their
+/// Puts what is known of the steps that some rows complete into the ticks of as many others, which have no times of their
 /// own. The states go on by them.
 pub(crate) fn complete(
     states: &mut Part<'_>,
     undeclared: &ClockSet,
-    block: &Block,
-    from: usize,
-    count: usize,
-    step: &mut ClockSet,
-    completed: &mut Block,
+    rows: &[Row],
+    completed: &mut [Row],
 )
     requires undeclared { IsUndeclared states.old.system undeclared.now }
-    requires inside { from + count ≤ length block.now.rows }
-    requires small { length block.now.rows < 2 ^ 64 }
-    requires room { count ≤ completed.old.room }
-    ensures count { length completed.new.rows ≡ count }
-    ensures room { completed.new.room ≡ completed.old.room }
+    requires room { length rows.now ≤ length completed.old }
+    ensures room { length completed.new ≡ length completed.old }
     ensures completed { (K : System) (T : List Step) →
-        AreAfter K (Some states.old) T → length T + count < 2 ^ 64 →
-        Completes K T (Some states.old) (stretch from count block.now.rows) completed.new.rows
+        AreAfter K (Some states.old) T → length T + length rows.now < 2 ^ 64 →
+        Completes K T (Some states.old) rows.now (take (length rows.now) completed.new)
         (Some states.new) }
 {
-    let none = ClockSet::empty();
-    completed.clear();
-    for i in 0..count {
-        let row = block.row(from + i);
-        next_step(states, undeclared, &row.ticks, step);
-        completed.push_difference(row.time, step, &none);
+    for i in 0..rows.len() {
+        next_step(states, undeclared, &rows[i].ticks, &mut completed[i].ticks);
     }
 }
 

@@ -1,5 +1,5 @@
 use Rattle.std.proofs.lemmas.Grind.{common_steps}
-use Rattle.std.proofs.Common.{◌≡◌, take, refl, sym, ap, ◌∙◌, arith, length-take-le}
+use Rattle.std.proofs.Common.{◌≡◌, take, get_or, refl, sym, ap, ◌∙◌, arith, length-take-le}
 use Rattle.ccsl_relate.specs.declared.watched.Watched.TheVariants.{Relation}
 use Rattle.ccsl_relate.specs.Watching.{next_in}
 use Rattle.ccsl_relate.specs.Reading.{clocks_of}
@@ -11,13 +11,14 @@ fails-requires c = grind (arith, common_steps, room-after, length-take-le)
 
 pub loop-i-preserved : goal.loop-i-preserved
 loop-i-preserved c =
-    let rows = c.args.steps.now.rows in
+    let rows = c.args.steps.now in
     let old = Relation c.args.related.now in
     let gone = c.loop-i.invariant.gone in
+    let d = c.index-steps-i.result in
     record {
-      gone = ap Relation c.fails.ensures.next ∙ ap (next_in c.row.result.now.ticks) gone ∙ sym (after-more rows old c.loop-i.i c.row.result.now c.row.ensures);
+      gone = ap Relation c.fails.ensures.next ∙ ap (next_in (get_or rows c.loop-i.i d).ticks) gone ∙ sym (after-more rows old c.loop-i.i d (omega arith));
       obeys = obeys-more rows rows old c.loop-i.i c.loop-i.invariant.obeys
-          (relation-here rows c.args.related.now c.loop-i.i gone c.row.ensures c.fails.ensures.fails ∙ c.if-fails.false);
+          (relation-here rows c.args.related.now c.loop-i.i d (omega arith) gone c.fails.ensures.fails ∙ c.if-fails.false);
     }
 
 pub returns-then-fails : goal.returns-then-fails
@@ -25,7 +26,8 @@ returns-then-fails c = record {
   clocks = refl;
   fails = record {
     inside = omega arith;
-    fails = relation-here c.args.steps.now.rows c.args.related.now c.loop-i.i c.loop-i.invariant.gone c.row.ensures c.fails.ensures.fails ∙ c.if-fails.true;
+    fails = relation-here c.args.steps.now c.args.related.now c.loop-i.i c.index-steps-i.result (omega arith) c.loop-i.invariant.gone c.fails.ensures.fails
+        ∙ c.if-fails.true;
     before = c.loop-i.invariant.obeys;
   };
   none = tt;
@@ -36,7 +38,7 @@ pub returns : goal.returns
 returns c =
     let at : c.args.end ≡ c.loop-i.i = omega arith in
     rw at (record {
-      clocks = ap clocks_of c.loop-i.invariant.gone ∙ clocks-after (take c.loop-i.i c.args.steps.now.rows) (Relation c.args.related.now);
+      clocks = ap clocks_of c.loop-i.invariant.gone ∙ clocks-after (take c.loop-i.i c.args.steps.now) (Relation c.args.related.now);
       fails = tt;
       none = c.loop-i.invariant.obeys;
       next = c.loop-i.invariant.gone;

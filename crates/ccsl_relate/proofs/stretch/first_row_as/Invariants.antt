@@ -6,6 +6,6 @@ use Rattle.ccsl_relate.proofs.stretch.first_row_as.Given as goal
 -- the relation went on by the rows so far, and failed at none
 abbrev pub invariant-loop-i : goal.invariant-loop-i
 invariant-loop-i l = record {
-  gone : Relation l.now ≡ after_steps (take l.i l.steps.rows) (Relation l.related);
-  obeys : ObeysUpTo l.steps.rows l.steps.rows l.i (Relation l.related);
+  gone : Relation l.now ≡ after_steps (take l.i l.steps) (Relation l.related);
+  obeys : ObeysUpTo l.steps l.steps l.i (Relation l.related);
 }

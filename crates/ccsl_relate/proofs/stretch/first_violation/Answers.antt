@@ -1,5 +1,5 @@
-use Rattle.std.proofs.Common.{◌<◌, ◌∙◌, length, arith}
-use Rattle.ccsl_relate.proofs.ByRows.{get-stretch}
+use Rattle.std.proofs.Common.{◌<◌, length, get_or, arith}
+use Rattle.std.proofs.lemmas.Option.{slice_get-get_or}
 use Rattle.ccsl_relate.proofs.Earliest.{far-on, far-found, all-taken}
 use Rattle.ccsl_relate.proofs.stretch.first_violation.Goals as goal
 use Rattle.ccsl_relate.proofs.stretch.first_violation.Goals.{in-None, in-Some}
@@ -15,9 +15,10 @@ loop-i-preserved c =
       | in-Some w ↦
           let row = w.in-Some.row in
           let t = rw w.in-Some.is at c.first_row.ensures in
+          let rows = c.args.rows.now in
           rw (w.end-is, w.first-is)
-          (far-found f inside x row w.row.result.now t
-          (get-stretch c.args.block.now.rows c.args.from (length c.args.steps.now.rows) row (omega (arith, t.fails.inside, f.within)) ∙ w.row.ensures))
+          (far-found f inside x row (get_or rows row w.index-rows-row.result) t
+          (slice_get-get_or rows row w.index-rows-row.result (omega (arith, t.fails.inside, f.within))))
     ]
 
 pub returns : goal.returns

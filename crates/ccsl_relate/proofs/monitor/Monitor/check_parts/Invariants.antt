@@ -6,10 +6,10 @@ use Rattle.ccsl_relate.proofs.monitor.Monitor.check_parts.Given as goal
 
 abbrev pub invariant-parts : goal.invariant-parts
 invariant-parts l = record {
-  within : l.from ≤ length l.block.rows;
+  within : l.from ≤ length l.rows;
   states : IsSome l.self.states;
-  takes : Takes l.fn.self l.self (take l.from l.block.rows);
+  takes : Takes l.fn.self l.self (take l.from l.rows);
 }
 
 abbrev pub decreases-parts : goal.decreases-parts
-decreases-parts l = length l.block.rows - l.from
+decreases-parts l = length l.rows - l.from
