@@ -179,7 +179,12 @@ fn put_name(page: &mut Page, tokens: &[Token], index: usize) -> Result<(), Memor
                 "a relation of your own is called as NAME(a, b); between two clocks stands a word of the language",
             )]),
         },
-        Met::Symbol(b')') => page.put(&[Piece::Text("a `;` is missing before this")]),
+        Met::Number if matches!(before(tokens, index, 2), Met::Word(Reserved::Delayed)) => {
+            page.put(&[Piece::Text("`on` is missing before this")])
+        }
+        Met::Symbol(b')') | Met::Number | Met::Text => {
+            page.put(&[Piece::Text("a `;` is missing before this")])
+        }
         _ => page.put(&[Piece::Text("no name can stand here")]),
     }
 }
