@@ -1,4 +1,5 @@
 -- A monitor that takes a row more, and the step that it completes.
+use Rattle.std.proofs.lemmas.Grind.{common_steps}
 use Rattle.std.proofs.Common.{◌≡◌, ℕ, ◌+◌, ◌<◌, ◌≤◌, ◌^◌, List, [], ◌∷◌, ◌++◌, length, map, get_or, Option, Some, None, true, false, refl, sym, ap, ◌∙◌, subst}
 use Rattle.std.proofs.Common.{arith, length-append}
 use Rattle.std.specs.Prelude.{All}
@@ -18,7 +19,7 @@ use Rattle.ccsl_relate.specs.declared.watched.Watched.{Watched}
 use Rattle.ccsl_relate.specs.declared.watched.Watched.TheVariants.{Nothing}
 use Rattle.ccsl_relate.specs.Few.{HasRoomFor}
 use Rattle.ccsl_relate.specs.Violations.{AreObeyed, Finds}
-use Rattle.ccsl_relate.specs.Watching.{Watching, Keeps, fails_in, next_in, FailsFirst, Follows, StandsFor}
+use Rattle.ccsl_relate.specs.Watching.{Watching, IsUndeclared, Keeps, fails_in, next_in, FailsFirst, Follows, StandsFor}
 use Rattle.ccsl_relate.specs.Reading.{TakeStep}
 use Rattle.ccsl_relate.specs.Completed.{IsCompleted, TakeTicks}
 use Rattle.ccsl_relate.specs.Taking.{MayTake, Takes}
@@ -132,3 +133,18 @@ pub items-have-room : {u v : Watching} {given : List Watched} (n m : ℕ) → n 
     → All (HasRoomFor n) given
 items-have-room {u} {v} {given} n m l value same none w =
     rw value (each-has-room w.0 u w.1 (subst (λ x. StandsFor w.0 x w.1) (sym same) w.2) none n (omega (arith, l, w.3)))
+
+-- the states are those of its system
+pub same-undeclared : {u v : Watching} {p : HeldPart} (undeclared : List ℕ) (n : ℕ) → u ≡ v → u.first ≡ None → u.states ≡ Some p → MayTake v n
+    → IsUndeclared u.system undeclared → IsUndeclared p.system undeclared
+same-undeclared {u} {v} {p} undeclared n same none e w is =
+    let s = subst (λ x. StandsFor w.0 x w.1) (sym same) w.2 in
+    let held = rw e at (s.follows none).states in
+    subst (λ K. IsUndeclared K undeclared) (sym held.0) is
+
+-- there is room for more rows in its count, and for its items among the numbers of items
+pub steps-counted : {u v : Watching} (n m : ℕ) → m ≤ n → u ≡ v → MayTake v n → u.steps + m < 2 ^ 64
+steps-counted {u} {v} n m l same w = let s = subst (λ x. StandsFor w.0 x w.1) (sym same) w.2 in omega (arith, l, s.steps, w.3)
+
+pub items-counted : {u v : Watching} (n : ℕ) → u ≡ v → MayTake v n → u.start + length u.kept < 2 ^ 32
+items-counted {u} {v} n same w = let s = subst (λ x. StandsFor w.0 x w.1) (sym same) w.2 in grind (arith, common_steps, s.items, s.accepted)

@@ -88,17 +88,6 @@ impl<'s> Model for Monitor<'s> {
         × (vec_len m.completed ≡ PART_ROWS) };
 }
 
-// Keeps what was found, where there was nothing before it: most rows write nothing.
-#[inline(always)]
-fn keep(first: &mut Option<Violation>, found: Option<Violation>)
-    requires { found ≡ None → first.old ≡ None }
-    ensures { first.new ≡ found }
-{
-    if found.is_some() {
-        *first = found;
-    }
-}
-
 impl<'s> Monitor<'s> {
     /// Follows `count` items from number `start` on, where these clocks are bound. It takes the states of the
     /// definitions that the items reach, where one of them reads a defined clock, and room for the steps of
@@ -141,7 +130,6 @@ impl<'s> Monitor<'s> {
     fn first_with(&mut self, row: &Row) -> Option<Violation>
         requires { MayTake self.old 1 }
         ensures steps { self.new.steps ≡ self.old.steps }
-        ensures none { result ≡ None → self.new.first ≡ None }
         ensures takes { Takes self.old
             (record self.new { steps = self.new.steps + 1; first = result }) (row.now ∷ []) }
     {
@@ -172,7 +160,7 @@ impl<'s> Monitor<'s> {
         ensures { Takes self.old self.new (row.now ∷ []) }
     {
         let found = self.first_with(row);
-        keep(&mut self.first, found);
+        self.first = found;
         self.steps += 1;
     }
 
@@ -180,8 +168,7 @@ impl<'s> Monitor<'s> {
     fn rest(&mut self, rows: &[Row])
         requires violated { IsSome self.old.first }
         requires few { MayTake self.old (length rows.now) }
-        ensures states { self.new.states ≡ self.old.states }
-        ensures takes { Takes self.old self.new rows.now }
+        ensures { Takes self.old self.new rows.now }
     {
         rows_are_sets(rows);
         self.steps += rows.len() as u64;
@@ -204,15 +191,12 @@ impl<'s> Monitor<'s> {
     // Takes at most [`PART_ROWS`] rows as the next ones, item by item, once the steps that they complete are found.
     fn check_part(&mut self, rows: &[Row])
         requires part { length rows.now ≤ PART_ROWS }
+        requires none { self.old.first ≡ None }
         requires states { IsSome self.old.states }
         requires few { MayTake self.old (length rows.now) }
         ensures states { IsSome self.new.states }
         ensures takes { Takes self.old self.new rows.now }
     {
-        if self.first().is_some() {
-            self.rest(rows);
-            return;
-        }
         rows_are_sets(rows);
         let Some(states) = &mut self.states else {
             unreachable!();
@@ -234,9 +218,23 @@ impl<'s> Monitor<'s> {
     {
         let mut from = 0;
         'parts: while from < rows.len() {
+            if self.first().is_some() {
+                self.rest(&rows[from..]);
+                return;
+            }
             let count = (rows.len() - from).min(PART_ROWS);
             self.check_part(&rows[from..from + count]);
             from += count;
+        }
+    }
+
+    // Takes rows as the next ones, row by row.
+    fn check_each(&mut self, rows: &[Row])
+        requires { MayTake self.old (length rows.now) }
+        ensures { Takes self.old self.new rows.now }
+    {
+        for i in 0..rows.len() {
+            self.check_row(&rows[i]);
         }
     }
 
@@ -245,20 +243,11 @@ impl<'s> Monitor<'s> {
         requires { MayTake self.old (length rows.now) }
         ensures { Takes self.old self.new rows.now }
     {
-        if self.first().is_some() {
-            self.rest(rows);
-            return;
-        }
-        if self.readers.is_none() {
-            if self.states.is_none() {
-                self.check_items(rows);
-            } else {
-                self.check_parts(rows);
-            }
-            return;
-        }
-        for i in 0..rows.len() {
-            self.check_row(&rows[i]);
+        match (self.first, &self.readers, &self.states) {
+            (Some(_), _, _) => self.rest(rows),
+            (None, None, None) => self.check_items(rows),
+            (None, None, Some(_)) => self.check_parts(rows),
+            (None, Some(_), _) => self.check_each(rows),
         }
     }
 

@@ -1,5 +1,7 @@
 use Rattle.std.proofs.Common.{◌+◌, ◌<◌, ◌∷◌, length, sym, ◌∙◌, subst, arith}
+use Rattle.ccsl_base.proofs.Sets.{first-ticks}
 use Rattle.ccsl_relate.specs.declared.watched.Watched.TheVariants.{Nothing}
+use Rattle.ccsl_relate.specs.Few.{HasRoom}
 use Rattle.ccsl_relate.proofs.Ranges.{clocks-set}
 use Rattle.ccsl_relate.proofs.Walking.{Walks, walk-inside, walk-fails, walk-more, walk-done}
 use Rattle.ccsl_relate.proofs.touched.first_at.Goals as goal
@@ -23,6 +25,14 @@ offset_bounds-kept-at c = omega (arith, inside c, c.requires.few)
 
 pub bounds-kept-at : goal.bounds-kept-at
 bounds-kept-at c = omega (arith, inside c, c.loop-place.auto.kept)
+
+pub fails-requires : goal.fails-requires
+fails-requires c =
+    let e = (goal.at.fails-requires c).In-Some in
+    let at = c.args.start + c.in-Some.place in
+    let w = walks e in
+    subst HasRoom (sym (w.on.rest at Nothing (w.behind c.in-Some.place (first-ticks c.in-Some.place c.next.new.self))))
+    (c.requires.room at Nothing (omega arith) (inside e))
 
 pub returns-then-fails-clause-clocks : goal.returns-then-fails-clause-clocks
 returns-then-fails-clause-clocks c =

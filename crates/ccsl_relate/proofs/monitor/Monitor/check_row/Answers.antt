@@ -5,7 +5,5 @@ use Rattle.ccsl_relate.proofs.monitor.Monitor.check_row.Goals as goal
 
 pub returns : goal.returns
 returns c =
-    let found = c.first_with-found.result in
-    rw c.keep.ensures
-    (subst (λ (v : Watching). Takes c.args.self.now (record v { steps = v.steps + 1; first = found }) (c.args.row.now ∷ [])) (sym c.self.view_is)
-    c.first_with-found.ensures.takes)
+    subst (λ (v : Watching). Takes c.args.self.now (record v { steps = v.steps + 1; first = c.first_with-found.result }) (c.args.row.now ∷ []))
+    (sym c.self.view_is) c.first_with-found.ensures.takes

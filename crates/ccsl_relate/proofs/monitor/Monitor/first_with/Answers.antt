@@ -2,7 +2,7 @@ use Rattle.std.proofs.Common.{◌≡◌, ◌+◌, Some, None, refl, sym, ap, ◌
 use Rattle.ccsl_base.proofs.Cases.{none-of}
 use Rattle.ccsl_relate.specs.Watching.{Watching}
 use Rattle.ccsl_relate.proofs.History.{one-set}
-use Rattle.ccsl_relate.proofs.Passing.{row-taken, items-have-room}
+use Rattle.ccsl_relate.proofs.Passing.{row-taken, items-have-room, same-undeclared, items-counted}
 use Rattle.ccsl_relate.proofs.Ranges.{fit-on}
 use Rattle.ccsl_relate.proofs.Resting.{rests}
 use Rattle.ccsl_relate.proofs.Undeclared.{some-of}
@@ -51,3 +51,10 @@ invariant_of-self-2 c = (
       c.self.invariant.1,
   c.self.invariant.2,
 )
+
+pub first_violated-requires-clause-undeclared : goal.first_violated-requires-clause-undeclared
+first_violated-requires-clause-undeclared c = λ p e.
+    same-undeclared c.self.inside.undeclared 1 c.self.view_is (none (goal.at.first_violated-requires-clause-undeclared c).Else-is_some) e c.requires c.self.invariant.0
+
+pub first_violated-requires-clause-few : goal.first_violated-requires-clause-few
+first_violated-requires-clause-few c = rw c.as_mut_slice-kept.ensures.value (omega (arith, items-counted 1 c.self.view_is c.requires))

@@ -1,7 +1,7 @@
 use Rattle.std.proofs.Common.{arith, length-take-le}
 use Rattle.std.proofs.lemmas.List.{take_more, take_all}
 use Rattle.ccsl_relate.proofs.Blocks.{takes-both, may-take-on}
-use Rattle.ccsl_relate.proofs.monitor.Monitor.check_rows.Goals as goal
+use Rattle.ccsl_relate.proofs.monitor.Monitor.check_each.Goals as goal
 
 pub loop-i-preserved : goal.loop-i-preserved
 loop-i-preserved c =
