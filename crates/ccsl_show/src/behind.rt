@@ -6,18 +6,15 @@ ghost use Rattle.ccsl_edge.specs.Counts.{SameCounts};
 ghost use Rattle.ccsl_follow.specs.OnlyReads.{OnlyReads};
 
 use crate::case::Case;
-use crate::picture::put_picture;
 use crate::said::Said;
-use crate::save_file::{write_file, write_save_file};
 use crate::text::show_refused;
 use crate::traced::{Files, put_once, show_trace};
-use crate::view::View;
-use crate::waves::write_waves;
 use ccsl_base::HashKeys;
 use ccsl_command::Command;
 use ccsl_edge::World;
 use ccsl_follow::{Stop, Understood, read_text, understand};
 use ccsl_page::{Page, Piece};
+use ccsl_waves::{View, write_picture, write_save_file, write_waves};
 use std::alloc::Global;
 
 /// Which of the files may be read once more. A pipe may not.
@@ -88,12 +85,18 @@ fn write_viewed<W: World, O: World>(
     let Some(file) = asking.own.waves else {
         return Ok(());
     };
-    let timescale = match &view.timescale {
-        Some(text) => Some(text.as_slice()),
-        None => None,
-    };
-    write_waves(asking.keys, world, out, case, trace, timescale, file)?;
-    write_save_file(case.alloc, out, case.system, file, view)?;
+    let alloc = case.alloc;
+    write_waves(
+        alloc,
+        asking.keys,
+        world,
+        out,
+        case.system,
+        view,
+        trace,
+        file,
+    )?;
+    write_save_file(alloc, out, case.system, file, view)?;
     page.put_line(&[
         Piece::Text("  waves: gtkwave "),
         Piece::Text(file),
@@ -117,9 +120,7 @@ fn write_drawn<O: World>(
     let Some(file) = asking.own.picture else {
         return Ok(());
     };
-    let mut drawing = Page::new(case.alloc);
-    put_picture(&mut drawing, case.alloc, case.system, view)?;
-    write_file(out, file, drawing.bytes())?;
+    write_picture(case.alloc, out, case.system, view, file)?;
     page.put_line(&[Piece::Text("  picture: "), Piece::Text(file)])?;
     Ok(())
 }

@@ -8,7 +8,6 @@ ghost use Rattle.ccsl_follow.specs.OnlyReads.{OnlyReads};
 use crate::case::Case;
 use crate::clocks::{put_clocks, put_silent};
 use crate::fault::put_fault;
-use crate::view::{View, header_scale};
 use ccsl_base::{ClockSet, HashKeys, MAX_CLOCKS, Memory};
 use ccsl_causes::put_pending;
 use ccsl_edge::World;
@@ -16,6 +15,7 @@ use ccsl_follow::{Follow, Stop, Until, followed, read_header};
 use ccsl_kernel::System;
 use ccsl_page::{Page, put_ticks};
 use ccsl_scopes::Header;
+use ccsl_waves::{View, header_scale};
 
 /// The most steps that are drawn in front of the one at fault.
 const DRAWN: usize = 10;

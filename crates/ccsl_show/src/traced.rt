@@ -12,11 +12,11 @@ use crate::cited::{put_bad_line, put_blocking, put_cited, read_cert};
 use crate::judged::{show_broken, show_run};
 use crate::refused_trace::show_refused_trace;
 use crate::said::{Named, Said};
-use crate::view::View;
 use ccsl_base::{HashKeys, Memory};
 use ccsl_edge::World;
 use ccsl_follow::{Stop, read_header};
 use ccsl_page::{Page, Piece};
+use ccsl_waves::View;
 
 /// The files of an answer, by their names, and which of them can be read once more.
 #[derive(Clone, Copy)]

@@ -81,7 +81,7 @@ fn put_save_file(page: &mut Page, system: &System, file: &str, view: &View) -> R
     Ok(())
 }
 
-/// Writes a file whole.
+// Writes a file whole.
 pub(crate) fn write_file<O: World>(out: &mut O, name: &str, bytes: &[u8]) -> Result<(), Stop>
     requires { O.allows CertOut name.now }
 {
@@ -91,8 +91,8 @@ pub(crate) fn write_file<O: World>(out: &mut O, name: &str, bytes: &[u8]) -> Res
     Ok(())
 }
 
-/// Writes the save file beside a trace for a viewer.
-pub(crate) fn write_save_file<O: World>(
+/// Writes the file by which gtkwave shows a view of a trace, beside the trace for it: its name ends in `.gtkw`.
+pub fn write_save_file<O: World>(
     alloc: Global,
     out: &mut O,
     system: &System,

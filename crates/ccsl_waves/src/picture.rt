@@ -1,9 +1,14 @@
 //! Ticks as a drawing.
 
+ghost use Rattle.ccsl_edge.specs.declared.slot.Slot.TheVariants.{CertOut};
+
 use crate::drawing::{put_path, put_rect, put_text};
+use crate::save_file::write_file;
 use crate::view::View;
 use ccsl_base::Memory;
 use ccsl_causes::clock_name;
+use ccsl_edge::World;
+use ccsl_follow::Stop;
 use ccsl_kernel::System;
 use ccsl_page::{Column, Page, Piece, Scale};
 use std::alloc::Global;
@@ -161,14 +166,8 @@ fn put_field(page: &mut Page, view: &View, list: &[Drawn], height: u64) -> Resul
     Ok(())
 }
 
-/// Puts the columns and rows of a view as a drawing in SVG. Computed clocks are blue and broken lines, recorded ones
-/// dark; the marked step stands on a field.
-pub(crate) fn put_picture(
-    page: &mut Page,
-    alloc: Global,
-    system: &System,
-    view: &View,
-) -> Result<(), Memory> {
+// The columns and rows of a view.
+fn put_picture(page: &mut Page, alloc: Global, system: &System, view: &View) -> Result<(), Memory> {
     let margin = margin_of(system, view.rows.as_slice());
     let columns = view.columns.as_slice();
     let list = all_drawn(alloc, columns, view.scale, margin)?;
@@ -184,4 +183,20 @@ pub(crate) fn put_picture(
         put_row(page, system, *clock, line_of(i), columns, list.as_slice())?;
     }
     page.put_line(&[Piece::Text("</svg>")])
+}
+
+/// Writes the columns and rows of a view as a drawing in SVG. Computed clocks are blue and broken lines, recorded ones
+/// dark; the marked step stands on a field.
+pub fn write_picture<O: World>(
+    alloc: Global,
+    out: &mut O,
+    system: &System,
+    view: &View,
+    file: &str,
+) -> Result<(), Stop>
+    requires { O.allows CertOut file.now }
+{
+    let mut drawing = Page::new(alloc);
+    put_picture(&mut drawing, alloc, system, view)?;
+    write_file(out, file, drawing.bytes())
 }

@@ -1,4 +1,4 @@
-//! What was drawn of a trace, for other drawings of it.
+//! What is drawn of a trace.
 
 use ccsl_base::Memory;
 use ccsl_follow::{Follow, scale_of};
@@ -6,20 +6,19 @@ use ccsl_page::{Column, Scale};
 use ccsl_scopes::Header;
 use std::alloc::Global;
 
-/// The clocks and steps that were drawn, with the unit of time of the trace, and the one in which their times were
-/// shown.
+/// Some clocks and steps of a trace, with its unit of time, and the one in which the times of the steps are shown.
 #[derive(Drop)]
-pub(crate) struct View {
-    pub(crate) rows: Vec<u32>,
-    pub(crate) columns: Vec<Column>,
-    pub(crate) scale: Scale,
-    pub(crate) timescale: Option<Vec<u8>>,
+pub struct View {
+    pub rows: Vec<u32>,
+    pub columns: Vec<Column>,
+    pub scale: Scale,
+    pub timescale: Option<Vec<u8>>,
     /// the step at fault, and its time
-    pub(crate) marked: Option<(u64, u64)>,
+    pub marked: Option<(u64, u64)>,
 }
 
 /// The unit of time of a trace, if its header was read.
-pub(crate) fn header_scale(header: Option<&Header>) -> Scale {
+pub fn header_scale(header: Option<&Header>) -> Scale {
     match header {
         Some(header) => scale_of(header),
         None => Scale::BARE,
@@ -50,7 +49,7 @@ fn fitted(alloc: Global, scale: Scale, columns: &[Column]) -> Result<Scale, Memo
 
 impl View {
     /// These clocks and steps of a trace with this header.
-    pub(crate) fn new(
+    pub fn new(
         alloc: Global,
         rows: Vec<u32>,
         columns: Vec<Column>,
@@ -71,7 +70,7 @@ impl View {
     }
 
     /// The step at fault.
-    pub(crate) fn marked_step(&self) -> Option<u64> {
+    pub fn marked_step(&self) -> Option<u64> {
         match self.marked {
             Some((step, _)) => Some(step),
             None => None,

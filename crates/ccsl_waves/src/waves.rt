@@ -4,9 +4,9 @@ ghost use Rattle.std.specs.Prelude.{OnOk};
 ghost use Rattle.ccsl_edge.specs.declared.slot.Slot.TheVariants.{Trace, TraceOut};
 ghost use Rattle.ccsl_edge.specs.Counts.{SameCounts};
 ghost use Rattle.ccsl_follow.specs.OnlyReads.{OnlyReads};
-ghost use Rattle.ccsl_show.specs.Writing.{IsOpen};
+ghost use Rattle.ccsl_waves.specs.Writing.{IsOpen};
 
-use crate::case::Case;
+use crate::view::View;
 use ccsl_base::{Block, ClockSet, HashKeys, MAX_CLOCKS, Memory};
 use ccsl_causes::clock_name;
 use ccsl_edge::{Slot, World, write_all};
@@ -15,6 +15,7 @@ use ccsl_follow::reading::open_file;
 use ccsl_follow::{Steps, Stop};
 use ccsl_kernel::System;
 use ccsl_page::{Page, Piece};
+use std::alloc::Global;
 
 /// How many bytes are written at once.
 const FULL: usize = 65_536;
@@ -40,11 +41,11 @@ fn put_variable(page: &mut Page, system: &System, clock: u32) -> Result<(), Memo
     ])
 }
 
-fn put_header(page: &mut Page, system: &System, timescale: Option<&[u8]>) -> Result<(), Memory> {
-    if let Some(timescale) = timescale {
+fn put_header(page: &mut Page, system: &System, view: &View) -> Result<(), Memory> {
+    if let Some(timescale) = &view.timescale {
         page.put_line(&[
             Piece::Text("$timescale "),
-            Piece::Name(timescale),
+            Piece::Name(timescale.as_slice()),
             Piece::Text(" $end"),
         ])?;
     }
@@ -109,10 +110,11 @@ fn all_clocks(system: &System) -> ClockSet {
 
 // Writes the steps of the trace that is open.
 fn write_steps<W: World, O: World>(
+    alloc: Global,
     keys: HashKeys,
     world: &mut W,
     out: &mut O,
-    case: &Case<'_>,
+    system: &System,
     page: &mut Page,
 ) -> Result<(), Stop>
     requires open { IsOpen (O.state out.old) }
@@ -120,8 +122,8 @@ fn write_steps<W: World, O: World>(
     ensures reads { OnlyReads (W.state world.old) (W.state world.new) }
     ensures calm { OnOk result (SameCounts (W.state world.old) (W.state world.new)) }
 {
-    let mut steps = Steps::open(case.alloc, case.system, &all_clocks(case.system))?;
-    let mut feed = open_feed(case.alloc, keys, world, case.system)?;
+    let mut steps = Steps::open(alloc, system, &all_clocks(system))?;
+    let mut feed = open_feed(alloc, keys, world, system)?;
     for _ in 0..u64::MAX {
         let more = next_rows(&mut feed, world)?;
         put_block(out, page, &mut steps, feed.block())?;
@@ -132,14 +134,16 @@ fn write_steps<W: World, O: World>(
     Ok(())
 }
 
-/// Writes the steps of a trace with all clocks, as events at their times.
-pub(crate) fn write_waves<W: World, O: World>(
+/// Writes the steps of a trace with all clocks, the computed ones too, as events at their times, in the unit of time
+/// that a view has.
+pub fn write_waves<W: World, O: World>(
+    alloc: Global,
     keys: HashKeys,
     world: &mut W,
     out: &mut O,
-    case: &Case<'_>,
+    system: &System,
+    view: &View,
     trace: &str,
-    timescale: Option<&[u8]>,
     file: &str,
 ) -> Result<(), Stop>
     requires trace { W.allows Trace trace.now }
@@ -149,9 +153,9 @@ pub(crate) fn write_waves<W: World, O: World>(
 {
     open_file(world, Slot::Trace, trace)?;
     out.open_out(Slot::TraceOut, file)?;
-    let mut page = Page::new(case.alloc);
-    put_header(&mut page, case.system, timescale)?;
-    write_steps(keys, world, out, case, &mut page)?;
+    let mut page = Page::new(alloc);
+    put_header(&mut page, system, view)?;
+    write_steps(alloc, keys, world, out, system, &mut page)?;
     out.close_out(Slot::TraceOut)?;
     Ok(())
 }

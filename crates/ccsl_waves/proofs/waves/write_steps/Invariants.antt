@@ -2,8 +2,8 @@
 use Rattle.ccsl_edge.specs.Counts.{SameCounts}
 use Rattle.ccsl_follow.specs.Fed.{IsFed}
 use Rattle.ccsl_follow.specs.OnlyReads.{OnlyReads}
-use Rattle.ccsl_show.specs.Writing.{IsOpen}
-use Rattle.ccsl_show.proofs.waves.write_steps.Given as goal
+use Rattle.ccsl_waves.specs.Writing.{IsOpen}
+use Rattle.ccsl_waves.proofs.waves.write_steps.Given as goal
 
 abbrev pub invariant-loop : goal.invariant-loop
 invariant-loop g l = record {
