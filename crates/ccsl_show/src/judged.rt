@@ -8,65 +8,16 @@ ghost use Rattle.ccsl_follow.specs.OnlyReads.{OnlyReads};
 use crate::case::Case;
 use crate::clocks::{put_clocks, put_silent};
 use crate::fault::put_fault;
-use ccsl_base::{ClockSet, HashKeys, MAX_CLOCKS, Memory};
+use ccsl_base::{ClockSet, HashKeys, Memory};
 use ccsl_causes::put_pending;
 use ccsl_edge::World;
 use ccsl_follow::{Follow, Stop, Until, followed, read_header};
-use ccsl_kernel::System;
 use ccsl_page::{Page, put_ticks};
 use ccsl_scopes::Header;
-use ccsl_waves::{View, header_scale};
+use ccsl_waves::{View, clocks_of, header_scale, rows_of, set_of};
 
 /// The most steps that are drawn in front of the one at fault.
 const DRAWN: usize = 10;
-
-/// The most clocks that are drawn.
-const ROWS: usize = 16;
-
-// The clocks that an item names itself.
-fn clocks_of(system: &System, item: u32) -> ClockSet {
-    let mut clocks = ClockSet::empty();
-    if item < system.definitions() {
-        let clock = system.scope().declared.saturating_add(item);
-        if clock < MAX_CLOCKS {
-            clocks.insert(clock);
-        }
-        return clocks;
-    }
-    let number = item - system.definitions();
-    if number < system.constraints() {
-        let constraint = system.constraint(number);
-        if constraint.left < MAX_CLOCKS && constraint.right < MAX_CLOCKS {
-            clocks.insert(constraint.left);
-            clocks.insert(constraint.right);
-        }
-    }
-    clocks
-}
-
-// The clocks that are drawn for an item: those that it names, and behind them all that their definitions lead to.
-fn rows_of(case: &Case<'_>, own: &ClockSet, followed: &ClockSet) -> Result<Vec<u32>, Memory> {
-    let mut rows = Vec::new(case.alloc);
-    for clock in own.members() {
-        rows.push(clock)?;
-    }
-    for clock in followed.members() {
-        if rows.len() < ROWS && !own.has(clock) {
-            rows.push(clock)?;
-        }
-    }
-    Ok(rows)
-}
-
-fn set_of(rows: &[u32]) -> ClockSet {
-    let mut set = ClockSet::empty();
-    for clock in rows {
-        if *clock < MAX_CLOCKS {
-            set.insert(*clock);
-        }
-    }
-    set
-}
 
 // What is shown of an item that is violated at the step at which a trace was left.
 fn put_broken(
@@ -77,7 +28,7 @@ fn put_broken(
     follow: &Follow<'_>,
     header: Option<&Header>,
 ) -> Result<View, Memory> {
-    let rows = rows_of(case, own, follow.followed())?;
+    let rows = rows_of(case.alloc, own, follow.followed())?;
     let columns = follow.window(&set_of(rows.as_slice()), DRAWN)?;
     let view = View::new(case.alloc, rows, columns, header, follow)?;
     let marked = view.marked_step();
