@@ -1,11 +1,12 @@
 -- What the sets of a group tell.
 use Rattle.std.proofs.lemmas.Grind.{common_steps}
-use Rattle.std.proofs.Common.{◌≡◌, ℕ, ◌+◌, ◌*◌, ◌<◌, List, [], ◌∷◌, Bool, true, false, ◌||◌, ◌&&◌, nat_eq, nat_lt, map, length, get_or}
-use Rattle.std.proofs.Common.{slice_set, refl, sym, ap, ap₂, ◌∙◌, arith}
+use Rattle.std.proofs.Common.{◌≡◌, ℕ, ◌+◌, ◌*◌, ◌<◌, List, [], ◌∷◌, ◌++◌, Bool, true, false, ◌||◌, ◌&&◌, nat_eq, nat_lt, map, length, get_or}
+use Rattle.std.proofs.Common.{slice_set, refl, sym, ap, ap₂, ◌∙◌, arith, length-append}
 use Rattle.std.specs.List.{list_any}
 use Rattle.std.proofs.Common.{not}
 use Rattle.std.proofs.Math.Bool.{or-false, and-false}
-use Rattle.std.proofs.Math.ListN.{get_or-map}
+use Rattle.std.proofs.Math.ListN.{get_or-map, get_or-append}
+use Rattle.std.proofs.Math.Seq.{get_or-append_seam}
 use Rattle.std.proofs.lemmas.List.{get_or_default, get_or_past, get_or-set_same, get_or-set_other, length-map}
 use Rattle.ccsl_base.specs.declared.limits.TheConstants.{MAX_CLOCKS}
 use Rattle.ccsl_base.specs.Clocks.{ticks_in, with_clock}
@@ -103,3 +104,8 @@ pub touches-both : (ticks : List ℕ) (s : Step) (start : ℕ) (group : List (Li
     → ((p : ℕ) → ticks_in p touched ≡ (ticks_in p mid || told_at group ticks p)) → Touches ticks s touched start kept
 touches-both ticks s start group mid touched kept t first second =
     touches-told ticks s ticks start group touched kept (λ x _ r. r) t (λ p. second p ∙ ap (λ b. b || told_at group ticks p) (first p))
+
+-- one group more
+pub one-group-more : {start : ℕ} {groups : List (List (List ℕ))} {read : List (List ℕ)} (group : List (List ℕ)) → AreSoFar start groups read
+    → TellsFrom start group read → start < length read → AreSoFar (start + MAX_CLOCKS) (groups ++ group ∷ []) read
+one-group-more {start} {groups} {read} group f t l = grind (arith, common_steps, length-append, get_or-append, get_or-append_seam)
