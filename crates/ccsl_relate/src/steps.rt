@@ -61,8 +61,8 @@ fn next_step(states: &mut Part<'_>, undeclared: &ClockSet, ticks: &ClockSet, ste
     states.go_on(step);
 }
 
-/// Puts what is known of the steps that some rows complete into the ticks of as many others, which have no times of their
-/// own. The states go on by them.
+/// Puts what is known of the steps that some rows complete into the ticks of as many others, which have no times of
+/// their own. The states go on by them.
 pub(crate) fn complete(
     states: &mut Part<'_>,
     undeclared: &ClockSet,

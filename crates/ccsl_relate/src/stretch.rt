@@ -86,9 +86,9 @@ fn first_row(watched: &mut Watched, rows: &[Row], steps: &[Row], end: usize) -> 
     }
 }
 
-/// The first violation of some items, of which the first one has number `start`, in some rows. Each has a step beside it,
-/// what is known of the one that it completes, and so many others came before them. Where no item fails, all go on by the
-/// steps.
+/// The first violation of some items, of which the first one has number `start`, in some rows. Each has a step beside
+/// it, what is known of the one that it completes, and so many others came before them. Where no item fails, all go on
+/// by the steps.
 pub(crate) fn first_violation(
     kept: &mut [Watched],
     rows: &[Row],

@@ -6,8 +6,8 @@
 //!     write_save_file(alloc, &mut out, &system, "all.vcd", &view)?;      // all.vcd.gtkw, for gtkwave
 //!     write_picture(alloc, &mut out, &system, &view, "all.svg")?;
 //!
-//! `rows` are the clocks, `columns` the steps that are shown, by `follow` and the `header` of the trace. A time is in the
-//! trace's own unit. An error is want of memory, or what the world answers to a call: a file is then left unfinished.
+//! `rows` are the clocks, `columns` the steps that are shown, by `follow` and the `header` of the trace. A time is in
+//! the trace's own unit. An error is want of memory, or what the world answers to a call: a file is then unfinished.
 //!
 //! Proved: it is safe, ends, and of the world of the trace it only reads. Only tested: what is written, by the stored
 //! answers of `tests/shown`. ccsl_show calls it.

@@ -12,5 +12,6 @@ invariant-loop-i l = record {
   undeclared : IsUndeclared l.states.system l.undeclared;
   room : length l.completed ≡ length l.fn.completed;
   completes : (K : System) (T : List Step) → AreAfter K (Some l.fn.states) T → length T + length l.rows < 2 ^ 64
-      → Completes K T (Some l.fn.states) (take l.i l.rows) (take l.i l.completed) (Some l.states) × AreAfter K (Some l.states) (with_steps K T (take l.i l.rows));
+      → Completes K T (Some l.fn.states) (take l.i l.rows) (take l.i l.completed) (Some l.states)
+      × AreAfter K (Some l.states) (with_steps K T (take l.i l.rows));
 }

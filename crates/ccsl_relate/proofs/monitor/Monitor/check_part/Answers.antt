@@ -41,7 +41,8 @@ invariant_of-self c = (
 
 pub complete-requires-clause-undeclared : goal.complete-requires-clause-undeclared
 complete-requires-clause-undeclared c =
-    same-undeclared c.self.inside.undeclared _ c.self.view_is (ap (λ (u : Watching). u.first) c.self.view_is ∙ c.requires.none) c.in-Some.is c.requires.few c.self.invariant.0
+    let first = ap (λ (u : Watching). u.first) c.self.view_is ∙ c.requires.none in
+    same-undeclared c.self.inside.undeclared _ c.self.view_is first c.in-Some.is c.requires.few c.self.invariant.0
 
 pub complete-requires-clause-room : goal.complete-requires-clause-room
 complete-requires-clause-room c = omega (arith, c.as_mut_slice-completed.ensures.len, c.self.invariant.2, c.requires.part)

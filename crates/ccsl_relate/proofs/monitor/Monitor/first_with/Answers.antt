@@ -54,7 +54,8 @@ invariant_of-self-2 c = (
 
 pub first_violated-requires-clause-undeclared : goal.first_violated-requires-clause-undeclared
 first_violated-requires-clause-undeclared c = λ p e.
-    same-undeclared c.self.inside.undeclared 1 c.self.view_is (none (goal.at.first_violated-requires-clause-undeclared c).Else-is_some) e c.requires c.self.invariant.0
+    let first = none (goal.at.first_violated-requires-clause-undeclared c).Else-is_some in
+    same-undeclared c.self.inside.undeclared 1 c.self.view_is first e c.requires c.self.invariant.0
 
 pub first_violated-requires-clause-few : goal.first_violated-requires-clause-few
 first_violated-requires-clause-few c = rw c.as_mut_slice-kept.ensures.value (omega (arith, items-counted 1 c.self.view_is c.requires))
