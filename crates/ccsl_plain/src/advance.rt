@@ -1,6 +1,6 @@
 //! The course of an expression after one more step.
 
-ghost use Rattle.std.specs.Prelude.{◌≡◌, ℕ, Bool, IfOk, length};
+ghost use Rattle.std.specs.Prelude.{◌≡◌, ℕ, Bool, [], ◌∷◌, ◌++◌, IfOk, length};
 ghost use Rattle.ccsl_plain.specs.Course.{next, opening, tick_of};
 ghost use Rattle.ccsl_plain.specs.Held.{held, gone_in, IsReady};
 
@@ -20,6 +20,7 @@ pub struct Moved<'s> {
 
 /// The course after a step, where the deaths at the position `at` are those after it. A `then` whose left side has died
 /// is its right side, born now.
+#[cycle(advance)]
 pub fn advanced<'s>(
     alloc: Global,
     system: &'s System,
@@ -48,37 +49,21 @@ pub fn advanced<'s>(
             course: Course::Never,
             tick: false,
         }),
-        Course::Unary(operator, a, mut ticks) => {
+        Course::Unary(operator, a, ticks) => {
             let open = operator.is_open(words, &ticks);
-            let Moved { course: a, tick } = advanced(
-                alloc,
-                system,
-                Box::into_inner(a),
-                step,
-                deaths,
-                at,
-            )?;
-            ticks.push(tick)?;
+            let a = operand_advanced(alloc, system, a, ticks, step, deaths, at)?;
             Ok(Moved {
-                course: Course::Unary(operator, Box::new(alloc, a)?, ticks),
-                tick: open && tick,
+                course: Course::Unary(operator, a.course, a.ticks),
+                tick: open && a.tick,
             })
         }
-        Course::Binary(operator, a, mut p, d, mut q) => {
+        Course::Binary(operator, a, p, d, q) => {
             let connective = operator.connective(&p, &q);
-            let Moved {
-                course: a,
-                tick: left,
-            } = advanced(alloc, system, Box::into_inner(a), step, deaths, at)?;
-            let Moved {
-                course: d,
-                tick: right,
-            } = advanced(alloc, system, Box::into_inner(d), step, deaths, at)?;
-            p.push(left)?;
-            q.push(right)?;
+            let a = operand_advanced(alloc, system, a, p, step, deaths, at)?;
+            let d = operand_advanced(alloc, system, d, q, step, deaths, at)?;
             Ok(Moved {
-                course: Course::Binary(operator, Box::new(alloc, a)?, p, Box::new(alloc, d)?, q),
-                tick: connective.ticks(left, right),
+                course: Course::Binary(operator, a.course, a.ticks, d.course, d.ticks),
+                tick: connective.ticks(a.tick, d.tick),
             })
         }
         Course::Then(a, d, values) => {
@@ -91,6 +76,7 @@ pub fn advanced<'s>(
                 at,
             )?;
             if a.is_dead(words, deaths, at) {
+                drop(a);
                 let course = opened(alloc, system, system.groups().len(), d, &values)?;
                 Ok(Moved { course, tick })
             } else {
@@ -99,4 +85,45 @@ pub fn advanced<'s>(
             }
         }
     }
+}
+
+/// An operand after a step, at which steps it ticked, and whether in this one.
+#[derive(Drop)]
+struct Operand<'s> {
+    course: Box<Course<'s>>,
+    ticks: Vec<bool>,
+    tick: bool,
+}
+
+// An operand after a step, with its tick behind those before. It is boxed where it is made: to the prover, an early return
+// then drops it by a single call.
+#[cycle(advance)]
+fn operand_advanced<'s>(
+    alloc: Global,
+    system: &'s System,
+    a: Box<Course<'s>>,
+    mut ticks: Vec<bool>,
+    step: &ClockSet,
+    deaths: &Deaths,
+    at: usize,
+) -> Result<Operand<'s>, Memory>
+    requires { IsReady system.now.words (held system.now.words a.value) }
+    ensures tick { IfOk result (λ o. (gone : ℕ → Bool) →
+        o.tick ≡ tick_of step.now gone (held system.now.words a.entry.value)) }
+    ensures ticks { IfOk result (λ o. o.ticks.items ≡ ticks.items ++ o.tick ∷ []) }
+    ensures next { IfOk result (λ o. (gone : ℕ → Bool) →
+        held system.now.words o.course.value ≡
+        next system.now step.now gone (gone_in deaths.now at)
+        (held system.now.words a.entry.value)) }
+    ensures ready { IfOk result (λ o.
+        IsReady system.now.words (held system.now.words o.course.value)) }
+{
+    let Moved { course, tick } = advanced(alloc, system, Box::into_inner(a), step, deaths, at)?;
+    let course = Box::new(alloc, course)?;
+    ticks.push(tick)?;
+    Ok(Operand {
+        course,
+        ticks,
+        tick,
+    })
 }

@@ -90,23 +90,20 @@ fn over_one<'s>(alloc: Global, row: Unary, a: Course<'s>) -> Result<Course<'s>, 
     Ok(Course::Unary(row, Box::new(alloc, a)?, Vec::new(alloc)))
 }
 
-// An operator of two operands that have not ticked yet.
+// An operator of two operands that have not ticked yet. The left one is boxed where it is made: to the prover, an early
+// return then drops it by a single call.
 fn over_two<'s>(
     alloc: Global,
     row: Binary,
-    a: Course<'s>,
+    a: Box<Course<'s>>,
     d: Course<'s>,
 ) -> Result<Course<'s>, Memory>
     ensures { IfOk result (λ c. (words : List BinaryWord) →
-        held words c ≡ CBinary (binary_row row) (held words a.entry) (held words d.entry) [] []) }
+        held words c ≡
+        CBinary (binary_row row) (held words a.entry.value) (held words d.entry) [] []) }
 {
-    Ok(Course::Binary(
-        row,
-        Box::new(alloc, a)?,
-        Vec::new(alloc),
-        Box::new(alloc, d)?,
-        Vec::new(alloc),
-    ))
+    let d = Box::new(alloc, d)?;
+    Ok(Course::Binary(row, a, Vec::new(alloc), d, Vec::new(alloc)))
 }
 
 /// The course of an expression under actual parameters, through at most `level` calls one in another.
@@ -144,7 +141,7 @@ pub fn opened<'s>(
         }
         Expr::Never => Ok(Course::Never),
         Expr::Binary(op, a, d) => {
-            let left = opened(alloc, system, level, a, actuals)?;
+            let left = Box::new(alloc, opened(alloc, system, level, a, actuals)?)?;
             match operator_row(*op) {
                 Some(row) => {
                     let right = opened(alloc, system, level, d, actuals)?;
@@ -152,7 +149,7 @@ pub fn opened<'s>(
                 }
                 None => {
                     let values = Vec::from_slice(alloc, actuals)?;
-                    Ok(Course::Then(Box::new(alloc, left)?, d, values))
+                    Ok(Course::Then(left, d, values))
                 }
             }
         }
@@ -169,7 +166,7 @@ pub fn opened<'s>(
             over_one(alloc, row, opened(alloc, system, level, a, actuals)?)
         }
         Expr::Delayed(a, m, d) => {
-            let left = opened(alloc, system, level, a, actuals)?;
+            let left = Box::new(alloc, opened(alloc, system, level, a, actuals)?)?;
             let right = opened(alloc, system, level, d, actuals)?;
             over_two(alloc, Binary::Delayed(*m), left, right)
         }

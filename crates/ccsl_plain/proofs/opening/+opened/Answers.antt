@@ -46,3 +46,84 @@ returns-in_ok-actuals-in-Some-clause-course t c =
     (sym (c.deref.ensures.value ∙ c.in_ok-actuals-in-Some.ensures.values
     ∙ ap₂ (λ w vs. map (value_of w c.args.actuals.now) vs) c.words.ensures c.members.ensures)) in
     subst (λ t. IfOk c.opened.result (λ c'. held K.words c' ≡ t)) (sym down) c.opened.ensures.course)
+
+pub returns-then-holds-clause-course : goal.returns-then-holds-clause-course
+returns-then-holds-clause-course t c = search rules
+
+pub returns-else-holds-clause-course : goal.returns-else-holds-clause-course
+returns-else-holds-clause-course t c = search rules
+
+pub returns-in_ok-opened-in-Delay-clause-course : goal.returns-in_ok-opened-in-Delay-clause-course
+returns-in_ok-opened-in-Delay-clause-course t c = search rules
+
+pub returns-in_ok-opened-in-Await-clause-course : goal.returns-in_ok-opened-in-Await-clause-course
+returns-in_ok-opened-in-Await-clause-course t c = search rules
+
+pub returns-in_ok-opened-in-Filter-clause-course : goal.returns-in_ok-opened-in-Filter-clause-course
+returns-in_ok-opened-in-Filter-clause-course t c = search rules
+
+pub returns-in_ok-right-in-Delayed-clause-course : goal.returns-in_ok-right-in-Delayed-clause-course
+returns-in_ok-right-in-Delayed-clause-course t c = search rules
+
+pub returns-in_ok-right-in-Some-operator_row-clause-course : goal.returns-in_ok-right-in-Some-operator_row-clause-course
+returns-in_ok-right-in-Some-operator_row-clause-course t c = search rules
+
+pub returns-in_ok-values-in-None-operator_row-clause-course : goal.returns-in_ok-values-in-None-operator_row-clause-course
+returns-in_ok-values-in-None-operator_row-clause-course t c = search rules
+
+pub opened-requires-then-holds : goal.opened-requires-then-holds
+opened-requires-then-holds t c =
+    let d = rw c.in-If.is at c.requires.shallow in
+    let f = rw c.in-If.is at c.requires.offsets in
+    (search rules, rw c.deref-then-holds.ensures (omega (arith, d), (f.1, c.requires.actuals)))
+
+pub opened-requires-else-holds : goal.opened-requires-else-holds
+opened-requires-else-holds t c =
+    let d = rw c.in-If.is at c.requires.shallow in
+    let f = rw c.in-If.is at c.requires.offsets in
+    (search rules, rw c.deref-else-holds.ensures (omega (arith, d), (f.2, c.requires.actuals)))
+
+pub opened-requires-in-Binary : goal.opened-requires-in-Binary
+opened-requires-in-Binary t c =
+    let d = rw c.in-Binary.is at c.requires.shallow in
+    let f = rw c.in-Binary.is at c.requires.offsets in
+    (search rules, rw c.deref-in-Binary.ensures (omega (arith, d), (f.0, c.requires.actuals)))
+
+pub opened-requires-in-Delay : goal.opened-requires-in-Delay
+opened-requires-in-Delay t c =
+    let d = rw c.in-Delay.is at c.requires.shallow in
+    let f = rw c.in-Delay.is at c.requires.offsets in
+    (search rules, rw c.deref-in-Delay.ensures (omega (arith, d), (f, c.requires.actuals)))
+
+pub opened-requires-in-Await : goal.opened-requires-in-Await
+opened-requires-in-Await t c =
+    let d = rw c.in-Await.is at c.requires.shallow in
+    let f = rw c.in-Await.is at c.requires.offsets in
+    (search rules, rw c.deref-in-Await.ensures (omega (arith, d), (f, c.requires.actuals)))
+
+pub opened-requires-in-Filter : goal.opened-requires-in-Filter
+opened-requires-in-Filter t c =
+    let d = rw c.in-Filter.is at c.requires.shallow in
+    let f = rw c.in-Filter.is at c.requires.offsets in
+    (search rules, rw c.deref-in-Filter.ensures (omega (arith, d), (f.0, c.requires.actuals)))
+
+pub opened-requires-in-Delayed : goal.opened-requires-in-Delayed
+opened-requires-in-Delayed t c =
+    let d = rw c.in-Delayed.is at c.requires.shallow in
+    let f = rw c.in-Delayed.is at c.requires.offsets in
+    (search rules, rw c.deref-in-Delayed.ensures (omega (arith, d), (f.0, c.requires.actuals)))
+
+pub opened-requires-in-Delayed-2 : goal.opened-requires-in-Delayed-2
+opened-requires-in-Delayed-2 t c =
+    let d = rw c.in-Delayed.is at c.requires.shallow in
+    let f = rw c.in-Delayed.is at c.requires.offsets in
+    (search rules, rw c.deref-in-Delayed-2.ensures (omega (arith, d), (f.1, c.requires.actuals)))
+
+pub opened-requires-in-Some-operator_row : goal.opened-requires-in-Some-operator_row
+opened-requires-in-Some-operator_row t c =
+    let d = rw c.in-Binary.is at c.requires.shallow in
+    let f = rw c.in-Binary.is at c.requires.offsets in
+    (search rules, rw c.deref-in-Some-operator_row.ensures (omega (arith, d), (f.1, c.requires.actuals)))
+
+pub all_actuals-requires-clause-values : goal.all_actuals-requires-clause-values
+all_actuals-requires-clause-values t c = search rules

@@ -1,5 +1,5 @@
 -- Where a row asks for one operand alone, the formula is that operand's.
-use Rattle.std.proofs.Common.{◌≡◌, ℕ, Bool, IfOk, Result, Ok, Err, sym, ◌∙◌}
+use Rattle.std.proofs.Common.{◌≡◌, ℕ, Bool, IfOk, Result, Ok, Err, sym, ◌∙◌, rules}
 use Rattle.ccsl_base.specs.declared.memory.Memory.{Memory}
 use Rattle.ccsl_formula.specs.declared.formula.Formula.{Formula as Boxed}
 use Rattle.ccsl_formula.specs.Formula.{Formula}
@@ -36,3 +36,18 @@ returns-in-Right t c =
     (λ gone. let e = c.connective.ensures (now_of gone (held c.args.words.now c.in-Binary.a.value)) (now_of gone (held c.args.words.now c.in-Binary.d.value)) in
     rw (c.in-Binary.is, c.deref-in-Right.ensures) (sym (rw (c.deref-in-Binary.ensures.value, c.deref-in-Binary-2.ensures.value, c.in-Right.is) at e)))
     c.formula-in-Right.ensures
+
+pub returns-in-Then : goal.returns-in-Then
+returns-in-Then t c = search rules
+
+pub returns-in_ok-new-in-And-2 : goal.returns-in_ok-new-in-And-2
+returns-in_ok-new-in-And-2 t c = search rules
+
+pub returns-in_ok-new-in-AndNot : goal.returns-in_ok-new-in-AndNot
+returns-in_ok-new-in-AndNot t c = search rules
+
+pub returns-in_ok-new-in-Or-2 : goal.returns-in_ok-new-in-Or-2
+returns-in_ok-new-in-Or-2 t c = search rules
+
+pub returns-in_ok-new-in-RightAndLeft-2 : goal.returns-in_ok-new-in-RightAndLeft-2
+returns-in_ok-new-in-RightAndLeft-2 t c = search rules
