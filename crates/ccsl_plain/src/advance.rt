@@ -95,8 +95,8 @@ struct Operand<'s> {
     tick: bool,
 }
 
-// An operand after a step, with its tick behind those before. It is boxed where it is made: to the prover, an early return
-// then drops it by a single call.
+// An operand after a step, with its tick behind those before. It is boxed where it is made: to the prover, an early
+// return then drops it by a single call.
 #[cycle(advance)]
 fn operand_advanced<'s>(
     alloc: Global,
