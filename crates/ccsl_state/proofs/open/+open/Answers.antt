@@ -144,3 +144,30 @@ opened-returns-then-holds t c = grind (arith, rest_one)
 
 pub opened-returns-else-holds : goal.opened-returns-else-holds
 opened-returns-else-holds t c = grind (arith, rest_one)
+
+pub opened-then_opened-requires : goal.opened-then_opened-requires
+opened-then_opened-requires t c = grind arith
+
+pub opened-two_opened-requires : goal.opened-two_opened-requires
+opened-two_opened-requires t c = grind arith
+
+pub opened-one_opened-requires : goal.opened-one_opened-requires
+opened-one_opened-requires t c = grind arith
+
+pub opened-one_opened-requires-in-Await : goal.opened-one_opened-requires-in-Await
+opened-one_opened-requires-in-Await t c = grind arith
+
+pub opened-one_opened-requires-in-Filter : goal.opened-one_opened-requires-in-Filter
+opened-one_opened-requires-in-Filter t c = grind arith
+
+pub opened-lag_opened-requires : goal.opened-lag_opened-requires
+opened-lag_opened-requires t c = grind arith
+
+pub opened-opened-born-requires : goal.opened-opened-born-requires
+opened-opened-born-requires t c = grind arith
+
+pub opened-opened-born-requires-else-holds : goal.opened-opened-born-requires-else-holds
+opened-opened-born-requires-else-holds t c = grind arith
+
+pub one_opened-returns : goal.one_opened-returns
+one_opened-returns t c = grind (arith, rest_one)

@@ -1,9 +1,10 @@
 -- The followed definitions go on as all do.
-use Rattle.std.proofs.Common.{◌≡◌, ℕ, ◌++◌, ◌∷◌, [], length, drop, true, slice_get, refl, sym, ap₂, subst, ◌∙◌}
+use Rattle.std.proofs.Common.{◌≡◌, ℕ, ◌++◌, ◌∷◌, [], length, drop, true, slice_get, refl, sym, ap, ap₂, subst, ◌∙◌}
 use Rattle.std.specs.Vec.{with_items}
 use Rattle.ccsl_base.specs.Clocks.{are_below, is_ascending}
 use Rattle.ccsl_kernel.specs.Runs.{full_step}
 use Rattle.ccsl_state.specs.States.{trees_in}
+use Rattle.ccsl_state.specs.Passing.{AreKept}
 use Rattle.ccsl_state.specs.Part.{HeldPart, followed_tree, part_of, PartStandsFor}
 use Rattle.ccsl_state.specs.PartLaid.{held_part}
 use Rattle.ccsl_state.proofs.Regions.{front_head}
@@ -47,3 +48,24 @@ returns-clause-stands c = λ T stands short.
     subst (λ (p : HeldPart). PartStandsFor p T → PartStandsFor next (T ++ full_step p.system T s ∷ [])) c.self.view_is
     (λ st. part_stands h T s c.self.invariant.accepted c.self.invariant.closed low ascends old.gone old.unsettled c.self.invariant.kept trees
     c.follow.new.step new.gone new.unsettled passed c.follow.ensures.kept st next short refl refl same) stands
+
+pub invariant_of-self : goal.invariant_of-self
+invariant_of-self c =
+    let K = c.self.inside.system.now in
+    let new = c.follow.new.passage in
+    let row' = c.follow.new.row in
+    let written = with_items c.self.inside.row row' in
+    let is : written.items ≡ row' =
+    front_head c.self.inside.row.len row' (drop (length row') c.self.inside.row.items) (c.follow.auto.row ∙ c.as_mut_slice.ensures.len) in
+    let laid = c.self.invariant in
+    record {
+      accepted = laid.accepted;
+      calls = laid.calls;
+      places = laid.places;
+      flats = laid.flats;
+      readers = laid.readers;
+      row = ap length is ∙ c.follow.auto.row ∙ ap length c.as_mut_slice.ensures.value ∙ laid.row;
+      closed = laid.closed;
+      kept = subst (λ trees. AreKept K c.self.inside.readers.followed trees new.gone new.unsettled)
+          (ap₂ (λ C row. trees_in K C K.definitions row) (c.as_slice.ensures.value ∙ laid.calls) (sym is)) c.follow.ensures.kept;
+    }
