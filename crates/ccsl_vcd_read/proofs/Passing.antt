@@ -1,6 +1,6 @@
 -- Tokens that stand further on, and bytes that were read past a tokenizer.
 use Rattle.std.proofs.Common.{◌≡◌, ℕ, zero, suc, ◌+◌, ◌<◌, List, [], ◌∷◌, ◌++◌, length, take, Bool, true, false, Some, None, nat_lt, ◌||◌, cond, refl, sym, ap}
-use Rattle.std.proofs.Common.{ap₂, ◌∙◌, subst, append_assoc, arith, length-append, filter, map, zero-add, replicate, ⊎_elim}
+use Rattle.std.proofs.Common.{ap₂, ◌≤◌, ◌∙◌, subst, append_assoc, arith, length-append, filter, map, zero-add, replicate, ⊎_elim}
 use Rattle.std.specs.List.{AllByRecursion}
 use Rattle.std.proofs.lemmas.List.{append-nil, map-append}
 use Rattle.std.proofs.lemmas.Bool.{lt-ltb, le-ltb, cases_lt}
@@ -206,6 +206,12 @@ none-seen v bytes s h =
     ∙ sym (long-at s.front s.rest s.fresh s.short)
     ∙ ap (λ xs. first_long (tokens xs)) (sym s.whole) ∙ h in
     long-blank s.blanks s.rest ∙ long-back v.passed (tokens_from true s.blanks s.rest) e
+
+-- The tokenizer saw no more bytes than there were.
+pub seen-length : (v : Passing) (bytes : List ℕ) (s : Lexes v bytes) → length (blank s.blanks ++ s.rest) ≤ length bytes
+seen-length v bytes s =
+    let p : length s.front ≡ v.passed + s.blanks = s.place in
+    omega (arith, p, ap length s.whole, length-append s.front s.rest, length-append (blank s.blanks) s.rest, length-blank s.blanks)
 
 -- More bytes were taken.
 pub lexes-more : (v w : Passing) (bytes y : List ℕ) (s : Lexes v bytes) → w.passed ≡ v.passed → StandsFor w.inner ((blank s.blanks ++ s.rest) ++ y)

@@ -1,9 +1,16 @@
+-- A piece goes to the tokenizer, and what it answers is said of the bytes as they stand in the file.
 use Rattle.std.proofs.Common.{◌<◌, ◌+◌, ◌-◌, [], ◌∷◌, ◌++◌, length, take, refl, sym, ap, ◌∙◌, arith, length-append, length-take-le}
 use Rattle.ccsl_vcd_lex.specs.Tokens.{token, word, too_long, settled}
 use Rattle.ccsl_vcd_lex.specs.Lexing.{named}
+use Rattle.ccsl_vcd_read.proofs.Passing.{seen-length}
 use Rattle.ccsl_vcd_read.proofs.Passing.{enter, blank, none-seen, none-behind, settles-more, settles-same, settled-place, lexes-more, breaks-behind}
 use Rattle.ccsl_vcd_read.proofs.lexer.Lexer.feed_run.Goals as goal
 use Rattle.ccsl_vcd_read.proofs.lexer.Lexer.feed_run.Goals.{in-Ok+in-Some, in-Ok+in-None, in-Err}
+
+pub feed_run-requires : goal.feed_run-requires
+feed_run-requires c =
+    let s = enter _ _ c.requires.0 c.self.view_is c.requires.1 in
+    (blank s.blanks ++ s.rest, s.stands, omega (arith, seen-length _ c.requires.0 s, c.requires.3))
 
 pub overflow_add-result : goal.overflow_add-result
 overflow_add-result c =
