@@ -1,4 +1,5 @@
 use Rattle.std.proofs.Common.{◌≡◌, ◌+◌, List, true, drop, take, map, sym, ap, subst, ◌∙◌, arith}
+use Rattle.std.proofs.Common.{rules}
 use Rattle.ccsl_base.specs.declared.limits.TheConstants.{MAX_CLOCKS}
 use Rattle.ccsl_formula.specs.Plain.{plain}
 use Rattle.ccsl_refute.specs.declared.line.Line.{Line}
@@ -39,3 +40,6 @@ returns-then-ends_empty-clause-sound c = λ set s.
     let fs = map plain c.args.formulas.now in
     sound scope fs c.args.lines.now (in_set set)
     (bad-end scope fs c.args.lines.now c.loop-i.i c.loop-i-test.false c.loop-i.invariant.same (sym c.ends_empty.ensures ∙ c.if-ends_empty.true)) s
+
+pub is_valid-requires-clause-below : goal.is_valid-requires-clause-below
+is_valid-requires-clause-below c = search rules
