@@ -1,11 +1,15 @@
 -- One more step.
 use Rattle.std.proofs.Common.{[], arith}
+use Rattle.std.proofs.lemmas.Grind.{common_steps}
 use Rattle.std.proofs.lemmas.List.{get_or_read}
 use Rattle.ccsl_kernel.specs.Plain.{plain_expr}
 use Rattle.ccsl_plain.specs.Course.{opening}
 use Rattle.ccsl_plain.specs.Held.{held, gone_in}
 use Rattle.ccsl_plain.proofs.WalkSteps.{walk_course, walk_deaths}
 use Rattle.ccsl_plain.proofs.walk.followed.Goals as goal
+
+pub loop-i-init : goal.loop-i-init
+loop-i-init c = grind (arith, common_steps)
 
 pub loop-i-preserved : goal.loop-i-preserved
 loop-i-preserved c =
