@@ -1,5 +1,5 @@
 -- A call goes to an earlier definition, or becomes nothing.
-use Rattle.std.proofs.Common.{◌<◌, Some, map, length, get_or, sym, ap, ◌∙◌, arith}
+use Rattle.std.proofs.Common.{◌<◌, Some, map, length, get_or, sym, ap, ◌∙◌, arith, rules}
 use Rattle.std.proofs.lemmas.Option.{slice_get-get_or}
 use Rattle.ccsl_ast.specs.Trees.{SLineOf}
 use Rattle.ccsl_ast.specs.Plain.{plain_definition, plain_line}
@@ -45,3 +45,9 @@ returns-in-Relation-clause-items c = λ path args.
     c.members-in-Relation.ensures
     ∙ (sym (whole ∙ ap (λ x. unfold_block s.words.now calls (earlier s d) b.start (plain_definition x) path args) c.in-Relation.is)
     ∙ unfolding-found (earlier s c.args.home) calls c.args.name.now.name (Some (seen_callee c.in_ok-found.found)) c.in_ok-found.ensures path args))
+
+pub bounds-sources-found : goal.bounds-sources-found
+bounds-sources-found c = search rules
+
+pub returns-in-Relation-clause-lower : goal.returns-in-Relation-clause-lower
+returns-in-Relation-clause-lower c = search rules
