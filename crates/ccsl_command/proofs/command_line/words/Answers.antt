@@ -1,4 +1,4 @@
-use Rattle.std.proofs.Common.{◌≡◌, ◌<◌, ◌-◌, ℕ, List, [], ◌∷◌, length, get_or, take, drop, Bool, true, false, cond, Option, Some, None, Ok, Err, sym, ap, ap₂}
+use Rattle.std.proofs.Common.{◌≡◌, ◌<◌, ◌-◌, ℕ, List, [], ◌∷◌, length, get_or, take, drop, Bool, true, false, cond, Option, Some, None, Ok, Err, sym, ap, ap₂, rules}
 use Rattle.std.proofs.Common.{◌∙◌, refl, arith}
 use Rattle.std.proofs.lemmas.List.{take_all}
 use Rattle.ccsl_command.specs.declared.table.CommandName.{CommandName}
@@ -56,3 +56,6 @@ returns-in-Ok-clause-meant c =
     right _ _ _ _ false (split s) (named s) (sym c.in-Ok-None.ensures ∙ c.in-Ok-None.field-0-is)
     (sym c.first_missing.ensures ∙ c.in_default-first_missing.is) (sym c.has_same_name.ensures ∙ c.if-has_same_name.false)
     ∙ ap Ok (sym c.in-Ok.ensures.command)
+
+pub returns-in-Ok-clause-refused : goal.returns-in-Ok-clause-refused
+returns-in-Ok-clause-refused c = search rules

@@ -1,4 +1,5 @@
-use Rattle.std.proofs.Common.{◌≡◌, ◌+◌, ◌≤◌, length, length-take, arith}
+use Rattle.std.proofs.Common.{◌≡◌, ◌+◌, ◌≤◌, length, length-take, arith, rules}
+use Rattle.std.proofs.lemmas.Grind.{common_steps}
 use Rattle.std.proofs.lemmas.Result.{err_from_is_err_and}
 use Rattle.ccsl_edge.proofs.Reading.{IsReading-more, IsReading-past, IsReading-part}
 use Rattle.ccsl_edge.proofs.whole.read_all.Goals as goal
@@ -17,3 +18,9 @@ returns-in_err-extend_from_slice-clause-err g c =
     rw (p.1, p.2)
     (IsReading-part _ _ _ _ _ _
     (IsReading-more _ _ _ _ _ _ _ _ _ c.loop-all.invariant.reading c.in_ok-count.ensures.ok within))
+
+pub returns-then-count-eq0-clause-ok : goal.returns-then-count-eq0-clause-ok
+returns-then-count-eq0-clause-ok c = search rules
+
+pub loop-all-preserved : goal.loop-all-preserved
+loop-all-preserved c = grind (arith, common_steps)

@@ -1,3 +1,4 @@
+use Rattle.std.proofs.Common.{rules}
 use Rattle.std.proofs.lemmas.Result.{IfOk-weaker}
 use Rattle.ccsl_formula.specs.Formula.{FNot, FIff, FFalse}
 use Rattle.ccsl_formula.specs.Same.{Same}
@@ -10,3 +11,6 @@ returns-in_default-False-clause-value c =
     rw c.in_default-False.is-1
     (IfOk-weaker c.not-in_default-False.result (λ r. Same (plain r) (FNot (plain c.args.f))) (λ r. Same (plain r) (FIff (plain c.args.f) FFalse))
     (λ r. Same-iff_false (plain c.args.f) (plain r)) c.not-in_default-False.ensures.value)
+
+pub returns-in-False-default-clause-value : goal.returns-in-False-default-clause-value
+returns-in-False-default-clause-value c = search rules

@@ -1,4 +1,5 @@
 use Rattle.std.proofs.Common.{◌-◌, length, ap, arith, vec_len}
+use Rattle.std.proofs.lemmas.Grind.{common_steps}
 use Rattle.std.proofs.lemmas.Result.{err_from_is_err_and}
 use Rattle.ccsl_words.proofs.Stripped.{not_closed, closed_empty, closed_early, period_long, none_long, some_long}
 use Rattle.ccsl_words.proofs.word.Word.with_period.Goals as goal
@@ -28,3 +29,6 @@ returns-then-not-is_empty-clause-fault c =
     (omega (arith, some_long (vec_len c.in_ok-period.period) c.is_empty.result c.is_empty.ensures c.if-is_empty.false))
     (omega (arith, some_long (length c.in-Some.after.now) c.is_empty-2.result c.is_empty-2.ensures c.if-not-is_empty.true, ap length c.in-Some.ensures.cases.1))
     _ (omega arith)
+
+pub returns-clause-word : goal.returns-clause-word
+returns-clause-word c = grind (arith, common_steps)
