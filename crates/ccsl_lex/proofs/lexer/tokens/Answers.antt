@@ -1,4 +1,5 @@
-use Rattle.std.proofs.Common.{map, ap, inl, inr}
+use Rattle.std.proofs.Common.{map, ap, inl, inr, arith}
+use Rattle.std.proofs.lemmas.Grind.{common_steps}
 use Rattle.std.specs.Prelude.{Err}
 use Rattle.std.proofs.lemmas.Result.{err_from_is_err_and}
 use Rattle.std.proofs.lemmas.List.{map_push}
@@ -48,3 +49,6 @@ returns-in_err-len-clause-each_fault c =
     let f = first_fault text c.pieces.at e c.pieces.invariant.cut (rw (rest-is c.pieces.at text) at c.in_err-len.ensures.fault) in
     let p = err_from_is_err_and c.from_residual.result c.from_residual.ensures.1 in
     λ x h. elim (fault_fault text e f x h) [ inl i ↦ inl (rw (p.1, p.2) (ap Err i)) | inr i ↦ inr (rw (p.1, p.2) (ap Err i)) ]
+
+pub returns-clause-tokens : goal.returns-clause-tokens
+returns-clause-tokens c = grind (arith, common_steps)

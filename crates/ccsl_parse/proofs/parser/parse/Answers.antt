@@ -1,4 +1,4 @@
-use Rattle.std.proofs.Common.{inl}
+use Rattle.std.proofs.Common.{inl, rules}
 use Rattle.ccsl_base.specs.declared.limits.TheConstants.{MAX_LEVELS}
 use Rattle.ccsl_ast.specs.Plain.{plain_parts}
 use Rattle.ccsl_grammar.specs.Terminals.{terminals}
@@ -41,3 +41,6 @@ returns-in-Err-clause-each_syntax c = fault_syntax c.args.tokens.now c.fault.res
 
 pub returns-in-Err-clause-each_too_deep : goal.returns-in-Err-clause-each_too_deep
 returns-in-Err-clause-each_too_deep c = fault_too_deep c.args.tokens.now c.fault.result c.fault.ensures
+
+pub fault-requires : goal.fault-requires
+fault-requires c = search rules
