@@ -1,3 +1,4 @@
+use Rattle.std.proofs.Common.{rules}
 use Rattle.ccsl_spec.specs.Found.{of_tokens, of_syntax}
 use Rattle.ccsl_spec.proofs.Faults.{first-fault, no-tree}
 use Rattle.ccsl_spec.proofs.specification.read_tree.Goals as goal
@@ -13,3 +14,6 @@ returns c =
     (no-tree c.args.text.now c.in-Ok.tokens.items c.in-Err-parse.fault c.in_ok-syntax_line-in-Err-parse.ensures.cause c.in-Ok.ensures.tokens
     (rw c.as_slice.ensures.value at c.in-Err-parse.ensures.fault))
     c.in_ok-syntax_line-in-Err-parse.ensures.line
+
+pub returns-in-Ok-parse : goal.returns-in-Ok-parse
+returns-in-Ok-parse c = search rules

@@ -1,4 +1,4 @@
-use Rattle.std.proofs.Common.{◌≡◌, ◌∷◌, ◌++◌, [], None, is_some, is_none, not, ap, sym, ◌∙◌}
+use Rattle.std.proofs.Common.{◌≡◌, ◌∷◌, ◌++◌, [], None, is_some, is_none, not, ap, sym, ◌∙◌, rules}
 use Rattle.std.specs.Str.{bytes_eq}
 use Rattle.std.specs.Map.{lookup}
 use Rattle.ccsl_spaces.specs.Places.{place_of}
@@ -27,3 +27,6 @@ returns-clause-added c =
     inserted (λ s t. bytes_eq s.items t.items) (λ t. t.items) c.self.inside.places c.in_ok-name.name c.args.place c.in_ok-insert.ensures.entries
     (ap (λ n. lookup (λ t. bytes_eq n t.items) c.self.inside.places.entries) c.in_ok-name.ensures.items ∙ not_there c) c.in_ok-name.ensures.items
     ∙ ap (λ e. e ++ (c.args.name.now, c.args.place) ∷ []) c.self.view_is
+
+pub returns-then-contains_key-clause-added : goal.returns-then-contains_key-clause-added
+returns-then-contains_key-clause-added c = search rules
