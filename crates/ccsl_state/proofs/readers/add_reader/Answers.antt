@@ -1,5 +1,5 @@
 -- One clock more.
-use Rattle.std.proofs.Common.{arith}
+use Rattle.std.proofs.Common.{arith, rules}
 use Rattle.std.proofs.lemmas.Grind.{common_steps}
 use Rattle.ccsl_state.proofs.Visiting.{adding_more, adding_within}
 use Rattle.ccsl_state.proofs.readers.add_reader.Goals as goal
@@ -10,3 +10,6 @@ bounds-sets-clock c = adding_within c.args.i c.in-Some.clock c.args.clocks.now c
 
 pub loop-clock-preserved : goal.loop-clock-preserved
 loop-clock-preserved c = grind (arith, common_steps, adding_more)
+
+pub loop-clock-init : goal.loop-clock-init
+loop-clock-init c = search rules

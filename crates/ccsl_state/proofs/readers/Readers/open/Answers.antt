@@ -18,3 +18,6 @@ returns-clause-readers c =
     read_all c.args.system.now c.args.followed c.loop-i.sets.items c.loop-i.i
     (let upto = c.loop-i.auto.i-end in let past = c.loop-i-test.false in let all =
     c.definitions-i-end.ensures in omega (arith, upto, past, all)) c.loop-i.invariant.count c.loop-i.invariant.before
+
+pub loop-i-preserved : goal.loop-i-preserved
+loop-i-preserved c = grind (arith, common_steps)
