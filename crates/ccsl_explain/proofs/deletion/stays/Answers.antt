@@ -1,4 +1,4 @@
-use Rattle.std.proofs.Common.{◌≡◌, ◌∙◌, List, Bool, false, true, Some, map, slice_get, sym, ap, subst, arith}
+use Rattle.std.proofs.Common.{◌≡◌, ◌∙◌, List, Bool, false, true, Some, map, slice_get, sym, ap, subst, arith, rules}
 use Rattle.std.proofs.lemmas.Option.{MatchOption-at_none, MatchOption-at_some, slice_get-get_or}
 use Rattle.ccsl_formula.specs.Formula.{Formula}
 use Rattle.ccsl_formula.specs.declared.formula.Formula.TheVariants.{True}
@@ -57,3 +57,6 @@ returns-in_ok-used-in-Some-clause-used c =
     MatchOption-at_some (HasStep scope fs) (λ (lines : List Line). is_certificate scope fs lines ≡ true) c.in-Some.lines c.in-Some.is
     c.in_ok-refutation.ensures in
     c.in_ok-used-in-Some.ensures.block scope fs (ap (λ (lines : List Line). is_certificate scope fs lines) c.members.ensures ∙ found)
+
+pub returns-then-not-index-clause-stays : goal.returns-then-not-index-clause-stays
+returns-then-not-index-clause-stays c = search rules

@@ -1,4 +1,4 @@
-use Rattle.std.proofs.Common.{◌≡◌, ◌∙◌, ℕ, List, length, ap, subst, arith}
+use Rattle.std.proofs.Common.{◌≡◌, ◌∙◌, ℕ, List, length, ap, subst, arith, rules}
 use Rattle.std.proofs.lemmas.List.Sorted.{All-permutation, Contains-permutation}
 use Rattle.std.specs.List.Sorted.{IsPermutation}
 use Rattle.ccsl_policy.specs.Priority.{word_of}
@@ -19,3 +19,6 @@ returns c =
       each = λ x l. Contains-permutation (ranks_to words n) c.sort.new.self.items (word_of words x, x) moved (ranks-each words n x l);
       sorted = c.in_ok-sort.ensures.sorted;
     }
+
+pub loop-clock-preserved : goal.loop-clock-preserved
+loop-clock-preserved c = search rules

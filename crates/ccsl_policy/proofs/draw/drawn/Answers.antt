@@ -1,4 +1,4 @@
-use Rattle.std.proofs.Common.{◌≡◌, ◌∙◌, ◌+◌, ◌++◌, ◌∷◌, [], ℕ, sym, ap, subst, arith, add-one}
+use Rattle.std.proofs.Common.{◌≡◌, ◌∙◌, ◌+◌, ◌++◌, ◌∷◌, [], ℕ, sym, ap, subst, arith, add-one, rules}
 use Rattle.rand_pcg.specs.Lcg.{Lcg}
 use Rattle.rand_pcg.specs.Pcg.{pcg32}
 use Rattle.ccsl_policy.specs.Words.{words_from}
@@ -21,3 +21,9 @@ loop-i-preserved c = record {
   size = omega (arith, c.push_reserved.ensures.len);
   room = omega (arith, c.push_reserved.ensures.capacity);
 }
+
+pub loop-i-init : goal.loop-i-init
+loop-i-init c = search rules
+
+pub returns-in_err-list-clause-kept : goal.returns-in_err-list-clause-kept
+returns-in_err-list-clause-kept c = search rules

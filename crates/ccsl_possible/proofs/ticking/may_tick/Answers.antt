@@ -1,4 +1,4 @@
-use Rattle.std.proofs.Common.{◌+◌, map, ◌∙◌, sym, subst}
+use Rattle.std.proofs.Common.{◌+◌, map, ◌∙◌, sym, subst, rules}
 use Rattle.std.proofs.lemmas.Bool.{both_ways}
 use Rattle.ccsl_formula.specs.Plain.{plain}
 use Rattle.ccsl_possible.specs.Ticking.{AreThoseBelow}
@@ -23,3 +23,9 @@ loop-clock-preserved c =
             (those-without scope fs n old c.loop-clock.invariant.clocks (λ m. both_ways c.has.result w.if-has.false (c.has.ensures.member ∙ more.clock m)))
       ];
     }
+
+pub returns-clause-those : goal.returns-clause-those
+returns-clause-those c = search rules
+
+pub loop-clock-init : goal.loop-clock-init
+loop-clock-init c = search rules

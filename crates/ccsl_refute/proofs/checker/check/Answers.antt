@@ -1,4 +1,5 @@
 use Rattle.std.proofs.Common.{◌≡◌, ◌+◌, List, true, drop, take, map, sym, ap, subst, ◌∙◌, arith}
+use Rattle.std.proofs.lemmas.Grind.{common_steps}
 use Rattle.std.proofs.Common.{rules}
 use Rattle.ccsl_base.specs.declared.limits.TheConstants.{MAX_CLOCKS}
 use Rattle.ccsl_formula.specs.Plain.{plain}
@@ -43,3 +44,6 @@ returns-then-ends_empty-clause-sound c = λ set s.
 
 pub is_valid-requires-clause-below : goal.is_valid-requires-clause-below
 is_valid-requires-clause-below c = search rules
+
+pub returns-then-not-is_valid-clause-answers : goal.returns-then-not-is_valid-clause-answers
+returns-then-not-is_valid-clause-answers c = grind (arith, common_steps)

@@ -1,4 +1,4 @@
-use Rattle.std.proofs.Common.{◌<◌, ◌+◌, ◌*◌, ◌∙◌, not, sym, ap, arith, Result, Ok, Err, OnOk}
+use Rattle.std.proofs.Common.{◌<◌, ◌+◌, ◌*◌, ◌∙◌, not, sym, ap, arith, Result, Ok, Err, OnOk, rules}
 use Rattle.ccsl_formula.specs.Known.{known}
 use Rattle.ccsl_solve.specs.Under.{open_count}
 use Rattle.ccsl_solve.proofs.Tests.{open-test, not-open-test}
@@ -135,3 +135,6 @@ search_both-returns-in-Some-by-clause-lines t c = adds-more c.in_ok-first.ensure
 
 pub search_both-returns-clause-lines : goal.search_both-returns-clause-lines
 search_both-returns-clause-lines t c = where-ok c.search_against.result (adds-more c.in_ok-first.ensures.lines) c.search_against.ensures.lines
+
+pub search_against-resolved-requires-clause-second : goal.search_against-resolved-requires-clause-second
+search_against-resolved-requires-clause-second t c = search rules

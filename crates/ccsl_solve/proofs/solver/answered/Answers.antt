@@ -1,4 +1,4 @@
-use Rattle.std.proofs.Common.{ap}
+use Rattle.std.proofs.Common.{ap, rules}
 use Rattle.ccsl_formula.specs.Known.{known}
 use Rattle.ccsl_solve.proofs.Parts.{inside-under}
 use Rattle.ccsl_solve.proofs.Answering.{model-step}
@@ -24,3 +24,6 @@ pub returns-in_ok-lines-in-Some : goal.returns-in_ok-lines-in-Some
 returns-in_ok-lines-in-Some c =
     let found = rw (c.in-Some.is, ap known c.copy-part.ensures) at c.in_ok-searched.ensures.finds in
     c.in_ok-lines-in-Some.ensures (known c.args.fixed.now) found.1.within
+
+pub searched-requires-clause-sound : goal.searched-requires-clause-sound
+searched-requires-clause-sound c = search rules
