@@ -1,4 +1,4 @@
-use Rattle.std.proofs.Common.{Ok, sym, ap, ◌∙◌, subst, arith, length}
+use Rattle.std.proofs.Common.{Ok, sym, ap, ◌∙◌, subst, arith, length, rules}
 use Rattle.ccsl_bind.specs.Gathered.{Collected, StandsFor, Refuses}
 use Rattle.ccsl_bind.specs.Slots.{clocks_from}
 use Rattle.ccsl_vcd.specs.Binding.{bind}
@@ -37,3 +37,6 @@ returns-in-Err-clause-refuses c = λ wanted ds t.
     subst (λ w. Refuses c.in-Err.fault (bind w ds)) s.wanted
     (all-refused _ c.self.inside.codes ds c.self.inside.found.items c.in-Err.fault s.found
     (ap (clocks_from 0 c.self.inside.declared) (sym c.as_slice.ensures.value) ∙ c.in-Err.ensures))
+
+pub returns-clause-refuses : goal.returns-clause-refuses
+returns-clause-refuses c = search rules

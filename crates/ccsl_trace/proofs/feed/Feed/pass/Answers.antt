@@ -1,4 +1,5 @@
-use Rattle.std.proofs.Common.{◌≡◌, ◌<◌, true, ap, ◌∙◌, subst}
+use Rattle.std.proofs.Common.{◌≡◌, ◌<◌, true, ap, ◌∙◌, subst, arith}
+use Rattle.std.proofs.lemmas.Grind.{common_steps}
 use Rattle.ccsl_trace.specs.Feeding.{Feeding, bound_of, left_of}
 use Rattle.ccsl_trace.specs.Stepping.{Turns}
 use Rattle.ccsl_trace.proofs.Refusing.{never-memory}
@@ -60,3 +61,6 @@ returns-clause-near c = λ e wanted limits bytes rows r.
     let s = rw (← c.self.view_is) at r in
     let ended : c.in-Ok.taken.header_ended ≡ true = cc e in
     near wanted limits bytes _ rows s c.in-Ok.taken.bytes (rw (c.bytes.ensures.same, ended) at (c.in-Ok.ensures.header wanted s.taken s.stands))
+
+pub returns-clause-runs : goal.returns-clause-runs
+returns-clause-runs c = grind (arith, common_steps)

@@ -1,4 +1,4 @@
-use Rattle.std.proofs.Common.{ap, ◌∙◌, refl}
+use Rattle.std.proofs.Common.{ap, ◌∙◌, refl, rules}
 use Rattle.std.proofs.lemmas.Bool.{not-false}
 use Rattle.ccsl_trace.specs.Feeding.{Feeding}
 use Rattle.ccsl_trace.proofs.Stepping.{refilled, none-left}
@@ -14,3 +14,12 @@ returns-clause-left g c = λ empty tells. none-left _ _ _ _ _ c.in-Ok.ensures.ok
 
 pub returns-clause-none : goal.returns-clause-none
 returns-clause-none g c = λ empty. c.is_empty-2.ensures.0 (not-false c.is_empty-2.result empty)
+
+pub returns-in-Err-clause-none : goal.returns-in-Err-clause-none
+returns-in-Err-clause-none g c = search rules
+
+pub returns-in-Err-clause-left : goal.returns-in-Err-clause-left
+returns-in-Err-clause-left g c = search rules
+
+pub returns-in-Err-clause-feeds : goal.returns-in-Err-clause-feeds
+returns-in-Err-clause-feeds g c = search rules

@@ -1,4 +1,4 @@
-use Rattle.std.proofs.Common.{Ok, ap, ◌∙◌, subst, refl}
+use Rattle.std.proofs.Common.{Ok, ap, ◌∙◌, subst, refl, rules}
 use Rattle.std.proofs.lemmas.Result.{err_from_is_err_and}
 use Rattle.ccsl_trace.specs.Feeding.{Feeding, bound_of, Gives, GivesBound}
 use Rattle.ccsl_trace.proofs.Ending.{nears-finish}
@@ -64,3 +64,9 @@ returns-then-branch-clause-gives g c = λ wanted limits start rows f.
     subst (λ o. GivesBound g.W.World.told wanted limits start (g.W.World.state c.refill.new.world) o c.pass.new.self rows) (ap bound_of c.refill.ensures.kept)
     (gives-bound n c.pass.new.self t.1 e (c.pass.ensures.ended ∙ e) t.0 t.2
     (c.in_ok-pass.ensures.near (ap Ok c.if-branch.true) wanted limits n.bytes rows r) (c.in_ok-pass.ensures.runs wanted limits n.bytes rows r))
+
+pub returns-clause-goes_on : goal.returns-clause-goes_on
+returns-clause-goes_on c = search rules
+
+pub returns-then-is_full-clause-nears : goal.returns-then-is_full-clause-nears
+returns-then-is_full-clause-nears c = search rules

@@ -1,4 +1,4 @@
-use Rattle.std.proofs.Common.{◌+◌, ◌<◌, length, take, arith}
+use Rattle.std.proofs.Common.{◌+◌, ◌<◌, length, take, arith, rules}
 use Rattle.std.proofs.lemmas.Grind.{common_steps}
 use Rattle.ccsl_vcd_read.proofs.Run.{runs-on}
 use Rattle.ccsl_vcd_read.proofs.ShortTimes.{after-same}
@@ -25,3 +25,9 @@ returns-then-taken-gt0-clause-full c = λ full.
     let room : length c.time_and_space-time.new.out.rows < c.time_and_space-time.new.out.room =
     grind (arith, common_steps, c.is_full.ensures, c.if-is_full.false) in
     absurd (omega (arith, room, full))
+
+pub returns-then-is_full-clause-runs : goal.returns-then-is_full-clause-runs
+returns-then-is_full-clause-runs c = search rules
+
+pub returns-then-is_full-clause-full : goal.returns-then-is_full-clause-full
+returns-then-is_full-clause-full c = search rules

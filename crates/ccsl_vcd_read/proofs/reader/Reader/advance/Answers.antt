@@ -1,4 +1,4 @@
-use Rattle.std.proofs.Common.{◌≡◌, ◌-◌, ◌++◌, take, None, refl, sym, ap, ◌∙◌, arith}
+use Rattle.std.proofs.Common.{◌≡◌, ◌-◌, ◌++◌, take, None, refl, sym, ap, ◌∙◌, arith, rules}
 use Rattle.ccsl_vcd_lex.specs.Tokens.{settled}
 use Rattle.ccsl_vcd_lex.specs.Lexing.{named}
 use Rattle.ccsl_vcd.specs.declared.fault.VcdFault.TheVariants as faults
@@ -135,3 +135,9 @@ returns-in-Err-clause-stops c =
     breaks-in c.args.piece.now _ (long-breaks wanted _ bytes c.args.piece.now c.front-piece.result.now c.in-Err.long.at c.args.out.now.rows s
     c.front-piece.ensures (c.in-Err.ensures.broke bytes s.lexes s.short))))
     (ap (λ (x : Reading). x.fault) after) (ap (λ (x : Reading). x.limits) after) (ap (λ (x : Reading). shown x.stage) after) refl (λ _. tt))
+
+pub returns-in-Ok-hear_token-clause-moves : goal.returns-in-Ok-hear_token-clause-moves
+returns-in-Ok-hear_token-clause-moves c = search rules
+
+pub returns-in-None-clause-moves : goal.returns-in-None-clause-moves
+returns-in-None-clause-moves c = search rules

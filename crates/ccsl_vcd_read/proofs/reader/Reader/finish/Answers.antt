@@ -1,4 +1,4 @@
-use Rattle.std.proofs.Common.{◌≡◌, ◌≤◌, ◌<◌, ◌^◌, ◌+◌, ◌-◌, ℕ, List, ◌++◌, length, true, false, refl, sym, ap, ◌∙◌, subst, arith, length-append}
+use Rattle.std.proofs.Common.{◌≡◌, ◌≤◌, ◌<◌, ◌^◌, ◌+◌, ◌-◌, ℕ, List, ◌++◌, length, true, false, refl, sym, ap, ◌∙◌, subst, arith, length-append, rules}
 use Rattle.ccsl_vcd.specs.declared.fault.VcdFault.TheVariants as faults
 use Rattle.ccsl_vcd.specs.Binding.{Wanted}
 use Rattle.ccsl_vcd_read.specs.Staging.{ends_well, row_left}
@@ -85,3 +85,12 @@ pub returns-in-Err-clause-unbound : goal.returns-in-Err-clause-unbound
 returns-in-Err-clause-unbound c = λ e.
     when-none c.args.self.now.fault (λ none.
     c.in-Err.ensures.kept.1 ∙ shown-none c.args.self.now.stage (in-header c.args.self.now.stage c.in-Err.fault c.in-Err.ensures.calm e))
+
+pub returns-in-Err-clause-refuses : goal.returns-in-Err-clause-refuses
+returns-in-Err-clause-refuses c = search rules
+
+pub returns-in-Err-clause-completes : goal.returns-in-Err-clause-completes
+returns-in-Err-clause-completes c = search rules
+
+pub returns-in-Err-clause-faulty : goal.returns-in-Err-clause-faulty
+returns-in-Err-clause-faulty c = search rules
