@@ -1,4 +1,4 @@
-use Rattle.std.proofs.Common.{◌≡◌, map, sym, ap, ◌∙◌}
+use Rattle.std.proofs.Common.{◌≡◌, map, sym, ap, ◌∙◌, rules}
 use Rattle.ccsl_formula.specs.Plain.{plain}
 use Rattle.ccsl_refute.specs.Validity.{first_bad_line}
 use Rattle.ccsl_refute.proofs.FirstBad.{none-certificate}
@@ -17,3 +17,9 @@ returns-in-Ok-check-clause-answers c = λ bound rows h.
           (sym (ap (λ s. first_bad_line s items lines) c.scope.ensures.scope) ∙ sym (ap (λ fs. first_bad_line c.scope.result fs lines) same)
           ∙ c.in-Ok-check.ensures.answers),
     )
+
+pub returns-in-Ok-check-clause-memory : goal.returns-in-Ok-check-clause-memory
+returns-in-Ok-check-clause-memory c = search rules
+
+pub returns-in-Err-BadLine-clause-answers : goal.returns-in-Err-BadLine-clause-answers
+returns-in-Err-BadLine-clause-answers c = search rules

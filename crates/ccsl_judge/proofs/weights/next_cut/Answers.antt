@@ -1,4 +1,4 @@
-use Rattle.std.proofs.Common.{◌≡◌, ◌+◌, ◌/◌, ◌<◌, ◌≤◌, sym, ap₂, ◌∙◌, subst, arith, ⊎_elim}
+use Rattle.std.proofs.Common.{◌≡◌, ◌+◌, ◌/◌, ◌<◌, ◌≤◌, sym, ap₂, ◌∙◌, subst, arith, ⊎_elim, rules}
 use Rattle.std.proofs.lemmas.Bool.{cases_lt}
 use Rattle.ccsl_judge.specs.Weights.{weight_before, aim}
 use Rattle.ccsl_judge.proofs.Weighing.{weight-more}
@@ -30,3 +30,12 @@ loop-item-preserved c =
           subst (λ k. weight_before K bound k < goes) last (subst (λ w. w < goes) weighed (short two)))
           (cases_lt n (i + 1));
     }
+
+pub returns-clause-behind : goal.returns-clause-behind
+returns-clause-behind c = search rules
+
+pub returns-clause-last : goal.returns-clause-last
+returns-clause-last c = search rules
+
+pub returns-clause-reaches : goal.returns-clause-reaches
+returns-clause-reaches c = search rules

@@ -1,4 +1,4 @@
-use Rattle.std.proofs.Common.{◌<◌, length, get_or, arith}
+use Rattle.std.proofs.Common.{◌<◌, length, get_or, arith, rules}
 use Rattle.std.proofs.lemmas.Option.{slice_get-get_or}
 use Rattle.ccsl_relate.proofs.Earliest.{far-on, far-found, all-taken}
 use Rattle.ccsl_relate.proofs.stretch.first_violation.Goals as goal
@@ -23,3 +23,6 @@ loop-i-preserved c =
 
 pub returns : goal.returns
 returns c = all-taken c.loop-i.invariant (omega arith)
+
+pub loop-i-init : goal.loop-i-init
+loop-i-init c = search rules

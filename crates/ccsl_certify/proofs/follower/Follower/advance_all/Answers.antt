@@ -1,4 +1,5 @@
 use Rattle.std.proofs.Common.{ap, ◌∙◌, arith}
+use Rattle.std.proofs.lemmas.Grind.{common_steps}
 use Rattle.ccsl_certify.proofs.Following.{block-more}
 use Rattle.ccsl_certify.proofs.follower.Follower.advance_all.Goals as goal
 
@@ -11,3 +12,6 @@ loop-i-preserved c = record {
       c.advance.new.self.states
       (ap (λ s. s.now) c.loop-i.invariant.system) c.row.ensures (omega arith) (c.loop-i.invariant.after rows a few) c.advance.ensures.after few;
 }
+
+pub returns-clause-after : goal.returns-clause-after
+returns-clause-after c = grind (arith, common_steps)

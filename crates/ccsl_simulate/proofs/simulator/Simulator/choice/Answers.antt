@@ -1,4 +1,4 @@
-use Rattle.std.proofs.Common.{◌∙◌, List, map, length, sym, ap, subst}
+use Rattle.std.proofs.Common.{◌∙◌, List, map, length, sym, ap, subst, rules}
 use Rattle.ccsl_formula.specs.declared.formula.Formula.{Formula as Boxed}
 use Rattle.ccsl_formula.specs.declared.scope.Scope.{Scope}
 use Rattle.ccsl_formula.specs.Plain.{plain}
@@ -17,3 +17,9 @@ pub choose-requires-clause-words : goal.choose-requires-clause-words
 choose-requires-clause-words c =
     let d = c.requires.draw in
     ap length (c.deref-2.ensures.value ∙ c.in_ok-words.ensures.words d.0 d.1 d.2) ∙ words-length d.0 d.1 c.scope-scope.result.declared
+
+pub returns-clause-choice : goal.returns-clause-choice
+returns-clause-choice c = search rules
+
+pub returns-clause-draw : goal.returns-clause-draw
+returns-clause-draw c = search rules
