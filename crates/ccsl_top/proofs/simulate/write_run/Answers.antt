@@ -1,3 +1,4 @@
+use Rattle.std.proofs.Common.{rules}
 use Rattle.std.proofs.lemmas.Result.{err_from_is_err_and}
 use Rattle.ccsl_top.proofs.Existing.{certificate}
 use Rattle.ccsl_top.proofs.Simulating.{Ending, unopened-fails, undone-stops, unclosed-fails, half-closed-fails, both-written}
@@ -45,3 +46,6 @@ pub returns-clause-done : goal.returns-clause-done
 returns-clause-done g c =
     both-written (ending g (goal.at.returns-clause-done g c).After-is_accepted) c.in_ok-open_out.ensures.ok c.in_ok-open_out-2.ensures.ok
     (g.W.World.state c.simulate.new.world) c.in_ok-done.done c.in_ok-done.ensures.done c.in_ok-close_out.ensures.ok c.in_ok-close_out-2.ensures.ok
+
+pub open_out-requires-2-clause-allowed : goal.open_out-requires-2-clause-allowed
+open_out-requires-2-clause-allowed c = search rules
