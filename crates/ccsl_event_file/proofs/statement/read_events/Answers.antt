@@ -1,5 +1,5 @@
 use Rattle.std.proofs.lemmas.Result.{err_from_is_err_and}
-use Rattle.std.proofs.Common.{length, map, sym, ap, ◌∙◌, arith}
+use Rattle.std.proofs.Common.{length, map, sym, ap, ◌∙◌, arith, rules}
 use Rattle.ccsl_event_file.specs.File.{keyword, statement, names_of, reading, story}
 use Rattle.ccsl_event_file.specs.Parsing.{ahead, event_in}
 use Rattle.ccsl_event_file.proofs.Story.{moved}
@@ -38,3 +38,6 @@ returns-clause-says c =
     let text = c.args.text.now in
     c.statements.invariant.same ∙ over (length text) (map event_in c.statements.events.items) c.statements.parser.rest.now
     (sym c.is_empty.ensures ∙ c.statements-test.false)
+
+pub returns-clause-refuses : goal.returns-clause-refuses
+returns-clause-refuses c = search rules

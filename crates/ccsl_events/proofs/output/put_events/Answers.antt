@@ -1,4 +1,4 @@
-use Rattle.std.proofs.Common.{◌≡◌, ℕ, ◌+◌, ◌<◌, ◌∷◌, ◌++◌, List, length, drop, get_or, sym, ap, ◌∙◌, append_assoc, suc, arith}
+use Rattle.std.proofs.Common.{◌≡◌, ℕ, ◌+◌, ◌<◌, ◌∷◌, ◌++◌, List, length, drop, get_or, sym, ap, ◌∙◌, append_assoc, suc, arith, rules}
 use Rattle.std.proofs.Math.Seq.{drop-cons}
 use Rattle.ccsl_event_file.specs.declared.event.Event.{Event}
 use Rattle.ccsl_events.specs.Written.{event_line, event_lines, names_of}
@@ -25,3 +25,6 @@ loop-event-preserved c = record {
       c.put_event.new.out.items _ c.loop-event-test.true c.event-item.is c.as_slice.ensures.value c.loop-event.invariant.counts
       c.in_ok-put_event.ensures c.loop-event.invariant.writes;
 }
+
+pub loop-event-init : goal.loop-event-init
+loop-event-init c = search rules

@@ -1,3 +1,4 @@
+use Rattle.std.proofs.Common.{rules}
 use Rattle.ccsl_edge.proofs.Counts.{Adds-SameCounts}
 use Rattle.ccsl_edge.specs.declared.slot.Slot.TheVariants.{Report}
 use Rattle.ccsl_show_top.proofs.Following.{follows-added, follows-front}
@@ -11,3 +12,6 @@ returns-in-Ok g c = record {
 
 pub returns-in-Err-clause-follows : goal.returns-in-Err-clause-follows
 returns-in-Err-clause-follows g c = follows-front g.W.World.told _ _ _ c.in-Err.ensures.err
+
+pub returns-in-Err-clause-calm : goal.returns-in-Err-clause-calm
+returns-in-Err-clause-calm g c = search rules

@@ -1,4 +1,4 @@
-use Rattle.std.proofs.Common.{◌≡◌, ◌<◌, ◌+◌, ◌-◌, ◌^◌, true, min, get_or, length, sym, ap, ◌∙◌, subst, arith}
+use Rattle.std.proofs.Common.{◌≡◌, ◌<◌, ◌+◌, ◌-◌, ◌^◌, true, min, get_or, length, sym, ap, ◌∙◌, subst, arith, rules}
 use Rattle.std.specs.Prelude.{slice_set}
 use Rattle.std.proofs.lemmas.List.{get_or_default}
 use Rattle.ccsl_causes.specs.Counted.{counted}
@@ -18,3 +18,6 @@ loop-clock-preserved-then-at-len c =
     c.saturating_add.ensures ∙ ap (λ n. min (n + 1) (2 ^ 64 - 1)) (c.index.ensures ∙ get_or_default now clock c.index.result.now 0 inside) in
     subst (λ n. IsVisiting (λ _ m. counted true m) 0 step old rest (slice_set now clock n)) (sym next)
     (visiting-one (λ _ n. counted true n) 0 step rest old now clock is inside)
+
+pub loop-clock-preserved : goal.loop-clock-preserved
+loop-clock-preserved c = search rules
